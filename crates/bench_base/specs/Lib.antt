@@ -1,0 +1,14 @@
+pub mod Causes
+pub mod Cells
+pub mod Jobs
+pub mod Kinds
+pub mod Ledger
+pub mod Memory
+pub mod Nodes
+pub mod Padded
+pub mod Plans
+pub mod Ranges
+pub mod Rows
+pub mod Rules
+pub mod Scans
+pub mod Table

@@ -1,0 +1,100 @@
+-- The ranges of numbers: of the small types, of the parts of a commit, and of the events that a script line reads as.
+use Rattle.std.specs.Prelude.{◌≡◌, ℕ, ℤ, pos, ◌<◌, ◌≤◌, ◌≤ℤ◌, ◌^◌, List, length}
+use Rattle.bench_base.specs.declared.words.Kind.{Kind}
+use Rattle.bench_base.specs.declared.words.Kind.TheVariants.{Enrol, Reset}
+use Rattle.bench_base.specs.declared.words.Node.{Node}
+use Rattle.bench_base.specs.declared.words.Node.TheVariants.{Device, Centre, Host, Verifier}
+use Rattle.bench_base.specs.declared.ledger.Commit.{Commit}
+use Rattle.bench_base.specs.declared.ledger.Commit.TheVariants.{Made, Asked, Applied, Debited, Registered, Opened, Deposited, Flagged, Ruled, Settled, Ordered, Held, Began, Closed, Trusted, Accepted}
+use Rattle.bench_base.specs.declared.events.Event.{Event}
+use Rattle.bench_base.specs.declared.events.Event.TheVariants as ev
+use Rattle.bench_base.specs.Table.{IsBytes}
+
+abbrev pub IsDevice : ℕ → Type 0
+IsDevice d = (1 ≤ d) × (d ≤ 8)
+
+abbrev pub IsCustomer : ℕ → Type 0
+IsCustomer c = (1 ≤ c) × (c ≤ 64)
+
+-- a day from 2000-01-01 to 2199-12-31
+abbrev pub IsDay : ℤ → Type 0
+IsDay z = (pos 10957 ≤ℤ z) × (z ≤ℤ pos 84005)
+
+-- a number of 32 bits
+abbrev pub IsWord : ℕ → Type 0
+IsWord n = n < 2 ^ 32
+
+abbrev pub IsKey : List ℕ → Type 0
+IsKey key = (length key ≡ 32) × IsBytes key
+
+abbrev pub IsNode : Node → Type 0
+IsNode (Device d) = IsDevice d
+IsNode n = Unit {0}
+
+-- each number of the commit fits its field; a note is left to what it reads as
+abbrev pub InRange : Commit → Type 0
+InRange (Made d key) = IsDevice d × IsKey key
+InRange (Asked d n note) = IsDevice d × IsWord n
+InRange (Applied d n v) = IsDevice d × IsWord n
+InRange (Debited d piece postage class day version) = IsDevice d × IsWord piece × IsWord postage × (class < 2 ^ 16) × IsDay day × (version < 2 ^ 8)
+InRange (Registered d origin key) = IsDevice d × IsWord origin × IsKey key
+InRange (Opened c) = IsCustomer c
+InRange (Deposited c receipt amount) = IsCustomer c × IsWord receipt × IsWord amount
+InRange (Flagged c suspended) = IsCustomer c
+InRange (Ruled d n v note) = IsDevice d × IsWord n
+InRange (Settled d n) = IsDevice d × IsWord n
+InRange (Ordered j d piece postage class) = IsWord j × IsDevice d × IsWord piece × IsWord postage × (class < 2 ^ 16)
+InRange (Held j mark) = IsWord j × (length mark ≡ 64)
+InRange (Began j) = IsWord j
+InRange (Closed j) = IsWord j
+InRange (Trusted d key) = IsDevice d × IsKey key
+InRange (Accepted d piece scan) = IsDevice d × IsWord piece × IsWord scan
+
+-- == events ==
+
+-- the customer counts for an enrolment and the amount for a reset; what doesn't count is 0
+abbrev pub IsAsk : Kind → ℕ → ℕ → Type 0
+IsAsk Enrol customer amount = IsWord customer × (amount ≡ 0)
+IsAsk Reset customer amount = (customer ≡ 0) × IsWord amount
+IsAsk kind customer amount = (customer ≡ 0) × (amount ≡ 0)
+
+-- bytes from outside
+abbrev pub IsGiven : List ℕ → Type 0
+IsGiven bytes = (length bytes ≤ 256) × IsBytes bytes
+
+-- bytes may be given to each node but the verifier
+abbrev pub TakesBytes : Node → Type 0
+TakesBytes (Device d) = IsDevice d
+TakesBytes Centre = Unit {0}
+TakesBytes Host = Unit {0}
+TakesBytes Verifier = ⊥
+
+-- an event is whole where its numbers lie in the ranges of the script
+abbrev pub IsWholeEvent : Event → Type 0
+IsWholeEvent (ev.Day t) = IsDay t
+IsWholeEvent ev.Rates = Unit {0}
+IsWholeEvent (ev.Make d key) = IsDevice d × IsKey key
+IsWholeEvent (ev.On n) = IsNode n
+IsWholeEvent (ev.Off n) = IsNode n
+IsWholeEvent (ev.Cut n calls keep byte) = IsNode n × IsWord calls × IsWord keep × (byte < 2 ^ 8)
+IsWholeEvent (ev.Debit d piece postage class) = IsDevice d × IsWord piece × IsWord postage × (class < 2 ^ 16)
+IsWholeEvent (ev.Ask d kind customer amount) = IsDevice d × IsAsk kind customer amount
+IsWholeEvent (ev.Resend d) = IsDevice d
+IsWholeEvent (ev.Ack d) = IsDevice d
+IsWholeEvent (ev.Status d) = IsDevice d
+IsWholeEvent (ev.Register d origin key) = IsDevice d × IsWord origin × IsKey key
+IsWholeEvent (ev.OpenCustomer c) = IsCustomer c
+IsWholeEvent (ev.Deposit c receipt amount) = IsCustomer c × IsWord receipt × IsWord amount
+IsWholeEvent (ev.Flag c suspended) = IsCustomer c
+IsWholeEvent (ev.Balance c) = IsCustomer c
+IsWholeEvent (ev.Deliver k) = IsWord k
+IsWholeEvent (ev.Give n bytes) = TakesBytes n × IsGiven bytes
+IsWholeEvent (ev.Order d piece class grams zone) = IsDevice d × IsWord piece × (class < 2 ^ 16) × IsWord grams × IsWord zone
+IsWholeEvent (ev.Send j) = IsWord j
+IsWholeEvent (ev.Print j) = IsWord j
+IsWholeEvent (ev.Close j) = IsWord j
+IsWholeEvent (ev.Trust d key) = IsDevice d × IsKey key
+IsWholeEvent (ev.ScanMsg scan k) = (1 ≤ scan) × IsWord scan × IsWord k
+IsWholeEvent (ev.ScanHex scan bytes) = (1 ≤ scan) × IsWord scan × IsGiven bytes
+IsWholeEvent (ev.Reconcile d) = IsDevice d
+IsWholeEvent ev.End = Unit {0}

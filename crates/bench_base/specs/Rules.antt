@@ -1,0 +1,15 @@
+-- What a later edition of the rules may change. Each definition that turns on one of these takes the record.
+use Rattle.std.specs.Prelude.{ℕ}
+
+pub record Rules : Type 0 where
+  -- the greatest sum of ascending, descending and refunded, in mills
+  pub total : ℕ
+  -- the version of the marks, requests and replies that are written
+  pub version : ℕ
+  -- how many days past its deadline a device still franks, and up to which postage
+  pub grace : ℕ
+  pub small : ℕ
+
+-- the edition in use
+abbrev pub first_rules : Rules
+first_rules = record { total = 4294967295; version = 1; grace = 0; small = 0 }
