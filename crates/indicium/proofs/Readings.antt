@@ -1,0 +1,174 @@
+-- A mark that is spelled is read, and what is read is a mark that is spelled so.
+use Rattle.std.proofs.Common.{◌≡◌, ℕ, ℤ, [], ◌∷◌, ◌+◌, ◌^◌, ◌<◌, List, ◌++◌, length, get_or, take, drop, sym, ap, ap₂, ◌∙◌, refl, arith, subst, Result, Ok, Err, Bool, true, false, length-append, ◌↔◌, ◌≢◌, IfOk, IsErrOf, slice_index, eqb-true, length-drop, if◌then◌else◌, FitsSigned}
+use Rattle.std.specs.Int.{w32}
+use Rattle.std.proofs.lemmas.Int.{of_z-to_z, to_z-of_z}
+use Rattle.std.proofs.lemmas.List.{take_at, drop_at, take-append-drop}
+use borrow.Author.Gap.{read_sfits}
+use Rattle.bench_base.specs.Table.{One, row, values, Fit, IsBytes, number, spelled}
+use Rattle.bench_base.proofs.Tables.{row-values, values-row, values-fit, length-row}
+use Rattle.hmac_core.specs.Hmac.{hmac}
+use Rattle.hmac_core.proofs.Codes.{length-hmac}
+use Rattle.indicium.specs.declared.Mark.{Mark}
+use Rattle.bench_base.specs.declared.refusals.MarkFault.{MarkFault}
+use Rattle.bench_base.specs.declared.refusals.MarkFault.TheVariants.{Length, Version, Algorithm}
+use Rattle.indicium.specs.Marks.{mark_table, mark_values, mark_from, body, spell, IsWhole, mark_at, read_mark, ReadsAs, IsSpelled}
+
+from-values : (m : Mark) → FitsSigned w32 m.day → mark_from (mark_values m) ≡ m
+from-values m h = ap (λ (d : ℤ). record m { day = d }) (to_z-of_z w32 m.day h)
+
+pub length-body : (m : Mark) → IsWhole m → length (body m) ≡ 32
+unfolding body
+length-body m w = length-row mark_table (mark_values m) w.fit
+
+-- a whole mark's bytes, whatever follows them, read as it
+pub mark_at-body : (m : Mark) (rest : List ℕ) → IsWhole m → mark_at (body m ++ rest) ≡ m
+unfolding body mark_at
+mark_at-body m rest w = ap mark_from (values-row mark_table (mark_values m) [] rest 0 refl w.fit) ∙ from-values m w.day
+
+-- a test that lets through
+pub let_through : {A F : Type 0} (b : Bool) (r : Result A F) (e : F) (y : A) → (if b then r else Err e) ≡ Ok y → (b ≡ true) × (r ≡ Ok y)
+let_through true r e y h = (refl, h)
+let_through false r e y h = absurd (cc)
+
+pub read_mark-ok : (bytes : List ℕ) → length bytes ≡ 64 → get_or bytes 0 0 ≡ 1 → get_or bytes 1 0 ≡ 1 → read_mark bytes ≡ Ok (mark_at bytes, drop 32 bytes)
+unfolding read_mark
+read_mark-ok bytes l v a = rw (l, v, a) refl
+
+-- what is read: the numbers are those of the bytes
+values-again : (v a d p m x y t o k : ℕ) → a ≡ 1 → t < 2 ^ 32 → mark_values (mark_from (v ∷ a ∷ d ∷ p ∷ m ∷ x ∷ y ∷ t ∷ o ∷ k ∷ [])) ≡ v ∷ a ∷ d ∷ p ∷ m ∷ x ∷ y ∷ t ∷ o ∷ k ∷ []
+values-again v a d p m x y t o k one fits =
+    ap₂ (λ b s. v ∷ b ∷ d ∷ p ∷ m ∷ x ∷ y ∷ s ∷ o ∷ k ∷ []) (sym one) (of_z-to_z w32 t fits)
+
+first_number : (bytes : List ℕ) → number One (take 1 bytes) ≡ get_or bytes 0 0
+unfolding number
+first_number [] = refl
+first_number (x ∷ bytes) = refl
+
+second_number : (bytes : List ℕ) → number One (take 1 (drop 1 bytes)) ≡ get_or bytes 1 0
+second_number [] = first_number []
+second_number (x ∷ bytes) = first_number bytes
+
+values-from : (bytes : List ℕ) → get_or bytes 1 0 ≡ 1 → IsBytes bytes → mark_values (mark_from (values 0 mark_table bytes)) ≡ values 0 mark_table bytes
+values-from bytes a h =
+    let fit : Fit mark_table (values 0 mark_table bytes) = values-fit mark_table 0 bytes h in
+    values-again _ _ _ _ _ _ _ _ _ _ (second_number bytes ∙ a) fit.1.1.1.1.1.1.1.0
+
+pub body-mark_at : (bytes : List ℕ) → length bytes ≡ 64 → get_or bytes 0 0 ≡ 1 → get_or bytes 1 0 ≡ 1 → IsBytes bytes
+    → IsWhole (mark_at bytes) × (body (mark_at bytes) ≡ take 32 bytes)
+unfolding mark_at body
+body-mark_at bytes l v a h =
+    let same = values-from bytes a h in
+    let fit : Fit mark_table (values 0 mark_table bytes) = values-fit mark_table 0 bytes h in (
+      record { version = first_number bytes ∙ v; fit = subst (Fit mark_table) (sym same) fit; day = read_sfits w32 _ },
+      ap (row mark_table) same ∙ row-values mark_table 0 bytes (omega (arith, l)) h,
+    )
+
+-- what is read is spelled so
+pub read_mark-found : (bytes : List ℕ) (x : Mark × List ℕ) → IsBytes bytes → read_mark bytes ≡ Ok x → IsWhole x.0 × (bytes ≡ body x.0 ++ x.1) × (length x.1 ≡ 32)
+unfolding read_mark
+read_mark-found bytes x h e =
+    let l = let_through _ _ _ _ e in
+    let v = let_through _ _ _ _ l.1 in
+    let a = let_through _ _ _ _ v.1 in
+    let long : length bytes ≡ 64 = eqb-true _ _ l.0 in
+    let found = body-mark_at bytes long (eqb-true _ _ v.0) (eqb-true _ _ a.0) h in
+    let same : (mark_at bytes, drop 32 bytes) ≡ x = cc in
+    let mark : mark_at bytes ≡ x.0 = ap (λ (y : Mark × List ℕ). y.0) same in
+    let code : drop 32 bytes ≡ x.1 = ap (λ (y : Mark × List ℕ). y.1) same in (
+      subst IsWhole mark found.0,
+      sym (take-append-drop 32 bytes) ∙ ap₂ (λ s t. s ++ t) (sym found.1 ∙ ap body mark) code,
+      ap length (sym code) ∙ omega (arith, long, length-drop 32 bytes),
+    )
+
+version_of : (m : Mark) (code : List ℕ) → IsWhole m → get_or (body m ++ code) 0 0 ≡ 1
+unfolding body spelled
+version_of m code w = w.version
+
+algorithm_of : (m : Mark) (code : List ℕ) → get_or (body m ++ code) 1 0 ≡ 1
+unfolding body spelled
+algorithm_of m code = refl
+
+-- what is spelled is read
+pub read_mark-spell : (m : Mark) (code : List ℕ) → IsWhole m → length code ≡ 32 → read_mark (body m ++ code) ≡ Ok (m, code)
+read_mark-spell m code w long =
+    let size : length (body m ++ code) ≡ 64 = omega (arith, length-append (body m) code, length-body m w, long) in
+    read_mark-ok (body m ++ code) size (version_of m code w) (algorithm_of m code)
+    ∙ ap₂ (λ a b. Ok (a, b)) (mark_at-body m code w) (drop_at (body m) code 32 (length-body m w))
+
+pub length-spell : (m : Mark) (key : List ℕ) → IsWhole m → length (spell m key) ≡ 64
+unfolding spell
+length-spell m key w = length-append (body m) (hmac key (body m)) ∙ ap₂ (λ a b. a + b) (length-body m w) (length-hmac key (body m))
+
+-- what is read and has its code is spelled under the key
+pub spell-back : (bytes key : List ℕ) (x : Mark × List ℕ) → IsBytes bytes → read_mark bytes ≡ Ok x → x.1 ≡ hmac key (take 32 bytes) → IsWhole x.0 × (spell x.0 key ≡ bytes)
+unfolding spell
+spell-back bytes key x h e c =
+    let found = read_mark-found bytes x h e in
+    let front : take 32 bytes ≡ body x.0 = ap (take 32) found.1 ∙ take_at (body x.0) x.1 32 (length-body x.0 found.0) in
+    (found.0, ap (λ k. body x.0 ++ k) (sym (c ∙ ap (hmac key) front)) ∙ sym found.1)
+
+pub read-spell : (m : Mark) (key : List ℕ) → IsWhole m → read_mark (spell m key) ≡ Ok (m, hmac key (body m))
+unfolding spell
+read-spell m key w = read_mark-spell m (hmac key (body m)) w (length-hmac key (body m))
+
+-- == what the public calls promise, of the list alone ==
+
+if_ok : {A F : Type 0} (r : Result A F) (P : A → Type 0) → ((x : A) → r ≡ Ok x → P x) → IfOk r P
+if_ok (Ok x) P h = h x refl
+if_ok (Err e) P h = tt
+
+pub reads-as : (bytes : List ℕ) (x : Mark × List ℕ) → IsBytes bytes → read_mark bytes ≡ Ok x → ReadsAs bytes x.0 x.1
+reads-as bytes x h e = let found = read_mark-found bytes x h e in record { whole = found.0; spelled = found.1; long = found.2 }
+
+pub found : (bytes : List ℕ) → IsBytes bytes → IfOk (read_mark bytes) (λ x. ReadsAs bytes x.0 x.1)
+found bytes h = if_ok (read_mark bytes) _ (λ x e. reads-as bytes x h e)
+
+pub length-reads : (bytes : List ℕ) (m : Mark) (code : List ℕ) → ReadsAs bytes m code → length bytes ≡ 64
+length-reads bytes m code r = omega (arith, ap length r.spelled, length-append (body m) code, length-body m r.whole, r.long)
+
+pub only : (bytes : List ℕ) (m : Mark) (code : List ℕ) → ReadsAs bytes m code → read_mark bytes ≡ Ok (m, code)
+only bytes m code r = ap read_mark r.spelled ∙ read_mark-spell m code r.whole r.long
+
+pub length-fault : (bytes : List ℕ) → IsErrOf (read_mark bytes) (Length (length bytes)) ↔ (length bytes ≢ 64)
+unfolding read_mark
+length-fault bytes = grind arith
+
+pub version-fault : (bytes : List ℕ) → IsErrOf (read_mark bytes) (Version (slice_index bytes 0)) ↔ ((length bytes ≡ 64) × (slice_index bytes 0 ≢ 1))
+unfolding read_mark
+version-fault bytes = grind arith
+
+pub algorithm-fault : (bytes : List ℕ) → IsErrOf (read_mark bytes) (Algorithm (slice_index bytes 1)) ↔ ((length bytes ≡ 64) × (slice_index bytes 0 ≡ 1) × (slice_index bytes 1 ≢ 1))
+unfolding read_mark
+algorithm-fault bytes = grind arith
+
+right : {A F : Type 0} {a b : A} → ◌≡◌ {A = Result A F} (Ok a) (Ok b) → a ≡ b
+right h = cc
+
+-- no two marks have one spelling
+pub one-spelling : (m n : Mark) (key : List ℕ) → IsWhole m → IsWhole n → spell m key ≡ spell n key → m ≡ n
+one-spelling m n key v w e =
+    let same : ◌≡◌ {A = Result (Mark × List ℕ) MarkFault} (Ok (m, hmac key (body m))) (Ok (n, hmac key (body n))) = sym (read-spell m key v) ∙ ap read_mark e ∙ read-spell n key w in
+    ap (λ (x : Mark × List ℕ). x.0) (right same)
+
+pub one-reading : (bytes : List ℕ) (m n : Mark) (c d : List ℕ) → ReadsAs bytes m c → ReadsAs bytes n d → (m ≡ n) × (c ≡ d)
+one-reading bytes m n c d r s =
+    let same : ◌≡◌ {A = Result (Mark × List ℕ) MarkFault} (Ok (m, c)) (Ok (n, d)) = sym (only bytes m c r) ∙ only bytes n d s in
+    (ap (λ (x : Mark × List ℕ). x.0) (right same), ap (λ (x : Mark × List ℕ). x.1) (right same))
+
+-- what is read and has its code is some mark's spelling, and the other way round
+pub genuine : (bytes key : List ℕ) (x : Mark × List ℕ) → IsBytes bytes → read_mark bytes ≡ Ok x → drop 32 bytes ≡ hmac key (take 32 bytes) → IsSpelled bytes key
+genuine bytes key x h e c =
+    let r = reads-as bytes x h e in
+    let code : x.1 ≡ drop 32 bytes = sym (drop_at (body x.0) x.1 32 (length-body x.0 r.whole)) ∙ ap (drop 32) (sym r.spelled) in
+    let back = spell-back bytes key x h e (code ∙ c) in
+    (x.0, back.0, sym back.1)
+
+pub code-of : (bytes key : List ℕ) → IsSpelled bytes key → ((found : Mark × List ℕ) × (read_mark bytes ≡ Ok found)) × (drop 32 bytes ≡ hmac key (take 32 bytes))
+unfolding spell
+code-of bytes key (m, w, e) =
+    let front : take 32 bytes ≡ body m = ap (take 32) e ∙ take_at (body m) (hmac key (body m)) 32 (length-body m w) in
+    (((m, hmac key (body m)), ap read_mark e ∙ read-spell m key w), ap (drop 32) e ∙ drop_at (body m) (hmac key (body m)) 32 (length-body m w) ∙ ap (hmac key) (sym front))
+
+pub long : (bytes : List ℕ) → IfOk (read_mark bytes) (λ _. length bytes ≡ 64)
+unfolding read_mark
+long bytes = if_ok (read_mark bytes) (λ _. length bytes ≡ 64) (λ x e. let l = let_through _ _ _ _ e in eqb-true _ _ l.0)

@@ -1,0 +1,31 @@
+//! The indicium: the mark of one debit, signed under the device's key.
+#![tactic(auto)]
+
+mod reading;
+#[cfg(test)]
+mod tests;
+mod theorems;
+mod writing;
+
+pub use reading::{read_indicium, verify_mark};
+pub use theorems::{one_spelling, round_trip};
+pub use writing::write_indicium;
+
+/// What an indicium says of a debit. Money is in mills, and a day counts from 1970-01-01.
+#[derive(Clone, Copy)]
+pub struct Mark {
+    /// The version of the layout: 1.
+    pub version: u8,
+    pub device: u32,
+    /// The number of the piece, counted by the device from 1.
+    pub piece: u32,
+    pub postage: u32,
+    /// The registers after the debit; in version 1 each is below 2^32.
+    pub ascending: u64,
+    pub descending: u64,
+    /// The day of the debit.
+    pub day: i32,
+    /// The postal code of the place where the device is registered.
+    pub origin: u32,
+    pub class: u16,
+}
