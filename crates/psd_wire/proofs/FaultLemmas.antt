@@ -1,0 +1,176 @@
+-- A fault is answered exactly where it is the first that holds.
+use Rattle.std.proofs.Common.{◌≡◌, ◌≢◌, ◌↔◌, ℕ, ◌<◌, ◌≤◌, List, length, get_or, take, drop, sym, ap, ◌∙◌, refl, arith, subst, Result, Ok, Err, Option, Some, None, IsSome, IsErr, Bool, true, false, inl, inr, eqb-true, eq-eqb, ne_eqb, ◌==◌, if◌then◌else◌, nat_lt}
+use Rattle.std.proofs.lemmas.List.{get_or-take, get_or-drop}
+use Rattle.std.specs.Int.{w32, cast_signed}
+use Rattle.bench_base.specs.Table.{One, Four, number}
+use Rattle.bench_base.specs.declared.refusals.Unread.{Unread}
+use Rattle.bench_base.specs.declared.refusals.Unread.TheVariants as unread
+use Rattle.indicium.specs.Marks.{read_mark}
+use Rattle.psd_wire.specs.declared.message.Message.{Message}
+use Rattle.psd_wire.specs.Grammar.{kind_of, verdict_of, day_of, size_of, given, request_at, reply_at, release_at, if_mark, by_tag, read}
+use Rattle.psd_wire.specs.Faults.{IsTagged, IsFramed, kind_at, verdict_at, day_at, HasFault}
+
+-- == the fields as the reader sees them ==
+
+byte_of : (at : ℕ) (bytes : List ℕ) → number One (take 1 (drop at bytes)) ≡ get_or bytes at 0
+unfolding number
+byte_of at bytes = get_or-take 1 (drop at bytes) 0 0 (omega arith) ∙ get_or-drop at bytes 0 0 ∙ ap (λ i. get_or bytes i 0) (omega arith)
+
+kind_is : (bytes : List ℕ) → kind_of (number One (take 1 (drop 10 bytes))) ≡ kind_at bytes
+kind_is bytes = ap kind_of (byte_of 10 bytes)
+
+verdict_is : (bytes : List ℕ) → verdict_of (number One (take 1 (drop 11 bytes))) ≡ verdict_at bytes
+verdict_is bytes = ap verdict_of (byte_of 11 bytes)
+
+day_is : (bytes : List ℕ) → day_of (cast_signed w32 (number Four (take 4 (drop 35 bytes)))) ≡ day_at bytes
+unfolding number
+day_is bytes = refl
+
+-- == what is answered ==
+
+wrong : {e f : Unread} → ◌≡◌ {A = Result Message Unread} (Err e) (Err f) → e ≡ f
+wrong h = cc
+
+told : (bytes : List ℕ) (e f : Unread) → HasFault e bytes → ◌≡◌ {A = Result Message Unread} (Err e) (Err f) → HasFault f bytes
+told bytes e f holds h = subst (λ x. HasFault x bytes) (wrong h) holds
+
+-- one way of an if, or the other
+ways : {A P : Type 0} (b : Bool) (x y z : A) → (b ≡ true → x ≡ z → P) → (b ≡ false → y ≡ z → P) → (if b then x else y) ≡ z → P
+ways true x y z one other h = one refl h
+ways false x y z one other h = other refl h
+
+-- what is given is there, or its fault is answered
+missing : {A B P : Type 0} (e : Unread) (o : Option A) (f : A → Result B Unread) (z : Result B Unread)
+    → (o ≡ None → Err e ≡ z → P) → ((a : A) → o ≡ Some a → f a ≡ z → P) → given e o f ≡ z → P
+missing e None f z one other h = one refl h
+missing e (Some a) f z one other h = other a refl h
+
+is_some : {A : Type 0} (o : Option A) (a : A) → o ≡ Some a → IsSome o
+is_some o a h = subst IsSome (sym h) refl
+
+request_fault : (bytes : List ℕ) (e : Unread) → IsFramed bytes 1 → request_at bytes ≡ Err e → HasFault e bytes
+unfolding request_at
+request_fault bytes e framed h =
+    missing unread.Kind _ _ (Err e)
+    (λ kind r. told bytes unread.Kind e (inl framed, sym (kind_is bytes) ∙ kind) r)
+    (λ k kind h. missing unread.Day _ _ (Err e)
+    (λ day r. told bytes unread.Day e (framed, is_some _ k (sym (kind_is bytes) ∙ kind), sym (day_is bytes) ∙ day) r)
+    (λ t day r. absurd (cc)) h) h
+
+reply_fault : (bytes : List ℕ) (e : Unread) → IsFramed bytes 2 → reply_at bytes ≡ Err e → HasFault e bytes
+unfolding reply_at
+reply_fault bytes e framed h =
+    missing unread.Kind _ _ (Err e)
+    (λ kind r. told bytes unread.Kind e (inr framed, sym (kind_is bytes) ∙ kind) r)
+    (λ k kind h. missing unread.Verdict _ _ (Err e)
+    (λ verdict r. told bytes unread.Verdict e (framed, is_some _ k (sym (kind_is bytes) ∙ kind), sym (verdict_is bytes) ∙ verdict) r)
+    (λ v verdict r. absurd (cc)) h) h
+
+unmarked : {A F : Type 0} (m : Result A F) (bytes : List ℕ) (e : Unread) → if_mark m bytes ≡ Err e → IsErr m × (unread.Mark ≡ e)
+unmarked (Ok x) bytes e h = absurd (cc)
+unmarked (Err f) bytes e h = (refl, wrong h)
+
+release_fault : (bytes : List ℕ) (e : Unread) → IsFramed bytes 17 → release_at bytes ≡ Err e → HasFault e bytes
+unfolding release_at
+release_fault bytes e framed h =
+    let is = unmarked (read_mark (drop 2 bytes)) (drop 2 bytes) e h in
+    subst (λ x. HasFault x bytes) is.1 (framed, is.0)
+
+unlike : (a b : ℕ) → (a == b) ≡ false → a ≢ b
+unlike a b h = grind arith
+
+-- the last tag that there is
+last_tag : (t n : ℕ) → t ≢ 1 → t ≢ 2 → t ≢ 3 → t ≢ 16 → size_of t ≡ Some n → t ≡ 17
+unfolding size_of
+last_tag t n a b c d h = grind arith
+
+by_tag_fault : (bytes : List ℕ) (t : ℕ) (e : Unread) → IsFramed bytes t → by_tag t bytes ≡ Err e → HasFault e bytes
+by_tag_fault bytes t e framed h =
+    ways (t == 1) _ _ _ (λ is r. request_fault bytes e (subst (IsFramed bytes) (eqb-true t 1 is) framed) r)
+    (λ not1 r. ways (t == 2) _ _ _ (λ is r. reply_fault bytes e (subst (IsFramed bytes) (eqb-true t 2 is) framed) r)
+    (λ not2 r. ways (t == 3) _ _ _ (λ is r. absurd (cc))
+    (λ not3 r. ways (t == 16) _ _ _ (λ is r. absurd (cc))
+    (λ not16 r.
+    let last = last_tag t (length bytes) (unlike t 1 not1) (unlike t 2 not2) (unlike t 3 not3) (unlike t 16 not16) framed.size in
+    release_fault bytes e (subst (IsFramed bytes) last framed) r) r) r) r) h
+
+long : (n m : ℕ) → nat_lt n m ≡ false → m ≤ n
+long n m h = grind arith
+
+short : (n m : ℕ) → nat_lt n m ≡ true → n < m
+short n m h = grind arith
+
+-- what is answered holds
+pub fault-found : (bytes : List ℕ) (e : Unread) → read bytes ≡ Err e → HasFault e bytes
+unfolding read
+fault-found bytes e h =
+    let t : ℕ = get_or bytes 1 0 in
+    ways (nat_lt (length bytes) 2) _ _ _ (λ few r. told bytes unread.Length e (inl (short _ _ few)) r)
+    (λ two r. ways (get_or bytes 0 0 == 1) _ _ _
+    (λ one r. missing unread.Tag (size_of t) _ _
+    (λ none r. told bytes unread.Tag e (long _ _ two, eqb-true _ _ one, none) r)
+    (λ n size r.
+    let tagged : IsTagged bytes t n = record { two = long _ _ two; version = eqb-true _ _ one; tag = refl; size = size } in
+    ways (length bytes == n) _ _ _
+    (λ is r. by_tag_fault bytes t e (subst (IsTagged bytes t) (sym (eqb-true _ _ is)) tagged) r)
+    (λ other r. told bytes unread.Length e (inr (t, n, tagged, unlike _ _ other)) r) r) r)
+    (λ other r. told bytes unread.Version e (long _ _ two, unlike _ _ other) r) r) h
+
+-- == what holds is answered ==
+
+framed-read : (bytes : List ℕ) (t : ℕ) → IsFramed bytes t → read bytes ≡ by_tag t bytes
+unfolding read
+framed-read bytes t f =
+    let two : nat_lt (length bytes) 2 ≡ false = grind (arith, f.two) in
+    rw (two, f.version, f.tag, f.size, eq-eqb (length bytes) (length bytes) refl) refl
+
+other_length : (bytes : List ℕ) (t n : ℕ) → IsTagged bytes t n → length bytes ≢ n → read bytes ≡ Err unread.Length
+unfolding read
+other_length bytes t n f other =
+    let two : nat_lt (length bytes) 2 ≡ false = grind (arith, f.two) in
+    rw (two, f.version, f.tag, f.size, ne_eqb (length bytes) n other) refl
+
+kindless_request : (bytes : List ℕ) → kind_at bytes ≡ None → request_at bytes ≡ Err unread.Kind
+unfolding request_at
+kindless_request bytes none = rw (kind_is bytes, none) refl
+
+kindless_reply : (bytes : List ℕ) → kind_at bytes ≡ None → reply_at bytes ≡ Err unread.Kind
+unfolding reply_at
+kindless_reply bytes none = rw (kind_is bytes, none) refl
+
+some_of : {A : Type 0} (o : Option A) → IsSome o → (a : A) × (o ≡ Some a)
+some_of None h = absurd (cc)
+some_of (Some a) h = (a, refl)
+
+dayless : (bytes : List ℕ) → IsSome (kind_at bytes) → day_at bytes ≡ None → request_at bytes ≡ Err unread.Day
+unfolding request_at
+dayless bytes kind none = let k = some_of _ kind in rw (kind_is bytes, k.1, day_is bytes, none) refl
+
+verdictless : (bytes : List ℕ) → IsSome (kind_at bytes) → verdict_at bytes ≡ None → reply_at bytes ≡ Err unread.Verdict
+unfolding reply_at
+verdictless bytes kind none = let k = some_of _ kind in rw (kind_is bytes, k.1, verdict_is bytes, none) refl
+
+markless : {A F : Type 0} (m : Result A F) (bytes : List ℕ) → IsErr m → if_mark m bytes ≡ Err unread.Mark
+markless (Ok x) bytes h = absurd (cc)
+markless (Err f) bytes h = refl
+
+releaseless : (bytes : List ℕ) → IsErr (read_mark (drop 2 bytes)) → release_at bytes ≡ Err unread.Mark
+unfolding release_at
+releaseless bytes h = markless (read_mark (drop 2 bytes)) (drop 2 bytes) h
+
+pub fault-read : (bytes : List ℕ) (e : Unread) → HasFault e bytes → read bytes ≡ Err e
+unfolding read
+fault-read bytes unread.Length (inl few) = let is : nat_lt (length bytes) 2 ≡ true = grind (arith, few) in rw is refl
+fault-read bytes unread.Length (inr (t, n, tagged, other)) = other_length bytes t n tagged other
+fault-read bytes unread.Version (two, other) =
+    let is : nat_lt (length bytes) 2 ≡ false = grind (arith, two) in rw (is, ne_eqb (get_or bytes 0 0) 1 other) refl
+fault-read bytes unread.Tag (two, one, none) =
+    let is : nat_lt (length bytes) 2 ≡ false = grind (arith, two) in rw (is, one, none) refl
+fault-read bytes unread.Kind (inl framed, none) = framed-read bytes 1 framed ∙ kindless_request bytes none
+fault-read bytes unread.Kind (inr framed, none) = framed-read bytes 2 framed ∙ kindless_reply bytes none
+fault-read bytes unread.Verdict (framed, kind, none) = framed-read bytes 2 framed ∙ verdictless bytes kind none
+fault-read bytes unread.Day (framed, kind, none) = framed-read bytes 1 framed ∙ dayless bytes kind none
+fault-read bytes unread.Mark (framed, bad) = framed-read bytes 17 framed ∙ releaseless bytes bad
+
+pub fault : (bytes : List ℕ) (e : Unread) → (read bytes ≡ Err e) ↔ HasFault e bytes
+fault bytes e = (fault-found bytes e, fault-read bytes e)

@@ -1,0 +1,14 @@
+//! The messages between device, centre and host, and their bytes.
+#![tactic(auto)]
+
+pub mod message;
+mod reading;
+#[cfg(test)]
+mod tests;
+mod theorems;
+mod writing;
+
+pub use message::{DebitMsg, DoneMsg, Message, ReplyMsg, Request};
+pub use reading::{code_matches, read_message, read_under};
+pub use theorems::{one_spelling, round_trip};
+pub use writing::write_message;

@@ -1,0 +1,225 @@
+//! Messages out of bytes.
+ghost use Rattle.std.specs.Prelude.{◌≡◌, ◌≢◌, ◌≤◌, ◌↔◌, IsTrue, IfOk, IfSome, IfNone, IsErrOf, Ok, length};
+ghost use Rattle.bench_base.specs.declared.refusals.Unread.{Unread as TheUnread};
+ghost use Rattle.psd_wire.specs.declared.message.Message.{Message as TheMessage};
+ghost use Rattle.psd_wire.specs.Grammar.{read, kind_of, verdict_of, size_of, request_at, reply_at, done_at, debit_at, release_at, spell, IsWhole, IsCoded, IsReading, HasCode, coded_in};
+ghost use Rattle.psd_wire.specs.Faults.{HasFault};
+
+use crate::message::{DebitMsg, DoneMsg, Message, ReplyMsg, Request};
+use bench_base::fields::{i32_at, u16_at, u32_at};
+use bench_base::numbers::DayNo;
+use bench_base::refusals::Unread;
+use bench_base::words::{Key, Kind, Verdict};
+use hmac_core::matches;
+use indicium::read_indicium;
+
+#[tactic(auto, unfolding(crate::specs::Grammar::kind_of))]
+fn kind_from(code: u8) -> Option<Kind>
+    ensures { result ≡ kind_of code }
+{
+    match code {
+        1 => Some(Kind::Enrol),
+        2 => Some(Kind::Reset),
+        3 => Some(Kind::Audit),
+        4 => Some(Kind::Refund),
+        5 => Some(Kind::Withdraw),
+        _ => None,
+    }
+}
+
+#[tactic(auto, unfolding(crate::specs::Grammar::verdict_of))]
+fn verdict_from(code: u8) -> Option<Verdict>
+    ensures { result ≡ verdict_of code }
+{
+    match code {
+        0 => Some(Verdict::Granted),
+        1 => Some(Verdict::NotEnrolled),
+        2 => Some(Verdict::EnrolledAlready),
+        3 => Some(Verdict::NoCustomer),
+        4 => Some(Verdict::Suspended),
+        5 => Some(Verdict::NoFunds),
+        6 => Some(Verdict::Imbalance),
+        _ => None,
+    }
+}
+
+// How many bytes a message of this tag has.
+#[tactic(auto, unfolding(crate::specs::Grammar::size_of))]
+fn length_of(tag: u8) -> Option<usize>
+    ensures { result ≡ size_of tag }
+{
+    match tag {
+        1 => Some(71),
+        2 => Some(56),
+        3 => Some(42),
+        16 => Some(16),
+        17 => Some(66),
+        _ => None,
+    }
+}
+
+#[tactic(auto, unfolding(crate::specs::Grammar::request_at, crate::specs::Grammar::day_of, bench_base::specs::Table::number))]
+fn request_from(bytes: &[u8]) -> Result<Message, Unread>
+    requires { 39 ≤ length bytes.now }
+    ensures { result ≡ request_at bytes.now }
+{
+    let Some(kind) = kind_from(bytes[10]) else {
+        return Err(Unread::Kind);
+    };
+    let Some(day) = DayNo::new(i32_at(bytes, 35)) else {
+        return Err(Unread::Day);
+    };
+    Ok(Message::Request(Request {
+        version: bytes[0],
+        device: u32_at(bytes, 2),
+        number: u32_at(bytes, 6),
+        kind,
+        customer: u32_at(bytes, 11),
+        amount: u64::from(u32_at(bytes, 15)),
+        ascending: u64::from(u32_at(bytes, 19)),
+        descending: u64::from(u32_at(bytes, 23)),
+        refunded: u64::from(u32_at(bytes, 27)),
+        pieces: u32_at(bytes, 31),
+        day,
+    }))
+}
+
+#[tactic(auto, unfolding(crate::specs::Grammar::reply_at, bench_base::specs::Table::number))]
+fn reply_from(bytes: &[u8]) -> Result<Message, Unread>
+    requires { 24 ≤ length bytes.now }
+    ensures { result ≡ reply_at bytes.now }
+{
+    let Some(kind) = kind_from(bytes[10]) else {
+        return Err(Unread::Kind);
+    };
+    let Some(verdict) = verdict_from(bytes[11]) else {
+        return Err(Unread::Verdict);
+    };
+    Ok(Message::Reply(ReplyMsg {
+        version: bytes[0],
+        device: u32_at(bytes, 2),
+        number: u32_at(bytes, 6),
+        kind,
+        verdict,
+        amount: u64::from(u32_at(bytes, 12)),
+        deadline: i32_at(bytes, 16),
+        origin: u32_at(bytes, 20),
+    }))
+}
+
+#[tactic(auto, unfolding(crate::specs::Grammar::done_at, bench_base::specs::Table::number))]
+fn done_from(bytes: &[u8]) -> Message
+    requires { 10 ≤ length bytes.now }
+    ensures { result ≡ done_at bytes.now }
+{
+    Message::Done(DoneMsg {
+        device: u32_at(bytes, 2),
+        number: u32_at(bytes, 6),
+    })
+}
+
+#[tactic(auto, unfolding(crate::specs::Grammar::debit_at, bench_base::specs::Table::number))]
+fn debit_from(bytes: &[u8]) -> Message
+    requires { 16 ≤ length bytes.now }
+    ensures { result ≡ debit_at bytes.now }
+{
+    Message::Debit(DebitMsg {
+        device: u32_at(bytes, 2),
+        piece: u32_at(bytes, 6),
+        postage: u32_at(bytes, 10),
+        class: u16_at(bytes, 14),
+    })
+}
+
+#[tactic(auto, unfolding(crate::specs::Grammar::release_at))]
+fn release_from(bytes: &[u8]) -> Result<Message, Unread>
+    requires { length bytes.now ≡ 66 }
+    ensures { result ≡ release_at bytes.now }
+{
+    let body = &bytes[2..];
+    match read_indicium(body) {
+        Ok(_) => {
+            let mut mark = [0; 64];
+            mark.copy_from_slice(body);
+            Ok(Message::Release(mark))
+        }
+        Err(_) => Err(Unread::Mark),
+    }
+}
+
+// The message of these bytes, or the first fault.
+#[tactic(auto, unfolding(crate::specs::Grammar::read, crate::specs::Grammar::size_of))]
+fn message_of(bytes: &[u8]) -> Result<Message, Unread>
+    ensures exact { result ≡ read bytes.now }
+{
+    if bytes.len() < 2 {
+        return Err(Unread::Length);
+    }
+    if bytes[0] != 1 {
+        return Err(Unread::Version);
+    }
+    let Some(length) = length_of(bytes[1]) else {
+        return Err(Unread::Tag);
+    };
+    if bytes.len() != length {
+        return Err(Unread::Length);
+    }
+    match bytes[1] {
+        1 => request_from(bytes),
+        2 => reply_from(bytes),
+        3 => Ok(done_from(bytes)),
+        16 => Ok(debit_from(bytes)),
+        _ => release_from(bytes),
+    }
+}
+
+/// The message of these bytes. The code behind it is not checked.
+///
+/// The first fault is answered: `Length` where there are fewer than two bytes, `Version` where byte 0 is not 1,
+/// `Tag` where byte 1 is no tag, `Length` where there are not as many bytes as the tag has, `Kind` where the
+/// kind's byte is not 1 to 5, `Verdict` where the verdict's byte is not 0 to 6, `Day` where a Request's day is
+/// out of range, and `Mark` where a Release's 64 bytes are no indicium.
+pub fn read_message(bytes: &[u8]) -> Result<Message, Unread>
+    ensures exact { result ≡ read bytes.now }
+    ensures found { IfOk result (λ message. IsReading bytes.now message) }
+    ensures only { (message : TheMessage) → IsReading bytes.now message → result ≡ Ok message }
+    ensures refused { (fault : TheUnread) → IsErrOf result fault ↔ HasFault fault bytes.now }
+{
+    message_of(bytes)
+}
+
+/// Whether there are at least 32 bytes, and the last 32 are the code of all before them under the key.
+pub fn code_matches(bytes: &[u8], key: &Key) -> bool
+    ensures { IsTrue result ↔ HasCode bytes.now key.now }
+{
+    if bytes.len() < 32 {
+        return false;
+    }
+    let front = bytes.len() - 32;
+    matches(key, &bytes[..front], &bytes[front..])
+}
+
+/// The message whose spelling under the key the bytes are, among those that end in a code; None exactly where
+/// they are the spelling of none.
+pub fn read_under(bytes: &[u8], key: &Key) -> Option<Message>
+    ensures found { IfSome result (λ x. IsCoded x × IsWhole x × (spell x key.now ≡ bytes.now)) }
+    ensures none { IfNone result ((x : TheMessage) → IsCoded x → IsWhole x → spell x key.now ≢ bytes.now) }
+{
+    if code_matches(bytes, key) {
+        coded_of(read_message(bytes))
+    } else {
+        None
+    }
+}
+
+// The message that was read, if it ends in a code.
+fn coded_of(message: Result<Message, Unread>) -> Option<Message>
+    ensures { result ≡ coded_in message }
+{
+    match message {
+        Ok(Message::Request(request)) => Some(Message::Request(request)),
+        Ok(Message::Reply(reply)) => Some(Message::Reply(reply)),
+        Ok(Message::Done(done)) => Some(Message::Done(done)),
+        _ => None,
+    }
+}

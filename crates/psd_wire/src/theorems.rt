@@ -1,0 +1,17 @@
+//! What holds of all messages and all bytes, as contracts of functions that do nothing.
+ghost use Rattle.psd_wire.specs.Laws.{ReadsBack, SpellsBack, SpellsBackUncoded, WritesCode, OneSpelling, OneReading};
+
+/// A message that is written is read back, with its code; and bytes that read as a message and have its code, if
+/// it wants one, are what is written for that message.
+pub fn round_trip()
+    ensures reads_back { ReadsBack }
+    ensures writes_code { WritesCode }
+    ensures spells_back { SpellsBack }
+    ensures uncoded { SpellsBackUncoded }
+{}
+
+/// No two messages have one spelling under a key; and no bytes read as two messages.
+pub fn one_spelling()
+    ensures one_spelling { OneSpelling }
+    ensures one_reading { OneReading }
+{}
