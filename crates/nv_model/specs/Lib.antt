@@ -1,0 +1,10 @@
+pub mod Bytes
+pub mod Meters
+pub mod Moments
+pub mod Replay
+pub mod Media
+pub mod Plans
+pub mod Memories
+pub mod Laws
+pub mod Tallies
+pub mod Fuses

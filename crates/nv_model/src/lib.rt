@@ -1,0 +1,22 @@
+//! Storage that may lose power at any write.
+#![tactic(auto)]
+
+mod file;
+mod fused;
+mod lay;
+mod medium;
+mod memory;
+mod nv;
+mod plan;
+mod step;
+mod tally;
+mod tear;
+
+pub use file::{FileNv, StartFault};
+pub use fused::Fused;
+pub use memory::MemNv;
+pub use nv::{Nv, NvFail};
+pub use plan::Failure;
+
+#[cfg(test)]
+mod tests;
