@@ -1,0 +1,11 @@
+pub mod Put
+pub mod Gates
+pub mod Then
+pub mod Step
+pub mod OneCell
+pub mod Between
+pub mod Fronts
+pub mod ScanMore
+pub mod Find
+pub mod TableStep
+pub mod Mixed

@@ -1,0 +1,14 @@
+pub mod Slot
+pub mod Cells
+pub mod Steps
+pub mod Store
+pub mod Mounts
+pub mod Scans
+pub mod Tables
+pub mod Fails
+pub mod Current
+pub mod Knows
+pub mod TableKnows
+pub mod OneView
+pub mod RoomView
+pub mod TableView

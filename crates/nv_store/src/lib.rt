@@ -1,0 +1,22 @@
+//! Cells in storage: each shows the old payload or the new one, whenever power is cut.
+#![tactic(auto)]
+
+mod causes;
+mod cells;
+mod commit;
+mod head;
+mod lent;
+mod one;
+mod room;
+mod scan;
+mod steps;
+mod store;
+mod table;
+
+pub use causes::MountCause;
+pub use head::Head;
+pub use lent::{commit_lent, mount_lent};
+pub use one::Cell;
+pub use room::Room;
+pub use store::Store;
+pub use table::{MountFail, Table};

@@ -1,0 +1,139 @@
+//! One cell of two slots.
+ghost use Rattle.std.specs.Prelude.{◌≡◌, ◌≢◌, ◌+◌, ◌*◌, ◌≤◌, ◌<◌, ℕ, Option, IfOk, IfErr, MatchResult, Some, None, false};
+ghost use Rattle.nv_model.specs.Moments.{Only};
+ghost use Rattle.nv_store.specs.Slot.{slots_at};
+ghost use Rattle.nv_store.specs.Store.{one_held, OnlyShows, Holds};
+ghost use Rattle.nv_store.specs.Mounts.{Mounts, MountCauses};
+ghost use Rattle.nv_store.specs.Scans.{IsMixed};
+
+use crate::causes::{MountCause, ends_failed};
+use crate::head::Head;
+use crate::lent::{commit_lent, mount_lent};
+use crate::store::Store;
+use bench_base::refusals::StoreFail;
+use nv_model::{Fused, Nv};
+
+/// One cell of two slots, at the front of storage of `16·(5+L)` bytes.
+#[derive(Drop)]
+pub struct Cell<N: Nv, const L: usize> {
+    nv: N,
+    head: Head,
+    payload: [u8; L],
+    failed: bool,
+    ghost small: { L ≤ 2056 },
+    ghost room: { 2 * (5 + L) ≤ N.size nv },
+    ghost inside: { 0 < head.count → head.place < 2 },
+    ghost powered: { failed ≡ false → (N.meters nv).lost ≡ false },
+    ghost holds: { failed ≡ false → N.tells → Holds L 2 head payload (N.times nv) (N.content nv) },
+}
+
+impl<N: Nv, const L: usize> Store<L> for Cell<N, L> {
+    ghost tells = { N.tells };
+
+    ghost slots = { 2 };
+
+    ghost cell_count = { λ s. 1 };
+
+    ghost held = { λ s k. one_held s.head.count s.payload };
+
+    ghost failed = { λ s. s.failed };
+
+    ghost content = { λ s. N.content s.nv };
+
+    ghost size = { λ s. N.size s.nv };
+
+    ghost times = { λ s. N.times s.nv };
+
+    ghost meters = { λ s. N.meters s.nv };
+
+    ghost use Rattle.nv_store.specs.Knows.{holds_shows};
+
+    ghost knows = { λ s tells works. holds_shows (s.holds works tells) };
+
+    fn cells(&self) -> u32 {
+        1
+    }
+
+    fn get(&self, cell: u32) -> Option<&[u8; L]> {
+        if self.head.count == 0 {
+            None
+        } else {
+            Some(&self.payload)
+        }
+    }
+
+    fn commit(&mut self, cell: u32, payload: &[u8; L]) -> Result<(), StoreFail> {
+        if self.failed {
+            return Err(StoreFail::Failed);
+        }
+        let done = commit_lent(&mut self.nv, 2, &mut self.head, &mut self.payload, payload);
+        self.failed = ends_failed(&done);
+        done
+    }
+
+    fn commits(&self) -> u64 {
+        u64::from(self.head.count)
+    }
+}
+
+impl<N: Nv, const L: usize> Cell<N, L> {
+    ghost use Rattle.nv_store.specs.OneView.{storage_of, held_by, has_failed};
+
+    /// Mounts the cell in storage of `16·(5+L)` bytes; a failed mount gives the storage back.
+    pub fn mount(nv: N) -> Result<Cell<N, L>, (N, MountCause)>
+        requires small { L ≤ 2056 }
+        requires powered { (N.meters nv).lost ≡ false }
+
+        ensures size { N.size nv ≢ 16 * (5 + L) → result ≡ Err (nv, MountCause.Size (N.size nv)) }
+        ensures of_size { IfErr result (λ e. (n : ℕ) → e.1 ≡ MountCause.Size n → N.size nv ≢ 16 * (5 + L)) }
+        ensures mixed { N.tells → IfErr result (λ e. (k : ℕ) → e.1 ≡ MountCause.Mixed k
+            → (k ≡ 0) × Only (N.times e.0) (N.content e.0) × IsMixed 2 (slots_at L 0 (N.content e.0))) }
+
+        ensures mounts { N.tells → MatchResult result (λ cell. Mounts (N.times nv) (N.times (storage_of cell))) (λ e. Mounts (N.times nv) (N.times e.0)) }
+        ensures shows { N.tells → IfOk result (λ cell. OnlyShows L 2 1 (λ k. held_by cell) (N.times (storage_of cell)) (N.content (storage_of cell))) }
+        ensures works { IfOk result (λ cell. has_failed cell ≡ false) }
+        ensures causes { MatchResult result (λ cell. MountCauses (N.meters nv) (N.meters (storage_of cell)) None)
+            (λ e. MountCauses (N.meters nv) (N.meters e.0) (Some e.1)) }
+        ensures bytes { MatchResult result (λ cell. N.size (storage_of cell) ≡ N.size nv) (λ e. N.size e.0 ≡ N.size nv) }
+    {
+        let mut nv = nv;
+        let mut payload = [0; L];
+        match mount_lent(&mut nv, 2, &mut payload) {
+            Err(cause) => Err((nv, cause)),
+            Ok(head) => Ok(Cell {
+                nv,
+                head,
+                payload,
+                failed: false,
+            }),
+        }
+    }
+
+    /// Gives the storage back.
+    pub fn shut(self) -> N
+        ensures { result ≡ storage_of self }
+    {
+        let Cell {
+            nv,
+            head: _,
+            payload: _,
+            failed: _,
+        } = self;
+        nv
+    }
+}
+
+impl<M: Nv, const L: usize> Cell<Fused<M>, L> {
+    ghost use Rattle.nv_model.specs.Fuses.{inside, state_of};
+    ghost use Rattle.nv_store.specs.OneView.{storage_of, held_by, has_failed};
+
+    /// Arms the fuse of the storage: see `Fused::arm`.
+    pub fn arm(&mut self, calls: u32, keep: u32, byte: u8)
+        ensures armed { state_of (storage_of self.new) ≡ record (state_of (storage_of self.old)) { fuse = Some calls; keep = keep; byte = byte } }
+        ensures inside { inside (storage_of self.new) ≡ inside (storage_of self.old) }
+        ensures held { held_by self.new ≡ held_by self.old }
+        ensures failed { has_failed self.new ≡ has_failed self.old }
+    {
+        self.nv.arm(calls, keep, byte);
+    }
+}
