@@ -1,0 +1,74 @@
+-- What a debit keeps of a record.
+use Rattle.std.proofs.Common.{◌≡◌, ℕ, ℤ, ◌+◌, ◌^◌, ◌<◌, ◌≤◌, refl, arith, Option, Some, None, Bool, true, false, FitsSigned, Fits as Fits32, true≢false, lit<, if◌then◌else◌, Result, Ok, Err, nat_lt, ltb-false, ap, sym, ◌∙◌}
+use Rattle.std.specs.Int.{w32, cast_unsigned}
+use Rattle.std.proofs.Math.Facts.{Fits-of_z}
+use Rattle.bench_base.specs.declared.words.Kind.{Kind}
+use Rattle.bench_base.specs.declared.words.Kind.TheVariants.{Enrol, Reset, Audit, Refund, Withdraw}
+use Rattle.bench_base.specs.declared.words.Phase.{Phase}
+use Rattle.indicium.specs.declared.Mark.{Mark}
+use Rattle.indicium.specs.Marks as marks
+use Rattle.psd_wire.specs.declared.message.Request.{Request}
+use Rattle.registers.specs.Sums.{Sums, Sound, debited, debit_answer}
+use Rattle.psd_state.specs.State.{State, Holds, IsAmount, PendingOk, MarkOk}
+use Rattle.bench_base.specs.Kinds.{same_kind, empties}
+use Rattle.psd_state.specs.Answers.{frozen_kind}
+
+amount-kept : (k : Kind) (n : ℕ) (s : Sums) (a : ℕ) → IsAmount k n s → empties k ≡ false → a ≤ s.descending → IsAmount k n (debited s a)
+unfolding same_kind
+amount-kept Enrol n s a h f l = h
+amount-kept Reset n s a h f l = (h.0, h.1, omega (arith, h.2, l))
+amount-kept Audit n s a h f l = h
+amount-kept Refund n s a h f l = absurd (true≢false f)
+amount-kept Withdraw n s a h f l = absurd (true≢false f)
+
+some_none : {A : Type 0} {x : A} → Some x ≡ None → ⊥
+some_none h = cc
+
+not_when : {A : Type 0} (b : Bool) (x : A) → (if b then Some x else None) ≡ None → b ≡ false
+not_when true x h = absurd (some_none h)
+not_when false x h = refl
+
+thawed : (q : Request) → frozen_kind (Some q) ≡ None → empties q.kind ≡ false
+thawed q h = not_when (empties q.kind) _ h
+
+pub pending-debited : (d n : ℕ) (p : Phase) (s : Sums) (o : Option Request) (a : ℕ) → PendingOk d n p s o → frozen_kind o ≡ None → a ≤ s.descending → PendingOk d n p (debited s a) o
+pending-debited d n p s None a h f l = tt
+pending-debited d n p s (Some q) a h f l = record { whole = h.whole; device = h.device; number = h.number; kind = h.kind; amount = amount-kept q.kind q.amount s a h.amount (thawed q f) l }
+
+pub whole-mark : (d p a x y : ℕ) (t : ℤ) (o k : ℕ) → d < 2 ^ 32 → p < 2 ^ 32 → a < 2 ^ 32 → x < 2 ^ 32 → y < 2 ^ 32 → FitsSigned w32 t → o < 2 ^ 32 → k < 2 ^ 16
+    → marks.IsWhole (record { version = 1; device = d; piece = p; postage = a; ascending = x; descending = y; day = t; origin = o; class = k })
+whole-mark d p a x y t o k hd hp ha hx hy ht ho hk =
+    let small : Fits32 w32 (cast_unsigned w32 t) = Fits-of_z ht in
+    record {
+      version = refl;
+      fit = (lit< tt, (lit< tt, (hd, (hp, (ha, (hx, (hy, (omega (arith, small), (ho, (hk, tt))))))))));
+      day = ht;
+    }
+
+ok_err : {A F : Type 0} {x : A} {e : F} → ◌≡◌ {A = Result A F} (Ok x) (Err e) → ⊥
+ok_err h = cc
+
+chosen : {P : Type 0} (b : Bool) (s r : Sums) (n : ℕ) → (b ≡ false → P) → Ok r ≡ (if b then Err s.descending else Ok (debited s n)) → (r ≡ debited s n) × P
+chosen true s r n f h = absurd (ok_err h)
+chosen false s r n f h = (cc, f refl)
+
+pub debit-ok : (s r : Sums) (n : ℕ) → Ok r ≡ debit_answer s n → (r ≡ debited s n) × (n ≤ s.descending)
+debit-ok s r n h = chosen (nat_lt s.descending n) s r n (ltb-false s.descending n) h
+
+pub mark-debited : (d p a : ℕ) (s r : Sums) (k : Mark) → marks.IsWhole k → r ≡ debited s a → k.device ≡ d → k.piece ≡ s.pieces + 1 → k.ascending ≡ r.ascending → MarkOk d r (Some k)
+mark-debited d p a s r k w e h i j =
+    let more : r.pieces ≡ s.pieces + 1 = ap (λ (x : Sums). x.pieces) e in
+    (omega (arith, more), record { whole = w; device = h; piece = i ∙ sym more; ascending = j })
+
+-- a record after a debit holds
+pub debit-holds : (s x : State) (a : ℕ) (k : Mark) → Holds s → frozen_kind s.pending ≡ None → Ok x.registers ≡ debit_answer s.registers a → Sound x.registers
+    → x.device ≡ s.device → x.number ≡ s.number → x.phase ≡ s.phase → x.pending ≡ s.pending → x.mark ≡ Some k
+    → marks.IsWhole k → k.device ≡ s.device → k.piece ≡ s.registers.pieces + 1 → k.ascending ≡ x.registers.ascending → Holds x
+debit-holds s x a k h free moved sound device number phase pending mark whole kd kp ka =
+    let r = debit-ok s.registers x.registers a moved in
+    record {
+      phase = rw phase h.phase;
+      registers = sound;
+      pending = rw (device, number, phase, pending, r.0) (pending-debited s.device s.number s.phase s.registers s.pending a h.pending free r.1);
+      mark = rw (device, mark) (mark-debited s.device s.registers.pieces a s.registers x.registers k whole r.0 kd kp ka);
+    }

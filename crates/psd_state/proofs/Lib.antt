@@ -1,0 +1,6 @@
+pub mod Keeping
+pub mod Kept
+pub mod Ordered
+pub mod Parted
+pub mod Steps
+pub mod Under

@@ -1,0 +1,15 @@
+use Rattle.std.proofs.Common.{arith}
+use Rattle.psd_state.proofs.Under.{not_so, is_so, zero-mark, some-mark, not-zero-mark, not-some-mark}
+use Rattle.psd_state.proofs.parts.read_kept.Goals as goal
+
+pub returns-then-is_zero-clause-found : goal.returns-then-is_zero-clause-found
+returns-then-is_zero-clause-found c = (tt, c.if-pieces-eq0.true, zero-mark _ _ c.requires (is_so _ _ c.is_zero.ensures c.if-is_zero.true))
+
+pub returns-then-pieces-eq0-clause-none : goal.returns-then-pieces-eq0-clause-none
+returns-then-pieces-eq0-clause-none c = not-zero-mark _ _ _ c.if-pieces-eq0.true c.requires (not_so _ _ c.is_zero.ensures c.if-is_zero.false)
+
+pub returns-in-Some-clause-found : goal.returns-in-Some-clause-found
+returns-in-Some-clause-found c = (c.in-Some.ensures.found.0, omega (arith, c.if-pieces-eq0.false), some-mark _ _ _ c.in-Some.ensures.found.1)
+
+pub returns-in-None-clause-none : goal.returns-in-None-clause-none
+returns-in-None-clause-none c = not-some-mark _ _ _ (λ e. absurd (omega (arith, c.if-pieces-eq0.false, e))) c.in-None.ensures.none

@@ -1,0 +1,5 @@
+pub mod Answers
+pub mod Laws
+pub mod Payload
+pub mod Records
+pub mod State

@@ -1,0 +1,80 @@
+-- A device's record, as its callers see it, and what holds of each. Money is in mills, days are since 1970-01-01.
+use Rattle.std.specs.Prelude.{◌≡◌, ℕ, ℤ, ◌+◌, ◌≤◌, ◌<◌, Bool, true, false, List, Option, Some, None}
+use Rattle.bench_base.specs.declared.words.Kind.{Kind}
+use Rattle.bench_base.specs.declared.words.Kind.TheVariants.{Enrol, Reset, Audit, Refund, Withdraw}
+use Rattle.bench_base.specs.Kinds.{is_allowed}
+use Rattle.bench_base.specs.declared.words.Phase.{Phase}
+use Rattle.bench_base.specs.declared.words.Phase.TheVariants.{Manufactured, Authorised, InService, Withdrawn}
+use Rattle.indicium.specs.declared.Mark.{Mark}
+use Rattle.indicium.specs.Marks as marks
+use Rattle.psd_wire.specs.declared.message.Request.{Request}
+use Rattle.psd_wire.specs.declared.message.Message.TheVariants as m
+use Rattle.psd_wire.specs.Grammar as grammar
+use Rattle.registers.specs.Sums.{Sums, Sound, total, limit}
+
+pub record State : Type 0 where
+  pub device : ℕ
+  -- the stored phase: a device in service is locked after its deadline, and stored as in service
+  pub phase : Phase
+  pub key : List ℕ
+  pub registers : Sums
+  -- of the last transaction that was applied, and 0 before the first
+  pub number : ℕ
+  -- the last day on which the device franks, and 0 before it is set
+  pub deadline : ℤ
+  -- of the last debit or request, and 0 before the first
+  pub last_day : ℤ
+  pub customer : ℕ
+  pub origin : ℕ
+  -- the request that is outstanding
+  pub pending : Option Request
+  -- of the last debit
+  pub mark : Option Mark
+
+-- the phases that are stored
+abbrev pub is_stored : Phase → Bool
+is_stored Manufactured = true
+is_stored Authorised = true
+is_stored InService = true
+is_stored Withdrawn = true
+is_stored _ = false
+
+-- the amount that may be asked for
+abbrev pub IsAmount : Kind → ℕ → Sums → Type 0
+IsAmount Reset a s = (1 ≤ a) × (a ≤ 10000000) × (total s + a ≤ limit)
+IsAmount Refund a s = a ≡ s.descending
+IsAmount Withdraw a s = a ≡ s.descending
+IsAmount Enrol a s = a ≡ 0
+IsAmount Audit a s = a ≡ 0
+
+-- a request that may be outstanding on the device d, whose last transaction is n, in this phase and with these registers
+pub record IsPending (d n : ℕ) (p : Phase) (s : Sums) (q : Request) : Type 0 where
+  pub whole : grammar.IsWhole (m.Request q)
+  pub device : q.device ≡ d
+  pub number : q.number ≡ n + 1
+  pub kind : is_allowed q.kind p ≡ true
+  pub amount : IsAmount q.kind q.amount s
+
+-- a mark of the device's last piece
+pub record IsKept (d : ℕ) (s : Sums) (k : Mark) : Type 0 where
+  pub whole : marks.IsWhole k
+  pub device : k.device ≡ d
+  pub piece : k.piece ≡ s.pieces
+  pub ascending : k.ascending ≡ s.ascending
+
+-- what holds of what is outstanding
+abbrev pub PendingOk : ℕ → ℕ → Phase → Sums → Option Request → Type 0
+PendingOk device number phase s None = Unit {0}
+PendingOk device number phase s (Some q) = IsPending device number phase s q
+
+-- what holds of the kept mark: there is one exactly where there are pieces
+abbrev pub MarkOk : ℕ → Sums → Option Mark → Type 0
+MarkOk device s None = s.pieces ≡ 0
+MarkOk device s (Some k) = (0 < s.pieces) × IsKept device s k
+
+-- what holds of each record
+pub record Holds (s : State) : Type 0 where
+  pub phase : is_stored s.phase ≡ true
+  pub registers : Sound s.registers
+  pub pending : PendingOk s.device s.number s.phase s.registers s.pending
+  pub mark : MarkOk s.device s.registers s.mark

@@ -1,0 +1,143 @@
+//! Transactions: what a device asks its centre for, once and again, and what it tells of the last one.
+ghost use Rattle.std.specs.Prelude.{◌≡◌, IfOk};
+ghost use Rattle.bench_base.specs.Rules.{first_rules};
+ghost use Rattle.psd_wire.specs.declared.message.Message.TheVariants as m;
+ghost use Rattle.psd_wire.specs.Grammar.{IsWhole, spell};
+ghost use Rattle.psd_state.specs.State.{Holds};
+ghost use Rattle.psd_state.specs.Answers as answers;
+ghost use Rattle.psd_state.specs.Answers.{ask_answer, resend_answer, done_answer};
+
+use crate::record::DevRec;
+use crate::words::{is_allowed, is_reset};
+use bench_base::bytes::Note;
+use bench_base::numbers::DayNo;
+use bench_base::refusals::DevRefusal;
+use bench_base::words::{Key, Kind};
+use psd_audit::clock_back;
+use psd_wire::{DoneMsg, Message, Request, write_message};
+use registers::TOTAL_LIMIT;
+
+/// The most that may be asked for in one reset, in mills.
+const RESET_LIMIT: u32 = 10_000_000;
+
+impl DevRec {
+    /// Asks for a transaction: the record to keep, and the request to send.
+    ///
+    /// The customer counts for an enrolment only, and the amount, in mills, for a reset only. The first refusal that
+    /// holds: `Busy` where a transaction is outstanding, `Phase` where the kind may not be asked for in the stored
+    /// phase, `ClockBack` where the day is before the last one, `BadAmount` where a reset is of 0 or above 10,000,000,
+    /// `TotalFull` where it would take the sum of all registers above its limit, `NumberFull` where the last number
+    /// was 4,294,967,295.
+    #[tactic(auto, unfolding(bench_base::specs::Kinds::same_kind))]
+    pub fn ask(
+        &self,
+        kind: Kind,
+        customer: u32,
+        amount: u32,
+        day: DayNo,
+    ) -> Result<(DevRec, Note), DevRefusal>
+        ensures exact { result ≡ ask_answer first_rules self.now kind customer amount day }
+        ensures sound { IfOk result (λ x. Holds x.0) }
+    {
+        if let Some(request) = self.pending {
+            return Err(DevRefusal::Busy(request.kind));
+        }
+        if !is_allowed(kind, self.phase) {
+            return Err(DevRefusal::Phase(self.phase));
+        }
+        if clock_back(day, self.last_day) {
+            return Err(DevRefusal::ClockBack(self.last_day));
+        }
+        let reset = is_reset(kind);
+        if reset && (amount == 0 || amount > RESET_LIMIT) {
+            return Err(DevRefusal::BadAmount(amount));
+        }
+        let total = self.registers.total();
+        if reset && total + u64::from(amount) > TOTAL_LIMIT {
+            return Err(DevRefusal::TotalFull(total));
+        }
+        if self.number == u32::MAX {
+            return Err(DevRefusal::NumberFull);
+        }
+        let request = Request {
+            version: 1,
+            device: self.device.get(),
+            number: self.number + 1,
+            kind,
+            customer: customer_for(kind, customer, self.customer),
+            amount: amount_for(kind, amount, self.registers.descending()),
+            ascending: self.registers.ascending(),
+            descending: self.registers.descending(),
+            refunded: self.registers.refunded(),
+            pieces: self.registers.pieces(),
+            day,
+        };
+        let note = note_for(&request, &self.key);
+        let asked = DevRec {
+            last_day: day.get(),
+            pending: Some(request),
+            ..*self
+        };
+        Ok((asked, note))
+    }
+
+    /// The request that is outstanding, byte for byte as it was sent. `NothingPending` where there is none.
+    pub fn resend(&self) -> Result<Note, DevRefusal>
+        ensures exact { result ≡ resend_answer self.now self.now.pending }
+    {
+        match self.pending {
+            Some(request) => Ok(note_for(&request, &self.key)),
+            None => Err(DevRefusal::NothingPending),
+        }
+    }
+
+    /// The message that the last transaction was applied. `NothingDone` where none was yet.
+    pub fn done(&self) -> Result<[u8; 42], DevRefusal>
+        ensures exact { result ≡ done_answer self.now }
+    {
+        if self.number == 0 {
+            return Err(DevRefusal::NothingDone);
+        }
+        let done = DoneMsg {
+            device: self.device.get(),
+            number: self.number,
+        };
+        Ok(done_bytes(done, &self.key))
+    }
+}
+
+// The bytes of a request.
+fn note_for(request: &Request, key: &Key) -> Note
+    requires { IsWhole (m.Request request.now) }
+    ensures { result ≡ spell (m.Request request.now) key.now }
+{
+    write_message(&Message::Request(*request), key)
+}
+
+fn done_bytes(done: DoneMsg, key: &Key) -> [u8; 42]
+    ensures { result ≡ spell (m.Done done) key.now }
+{
+    let note = write_message(&Message::Done(done), key);
+    let mut bytes = [0; 42];
+    bytes.copy_from_slice(note.as_slice());
+    bytes
+}
+
+fn amount_for(kind: Kind, amount: u32, left: u64) -> u64
+    ensures { result ≡ answers.amount_for kind amount left }
+{
+    match kind {
+        Kind::Reset => u64::from(amount),
+        Kind::Refund | Kind::Withdraw => left,
+        Kind::Enrol | Kind::Audit => 0,
+    }
+}
+
+fn customer_for(kind: Kind, asked: u32, own: u32) -> u32
+    ensures { result ≡ answers.customer_for kind asked own }
+{
+    match kind {
+        Kind::Enrol => asked,
+        _ => own,
+    }
+}

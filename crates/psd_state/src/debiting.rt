@@ -1,0 +1,144 @@
+//! Debits: the mark of a piece, once and again.
+ghost use Rattle.std.specs.Prelude.{◌≡◌, IfOk};
+ghost use Rattle.bench_base.specs.Rules.{first_rules};
+ghost use Rattle.indicium.specs.Marks as marks;
+ghost use Rattle.psd_state.specs.Answers as answers;
+ghost use Rattle.psd_state.specs.Answers.{debit_answer, new_answer, HoldsAfter};
+
+use crate::record::DevRec;
+use crate::words::{empties, is_in_service};
+use bench_base::numbers::{DayNo, DevNo};
+use bench_base::refusals::DevRefusal;
+use bench_base::words::{Key, Kind};
+use indicium::{Mark, write_indicium};
+use psd_audit::{clock_back, is_due};
+use psd_wire::{DebitMsg, Request};
+use registers::Registers;
+
+/// The most postage of one piece, in mills.
+const POSTAGE_LIMIT: u32 = 100_000;
+
+/// What a debit gives: the record to keep and the mark of a new piece, or the mark of the last piece once more.
+#[derive(Clone, Copy)]
+pub enum Debited {
+    New(DevRec, [u8; 64]),
+    Again([u8; 64]),
+}
+
+impl DevRec {
+    /// Marks a piece, or gives the mark of the last piece once more: the same bytes, and the record stays.
+    ///
+    /// The first refusal that holds: `WrongDevice` where another device is named; `Conflict` where the piece is the
+    /// last one, with another postage or class; `WrongPiece` where it is not the next; `Phase` where the stored phase
+    /// is not in service; `Frozen` where a refund or withdrawal is outstanding; `ClockBack` where the day is before
+    /// the last one; `Due` where it is after the deadline; `BadAmount` where the postage is 0 or above 100,000 mills;
+    /// `NoFunds` where it is more than the descending register.
+    pub fn debit(&self, command: &DebitMsg, day: DayNo) -> Result<Debited, DevRefusal>
+        ensures exact { result ≡ debit_answer first_rules self.now command.now day }
+        ensures sound { IfOk result HoldsAfter }
+    {
+        if command.device != self.device.get() {
+            return Err(DevRefusal::WrongDevice(command.device));
+        }
+        match repeated(&self.mark, command.piece) {
+            Some(mark) => again(command, &mark, &self.key),
+            None => self.debit_new(command, day),
+        }
+    }
+
+    // Marks a piece that was not marked before.
+    fn debit_new(&self, command: &DebitMsg, day: DayNo) -> Result<Debited, DevRefusal>
+        ensures exact { result ≡ new_answer first_rules self.now command.now day }
+        ensures sound { IfOk result HoldsAfter }
+    {
+        let pieces = self.registers.pieces();
+        if u64::from(command.piece) != u64::from(pieces) + 1 {
+            return Err(DevRefusal::WrongPiece(pieces));
+        }
+        if !is_in_service(self.phase) {
+            return Err(DevRefusal::Phase(self.phase));
+        }
+        match frozen(&self.pending) {
+            Some(kind) => return Err(DevRefusal::Frozen(kind)),
+            None => {}
+        }
+        if clock_back(day, self.last_day) {
+            return Err(DevRefusal::ClockBack(self.last_day));
+        }
+        if is_due(day, self.deadline) {
+            return Err(DevRefusal::Due(self.deadline));
+        }
+        if command.postage == 0 || command.postage > POSTAGE_LIMIT {
+            return Err(DevRefusal::BadAmount(command.postage));
+        }
+        let registers = match self.registers.debit(command.postage) {
+            Ok(registers) => registers,
+            Err(left) => return Err(DevRefusal::NoFunds(left)),
+        };
+        let mark = mark_for(self.device, self.origin, *command, &registers, day);
+        let bytes = write_indicium(&mark, &self.key);
+        let franked = DevRec {
+            registers,
+            last_day: day.get(),
+            mark: Some(mark),
+            ..*self
+        };
+        Ok(Debited::New(franked, bytes))
+    }
+}
+
+// A debit of the piece that was marked last.
+fn again(command: &DebitMsg, mark: &Mark, key: &Key) -> Result<Debited, DevRefusal>
+    requires { marks.IsWhole mark.now }
+    ensures { result ≡ answers.again command.now key.now mark.now }
+{
+    if mark.postage == command.postage && mark.class == command.class {
+        Ok(Debited::Again(write_indicium(mark, key)))
+    } else {
+        Err(DevRefusal::Conflict(mark.postage, mark.class))
+    }
+}
+
+// The mark of this piece, where it is the last.
+fn repeated(mark: &Option<Mark>, piece: u32) -> Option<Mark>
+    ensures { result ≡ answers.repeated mark.now piece }
+{
+    match mark {
+        Some(mark) if mark.piece == piece => Some(*mark),
+        _ => None,
+    }
+}
+
+// Nothing may be spent while all that is left is to be given back: the kind of such a transaction.
+fn frozen(pending: &Option<Request>) -> Option<Kind>
+    ensures { result ≡ answers.frozen_kind pending.now }
+{
+    match pending {
+        Some(request) if empties(request.kind) => Some(request.kind),
+        _ => None,
+    }
+}
+
+// The mark of a debit after which the registers are these.
+fn mark_for(
+    device: DevNo,
+    origin: u32,
+    command: DebitMsg,
+    registers: &Registers,
+    day: DayNo,
+) -> Mark
+    ensures value { result ≡ answers.mark_of first_rules device origin command registers.now day }
+    ensures whole { marks.IsWhole result }
+{
+    Mark {
+        version: 1,
+        device: device.get(),
+        piece: command.piece,
+        postage: command.postage,
+        ascending: registers.ascending(),
+        descending: registers.descending(),
+        day: day.get(),
+        origin,
+        class: command.class,
+    }
+}

@@ -1,0 +1,19 @@
+//! A device as a record and pure rules over it: each call answers, and gives the record to be kept.
+#![tactic(auto)]
+
+mod applying;
+mod asking;
+mod debiting;
+mod page;
+mod parts;
+mod payload;
+mod record;
+#[cfg(test)]
+mod tests;
+mod theorems;
+mod words;
+
+pub use bench_base::events::DevView as DevStatus;
+pub use debiting::Debited;
+pub use record::DevRec;
+pub use theorems::{one_payload, record_follows_the_commits};

@@ -1,0 +1,111 @@
+//! The record of a device: what it keeps, and what it shows of it.
+ghost use Rattle.std.specs.Prelude.{◌≡◌};
+ghost use Rattle.psd_wire.specs.Devices.{lock};
+ghost use Rattle.psd_state.specs.State.{Holds};
+ghost use Rattle.psd_state.specs.Answers.{made_state, status_of, waiting_kind};
+
+use crate::words::is_in_service;
+use bench_base::events::DevView;
+use bench_base::numbers::{DayNo, DevNo};
+use bench_base::words::{Key, Kind, Phase};
+use indicium::Mark;
+use psd_audit::is_due;
+use psd_wire::Request;
+use registers::Registers;
+use std::marker::Model;
+
+/// All that a device keeps. Money is in mills, and a day counts from 1970-01-01.
+///
+/// What is outstanding and the mark of the last debit are kept as values; their bytes are spelled again, and are the
+/// same each time.
+#[derive(Clone, Copy)]
+pub struct DevRec {
+    pub(crate) device: DevNo,
+    pub(crate) phase: Phase,
+    pub(crate) key: Key,
+    pub(crate) registers: Registers,
+    pub(crate) number: u32,
+    pub(crate) deadline: i32,
+    pub(crate) last_day: i32,
+    pub(crate) customer: u32,
+    pub(crate) origin: u32,
+    pub(crate) pending: Option<Request>,
+    pub(crate) mark: Option<Mark>,
+}
+
+impl Model for DevRec {
+    ghost use Rattle.psd_state.specs.State.{State, Holds};
+
+    ghost Value = { State };
+
+    ghost view = { λ r. record { device = r.device; phase = r.phase; key = r.key; registers = r.registers; number = r.number; deadline = r.deadline; last_day = r.last_day; customer = r.customer; origin = r.origin; pending = r.pending; mark = r.mark } };
+
+    ghost invariant = { λ r. Holds (record { device = r.device; phase = r.phase; key = r.key; registers = r.registers; number = r.number; deadline = r.deadline; last_day = r.last_day; customer = r.customer; origin = r.origin; pending = r.pending; mark = r.mark }) };
+
+    ghost inverse = { λ r. record { device = r.device; phase = r.phase; key = r.key; registers = r.registers; number = r.number; deadline = r.deadline; last_day = r.last_day; customer = r.customer; origin = r.origin; pending = r.pending; mark = r.mark } };
+}
+
+impl DevRec {
+    /// A new device under a key: manufactured, with nothing loaded, spent or outstanding.
+    pub fn made(device: DevNo, key: &Key) -> DevRec
+        ensures value { result ≡ made_state device key.now }
+        ensures sound { Holds result }
+    {
+        DevRec {
+            device,
+            phase: Phase::Manufactured,
+            key: *key,
+            registers: Registers::zero(),
+            number: 0,
+            deadline: 0,
+            last_day: 0,
+            customer: 0,
+            origin: 0,
+            pending: None,
+            mark: None,
+        }
+    }
+
+    /// What the device shows on that day: in service it is locked after its deadline.
+    pub fn status(&self, day: DayNo) -> DevView
+        ensures { result ≡ status_of self.now day }
+    {
+        DevView {
+            phase: shown(self.phase, self.deadline, day),
+            ascending: self.registers.ascending(),
+            descending: self.registers.descending(),
+            refunded: self.registers.refunded(),
+            pieces: self.registers.pieces(),
+            number: self.number,
+            deadline: self.deadline,
+            pending: kind_of(&self.pending),
+        }
+    }
+
+    /// The key by which a reply's code is checked.
+    pub fn key(&self) -> &Key
+        ensures value { result.now ≡ self.now.key }
+        ensures sound { Holds self.now }
+    {
+        &self.key
+    }
+}
+
+fn shown(phase: Phase, deadline: i32, day: DayNo) -> Phase
+    ensures { result ≡ lock day deadline phase }
+{
+    if is_in_service(phase) && is_due(day, deadline) {
+        Phase::Locked
+    } else {
+        phase
+    }
+}
+
+fn kind_of(pending: &Option<Request>) -> Option<Kind>
+    ensures { result ≡ waiting_kind pending.now }
+{
+    match pending {
+        Some(request) => Some(request.kind),
+        None => None,
+    }
+}
