@@ -1,0 +1,343 @@
+-- What one commit does to the rows of the centre, and what the rows say of a ruling and of a balance.
+use Rattle.std.proofs.Common.{◌≡◌, ℕ, pos, ◌+ℤ◌, ◌+◌, ◌≤◌, Bool, true, false, List, [], ◌∷◌, Option, Some, None, Ok, Err, cond, refl, sym, ap, subst, ◌∙◌, true≢false, ⊎_elim, arith}
+use Rattle.std.specs.Prelude.{◌==◌, ◌&&◌, ◌||◌, not, nat_lt, nat_le, IsSome, sum_by}
+use Rattle.std.proofs.lemmas.List.Sums.{sum_by-cons}
+use Rattle.std.proofs.lemmas.Bool.{cases_Bool, eqb-true, eq-eqb, ne_eqb}
+use Rattle.bench_base.specs.declared.words.Kind.{Kind}
+use Rattle.bench_base.specs.declared.words.Kind.TheVariants.{Enrol, Reset, Audit, Refund, Withdraw}
+use Rattle.bench_base.specs.declared.words.Verdict.{Verdict}
+use Rattle.bench_base.specs.declared.words.Verdict.TheVariants.{Granted, NotEnrolled, EnrolledAlready, NoCustomer, Suspended, NoFunds, Imbalance}
+use Rattle.bench_base.specs.Kinds.{same_kind, is_granted, is_dated}
+use Rattle.bench_base.specs.Rows.{first_holding, first_of}
+use Rattle.psd_wire.specs.declared.message.Message.TheVariants as m
+use Rattle.psd_wire.specs.Grammar.{spell}
+use Rattle.bench_base.specs.declared.refusals.CentreRefusal.TheVariants as no
+use Rattle.bench_base.specs.declared.ledger.Commit.{Commit}
+use Rattle.bench_base.specs.declared.ledger.Commit.TheVariants.{Registered, Opened, Deposited, Flagged, Ruled, Settled}
+use Rattle.psd_wire.specs.declared.message.Request.{Request}
+use Rattle.psd_wire.specs.Requests.{request_in}
+use Rattle.psd_wire.specs.Sums.{adds, takes, ruled_sum, bought, returned}
+use Rattle.psd_wire.specs.Centres.{registered, origin_in, key_in, enrolled, withdrawn, ruled, done, settled, opened, suspended, deposits, receipt, is_some_at, device_numbers, sum_over, device_share, customer_sum}
+use Rattle.psd_wire.specs.Rulings.{Account, account_of, verdict, verdict_by, stored_reply, has_left, is_enrolled, out_of_balance, reply_to}
+use Rattle.centre_ledger.specs.declared.rows.DeviceRow.{DeviceRow}
+use Rattle.centre_ledger.specs.Answers.{last_ruling, stored_note, settle_answer, deposit_answer}
+use Rattle.centre_ledger.specs.Order.{InOrder}
+use Rattle.centre_ledger.specs.Soundness.{IsSoundDevice}
+use Rattle.centre_ledger.specs.Rows.{enrolled_in, account, amount_shown, reply_by, buys_in, returns_in}
+use Rattle.centre_ledger.specs.Records.{IsRowOf, IsCustomerOf, registered_row, opened_row, PaysBy}
+use Rattle.centre_ledger.specs.Laws.{RegisteringStarts, SettlingKeeps, OtherDevicesKeep, OpeningStarts, DepositingKeeps, FlaggingKeeps, OtherCustomersKeep, RulingByRows, RulingKeeps, IsSlotOf, AreSlots, BalancingByRows}
+
+some-none : {A : Type 0} {a : A} → Some a ≡ None → ⊥
+some-none e = cc
+
+some-is : {A : Type 0} (o : Option A) → IsSome o → o ≡ None → ⊥
+some-is None s n = true≢false (sym s)
+some-is (Some a) s n = some-none n
+
+either : (e d : ℕ) {P : Type 0} → ((e == d) ≡ true → e ≡ d → P) → ((e == d) ≡ false → P) → P
+either e d same other = ⊎_elim (λ (h : (e == d) ≡ true). same h (eqb-true e d h)) other (cases_Bool (e == d))
+
+-- == devices ==
+
+-- the centre holds nothing of a device before its Registered
+record Nothing (d : ℕ) (C : List Commit) : Type 0 where
+  enrolled : enrolled d C ≡ None
+  withdrawn : withdrawn d C ≡ false
+  ruled : ruled d C ≡ 0
+  done : done d C ≡ 0
+  bought : bought d C ≡ 0
+  returned : returned d C ≡ 0
+  last : last_ruling d C ≡ None
+  reply : stored_reply d C ≡ None
+
+nothing-before : (d : ℕ) (C : List Commit) → InOrder C → registered d C ≡ None → Nothing d C
+nothing-before d [] o h = record { enrolled = refl; withdrawn = refl; ruled = refl; done = refl; bought = refl; returned = refl; last = refl; reply = refl }
+nothing-before d (Registered e origin key ∷ C) o h = either e d
+    (λ t y. absurd (some-none (rw t at h)))
+    (λ t. let n = nothing-before d C o.1 (rw t at h) in record { enrolled = n.enrolled; withdrawn = n.withdrawn; ruled = n.ruled; done = n.done; bought = n.bought; returned = n.returned; last = n.last; reply = n.reply })
+nothing-before d (Ruled e n v note ∷ C) o h =
+    let was = nothing-before d C o.1 h in
+    either e d
+    (λ t y. absurd (some-is (registered d C) (subst (λ z. IsSome (registered z C)) y o.0.0) h))
+    (λ t. record {
+      enrolled = rw t was.enrolled;
+      withdrawn = rw t was.withdrawn;
+      ruled = rw t was.ruled;
+      done = was.done;
+      bought = rw t was.bought;
+      returned = rw t was.returned;
+      last = rw t was.last;
+      reply = rw t was.reply;
+    })
+nothing-before d (Settled e n ∷ C) o h =
+    let was = nothing-before d C o.1 h in
+    either e d
+    (λ t y. absurd (some-is (registered d C) (subst (λ z. IsSome (registered z C)) y o.0) h))
+    (λ t. record { enrolled = was.enrolled; withdrawn = was.withdrawn; ruled = was.ruled; done = rw t was.done; bought = was.bought; returned = was.returned; last = was.last; reply = was.reply })
+nothing-before d (_ ∷ C) o h = let n = nothing-before d C o.1 h in record { enrolled = n.enrolled; withdrawn = n.withdrawn; ruled = n.ruled; done = n.done; bought = n.bought; returned = n.returned; last = n.last; reply = n.reply }
+
+pub registering : RegisteringStarts
+registering d origin key C o h =
+    let n = nothing-before d C o h in
+    let a = n.ruled in
+    let b = n.done in
+    record {
+      registered = rw (eq-eqb d d refl) refl;
+      enrolled = n.enrolled;
+      withdrawn = n.withdrawn;
+      ruled = n.ruled;
+      settled = omega arith;
+      bought = n.bought;
+      returned = n.returned;
+      request = ap stored_note n.last;
+      reply = ap Rattle.centre_ledger.specs.Records.note_or_none n.reply;
+    }
+
+-- what is settled now is the number that was ruled last
+settles : (settled ruled n now : ℕ) → settle_answer settled ruled n ≡ Ok (Some now) → now ≡ ruled
+settles settled ruled n now h = go (nat_le n settled) (n == ruled) refl h
+  where
+    go : (t u : Bool) → (n == ruled) ≡ u → cond t (Ok None) (cond u (Ok (Some n)) (Err (no.Ahead ruled))) ≡ Ok (Some now) → now ≡ ruled
+    go true u e k = absurd (cc)
+    go false true e k = let same : n ≡ now = cc in sym same ∙ eqb-true n ruled e
+    go false false e k = absurd (cc)
+
+pub settling : SettlingKeeps
+settling r C number now sound is h =
+    let same = settles r.settled r.ruled number now h in
+    let ruled = is.ruled in
+    let was = is.settled in
+    let le = sound.settled_le in
+    record {
+      registered = is.registered;
+      enrolled = is.enrolled;
+      withdrawn = is.withdrawn;
+      ruled = is.ruled;
+      settled = rw (eq-eqb r.device r.device refl) (omega arith);
+      bought = is.bought;
+      returned = is.returned;
+      request = is.request;
+      reply = is.reply;
+    }
+
+pub other-devices : OtherDevicesKeep
+other-devices r C (Registered e origin key) h is = record { registered = rw h is.registered; enrolled = is.enrolled; withdrawn = is.withdrawn; ruled = is.ruled; settled = is.settled; bought = is.bought; returned = is.returned; request = is.request; reply = is.reply }
+other-devices r C (Ruled e n v note) h is = record { registered = is.registered; enrolled = rw h is.enrolled; withdrawn = rw h is.withdrawn; ruled = rw h is.ruled; settled = rw h is.settled; bought = rw h is.bought; returned = rw h is.returned; request = rw h is.request; reply = rw h is.reply }
+other-devices r C (Settled e n) h is = record { registered = is.registered; enrolled = is.enrolled; withdrawn = is.withdrawn; ruled = is.ruled; settled = rw h is.settled; bought = is.bought; returned = is.returned; request = is.request; reply = is.reply }
+other-devices r C _ h is = record { registered = is.registered; enrolled = is.enrolled; withdrawn = is.withdrawn; ruled = is.ruled; settled = is.settled; bought = is.bought; returned = is.returned; request = is.request; reply = is.reply }
+
+-- == customers ==
+
+record NoMoney (c : ℕ) (C : List Commit) : Type 0 where
+  suspended : suspended c C ≡ false
+  deposits : deposits c C ≡ 0
+  receipt : receipt c C ≡ (0, 0)
+
+no-money : (c : ℕ) (C : List Commit) → InOrder C → opened c C ≡ false → NoMoney c C
+no-money c [] o h = record { suspended = refl; deposits = refl; receipt = refl }
+no-money c (Opened e ∷ C) o h = either e c
+    (λ t y. absurd (true≢false (rw t at h)))
+    (λ t. let n = no-money c C o.1 (rw t at h) in record { suspended = n.suspended; deposits = n.deposits; receipt = n.receipt })
+no-money c (Deposited e n a ∷ C) o h = either e c
+    (λ t y. absurd (true≢false (sym (subst (λ z. opened z C ≡ true) y o.0) ∙ h)))
+    (λ t. let was = no-money c C o.1 h in record { suspended = was.suspended; deposits = rw t was.deposits; receipt = rw t was.receipt })
+no-money c (Flagged e s ∷ C) o h = either e c
+    (λ t y. absurd (true≢false (sym (subst (λ z. opened z C ≡ true) y o.0) ∙ h)))
+    (λ t. let was = no-money c C o.1 h in record { suspended = rw t was.suspended; deposits = was.deposits; receipt = was.receipt })
+no-money c (_ ∷ C) o h = let n = no-money c C o.1 h in record { suspended = n.suspended; deposits = n.deposits; receipt = n.receipt }
+
+pub opening : OpeningStarts
+opening c C o h =
+    let n = no-money c C o h in
+    record { opened = rw (eq-eqb c c refl) refl; suspended = n.suspended; deposits = n.deposits; receipt = n.receipt }
+
+-- the deposits after a new one are one amount more
+deposits-are : (last : ℕ × ℕ) (total n a after : ℕ) → deposit_answer last total n a ≡ Ok (Some after) → after ≡ total + a
+deposits-are last total n a after h = go ((n == last.0) && nat_lt 0 n) (a == last.1) (not (n == last.0 + 1)) ((a == 0) || nat_lt 1000000000 a) (nat_lt 1000000000000000 (total + a)) h
+  where
+    go : (t u x y z : Bool) → cond t (cond u (Ok None) (Err (no.Conflict last.1))) (cond x (Err (no.WrongReceipt last.0)) (cond y (Err (no.BadAmount a)) (cond z (Err (no.DepositsFull total)) (Ok (Some (total + a)))))) ≡ Ok (Some after) → after ≡ total + a
+    go true true x y z k = absurd (cc)
+    go true false x y z k = absurd (cc)
+    go false u true y z k = absurd (cc)
+    go false u false true z k = absurd (cc)
+    go false u false false true k = absurd (cc)
+    go false u false false false k = cc
+
+pub depositing : DepositingKeeps
+depositing r C n a after is h =
+    let sum = deposits-are (r.receipt, r.amount) r.deposits n a after h in
+    let was = is.deposits in
+    let own : (r.customer == r.customer) ≡ true = eq-eqb r.customer r.customer refl in
+    record { opened = is.opened; suspended = is.suspended; deposits = rw own (omega arith); receipt = rw own refl }
+
+pub flagging : FlaggingKeeps
+flagging r C s is = record { opened = is.opened; suspended = rw (eq-eqb r.customer r.customer refl) refl; deposits = is.deposits; receipt = is.receipt }
+
+pub other-customers : OtherCustomersKeep
+other-customers r C (Opened e) h is = record { opened = rw h is.opened; suspended = is.suspended; deposits = is.deposits; receipt = is.receipt }
+other-customers r C (Deposited e n a) h is = record { opened = is.opened; suspended = is.suspended; deposits = rw h is.deposits; receipt = rw h is.receipt }
+other-customers r C (Flagged e s) h is = record { opened = is.opened; suspended = rw h is.suspended; deposits = is.deposits; receipt = is.receipt }
+other-customers r C _ h is = record { opened = is.opened; suspended = is.suspended; deposits = is.deposits; receipt = is.receipt }
+
+-- == a ruling ==
+
+pub ruling : RulingByRows
+unfolding verdict
+ruling r o left q C is device pays =
+    let a : enrolled q.device C ≡ enrolled_in r = ap (λ d. enrolled d C) device ∙ is.enrolled in
+    let b : withdrawn q.device C ≡ (r.state == 3) = ap (λ d. withdrawn d C) device ∙ is.withdrawn in
+    let c : bought q.device C ≡ r.buys = ap (λ d. bought d C) device ∙ is.bought in
+    let d : returned q.device C ≡ r.returns = ap (λ d. returned d C) device ∙ is.returned in
+    let same : account r o left ≡ account_of C q = λ i. record {
+      enrolled = sym a i;
+      withdrawn = sym b i;
+      bought = sym c i;
+      returned = sym d i;
+      opened = sym pays.opened i;
+      suspended = sym pays.suspended i;
+      balance = sym pays.balance i;
+    } in
+    ap (λ (x : Account). verdict_by x q) same
+
+-- the amount in the Reply follows from the verdict
+shown : (a : Account) (q : Request) → (verdict_by a q).1 ≡ amount_shown (verdict_by a q).0 q.amount a.bought a.balance
+unfolding verdict_by
+shown a q = go (not (same_kind q.kind Enrol) && has_left a.enrolled a.withdrawn) (same_kind q.kind Enrol && is_enrolled a.enrolled) (out_of_balance q a.bought a.returned) (same_kind q.kind Enrol && not a.opened) ((same_kind q.kind Enrol || same_kind q.kind Reset) && a.suspended) (same_kind q.kind Reset && nat_lt a.balance q.amount)
+  where
+    given : (s t u x y z : Bool) → Verdict × ℕ
+    given s t u x y z = cond s (NotEnrolled, 0) (cond t (EnrolledAlready, 0) (cond u (Imbalance, a.bought) (cond x (NoCustomer, 0) (cond y (Suspended, 0) (cond z (NoFunds, a.balance) (Granted, q.amount))))))
+
+    go : (s t u x y z : Bool) → (given s t u x y z).1 ≡ amount_shown (given s t u x y z).0 q.amount a.bought a.balance
+    go true t u x y z = refl
+    go false true u x y z = refl
+    go false false true x y z = refl
+    go false false false true y z = refl
+    go false false false false true z = refl
+    go false false false false false true = refl
+    go false false false false false false = refl
+
+-- what is granted is no enrolment of a device that was enrolled, and nothing else of one that isn't
+granted-standing : (a : Account) (q : Request) → is_granted (verdict_by a q).0 ≡ true → ((not (same_kind q.kind Enrol) && has_left a.enrolled a.withdrawn) ≡ false) × ((same_kind q.kind Enrol && is_enrolled a.enrolled) ≡ false)
+unfolding verdict_by
+granted-standing a q h = go (not (same_kind q.kind Enrol) && has_left a.enrolled a.withdrawn) (same_kind q.kind Enrol && is_enrolled a.enrolled) h
+  where
+    rest : Verdict × ℕ
+    rest = first_holding ((out_of_balance q a.bought a.returned, (Imbalance, a.bought)) ∷ (same_kind q.kind Enrol && not a.opened, (NoCustomer, 0)) ∷ ((same_kind q.kind Enrol || same_kind q.kind Reset) && a.suspended, (Suspended, 0)) ∷ (same_kind q.kind Reset && nat_lt a.balance q.amount, (NoFunds, a.balance)) ∷ []) (Granted, q.amount)
+
+    given : Bool → Bool → Verdict × ℕ
+    given s t = cond s (NotEnrolled, 0) (cond t (EnrolledAlready, 0) rest)
+
+    go : (s t : Bool) → is_granted (given s t).0 ≡ true → (s ≡ false) × (t ≡ false)
+    go true t k = absurd (true≢false (sym k))
+    go false true k = absurd (true≢false (sym k))
+    go false false k = (refl, refl)
+
+abbrev own_in : ℕ → ℕ → Option ℕ
+own_in s own = cond (s == 1) None (Some own)
+
+enrolled-after : (k : Kind) (g : Bool) (s own c : ℕ) → (g ≡ true → ((not (same_kind k Enrol) && has_left (own_in s own) (s == 3)) ≡ false) × ((same_kind k Enrol && is_enrolled (own_in s own)) ≡ false))
+    → cond (g && same_kind k Enrol) (first_of (own_in s own) (Some c)) (own_in s own) ≡ cond (cond (g && same_kind k Enrol) 2 (cond (g && same_kind k Withdraw) 3 s) == 1) None (Some (cond (g && same_kind k Enrol) c own))
+unfolding same_kind
+enrolled-after k false s own c h = refl
+enrolled-after Enrol true s own c h = go (s == 1) (h refl).1
+  where
+    go : (t : Bool) → is_enrolled (cond t None (Some own)) ≡ false → first_of (cond t None (Some own)) (Some c) ≡ Some c
+    go true j = refl
+    go false j = absurd (true≢false j)
+enrolled-after Withdraw true s own c h = go (s == 1) (h refl).0
+  where
+    go : (t : Bool) → has_left (cond t None (Some own)) (s == 3) ≡ false → cond t None (Some own) ≡ Some own
+    go true j = absurd (true≢false j)
+    go false j = refl
+enrolled-after Reset true s own c h = refl
+enrolled-after Audit true s own c h = refl
+enrolled-after Refund true s own c h = refl
+
+withdrawn-after : (k : Kind) (g : Bool) (s own : ℕ) → (g ≡ true → (same_kind k Enrol && is_enrolled (own_in s own)) ≡ false)
+    → cond (g && same_kind k Withdraw) true (s == 3) ≡ (cond (g && same_kind k Enrol) 2 (cond (g && same_kind k Withdraw) 3 s) == 3)
+unfolding same_kind
+withdrawn-after k false s own h = refl
+withdrawn-after Withdraw true s own h = refl
+withdrawn-after Enrol true s own h = ⊎_elim
+    (λ (t : (s == 1) ≡ true). ap (λ n. n == 3) (eqb-true s 1 t))
+    (λ (t : (s == 1) ≡ false). absurd (true≢false (ap (λ b. is_enrolled (cond b None (Some own))) (sym t) ∙ h refl)))
+    (cases_Bool (s == 1))
+withdrawn-after Reset true s own h = refl
+withdrawn-after Audit true s own h = refl
+withdrawn-after Refund true s own h = refl
+
+pub ruling-keeps : RulingKeeps
+unfolding reply_to
+ruling-keeps r o left note C sound is device number pays v verdict_is =
+    let q = request_in note in
+    let own : (r.device == r.device) ≡ true = eq-eqb r.device r.device refl in
+    let stands = λ (h : is_granted v ≡ true). granted-standing (account r o left) q (sym (ap is_granted verdict_is) ∙ h) in
+    let same = ruling r o left q C is device pays in
+    let was_ruled = is.ruled in
+    let was_settled = is.settled in
+    let le = sound.settled_le in
+    let v_same : (verdict C q).0 ≡ v = sym (ap (λ (x : Verdict × ℕ). x.0) same) ∙ sym verdict_is in
+    let amount_same : (verdict C q).1 ≡ amount_shown v q.amount r.buys left = sym (ap (λ (x : Verdict × ℕ). x.1) same) ∙ shown (account r o left) q ∙ ap (λ x. amount_shown x q.amount r.buys left) (sym verdict_is) in
+    let known : registered q.device C ≡ Some (r.origin, r.key) = ap (λ d. registered d C) device ∙ is.registered in
+    let reply_same : reply_to C q ≡ reply_by r v left q = λ i. record {
+      version = q.version;
+      device = q.device;
+      number = q.number;
+      kind = q.kind;
+      verdict = v_same i;
+      amount = amount_same i;
+      deadline = cond (is_dated (v_same i) q.kind) (q.day +ℤ pos 92) (pos 0);
+      origin = origin_in (known i);
+    } in
+    record {
+      registered = is.registered;
+      enrolled = rw own (rw is.enrolled (enrolled-after q.kind (is_granted v) r.state r.customer q.customer stands));
+      withdrawn = rw own (rw is.withdrawn (withdrawn-after q.kind (is_granted v) r.state r.customer (λ h. (stands h).1)));
+      ruled = rw own (omega arith);
+      settled = rw own (omega arith);
+      bought = rw own (ap (λ n. n + adds v q) is.bought);
+      returned = rw own (ap (λ n. n + takes v q) is.returned);
+      request = rw own refl;
+      reply = rw own (λ i. spell (m.Reply (reply_same i)) (key_in (known i)));
+    }
+
+-- == a balance ==
+
+share-none : (f : Verdict → Request → ℕ) (d c : ℕ) (C : List Commit) → enrolled d C ≡ None → device_share f c C d ≡ 0
+share-none f d c C h = ap (λ o. cond (is_some_at o c) (ruled_sum f d C) 0) h
+
+-- a device that is only registered bought nothing, and has no customer
+share-row : (f : Verdict → Request → ℕ) (sum : ℕ) (r : DeviceRow) (c : ℕ) (C : List Commit) → IsSoundDevice r → IsRowOf r C → 1 ≤ c → ruled_sum f r.device C ≡ sum → device_share f c C r.device ≡ cond (r.customer == c) sum 0
+share-row f sum r c C sound is from_1 amount = ⊎_elim
+    (λ (t : (r.state == 1) ≡ true).
+    let none : enrolled r.device C ≡ None = is.enrolled ∙ ap (λ b. cond b None (Some r.customer)) t in
+    let zero = (sound.registered (eqb-true r.state 1 t)).0 in
+    share-none f r.device c C none ∙ sym (ap (λ b. cond b sum 0) (ne_eqb r.customer c (λ e. omega arith))))
+    (λ (t : (r.state == 1) ≡ false).
+    let some : enrolled r.device C ≡ Some r.customer = is.enrolled ∙ ap (λ b. cond b None (Some r.customer)) t in
+    ap (λ o. cond (is_some_at o c) (ruled_sum f r.device C) 0) some ∙ ap (λ n. cond (r.customer == c) n 0) amount)
+    (cases_Bool (r.state == 1))
+
+slot-buys : (o : Option DeviceRow) (d c : ℕ) (C : List Commit) → InOrder C → 1 ≤ c → IsSlotOf o d C → buys_in c o ≡ device_share adds c C d
+slot-buys None d c C order from_1 h = sym (share-none adds d c C (nothing-before d C order h).enrolled)
+slot-buys (Some r) d c C order from_1 h = sym (share-row adds r.buys r c C h.1 h.2 from_1 h.2.bought) ∙ ap (device_share adds c C) h.0
+
+slot-returns : (o : Option DeviceRow) (d c : ℕ) (C : List Commit) → InOrder C → 1 ≤ c → IsSlotOf o d C → returns_in c o ≡ device_share takes c C d
+slot-returns None d c C order from_1 h = sym (share-none takes d c C (nothing-before d C order h).enrolled)
+slot-returns (Some r) d c C order from_1 h = sym (share-row takes r.returns r c C h.1 h.2 from_1 h.2.returned) ∙ ap (device_share takes c C) h.0
+
+sums-same : (f : Option DeviceRow → ℕ) (g : ℕ → ℕ) (c : ℕ) (C : List Commit) → ((o : Option DeviceRow) (d : ℕ) → IsSlotOf o d C → f o ≡ g d) → (os : List (Option DeviceRow)) (ds : List ℕ) → AreSlots os ds C → sum_by f os ≡ sum_over g ds
+sums-same f g c C each [] [] h = refl
+sums-same f g c C each [] (d ∷ ds) h = absurd h
+sums-same f g c C each (o ∷ os) [] h = absurd h
+sums-same f g c C each (o ∷ os) (d ∷ ds) h =
+    let here = each o d h.0 in
+    let rest = sums-same f g c C each os ds h.1 in
+    grind (arith, sum_by-cons)
+
+pub balancing : BalancingByRows
+unfolding customer_sum
+balancing os c C order customer slots = (
+  sums-same (buys_in c) (device_share adds c C) c C (λ o d h. slot-buys o d c C order customer.0 h) os device_numbers slots,
+  sums-same (returns_in c) (device_share takes c C) c C (λ o d h. slot-returns o d c C order customer.0 h) os device_numbers slots,
+)

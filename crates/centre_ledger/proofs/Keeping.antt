@@ -1,0 +1,282 @@
+-- The row with a ruling is sound where the row before it was.
+use Rattle.std.proofs.Common.{◌≡◌, ℕ, ℤ, pos, ◌+ℤ◌, ◌+◌, ◌^◌, ◌<◌, ◌≤◌, Bool, true, false, List, [], ◌∷◌, ◌++◌, Option, Some, None, cond, refl, sym, ap, subst, ◌∙◌, true≢false, ⊎_elim, arith, FitsSigned, Fits as Fits32, lit<}
+use Rattle.std.specs.Prelude.{◌==◌, ◌&&◌, ◌||◌, not, nat_lt, is_some}
+use Rattle.std.specs.Int.{w32, cast_unsigned}
+use Rattle.std.proofs.lemmas.Int.{ints}
+use Rattle.std.proofs.Math.Facts.{Fits-of_z}
+use Rattle.std.proofs.lemmas.Bool.{cases_Bool, eqb-true, eqb-false, ltb-true, ltb-false, not-false, eq-eqb, and_parts}
+use Rattle.hmac_core.specs.Hmac.{hmac}
+use Rattle.bench_base.specs.declared.words.Kind.{Kind}
+use Rattle.bench_base.specs.declared.words.Kind.TheVariants.{Enrol, Reset, Audit, Refund, Withdraw}
+use Rattle.bench_base.specs.declared.words.Verdict.{Verdict}
+use Rattle.bench_base.specs.declared.words.Verdict.TheVariants.{Granted, NotEnrolled, EnrolledAlready, NoCustomer, Suspended, NoFunds, Imbalance}
+use Rattle.bench_base.specs.Kinds.{same_kind, empties, is_granted, is_dated}
+use Rattle.bench_base.specs.Ranges.{IsWord, IsDay, IsCustomer}
+use Rattle.bench_base.specs.Rows.{first_holding, any_true}
+use Rattle.psd_wire.specs.declared.message.Request.{Request}
+use Rattle.psd_wire.specs.declared.message.Message.TheVariants as m
+use Rattle.psd_wire.specs.Grammar.{IsWhole, HasCode, ReadsAs, body, spell, kind_code, verdict_code}
+use Rattle.psd_wire.specs.Sums.{adds, takes}
+use Rattle.psd_wire.specs.Rulings.{Account, verdict_by, own_customer, has_left, is_enrolled, out_of_balance, is_past_limits, buys_limit}
+use Rattle.psd_wire.proofs.Readings.{cut}
+use Rattle.centre_ledger.specs.declared.rows.DeviceRow.{DeviceRow}
+use Rattle.centre_ledger.specs.declared.rows.CustomerRow.{CustomerRow}
+use Rattle.centre_ledger.specs.Soundness.{IsSoundDevice, IsPayer, IsVerdict}
+use Rattle.centre_ledger.specs.Rows.{enrolled_in, account, amount_shown, deadline_after, reply_by, state_after, customer_after, ruled_row}
+
+-- == what a granted Request was found to be ==
+
+record WasGranted (a : Account) (q : Request) : Type 0 where
+  left : (not (same_kind q.kind Enrol) && has_left a.enrolled a.withdrawn) ≡ false
+  new : (same_kind q.kind Enrol && is_enrolled a.enrolled) ≡ false
+  sums : out_of_balance q a.bought a.returned ≡ false
+  opened : (same_kind q.kind Enrol && not a.opened) ≡ false
+
+granted : (a : Account) (q : Request) → is_granted (verdict_by a q).0 ≡ true → WasGranted a q
+unfolding verdict_by
+granted a q h = go (not (same_kind q.kind Enrol) && has_left a.enrolled a.withdrawn) (same_kind q.kind Enrol && is_enrolled a.enrolled) (out_of_balance q a.bought a.returned) (same_kind q.kind Enrol && not a.opened) refl refl refl refl h
+  where
+    rest : Verdict × ℕ
+    rest = first_holding (((same_kind q.kind Enrol || same_kind q.kind Reset) && a.suspended, (Suspended, 0)) ∷ (same_kind q.kind Reset && nat_lt a.balance q.amount, (NoFunds, a.balance)) ∷ []) (Granted, q.amount)
+
+    given : Bool → Bool → Bool → Bool → Verdict × ℕ
+    given s t u x = cond s (NotEnrolled, 0) (cond t (EnrolledAlready, 0) (cond u (Imbalance, a.bought) (cond x (NoCustomer, 0) rest)))
+
+    go : (s t u x : Bool) → (not (same_kind q.kind Enrol) && has_left a.enrolled a.withdrawn) ≡ s → (same_kind q.kind Enrol && is_enrolled a.enrolled) ≡ t → out_of_balance q a.bought a.returned ≡ u → (same_kind q.kind Enrol && not a.opened) ≡ x → is_granted (given s t u x).0 ≡ true → WasGranted a q
+    go true t u x e f g i k = absurd (true≢false (sym k))
+    go false true u x e f g i k = absurd (true≢false (sym k))
+    go false false true x e f g i k = absurd (true≢false (sym k))
+    go false false false true e f g i k = absurd (true≢false (sym k))
+    go false false false false e f g i k = record { left = e; new = f; sums = g; opened = i }
+
+-- a refusal for want of funds shows a balance below the amount
+short-of : (a : Account) (q : Request) → (verdict_by a q).0 ≡ NoFunds → a.balance < q.amount
+unfolding verdict_by
+short-of a q h = go (not (same_kind q.kind Enrol) && has_left a.enrolled a.withdrawn) (same_kind q.kind Enrol && is_enrolled a.enrolled) (out_of_balance q a.bought a.returned) (same_kind q.kind Enrol && not a.opened) ((same_kind q.kind Enrol || same_kind q.kind Reset) && a.suspended) (same_kind q.kind Reset && nat_lt a.balance q.amount) refl h
+  where
+    given : (s t u x y z : Bool) → Verdict × ℕ
+    given s t u x y z = cond s (NotEnrolled, 0) (cond t (EnrolledAlready, 0) (cond u (Imbalance, a.bought) (cond x (NoCustomer, 0) (cond y (Suspended, 0) (cond z (NoFunds, a.balance) (Granted, q.amount))))))
+
+    go : (s t u x y z : Bool) → (same_kind q.kind Reset && nat_lt a.balance q.amount) ≡ z → (given s t u x y z).0 ≡ NoFunds → a.balance < q.amount
+    go true t u x y z e k = absurd (cc)
+    go false true u x y z e k = absurd (cc)
+    go false false true x y z e k = absurd (cc)
+    go false false false true y z e k = absurd (cc)
+    go false false false false true z e k = absurd (cc)
+    go false false false false false true e k = ltb-true a.balance q.amount (and_parts (same_kind q.kind Reset) (nat_lt a.balance q.amount) e).1
+    go false false false false false false e k = absurd (cc)
+
+-- == the Reply ==
+
+kind_byte : (k : Kind) → kind_code k < 2 ^ 8
+kind_byte Enrol = lit< tt
+kind_byte Reset = lit< tt
+kind_byte Audit = lit< tt
+kind_byte Refund = lit< tt
+kind_byte Withdraw = lit< tt
+
+verdict_byte : (v : Verdict) → verdict_code v < 2 ^ 8
+verdict_byte Granted = lit< tt
+verdict_byte NotEnrolled = lit< tt
+verdict_byte EnrolledAlready = lit< tt
+verdict_byte NoCustomer = lit< tt
+verdict_byte Suspended = lit< tt
+verdict_byte NoFunds = lit< tt
+verdict_byte Imbalance = lit< tt
+
+amount-word : (v : Verdict) (asked bought balance : ℕ) → IsWord asked → bought ≤ 4294967295 → (v ≡ NoFunds → balance < asked) → IsWord (amount_shown v asked bought balance)
+amount-word Granted asked bought balance w b f = w
+amount-word Imbalance asked bought balance w b f = omega arith
+amount-word NoFunds asked bought balance w b f = let less = f refl in omega arith
+amount-word NotEnrolled asked bought balance w b f = omega arith
+amount-word EnrolledAlready asked bought balance w b f = omega arith
+amount-word NoCustomer asked bought balance w b f = omega arith
+amount-word Suspended asked bought balance w b f = omega arith
+
+amount-granted : (v : Verdict) (asked bought balance : ℕ) → is_granted v ≡ true → amount_shown v asked bought balance ≡ asked
+amount-granted Granted asked bought balance h = refl
+amount-granted NotEnrolled asked bought balance h = absurd (true≢false (sym h))
+amount-granted EnrolledAlready asked bought balance h = absurd (true≢false (sym h))
+amount-granted NoCustomer asked bought balance h = absurd (true≢false (sym h))
+amount-granted Suspended asked bought balance h = absurd (true≢false (sym h))
+amount-granted NoFunds asked bought balance h = absurd (true≢false (sym h))
+amount-granted Imbalance asked bought balance h = absurd (true≢false (sym h))
+
+deadline-fits : (t : Bool) (z : ℤ) → IsDay z → FitsSigned w32 (cond t (z +ℤ pos 92) (pos 0))
+deadline-fits true z h = search (arith, ints, h.0, h.1)
+deadline-fits false z h = search (arith, ints)
+
+pub reply-whole : (r : DeviceRow) (v : Verdict) (balance : ℕ) (q : Request) → IsSoundDevice r → IsWord r.origin → IsWhole (m.Request q) → IsVerdict r balance q v → IsWhole (m.Reply (reply_by r v balance q))
+reply-whole r v balance q sound origin w (o, paid, says) =
+    let first = w.0 in
+    let signed : FitsSigned w32 (deadline_after v q) = deadline-fits (is_dated v q.kind) q.day w.2 in
+    let small : Fits32 w32 (cast_unsigned w32 (deadline_after v q)) = Fits-of_z signed in
+    let amount = amount-word v q.amount r.buys balance w.1.1.1.1.1.1.1.0 sound.limit (λ e. short-of (account r o balance) q (sym says ∙ e)) in
+    (w.0, (omega arith, (lit< tt, (w.1.1.1.0, (w.1.1.1.1.0, (kind_byte q.kind, (verdict_byte v, (amount, (omega (arith, small), (origin, tt))))))))), signed)
+
+-- == the sums ==
+
+none-true : (b : Bool) (bs : List Bool) → any_true (b ∷ bs) ≡ false → (b ≡ false) × (any_true bs ≡ false)
+none-true true bs h = absurd (true≢false h)
+none-true false bs h = (refl, h)
+
+and-then : (a b : Bool) → a ≡ true → (a && b) ≡ false → b ≡ false
+and-then a b t h = ap (λ x. x && b) (sym t) ∙ h
+
+none-of-3 : (a b c : Bool) → any_true (a ∷ b ∷ c ∷ []) ≡ false → c ≡ false
+none-of-3 a b c h = (none-true c [] (none-true b (c ∷ []) (none-true a (b ∷ c ∷ []) h).1).1).0
+
+none-of-5 : (a b c d e : Bool) → any_true (a ∷ b ∷ c ∷ d ∷ e ∷ []) ≡ false → (a ≡ false) × (b ≡ false) × (c ≡ false) × (e ≡ false)
+none-of-5 a b c d e h =
+    let first = none-true a (b ∷ c ∷ d ∷ e ∷ []) h in
+    let second = none-true b (c ∷ d ∷ e ∷ []) first.1 in
+    let third = none-true c (d ∷ e ∷ []) second.1 in
+    let fourth = none-true d (e ∷ []) third.1 in
+    (first.0, second.0, third.0, (none-true e [] fourth.1).0)
+
+record Agrees (q : Request) (b t : ℕ) : Type 0 where
+  bought : q.ascending + q.descending + q.refunded ≡ b
+  returned : q.refunded ≡ t
+  emptied : empties q.kind ≡ true → q.amount ≡ q.descending
+  limited : same_kind q.kind Reset ≡ true → is_past_limits q.version b q.amount ≡ false
+
+agrees : (q : Request) (b t : ℕ) → out_of_balance q b t ≡ false → Agrees q b t
+agrees q b t h =
+    let all = none-of-5 (not (q.ascending + q.descending + q.refunded == b)) (not (q.refunded == t)) (empties q.kind && not (q.amount == q.descending)) ((same_kind q.kind Enrol || same_kind q.kind Audit) && not (q.amount == 0)) (same_kind q.kind Reset && is_past_limits q.version b q.amount) h in
+    record {
+      bought = eqb-true (q.ascending + q.descending + q.refunded) b (not-false _ all.0);
+      returned = eqb-true q.refunded t (not-false _ all.1);
+      emptied = λ e. eqb-true q.amount q.descending (not-false _ (and-then (empties q.kind) (not (q.amount == q.descending)) e all.2));
+      limited = λ e. and-then (same_kind q.kind Reset) (is_past_limits q.version b q.amount) e all.3;
+    }
+
+within : (version bought amount : ℕ) → version ≡ 1 → is_past_limits version bought amount ≡ false → bought + amount ≤ 4294967295
+within version bought amount first h =
+    let last = none-of-3 (amount == 0) (nat_lt 10000000 amount) (nat_lt (buys_limit version) (bought + amount)) h in
+    let most : bought + amount ≤ buys_limit version = ltb-false (buys_limit version) (bought + amount) last in
+    subst (λ n. bought + amount ≤ buys_limit n) first most
+
+-- a reset empties nothing
+reset-fills : (k : Kind) → same_kind k Reset ≡ true → empties k ≡ false
+unfolding same_kind
+reset-fills Enrol h = refl
+reset-fills Reset h = refl
+reset-fills Audit h = refl
+reset-fills Refund h = absurd (true≢false (sym h))
+reset-fills Withdraw h = absurd (true≢false (sym h))
+
+record Sums (r : DeviceRow) (v : Verdict) (q : Request) : Type 0 where
+  returns_le : r.returns + takes v q ≤ r.buys + adds v q
+  limit : r.buys + adds v q ≤ 4294967295
+  filled : is_granted v ≡ true → same_kind q.kind Reset ≡ true → (adds v q ≡ q.amount) × (takes v q ≡ 0)
+  emptied : is_granted v ≡ true → empties q.kind ≡ true → takes v q ≡ q.amount
+
+sums-after : (r : DeviceRow) (v : Verdict) (balance : ℕ) (q : Request) → IsSoundDevice r → q.version ≡ 1 → IsVerdict r balance q v → Sums r v q
+unfolding adds takes
+sums-after r v balance q sound first (o, paid, says) =
+    let was = λ (h : is_granted v ≡ true). agrees q r.buys r.returns (granted (account r o balance) q (sym (ap is_granted says) ∙ h)).sums in
+    let le = sound.returns_le in
+    let limit = sound.limit in
+    record {
+      returns_le = ⊎_elim
+          (λ (t : (is_granted v && empties q.kind) ≡ true).
+          let parts = and_parts (is_granted v) (empties q.kind) t in
+          let a = was parts.0 in
+          let x = a.bought in
+          let y = a.returned in
+          let z = a.emptied parts.1 in
+          rw t (omega arith))
+          (λ (t : (is_granted v && empties q.kind) ≡ false). rw t (omega arith))
+          (cases_Bool (is_granted v && empties q.kind));
+      limit = ⊎_elim
+          (λ (t : (is_granted v && same_kind q.kind Reset) ≡ true).
+          let parts = and_parts (is_granted v) (same_kind q.kind Reset) t in
+          let most = within q.version r.buys q.amount first ((was parts.0).limited parts.1) in
+          rw t most)
+          (λ (t : (is_granted v && same_kind q.kind Reset) ≡ false). rw t (omega arith))
+          (cases_Bool (is_granted v && same_kind q.kind Reset));
+      filled = λ g k. let e = reset-fills q.kind k in (rw g (rw k refl), rw g (rw e refl));
+      emptied = λ g k. rw g (rw k refl);
+    }
+
+-- == the state ==
+
+-- of state and customer after a ruling, with what a granted reset adds to the sum of buys
+record Standing (s c b : ℕ) : Type 0 where
+  state : (1 ≤ s) × (s ≤ 3)
+  registered : s ≡ 1 → (c ≡ 0) × (b ≡ 0)
+  enrolled : 2 ≤ s → IsCustomer c
+
+-- a device of which nothing is left was enrolled
+left-of : (s own : ℕ) → has_left (cond (s == 1) None (Some own)) (s == 3) ≡ false → s ≡ 1 → ⊥
+left-of s own h e = true≢false (sym (ap (λ b. has_left (cond b None (Some own)) (s == 3)) (eq-eqb s 1 e)) ∙ h)
+
+standing-of : (k : Kind) (g : Bool) (s own c bought amount : ℕ) → Standing s own bought
+    → (g ≡ true → (not (same_kind k Enrol) && has_left (cond (s == 1) None (Some own)) (s == 3)) ≡ false) → (g ≡ true → same_kind k Enrol ≡ true → IsCustomer c)
+    → Standing (cond (g && same_kind k Enrol) 2 (cond (g && same_kind k Withdraw) 3 s)) (cond (g && same_kind k Enrol) c own) (bought + cond (g && same_kind k Reset) amount 0)
+unfolding same_kind
+standing-of k false s own c b a was left named = record { state = was.state; registered = λ h. let r = (was.registered h).1 in ((was.registered h).0, omega arith); enrolled = was.enrolled }
+standing-of Enrol true s own c b a was left named = record { state = (omega arith, omega arith); registered = λ h. absurd (omega arith); enrolled = λ h. named refl refl }
+standing-of Withdraw true s own c b a was left named = record {
+  state = (omega arith, omega arith);
+  registered = λ h. absurd (omega arith);
+  enrolled = λ h. let from_1 = was.state.0 in let no = left-of s own (left refl) in was.enrolled (⊎_elim (λ (t : (s == 1) ≡ true). absurd (no (eqb-true s 1 t))) (λ (t : (s == 1) ≡ false). let other = eqb-false s 1 t in omega arith) (cases_Bool (s == 1)));
+}
+standing-of Reset true s own c b a was left named = record { state = was.state; registered = λ h. absurd (left-of s own (left refl) h); enrolled = was.enrolled }
+standing-of Audit true s own c b a was left named = record { state = was.state; registered = λ h. let r = (was.registered h).1 in ((was.registered h).0, omega arith); enrolled = was.enrolled }
+standing-of Refund true s own c b a was left named = record { state = was.state; registered = λ h. let r = (was.registered h).1 in ((was.registered h).0, omega arith); enrolled = was.enrolled }
+
+-- a granted enrolment names a customer
+customer-of : (r : DeviceRow) (q : Request) (o : Option CustomerRow) → IsPayer r q o → same_kind q.kind Enrol ≡ true → not (is_some o) ≡ false → IsCustomer q.customer
+customer-of r q None paid k h = absurd (true≢false h)
+customer-of r q (Some c) paid k h = subst IsCustomer (paid.0 ∙ ap (λ b. cond b q.customer (own_customer (enrolled_in r))) k) paid.1
+
+standing : (r : DeviceRow) (v : Verdict) (balance : ℕ) (q : Request) → IsSoundDevice r → IsVerdict r balance q v → Standing (state_after r.state v q.kind) (customer_after r.customer v q) (r.buys + adds v q)
+unfolding adds
+standing r v balance q sound (o, paid, says) =
+    let was = λ (h : is_granted v ≡ true). granted (account r o balance) q (sym (ap is_granted says) ∙ h) in
+    standing-of q.kind (is_granted v) r.state r.customer q.customer r.buys q.amount (record { state = sound.state; registered = sound.registered; enrolled = sound.enrolled })
+    (λ h. (was h).left)
+    (λ h k. customer-of r q o paid k (and-then (same_kind q.kind Enrol) (not (is_some o)) k (was h).opened))
+
+-- == the row ==
+
+pub ruled-sound : (r : DeviceRow) (v : Verdict) (balance : ℕ) (q : Request) (note : List ℕ) → IsSoundDevice r → IsWord r.origin → IsWhole (m.Request q) → spell (m.Request q) r.key ≡ note → q.device ≡ r.device → q.number ≡ r.ruled + 1 → IsVerdict r balance q v → IsSoundDevice (ruled_row r v balance q note)
+ruled-sound r v balance q note sound origin whole spelled device n is =
+    let sums = sums-after r v balance q sound whole.0 is in
+    let stands = standing r v balance q sound is in
+    record {
+      state = stands.state;
+      registered = stands.registered;
+      enrolled = stands.enrolled;
+      settled_le = omega arith;
+      ruled_le = omega arith;
+      returns_le = sums.returns_le;
+      limit = sums.limit;
+      unruled = λ h. absurd (omega arith);
+      ruling = λ _. (
+        q,
+        reply_by r v balance q,
+        record {
+          request = sym spelled;
+          request_whole = whole;
+          request_device = device;
+          request_number = refl;
+          reply = refl;
+          reply_whole = reply-whole r v balance q sound origin whole is;
+          reply_device = device;
+          reply_number = refl;
+          kind = refl;
+          buys = λ _ g k. let x = sums.filled g k in let a = x.0 in let t = x.1 in let le = sound.returns_le in let shown = amount-granted v q.amount r.buys balance g in omega arith;
+          returns = λ _ g k. let t = sums.emptied g k in let shown = amount-granted v q.amount r.buys balance g in omega arith;
+        },
+      );
+    }
+
+-- bytes that read as a Request and end in their code under the key are its spelling
+pub spelled-so : (q : Request) (key bytes code : List ℕ) → ReadsAs bytes (m.Request q) code → HasCode bytes key → spell (m.Request q) key ≡ bytes
+unfolding spell
+spelled-so q key bytes code is has =
+    let parts = cut (body (m.Request q)) code bytes is.long is.spelled in
+    let made : code ≡ hmac key (body (m.Request q)) = sym parts.1 ∙ has.1 ∙ ap (hmac key) parts.0 in
+    ap (λ k. body (m.Request q) ++ k) (sym made) ∙ sym is.spelled

@@ -1,0 +1,42 @@
+use Rattle.std.proofs.Common.{◌≡◌, ◌+◌, ◌<◌, rules, sym, ap, subst, ◌∙◌, arith}
+use Rattle.psd_wire.specs.declared.message.ReplyMsg.{ReplyMsg}
+use Rattle.psd_wire.specs.declared.message.Message.TheVariants as m
+use Rattle.psd_wire.specs.Grammar.{IsWhole, spell}
+use Rattle.centre_ledger.specs.Soundness.{IsSoundDevice}
+use Rattle.centre_ledger.specs.Rows.{ruled_row}
+use Rattle.centre_ledger.proofs.Keeping.{reply-whole, ruled-sound}
+use Rattle.centre_ledger.proofs.replies.ruled_on.Goals as goal
+
+pub write_message-requires : goal.write_message-requires
+write_message-requires c =
+    let known = c.reply_by.type_inv in
+    let origin : c.reply_by.result.origin < 4294967296 = search rules in
+    let same : c.reply_by.result.origin ≡ c.args.row.now.origin = ap (λ (p : ReplyMsg). p.origin) c.reply_by.ensures in
+    subst (λ (p : ReplyMsg). IsWhole (m.Reply p)) (sym c.reply_by.ensures)
+    (reply-whole c.args.row.now c.args.verdict c.args.balance c.args.request.now c.requires.sound (omega arith) c.requires.whole c.requires.verdict)
+
+pub returns-clause-sound : goal.returns-clause-sound
+returns-clause-sound c =
+    let r = c.args.row.now in
+    let q = c.args.request.now in
+    let known = c.reply_by.type_inv in
+    let origin : c.reply_by.result.origin < 4294967296 = search rules in
+    let same_origin : c.reply_by.result.origin ≡ r.origin = ap (λ (p : ReplyMsg). p.origin) c.reply_by.ensures in
+    let reply = c.write_message.ensures ∙ ap (λ (p : ReplyMsg). spell (m.Reply p) r.key) c.reply_by.ensures in
+    let buys = ap (λ n. r.buys + n) c.adds.ensures.exact in
+    let returns = ap (λ n. r.returns + n) c.takes.ensures.exact in
+    let same : ruled_row r c.args.verdict c.args.balance q c.args.bytes.now ≡ _ = λ i. record {
+      device = r.device;
+      state = sym c.state_after.ensures i;
+      customer = sym c.customer_after.ensures i;
+      origin = r.origin;
+      key = r.key;
+      ruled = q.number;
+      settled = r.ruled;
+      buys = sym buys i;
+      returns = sym returns i;
+      request = c.args.bytes.now;
+      reply = sym reply i;
+    } in
+    subst IsSoundDevice same
+    (ruled-sound r c.args.verdict c.args.balance q c.args.bytes.now c.requires.sound (omega arith) c.requires.whole c.requires.spelled c.requires.device c.requires.number c.requires.verdict)

@@ -1,0 +1,6 @@
+pub mod Answers
+pub mod Laws
+pub mod Order
+pub mod Records
+pub mod Rows
+pub mod Soundness

@@ -1,0 +1,23 @@
+-- The order in which the centre's commits come, the newest first.
+use Rattle.std.specs.Prelude.{◌≡◌, ◌<◌, true, false, List, [], ◌∷◌, None, IsSome}
+use Rattle.bench_base.specs.declared.ledger.Commit.{Commit}
+use Rattle.bench_base.specs.declared.ledger.Commit.TheVariants.{Registered, Opened, Deposited, Flagged, Ruled, Settled}
+use Rattle.psd_wire.specs.Requests.{request_in}
+use Rattle.psd_wire.specs.Centres.{registered, opened, ruled}
+use Rattle.psd_wire.specs.Rulings.{verdict}
+
+-- a device is registered once, and a customer opened once, before the centre's other commits of them; a Ruled has a greater
+-- number than those before it, and the verdict that follows from the commits before it
+abbrev pub Follows : Commit → List Commit → Type 0
+Follows (Registered d origin key) C = registered d C ≡ None
+Follows (Opened c) C = opened c C ≡ false
+Follows (Deposited c receipt amount) C = opened c C ≡ true
+Follows (Flagged c flag) C = opened c C ≡ true
+Follows (Ruled d n v note) C = IsSome (registered d C) × (ruled d C < n) × (v ≡ (verdict C (request_in note)).0)
+Follows (Settled d n) C = IsSome (registered d C)
+Follows _ C = Unit {0}
+
+-- each commit comes after those before it in the centre's order
+abbrev pub InOrder : List Commit → Type 0
+InOrder [] = Unit {0}
+InOrder (c ∷ C) = Follows c C × InOrder C

@@ -1,0 +1,48 @@
+-- The rows of the centre after a list of commits, the newest first. Amounts are in mills.
+use Rattle.std.specs.Prelude.{◌≡◌, ℕ, true, false, List, [], Option, Some, None, ◌==◌, is_some}
+use Rattle.bench_base.specs.declared.ledger.Commit.{Commit}
+use Rattle.psd_wire.specs.declared.message.Request.{Request}
+use Rattle.psd_wire.specs.Sums.{bought, returned}
+use Rattle.psd_wire.specs.Centres.{registered, enrolled, withdrawn, ruled, settled, opened, suspended, deposits, receipt, balance}
+use Rattle.psd_wire.specs.Rulings.{stored_reply, payer, own_customer}
+use Rattle.centre_ledger.specs.declared.rows.DeviceRow.{DeviceRow}
+use Rattle.centre_ledger.specs.declared.rows.CustomerRow.{CustomerRow}
+use Rattle.centre_ledger.specs.Answers.{last_ruling, stored_note}
+use Rattle.centre_ledger.specs.Rows.{enrolled_in, is_suspended}
+
+abbrev pub note_or_none : Option (List ℕ) → List ℕ
+note_or_none None = []
+note_or_none (Some note) = note
+
+-- this is the row of its device after these commits
+pub record IsRowOf (r : DeviceRow) (C : List Commit) : Type 0 where
+  pub registered : registered r.device C ≡ Some (r.origin, r.key)
+  pub enrolled : enrolled r.device C ≡ enrolled_in r
+  pub withdrawn : withdrawn r.device C ≡ (r.state == 3)
+  pub ruled : ruled r.device C ≡ r.ruled
+  pub settled : settled r.device C ≡ r.settled
+  pub bought : bought r.device C ≡ r.buys
+  pub returned : returned r.device C ≡ r.returns
+  pub request : stored_note (last_ruling r.device C) ≡ r.request
+  pub reply : note_or_none (stored_reply r.device C) ≡ r.reply
+
+-- this is the row of its customer after these commits
+pub record IsCustomerOf (r : CustomerRow) (C : List Commit) : Type 0 where
+  pub opened : opened r.customer C ≡ true
+  pub suspended : suspended r.customer C ≡ r.suspended
+  pub deposits : deposits r.customer C ≡ r.deposits
+  pub receipt : receipt r.customer C ≡ (r.receipt, r.amount)
+
+-- a device that is only registered
+abbrev pub registered_row : ℕ → ℕ → List ℕ → DeviceRow
+registered_row d origin key = record { device = d; state = 1; customer = 0; origin = origin; key = key; ruled = 0; settled = 0; buys = 0; returns = 0; request = []; reply = [] }
+
+-- a customer without deposits
+abbrev pub opened_row : ℕ → CustomerRow
+opened_row c = record { customer = c; suspended = false; deposits = 0; receipt = 0; amount = 0 }
+
+-- what the rows say of the customer who pays for a Request, and of what the device's own customer has left
+pub record PaysBy (q : Request) (o : Option CustomerRow) (left : ℕ) (C : List Commit) : Type 0 where
+  pub opened : opened (payer q (enrolled q.device C)) C ≡ is_some o
+  pub suspended : suspended (payer q (enrolled q.device C)) C ≡ is_suspended o
+  pub balance : balance (own_customer (enrolled q.device C)) C ≡ left

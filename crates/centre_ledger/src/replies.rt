@@ -1,0 +1,158 @@
+//! What a ruling makes of a row: the verdict, the reply to keep, and the sums after it.
+ghost use Rattle.std.specs.Prelude.{◌≡◌, ◌+◌, ◌≤◌};
+ghost use Rattle.bench_base.specs.Kinds as kinds;
+ghost use Rattle.psd_wire.specs.declared.message.Message.TheVariants as m;
+ghost use Rattle.psd_wire.specs.Grammar.{IsWhole, spell};
+ghost use Rattle.psd_wire.specs.Requests.{request_in};
+ghost use Rattle.psd_wire.specs.Sums as sums;
+ghost use Rattle.centre_ledger.specs.Rows as rows;
+ghost use Rattle.centre_ledger.specs.Rows.{ruled_row};
+ghost use Rattle.centre_ledger.specs.Soundness.{IsSoundDevice, IsNext, IsVerdict};
+
+use crate::rows::{DeviceRow, ENROLLED, WITHDRAWN};
+use bench_base::bytes::Note;
+use bench_base::words::{Kind, Verdict};
+use psd_wire::{Message, ReplyMsg, Request, read_message, write_message};
+
+/// How many days after its request a reply lets the device debit.
+const DAYS: i32 = 92;
+
+fn is_granted(verdict: Verdict) -> bool
+    ensures { result ≡ kinds.is_granted verdict }
+{
+    matches!(verdict, Verdict::Granted)
+}
+
+#[tactic(auto, unfolding(bench_base::specs::Kinds::same_kind))]
+fn deadline_after(verdict: Verdict, request: &Request) -> i32
+    ensures { result ≡ rows.deadline_after verdict request.now }
+{
+    if is_granted(verdict) && matches!(request.kind, Kind::Reset | Kind::Audit) {
+        request.day.get() + DAYS
+    } else {
+        0
+    }
+}
+
+fn amount_shown(verdict: Verdict, asked: u64, bought: u64, balance: u64) -> u64
+    ensures { result ≡ rows.amount_shown verdict asked bought balance }
+{
+    match verdict {
+        Verdict::Granted => asked,
+        Verdict::Imbalance => bought,
+        Verdict::NoFunds => balance,
+        _ => 0,
+    }
+}
+
+// The reply with this verdict.
+fn reply_by(row: &DeviceRow, verdict: Verdict, balance: u64, request: &Request) -> ReplyMsg
+    ensures { result ≡ rows.reply_by row.now verdict balance request.now }
+{
+    ReplyMsg {
+        version: request.version,
+        device: request.device,
+        number: request.number,
+        kind: request.kind,
+        verdict,
+        amount: amount_shown(verdict, request.amount, row.buys, balance),
+        deadline: deadline_after(verdict, request),
+        origin: row.origin,
+    }
+}
+
+#[tactic(auto, unfolding(bench_base::specs::Kinds::same_kind))]
+fn state_after(state: u8, verdict: Verdict, kind: Kind) -> u8
+    ensures { result ≡ rows.state_after state verdict kind }
+{
+    match kind {
+        Kind::Enrol if is_granted(verdict) => ENROLLED,
+        Kind::Withdraw if is_granted(verdict) => WITHDRAWN,
+        _ => state,
+    }
+}
+
+#[tactic(auto, unfolding(bench_base::specs::Kinds::same_kind))]
+fn customer_after(customer: u32, verdict: Verdict, request: &Request) -> u32
+    ensures { result ≡ rows.customer_after customer verdict request.now }
+{
+    if is_granted(verdict) && matches!(request.kind, Kind::Enrol) {
+        request.customer
+    } else {
+        customer
+    }
+}
+
+#[tactic(auto, unfolding(bench_base::specs::Kinds::same_kind, psd_wire::specs::Sums::adds))]
+fn adds(verdict: Verdict, request: &Request) -> u64
+    ensures exact { result ≡ sums.adds verdict request.now }
+    ensures most { result ≤ request.now.amount }
+{
+    if is_granted(verdict) && matches!(request.kind, Kind::Reset) {
+        request.amount
+    } else {
+        0
+    }
+}
+
+#[tactic(auto, unfolding(bench_base::specs::Kinds::same_kind, psd_wire::specs::Sums::takes))]
+fn takes(verdict: Verdict, request: &Request) -> u64
+    ensures exact { result ≡ sums.takes verdict request.now }
+    ensures most { result ≤ request.now.amount }
+{
+    if is_granted(verdict) && matches!(request.kind, Kind::Refund | Kind::Withdraw) {
+        request.amount
+    } else {
+        0
+    }
+}
+
+// The row with the ruling on this request.
+fn ruled_on(
+    row: &DeviceRow,
+    request: &Request,
+    bytes: &Note,
+    verdict: Verdict,
+    balance: u64,
+) -> DeviceRow
+    requires whole { IsWhole (m.Request request.now) }
+    requires spelled { spell (m.Request request.now) row.now.key ≡ bytes.now }
+    requires device { request.now.device ≡ row.now.device }
+    requires number { request.now.number ≡ row.now.ruled + 1 }
+    requires sound { IsSoundDevice row.now }
+    requires verdict { IsVerdict row.now balance request.now verdict }
+    ensures exact { result ≡ ruled_row row.now verdict balance request.now bytes.now }
+    ensures sound { IsSoundDevice result }
+{
+    let reply = Message::Reply(reply_by(row, verdict, balance, request));
+    DeviceRow {
+        device: row.device,
+        state: state_after(row.state, verdict, request.kind),
+        customer: customer_after(row.customer, verdict, request),
+        origin: row.origin,
+        key: row.key,
+        ruled: request.number,
+        settled: row.ruled,
+        buys: row.buys + adds(verdict, request),
+        returns: row.returns + takes(verdict, request),
+        request: *bytes,
+        reply: write_message(&reply, &row.key),
+    }
+}
+
+/// The row with the ruling on the bytes of a request.
+///
+/// The bytes are the device's next request under its key, and the verdict is the one that `verdict` answers, with the
+/// balance, in mills, of the device's own customer. The reply is kept beside the request.
+pub fn ruled(row: &DeviceRow, request: &Note, verdict: Verdict, balance: u64) -> DeviceRow
+    requires sound { IsSoundDevice row.now }
+    requires next { IsNext row.now request.now }
+    requires verdict { IsVerdict row.now balance (request_in request.now) verdict }
+    ensures exact { result ≡ ruled_row row.now verdict balance (request_in request.now) request.now }
+    ensures sound { IsSoundDevice result }
+{
+    match read_message(request.as_slice()) {
+        Ok(Message::Request(asked)) => ruled_on(row, &asked, request, verdict, balance),
+        _ => *row,
+    }
+}

@@ -1,0 +1,115 @@
+//! How the centre rules on a request.
+ghost use Rattle.std.specs.Prelude.{◌≡◌, ◌≤◌, ◌<◌, ◌^◌, IsSome, IfSome};
+ghost use Rattle.bench_base.specs.declared.words.Kind.TheVariants.{Enrol, Reset};
+ghost use Rattle.bench_base.specs.Kinds as kinds;
+ghost use Rattle.psd_wire.specs.declared.message.Message.TheVariants as m;
+ghost use Rattle.psd_wire.specs.Grammar.{IsWhole};
+ghost use Rattle.psd_wire.specs.Rulings as rulings;
+ghost use Rattle.psd_wire.specs.Rulings.{verdict_by};
+ghost use Rattle.std.specs.Option.{option_copied};
+ghost use Rattle.centre_ledger.specs.Rows as rows;
+ghost use Rattle.centre_ledger.specs.Rows.{account};
+ghost use Rattle.centre_ledger.specs.Soundness.{IsSoundDevice};
+
+use crate::rows::{CustomerRow, DeviceRow, ENROLLED, REGISTERED};
+use bench_base::words::{Kind, Verdict};
+use psd_wire::Request;
+
+/// The most that one reset may be of, in mills.
+const RESET_LIMIT: u64 = 10_000_000;
+
+/// The most that the buys of a device may come to, in mills.
+const BUYS_LIMIT: u64 = 4_294_967_295;
+
+#[tactic(auto, unfolding(bench_base::specs::Kinds::same_kind))]
+fn is_enrol(kind: Kind) -> bool
+    ensures { result ≡ kinds.same_kind kind Enrol }
+{
+    matches!(kind, Kind::Enrol)
+}
+
+#[tactic(auto, unfolding(bench_base::specs::Kinds::same_kind))]
+fn is_reset(kind: Kind) -> bool
+    ensures { result ≡ kinds.same_kind kind Reset }
+{
+    matches!(kind, Kind::Reset)
+}
+
+// A reset of nothing, of more than the limit, or past the limit of all buys.
+fn is_past_limits(version: u8, bought: u64, amount: u64) -> bool
+    requires first { version ≡ 1 }
+    requires bought { bought ≤ 4294967295 }
+    requires amount { amount < 2 ^ 32 }
+    ensures { result ≡ rulings.is_past_limits version bought amount }
+{
+    amount == 0 || amount > RESET_LIMIT || bought + amount > BUYS_LIMIT
+}
+
+// Whether the request disagrees with what was granted before.
+#[tactic(auto, unfolding(bench_base::specs::Kinds::same_kind))]
+fn is_out_of_balance(request: &Request, bought: u64, returned: u64) -> bool
+    requires whole { IsWhole (m.Request request.now) }
+    requires bought { bought ≤ 4294967295 }
+    ensures { result ≡ rulings.out_of_balance request.now bought returned }
+{
+    if request.ascending + request.descending + request.refunded != bought
+        || request.refunded != returned
+    {
+        return true;
+    }
+    match request.kind {
+        Kind::Refund | Kind::Withdraw => request.amount != request.descending,
+        Kind::Enrol | Kind::Audit => request.amount != 0,
+        Kind::Reset => is_past_limits(request.version, bought, request.amount),
+    }
+}
+
+fn is_suspended(customer: Option<&CustomerRow>) -> bool
+    ensures { result ≡ rows.is_suspended (option_copied customer.entry) }
+{
+    match customer {
+        Some(row) => row.suspended,
+        None => false,
+    }
+}
+
+/// The verdict on a request of the device.
+///
+/// The customer is the row of the one that an enrolment names, and else of the device's own customer. The
+/// balance, in mills, is that of the device's own customer, and 0 where it has none. The first that holds:
+/// `NotEnrolled` for all but an enrolment of a device that isn't enrolled, or no longer; `EnrolledAlready` for an
+/// enrolment of one that was; `Imbalance` where the request disagrees with what was granted before; `NoCustomer`
+/// and `Suspended` by the customer's row; `NoFunds` for a reset above the balance.
+#[tactic(auto, unfolding(psd_wire::specs::Rulings::verdict_by))]
+pub fn verdict(
+    row: &DeviceRow,
+    customer: Option<&CustomerRow>,
+    balance: u64,
+    request: &Request,
+) -> Verdict
+    requires sound { IsSoundDevice row.now }
+    requires whole { IsWhole (m.Request request.now) }
+    ensures exact { result ≡ (verdict_by (account row.now (option_copied customer.entry) balance) request.now).0 }
+{
+    let enrol = is_enrol(request.kind);
+    let reset = is_reset(request.kind);
+    if !enrol && row.state != ENROLLED {
+        return Verdict::NotEnrolled;
+    }
+    if enrol && row.state != REGISTERED {
+        return Verdict::EnrolledAlready;
+    }
+    if is_out_of_balance(request, row.buys, row.returns) {
+        return Verdict::Imbalance;
+    }
+    if enrol && customer.is_none() {
+        return Verdict::NoCustomer;
+    }
+    if (enrol || reset) && is_suspended(customer) {
+        return Verdict::Suspended;
+    }
+    if reset && balance < request.amount {
+        return Verdict::NoFunds;
+    }
+    Verdict::Granted
+}

@@ -1,0 +1,6 @@
+//! The verifier: which marks are accepted, each piece once.
+#![tactic(auto)]
+
+mod scans;
+
+pub use scans::scan;
