@@ -1,0 +1,9 @@
+pub mod Amounts
+pub mod Frames
+pub mod Growing
+pub mod Marks
+pub mod Newest
+pub mod Nothing
+pub mod Prefixes
+pub mod Steps
+pub mod WholeSums

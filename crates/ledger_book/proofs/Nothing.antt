@@ -1,0 +1,19 @@
+-- The empty ledger is lawful.
+use Rattle.std.proofs.Common.{[], refl, arith}
+use Rattle.bench_base.specs.Rules.{Rules}
+use Rattle.psd_wire.specs.Centres.{customer_sum}
+use Rattle.ledger_book.specs.Lawful.{LawfulAt}
+
+pub lawful-nothing : (ρ : Rules) → LawfulAt ρ []
+unfolding customer_sum
+lawful-nothing ρ = record {
+  numbering = tt;
+  debits = (tt, λ d low high. record { covered = omega arith; within = omega arith });
+  releases = tt;
+  refunds = tt;
+  registers = (tt, λ d low high. record { one_in_flight = omega arith; equal = refl });
+  balances = λ c low high. record { balance = omega arith; limit = omega arith };
+  days = tt;
+  acceptances = tt;
+  prints = (tt, tt);
+}

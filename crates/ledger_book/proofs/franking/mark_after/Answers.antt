@@ -1,0 +1,11 @@
+use Rattle.std.proofs.Common.{reverse, arith}
+use Rattle.ledger_book.proofs.Marks.{fits-debited, whole-mark, fits-again}
+use Rattle.ledger_book.proofs.franking.mark_after.Goals as goal
+
+pub returns-clause-whole : goal.returns-clause-whole
+returns-clause-whole c =
+    let f = fits-debited c.args.device c.args.piece c.args.postage c.args.class c.args.version c.args.day (reverse c.args.before.now) (omega arith) (omega arith) c.requires in
+    let up = f.ascending in
+    let down = f.descending in
+    let day = fits-again c.get.result c.get.ensures.range.0 c.get.ensures.range.1 in
+    whole-mark _ f.version (omega arith) (omega arith) (omega arith) (omega arith) (omega arith) day (omega arith) (omega arith)

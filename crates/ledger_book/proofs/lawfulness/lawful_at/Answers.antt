@@ -1,0 +1,14 @@
+use Rattle.std.proofs.Common.{◌≡◌, ◌∙◌, sym, ap, subst, reverse, take}
+use Rattle.bench_base.specs.Rules.{first_rules}
+use Rattle.bench_base.specs.Ledger.{counted}
+use Rattle.ledger_book.specs.Lawful.{Always, LawfulAt, Debits}
+use Rattle.ledger_book.proofs.Prefixes.{always-weaker}
+use Rattle.ledger_book.proofs.Growing.{always-counted}
+use Rattle.ledger_book.proofs.lawfulness.lawful_at.Goals as goal
+
+pub releases-requires : goal.releases-requires
+releases-requires c =
+    let before = reverse (take c.args.end c.args.book.now) in
+    let kept = always-weaker (LawfulAt first_rules) (λ P. Debits first_rules (counted P)) (λ P h. h.debits) before c.requires.earlier in
+    let is : counted before ≡ reverse c.deref-then-lawful_commits.result.now = sym (ap reverse c.deref-then-lawful_commits.ensures.value ∙ c.in_ok-earlier.ensures) in
+    subst (Always (Debits first_rules)) is (always-counted (Debits first_rules) before kept)

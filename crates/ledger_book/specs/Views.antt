@@ -1,0 +1,120 @@
+-- What the commits tell of one device, of the centre's record of a device, and of a customer, each as one value.
+use Rattle.std.specs.Prelude.{ℕ, ℤ, pos, ◌+◌, ◌+ℤ◌, Bool, true, ◌&&◌, ◌||◌, List, Option, Some, max, if◌then◌else◌}
+use Rattle.bench_base.specs.declared.words.Kind.TheVariants.{Enrol, Audit, Withdraw}
+use Rattle.bench_base.specs.declared.words.Verdict.{Verdict}
+use Rattle.bench_base.specs.declared.ledger.Commit.{Commit}
+use Rattle.bench_base.specs.Kinds.{same_kind, is_granted, is_dated}
+use Rattle.bench_base.specs.Rows.{first_of}
+use Rattle.psd_wire.specs.declared.message.Request.{Request}
+use Rattle.psd_wire.specs.Requests.{request_in}
+use Rattle.psd_wire.specs.Sums.{adds, takes, loaded, refunded, ascending, pieces, bought, returned}
+use Rattle.psd_wire.specs.Devices.{key_of, asked, number, pending, unless_applied, applied_kind, deadline, last_day, customer}
+use Rattle.psd_wire.specs.Centres.{registered, enrolled, withdrawn, ruled, done, stored_request, opened, suspended, deposits, receipt}
+
+pub record OfDevice : Type 0 where
+  pub key : Option (List ℕ)
+  pub asked : ℕ
+  pub number : ℕ
+  pub pending : Option (ℕ × List ℕ)
+  pub loaded : ℕ
+  pub refunded : ℕ
+  pub ascending : ℕ
+  pub pieces : ℕ
+  -- whether an enrolment, an audit, a withdrawal was granted and applied
+  pub enrolled : Bool
+  pub inspected : Bool
+  pub withdrawn : Bool
+  pub deadline : ℤ
+  pub last_day : ℤ
+  pub customer : ℕ
+
+-- all that a device's commits tell of it, but for the marks
+abbrev pub of_device : ℕ → List Commit → OfDevice
+of_device d C = record {
+  key = key_of d C;
+  asked = asked d C;
+  number = number d C;
+  pending = pending d C;
+  loaded = loaded d C;
+  refunded = refunded d C;
+  ascending = ascending d C;
+  pieces = pieces d C;
+  enrolled = applied_kind Enrol d C;
+  inspected = applied_kind Audit d C;
+  withdrawn = applied_kind Withdraw d C;
+  deadline = deadline d C;
+  last_day = last_day d C;
+  customer = customer d C;
+}
+
+-- after a Made, an Asked, an Applied, a Debited
+abbrev pub device_made : List ℕ → OfDevice → OfDevice
+device_made key s = record s { key = Some key }
+
+abbrev pub device_asked : ℕ → List ℕ → OfDevice → OfDevice
+device_asked n note s = record s { asked = n; pending = Some (n, note); last_day = (request_in note).day }
+
+abbrev pub device_applied : ℕ → Verdict → Request → OfDevice → OfDevice
+device_applied n v q s = record s {
+  number = n;
+  pending = unless_applied n s.pending;
+  loaded = s.loaded + adds v q;
+  refunded = s.refunded + takes v q;
+  enrolled = (is_granted v && same_kind q.kind Enrol) || s.enrolled;
+  inspected = (is_granted v && same_kind q.kind Audit) || s.inspected;
+  withdrawn = (is_granted v && same_kind q.kind Withdraw) || s.withdrawn;
+  deadline = if is_dated v q.kind then q.day +ℤ pos 92 else s.deadline;
+  customer = if is_granted v && same_kind q.kind Enrol then q.customer else s.customer;
+}
+
+abbrev pub device_debited : ℕ → ℤ → OfDevice → OfDevice
+device_debited postage day s = record s { ascending = s.ascending + postage; pieces = s.pieces + 1; last_day = day }
+
+pub record OfCentre : Type 0 where
+  pub registered : Option (ℕ × List ℕ)
+  pub enrolled : Option ℕ
+  pub withdrawn : Bool
+  pub ruled : ℕ
+  pub done : ℕ
+  pub request : Option (List ℕ)
+  pub bought : ℕ
+  pub returned : ℕ
+
+-- all that the centre's commits tell of a device, but for the stored Reply
+abbrev pub of_centre : ℕ → List Commit → OfCentre
+of_centre d C = record {
+  registered = registered d C;
+  enrolled = enrolled d C;
+  withdrawn = withdrawn d C;
+  ruled = ruled d C;
+  done = done d C;
+  request = stored_request d C;
+  bought = bought d C;
+  returned = returned d C;
+}
+
+-- after a Registered, a Ruled, a Settled
+abbrev pub centre_registered : ℕ → List ℕ → OfCentre → OfCentre
+centre_registered origin key s = record s { registered = Some (origin, key) }
+
+abbrev pub centre_ruled : ℕ → Verdict → List ℕ → OfCentre → OfCentre
+centre_ruled n v note s = record s {
+  enrolled = if is_granted v && same_kind (request_in note).kind Enrol then first_of s.enrolled (Some (request_in note).customer) else s.enrolled;
+  withdrawn = if is_granted v && same_kind (request_in note).kind Withdraw then true else s.withdrawn;
+  ruled = max n s.ruled;
+  request = Some note;
+  bought = s.bought + adds v (request_in note);
+  returned = s.returned + takes v (request_in note);
+}
+
+abbrev pub centre_settled : ℕ → OfCentre → OfCentre
+centre_settled n s = record s { done = max n s.done }
+
+pub record OfCustomer : Type 0 where
+  pub opened : Bool
+  pub suspended : Bool
+  pub deposits : ℕ
+  pub receipt : ℕ × ℕ
+
+abbrev pub of_customer : ℕ → List Commit → OfCustomer
+of_customer c C = record { opened = opened c C; suspended = suspended c C; deposits = deposits c C; receipt = receipt c C }
