@@ -1,0 +1,61 @@
+-- No move of an honest history is answered `ahead`, `changed` or `stray`; and what was sent is read and addressed.
+use Rattle.std.proofs.Common.{◌≡◌, ℕ, ℤ, List, ◌∷◌, Option, Some, None, sym, subst, ◌⊎◌, ⊎_elim}
+use Rattle.bench_base.specs.declared.events.Event.{Event}
+use Rattle.bench_base.specs.declared.events.Event.TheVariants as ev
+use Rattle.bench_base.specs.declared.events.Reply.{Reply}
+use Rattle.bench_base.specs.declared.events.Reply.TheVariants as r
+use Rattle.bench_base.specs.Rules.{Rules}
+use Rattle.bench_base.specs.Plans.{Plan}
+use Rattle.bench_base.specs.Ledger.{Ledger, day_in, counted}
+use Rattle.psd_wire.specs.declared.message.Message.{Message}
+use Rattle.psd_wire.specs.declared.message.Message.TheVariants as m
+use Rattle.ledger_laws.specs.Tariffs.{Tariff}
+use Rattle.ledger_laws.specs.Editions.{Editions}
+use Rattle.ledger_laws.specs.Moves.{plan, Moves, OtherUp, Fails, FailsToRead}
+use Rattle.ledger_laws.specs.Histories.{Unforged, History}
+use Rattle.ledger_laws.specs.Sane.{IsSane}
+use Rattle.ledger_laws.specs.Laws.{IsAddressed, SentAreRead}
+use Rattle.ledger_laws.proofs.Money.{ruling-asked}
+use Rattle.ledger_laws.proofs.Asked.{note-reads, applied-asked}
+use Rattle.ledger_laws.proofs.Grown.{Inv, GenuineAs}
+use Rattle.ledger_laws.proofs.Histories.{histories, plan-ok, allows-same, carried-by}
+
+other-sane : (was x : Reply) (H : Ledger) → OtherUp was x H → IsSane x
+other-sane (r.Up n k) (r.Up m l) H h = tt
+other-sane (r.Up n k) _ H h = absurd h
+other-sane _ x H h = absurd h
+
+fails-sane : (p : Plan) (x : Reply) → Fails p x → IsSane x
+fails-sane p (r.Power n) h = tt
+fails-sane p (r.Fault n) h = tt
+fails-sane p (r.PrinterFault j) h = tt
+fails-sane p _ h = absurd h
+
+unread-sane : (x : Event) (y : Reply) (day : Option ℤ) → FailsToRead x y day → IsSane y
+unread-sane ev.Rates r.RatesFault (Some t) h = tt
+unread-sane ev.Rates r.RatesFault None h = absurd h
+unread-sane ev.Rates _ day h = absurd h
+unread-sane _ y day h = absurd h
+
+pub moves-sane : (τ : Tariff) (ρ : Rules) (ρs : List Rules) (H : Ledger) → Editions (ρ ∷ ρs) → History τ (ρ ∷ ρs) H → (x : Event) (text : List ℕ) (reply : Reply) → Unforged x H → Moves τ ρ H x text reply → IsSane reply
+moves-sane τ ρ ρs H E h x text reply u v =
+    let carried = carried-by ρs ρ E.0 in
+    let i = histories τ (ρ ∷ ρs) E H h ρ (carried, allows-same ρ) in
+    let p = plan τ ρ H x text in
+    ⊎_elim
+    (λ (same : reply ≡ p.reply). subst IsSane (sym same) (plan-ok τ ρ carried H i x text v.0 u).sane)
+    (λ (k : OtherUp p.reply reply H ⊎ (Fails p reply ⊎ FailsToRead x reply (day_in H))). ⊎_elim
+    (other-sane p.reply reply H)
+    (λ (l : Fails p reply ⊎ FailsToRead x reply (day_in H)). ⊎_elim (fails-sane p reply) (unread-sane x reply (day_in H)) l)
+    k)
+    v.1
+
+addressed : (ρ : Rules) (H : Ledger) → Inv ρ H → (bytes : List ℕ) (x : Message) → GenuineAs bytes x H (counted H) → IsAddressed x
+addressed ρ H i bytes (m.Request q) g = (note-reads ρ q.device q.number bytes (counted H) i.good g).range.0
+addressed ρ H i bytes (m.Reply p) g = (note-reads ρ p.device p.number g.note (counted H) i.good (ruling-asked ρ p.device p.number (p.verdict, g.note) (counted H) i.good g.ruled_as)).range.0
+addressed ρ H i bytes (m.Done q) g = let note = applied-asked ρ q.device q.number g.0 (counted H) i.good g.1 in (note-reads ρ q.device q.number note.0 (counted H) i.good note.1).range.0
+addressed ρ H i bytes (m.Debit q) g = g.0
+addressed ρ H i bytes (m.Release x) g = tt
+
+pub sent-read : (ρ : Rules) (H : Ledger) → Inv ρ H → SentAreRead H
+sent-read ρ H i bytes s = let g = i.sents bytes s in (g.what, g.reads, addressed ρ H i bytes g.what g.vouched)

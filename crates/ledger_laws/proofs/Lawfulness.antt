@@ -1,0 +1,273 @@
+-- Every history is lawful: each clause follows from a good list of commits, or from what the invariant says of the newest
+-- entry. A ledger's counted commits are good wherever those of a later one are, so each prefix is covered.
+use Rattle.std.proofs.Common.{◌≡◌, ℕ, ◌+◌, ◌-◌, ◌<◌, ◌≤◌, true, false, List, [], ◌∷◌, Option, Some, None, refl, sym, ap, subst, ◌∙◌, true≢false, inl, inr, ⊎_elim, arith}
+use Rattle.std.specs.Prelude.{is_some}
+use Rattle.std.proofs.lemmas.Bool.{cases_Bool, cases_lt, eq-eqb}
+use Rattle.bench_base.specs.declared.words.Kind.{Kind}
+use Rattle.bench_base.specs.declared.words.Kind.TheVariants.{Enrol, Reset, Audit, Refund, Withdraw}
+use Rattle.bench_base.specs.declared.words.Verdict.{Verdict}
+use Rattle.bench_base.specs.declared.ledger.Commit.{Commit}
+use Rattle.bench_base.specs.declared.ledger.Commit.TheVariants.{Asked, Applied, Debited, Deposited, Ruled, Settled, Held, Accepted}
+use Rattle.bench_base.specs.Rules.{Rules}
+use Rattle.bench_base.specs.Kinds.{same_kind, empties, is_granted}
+use Rattle.bench_base.specs.Ledger.{Ledger, counted}
+use Rattle.bench_base.specs.Scans.{accepted}
+use Rattle.psd_wire.specs.declared.message.Request.{Request}
+use Rattle.psd_wire.specs.Requests.{request_in, note_of, in_note, request_of}
+use Rattle.psd_wire.specs.Sums.{adds, takes, loaded, ascending, descending}
+use Rattle.psd_wire.specs.Devices.{asked, number, applied_of, pending}
+use Rattle.psd_wire.specs.Centres.{ruled, deposits, stored_request}
+use Rattle.psd_wire.specs.InFlight.{ruling_of}
+use Rattle.centre_ledger.specs.Answers.{last_ruling}
+use Rattle.ledger_book.specs.Lawful.{Always, asks, Numbering, NextDebit, Totals, Refunds, AfterApplied, Accounts, Solvent, Days, AcceptedOnce, HeldOnce, held_piece, LawfulAt, Lawful}
+use Rattle.ledger_laws.specs.Links.{Link}
+use Rattle.ledger_laws.specs.Laws.{HasOwner, NoImbalance, IsFitting, postage_in, Paid}
+use Rattle.ledger_laws.proofs.Basics.{some-same, some-none, either, none-if}
+use Rattle.ledger_laws.proofs.Good.{Good, Fits}
+use Rattle.ledger_laws.proofs.Links.{Waits, link, waits, waits-none, waits-some, ruling-le, note-le, applied-le}
+use Rattle.ledger_laws.proofs.Money.{Keeps, funds, account, applied-some, ruling-asked, last-is, last-some}
+use Rattle.ledger_laws.proofs.Asked.{pending-asked, since-asked}
+use Rattle.ledger_laws.proofs.Requests.{sane-here}
+use Rattle.ledger_laws.proofs.Customers.{solvent}
+use Rattle.ledger_laws.proofs.Owners.{owner}
+use Rattle.ledger_laws.proofs.Jobs.{jobs}
+use Rattle.ledger_laws.proofs.HostPlans.{good-before}
+use Rattle.ledger_laws.proofs.Grown.{Inv, Told, NewestSure}
+
+not-reset : (k : Kind) → empties k ≡ true → same_kind k Reset ≡ false
+unfolding same_kind
+not-reset Enrol h = refl
+not-reset Reset h = absurd (true≢false (sym h))
+not-reset Audit h = refl
+not-reset Refund h = refl
+not-reset Withdraw h = refl
+
+module _ (ρ : Rules) where
+  -- == numbering ==
+
+  asks-asked : (d : ℕ) (C : List Commit) → Good ρ C → asks d C ≡ asked d C
+  asks-asked d [] g = refl
+  asks-asked d (Asked f n r ∷ C) g = either f d
+      (λ t x.
+      let fits = subst (λ y. Fits ρ (Asked y n r) C) x g.0 in
+      let w = waits-none ρ (pending d C) (asked d C) (number d C) fits.idle (waits ρ d C g.1) in
+      let next = fits.next in
+      let is = asks-asked d C g.1 in
+      rw t (omega arith))
+      (λ t. rw t (asks-asked d C g.1))
+  asks-asked d (_ ∷ C) g = asks-asked d C g.1
+
+  numbering : (C : List Commit) → Good ρ C → Numbering C
+  numbering [] g = tt
+  numbering (Asked d n r ∷ C) g =
+      let w = waits-none ρ (pending d C) (asked d C) (number d C) g.0.idle (waits ρ d C g.1) in
+      let is = asks-asked d C g.1 in
+      let next : n ≡ number d C + 1 = g.0.next in (
+        omega arith,
+        ⊎_elim
+            (λ (h : 0 < number d C). let k : number d C ≡ n - 1 = omega arith in inr (ap is_some (applied-some ρ d (n - 1) C k (omega arith)).1))
+            (λ (h : number d C ≤ 0). inl (omega arith))
+            (cases_lt 0 (number d C)),
+      )
+  numbering (Ruled d n v r ∷ C) g =
+      let next = g.0.next in
+      (none-if (ruling_of d n C) (λ y o. let le = ruling-le ρ d n y C o in omega arith), g.0.asked_as)
+  numbering (Applied d n v ∷ C) g =
+      let w = waits-some ρ (pending d C) (asked d C) (number d C) n g.0.note g.0.waits (waits ρ d C g.1) in
+      (none-if (applied_of d n C) (λ y o. let le = applied-le ρ d n y C g.1 o in omega arith), g.0.note, g.0.ruled_as)
+  numbering (_ ∷ C) g = tt
+
+  -- == debits and days ==
+
+  next-debit : (C : List Commit) → Good ρ C → NextDebit ρ C
+  next-debit [] g = tt
+  next-debit (Debited d p a k t v ∷ C) g = let version = g.0.version in record { next = g.0.next; low = g.0.low; high = g.0.high; funded = g.0.funded; from_1 = omega arith; known = g.0.known }
+  next-debit (_ ∷ C) g = tt
+
+  totals : (C : List Commit) → Good ρ C → (d : ℕ) → Totals ρ C d
+  totals C g d =
+      let f = funds ρ d C g in
+      let covered = f.covered in
+      let within = f.within in
+      record { covered = covered; within = omega arith }
+
+  days : (C : List Commit) → Good ρ C → Days ρ C
+  days [] g = tt
+  days (Debited d p a k t v ∷ C) g = (record { forward = g.0.day; due = g.0.due; small = g.0.small }, g.0.serves, g.0.free)
+  days (_ ∷ C) g = tt
+
+  -- == refunds ==
+
+  -- a refund that is pending is of all that is left
+  all-left : (w : Option (ℕ × List ℕ)) (p : ℕ × List ℕ) (loaded left : ℕ) → w ≡ Some p → Keeps ρ w loaded left → empties (request_in p.1).kind ≡ true → (request_in p.1).amount ≡ left
+  all-left None p loaded left h k = absurd (some-none (sym h))
+  all-left (Some q) p loaded left h k = subst (λ (z : ℕ × List ℕ). empties (request_in z.1).kind ≡ true → (request_in z.1).amount ≡ left) (some-same h) k.0
+
+  some-if : (w : Option (ℕ × List ℕ)) (a k : ℕ) → Waits ρ w a k → k < a → (p : ℕ × List ℕ) × (w ≡ Some p)
+  some-if None a k h lt = absurd (omega arith)
+  some-if (Some p) a k h lt = (p, refl)
+
+  no-adds : (v : Verdict) (q : Request) → empties q.kind ≡ true → adds v q ≡ 0
+  unfolding adds
+  no-adds v q h = rw (not-reset q.kind h) (⊎_elim (λ (t : is_granted v ≡ true). rw t refl) (λ (t : is_granted v ≡ false). rw t refl) (cases_Bool (is_granted v)))
+
+  takes-all : (v : Verdict) (q : Request) → is_granted v ≡ true → empties q.kind ≡ true → takes v q ≡ q.amount
+  unfolding takes
+  takes-all v q g h = rw (g, h) refl
+
+  refunds : (C : List Commit) → Good ρ C → Refunds C
+  refunds [] g = tt
+  refunds (Ruled d n v r ∷ C) g = λ granted kind.
+      let l = link ρ d C g.1 in
+      let next = g.0.next in
+      let le = note-le ρ d n r C g.1 g.0.asked_as in
+      let p = some-if (pending d C) (asked d C) (number d C) (waits ρ d C g.1) (omega arith) in
+      let w = waits-some ρ (pending d C) (asked d C) (number d C) p.0.0 p.0.1 p.1 (waits ρ d C g.1) in
+      let same : p.0.0 ≡ n = omega arith in
+      let at = subst (λ z. note_of d z C ≡ Some p.0.1) same (pending-asked ρ d p.0 C g.1 p.1) in
+      let is : p.0.1 ≡ r = some-same (sym at ∙ g.0.asked_as) in
+      let f = funds ρ d C g.1 in
+      let all = all-left (pending d C) p.0 (loaded d C) (descending d C) p.1 f.keeps in
+      subst (λ (z : List ℕ). empties (request_in z).kind ≡ true → (request_in z).amount ≡ descending d C) is all kind
+  refunds (Applied d n v ∷ C) g = λ granted kind.
+      let u = funds ρ d C g.1 in
+      let covered = u.covered in
+      let is : request_of d n C ≡ request_in g.0.note = ap in_note (ruling-asked ρ d n (v, g.0.note) C g.1 g.0.ruled_as) in
+      let kind' : empties (request_in g.0.note).kind ≡ true = subst (λ (z : Request). empties z.kind ≡ true) is kind in
+      let all : (request_of d n C).amount ≡ descending d C = subst (λ (z : Request). z.amount ≡ descending d C) (sym is) (all-left (pending d C) (n, g.0.note) (loaded d C) (descending d C) g.0.waits u.keeps kind') in
+      let add = no-adds v (request_of d n C) kind in
+      let take = takes-all v (request_of d n C) granted kind in
+      (since-asked ρ d (n, g.0.note) C g.1 g.0.waits kind', rw (eq-eqb d d refl) (omega arith))
+  refunds (_ ∷ C) g = tt
+
+  -- == registers and balances ==
+
+  after-applied : (C : List Commit) → Good ρ C → AfterApplied C
+  after-applied [] g = tt
+  after-applied (Settled d n ∷ C) g = ap is_some g.0.applied_as
+  after-applied (_ ∷ C) g = tt
+
+  accounts : (C : List Commit) → Good ρ C → (d : ℕ) → Accounts C d
+  accounts C g d = record { one_in_flight = (link ρ d C g).ruled_le; equal = (account ρ d C g).equal }
+
+  deposits-within : (c : ℕ) (C : List Commit) → Good ρ C → deposits c C ≤ 1000000000000000
+  deposits-within c [] g = omega arith
+  deposits-within c (Deposited e n a ∷ C) g =
+      let h = deposits-within c C g.1 in
+      either e c (λ t x. let fits = subst (λ y. Fits ρ (Deposited y n a) C) x g.0 in rw t fits.room) (λ t. rw t h)
+  deposits-within c (_ ∷ C) g = deposits-within c C g.1
+
+  solvents : (C : List Commit) → Good ρ C → (c : ℕ) → Solvent C c
+  solvents C g c = record { balance = solvent ρ c C g; limit = deposits-within c C g }
+
+  -- == acceptances and prints ==
+
+  accepted-once : (P : Ledger) (C : List Commit) → Good ρ C → NewestSure P C → AcceptedOnce P C
+  accepted-once P [] g s = tt
+  accepted-once P (Accepted d p n ∷ C) g s = (g.0.new, s)
+  accepted-once P (_ ∷ C) g s = tt
+
+  below : {a b : ℕ} → a < b → b ≤ a → ⊥
+  below h k = omega arith
+
+  held-once : (P : Ledger) (C : List Commit) → Good ρ C → NewestSure P C → HeldOnce P C
+  held-once P [] g s = tt
+  held-once P (Held j x ∷ C) g s =
+      let h = jobs ρ C g.1 in
+      let it = h.open_is g.0.at.device j g.0.open_is in (
+        (
+          it.at,
+          it.job_is,
+          ⊎_elim
+              (λ (t : held_piece it.at.device it.at.piece C ≡ true).
+              let le = h.piece_le it.at.device it.at.piece t in
+              absurd (below (subst (λ z. Rattle.bench_base.specs.Jobs.top z C < it.at.piece) (sym it.device) it.fresh) le))
+              (λ (t : held_piece it.at.device it.at.piece C ≡ false). t)
+              (cases_Bool (held_piece it.at.device it.at.piece C)),
+        ),
+        s,
+      )
+  held-once P (_ ∷ C) g s = tt
+
+  -- == the nine clauses, and each prefix ==
+
+  lawful-at : (P : Ledger) → Good ρ (counted P) → Told P → LawfulAt ρ P
+  lawful-at P g told =
+      let C = counted P in
+      record {
+        numbering = numbering C g;
+        debits = (next-debit C g, λ d _ _. totals C g d);
+        releases = told.releases;
+        refunds = refunds C g;
+        registers = (after-applied C g, λ d _ _. accounts C g d);
+        balances = λ c _ _. solvents C g c;
+        days = days C g;
+        acceptances = accepted-once P C g told.sure;
+        prints = (told.prints, held-once P C g told.sure);
+      }
+
+  -- what follows from good commits and from what is told holds of each prefix
+  always : (Q : Ledger → Type 0) → ((P : Ledger) → Good ρ (counted P) → Told P → Q P) → (H : Ledger) → Good ρ (counted H) → Always Told H → Always Q H
+  always Q f [] g t = f [] g t
+  always Q f (k ∷ H) g t = (f (k ∷ H) g t.0, always Q f H (good-before ρ k H g) t.1)
+
+  pub everywhere : (Q : Ledger → Type 0) → ((P : Ledger) → Good ρ (counted P) → Told P → Q P) → (H : Ledger) → Inv ρ H → Always Q H
+  everywhere Q f H i = always Q f H i.good i.told
+
+  pub lawful : (H : Ledger) → Inv ρ H → Lawful ρ H
+  lawful H i = everywhere (LawfulAt ρ) lawful-at H i
+
+  -- == beside the nine clauses ==
+
+  pub has-owner : (C : List Commit) → Good ρ C → HasOwner C
+  has-owner [] g = tt
+  has-owner (Ruled d n v r ∷ C) g = λ kind. owner ρ d n r C g.1 g.0.asked_as kind
+  has-owner (_ ∷ C) g = tt
+
+  pub no-imbalance : (C : List Commit) → Good ρ C → NoImbalance C
+  no-imbalance [] g = tt
+  no-imbalance (Ruled d n v r ∷ C) g = sane-here ρ d n v r C g
+  no-imbalance (_ ∷ C) g = tt
+
+  pub is-fitting : (C : List Commit) → Good ρ C → IsFitting C
+  is-fitting [] g = tt
+  is-fitting (c ∷ C) g = g.2
+
+  stored-last : (d : ℕ) (x : Verdict × List ℕ) (C : List Commit) → last_ruling d C ≡ Some x → stored_request d C ≡ Some x.1
+  stored-last d x [] h = absurd (some-none (sym h))
+  stored-last d x (Ruled f n v note ∷ C) h = either f d
+      (λ t y. let is : (v, note) ≡ x = some-same (rw t at h) in rw t (ap (λ (z : Verdict × List ℕ). Some z.1) is))
+      (λ t. rw t (stored-last d x C (rw t at h)))
+  stored-last d x (_ ∷ C) h = stored-last d x C h
+
+  pub linked : (C : List Commit) → Good ρ C → (d : ℕ) → Link C d
+  linked C g d =
+      let l = link ρ d C g in
+      record {
+        settled_le = l.settled_le;
+        number_le = l.number_le;
+        ruled_le = l.ruled_le;
+        asked_ge = l.asked_ge;
+        asked_le = l.asked_le;
+        same = λ some _.
+            let last = last-some ρ d C some in
+            stored-last d last.0 C last.1 ∙ sym (ruling-asked ρ d (ruled d C) last.0 C g (last-is ρ d last.0 C g last.1));
+      }
+
+  postage-le : (d : ℕ) (A C : List Commit) → postage_in d A C ≤ ascending d C
+  postage-le d A [] = omega arith
+  postage-le d A (Debited e p a k t v ∷ C) =
+      let le = postage-le d A C in
+      either e d
+      (λ s y. ⊎_elim
+      (λ (b : is_some (accepted d p A) ≡ true). rw (s, b) (omega arith))
+      (λ (b : is_some (accepted d p A) ≡ false). rw (s, b) (omega arith))
+      (cases_Bool (is_some (accepted d p A))))
+      (λ s. rw s le)
+  postage-le d A (_ ∷ C) = postage-le d A C
+
+  pub paid : (C : List Commit) → Good ρ C → (d : ℕ) → Paid C d
+  paid C g d =
+      let a = account ρ d C g in
+      let equal = a.equal in
+      record { franked = postage-le d C C; bought = omega arith }

@@ -1,0 +1,31 @@
+-- The next commit of an event, and an open one, leave the commits in order.
+use Rattle.std.proofs.Common.{◌≡◌, ℕ, List, ◌∷◌, Some}
+use Rattle.bench_base.specs.declared.words.Node.{Node}
+use Rattle.bench_base.specs.declared.ledger.Commit.{Commit}
+use Rattle.bench_base.specs.declared.events.Event.{Event}
+use Rattle.bench_base.specs.Rules.{Rules}
+use Rattle.bench_base.specs.Ranges.{IsWholeEvent}
+use Rattle.bench_base.specs.Ledger.{Ledger, torn_of, counted}
+use Rattle.ledger_laws.specs.Tariffs.{Tariff}
+use Rattle.ledger_laws.specs.Editions.{Editions}
+use Rattle.ledger_laws.specs.Moves.{plan}
+use Rattle.ledger_laws.specs.Histories.{Unforged, History}
+use Rattle.ledger_laws.specs.Nexts.{AreOrdered, IsNext, IsOpen}
+use Rattle.ledger_laws.proofs.Good.{Good}
+use Rattle.ledger_laws.proofs.Grown.{Inv}
+use Rattle.ledger_laws.proofs.Histories.{histories, plan-ok, allows-same, carried-by}
+use Rattle.ledger_laws.proofs.Orders.{device-order, device-record, centre-order, host-order, verifier-order}
+use Rattle.ledger_laws.proofs.Cells.{roomy}
+
+pub ordered : (ρ : Rules) (C : List Commit) → Good ρ C → AreOrdered C
+ordered ρ C g = record { devices = device-order ρ C g; records = device-record ρ C g; centre = centre-order ρ C g; host = host-order ρ C g; verifier = verifier-order ρ C g; roomy = roomy ρ C g }
+
+pub open-is : (ρ : Rules) (H : Ledger) → Inv ρ H → (n : Node) (c : Commit) → torn_of n H ≡ Some c → IsOpen n c H
+open-is ρ H i n c h = let o = i.opens n c h in record { node = o.node; off = o.off; range = o.range; ordered = ordered ρ (c ∷ counted H) (o.fits, i.good, o.range) }
+
+pub next-is : (τ : Tariff) (ρ : Rules) (ρs : List Rules) (H : Ledger) → Editions (ρ ∷ ρs) → History τ (ρ ∷ ρs) H → (x : Event) (text : List ℕ) → IsWholeEvent x → Unforged x H → (c : Commit) → (plan τ ρ H x text).commit ≡ Some c → IsNext c H
+next-is τ ρ ρs H E h x text w u c at =
+    let carried = carried-by ρs ρ E.0 in
+    let i = histories τ (ρ ∷ ρs) E H h ρ (carried, allows-same ρ) in
+    let f = (plan-ok τ ρ carried H i x text w u).fit c at in
+    record { on = f.on; range = f.range; ordered = ordered ρ (c ∷ counted H) (f.fits, i.good, f.range) }

@@ -1,0 +1,54 @@
+-- An Up of a node with an open commit may show either count, and each makes a history again.
+use Rattle.std.proofs.Common.{◌≡◌, ℕ, ℤ, ◌+◌, false, List, [], ◌∷◌, Some, refl, sym, ap, subst, ◌∙◌, ◌⊎◌, inl, inr, ⊎_elim}
+use Rattle.bench_base.specs.declared.words.Node.{Node}
+use Rattle.bench_base.specs.declared.ledger.Commit.{Commit}
+use Rattle.bench_base.specs.declared.ledger.Commit.TheVariants.{Made, Asked, Applied, Debited, Registered, Opened, Deposited, Flagged, Ruled, Settled, Ordered, Held, Began, Closed, Trusted, Accepted}
+use Rattle.bench_base.specs.declared.ledger.Entry.TheVariants as e
+use Rattle.bench_base.specs.declared.events.Event.TheVariants as ev
+use Rattle.bench_base.specs.declared.events.Reply.TheVariants as r
+use Rattle.bench_base.specs.Rules.{Rules}
+use Rattle.bench_base.specs.Nodes.{node_of}
+use Rattle.bench_base.specs.Ranges.{IsNode, InRange}
+use Rattle.bench_base.specs.Ledger.{Ledger, day_in, is_on, count_of, torn_of, counted}
+use Rattle.ledger_laws.specs.Tariffs.{Tariff}
+use Rattle.ledger_laws.specs.Editions.{Editions}
+use Rattle.ledger_laws.specs.Moves.{plan, OtherUp}
+use Rattle.ledger_laws.specs.Histories.{History, moves}
+use Rattle.ledger_laws.proofs.Histories.{histories, allows-same, carried-by}
+
+-- the node of a commit in range is one of the nodes
+node-in : (c : Commit) → InRange c → IsNode (node_of c)
+node-in (Made d k) r = r.0
+node-in (Asked d n x) r = r.0
+node-in (Applied d n v) r = r.0
+node-in (Debited d p a k t v) r = r.0
+node-in (Registered d o k) r = tt
+node-in (Opened c) r = tt
+node-in (Deposited c n a) r = tt
+node-in (Flagged c s) r = tt
+node-in (Ruled d n v x) r = tt
+node-in (Settled d n) r = tt
+node-in (Ordered j d p a k) r = tt
+node-in (Held j x) r = tt
+node-in (Began j) r = tt
+node-in (Closed j) r = tt
+node-in (Trusted d k) r = tt
+node-in (Accepted d p s) r = tt
+
+up-reply : (τ : Tariff) (ρ : Rules) (H : Ledger) (n : Node) (t : ℤ) → day_in H ≡ Some t → is_on n H ≡ false → (plan τ ρ H (ev.On n) []).reply ≡ r.Up n (count_of n (counted H))
+unfolding plan
+up-reply τ ρ H n t day off = rw (day, off) refl
+
+pub either_up : (τ : Tariff) (ρ : Rules) (ρs : List Rules) (H : Ledger) → Editions (ρ ∷ ρs) → History τ (ρ ∷ ρs) H → (t : ℤ) → day_in H ≡ Some t → (n : Node) (c : Commit) → torn_of n H ≡ Some c → (k : ℕ)
+    → (k ≡ count_of n (counted H)) ⊎ (k ≡ count_of n (counted H) + 1) → History τ (ρ ∷ ρs) (e.Up n k ∷ H)
+either_up τ ρ ρs H E h t day n c there k which =
+    let i = histories τ (ρ ∷ ρs) E H h ρ (carried-by ρs ρ E.0, allows-same ρ) in
+    let o = i.opens n c there in
+    let is = up-reply τ ρ H n t day o.off in
+    moves (ev.On n) [] (r.Up n k) h tt (
+      subst IsNode o.node (node-in c o.range),
+      ⊎_elim
+          (λ (same : k ≡ count_of n (counted H)). inl (ap (r.Up n) same ∙ sym is))
+          (λ (more : k ≡ count_of n (counted H) + 1). inr (inl (subst (λ x. OtherUp x (r.Up n k) H) (sym is) (refl, more, c, there))))
+          which,
+    )

@@ -1,0 +1,71 @@
+-- What has a spelling: messages and marks whose numbers fit their fields.
+use Rattle.std.proofs.Common.{◌≡◌, ℕ, ℤ, pos, ◌^◌, ◌<◌, ◌+ℤ◌, arith, FitsSigned, Fits as Fits32, lit<}
+use Rattle.std.specs.Int.{w32, cast_unsigned}
+use Rattle.std.proofs.lemmas.Int.{ints}
+use Rattle.std.proofs.Math.Facts.{Fits-of_z}
+use Rattle.bench_base.specs.declared.words.Kind.{Kind}
+use Rattle.bench_base.specs.declared.words.Kind.TheVariants.{Enrol, Reset, Audit, Refund, Withdraw}
+use Rattle.bench_base.specs.declared.words.Verdict.{Verdict}
+use Rattle.bench_base.specs.declared.words.Verdict.TheVariants.{Granted, NotEnrolled, EnrolledAlready, NoCustomer, Suspended, NoFunds, Imbalance}
+use Rattle.bench_base.specs.Ranges.{IsWord, IsDay}
+use Rattle.indicium.specs.declared.Mark.{Mark}
+use Rattle.indicium.specs.Marks as marks
+use Rattle.psd_wire.specs.declared.message.Request.{Request}
+use Rattle.psd_wire.specs.declared.message.ReplyMsg.{ReplyMsg}
+use Rattle.psd_wire.specs.declared.message.DoneMsg.{DoneMsg}
+use Rattle.psd_wire.specs.declared.message.DebitMsg.{DebitMsg}
+use Rattle.psd_wire.specs.declared.message.Message.TheVariants as m
+use Rattle.psd_wire.specs.Grammar.{IsWhole, kind_code, verdict_code}
+
+kind_byte : (k : Kind) → kind_code k < 2 ^ 8
+kind_byte Enrol = lit< tt
+kind_byte Reset = lit< tt
+kind_byte Audit = lit< tt
+kind_byte Refund = lit< tt
+kind_byte Withdraw = lit< tt
+
+verdict_byte : (v : Verdict) → verdict_code v < 2 ^ 8
+verdict_byte Granted = lit< tt
+verdict_byte NotEnrolled = lit< tt
+verdict_byte EnrolledAlready = lit< tt
+verdict_byte NoCustomer = lit< tt
+verdict_byte Suspended = lit< tt
+verdict_byte NoFunds = lit< tt
+verdict_byte Imbalance = lit< tt
+
+one_byte : (v : ℕ) → v ≡ 1 → v < 2 ^ 8
+one_byte v h = omega arith
+
+pub day_signed : (z : ℤ) → IsDay z → FitsSigned w32 z
+day_signed z h = search (arith, ints, h.0, h.1)
+
+pub deadline_signed : (z : ℤ) → IsDay z → FitsSigned w32 (z +ℤ pos 92)
+deadline_signed z h = search (arith, ints, h.0, h.1)
+
+pub no_deadline : FitsSigned w32 (pos 0)
+no_deadline = search (arith, ints)
+
+pub whole-request : (q : Request) → q.version ≡ 1 → IsWord q.device → IsWord q.number → IsWord q.customer → IsWord q.amount → IsWord q.ascending → IsWord q.descending → IsWord q.refunded → IsWord q.pieces → IsDay q.day → IsWhole (m.Request q)
+whole-request q v d n c a x y z p t =
+    let small : Fits32 w32 (cast_unsigned w32 q.day) = Fits-of_z (day_signed q.day t) in
+    (v, (one_byte q.version v, (lit< tt, (d, (n, (kind_byte q.kind, (c, (a, (x, (y, (z, (p, (omega (arith, small), tt)))))))))))), t)
+
+pub whole-reply : (p : ReplyMsg) → p.version ≡ 1 → IsWord p.device → IsWord p.number → IsWord p.amount → FitsSigned w32 p.deadline → IsWord p.origin → IsWhole (m.Reply p)
+whole-reply p v d n a t o =
+    let small : Fits32 w32 (cast_unsigned w32 p.deadline) = Fits-of_z t in
+    (v, (one_byte p.version v, (lit< tt, (d, (n, (kind_byte p.kind, (verdict_byte p.verdict, (a, (omega (arith, small), (o, tt))))))))), t)
+
+pub whole-done : (q : DoneMsg) → IsWord q.device → IsWord q.number → IsWhole (m.Done q)
+whole-done q d n = (lit< tt, (lit< tt, (d, (n, tt))))
+
+pub whole-debit : (q : DebitMsg) → IsWord q.device → IsWord q.piece → IsWord q.postage → q.class < 2 ^ 16 → IsWhole (m.Debit q)
+whole-debit q d p a k = (lit< tt, (lit< tt, (d, (p, (a, (k, tt))))))
+
+pub whole-mark : (k : Mark) → k.version ≡ 1 → IsWord k.device → IsWord k.piece → IsWord k.postage → IsWord k.ascending → IsWord k.descending → IsDay k.day → IsWord k.origin → k.class < 2 ^ 16 → marks.IsWhole k
+whole-mark k v d p a x y t o c =
+    let small : Fits32 w32 (cast_unsigned w32 k.day) = Fits-of_z (day_signed k.day t) in
+    record {
+      version = v;
+      fit = (one_byte k.version v, (lit< tt, (d, (p, (a, (x, (y, (omega (arith, small), (o, (c, tt))))))))));
+      day = day_signed k.day t;
+    }

@@ -1,0 +1,5 @@
+//! Every history is lawful: laws over the definitions, without code.
+#![tactic(auto)]
+
+pub mod laws;
+pub mod rows;
