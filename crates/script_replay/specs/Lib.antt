@@ -1,0 +1,10 @@
+pub mod Bench
+pub mod Codes
+pub mod Deeds
+pub mod Ends
+pub mod Grammar
+pub mod Lines
+pub mod Moves
+pub mod Run
+pub mod Texts
+pub mod Turns

@@ -1,0 +1,84 @@
+-- A run over a script: the deeds, and how it ended.
+use Rattle.std.specs.Prelude.{◌≡◌, ◌≢◌, ℕ, ◌+◌, ◌<◌, ◌≤◌, List, [], ◌∷◌, ◌++◌, length, Option, ◌⊎◌, Bool, false}
+use Rattle.std.specs.Io.KnownBytes.{Consumes, Appends, IsAtEnd}
+use Rattle.std.specs.List.{AllByRecursion}
+use Rattle.bench_base.specs.Ledger.{Ledger}
+use Rattle.script_replay.specs.Bench.{Bench}
+use Rattle.script_replay.specs.Deeds.{Deed, line_in, text_for, Reads, IsEnd, GoesOn, script_of, report_of, DidOver}
+use Rattle.script_replay.specs.Grammar.{IsBad}
+use Rattle.script_replay.specs.Lines.{IsOneLine, IsLineIn}
+use Rattle.script_replay.specs.Moves.{Stands, Unforged, Moves}
+use Rattle.script_replay.specs.declared.status.Status.{Status}
+use Rattle.script_replay.specs.declared.status.Status.TheVariants as status
+
+-- The plain bench did the deeds, behind these first entries. What its device was made with stays.
+pub record DidDeeds (first : Ledger) (old new : Bench) (deeds : List Deed) : Type 0 where
+  pub setup : new.setup ≡ old.setup
+  pub over : DidOver Stands Unforged (Moves old.setup) first old new deeds
+
+-- the bytes are a line that is neither an event nor skipped
+pub record IsBadLine (bytes : List ℕ) (end : Type 0) : Type 0 where
+  pub line : List ℕ
+  pub is_ended : Bool
+  pub one : IsOneLine line
+  pub short : length line ≤ 600
+  pub is : IsLineIn is_ended line bytes end
+  pub bad : IsBad line
+
+-- What stands in a line's place is bad: such a line, 601 bytes without a line end, or nothing more.
+abbrev pub IsBadPlace : List ℕ → Type 0 → Type 0
+IsBadPlace bytes end = IsBadLine bytes end ⊎ (IsOneLine bytes × (length bytes ≡ 601)) ⊎ ((bytes ≡ []) × end)
+
+-- a front of the text that isn't all of it
+abbrev pub IsCutOff : List ℕ → List ℕ → Type 0
+IsCutOff part text = (more : List ℕ) × (text ≡ part ++ more) × (0 < length more)
+
+-- one deed was done and nothing else, and the bytes are its line
+pub record DidLast (bytes : List ℕ) (end : Type 0) (done : List Deed) : Type 0 where
+  pub last : Deed
+  pub is_ended : Bool
+  pub only : done ≡ last ∷ []
+  pub reads : Reads last
+  pub line : IsLineIn is_ended (line_in last) bytes end
+
+-- A deed was done behind which the run would go on, but the script has ended behind its line, which has no line end.
+pub record RanOut (bytes : List ℕ) (end : Type 0) (text : List ℕ) (done : List Deed) : Type 0 where
+  pub last : Deed
+  pub only : done ≡ last ∷ []
+  pub reads : Reads last
+  pub line : IsLineIn false (line_in last) bytes end
+  pub goes_on : GoesOn last
+  pub told : text ≡ text_for last
+
+-- How a run ends in the line of this number: bytes is what was taken of the script from the line's first byte on, end says
+-- that nothing is left behind them, text is what the report took for the line, and done what was done in it.
+abbrev pub EndsIn : Status → ℕ → List ℕ → Type 0 → List ℕ → List Deed → Type 0
+EndsIn status.Done number bytes end text done =
+    (did : DidLast bytes end done) × IsEnd did.last × (text ≡ text_for did.last)
+EndsIn (status.Script line) number bytes end text done =
+    (line ≤ 1000000)
+    × (((line ≡ number) × (done ≡ []) × (text ≡ []) × IsBadPlace bytes end)
+    ⊎ ((line ≡ number + 1) × RanOut bytes end text done))
+EndsIn status.TooLong number bytes end text done =
+    ((number ≡ 1000001) × (bytes ≡ []) × (done ≡ []) × (text ≡ []))
+    ⊎ ((number ≡ 1000000) × RanOut bytes end text done)
+EndsIn status.ReadFault number bytes end text done = (done ≡ []) × (text ≡ []) × IsOneLine bytes × (length bytes ≤ 600)
+EndsIn status.WriteFault number bytes end text done =
+    (did : DidLast bytes end done) × IsCutOff text (text_for did.last)
+EndsIn status.Words number bytes end text done = (number ≡ 1) × (bytes ≡ []) × (done ≡ []) × (text ≡ [])
+
+-- The lines before the last were done, and in the last the run ended. WasDone says what it means to do these deeds.
+pub record Replayed (outcome : Status) (WasDone : List Deed → Type 0) (left0 left1 taken0 taken1 : Option (List ℕ)) : Type 0 where
+  -- of the lines before the last
+  pub deeds : List Deed
+  pub each : AllByRecursion Reads deeds
+  pub go_on : AllByRecursion GoesOn deeds
+  -- of the last line: the bytes that were taken, what was done, and what the report took
+  pub rest : List ℕ
+  pub done : List Deed
+  pub text : List ℕ
+  pub few : outcome ≢ status.TooLong → length deeds + 1 ≤ 1000000
+  pub ends : EndsIn outcome (length deeds + 1) rest (IsAtEnd left1) text done
+  pub consumed : Consumes left0 left1 (script_of deeds ++ rest)
+  pub appended : Appends taken0 taken1 (report_of deeds ++ text)
+  pub did : WasDone (deeds ++ done)
