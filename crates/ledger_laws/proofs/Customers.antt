@@ -112,10 +112,6 @@ adds-not : (v : Verdict) (q : Request) → is_granted v ≡ false → adds v q �
 unfolding adds
 adds-not v q h = rw h refl
 
-takes-not : (v : Verdict) (q : Request) → is_granted v ≡ false → takes v q ≡ 0
-unfolding takes
-takes-not v q h = rw h refl
-
 adds-kind : (v : Verdict) (q : Request) → same_kind q.kind Reset ≡ false → adds v q ≡ 0
 unfolding adds
 adds-kind v q h = ⊎_elim

@@ -4,7 +4,7 @@
 -- list stays good, and what other nodes' open commits rest on stays too.
 use Rattle.std.proofs.Common.{◌≡◌, ℕ, ℤ, ◌+◌, ◌<◌, ◌^◌, Bool, true, false, List, [], ◌∷◌, Option, Some, None, Ok, cond, refl, sym, ap, subst, ◌∙◌, true≢false, ◌⊎◌, inl, inr, ⊎_elim}
 use Rattle.std.specs.Prelude.{◌==◌}
-use Rattle.std.proofs.lemmas.Bool.{eqb-true, cases_Bool, eq-eqb}
+use Rattle.std.proofs.lemmas.Bool.{eqb-true, cases_Bool}
 use Rattle.bench_base.specs.declared.words.Node.{Node}
 use Rattle.bench_base.specs.declared.words.Node.TheVariants.{Device, Centre, Host, Verifier}
 use Rattle.bench_base.specs.declared.words.Verdict.{Verdict}
@@ -33,12 +33,6 @@ use Rattle.ledger_laws.proofs.Good.{Fits, Good}
 use Rattle.ledger_laws.proofs.Frame.{frame}
 
 -- == nodes ==
-
-pub same_node-same : (n : Node) → same_node n n ≡ true
-same_node-same (Device d) = eq-eqb d d refl
-same_node-same Centre = refl
-same_node-same Host = refl
-same_node-same Verifier = refl
 
 pub same_node-true : (m n : Node) → same_node m n ≡ true → m ≡ n
 same_node-true (Device d) (Device e) h = ap Device (eqb-true d e h)
