@@ -141,3 +141,23 @@ pub enum StoreFail {
     /// An earlier commit answered Power or Fault. Nothing was changed.
     Failed,
 }
+
+/// Why a node could not start from its storage.
+#[derive(Clone, Copy, Debug, PartialEq, Eq)]
+pub enum BootFail {
+    /// Power was cut.
+    Power,
+    /// The storage failed.
+    Fault,
+    /// The storage has another size, or does not show the records of this node.
+    Damaged,
+}
+
+/// Why a device on storage did not do what it was asked.
+#[derive(Clone, Copy)]
+pub enum DevFail {
+    /// The device refuses. Nothing was changed.
+    Refused(DevRefusal),
+    /// The commit failed.
+    Store(StoreFail),
+}

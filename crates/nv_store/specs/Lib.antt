@@ -12,3 +12,4 @@ pub mod TableKnows
 pub mod OneView
 pub mod RoomView
 pub mod TableView
+pub mod Turns
