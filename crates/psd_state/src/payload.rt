@@ -54,6 +54,7 @@ impl DevRec {
     pub fn read_payload(device: DevNo, payload: &[u8; 209]) -> Option<DevRec>
         ensures found { IfSome result (λ s. (s.device ≡ device) × (bytes_of s ≡ payload.now)) }
         ensures sound { IfSome result Holds }
+        ensures fits { IfSome result Ranges }
         ensures none { IfNone result ((s : State) → Holds s → Ranges s → s.device ≡ device → bytes_of s ≡ payload.now → ⊥) }
     {
         DevRec::from_bytes(device, payload)
@@ -63,6 +64,7 @@ impl DevRec {
         requires { length payload.now ≡ 209 }
         ensures found { IfSome result (λ s. (s.device ≡ device) × (bytes_of s ≡ payload.now)) }
         ensures sound { IfSome result Holds }
+        ensures fits { IfSome result Ranges }
         ensures none { IfNone result ((s : State) → Holds s → Ranges s → s.device ≡ device → bytes_of s ≡ payload.now → ⊥) }
     {
         let fields = fields_of(payload);

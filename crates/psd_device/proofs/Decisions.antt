@@ -1,0 +1,24 @@
+-- What the record's answers say of the act.
+use Rattle.std.proofs.Common.{◌≡◌, ℕ, ℤ, ◌<◌, ◌↔◌, List, Bool, true, false, IsTrue, refl, Ok, arith}
+use Rattle.std.proofs.lemmas.Bool.{leb-false, leb-true, cases_Bool}
+use Rattle.std.proofs.lemmas.Bool.Decides.{Decides, same_from_decides}
+use Rattle.std.proofs.lemmas.Slice.Eq.{bytes_eq-Decides}
+use Rattle.bench_base.specs.Rules.{Rules}
+use Rattle.bench_base.specs.declared.words.Kind.{Kind}
+use Rattle.bench_base.specs.declared.refusals.DevRefusal.TheVariants as no
+use Rattle.psd_wire.specs.Codes.{has_code}
+use Rattle.psd_wire.specs.Grammar.{HasCode}
+use Rattle.psd_state.specs.State.{State}
+use Rattle.psd_state.specs.Answers.{ask_answer, ask_rows, waiting_kind}
+use Rattle.psd_state.proofs.Keeping.{passes, unless-passes}
+
+-- a request is numbered only below the last number
+pub asks-below : (ρ : Rules) (s : State) (k : Kind) (who a : ℕ) (today : ℤ) (x : State × List ℕ) → ask_answer ρ s k who a today ≡ Ok x → s.number < 4294967295
+asks-below ρ s k who a today x e =
+    let idle = unless-passes (waiting_kind s.pending) no.Busy _ x e in
+    let rows = passes (ask_rows ρ s k a today) _ x (refl, (refl, (refl, (refl, (refl, tt))))) idle.1 in
+    leb-false 4294967295 s.number rows.0.1.1.1.1.0
+
+-- the test of a code
+pub code-is : (key bytes : List ℕ) (b : Bool) → (IsTrue b ↔ HasCode bytes key) → b ≡ has_code key bytes
+code-is key bytes b h = ?

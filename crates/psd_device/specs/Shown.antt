@@ -1,0 +1,21 @@
+-- What the storage of a device shows: one cell of 16 slots, with payloads of 209 bytes.
+use Rattle.std.specs.Prelude.{ℕ, List, Option, Some, None}
+use Rattle.psd_state.specs.State as state
+use Rattle.psd_state.specs.State.{State}
+use Rattle.psd_state.specs.Payload.{bytes_of, Ranges}
+use Rattle.nv_store.specs.Slot.{Held}
+use Rattle.nv_store.specs.Store.{Shows}
+
+-- what the cell of a device holds: nothing where it was never made, else so many commits and the spelling of its record
+abbrev pub device_held : ℕ → Option State → Option Held
+device_held count None = None
+device_held count (Some s) = Some (count, bytes_of s)
+
+-- an image that shows so many commits and this record
+abbrev pub IsShown : ℕ → Option State → List ℕ → Type 0
+IsShown count s image = Shows 209 16 1 (λ k. device_held count s) image
+
+-- the record can be kept: it meets its conditions and its numbers fit their fields
+pub record IsKept (s : State) : Type 0 where
+  pub holds : state.Holds s
+  pub ranges : Ranges s
