@@ -1,7 +1,8 @@
 -- What the record's answers say of the act.
 use Rattle.std.proofs.Common.{◌≡◌, ℕ, ℤ, ◌<◌, ◌↔◌, List, Bool, true, false, IsTrue, refl, Ok, arith}
-use Rattle.std.proofs.lemmas.Bool.{leb-false, leb-true, cases_Bool}
-use Rattle.std.proofs.lemmas.Bool.Decides.{Decides, same_from_decides}
+use Rattle.std.proofs.lemmas.Bool.{leb-false, leb-true, le-leb}
+use Rattle.std.specs.Bool.{Decides}
+use Rattle.std.proofs.lemmas.Bool.Decides.{same_from_decides, Decides-and}
 use Rattle.std.proofs.lemmas.Slice.Eq.{bytes_eq-Decides}
 use Rattle.bench_base.specs.Rules.{Rules}
 use Rattle.bench_base.specs.declared.words.Kind.{Kind}
@@ -21,4 +22,5 @@ asks-below ρ s k who a today x e =
 
 -- the test of a code
 pub code-is : (key bytes : List ℕ) (b : Bool) → (IsTrue b ↔ HasCode bytes key) → b ≡ has_code key bytes
-code-is key bytes b h = ?
+unfolding has_code
+code-is key bytes b h = same_from_decides b (has_code key bytes) h (Decides-and _ _ (leb-true 32 _, le-leb 32 _) (bytes_eq-Decides _ _))

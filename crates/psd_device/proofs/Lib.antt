@@ -1,1 +1,3 @@
 mod Decisions
+mod Commits
+mod Starts

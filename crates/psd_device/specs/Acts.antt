@@ -11,15 +11,11 @@ use Rattle.psd_device.specs.Shown.{IsShown}
 pub use Rattle.psd_device.specs.declared.acts.Act.{Act}
 pub use Rattle.psd_device.specs.declared.acts.Act.TheVariants.{Refuse, Tell, Commits}
 
--- the commit of an act, with the record that it makes
-abbrev pub commit_of : {A : Type 0} → Act A → Option (Commit × State)
-commit_of (Refuse x) = None
-commit_of (Tell a) = None
-commit_of (Commits c s a) = Some (c, s)
-
--- the same; none where the cell has 4,294,967,295 commits
+-- the commit of an act, with the record that it makes; none where the cell has 4,294,967,295 commits
 abbrev pub commit_in : {A : Type 0} → ℕ → Act A → Option (Commit × State)
-commit_in count act = if count == 4294967295 then None else commit_of act
+commit_in count (Refuse x) = None
+commit_in count (Tell a) = None
+commit_in count (Commits c s a) = if count == 4294967295 then None else Some (c, s)
 
 -- what is answered where the storage does not fail
 abbrev pub answer_in : {A : Type 0} → ℕ → Act A → Result A DevFail

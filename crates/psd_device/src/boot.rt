@@ -79,7 +79,8 @@ impl<N: Nv> Device<N> {
             Ok(head) => head,
             Err(MountCause::Power) => return Err((nv, BootFail::Power)),
             Err(MountCause::Fault) => return Err((nv, BootFail::Fault)),
-            Err(MountCause::Size(_) | MountCause::Mixed(_)) => return Err((nv, BootFail::Damaged)),
+            Err(MountCause::Size(_)) => return Err((nv, BootFail::Damaged)),
+            Err(MountCause::Mixed(_)) => return Err((nv, BootFail::Damaged)),
         };
         match record_in(device, head.count, &payload) {
             Err(()) => Err((nv, BootFail::Damaged)),
