@@ -1,15 +1,15 @@
 -- What a device's commit leaves, and what a call without one.
-use Rattle.std.proofs.Common.{◌≡◌, ◌≢◌, ◌⊎◌, inl, inr, ⊎_elim, ℕ, ◌+◌, ◌<◌, List, Option, Some, None, Result, Ok, Err, refl, sym, ◌∙◌, ap, subst, arith}
+use Rattle.std.proofs.Common.{◌≡◌, ◌≢◌, ◌⊎◌, inl, inr, ⊎_elim, ℕ, ◌+◌, ◌<◌, List, Option, Some, Err, refl, sym, ◌∙◌, ap, subst, arith}
 use Rattle.std.proofs.lemmas.Bool.Decides.{nat_tests}
 use Rattle.bench_base.specs.declared.ledger.Commit.{Commit}
 use Rattle.bench_base.specs.declared.refusals.StoreFail.{StoreFail}
 use Rattle.bench_base.specs.declared.refusals.StoreFail.TheVariants.{Power, Fault, Worn, Failed}
-use Rattle.bench_base.specs.declared.refusals.DevFail.TheVariants.{Refused, Store}
-use Rattle.nv_model.specs.Moments.{Times, Image, Elapses}
+use Rattle.bench_base.specs.declared.refusals.DevFail.TheVariants.{Store}
+use Rattle.nv_model.specs.Moments.{Times, Image}
 use Rattle.nv_store.specs.Slot.{Held}
 use Rattle.nv_store.specs.Store.{Between, OnlyShows, one_held, after_commit, cell_shown}
 use Rattle.nv_store.specs.Knows.{some_held}
-use Rattle.nv_store.specs.Turns.{End, Kept, Made, Cut, Faulted, Turn}
+use Rattle.nv_store.specs.Turns.{Kept, Made, Turn}
 use Rattle.nv_store.proofs.Between.{count_of-one_held}
 use Rattle.psd_state.specs.State.{State}
 use Rattle.psd_state.specs.Payload.{bytes_of}

@@ -1,7 +1,6 @@
 -- What the record's answers say of the act.
-use Rattle.std.proofs.Common.{◌≡◌, ℕ, ℤ, ◌<◌, ◌↔◌, List, Bool, true, false, IsTrue, refl, Ok, arith}
+use Rattle.std.proofs.Common.{◌≡◌, ℕ, ℤ, ◌<◌, ◌↔◌, List, Bool, IsTrue, refl, Ok}
 use Rattle.std.proofs.lemmas.Bool.{leb-false, leb-true, le-leb}
-use Rattle.std.specs.Bool.{Decides}
 use Rattle.std.proofs.lemmas.Bool.Decides.{same_from_decides, Decides-and}
 use Rattle.std.proofs.lemmas.Slice.Eq.{bytes_eq-Decides}
 use Rattle.bench_base.specs.Rules.{Rules}

@@ -1,14 +1,14 @@
 -- What a boot finds.
-use Rattle.std.proofs.Common.{◌≡◌, ◌≢◌, ◌⊎◌, inl, inr, ℕ, ◌<◌, List, Bool, true, Option, Some, None, IfSome, is_some, sym, ◌∙◌, ap, subst, arith, refl}
-use Rattle.nv_model.specs.Moments.{Times, Image, Nested, Only}
+use Rattle.std.proofs.Common.{◌≡◌, ◌≢◌, inl, inr, ℕ, ◌<◌, List, true, Option, Some, None, IfSome, is_some, sym, ◌∙◌, ap, arith, refl}
+use Rattle.nv_model.specs.Moments.{Times, Image, Nested}
 use Rattle.nv_store.specs.Slot.{Held, slots_at, IsClear}
-use Rattle.nv_store.specs.Scans.{IsMixed, IsEmpty, IsRepeat}
-use Rattle.nv_store.specs.Store.{one_held, OnlyShows, Shows, count_of, cell_shown}
+use Rattle.nv_store.specs.Scans.{IsMixed}
+use Rattle.nv_store.specs.Store.{one_held, Shows, count_of}
 use Rattle.nv_store.specs.Knows.{some_held}
 use Rattle.nv_store.specs.Mounts.{Mounts}
 use Rattle.psd_state.specs.State.{State}
 use Rattle.psd_state.specs.Payload.{bytes_of}
-use Rattle.psd_device.specs.Shown.{device_held, IsShown}
+use Rattle.psd_device.specs.Shown.{device_held}
 use Rattle.psd_device.specs.Boots.{IsOwn, ShowsOwn, IsForeign}
 
 -- an image after a mount is one of its beginning

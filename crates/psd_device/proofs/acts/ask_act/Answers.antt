@@ -1,4 +1,4 @@
-use Rattle.std.proofs.Common.{sym, ◌∙◌, arith, ap}
+use Rattle.std.proofs.Common.{sym, arith, ap}
 use Rattle.bench_base.specs.Rules.{first_rules}
 use Rattle.bench_base.specs.declared.events.DevView.{DevView}
 use Rattle.psd_device.proofs.Decisions.{asks-below}

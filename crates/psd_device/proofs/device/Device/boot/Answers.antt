@@ -1,4 +1,4 @@
-use Rattle.std.proofs.Common.{◌≡◌, inr, ℕ, List}
+use Rattle.std.proofs.Common.{inr}
 use Rattle.nv_store.specs.Slot.{slots_at}
 use Rattle.psd_device.proofs.Starts.{image_before, not_mixed, shows_clear, foreign_at, own_not_foreign}
 use Rattle.psd_device.proofs.device.Device.boot.Goals as goal

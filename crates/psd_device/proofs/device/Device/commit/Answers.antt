@@ -1,5 +1,4 @@
-use Rattle.std.proofs.Common.{◌≡◌, ◌+◌, List, Option, Some, Err, refl, sym, ◌∙◌, subst, ap}
-use Rattle.nv_store.specs.Store.{one_held}
+use Rattle.std.proofs.Common.{◌+◌, Option, Some, Err, sym, ◌∙◌, subst, ap}
 use Rattle.nv_store.specs.Turns.{End, Turn}
 use Rattle.psd_state.specs.State.{State}
 use Rattle.bench_base.specs.declared.ledger.Commit.{Commit}

@@ -1,4 +1,4 @@
-use Rattle.std.proofs.Common.{◌≡◌, Ok, sym, subst}
+use Rattle.std.proofs.Common.{Ok, sym, subst}
 use Rattle.nv_store.specs.Turns.{Turn}
 use Rattle.psd_device.specs.Acts.{Act, IsAfter, commit_in, end_in}
 use Rattle.psd_device.specs.Shown.{IsShown}
