@@ -41,14 +41,14 @@ module _ {N : Type 0} {g : Ghosts N} (d : Device N g) where
   -- the only image is what a read gives, and it shows the device's commits and record
   pub knows : g.tells → (running d).torn ≡ None → OnlyShows 209 16 1 (λ k. device_held (running d).count (running d).state) (g.times (storage_of d)) (g.content (storage_of d))
   knows tells works =
-    let only = holds_shows (d.holds works tells) in
-    record { only = only.only; shows = shown_as (one_held d.head.count d.payload) (device_held d.head.count d.state) (g.content d.nv) d.written only.shows }
+      let only = holds_shows (d.holds works tells) in
+      record { only = only.only; shows = shown_as (one_held d.head.count d.payload) (device_held d.head.count d.state) (g.content d.nv) d.written only.shows }
 
   -- each image shows them
   pub shows : g.tells → (running d).torn ≡ None → (image : List ℕ) → Image (g.times (storage_of d)) image → IsShown (running d).count (running d).state image
   shows tells works image now =
-    let only = knows tells works in
-    subst (λ (c : List ℕ). IsShown d.head.count d.state c) (sym (only.only image now)) only.shows
+      let only = knows tells works in
+      subst (λ (c : List ℕ). IsShown d.head.count d.state c) (sym (only.only image now)) only.shows
 
   pub powered : (running d).torn ≡ None → (g.meters (storage_of d)).lost ≡ false
   powered works = d.powered works

@@ -33,7 +33,10 @@ pub struct Franked {
 #[derive(Clone, Copy)]
 pub enum Taken {
     /// A reply: the transaction of this number is over.
-    Applied { number: u32, verdict: Verdict },
+    Applied {
+        number: u32,
+        verdict: Verdict,
+    },
     /// A debit: the mark of the piece, and whether it was debited before.
     Released {
         piece: u32,

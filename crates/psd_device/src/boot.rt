@@ -62,6 +62,7 @@ impl<N: Nv> Device<N> {
         // Why it fails, and what it costs.
         ensures size { N.size nv ≢ 3424 → result ≡ Err (nv, BootFail.Damaged) }
         ensures damaged { N.tells → IfErr result (λ e. e.1 ≡ BootFail.Damaged → IsDamaged device (N.size nv) (N.times e.0) (N.content e.0)) }
+        ensures undamaged { N.tells → IfOk result (λ d. IsDamaged device (N.size nv) (N.times (storage_of d)) (N.content (storage_of d)) → ⊥) }
         ensures sound { N.tells → N.size nv ≡ 3424 → ((c : List ℕ) → Image (N.times nv) c → ShowsOwn device c) → IfErr result (λ e. e.1 ≢ BootFail.Damaged) }
         ensures spent { MatchResult result (λ d. Spent 1 (N.meters nv) (N.meters (storage_of d)) Kept)
             (λ e. Spent 1 (N.meters nv) (N.meters e.0) (end_of_boot e.1)) }

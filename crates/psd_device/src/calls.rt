@@ -30,7 +30,7 @@ impl<N: Nv> Device<N> {
         ensures does { (running self.old).torn ≡ None → let act = make_act (running self.old).device key.now (running self.old).state in Does act (running self.old) (running self.new) result }
         ensures turn { (running self.old).torn ≡ None → N.tells → let act = make_act (running self.old).device key.now (running self.old).state in
             Turn (IsShown (running self.old).count (running self.old).state) (IsAfter (running self.old).count (commit_in (running self.old).count act))
-                (N.times (storage_of self.old)) (N.times (storage_of self.new)) (end_in (running self.old).count act result) }
+            (N.times (storage_of self.old)) (N.times (storage_of self.new)) (end_in (running self.old).count act result) }
         ensures spent { (running self.old).torn ≡ None → let act = make_act (running self.old).device key.now (running self.old).state in
             Spent 6 (N.meters (storage_of self.old)) (N.meters (storage_of self.new)) (end_in (running self.old).count act result) }
         ensures kept { IfSome (running self.new).state IsKept }
@@ -48,7 +48,7 @@ impl<N: Nv> Device<N> {
         ensures does { (running self.old).torn ≡ None → let act = debit_act first_rules (running self.old).device command.now day (running self.old).state in Does act (running self.old) (running self.new) result }
         ensures turn { (running self.old).torn ≡ None → N.tells → let act = debit_act first_rules (running self.old).device command.now day (running self.old).state in
             Turn (IsShown (running self.old).count (running self.old).state) (IsAfter (running self.old).count (commit_in (running self.old).count act))
-                (N.times (storage_of self.old)) (N.times (storage_of self.new)) (end_in (running self.old).count act result) }
+            (N.times (storage_of self.old)) (N.times (storage_of self.new)) (end_in (running self.old).count act result) }
         ensures spent { (running self.old).torn ≡ None → let act = debit_act first_rules (running self.old).device command.now day (running self.old).state in
             Spent 6 (N.meters (storage_of self.old)) (N.meters (storage_of self.new)) (end_in (running self.old).count act result) }
         ensures kept { IfSome (running self.new).state IsKept }
@@ -61,12 +61,18 @@ impl<N: Nv> Device<N> {
 
     /// Asks for a transaction: see `DevRec::ask`. `Blank`, before its refusals, exactly where there is no record. The customer
     /// counts for an enrolment only, and the amount, in mills, for a reset only.
-    pub fn ask(&mut self, kind: Kind, customer: u32, amount: u32, day: DayNo) -> Result<Note, DevFail>
+    pub fn ask(
+        &mut self,
+        kind: Kind,
+        customer: u32,
+        amount: u32,
+        day: DayNo,
+    ) -> Result<Note, DevFail>
         ensures failed { (running self.old).torn ≢ None → (result ≡ Err (DevFail.Store StoreFail.Failed)) × (self.new ≡ self.old) }
         ensures does { (running self.old).torn ≡ None → let act = ask_act first_rules (running self.old).device kind customer amount day (running self.old).state in Does act (running self.old) (running self.new) result }
         ensures turn { (running self.old).torn ≡ None → N.tells → let act = ask_act first_rules (running self.old).device kind customer amount day (running self.old).state in
             Turn (IsShown (running self.old).count (running self.old).state) (IsAfter (running self.old).count (commit_in (running self.old).count act))
-                (N.times (storage_of self.old)) (N.times (storage_of self.new)) (end_in (running self.old).count act result) }
+            (N.times (storage_of self.old)) (N.times (storage_of self.new)) (end_in (running self.old).count act result) }
         ensures spent { (running self.old).torn ≡ None → let act = ask_act first_rules (running self.old).device kind customer amount day (running self.old).state in
             Spent 6 (N.meters (storage_of self.old)) (N.meters (storage_of self.new)) (end_in (running self.old).count act result) }
         ensures kept { IfSome (running self.new).state IsKept }
@@ -85,7 +91,7 @@ impl<N: Nv> Device<N> {
         ensures does { (running self.old).torn ≡ None → let act = take_act first_rules (running self.old).device bytes.now day (running self.old).state in Does act (running self.old) (running self.new) result }
         ensures turn { (running self.old).torn ≡ None → N.tells → let act = take_act first_rules (running self.old).device bytes.now day (running self.old).state in
             Turn (IsShown (running self.old).count (running self.old).state) (IsAfter (running self.old).count (commit_in (running self.old).count act))
-                (N.times (storage_of self.old)) (N.times (storage_of self.new)) (end_in (running self.old).count act result) }
+            (N.times (storage_of self.old)) (N.times (storage_of self.new)) (end_in (running self.old).count act result) }
         ensures spent { (running self.old).torn ≡ None → let act = take_act first_rules (running self.old).device bytes.now day (running self.old).state in
             Spent 6 (N.meters (storage_of self.old)) (N.meters (storage_of self.new)) (end_in (running self.old).count act result) }
         ensures kept { IfSome (running self.new).state IsKept }

@@ -50,7 +50,7 @@ impl<N: Nv> Device<N> {
         ensures does { (running self.old).torn ≡ None → Does act (running self.old) (running self.new) result }
         ensures turn { (running self.old).torn ≡ None → N.tells
             → Turn (IsShown (running self.old).count (running self.old).state) (IsAfter (running self.old).count (commit_in (running self.old).count act))
-                (N.times (storage_of self.old)) (N.times (storage_of self.new)) (end_in (running self.old).count act result) }
+            (N.times (storage_of self.old)) (N.times (storage_of self.new)) (end_in (running self.old).count act result) }
         ensures spent { (running self.old).torn ≡ None
             → Spent 6 (N.meters (storage_of self.old)) (N.meters (storage_of self.new)) (end_in (running self.old).count act result) }
         ensures kept { IfSome (running self.new).state IsKept }
@@ -79,12 +79,18 @@ impl<N: Nv> Device<N> {
         ensures does { Does (Act.Commits commit next.now answer) (running self.old) (running self.new) result }
         ensures turn { N.tells
             → Turn (IsShown (running self.old).count (running self.old).state) (IsShown ((running self.old).count + 1) (Some next.now))
-                (N.times (storage_of self.old)) (N.times (storage_of self.new)) (end_in (running self.old).count (Act.Commits commit next.now answer) result) }
+            (N.times (storage_of self.old)) (N.times (storage_of self.new)) (end_in (running self.old).count (Act.Commits commit next.now answer) result) }
         ensures spent { Spent 6 (N.meters (storage_of self.old)) (N.meters (storage_of self.new)) (end_in (running self.old).count (Act.Commits commit next.now answer) result) }
         ensures wear { (first_of self.new ≡ first_of self.old) × (start_of self.new ≡ start_of self.old) }
     {
         let payload = next.write_payload();
-        match commit_lent(&mut self.nv, 16, &mut self.head, &mut self.payload, &payload) {
+        match commit_lent(
+            &mut self.nv,
+            16,
+            &mut self.head,
+            &mut self.payload,
+            &payload,
+        ) {
             Ok(()) => {
                 self.wear.count(&self.head);
                 self.state = Some(*next);

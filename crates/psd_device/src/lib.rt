@@ -5,6 +5,8 @@ mod acts;
 mod boot;
 mod calls;
 mod device;
+#[cfg(test)]
+mod tests;
 
 pub use acts::{Act, Franked, Taken, debit_commit};
 pub use device::Device;

@@ -17,4 +17,4 @@ returns-in-Tell-clause-turn g c works tells =
     let s = c.args.self.now in
     let now = g.N.Nv.times s.nv in
     subst (λ (act : Act g.row.A.Denot). Turn (IsShown s.head.count s.state) (IsAfter s.head.count (commit_in s.head.count act)) now now (end_in s.head.count act (Ok c.in-Tell.answer)))
-        (sym c.in-Tell.is) (turn_none _ _ _ (λ i is. shows s tells works i is))
+    (sym c.in-Tell.is) (turn_none _ _ _ (λ i is. shows s tells works i is))
