@@ -1,6 +1,10 @@
--- What contracts see of a device.
-use Rattle.std.specs.Prelude.{ℕ, List}
+-- What contracts see of a device and of its calls.
+use Rattle.std.specs.Prelude.{ℕ, List, Result}
+use Rattle.bench_base.specs.declared.refusals.DevFail.{DevFail}
 use Rattle.nv_model.specs.declared.nv.Nv.{Ghosts}
+use Rattle.nv_store.specs.Turns.{Turn, Spent}
+use Rattle.psd_device.specs.Shown.{IsShown}
+use Rattle.psd_device.specs.Acts.{Act, Does, IsAfter, commit_in, end_in}
 use Rattle.psd_device.specs.Running.{Running}
 use Rattle.psd_device.specs.declared.device.Device.{Device}
 
@@ -23,3 +27,17 @@ start_of device = device.wear.start
 -- how many commits since the boot filled each slot
 abbrev pub fills_in : {N : Type 0} {g : Ghosts N} → Device N g → List ℕ
 fills_in device = device.wear.fills
+
+-- what a call of this act answered and left in the device
+abbrev pub CallDoes : {N A : Type 0} {g : Ghosts N} → Act A → Device N g → Device N g → Result A DevFail → Type 0
+CallDoes act old new result = Does act (running old) (running new) result
+
+-- what it left in the storage, where that tells its images
+abbrev pub CallTurn : {N A : Type 0} {g : Ghosts N} → Act A → Device N g → Device N g → Result A DevFail → Type 0
+CallTurn {g = g} act old new result =
+    let before = running old in
+    Turn (IsShown before.count before.state) (IsAfter before.count (commit_in before.count act)) (g.times (storage_of old)) (g.times (storage_of new)) (end_in before.count act result)
+
+-- what it cost the storage
+abbrev pub CallSpent : {N A : Type 0} {g : Ghosts N} → Act A → Device N g → Device N g → Result A DevFail → Type 0
+CallSpent {g = g} act old new result = Spent 6 (g.meters (storage_of old)) (g.meters (storage_of new)) (end_in (running old).count act result)

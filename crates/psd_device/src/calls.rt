@@ -5,9 +5,7 @@
 //! changed, where the storage has 4,294,967,295 commits. The others never answer `Store`.
 ghost use Rattle.std.specs.Prelude.{◌≡◌, ◌≢◌, IfSome, None};
 ghost use Rattle.bench_base.specs.Rules.{first_rules};
-ghost use Rattle.nv_store.specs.Turns.{Turn, Spent};
-ghost use Rattle.psd_device.specs.Shown.{IsShown, IsKept};
-ghost use Rattle.psd_device.specs.Acts.{commit_in, end_in, IsAfter, Does};
+ghost use Rattle.psd_device.specs.Shown.{IsKept};
 ghost use Rattle.psd_device.specs.Calls.{make_act, debit_act, ask_act, take_act, resend_answer, ack_answer, status_answer};
 
 use crate::acts;
@@ -22,17 +20,17 @@ use psd_state::DevStatus;
 use psd_wire::DebitMsg;
 
 impl<N: Nv> Device<N> {
-    ghost use Rattle.psd_device.specs.DeviceView.{storage_of, running, first_of, start_of};
+    ghost use Rattle.psd_device.specs.DeviceView.{storage_of, running, first_of, start_of, CallDoes, CallTurn, CallSpent};
 
     /// Makes the device under a key. `Made` exactly where it was made before.
     pub fn make(&mut self, key: &Key) -> Result<(), DevFail>
         ensures failed { (running self.old).torn ≢ None → (result ≡ Err (DevFail.Store StoreFail.Failed)) × (self.new ≡ self.old) }
-        ensures does { (running self.old).torn ≡ None → let act = make_act (running self.old).device key.now (running self.old).state in Does act (running self.old) (running self.new) result }
-        ensures turn { (running self.old).torn ≡ None → N.tells → let act = make_act (running self.old).device key.now (running self.old).state in
-            Turn (IsShown (running self.old).count (running self.old).state) (IsAfter (running self.old).count (commit_in (running self.old).count act))
-            (N.times (storage_of self.old)) (N.times (storage_of self.new)) (end_in (running self.old).count act result) }
-        ensures spent { (running self.old).torn ≡ None → let act = make_act (running self.old).device key.now (running self.old).state in
-            Spent 6 (N.meters (storage_of self.old)) (N.meters (storage_of self.new)) (end_in (running self.old).count act result) }
+        ensures does { (running self.old).torn ≡ None
+            → CallDoes (make_act (running self.old).device key.now (running self.old).state) self.old self.new result }
+        ensures turn { (running self.old).torn ≡ None → N.tells
+            → CallTurn (make_act (running self.old).device key.now (running self.old).state) self.old self.new result }
+        ensures spent { (running self.old).torn ≡ None
+            → CallSpent (make_act (running self.old).device key.now (running self.old).state) self.old self.new result }
         ensures kept { IfSome (running self.new).state IsKept }
         ensures size { N.size (storage_of self.new) ≡ 3424 }
         ensures wear { (first_of self.new ≡ first_of self.old) × (start_of self.new ≡ start_of self.old) }
@@ -45,12 +43,12 @@ impl<N: Nv> Device<N> {
     /// piece is given once more without a commit.
     pub fn debit(&mut self, command: &DebitMsg, day: DayNo) -> Result<Franked, DevFail>
         ensures failed { (running self.old).torn ≢ None → (result ≡ Err (DevFail.Store StoreFail.Failed)) × (self.new ≡ self.old) }
-        ensures does { (running self.old).torn ≡ None → let act = debit_act first_rules (running self.old).device command.now day (running self.old).state in Does act (running self.old) (running self.new) result }
-        ensures turn { (running self.old).torn ≡ None → N.tells → let act = debit_act first_rules (running self.old).device command.now day (running self.old).state in
-            Turn (IsShown (running self.old).count (running self.old).state) (IsAfter (running self.old).count (commit_in (running self.old).count act))
-            (N.times (storage_of self.old)) (N.times (storage_of self.new)) (end_in (running self.old).count act result) }
-        ensures spent { (running self.old).torn ≡ None → let act = debit_act first_rules (running self.old).device command.now day (running self.old).state in
-            Spent 6 (N.meters (storage_of self.old)) (N.meters (storage_of self.new)) (end_in (running self.old).count act result) }
+        ensures does { (running self.old).torn ≡ None
+            → CallDoes (debit_act first_rules (running self.old).device command.now day (running self.old).state) self.old self.new result }
+        ensures turn { (running self.old).torn ≡ None → N.tells
+            → CallTurn (debit_act first_rules (running self.old).device command.now day (running self.old).state) self.old self.new result }
+        ensures spent { (running self.old).torn ≡ None
+            → CallSpent (debit_act first_rules (running self.old).device command.now day (running self.old).state) self.old self.new result }
         ensures kept { IfSome (running self.new).state IsKept }
         ensures size { N.size (storage_of self.new) ≡ 3424 }
         ensures wear { (first_of self.new ≡ first_of self.old) × (start_of self.new ≡ start_of self.old) }
@@ -69,12 +67,12 @@ impl<N: Nv> Device<N> {
         day: DayNo,
     ) -> Result<Note, DevFail>
         ensures failed { (running self.old).torn ≢ None → (result ≡ Err (DevFail.Store StoreFail.Failed)) × (self.new ≡ self.old) }
-        ensures does { (running self.old).torn ≡ None → let act = ask_act first_rules (running self.old).device kind customer amount day (running self.old).state in Does act (running self.old) (running self.new) result }
-        ensures turn { (running self.old).torn ≡ None → N.tells → let act = ask_act first_rules (running self.old).device kind customer amount day (running self.old).state in
-            Turn (IsShown (running self.old).count (running self.old).state) (IsAfter (running self.old).count (commit_in (running self.old).count act))
-            (N.times (storage_of self.old)) (N.times (storage_of self.new)) (end_in (running self.old).count act result) }
-        ensures spent { (running self.old).torn ≡ None → let act = ask_act first_rules (running self.old).device kind customer amount day (running self.old).state in
-            Spent 6 (N.meters (storage_of self.old)) (N.meters (storage_of self.new)) (end_in (running self.old).count act result) }
+        ensures does { (running self.old).torn ≡ None
+            → CallDoes (ask_act first_rules (running self.old).device kind customer amount day (running self.old).state) self.old self.new result }
+        ensures turn { (running self.old).torn ≡ None → N.tells
+            → CallTurn (ask_act first_rules (running self.old).device kind customer amount day (running self.old).state) self.old self.new result }
+        ensures spent { (running self.old).torn ≡ None
+            → CallSpent (ask_act first_rules (running self.old).device kind customer amount day (running self.old).state) self.old self.new result }
         ensures kept { IfSome (running self.new).state IsKept }
         ensures size { N.size (storage_of self.new) ≡ 3424 }
         ensures wear { (first_of self.new ≡ first_of self.old) × (start_of self.new ≡ start_of self.old) }
@@ -88,12 +86,12 @@ impl<N: Nv> Device<N> {
     /// where its code is not of this device's key, and then those of `DevRec::apply`.
     pub fn take(&mut self, bytes: &[u8], day: DayNo) -> Result<Taken, DevFail>
         ensures failed { (running self.old).torn ≢ None → (result ≡ Err (DevFail.Store StoreFail.Failed)) × (self.new ≡ self.old) }
-        ensures does { (running self.old).torn ≡ None → let act = take_act first_rules (running self.old).device bytes.now day (running self.old).state in Does act (running self.old) (running self.new) result }
-        ensures turn { (running self.old).torn ≡ None → N.tells → let act = take_act first_rules (running self.old).device bytes.now day (running self.old).state in
-            Turn (IsShown (running self.old).count (running self.old).state) (IsAfter (running self.old).count (commit_in (running self.old).count act))
-            (N.times (storage_of self.old)) (N.times (storage_of self.new)) (end_in (running self.old).count act result) }
-        ensures spent { (running self.old).torn ≡ None → let act = take_act first_rules (running self.old).device bytes.now day (running self.old).state in
-            Spent 6 (N.meters (storage_of self.old)) (N.meters (storage_of self.new)) (end_in (running self.old).count act result) }
+        ensures does { (running self.old).torn ≡ None
+            → CallDoes (take_act first_rules (running self.old).device bytes.now day (running self.old).state) self.old self.new result }
+        ensures turn { (running self.old).torn ≡ None → N.tells
+            → CallTurn (take_act first_rules (running self.old).device bytes.now day (running self.old).state) self.old self.new result }
+        ensures spent { (running self.old).torn ≡ None
+            → CallSpent (take_act first_rules (running self.old).device bytes.now day (running self.old).state) self.old self.new result }
         ensures kept { IfSome (running self.new).state IsKept }
         ensures size { N.size (storage_of self.new) ≡ 3424 }
         ensures wear { (first_of self.new ≡ first_of self.old) × (start_of self.new ≡ start_of self.old) }

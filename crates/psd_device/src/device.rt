@@ -4,9 +4,8 @@ ghost use Rattle.std.specs.Option.{ForSome};
 ghost use Rattle.nv_store.specs.Slot.{Held, slots_at};
 ghost use Rattle.nv_store.specs.Cells.{Top};
 ghost use Rattle.nv_store.specs.Store.{one_held, Holds};
-ghost use Rattle.nv_store.specs.Turns.{Turn, Spent};
 ghost use Rattle.nv_ring.specs.Turns.{IsWearOf, fills_of, slot_after};
-ghost use Rattle.psd_device.specs.Shown.{device_held, IsShown, IsKept};
+ghost use Rattle.psd_device.specs.Shown.{device_held, IsKept};
 ghost use Rattle.psd_device.specs.Unique.{each_kept-prop};
 
 use crate::acts::Act;
@@ -40,19 +39,15 @@ pub struct Device<N: Nv> {
 }
 
 impl<N: Nv> Device<N> {
-    ghost use Rattle.psd_device.specs.Acts.{commit_in, end_in, IsAfter, Does};
-    ghost use Rattle.psd_device.specs.DeviceView.{storage_of, running, first_of, start_of, fills_in};
+    ghost use Rattle.psd_device.specs.DeviceView.{storage_of, running, first_of, start_of, fills_in, CallDoes, CallTurn, CallSpent};
 
     /// Does what a call decided on. A device that failed does nothing, and answers `Failed` before every refusal; the
     /// other failures of storage come after every refusal.
     pub(crate) fn perform<A: Copy>(&mut self, act: Act<A>) -> Result<A, DevFail>
         ensures failed { (running self.old).torn ≢ None → (result ≡ Err (DevFail.Store StoreFail.Failed)) × (self.new ≡ self.old) }
-        ensures does { (running self.old).torn ≡ None → Does act (running self.old) (running self.new) result }
-        ensures turn { (running self.old).torn ≡ None → N.tells
-            → Turn (IsShown (running self.old).count (running self.old).state) (IsAfter (running self.old).count (commit_in (running self.old).count act))
-            (N.times (storage_of self.old)) (N.times (storage_of self.new)) (end_in (running self.old).count act result) }
-        ensures spent { (running self.old).torn ≡ None
-            → Spent 6 (N.meters (storage_of self.old)) (N.meters (storage_of self.new)) (end_in (running self.old).count act result) }
+        ensures does { (running self.old).torn ≡ None → CallDoes act self.old self.new result }
+        ensures turn { (running self.old).torn ≡ None → N.tells → CallTurn act self.old self.new result }
+        ensures spent { (running self.old).torn ≡ None → CallSpent act self.old self.new result }
         ensures kept { IfSome (running self.new).state IsKept }
         ensures size { N.size (storage_of self.new) ≡ 3424 }
         ensures wear { (first_of self.new ≡ first_of self.old) × (start_of self.new ≡ start_of self.old) }
@@ -76,11 +71,9 @@ impl<N: Nv> Device<N> {
     fn commit<A: Copy>(&mut self, commit: Commit, next: &DevRec, answer: A) -> Result<A, DevFail>
         requires works { (running self.old).torn ≡ None }
         requires lasts { (running self.old).count ≢ 4294967295 }
-        ensures does { Does (Act.Commits commit next.now answer) (running self.old) (running self.new) result }
-        ensures turn { N.tells
-            → Turn (IsShown (running self.old).count (running self.old).state) (IsShown ((running self.old).count + 1) (Some next.now))
-            (N.times (storage_of self.old)) (N.times (storage_of self.new)) (end_in (running self.old).count (Act.Commits commit next.now answer) result) }
-        ensures spent { Spent 6 (N.meters (storage_of self.old)) (N.meters (storage_of self.new)) (end_in (running self.old).count (Act.Commits commit next.now answer) result) }
+        ensures does { CallDoes (Act.Commits commit next.now answer) self.old self.new result }
+        ensures turn { N.tells → CallTurn (Act.Commits commit next.now answer) self.old self.new result }
+        ensures spent { CallSpent (Act.Commits commit next.now answer) self.old self.new result }
         ensures wear { (first_of self.new ≡ first_of self.old) × (start_of self.new ≡ start_of self.old) }
     {
         let payload = next.write_payload();
