@@ -1,9 +1,9 @@
 -- What contracts see of a device and of its calls.
-use Rattle.std.specs.Prelude.{ℕ, List, Result}
+use Rattle.std.specs.Prelude.{ℕ, List, Result, IfSome}
 use Rattle.bench_base.specs.declared.refusals.DevFail.{DevFail}
 use Rattle.nv_model.specs.declared.nv.Nv.{Ghosts}
 use Rattle.nv_store.specs.Turns.{Turn, Spent}
-use Rattle.psd_device.specs.Shown.{IsShown}
+use Rattle.psd_device.specs.Shown.{IsShown, IsKept}
 use Rattle.psd_device.specs.Acts.{Act, Does, IsAfter, commit_in, end_in}
 use Rattle.psd_device.specs.Running.{Running}
 use Rattle.psd_device.specs.declared.device.Device.{Device}
@@ -41,3 +41,7 @@ CallTurn {g = g} act old new result =
 -- what it cost the storage
 abbrev pub CallSpent : {N A : Type 0} {g : Ghosts N} → Act A → Device N g → Device N g → Result A DevFail → Type 0
 CallSpent {g = g} act old new result = Spent 6 (g.meters (storage_of old)) (g.meters (storage_of new)) (end_in (running old).count act result)
+
+-- the record of its commit can be kept
+abbrev pub CallKeeps : {N A : Type 0} {g : Ghosts N} → Act A → Device N g → Type 0
+CallKeeps act old = IfSome (commit_in (running old).count act) (λ x. IsKept x.1)

@@ -1,5 +1,5 @@
 -- What a running device that hasn't failed knows of its storage, and what holds of each.
-use Rattle.std.proofs.Common.{◌≡◌, ◌↔◌, ℕ, ◌<◌, ◌^◌, List, Option, Some, None, IfSome, false, refl, sym, ◌∙◌, subst, arith, inl, inr}
+use Rattle.std.proofs.Common.{◌≡◌, ◌↔◌, ℕ, ◌<◌, ◌^◌, List, Option, Some, None, IfSome, false, refl, sym, ◌∙◌, subst, arith, inl, inr, ap}
 use Rattle.std.proofs.lemmas.Bool.{cases_eq}
 use Rattle.nv_model.specs.declared.nv.Nv.{Ghosts}
 use Rattle.nv_model.specs.Moments.{Image}
@@ -7,6 +7,8 @@ use Rattle.nv_store.specs.Slot.{Held}
 use Rattle.nv_store.specs.Store.{one_held, Shows, OnlyShows}
 use Rattle.nv_store.specs.Knows.{holds_shows, none_held, some_held}
 use Rattle.psd_state.specs.State.{State}
+use Rattle.psd_state.specs.Payload.{bytes_of}
+use Rattle.psd_state.proofs.Parted.{one-payload}
 use Rattle.psd_device.specs.Shown.{IsShown, IsKept, device_held}
 use Rattle.psd_device.specs.DeviceView.{storage_of, running}
 use Rattle.psd_device.specs.declared.device.Device.{Device}
@@ -36,6 +38,24 @@ blank_held count payload (Some s) is = let both : (count ≡ 0 → ◌≡◌ {A 
 if_some : {A : Type 0} (P : A → Type 0) (o : Option A) → ((x : A) → o ≡ Some x → P x) → IfSome o P
 if_some P None each = tt
 if_some P (Some x) each = each x refl
+
+-- an image shows one number of commits and one record
+pub one_shown : (a b : ℕ) (o p : Option State) (image : List ℕ) → IfSome o IsKept → IfSome p IsKept → (a ≡ 0) ↔ (o ≡ None) → (b ≡ 0) ↔ (p ≡ None) → IsShown a o image → IsShown b p image → (a ≡ b) × (o ≡ p)
+one_shown a b o p image kept kept' blank blank' shows shows' = by_record o p kept kept' blank blank' (sym (shows.each 0 (omega arith)) ∙ shows'.each 0 (omega arith))
+  where
+    by_record : (o p : Option State) → IfSome o IsKept → IfSome p IsKept → (a ≡ 0) ↔ (o ≡ None) → (b ≡ 0) ↔ (p ≡ None) → device_held a o ≡ device_held b p → (a ≡ b) × (o ≡ p)
+    by_record None None kept kept' blank blank' same = (blank.1 refl ∙ sym (blank'.1 refl), refl)
+    by_record None (Some t) kept kept' blank blank' same = absurd (differs same)
+      where
+        differs : ◌≡◌ {A = Option Held} None (Some (b, bytes_of t)) → ⊥
+        differs e = cc
+    by_record (Some s) None kept kept' blank blank' same = absurd (differs same)
+      where
+        differs : ◌≡◌ {A = Option Held} (Some (a, bytes_of s)) None → ⊥
+        differs e = cc
+    by_record (Some s) (Some t) kept kept' blank blank' same =
+        let pair : ◌≡◌ {A = Held} (a, bytes_of s) (b, bytes_of t) = cc in
+        (ap (λ (h : Held). h.0) pair, ap (λ (x : State). Some x) (one-payload s t kept.holds kept'.holds kept.ranges kept'.ranges (ap (λ (h : Held). h.1) pair)))
 
 module _ {N : Type 0} {g : Ghosts N} (d : Device N g) where
   -- the only image is what a read gives, and it shows the device's commits and record

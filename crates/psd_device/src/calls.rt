@@ -20,7 +20,7 @@ use psd_state::DevStatus;
 use psd_wire::DebitMsg;
 
 impl<N: Nv> Device<N> {
-    ghost use Rattle.psd_device.specs.DeviceView.{storage_of, running, first_of, start_of, CallDoes, CallTurn, CallSpent};
+    ghost use Rattle.psd_device.specs.DeviceView.{storage_of, running, first_of, start_of, CallDoes, CallTurn, CallSpent, CallKeeps};
 
     /// Makes the device under a key. `Made` exactly where it was made before.
     pub fn make(&mut self, key: &Key) -> Result<(), DevFail>
@@ -31,6 +31,8 @@ impl<N: Nv> Device<N> {
             → CallTurn (make_act (running self.old).device key.now (running self.old).state) self.old self.new result }
         ensures spent { (running self.old).torn ≡ None
             → CallSpent (make_act (running self.old).device key.now (running self.old).state) self.old self.new result }
+        ensures next { (running self.old).torn ≡ None
+            → CallKeeps (make_act (running self.old).device key.now (running self.old).state) self.old }
         ensures kept { IfSome (running self.new).state IsKept }
         ensures size { N.size (storage_of self.new) ≡ 3424 }
         ensures wear { (first_of self.new ≡ first_of self.old) × (start_of self.new ≡ start_of self.old) }
@@ -49,6 +51,8 @@ impl<N: Nv> Device<N> {
             → CallTurn (debit_act first_rules (running self.old).device command.now day (running self.old).state) self.old self.new result }
         ensures spent { (running self.old).torn ≡ None
             → CallSpent (debit_act first_rules (running self.old).device command.now day (running self.old).state) self.old self.new result }
+        ensures next { (running self.old).torn ≡ None
+            → CallKeeps (debit_act first_rules (running self.old).device command.now day (running self.old).state) self.old }
         ensures kept { IfSome (running self.new).state IsKept }
         ensures size { N.size (storage_of self.new) ≡ 3424 }
         ensures wear { (first_of self.new ≡ first_of self.old) × (start_of self.new ≡ start_of self.old) }
@@ -73,6 +77,8 @@ impl<N: Nv> Device<N> {
             → CallTurn (ask_act first_rules (running self.old).device kind customer amount day (running self.old).state) self.old self.new result }
         ensures spent { (running self.old).torn ≡ None
             → CallSpent (ask_act first_rules (running self.old).device kind customer amount day (running self.old).state) self.old self.new result }
+        ensures next { (running self.old).torn ≡ None
+            → CallKeeps (ask_act first_rules (running self.old).device kind customer amount day (running self.old).state) self.old }
         ensures kept { IfSome (running self.new).state IsKept }
         ensures size { N.size (storage_of self.new) ≡ 3424 }
         ensures wear { (first_of self.new ≡ first_of self.old) × (start_of self.new ≡ start_of self.old) }
@@ -92,6 +98,8 @@ impl<N: Nv> Device<N> {
             → CallTurn (take_act first_rules (running self.old).device bytes.now day (running self.old).state) self.old self.new result }
         ensures spent { (running self.old).torn ≡ None
             → CallSpent (take_act first_rules (running self.old).device bytes.now day (running self.old).state) self.old self.new result }
+        ensures next { (running self.old).torn ≡ None
+            → CallKeeps (take_act first_rules (running self.old).device bytes.now day (running self.old).state) self.old }
         ensures kept { IfSome (running self.new).state IsKept }
         ensures size { N.size (storage_of self.new) ≡ 3424 }
         ensures wear { (first_of self.new ≡ first_of self.old) × (start_of self.new ≡ start_of self.old) }
