@@ -1,0 +1,8 @@
+use Rattle.script_text.proofs.EventWords.{spelled, words_spelled}
+use Rattle.script_text.proofs.events.read_event.Goals as goal
+
+pub returns-in-Some-clause-found : goal.returns-in-Some-clause-found
+returns-in-Some-clause-found c = (c.in-Some.ensures.read.0, spelled c.in-Some.event c.args.line.now c.in-Some.ensures.read.1)
+
+pub returns-in-None-clause-none : goal.returns-in-None-clause-none
+returns-in-None-clause-none c = λ e whole spells. c.in-None.ensures.read e whole (words_spelled e c.args.line.now whole spells)

@@ -1,0 +1,96 @@
+//! The event that a line of the script spells.
+ghost use Rattle.std.specs.Prelude.{[], ◌∷◌, ◌↔◌, IfOk, IfErr, IsTrue};
+ghost use Rattle.bench_base.specs.Ranges.{IsWholeEvent};
+ghost use Rattle.bench_base.specs.declared.events.Event.{Event};
+ghost use Rattle.script_text.specs.Grammar.{Spells, IsSkipped};
+ghost use Rattle.script_text.specs.Reading.{IsEventOf, IsEventBehind};
+ghost use Rattle.script_text.specs.Words.{words_in};
+
+use crate::forms;
+use crate::keyword::{Keyword, read_keyword};
+use crate::word::split_word;
+use bench_base::events::Event;
+
+/// No event has the line.
+#[derive(Clone, Copy, Debug, PartialEq, Eq)]
+pub struct LineFault;
+
+// The event of a line of one word.
+fn read_alone(word: &[u8]) -> Option<Event>
+    ensures read { IsEventOf (word.now ∷ []) result }
+{
+    match word {
+        b"rates" => Some(Event::Rates),
+        b"end" => Some(Event::End),
+        _ => None,
+    }
+}
+
+// The event of a keyword and the words behind it.
+fn read_behind(keyword: Keyword, rest: &[u8]) -> Option<Event>
+    ensures read { IsEventBehind keyword (words_in rest.now) result }
+{
+    match keyword {
+        Keyword::Rates => None,
+        Keyword::End => None,
+        Keyword::Day => forms::day(rest),
+        Keyword::Make => forms::make(rest),
+        Keyword::On => forms::on(rest),
+        Keyword::Off => forms::off(rest),
+        Keyword::Cut => forms::cut(rest),
+        Keyword::Debit => forms::debit(rest),
+        Keyword::Ask => forms::ask(rest),
+        Keyword::Resend => forms::resend(rest),
+        Keyword::Ack => forms::ack(rest),
+        Keyword::Status => forms::status(rest),
+        Keyword::Register => forms::register(rest),
+        Keyword::Customer => forms::customer(rest),
+        Keyword::Deposit => forms::deposit(rest),
+        Keyword::Suspend => forms::suspend(rest),
+        Keyword::Resume => forms::resume(rest),
+        Keyword::Balance => forms::balance(rest),
+        Keyword::Deliver => forms::deliver(rest),
+        Keyword::Give => forms::give(rest),
+        Keyword::Order => forms::order(rest),
+        Keyword::Send => forms::send(rest),
+        Keyword::Print => forms::print(rest),
+        Keyword::Close => forms::close(rest),
+        Keyword::Trust => forms::trust(rest),
+        Keyword::Scan => forms::scan(rest),
+        Keyword::Reconcile => forms::reconcile(rest),
+    }
+}
+
+// The event of the words of a line.
+fn read_words(line: &[u8]) -> Option<Event>
+    ensures read { IsEventOf (words_in line.now) result }
+{
+    match split_word(line) {
+        Some((word, rest)) => match read_keyword(word) {
+            Some(keyword) => read_behind(keyword, rest),
+            None => None,
+        },
+        None => read_alone(line),
+    }
+}
+
+/// The event that the line spells; an error exactly where it spells none.
+pub fn read_event(line: &[u8]) -> Result<Event, LineFault>
+    ensures found { IfOk result (λ e. IsWholeEvent e × Spells e line.now) }
+    ensures none { IfErr result (λ fault. (e : Event) → IsWholeEvent e → Spells e line.now → ⊥) }
+{
+    match read_words(line) {
+        Some(event) => Ok(event),
+        None => Err(LineFault),
+    }
+}
+
+/// Whether the line does nothing: it is empty, or begins with `#`.
+pub fn is_skipped(line: &[u8]) -> bool
+    ensures { IsTrue result ↔ IsSkipped line.now }
+{
+    match line {
+        [] => true,
+        [first, ..] => *first == b'#',
+    }
+}

@@ -1,0 +1,11 @@
+//! The lines of a script and the lines of a report: what events and replies are written as.
+#![tactic(auto)]
+
+mod digits;
+mod events;
+mod forms;
+mod keyword;
+mod values;
+mod word;
+
+pub use events::{LineFault, is_skipped, read_event};
