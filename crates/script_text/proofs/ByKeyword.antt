@@ -23,31 +23,31 @@ same v w = eqb (code v) (code w)
 abbrev keyword_in : List ℕ → Keyword
 keyword_in w =
     cond (same w (codes "day")) kw.Day
-    (    cond (same w (codes "rates")) kw.Rates
-    (    cond (same w (codes "make")) kw.Make
-    (    cond (same w (codes "on")) kw.On
-    (    cond (same w (codes "off")) kw.Off
-    (    cond (same w (codes "cut")) kw.Cut
-    (    cond (same w (codes "debit")) kw.Debit
-    (    cond (same w (codes "ask")) kw.Ask
-    (    cond (same w (codes "resend")) kw.Resend
-    (    cond (same w (codes "ack")) kw.Ack
-    (    cond (same w (codes "status")) kw.Status
-    (    cond (same w (codes "register")) kw.Register
-    (    cond (same w (codes "customer")) kw.Customer
-    (    cond (same w (codes "deposit")) kw.Deposit
-    (    cond (same w (codes "suspend")) kw.Suspend
-    (    cond (same w (codes "resume")) kw.Resume
-    (    cond (same w (codes "balance")) kw.Balance
-    (    cond (same w (codes "deliver")) kw.Deliver
-    (    cond (same w (codes "give")) kw.Give
-    (    cond (same w (codes "order")) kw.Order
-    (    cond (same w (codes "send")) kw.Send
-    (    cond (same w (codes "print")) kw.Print
-    (    cond (same w (codes "close")) kw.Close
-    (    cond (same w (codes "trust")) kw.Trust
-    (    cond (same w (codes "scan")) kw.Scan
-    (    cond (same w (codes "reconcile")) kw.Reconcile
+    (cond (same w (codes "rates")) kw.Rates
+    (cond (same w (codes "make")) kw.Make
+    (cond (same w (codes "on")) kw.On
+    (cond (same w (codes "off")) kw.Off
+    (cond (same w (codes "cut")) kw.Cut
+    (cond (same w (codes "debit")) kw.Debit
+    (cond (same w (codes "ask")) kw.Ask
+    (cond (same w (codes "resend")) kw.Resend
+    (cond (same w (codes "ack")) kw.Ack
+    (cond (same w (codes "status")) kw.Status
+    (cond (same w (codes "register")) kw.Register
+    (cond (same w (codes "customer")) kw.Customer
+    (cond (same w (codes "deposit")) kw.Deposit
+    (cond (same w (codes "suspend")) kw.Suspend
+    (cond (same w (codes "resume")) kw.Resume
+    (cond (same w (codes "balance")) kw.Balance
+    (cond (same w (codes "deliver")) kw.Deliver
+    (cond (same w (codes "give")) kw.Give
+    (cond (same w (codes "order")) kw.Order
+    (cond (same w (codes "send")) kw.Send
+    (cond (same w (codes "print")) kw.Print
+    (cond (same w (codes "close")) kw.Close
+    (cond (same w (codes "trust")) kw.Trust
+    (cond (same w (codes "scan")) kw.Scan
+    (cond (same w (codes "reconcile")) kw.Reconcile
     kw.End)))))))))))))))))))))))))
 
 keyword_in-word : (k : Keyword) → keyword_in (keyword_word k) ≡ k

@@ -1,3 +1,4 @@
+pub mod Built
 pub mod ByKeyword
 pub mod EventWords
 pub mod HexDigits

@@ -81,8 +81,8 @@ no_scan_hex ws z k small is = no_event kw.Scan ws (
 pub no_scan : (ws : List (List ℕ)) → ((n : ℕ) (m : Msg) (k : ℕ) → n < 2 ^ 32 → Unit {0} → k < 2 ^ 32 → ws ≢ decimal n ∷ codes "msg" ∷ decimal k ∷ [])
     → ((n : ℕ) (m : Hex) (g : List ℕ) → n < 2 ^ 32 → Unit {0} → IsGiven g → ws ≢ decimal n ∷ codes "hex" ∷ given_word g ∷ []) → AreNoWords (codes "scan" ∷ ws)
 no_scan ws msg hex = no_event kw.Scan ws (
-  (λ n k whole are. msg n (record { }) k whole.1 tt whole.2 (behind _ _ _ _ are)),
-  (λ n g whole are. hex n (record { }) g whole.1 tt whole.2 (behind _ _ _ _ are)),
+  (λ n k whole are. msg n (record {}) k whole.1 tt whole.2 (behind _ _ _ _ are)),
+  (λ n g whole are. hex n (record {}) g whole.1 tt whole.2 (behind _ _ _ _ are)),
 )
 
 -- words behind a keyword that stands alone

@@ -2,7 +2,7 @@
 use Rattle.std.proofs.Common.{◌≡◌, ◌≢◌, ℕ, ◌+◌, ◌-◌, ◌<◌, length-drop, List, [], ◌∷◌, ◌++◌, length, get_or, take, drop, refl, sym, ap, ◌∙◌, arith, subst, eqb}
 use Rattle.std.proofs.lemmas.Bool.{ne_eqb, cond-false}
 use Rattle.std.proofs.lemmas.Bool.Decides.{eqb_tells}
-use Rattle.std.proofs.lemmas.List.{take_more, take_all}
+use Rattle.std.proofs.lemmas.List.{take_more, take_all, append-nil}
 use Rattle.std.proofs.Math.Seq.{split_at}
 use Rattle.std.proofs.Common.{add-one, inl, inr}
 use Rattle.script_text.specs.Words.{words_in, joined, longer}
@@ -88,15 +88,15 @@ joined-words_in [] = refl
 joined-words_in (c ∷ line) =
     elim (eqb_tells c 32) [
       | inl x ↦
-        ap (λ (d : ℕ). joined (words_in (d ∷ line))) x.1 ∙ ap joined (at_space line) ∙ joined-space (words_in line) (words_in-some line)
-        ∙ ap (λ (l : List ℕ). 32 ∷ l) (joined-words_in line) ∙ ap (λ (d : ℕ). d ∷ line) (sym x.1)
+          ap (λ (d : ℕ). joined (words_in (d ∷ line))) x.1 ∙ ap joined (at_space line) ∙ joined-space (words_in line) (words_in-some line)
+          ∙ ap (λ (l : List ℕ). 32 ∷ l) (joined-words_in line) ∙ ap (λ (d : ℕ). d ∷ line) (sym x.1)
       | inr x ↦
-        ap joined (at_byte c line x.1) ∙ joined-longer c (words_in line) (words_in-some line) ∙ ap (λ (l : List ℕ). c ∷ l) (joined-words_in line)
+          ap joined (at_byte c line x.1) ∙ joined-longer c (words_in line) (words_in-some line) ∙ ap (λ (l : List ℕ). c ∷ l) (joined-words_in line)
     ]
 
 -- words without spaces, joined, have these words
 pub words_in-joined : (w : List ℕ) (ws : List (List ℕ)) → AreSolid (w ∷ ws) → words_in (joined (w ∷ ws)) ≡ w ∷ ws
-words_in-joined w [] h = words_in-solid w h.0
+words_in-joined w [] h = ap words_in (append-nil w) ∙ words_in-solid w h.0
 words_in-joined w (v ∷ ws) h = words_in-first w (joined (v ∷ ws)) h.0 ∙ ap (λ (t : List (List ℕ)). w ∷ t) (words_in-joined v ws h.1)
 
 -- a line of more words than one

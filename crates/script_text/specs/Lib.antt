@@ -1,4 +1,6 @@
 pub mod Grammar
 pub mod Keywords
 pub mod Reading
+pub mod Refusals
+pub mod Texts
 pub mod Words

@@ -1,15 +1,20 @@
 -- The words of a line, and how each kind of word is spelled.
 use Rattle.std.specs.Prelude.{ℕ, ◌≤◌, ◌⊎◌, List, [], ◌∷◌, ◌++◌, ◌==◌, if◌then◌else◌, Bool, true, false, codes, decimal}
-use Rattle.std.specs.List.{join_with_byte}
 use Rattle.hex.specs.Hex.{encode_lower}
 use Rattle.bench_base.specs.declared.words.Kind.{Kind}
 use Rattle.bench_base.specs.declared.words.Kind.TheVariants.{Enrol, Reset, Audit, Refund, Withdraw}
 use Rattle.bench_base.specs.declared.words.Node.{Node}
 use Rattle.bench_base.specs.declared.words.Node.TheVariants.{Device, Centre, Host, Verifier}
 
+-- the words in a row, with one space before each
+abbrev pub spaced : List (List ℕ) → List ℕ
+spaced [] = []
+spaced (w ∷ ws) = 32 ∷ (w ++ spaced ws)
+
 -- the words in a row, with exactly one space between each two
 abbrev pub joined : List (List ℕ) → List ℕ
-joined ws = join_with_byte 32 ws
+joined [] = []
+joined (w ∷ ws) = w ++ spaced ws
 
 -- a byte more at the front of the first word
 abbrev pub longer : ℕ → List (List ℕ) → List (List ℕ)

@@ -27,7 +27,8 @@ pub fn number(word: &[u8]) -> Option<u64>
 fn has_lower_digits(word: &[u8]) -> bool
     ensures lower { IsTrue result ↔ EachIndex word.now (λ k. IsLowerDigit (slice_index word.now k)) }
 {
-    word.iter().all(|byte| matches!(byte, b'0'..=b'9' | b'a'..=b'f'))
+    word.iter()
+        .all(|byte| matches!(byte, b'0'..=b'9' | b'a'..=b'f'))
 }
 
 /// Whether the word has two lower-case hexadecimal digits for each byte of the room; these are then its bytes.

@@ -5,7 +5,12 @@ mod digits;
 mod events;
 mod forms;
 mod keyword;
+mod line;
+mod refusals;
+mod replies;
 mod values;
 mod word;
 
 pub use events::{LineFault, is_skipped, read_event};
+pub use line::Line;
+pub use replies::write_reply;

@@ -5,7 +5,7 @@ ghost use Rattle.script_text.specs.Words.{device_word, node_word, hex_word, byte
 ghost use Rattle.bench_base.specs.Ranges.{IsWord, IsDevice, IsCustomer, IsNode, IsKey, IsGiven};
 
 use crate::digits::{number, read_hex};
-use crate::word::{after, Word};
+use crate::word::{Word, after};
 use bench_base::bytes::Given;
 use bench_base::numbers::{Customer, DevNo};
 use bench_base::words::{Key, Kind, Node};
@@ -88,7 +88,11 @@ impl Word for Key {
 
     fn read(word: &[u8]) -> Option<Key> {
         let mut key = [0; 32];
-        if read_hex(word, &mut key) { Some(key) } else { None }
+        if read_hex(word, &mut key) {
+            Some(key)
+        } else {
+            None
+        }
     }
 }
 
@@ -103,7 +107,11 @@ impl Word for Byte {
 
     fn read(word: &[u8]) -> Option<Byte> {
         let mut byte = [0];
-        if read_hex(word, &mut byte) { Some(Byte(byte[0])) } else { None }
+        if read_hex(word, &mut byte) {
+            Some(Byte(byte[0]))
+        } else {
+            None
+        }
     }
 }
 
@@ -113,7 +121,11 @@ fn read_bytes(word: &[u8], room: &mut [u8]) -> Option<Given>
     ensures found { IfSome result (λ g. IsGiven g × (word.now ≡ given_word g)) }
     ensures none { IfNone result ((bytes : List ℕ) → length bytes ≡ length room.old → IsBytes bytes → word.now ≢ hex_word bytes) }
 {
-    if read_hex(word, room) { Given::new(room) } else { None }
+    if read_hex(word, room) {
+        Given::new(room)
+    } else {
+        None
+    }
 }
 
 impl Word for Given {
@@ -169,7 +181,11 @@ impl Word for Msg {
     ghost fits = { λ m. Unit {0} };
 
     fn read(word: &[u8]) -> Option<Msg> {
-        if word == b"msg".as_slice() { Some(Msg) } else { None }
+        if word == b"msg".as_slice() {
+            Some(Msg)
+        } else {
+            None
+        }
     }
 }
 
@@ -183,6 +199,10 @@ impl Word for Hex {
     ghost fits = { λ m. Unit {0} };
 
     fn read(word: &[u8]) -> Option<Hex> {
-        if word == b"hex".as_slice() { Some(Hex) } else { None }
+        if word == b"hex".as_slice() {
+            Some(Hex)
+        } else {
+            None
+        }
     }
 }
