@@ -1,7 +1,9 @@
 pub mod Built
 pub mod ByKeyword
 pub mod EventWords
+pub mod EventsBack
 pub mod HexDigits
 pub mod LineForms
 pub mod Numbers
+pub mod ReadBack
 pub mod Splits

@@ -5,6 +5,7 @@ mod digits;
 mod events;
 mod forms;
 mod keyword;
+pub mod laws;
 mod line;
 mod refusals;
 mod replies;

@@ -1,0 +1,10 @@
+//! Laws of the lines: each is the contract of a call that does nothing.
+ghost use Rattle.std.specs.Prelude.{◌≡◌, ℕ, List};
+ghost use Rattle.bench_base.specs.Ranges.{IsWholeEvent};
+ghost use Rattle.bench_base.specs.declared.events.Event.{Event};
+ghost use Rattle.script_text.specs.Grammar.{Spells, IsSkipped};
+
+/// A line spells at most one whole event.
+pub fn one_event()
+    ensures law { (e f : Event) (line : List ℕ) → IsWholeEvent e → IsWholeEvent f → Spells e line → Spells f line → e ≡ f }
+{}
