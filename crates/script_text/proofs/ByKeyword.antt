@@ -110,11 +110,11 @@ keyword_of (ev.ScanHex scan bytes) = kw.Scan
 keyword_of (ev.Reconcile d) = kw.Reconcile
 keyword_of ev.End = kw.End
 
-abbrev first_word : List (List ℕ) → List ℕ
+abbrev pub first_word : List (List ℕ) → List ℕ
 first_word [] = []
 first_word (w ∷ ws) = w
 
-begins : (e : Event) (ws : List (List ℕ)) → AreWordsOf e ws → first_word ws ≡ keyword_word (keyword_of e)
+pub begins : (e : Event) (ws : List (List ℕ)) → AreWordsOf e ws → first_word ws ≡ keyword_word (keyword_of e)
 begins (ev.Day t) ws h = ap first_word h.2
 begins ev.Rates ws h = ap first_word h
 begins (ev.Make d key) ws h = ap first_word h

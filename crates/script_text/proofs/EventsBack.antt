@@ -1,5 +1,5 @@
 -- An event is told by its words.
-use Rattle.std.proofs.Common.{◌≡◌, ◌≢◌, ℕ, ℤ, ◌≤◌, ◌<◌, List, [], ◌∷◌, ◌++◌, length, Bool, true, false, cond, refl, sym, ap, ◌∙◌, arith, codes, decimal}
+use Rattle.std.proofs.Common.{◌≡◌, ◌≢◌, ℕ, ℤ, ◌≤◌, ◌<◌, List, [], ◌∷◌, ◌++◌, length, Bool, true, false, cond, refl, sym, ap, subst, ◌∙◌, arith, codes, decimal}
 use Rattle.bench_base.specs.declared.words.Kind.{Kind}
 use Rattle.bench_base.specs.declared.words.Kind.TheVariants.{Enrol, Reset, Audit, Refund, Withdraw}
 use Rattle.bench_base.specs.declared.words.Node.{Node}
@@ -7,10 +7,15 @@ use Rattle.bench_base.specs.declared.words.Node.TheVariants.{Device, Centre, Hos
 use Rattle.bench_base.specs.declared.events.Event.{Event}
 use Rattle.bench_base.specs.declared.events.Event.TheVariants as ev
 use Rattle.bench_base.specs.Ranges.{IsWholeEvent, IsAsk, IsDevice, IsNode, TakesBytes}
-use Rattle.script_text.specs.Grammar.{AreWordsOf, words_of, ask_words, Spells}
-use Rattle.script_text.specs.Words.{words_in, device_word}
+use Rattle.script_text.specs.Grammar.{AreWordsOf, words_of, ask_words, Spells, IsSkipped}
+use Rattle.script_text.specs.Words.{words_in, joined, device_word}
+use Rattle.script_text.specs.Keywords.{keyword_word}
+use Rattle.script_text.specs.declared.keyword.Keyword.{Keyword}
+use Rattle.script_text.specs.declared.keyword.Keyword.TheVariants as kw
+use Rattle.script_text.proofs.ByKeyword.{begins, first_word, keyword_of}
+use Rattle.script_text.proofs.DayTexts.{date_of}
 use Rattle.script_text.proofs.EventWords.{words_spelled}
-use Rattle.script_text.proofs.ReadBack.{same, at, number_in, device_in, node_in, hex_in, byte_in, given_in, kind_in, date_in, IsIn, word_again, class_again, small_again, device_again, node_again, hex_again, byte_again, given_again, kind_again, date_again}
+use Rattle.script_text.proofs.ReadBack.{same, at, first_byte, number_in, device_in, node_in, hex_in, byte_in, given_in, kind_in, date_in, IsIn, word_again, class_again, small_again, device_again, node_again, hex_again, byte_again, given_again, kind_again, date_again}
 
 abbrev ask_in : Kind → ℕ → ℕ → Event
 ask_in Enrol d n = ev.Ask d Enrol n 0
@@ -102,3 +107,51 @@ event_again (ev.Reconcile d) ws h are = let e0 = device_again d h in ap event_in
 pub one_event_of : (e f : Event) (line : List ℕ) → IsWholeEvent e → IsWholeEvent f → Spells e line → Spells f line → e ≡ f
 one_event_of e f line u v s t =
     sym (event_again e (words_in line) u (words_spelled e line u s)) ∙ event_again f (words_in line) v (words_spelled f line v t)
+
+-- each whole event has a line
+pub each_event_of : (e : Event) → IsWholeEvent e → (line : List ℕ) × Spells e line
+each_event_of (ev.Day t) h =
+    let date = date_of t h.0 h.1 in
+    let ws = words_of (ev.Day t) ++ date.0 ∷ [] in
+    (joined ws, (ws, (date.0, date.1, refl), refl))
+each_event_of e h = (joined (words_of e), (words_of e, refl, refl))
+
+-- a keyword begins with a letter
+letters : (k : Keyword) → 35 < first_byte (keyword_word k)
+letters kw.Day = omega arith
+letters kw.Rates = omega arith
+letters kw.Make = omega arith
+letters kw.On = omega arith
+letters kw.Off = omega arith
+letters kw.Cut = omega arith
+letters kw.Debit = omega arith
+letters kw.Ask = omega arith
+letters kw.Resend = omega arith
+letters kw.Ack = omega arith
+letters kw.Status = omega arith
+letters kw.Register = omega arith
+letters kw.Customer = omega arith
+letters kw.Deposit = omega arith
+letters kw.Suspend = omega arith
+letters kw.Resume = omega arith
+letters kw.Balance = omega arith
+letters kw.Deliver = omega arith
+letters kw.Give = omega arith
+letters kw.Order = omega arith
+letters kw.Send = omega arith
+letters kw.Print = omega arith
+letters kw.Close = omega arith
+letters kw.Trust = omega arith
+letters kw.Scan = omega arith
+letters kw.Reconcile = omega arith
+letters kw.End = omega arith
+
+not_skipped : (k : Keyword) (ws : List (List ℕ)) (line : List ℕ) → first_word ws ≡ keyword_word k → line ≡ joined ws → IsSkipped line → ⊥
+not_skipped k [] line first is skipped = omega (arith, letters k, ap (λ (w : List ℕ). first_byte w) first)
+not_skipped k ([] ∷ ws) line first is skipped = omega (arith, letters k, ap (λ (w : List ℕ). first_byte w) first)
+not_skipped k ((c ∷ w) ∷ ws) line first is skipped =
+    let hash : c ≡ 35 = subst IsSkipped is skipped in omega (arith, letters k, ap (λ (v : List ℕ). first_byte v) first, hash)
+
+-- no event's line is skipped
+pub no_event_skipped : (e : Event) (line : List ℕ) → Spells e line → IsSkipped line → ⊥
+no_event_skipped e line s skipped = not_skipped (keyword_of e) s.0 line (begins e s.0 s.1) s.2 skipped

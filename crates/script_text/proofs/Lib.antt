@@ -1,5 +1,6 @@
 pub mod Built
 pub mod ByKeyword
+pub mod DayTexts
 pub mod EventWords
 pub mod EventsBack
 pub mod HexDigits

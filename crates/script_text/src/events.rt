@@ -1,5 +1,5 @@
 //! The event that a line of the script spells.
-ghost use Rattle.std.specs.Prelude.{[], ◌∷◌, ◌↔◌, IfOk, IfErr, IsTrue};
+ghost use Rattle.std.specs.Prelude.{[], ◌∷◌, ◌↔◌, ◌≡◌, Ok, IfOk, IfErr, IsTrue};
 ghost use Rattle.bench_base.specs.Ranges.{IsWholeEvent};
 ghost use Rattle.bench_base.specs.declared.events.Event.{Event};
 ghost use Rattle.script_text.specs.Grammar.{Spells, IsSkipped};
@@ -78,6 +78,7 @@ fn read_words(line: &[u8]) -> Option<Event>
 pub fn read_event(line: &[u8]) -> Result<Event, LineFault>
     ensures found { IfOk result (λ e. IsWholeEvent e × Spells e line.now) }
     ensures none { IfErr result (λ fault. (e : Event) → IsWholeEvent e → Spells e line.now → ⊥) }
+    ensures only { (e : Event) → IsWholeEvent e → Spells e line.now → result ≡ Ok e }
 {
     match read_words(line) {
         Some(event) => Ok(event),

@@ -8,3 +8,13 @@ ghost use Rattle.script_text.specs.Grammar.{Spells, IsSkipped};
 pub fn one_event()
     ensures law { (e f : Event) (line : List ℕ) → IsWholeEvent e → IsWholeEvent f → Spells e line → Spells f line → e ≡ f }
 {}
+
+/// Each whole event has a line.
+pub fn each_event()
+    ensures law { (e : Event) → IsWholeEvent e → (line : List ℕ) × Spells e line }
+{}
+
+/// No line of an event is skipped.
+pub fn no_event_skipped()
+    ensures law { (e : Event) (line : List ℕ) → Spells e line → IsSkipped line → ⊥ }
+{}

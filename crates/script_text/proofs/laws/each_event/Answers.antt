@@ -1,0 +1,5 @@
+use Rattle.script_text.proofs.EventsBack.{each_event_of}
+use Rattle.script_text.proofs.laws.each_event.Goals as goal
+
+pub returns : goal.returns
+returns c = record { law = each_event_of }

@@ -1,0 +1,5 @@
+use Rattle.script_text.proofs.EventsBack.{no_event_skipped}
+use Rattle.script_text.proofs.laws.no_event_skipped.Goals as goal
+
+pub returns : goal.returns
+returns c = record { law = no_event_skipped }
