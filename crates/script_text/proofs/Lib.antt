@@ -7,4 +7,5 @@ pub mod HexDigits
 pub mod LineForms
 pub mod Numbers
 pub mod ReadBack
+pub mod ReplyWords
 pub mod Splits

@@ -3,4 +3,5 @@ pub mod Keywords
 pub mod Reading
 pub mod Refusals
 pub mod Texts
+pub mod Told
 pub mod Words
