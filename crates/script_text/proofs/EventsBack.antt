@@ -54,7 +54,7 @@ event_in ws =
     (cond (same (at ws 0) (codes "reconcile")) (ev.Reconcile (device_in (at ws 1)))
     ev.End)))))))))))))))))))))))))
 
-node_is : (n : Node) → IsNode n → IsIn n
+pub node_is : (n : Node) → IsNode n → IsIn n
 node_is (Device d) h = h
 node_is Centre h = tt
 node_is Host h = tt

@@ -7,5 +7,7 @@ pub mod HexDigits
 pub mod LineForms
 pub mod Numbers
 pub mod ReadBack
+pub mod RefusalsBack
+pub mod RepliesBack
 pub mod ReplyWords
 pub mod Splits

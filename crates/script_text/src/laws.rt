@@ -2,6 +2,9 @@
 ghost use Rattle.std.specs.Prelude.{◌≡◌, ℕ, List};
 ghost use Rattle.bench_base.specs.Ranges.{IsWholeEvent};
 ghost use Rattle.bench_base.specs.declared.events.Event.{Event};
+ghost use Rattle.bench_base.specs.declared.events.Reply.{Reply};
+ghost use Rattle.script_text.specs.Texts.{text_of};
+ghost use Rattle.script_text.specs.Told.{IsWholeReply, told};
 ghost use Rattle.script_text.specs.Grammar.{Spells, IsSkipped};
 
 /// A line spells at most one whole event.
@@ -17,4 +20,9 @@ pub fn each_event()
 /// No line of an event is skipped.
 pub fn no_event_skipped()
     ensures law { (e : Event) (line : List ℕ) → Spells e line → IsSkipped line → ⊥ }
+{}
+
+/// A text is that of at most one whole reply, but for the number in a fault of a mark, which it doesn't tell.
+pub fn one_reply()
+    ensures law { (r s : Reply) → IsWholeReply r → IsWholeReply s → text_of r ≡ text_of s → told r ≡ told s }
 {}

@@ -1,0 +1,5 @@
+use Rattle.script_text.proofs.RepliesBack.{one_reply_of}
+use Rattle.script_text.proofs.laws.one_reply.Goals as goal
+
+pub returns : goal.returns
+returns c = record { law = one_reply_of }
