@@ -35,7 +35,11 @@ next_day : (n : ℕ) (c : Civil (pos n)) → c.date < days_in_month (pos c.year)
 next_day n c inside =
     let step = days_from_civil-day (pos c.year) c.month c.date (c.date + 1) c.dates.0 (omega arith) in
     record {
-      year = c.year; month = c.month; date = c.date + 1; near = c.near; months = c.months;
+      year = c.year;
+      month = c.month;
+      date = c.date + 1;
+      near = c.near;
+      months = c.months;
       dates = (omega arith, omega (arith, inside));
       number = omega (arith, ints, step, c.number);
     }
@@ -47,7 +51,11 @@ next_month : (n : ℕ) (c : Civil (pos n)) → c.date ≡ days_in_month (pos c.y
 next_month n c last inside =
     let step = days_from_civil-next_month (pos c.year) c.month c.date c.months.0 last in
     record {
-      year = c.year; month = c.month + 1; date = 1; near = c.near; months = (omega arith, omega (arith, inside));
+      year = c.year;
+      month = c.month + 1;
+      date = 1;
+      near = c.near;
+      months = (omega arith, omega (arith, inside));
       dates = (omega arith, some_day (pos c.year) (c.month + 1));
       number = omega (arith, ints, step, c.number);
     }
@@ -57,11 +65,15 @@ next_year n early c last december =
     let date : c.date ≡ 31 = last ∙ ap (λ (m : ℕ). days_in_month (pos c.year) m) december in
     let day : days_from_civil (pos c.year) 12 31 ≡ pos n = ap (λ (m : ℕ). days_from_civil (pos c.year) m 31) (sym december) ∙ ap (λ (d : ℕ). days_from_civil (pos c.year) c.month d) (sym date) ∙ c.number in
     let not_last : c.year ≢ 9999 = λ e.
-        let far : pos 2932896 ≡ pos n = sym days_from_civil-max ∙ ap (λ (y : ℕ). days_from_civil (pos y) 12 31) (sym e) ∙ day in omega (arith, ints, far, early)
+    let far : pos 2932896 ≡ pos n = sym days_from_civil-max ∙ ap (λ (y : ℕ). days_from_civil (pos y) 12 31) (sym e) ∙ day in omega (arith, ints, far, early)
     in
     let step = days_from_civil-next_year (pos c.year) (pos (c.year + 1)) (omega (arith, ints)) (omega (arith, ints)) in
     record {
-      year = c.year + 1; month = 1; date = 1; near = omega (arith, c.near, not_last); months = (omega arith, omega arith);
+      year = c.year + 1;
+      month = 1;
+      date = 1;
+      near = omega (arith, c.near, not_last);
+      months = (omega arith, omega arith);
       dates = (omega arith, some_day (pos (c.year + 1)) 1);
       number = omega (arith, ints, step, day);
     }
@@ -71,11 +83,11 @@ next n early c =
     elim (cases_lt c.date (days_in_month (pos c.year) c.month)) [
       | inl inside ↦ next_day n c inside
       | inr past ↦
-        let last : c.date ≡ days_in_month (pos c.year) c.month = omega (arith, past, c.dates.1) in
-        elim (cases_lt c.month 12) [
-          | inl more ↦ next_month n c last more
-          | inr december ↦ next_year n early c last (omega (arith, december, c.months.1))
-        ]
+          let last : c.date ≡ days_in_month (pos c.year) c.month = omega (arith, past, c.dates.1) in
+          elim (cases_lt c.month 12) [
+            | inl more ↦ next_month n c last more
+            | inr december ↦ next_year n early c last (omega (arith, december, c.months.1))
+          ]
     ]
 
 first : Civil (pos 10957)

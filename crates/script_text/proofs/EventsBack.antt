@@ -30,7 +30,7 @@ event_in ws =
     (cond (same (at ws 0) (codes "suspend")) (ev.Flag (number_in (at ws 1)) true)
     (cond (same (at ws 0) (codes "resume")) (ev.Flag (number_in (at ws 1)) false)
     (cond (same (at ws 0) (codes "scan"))
-        (cond (same (at ws 2) (codes "msg")) (ev.ScanMsg (number_in (at ws 1)) (number_in (at ws 3))) (ev.ScanHex (number_in (at ws 1)) (given_in (at ws 3))))
+    (cond (same (at ws 2) (codes "msg")) (ev.ScanMsg (number_in (at ws 1)) (number_in (at ws 3))) (ev.ScanHex (number_in (at ws 1)) (given_in (at ws 3))))
     (cond (same (at ws 0) (codes "rates")) ev.Rates
     (cond (same (at ws 0) (codes "make")) (ev.Make (device_in (at ws 1)) (hex_in (at ws 2)))
     (cond (same (at ws 0) (codes "on")) (ev.On (node_in (at ws 1)))

@@ -9,6 +9,8 @@ pub mod laws;
 mod line;
 mod refusals;
 mod replies;
+#[cfg(test)]
+mod tests;
 mod values;
 mod word;
 

@@ -52,8 +52,8 @@ impl Line {
         self.len = end;
     }
 
-    /// Adds a space and the words.
-    pub fn word(&mut self, words: &[u8])
+    // Adds a space and the words.
+    pub(crate) fn word(&mut self, words: &[u8])
         requires { length self.old + length words.now ≤ 255 }
         ensures value { self.new ≡ self.old ++ 32 ∷ words.now }
         ensures long { length self.new ≡ length self.old + 1 + length words.now }
@@ -62,8 +62,8 @@ impl Line {
         self.put(words);
     }
 
-    /// Adds a space and the number in decimal digits, with a minus sign where it is below zero.
-    pub fn number<I: Integer>(&mut self, number: I)
+    // Adds a space and the number in decimal digits, with a minus sign where it is below zero.
+    pub(crate) fn number<I: Integer>(&mut self, number: I)
         requires { length self.old ≤ 215 }
         ensures value { self.new ≡ self.old ++ 32 ∷ I.text number }
         ensures short { length self.new ≤ length self.old + 1 + I.MAX_STR_LEN }
@@ -73,8 +73,8 @@ impl Line {
         self.word(buffer.format(number).as_bytes());
     }
 
-    /// Adds the name of a number, and the number, a space before each.
-    pub fn named<I: Integer>(&mut self, name: &[u8], number: I)
+    // Adds the name of a number, and the number, a space before each.
+    pub(crate) fn named<I: Integer>(&mut self, name: &[u8], number: I)
         requires { length self.old + length name.now ≤ 214 }
         ensures value { self.new ≡ self.old ++ 32 ∷ (name.now ++ 32 ∷ I.text number) }
         ensures short { length self.new ≤ length self.old + length name.now + 2 + I.MAX_STR_LEN }
@@ -83,8 +83,8 @@ impl Line {
         self.number(number);
     }
 
-    /// Adds a space and the name of the device.
-    pub fn device(&mut self, device: DevNo)
+    // Adds a space and the name of the device.
+    pub(crate) fn device(&mut self, device: DevNo)
         requires { length self.old ≤ 200 }
         ensures value { self.new ≡ self.old ++ 32 ∷ device_word device }
         ensures short { length self.new ≤ length self.old + 12 }
@@ -94,8 +94,8 @@ impl Line {
         self.put(buffer.format(device.get()).as_bytes());
     }
 
-    /// Adds a space and the name of the node.
-    pub fn node(&mut self, node: Node)
+    // Adds a space and the name of the node.
+    pub(crate) fn node(&mut self, node: Node)
         requires { length self.old ≤ 200 }
         ensures value { self.new ≡ self.old ++ 32 ∷ node_word node }
         ensures short { length self.new ≤ length self.old + 12 }
@@ -108,8 +108,8 @@ impl Line {
         }
     }
 
-    /// Adds a space and `again` or `new`.
-    pub fn again(&mut self, again: bool)
+    // Adds a space and `again` or `new`.
+    pub(crate) fn again(&mut self, again: bool)
         requires { length self.old ≤ 200 }
         ensures value { self.new ≡ self.old ++ 32 ∷ new_word again }
         ensures short { length self.new ≤ length self.old + 12 }
@@ -117,8 +117,8 @@ impl Line {
         self.word(if again { b"again" } else { b"new" });
     }
 
-    /// Adds a space and the kind.
-    pub fn kind(&mut self, kind: Kind)
+    // Adds a space and the kind.
+    pub(crate) fn kind(&mut self, kind: Kind)
         requires { length self.old ≤ 240 }
         ensures value { self.new ≡ self.old ++ 32 ∷ kind_word kind }
         ensures short { length self.new ≤ length self.old + 12 }
@@ -133,7 +133,7 @@ impl Line {
     }
 }
 
-/// A line that begins with these words.
+// A line that begins with these words.
 pub fn starting(words: &[u8]) -> Line
     requires { length words.now ≤ 20 }
     ensures value { result ≡ words.now }
@@ -143,7 +143,7 @@ pub fn starting(words: &[u8]) -> Line
     line
 }
 
-/// A line of these words and a number.
+// A line of these words and a number.
 pub fn numbered<I: Integer>(words: &[u8], number: I) -> Line
     requires { length words.now ≤ 20 }
     ensures value { result ≡ words.now ++ 32 ∷ I.text number }
@@ -154,7 +154,7 @@ pub fn numbered<I: Integer>(words: &[u8], number: I) -> Line
     line
 }
 
-/// A line of these words and a device.
+// A line of these words and a device.
 pub fn of_device(words: &[u8], device: DevNo) -> Line
     requires { length words.now ≤ 20 }
     ensures value { result ≡ words.now ++ 32 ∷ device_word device }
@@ -165,7 +165,7 @@ pub fn of_device(words: &[u8], device: DevNo) -> Line
     line
 }
 
-/// A line of these words and a node.
+// A line of these words and a node.
 pub fn of_node(words: &[u8], node: Node) -> Line
     requires { length words.now ≤ 20 }
     ensures value { result ≡ words.now ++ 32 ∷ node_word node }

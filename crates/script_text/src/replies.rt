@@ -65,28 +65,28 @@ fn marked_line(device: DevNo, piece: u32, again: bool, mark: &[u8; 64]) -> Line
 }
 
 #[tactic(auto, unfolding(crate::specs::Texts::reply_words))]
-fn sent_request_line(device: DevNo, number: u32, message: u32) -> Line
-    ensures value { result ≡ text_of (Reply.SentRequest device number message) }
+fn sent_request_line(device: DevNo, number: u32, msg: u32) -> Line
+    ensures value { result ≡ text_of (Reply.SentRequest device number msg) }
     ensures short { length result ≤ 255 }
 {
     let mut line = of_device(b"sent", device);
     line.word(b"request");
     line.number(number);
     line.word(b"msg");
-    line.number(message);
+    line.number(msg);
     line
 }
 
 #[tactic(auto, unfolding(crate::specs::Texts::reply_words))]
-fn sent_done_line(device: DevNo, number: u32, message: u32) -> Line
-    ensures value { result ≡ text_of (Reply.SentDone device number message) }
+fn sent_done_line(device: DevNo, number: u32, msg: u32) -> Line
+    ensures value { result ≡ text_of (Reply.SentDone device number msg) }
     ensures short { length result ≤ 255 }
 {
     let mut line = of_device(b"sent", device);
     line.word(b"done");
     line.number(number);
     line.word(b"msg");
-    line.number(message);
+    line.number(msg);
     line
 }
 
@@ -113,8 +113,8 @@ fn balance_line(customer: Customer, total: u64) -> Line
 }
 
 #[tactic(auto, unfolding(crate::specs::Texts::reply_words))]
-fn ruled_line(device: DevNo, number: u32, verdict: Verdict, again: bool, message: u32) -> Line
-    ensures value { result ≡ text_of (Reply.Ruled device number verdict again message) }
+fn ruled_line(device: DevNo, number: u32, verdict: Verdict, again: bool, msg: u32) -> Line
+    ensures value { result ≡ text_of (Reply.Ruled device number verdict again msg) }
     ensures short { length result ≤ 255 }
 {
     let mut line = of_device(b"ruled", device);
@@ -123,7 +123,7 @@ fn ruled_line(device: DevNo, number: u32, verdict: Verdict, again: bool, message
     line.number(verdict_code(verdict));
     line.again(again);
     line.word(b"msg");
-    line.number(message);
+    line.number(msg);
     line
 }
 
@@ -151,15 +151,15 @@ fn applied_line(device: DevNo, number: u32, verdict: Verdict) -> Line
 }
 
 #[tactic(auto, unfolding(crate::specs::Texts::reply_words))]
-fn released_line(device: DevNo, piece: u32, again: bool, message: u32) -> Line
-    ensures value { result ≡ text_of (Reply.Released device piece again message) }
+fn released_line(device: DevNo, piece: u32, again: bool, msg: u32) -> Line
+    ensures value { result ≡ text_of (Reply.Released device piece again msg) }
     ensures short { length result ≤ 255 }
 {
     let mut line = of_device(b"released", device);
     line.number(piece);
     line.again(again);
     line.word(b"msg");
-    line.number(message);
+    line.number(msg);
     line
 }
 
@@ -175,13 +175,13 @@ fn ordered_line(job: u32, postage: u32) -> Line
 }
 
 #[tactic(auto, unfolding(crate::specs::Texts::reply_words))]
-fn sent_debit_line(job: u32, message: u32) -> Line
-    ensures value { result ≡ text_of (Reply.SentDebit job message) }
+fn sent_debit_line(job: u32, msg: u32) -> Line
+    ensures value { result ≡ text_of (Reply.SentDebit job msg) }
     ensures short { length result ≤ 255 }
 {
     let mut line = numbered(b"sent host debit", job);
     line.word(b"msg");
-    line.number(message);
+    line.number(msg);
     line
 }
 
@@ -335,37 +335,33 @@ pub fn write_reply(reply: &Reply) -> Line
         Reply::Down(node) => of_node(b"down", *node),
         Reply::CutSet(node) => of_node(b"cut", *node),
         Reply::Marked(device, piece, again, mark) => marked_line(*device, *piece, *again, mark),
-        Reply::SentRequest(device, number, message) => sent_request_line(
-            *device, *number, *message,
-        ),
-        Reply::SentDone(device, number, message) => sent_done_line(*device, *number, *message),
+        Reply::SentRequest(device, number, msg) => sent_request_line(*device, *number, *msg),
+        Reply::SentDone(device, number, msg) => sent_done_line(*device, *number, *msg),
         Reply::Registered(device) => of_device(b"registered", *device),
         Reply::Opened(customer) => numbered(b"opened", customer.get()),
-        Reply::Deposited(customer, receipt, again, total) => deposited_line(
-            *customer, *receipt, *again, *total,
-        ),
+        Reply::Deposited(customer, receipt, again, total) => {
+            deposited_line(*customer, *receipt, *again, *total)
+        }
         Reply::Balance(customer, total) => balance_line(*customer, *total),
-        Reply::Ruled(device, number, verdict, again, message) => ruled_line(
-            *device, *number, *verdict, *again, *message,
-        ),
+        Reply::Ruled(device, number, verdict, again, msg) => {
+            ruled_line(*device, *number, *verdict, *again, *msg)
+        }
         Reply::Settled(device, number, again) => settled_line(*device, *number, *again),
         Reply::Applied(device, number, verdict) => applied_line(*device, *number, *verdict),
-        Reply::Released(device, piece, again, message) => released_line(
-            *device, *piece, *again, *message,
-        ),
+        Reply::Released(device, piece, again, msg) => released_line(*device, *piece, *again, *msg),
         Reply::Held(job) => numbered(b"held", *job),
         Reply::Ordered(job, postage) => ordered_line(*job, *postage),
-        Reply::SentDebit(job, message) => sent_debit_line(*job, *message),
+        Reply::SentDebit(job, msg) => sent_debit_line(*job, *msg),
         Reply::Printed(job) => numbered(b"printed", *job),
         Reply::PrinterFault(job) => numbered(b"printer fault", *job),
         Reply::Closed(job) => numbered(b"closed", *job),
         Reply::Trusted(device) => of_device(b"trusted", *device),
-        Reply::Accepted(device, piece, scan, again) => accepted_line(
-            *device, *piece, *scan, *again,
-        ),
+        Reply::Accepted(device, piece, scan, again) => {
+            accepted_line(*device, *piece, *scan, *again)
+        }
         Reply::End => starting(b"end"),
         Reply::NoDay => starting(b"no day"),
-        Reply::NoMessage(message) => numbered(b"no message", *message),
+        Reply::NoMessage(msg) => numbered(b"no message", *msg),
         Reply::OffNode(node) => of_node(b"off", *node),
         Reply::OnAlready(node) => of_node(b"on already", *node),
         Reply::Power(node) => of_node(b"power", *node),
@@ -374,9 +370,9 @@ pub fn write_reply(reply: &Reply) -> Line
         Reply::Damaged(node) => of_node(b"damaged", *node),
         Reply::Status(device, view) => status_line(*device, *view),
         Reply::Flagged(customer, suspended) => flagged_line(*customer, *suspended),
-        Reply::Reconciled(device, own, centre, flight) => reconciled_line(
-            *device, *own, *centre, *flight,
-        ),
+        Reply::Reconciled(device, own, centre, flight) => {
+            reconciled_line(*device, *own, *centre, *flight)
+        }
         Reply::DevRefused(device, refusal) => dev_refused_line(*device, *refusal),
         Reply::CentreRefused(refusal) => centre_refused_line(*refusal),
         Reply::HostRefused(refusal) => host_refused_line(*refusal),
