@@ -1,5 +1,5 @@
 -- An event is told by its words.
-use Rattle.std.proofs.Common.{◌≡◌, ◌≢◌, ℕ, ℤ, ◌≤◌, ◌<◌, List, [], ◌∷◌, ◌++◌, length, Bool, true, false, cond, refl, sym, ap, subst, ◌∙◌, arith, codes, decimal}
+use Rattle.std.proofs.Common.{◌≡◌, ℕ, ◌<◌, List, [], ◌∷◌, ◌++◌, true, false, cond, refl, sym, ap, subst, ◌∙◌, arith, codes}
 use Rattle.bench_base.specs.declared.words.Kind.{Kind}
 use Rattle.bench_base.specs.declared.words.Kind.TheVariants.{Enrol, Reset, Audit, Refund, Withdraw}
 use Rattle.bench_base.specs.declared.words.Node.{Node}
@@ -15,7 +15,7 @@ use Rattle.script_text.specs.declared.keyword.Keyword.TheVariants as kw
 use Rattle.script_text.proofs.ByKeyword.{begins, first_word, keyword_of}
 use Rattle.script_text.proofs.DayTexts.{date_of}
 use Rattle.script_text.proofs.EventWords.{words_spelled}
-use Rattle.script_text.proofs.ReadBack.{same, at, first_byte, number_in, device_in, node_in, hex_in, byte_in, given_in, kind_in, date_in, IsIn, word_again, class_again, small_again, device_again, node_again, hex_again, byte_again, given_again, kind_again, date_again}
+use Rattle.script_text.proofs.ReadBack.{same, at, first_byte, number_in, device_in, node_in, hex_in, byte_in, given_in, kind_in, date_in, IsIn, word_again, class_again, small_again, device_again, node_again, hex_again, byte_again, given_again, date_again}
 
 abbrev ask_in : Kind → ℕ → ℕ → Event
 ask_in Enrol d n = ev.Ask d Enrol n 0

@@ -1,12 +1,11 @@
 -- Words are read back: what each kind of word is the word of.
-use Rattle.std.proofs.Common.{◌≡◌, ◌≢◌, ℕ, zero, suc, ℤ, pos, negsuc, ◌+◌, ◌-◌, ◌*◌, ◌^◌, ◌≤◌, ◌<◌, ◌++◌, List, [], ◌∷◌, length, get_or, drop, take, Bool, true, false, eqb, cond, Result, Ok, Err, refl, sym, ap, ◌∙◌, subst, arith, inl, inr, ◌⊎◌, decimal, codes}
+use Rattle.std.proofs.Common.{◌≡◌, ◌≢◌, ℕ, zero, suc, ℤ, pos, negsuc, ◌-◌, ◌^◌, ◌≤◌, ◌<◌, List, [], ◌∷◌, get_or, drop, take, Bool, true, false, eqb, cond, refl, sym, ap, ◌∙◌, arith, inl, inr, decimal, codes}
 use Rattle.std.specs.Fmt.{signed_decimal}
 use Rattle.std.specs.Result.{result_unwrap_or}
-use Rattle.std.specs.Prelude.{slice_index}
 use Rattle.std.proofs.lemmas.Bool.{ne_eqb, cond-false}
 use Rattle.std.proofs.lemmas.Fmt.{digits_value-decimal, digits_decimal, decimal_nonempty}
 use Rattle.std.proofs.lemmas.Str.Parse.{not_in_digits}
-use Rattle.hex.specs.Hex.{decode_of, encode_lower, encode_with, lower_digits}
+use Rattle.hex.specs.Hex.{decode_of, encode_with}
 use Rattle.hex.proofs.HexLemmas.{decode_of-encode_lower}
 use Rattle.jiff_core.specs.Calendar.{days_from_civil}
 use Rattle.psd_audit.specs.Dates.{IsDateText, read_on}

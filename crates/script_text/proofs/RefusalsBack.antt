@@ -1,19 +1,15 @@
 -- A refusal is told by its words.
-use Rattle.std.proofs.Common.{◌≡◌, ◌≢◌, ℕ, ℤ, ◌≤◌, ◌<◌, List, [], ◌∷◌, length, drop, Bool, true, false, Option, Some, None, cond, eqb, refl, sym, ap, ◌∙◌, arith, codes}
+use Rattle.std.proofs.Common.{◌≡◌, ℕ, List, cond, refl, ap, arith, codes}
 use Rattle.bench_base.specs.declared.words.Phase.{Phase}
 use Rattle.bench_base.specs.declared.words.Phase.TheVariants as phase
 use Rattle.bench_base.specs.declared.words.JobState.{JobState}
 use Rattle.bench_base.specs.declared.words.JobState.TheVariants as state
-use Rattle.bench_base.specs.declared.words.Kind.{Kind}
-use Rattle.bench_base.specs.declared.words.Verdict.{Verdict}
-use Rattle.bench_base.specs.declared.words.Verdict.TheVariants as verdict
 use Rattle.bench_base.specs.declared.refusals.Unread.{Unread}
 use Rattle.bench_base.specs.declared.refusals.Unread.TheVariants as unread
 use Rattle.bench_base.specs.declared.refusals.DevRefusal.{DevRefusal}
 use Rattle.bench_base.specs.declared.refusals.DevRefusal.TheVariants as dev
 use Rattle.bench_base.specs.declared.refusals.CentreRefusal.{CentreRefusal}
 use Rattle.bench_base.specs.declared.refusals.CentreRefusal.TheVariants as centre
-use Rattle.bench_base.specs.declared.refusals.RateRefusal.{RateRefusal}
 use Rattle.bench_base.specs.declared.refusals.RateRefusal.TheVariants as rate
 use Rattle.bench_base.specs.declared.refusals.HostRefusal.{HostRefusal}
 use Rattle.bench_base.specs.declared.refusals.HostRefusal.TheVariants as host
@@ -21,16 +17,10 @@ use Rattle.bench_base.specs.declared.refusals.ScanRefusal.{ScanRefusal}
 use Rattle.bench_base.specs.declared.refusals.ScanRefusal.TheVariants as scan
 use Rattle.bench_base.specs.declared.refusals.MarkFault.{MarkFault}
 use Rattle.bench_base.specs.declared.refusals.MarkFault.TheVariants as fault
-use Rattle.bench_base.specs.declared.events.Reply.{Reply}
-use Rattle.bench_base.specs.declared.events.Reply.TheVariants as reply
-use Rattle.bench_base.specs.declared.events.DevView.{DevView}
-use Rattle.script_text.specs.Refusals.{phase_word, state_word, unread_word, fault_word, dev_words, centre_words, rate_words, host_words, scan_words}
-use Rattle.script_text.specs.Texts.{verdict_word, verdict_number, flagged_word, pending_word, flight_words, reply_words, text_of}
-use Rattle.script_text.specs.Told.{IsDevWhole, IsCentreWhole, IsRateWhole, IsHostWhole, IsScanWhole, IsFlight, IsWholeReply, told, told_fault, told_refusal}
-use Rattle.script_text.specs.Words.{words_in}
-use Rattle.script_text.proofs.EventsBack.{node_is}
-use Rattle.script_text.proofs.ReadBack.{same, at, first_byte, number_in, device_in, node_in, hex_in, kind_in, again_in, signed_in, number_again, word_again, class_again, small_again, device_again, node_again, hex_again, kind_again, again_again, signed_again}
-use Rattle.script_text.proofs.ReplyWords.{day_small, word_small, words_in-text_of}
+use Rattle.script_text.specs.Refusals.{phase_word, state_word, unread_word, fault_word, dev_words, centre_words, host_words, scan_words}
+use Rattle.script_text.specs.Told.{IsDevWhole, IsCentreWhole, IsHostWhole, IsScanWhole, told_fault, told_refusal}
+use Rattle.script_text.proofs.ReadBack.{same, at, number_in, kind_in, signed_in, number_again, word_again, class_again, small_again, kind_again, signed_again}
+use Rattle.script_text.proofs.ReplyWords.{word_small}
 
 abbrev pub phase_in : List ℕ → Phase
 phase_in w = cond (same w (codes "blank")) phase.Blank (cond (same w (codes "manufactured")) phase.Manufactured (cond (same w (codes "authorised")) phase.Authorised (cond (same w (codes "in-service")) phase.InService (cond (same w (codes "locked")) phase.Locked phase.Withdrawn))))

@@ -1,5 +1,5 @@
 -- The ranges of the numbers in a reply, and what its text tells of it.
-use Rattle.std.specs.Prelude.{◌≡◌, ℕ, ◌<◌, ◌^◌, List, length, Option, Some, None, FitsSigned}
+use Rattle.std.specs.Prelude.{◌≡◌, ℕ, ◌<◌, ◌^◌, length, Option, Some, None, FitsSigned}
 use Rattle.std.specs.Int.{w32}
 use Rattle.bench_base.specs.declared.words.Kind.{Kind}
 use Rattle.bench_base.specs.declared.refusals.DevRefusal.{DevRefusal}

@@ -1,4 +1,4 @@
-use Rattle.std.proofs.Common.{Ok, ap, sym, ◌∙◌}
+use Rattle.std.proofs.Common.{Ok, ap}
 use Rattle.script_text.proofs.EventWords.{spelled, words_spelled}
 use Rattle.script_text.proofs.EventsBack.{one_event_of}
 use Rattle.script_text.proofs.events.read_event.Goals as goal
