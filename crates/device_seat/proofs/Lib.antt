@@ -1,0 +1,4 @@
+pub mod Booted
+pub mod Called
+pub mod Owns
+pub mod Rests

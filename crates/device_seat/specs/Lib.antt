@@ -1,0 +1,4 @@
+pub mod Calls
+pub mod Seats
+pub mod Starts
+pub mod Views
