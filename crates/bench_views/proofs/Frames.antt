@@ -1,0 +1,89 @@
+-- A commit of one device leaves the record of another as it is, also the record that follows from an open commit of its own.
+use Rattle.std.proofs.Common.{◌≡◌, ℕ, true, false, List, ◌∷◌, Option, Some, None, refl, sym, ◌∙◌}
+use Rattle.std.specs.Prelude.{◌==◌, ◌≢◌}
+use Rattle.std.proofs.lemmas.Bool.{ne_eqb, eq-eqb}
+use Rattle.bench_base.specs.declared.words.Node.TheVariants.{Device}
+use Rattle.bench_base.specs.declared.ledger.Commit.{Commit}
+use Rattle.bench_base.specs.declared.ledger.Commit.TheVariants.{Made, Asked, Applied, Debited}
+use Rattle.bench_base.specs.Nodes.{node_of}
+use Rattle.bench_base.specs.Ledger.{count_of}
+use Rattle.psd_wire.specs.Franking.{mark_after}
+use Rattle.bench_views.specs.Devices.{record_in, record_with}
+
+-- a commit of device i, and one of another device
+abbrev pub IsOwn : ℕ → Commit → Type 0
+IsOwn i (Made e key) = (e == i) ≡ true
+IsOwn i (Asked e n note) = (e == i) ≡ true
+IsOwn i (Applied e n v) = (e == i) ≡ true
+IsOwn i (Debited e piece postage class day version) = (e == i) ≡ true
+IsOwn i _ = ⊥
+
+abbrev pub IsOther : ℕ → Commit → Type 0
+IsOther i (Made e key) = (e == i) ≡ false
+IsOther i (Asked e n note) = (e == i) ≡ false
+IsOther i (Applied e n v) = (e == i) ≡ false
+IsOther i (Debited e piece postage class day version) = (e == i) ≡ false
+IsOther i _ = ⊥
+
+pub one-device : (e d : ℕ) → Device e ≡ Device d → e ≡ d
+one-device e d h = cc
+
+pub own-is : (i : ℕ) (c : Commit) → node_of c ≡ Device i → IsOwn i c
+own-is i (Made e key) h = eq-eqb e i (one-device e i h)
+own-is i (Asked e n note) h = eq-eqb e i (one-device e i h)
+own-is i (Applied e n v) h = eq-eqb e i (one-device e i h)
+own-is i (Debited e piece postage class day version) h = eq-eqb e i (one-device e i h)
+own-is i _ h = cc
+
+apart : (e d i : ℕ) → Device e ≡ Device d → i ≢ d → (e == i) ≡ false
+apart e d i h ne = ne_eqb e i (λ same. ne (sym same ∙ one-device e d h))
+
+pub other-is : (d i : ℕ) (c : Commit) → i ≢ d → node_of c ≡ Device d → IsOther i c
+other-is d i (Made e key) ne h = apart e d i h ne
+other-is d i (Asked e n note) ne h = apart e d i h ne
+other-is d i (Applied e n v) ne h = apart e d i h ne
+other-is d i (Debited e piece postage class day version) ne h = apart e d i h ne
+other-is d i _ ne h = cc
+
+pub count-frame : (i : ℕ) (c : Commit) (C : List Commit) → IsOther i c → count_of (Device i) (c ∷ C) ≡ count_of (Device i) C
+count-frame i (Made e key) C h = rw h refl
+count-frame i (Asked e n note) C h = rw h refl
+count-frame i (Applied e n v) C h = rw h refl
+count-frame i (Debited e piece postage class day version) C h = rw h refl
+count-frame i _ C h = absurd h
+
+pub record-frame : (i : ℕ) (c : Commit) (C : List Commit) → IsOther i c → record_in i (c ∷ C) ≡ record_in i C
+record-frame i (Made e key) C h = rw h refl
+record-frame i (Asked e n note) C h = rw h refl
+record-frame i (Applied e n v) C h = rw h refl
+record-frame i (Debited e piece postage class day version) C h = rw h refl
+record-frame i _ C h = absurd h
+
+-- under an open commit of its own
+under : (i : ℕ) (x c : Commit) (C : List Commit) → IsOwn i x → IsOther i c → record_in i (x ∷ c ∷ C) ≡ record_in i (x ∷ C)
+unfolding mark_after
+under i (Made e key) (Made f k) C o h = simp (o, h)
+under i (Made e key) (Asked f m r) C o h = simp (o, h)
+under i (Made e key) (Applied f m w) C o h = simp (o, h)
+under i (Made e key) (Debited f q a k t u) C o h = simp (o, h)
+under i (Made e key) _ C o h = absurd h
+under i (Asked e n note) (Made f k) C o h = simp (o, h)
+under i (Asked e n note) (Asked f m r) C o h = simp (o, h)
+under i (Asked e n note) (Applied f m w) C o h = simp (o, h)
+under i (Asked e n note) (Debited f q a k t u) C o h = simp (o, h)
+under i (Asked e n note) _ C o h = absurd h
+under i (Applied e n v) (Made f k) C o h = simp (o, h)
+under i (Applied e n v) (Asked f m r) C o h = simp (o, h)
+under i (Applied e n v) (Applied f m w) C o h = simp (o, h)
+under i (Applied e n v) (Debited f q a k t u) C o h = simp (o, h)
+under i (Applied e n v) _ C o h = absurd h
+under i (Debited e p b l s v) (Made f k) C o h = simp (o, h)
+under i (Debited e p b l s v) (Asked f m r) C o h = simp (o, h)
+under i (Debited e p b l s v) (Applied f m w) C o h = simp (o, h)
+under i (Debited e p b l s v) (Debited f q a k t u) C o h = simp (o, h)
+under i (Debited e p b l s v) _ C o h = absurd h
+under i _ c C o h = absurd o
+
+pub with-frame : (i : ℕ) (x : Option Commit) (c : Commit) (C : List Commit) → ((y : Commit) → x ≡ Some y → IsOwn i y) → IsOther i c → record_with i (c ∷ C) x ≡ record_with i C x
+with-frame i None c C o h = refl
+with-frame i (Some y) c C o h = under i y c C (o y refl) h

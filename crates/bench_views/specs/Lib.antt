@@ -1,0 +1,3 @@
+pub mod Taken
+pub mod Devices
+pub mod Follows
