@@ -1,0 +1,9 @@
+pub mod Acts
+pub mod Begun
+pub mod Blank
+pub mod Frames
+pub mod Making
+pub mod Over
+pub mod Quiet
+pub mod Seated
+pub mod Told

@@ -1,0 +1,4 @@
+pub mod Benches
+pub mod Costs
+pub mod Steps
+pub mod Turns

@@ -1,0 +1,121 @@
+-- What one event does to the bench.
+use Rattle.std.specs.Prelude.{◌≡◌, ◌≢◌, ◌⊎◌, ◌↔◌, ℕ, ℤ, ◌+◌, List, [], ◌∷◌, Bool, true, false, Some, length, slice_get}
+use Rattle.bench_base.specs.declared.words.Node.TheVariants.{Device}
+use Rattle.bench_base.specs.declared.ledger.Commit.{Commit}
+use Rattle.bench_base.specs.declared.events.Event.{Event}
+use Rattle.bench_base.specs.declared.events.Event.TheVariants as ev
+use Rattle.bench_base.specs.declared.events.Reply.{Reply}
+use Rattle.bench_base.specs.declared.events.Reply.TheVariants as r
+use Rattle.bench_base.specs.Rules.{first_rules}
+use Rattle.bench_base.specs.Nodes.{node_of}
+use Rattle.bench_base.specs.Ledger.{Ledger, count_of, counted}
+use Rattle.nv_model.specs.declared.nv.Nv.{Ghosts}
+use Rattle.nv_model.specs.declared.fused.Fused.{Fused}
+use Rattle.psd_device.specs.Shown.{IsShown}
+use Rattle.device_seat.specs.declared.seat.Seat.{Seat}
+use Rattle.psd_device.specs.Acts.{IsAfter}
+use Rattle.device_seat.specs.Views.{View, Allowed}
+use Rattle.device_seat.specs.Seats.{is_seated, is_on, times_of, meters_of, SeatStands, IsArmed}
+use Rattle.bench_views.specs.Taken.{device_of}
+use Rattle.bench_views.specs.Devices.{record_in, view_of, device_plan, commit_by, MayReply, view_after}
+use Rattle.ledger_laws.specs.Tariffs.{Tariff}
+use Rattle.ledger_laws.specs.Moves.{plan, after}
+use Rattle.bench.specs.declared.coming.Turn.{Turn}
+use Rattle.bench.specs.Turns.{in_order}
+use Rattle.bench.specs.Costs.{Charged, tells_power, tells_fault, tells_cut}
+
+-- == a stop within a step ==
+
+-- an image of device d that shows its counted commits and the commit of the event
+abbrev pub ShowsCommit : Tariff → Ledger → Event → ℕ → List ℕ → Type 0
+ShowsCommit τ H e d image = (c : Commit) × ((plan τ first_rules H e []).commit ≡ Some c) × (node_of c ≡ Device d)
+    × IsShown (count_of (Device d) (counted H) + 1) (record_in d (c ∷ counted H)) image
+
+-- at every moment since the event began, each image of each device shows what the bench stood for, or that and the commit of the event
+abbrev pub AtAnyMoment : {M : Type 0} (g : Ghosts M) → Tariff → Ledger → Event → List (Seat M g) → List (Seat M g) → Type 0
+AtAnyMoment {M} g τ H e old new = (i : ℕ) (s t : Seat M g) → slice_get old i ≡ Some s → slice_get new i ≡ Some t → (image : List ℕ)
+    → (times_of g t).since (times_of g s).moment image → Allowed (view_of (i + 1) H) image ⊎ ShowsCommit τ H e (i + 1) image
+
+-- == whatever the storages tell ==
+
+-- each storage is charged with what the reply tells of it, and no more
+abbrev pub EachCharged : {M : Type 0} (g : Ghosts M) → Reply → List (Seat M g) → List (Seat M g) → Type 0
+EachCharged {M} g reply old new = (i : ℕ) (s t : Seat M g) → slice_get old i ≡ Some s → slice_get new i ≡ Some t
+    → Charged (i + 1) reply (meters_of g s) (meters_of g t)
+
+-- the event leaves all seats but that of its device as they are
+abbrev pub OthersStay : {M : Type 0} (g : Ghosts M) → Event → List (Seat M g) → List (Seat M g) → Type 0
+OthersStay g e old new = (i : ℕ) → device_of e ≢ Some (i + 1) → slice_get new i ≡ slice_get old i
+
+-- each event but a day and the end needs a day
+abbrev pub NeedsDay : Event → Type 0
+NeedsDay (ev.Day t) = ⊥
+NeedsDay ev.End = ⊥
+NeedsDay _ = Unit {0}
+
+-- the event needs its device to be on
+abbrev pub NeedsOn : Event → Type 0
+NeedsOn (ev.Make d key) = Unit {0}
+NeedsOn (ev.Off n) = Unit {0}
+NeedsOn (ev.Debit d piece postage class) = Unit {0}
+NeedsOn (ev.Status d) = Unit {0}
+NeedsOn _ = ⊥
+
+-- whether a device is on after an event of it with this reply
+abbrev pub on_after : Reply → Bool → Bool
+on_after (r.Up n k) was = true
+on_after (r.Down n) was = false
+on_after (r.Power n) was = false
+on_after (r.Fault n) was = false
+on_after (r.Damaged n) was = false
+on_after reply was = was
+
+-- what an event of device d on a day answers by whether the device is on, and whether it is on afterwards
+pub record Switches (d : ℕ) (e : Event) (reply : Reply) (was is : Bool) : Type 0 where
+  pub off : NeedsOn e → (reply ≡ r.OffNode (Device d)) ↔ (was ≡ false)
+  pub already : e ≡ ev.On (Device d) → (reply ≡ r.OnAlready (Device d)) ↔ (was ≡ true)
+  pub leaves : is ≡ on_after reply was
+
+-- the same of the device of the event, by its seat
+abbrev pub SeatSwitches : {M : Type 0} (g : Ghosts M) → Event → Reply → List (Seat M g) → List (Seat M g) → Type 0
+SeatSwitches {M} g e reply old new = (i : ℕ) (s t : Seat M g) → slice_get old i ≡ Some s → slice_get new i ≡ Some t
+    → device_of e ≡ Some (i + 1) → Switches (i + 1) e reply (is_on g s) (is_on g t)
+
+-- a `cut` on a day arms the fuse of its device with its numbers
+abbrev pub Arms : {N : Type 0} {h : Ghosts N} {g : Ghosts (Fused N h)} → Event → List (Seat (Fused N h) g) → Type 0
+Arms {N} {h} {g} e new = (i : ℕ) (t : Seat (Fused N h) g) (calls keep byte : ℕ) → e ≡ ev.Cut (Device (i + 1)) calls keep byte → slice_get new i ≡ Some t
+    → IsArmed t calls keep byte
+
+-- == an event of one device ==
+
+-- the reply names no other device
+pub record Names (d : ℕ) (reply : Reply) : Type 0 where
+  pub power : (i : ℕ) → tells_power i reply ≡ true → i ≡ d
+  pub fault : (i : ℕ) → tells_fault i reply ≡ true → i ≡ d
+  pub cut : (i : ℕ) → tells_cut i reply ≡ true → i ≡ d
+
+-- what an event of device d did on that day to its seat, and what it came to
+pub record Did {N : Type 0} {h : Ghosts N} (g : Ghosts (Fused N h)) (d : ℕ) (today : ℤ) (e : Event) (s t : Seat (Fused N h) g) (turn : Turn) : Type 0 where
+  pub seated : is_seated g t ≡ true
+  pub may : (v : View) → SeatStands g d v s → g.tells → MayReply d today v e turn.reply
+  pub entries : (v : View) → SeatStands g d v s → g.tells → turn.entries ≡ in_order (after (device_plan d today v e) turn.reply [])
+  pub stands : (v : View) → SeatStands g d v s → g.tells → SeatStands g d (view_after turn.reply (commit_by d today v e) v) t
+  pub any_moment : (v : View) → SeatStands g d v s → g.tells → (image : List ℕ) → (times_of g t).since (times_of g s).moment image
+      → Allowed v image ⊎ IsAfter v.count (commit_by d today v e) image
+  pub on_day : turn.reply ≢ r.NoDay
+  pub names : Names d turn.reply
+  pub charged : Charged d turn.reply (meters_of g s) (meters_of g t)
+  pub switches : Switches d e turn.reply (is_on g s) (is_on g t)
+  pub armed : (calls keep byte : ℕ) → e ≡ ev.Cut (Device d) calls keep byte → IsArmed t calls keep byte
+
+-- what an event of a device did on that day to the seats
+pub record DidAt {N : Type 0} {h : Ghosts N} (g : Ghosts (Fused N h)) (today : ℤ) (e : Event) (old new : List (Seat (Fused N h) g)) (turn : Turn) : Type 0 where
+  pub place : ℕ
+  pub device : device_of e ≡ Some (place + 1)
+  pub before : Seat (Fused N h) g
+  pub now : Seat (Fused N h) g
+  pub was : slice_get old place ≡ Some before
+  pub is : slice_get new place ≡ Some now
+  pub size : length new ≡ length old
+  pub others : (i : ℕ) → i ≢ place → slice_get new i ≡ slice_get old i
+  pub did : Did g (place + 1) today e before now turn
