@@ -1,26 +1,57 @@
-//! The meter's program: replays a script from standard input over the plain bench, and writes the report to standard output.
+//! The meter's program: replays a script from standard input over eight devices, whose storages are files in the current
+//! folder, and writes the report to standard output.
 #![tactic(auto)]
 
+ghost use Rattle.std.specs.Prelude.{◌≡◌, IfOk, length};
+ghost use Rattle.std.specs.List.{All};
+ghost use Rattle.nv_model.specs.Meters.{Works};
+ghost use Rattle.bench.specs.Benches.{IsReady};
+
+use bench::{Bench, Stores};
 use bench_base::stream::{IoSink, IoSource};
-use script_replay::plain::Plain;
-use script_replay::run::run;
+use nv_model::{FileNv, Fused, Nv};
+use script_replay::run::{is_replay, run};
 use script_replay::status::Status;
 use std::io::BufReader;
 use std::process::ExitCode;
 use std::{env, io};
 use thiserror::Error;
 
-/// The key of device 1.
-const KEY: [u8; 32] = [1; 32];
+/// The bytes of a device's storage where it is made.
+const DEVICE_BYTES: u32 = 3424;
 
-/// The origin of device 1.
-const ORIGIN: u32 = 94_105;
+/// The storages of devices 1 to 8, in the current folder.
+const DEVICE_FILES: [&str; 8] = [
+    "device-1.nv",
+    "device-2.nv",
+    "device-3.nv",
+    "device-4.nv",
+    "device-5.nv",
+    "device-6.nv",
+    "device-7.nv",
+    "device-8.nv",
+];
 
-/// What device 1 was loaded with, in mills.
-const LOAD: u32 = 50_000;
+/// Why there is no bench: the line that it prints on standard error.
+#[derive(Clone, Copy, Debug, Drop, Error)]
+enum OpenFault {
+    #[error("no memory")]
+    Memory,
+    #[error("cannot use {0}")]
+    File(&'static str),
+}
 
-/// Why the program did not end well: the line that it prints on standard error.
-#[derive(Debug, Drop, Error)]
+impl OpenFault {
+    fn code(self) -> u8 {
+        match self {
+            OpenFault::Memory => 5,
+            OpenFault::File(_) => 7,
+        }
+    }
+}
+
+/// Why a run did not end well: the line that the program prints on standard error.
+#[derive(Clone, Copy, Debug, Drop, Error)]
 enum RunFault {
     #[error("usage: meter_run replay | meter_run generate SEED COUNT")]
     Words,
@@ -63,16 +94,59 @@ fn words_of(rt: &HostRuntime) -> io::Result<Vec<String>> {
     Ok(words)
 }
 
-fn main(rt: HostRuntime) -> io::Result<ExitCode> {
-    let words = words_of(&rt)?;
-    let mut bench = Plain::new(&KEY, ORIGIN, LOAD);
-    let mut script = IoSource::new(BufReader::new(rt.alloc(), rt.reader())?);
-    let mut report = IoSink::new(io::writer(&rt));
-    let status = run(&words, &mut script, &mut report, &mut bench);
+// The storages of the devices.
+fn open_stores(rt: &HostRuntime) -> Result<Stores<FileNv>, OpenFault>
+    ensures eight { IfOk result (λ stores. length stores.devices.items ≡ 8) }
+    ensures fresh { IfOk result (λ stores. All (λ nv. Works (⟦<FileNv as Nv>⟧.meters nv)) stores.devices.items) }
+{
+    let Ok(mut devices) = Vec::with_capacity(rt.alloc(), 8) else {
+        return Err(OpenFault::Memory);
+    };
+    for name in DEVICE_FILES {
+        let Ok(nv) = FileNv::start(rt, name, DEVICE_BYTES) else {
+            return Err(OpenFault::File(name));
+        };
+        let Ok(()) = devices.push(nv) else {
+            return Err(OpenFault::Memory);
+        };
+    }
+    Ok(Stores { devices })
+}
+
+fn open_bench(rt: &HostRuntime) -> Result<Bench<FileNv>, OpenFault>
+    ensures ready { IfOk result (λ bench. IsReady ⟦<Fused<FileNv> as Nv>⟧ bench) }
+{
+    match Bench::new(rt.alloc(), open_stores(rt)?) {
+        Ok(bench) => Ok(bench),
+        Err(_) => Err(OpenFault::Memory),
+    }
+}
+
+// Ends the program with the run's status.
+fn finish(rt: &HostRuntime, status: Status) -> io::Result<ExitCode> {
     if let Some(fault) = fault_of(status) {
         eprintln!(rt; "{fault}")?;
     }
     Ok(ExitCode::from(status.code()))
+}
+
+fn main(rt: HostRuntime) -> io::Result<ExitCode> {
+    let words = words_of(&rt)?;
+    // Bad words touch no file.
+    if !is_replay(&words) {
+        return finish(&rt, Status::Words);
+    }
+    let mut bench = match open_bench(&rt) {
+        Ok(bench) => bench,
+        Err(fault) => {
+            eprintln!(rt; "{fault}")?;
+            return Ok(ExitCode::from(fault.code()));
+        }
+    };
+    let mut script = IoSource::new(BufReader::new(rt.alloc(), rt.reader())?);
+    let mut report = IoSink::new(io::writer(&rt));
+    let status = run(rt.alloc(), &words, &mut script, &mut report, &mut bench);
+    finish(&rt, status)
 }
 
 #[cfg(test)]
@@ -102,6 +176,20 @@ mod tests {
             }
         }
         assert!(rt; fault_of(Status::Done).is_none());
+        Ok(())
+    }
+
+    #[test]
+    fn open_faults_have_their_lines(rt: HostRuntime) -> Result<(), Fail> {
+        let rows = [
+            (OpenFault::Memory, "no memory", 5),
+            (OpenFault::File("device-3.nv"), "cannot use device-3.nv", 7),
+        ];
+        for (fault, line, code) in rows {
+            let text = format!(in rt.alloc(); "{fault}")?;
+            assert_eq!(rt; text.as_str(), line);
+            assert_eq!(rt; fault.code(), code);
+        }
         Ok(())
     }
 }

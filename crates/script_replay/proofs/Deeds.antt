@@ -1,26 +1,35 @@
--- Deeds of the plain bench, one list after another, and the turns of a run.
-use Rattle.std.proofs.Common.{◌≡◌, ℕ, ◌+◌, ◌≤◌, ◌<◌, List, [], ◌∷◌, ◌++◌, length, take, drop, Option, Some, None, Bool, true, false, refl, sym, ap, ◌∙◌, arith, subst, append_assoc, append-nil, inl, inr, ◌⊎◌, take-append-drop, flat_map}
+-- Deeds of a bench, one list after another, and the turns of a run.
+use Rattle.std.proofs.Common.{◌≡◌, ◌≢◌, ℕ, ◌+◌, ◌≤◌, ◌<◌, List, [], ◌∷◌, ◌++◌, length, take, drop, Option, Some, None, Bool, true, false, refl, sym, ap, ◌∙◌, arith, subst, append_assoc, append-nil, inl, inr, ◌⊎◌, take-append-drop, flat_map}
 use Rattle.std.specs.List.{AllByRecursion}
 use Rattle.std.proofs.lemmas.Bool.{cases_lt}
 use Rattle.std.proofs.lemmas.List.{length-drop, length-append, length-take}
 use Rattle.std.proofs.KnownBytes.{Consumes-trans, Consumes-nil, Appends-trans, Appends-nil}
 use Rattle.std.specs.Io.KnownBytes.{Consumes, Appends, IsAtEnd}
 use Rattle.bench_base.specs.Ledger.{Ledger}
+use Rattle.bench_base.specs.Rules.{first_rules}
 use Rattle.bench_base.specs.declared.ledger.Entry.TheVariants.{Begin}
 use Rattle.bench_base.specs.declared.events.Event.{Event}
+use Rattle.bench_base.specs.declared.events.Event.TheVariants as event
 use Rattle.bench_base.specs.declared.events.Reply.{Reply}
-use Rattle.script_replay.specs.Bench.{Setup, Bench}
+use Rattle.nv_model.specs.declared.nv.Nv.{Ghosts}
+use Rattle.ledger_book.specs.Lawful.{Lawful}
+use Rattle.ledger_laws.specs.Histories.{History}
+use Rattle.ledger_laws.specs.Editions.{Editions}
+use Rattle.ledger_laws.specs.Laws.{ForHistories}
+use Rattle.bench.specs.declared.devices.BenchOver.{BenchOver}
+use Rattle.bench.specs.Benches.{Stands, AreSeated, Begun, IsStopped, seats_of}
+use Rattle.bench.proofs.Making.{pairs_at}
+use Rattle.script_text.specs.Grammar.{IsSkipped}
 use Rattle.script_replay.specs.declared.lines.LineRead.{LineRead}
 use Rattle.script_replay.specs.declared.lines.LineRead.TheVariants as read
-use Rattle.script_replay.specs.Grammar.{IsWhole, Spells, IsBad}
+use Rattle.script_replay.specs.Events.{IsLineOf}
 use Rattle.script_replay.specs.Lines.{IsOneLine, ended, IsLineIn, ReadsLine}
-use Rattle.script_replay.specs.Moves.{Stands, Unforged, Moves}
-use Rattle.script_replay.specs.Texts.{line_of}
 use Rattle.script_replay.specs.declared.status.Status.{Status}
 use Rattle.script_replay.specs.declared.status.Status.TheVariants as status
-use Rattle.script_replay.specs.Deeds.{Deed, Did, line_in, text_for, Reads, GoesOn, DidOver}
-use Rattle.script_replay.specs.Run.{DidDeeds, IsBadPlace, IsCutOff, DidLast, RanOut, EndsIn, Replayed}
-use Rattle.script_replay.specs.Turns.{DidEvent, Reported, Goes, Stops, Progress}
+use Rattle.script_replay.specs.Deeds.{Deed, Did, Skipped, line_in, line_of, text_for, IsOf, Reads, GoesOn}
+use Rattle.script_replay.specs.Run.{StandsFor, Unforged, Moves, DidDeeds, DidLawfully, IsBadPlace, IsCutOff, DidLast, RanOut, EndsIn, Replayed}
+use Rattle.script_replay.specs.Turns.{DidEvent, DidLine, Refused, Reported, Goes, Stops, Progress}
+use Rattle.script_replay.proofs.Counting.{still_balanced, rest_balanced, skipped_balanced, event_balanced, balanced-append}
 use Rattle.script_replay.proofs.Overs.{did_over-append}
 
 -- a front of the bytes that isn't all of them
@@ -42,32 +51,58 @@ each-append P (d ∷ a) b p q = (p.0, each-append P a b p.1 q)
 
 -- ---- what the bench did
 
-did-nothing : (b : Bench) → DidDeeds [] b b []
-did-nothing b = record { setup = refl; over = record { run = λ H s. tt; stands = λ H s u. s } }
+module _ {M N : Type 0} (g : Ghosts M) where
+  did-nothing : (b : BenchOver M N g) → DidDeeds g [] b b []
+  did-nothing b = record {
+    over = λ τ tells. record { run = λ H s. tt; stands = λ H s u. s };
+    size = refl;
+    balanced = rest_balanced g (seats_of b);
+  }
 
-pub did-begin : (old new : Bench) → new.setup ≡ old.setup → ((H : Ledger) → Stands old H → Stands new (Begin ∷ H)) → DidDeeds (Begin ∷ []) old new []
-did-begin old new same begins = record { setup = same; over = record { run = λ H s. tt; stands = λ H s u. begins H s } }
+  pub did-skipped : (b : BenchOver M N g) (line : List ℕ) → DidDeeds g [] b b (Skipped line ∷ [])
+  did-skipped b line = record {
+    over = λ τ tells. record { run = λ H s. tt; stands = λ H s u. s };
+    size = refl;
+    balanced = skipped_balanced g line (seats_of b);
+  }
 
-did-one : (old new : Bench) (line : List ℕ) (e : Event) (r : Reply) → DidEvent old new e r → DidDeeds [] old new (Did line e r ∷ [])
-did-one old new line e r did = record { setup = did.setup; over = record { run = λ H s u. (did.moves H s, tt); stands = λ H s u. did.stands H s } }
+  pub did-begin : (old new : BenchOver M N g) → AreSeated g (seats_of old) → AreSeated g (seats_of new) → ((H : Ledger) → Stands g old H → g.tells → Stands g new (Begin ∷ H))
+      → Begun g (seats_of old) (seats_of new) → DidDeeds g (Begin ∷ []) old new []
+  did-begin old new before after begins begun = record {
+    over = λ τ tells. record { run = λ H s. tt; stands = λ H s u. record { history = History.begins s.history; stands = begins H s.stands tells } };
+    size = after.eight ∙ sym before.eight;
+    balanced = still_balanced g (seats_of old) (seats_of new) (λ i s t hs ht. (pairs_at (IsStopped g) (seats_of old) (seats_of new) begun i s t hs ht).meters);
+  }
 
-pub did-append : (first : Ledger) (x y z : Bench) (a b : List Deed) → DidDeeds first x y a → DidDeeds [] y z b → DidDeeds first x z (a ++ b)
-did-append first x y z a b p q = record {
-  setup = q.setup ∙ p.setup;
-  over = did_over-append Stands Unforged (Moves x.setup) first x y z a b p.over (subst (λ (s : Setup). DidOver Stands Unforged (Moves s) [] y z b) p.setup q.over);
-}
+  pub did-one : (old new : BenchOver M N g) (line : List ℕ) (e : Event) (r : Reply) → DidEvent g old new e r → DidDeeds g [] old new (Did line e r ∷ [])
+  did-one old new line e r did = record {
+    over = λ τ tells. record {
+      run = λ H s u. (did.moves τ H s.history s.stands tells, tt);
+      stands = λ H s u. record {
+        history = History.moves e [] r s.history u.0 (did.moves τ H s.history s.stands tells);
+        stands = did.stands τ H s.history s.stands tells;
+      };
+    };
+    size = did.size;
+    balanced = event_balanced g line e r (seats_of old) (seats_of new) did.charged;
+  }
+
+  pub did-append : (first : Ledger) (x y z : BenchOver M N g) (a b : List Deed) → DidDeeds g first x y a → DidDeeds g [] y z b → DidDeeds g first x z (a ++ b)
+  did-append first x y z a b p q = record {
+    over = λ τ tells. did_over-append τ Unforged (StandsFor g τ) (Moves τ) first x y z a b (p.over τ tells) (q.over τ tells);
+    size = q.size ∙ p.size;
+    balanced = balanced-append g (seats_of x) (seats_of y) (seats_of z) a b p.size p.balanced q.balanced;
+  }
 
 -- ---- one line
 
--- a line that was read, and its event
-pub record LineTaken (left0 left1 : Option (List ℕ)) (line : List ℕ) (is_ended : Bool) (e : Event) : Type 0 where
+-- a line that was read
+pub record LineTaken (left0 left1 : Option (List ℕ)) (line : List ℕ) (is_ended : Bool) : Type 0 where
   pub bytes : List ℕ
   pub consumed : Consumes left0 left1 bytes
   pub is : IsLineIn is_ended line bytes (IsAtEnd left1)
   pub one : IsOneLine line
   pub short : length line ≤ 600
-  pub whole : IsWhole e
-  pub spells : Spells e line
 
 -- what was taken of the stream for a line that was read so
 abbrev pub ReadAs : Option (List ℕ) → Option (List ℕ) → List ℕ → LineRead → Type 0
@@ -76,64 +111,32 @@ ReadAs left0 left1 buf r = (bytes : List ℕ) × Consumes left0 left1 bytes × R
 short_line : (len : ℕ) (buf : List ℕ) → len ≤ 600 → length (take len buf) ≤ 600
 short_line len buf h = omega (arith, h, length-take len buf)
 
-pub line_taken : (left0 left1 : Option (List ℕ)) (buf : List ℕ) (len : ℕ) (is_ended flag : Bool) (e : Event) → ReadAs left0 left1 buf (read.Line len is_ended) → is_ended ≡ flag
-    → IsWhole e × Spells e (take len buf) → LineTaken left0 left1 (take len buf) flag e
-line_taken left0 left1 buf len is_ended flag e t same is = record {
+pub line_taken : (left0 left1 : Option (List ℕ)) (buf : List ℕ) (len : ℕ) (is_ended flag : Bool) → ReadAs left0 left1 buf (read.Line len is_ended) → is_ended ≡ flag
+    → LineTaken left0 left1 (take len buf) flag
+line_taken left0 left1 buf len is_ended flag t same = record {
   bytes = t.0;
   consumed = t.1;
   is = subst (λ (b : Bool). IsLineIn b (take len buf) t.0 (IsAtEnd left1)) same t.2.2;
   one = t.2.1;
   short = short_line len buf t.2.0;
-  whole = is.0;
-  spells = is.1;
 }
 
-reads_of : (left0 left1 : Option (List ℕ)) (line : List ℕ) (is_ended : Bool) (e : Event) (r : Reply) → LineTaken left0 left1 line is_ended e → Reads (Did line e r)
-reads_of left0 left1 line is_ended e r l = record { one = l.one; short = l.short; is = (l.whole, l.spells) }
+reads_of : (left0 left1 : Option (List ℕ)) (line : List ℕ) (is_ended : Bool) (d : Deed) → LineTaken left0 left1 line is_ended → line_in d ≡ line → IsOf d → Reads d
+reads_of left0 left1 line is_ended d l same is =
+    record { one = subst IsOneLine (sym same) l.one; short = subst (λ x. length x ≤ 600) (sym same) l.short; is = is }
 
-abbrev did_last : (left0 left1 : Option (List ℕ)) (line : List ℕ) (is_ended : Bool) (e : Event) (r : Reply) (l : LineTaken left0 left1 line is_ended e)
-    → DidLast l.bytes (IsAtEnd left1) (Did line e r ∷ [])
-did_last left0 left1 line is_ended e r l =
-    record { last = Did line e r; is_ended = is_ended; only = refl; reads = reads_of left0 left1 line is_ended e r l; line = l.is }
+line_of_deed : (left0 left1 : Option (List ℕ)) (line : List ℕ) (is_ended : Bool) (d : Deed) (l : LineTaken left0 left1 line is_ended) → line_in d ≡ line
+    → IsLineIn is_ended (line_in d) l.bytes (IsAtEnd left1)
+line_of_deed left0 left1 line is_ended d l same = subst (λ x. IsLineIn is_ended x l.bytes (IsAtEnd left1)) (sym same) l.is
 
--- the run goes on behind a line end
-pub event_goes : (old new : Bench) (left0 left1 taken0 taken1 : Option (List ℕ)) (line : List ℕ) (e : Event) (r : Reply)
-    → LineTaken left0 left1 line true e → DidEvent old new e r → Reported None e r taken0 taken1 → Goes old new left0 left1 taken0 taken1
-event_goes old new left0 left1 taken0 taken1 line e r l did rep = record {
-  deed = Did line e r;
-  reads = reads_of left0 left1 line true e r l;
-  goes_on = rep.0;
-  consumed = subst (Consumes left0 left1) l.is l.consumed;
-  appended = rep.1;
-  did = did-one old new line e r did;
-}
-
--- the run ends with the event
-pub event_stops : (outcome : Status) (number : ℕ) → number ≤ 1000000 → (old new : Bench) (left0 left1 taken0 taken1 : Option (List ℕ)) (line : List ℕ) (is_ended : Bool) (e : Event) (r : Reply)
-    → LineTaken left0 left1 line is_ended e → DidEvent old new e r → Reported (Some outcome) e r taken0 taken1 → Stops outcome number old new left0 left1 taken0 taken1
-event_stops status.Words number few old new left0 left1 taken0 taken1 line is_ended e r l did rep = absurd rep
-event_stops (status.Script n) number few old new left0 left1 taken0 taken1 line is_ended e r l did rep = absurd rep
-event_stops status.ReadFault number few old new left0 left1 taken0 taken1 line is_ended e r l did rep = absurd rep
-event_stops status.TooLong number few old new left0 left1 taken0 taken1 line is_ended e r l did rep = absurd rep
-event_stops status.Done number few old new left0 left1 taken0 taken1 line is_ended e r l did rep = record {
-  bytes = l.bytes;
-  done = Did line e r ∷ [];
-  text = line_of r;
-  few = λ _. few;
-  ends = (did_last left0 left1 line is_ended e r l, rep.0, refl);
-  consumed = l.consumed;
-  appended = rep.1;
-  did = did-one old new line e r did;
-}
-event_stops status.WriteFault number few old new left0 left1 taken0 taken1 line is_ended e r l did rep = record {
-  bytes = l.bytes;
-  done = Did line e r ∷ [];
-  text = rep.0;
-  few = λ _. few;
-  ends = (did_last left0 left1 line is_ended e r l, rep.2);
-  consumed = l.consumed;
-  appended = rep.1;
-  did = did-one old new line e r did;
+abbrev did_last : (left0 left1 : Option (List ℕ)) (line : List ℕ) (is_ended : Bool) (d : Deed) (l : LineTaken left0 left1 line is_ended) → line_in d ≡ line → IsOf d
+    → DidLast l.bytes (IsAtEnd left1) (d ∷ [])
+did_last left0 left1 line is_ended d l same is = record {
+  last = d;
+  is_ended = is_ended;
+  only = refl;
+  reads = reads_of left0 left1 line is_ended d l same is;
+  line = line_of_deed left0 left1 line is_ended d l same;
 }
 
 ran_out_as : (outcome : Status) (number : ℕ) → number ≤ 1000000 → (number < 1000000 → outcome ≡ status.Script (number + 1)) → (number ≡ 1000000 → outcome ≡ status.TooLong)
@@ -149,80 +152,9 @@ ran_out_as outcome number few missing long bytes end text done out =
           subst (λ (s : Status). EndsIn s number bytes end text done) (sym (long is)) at
     ]
 
--- the run ends since the script has ended behind the event's line
-pub event_runs_out : (outcome : Status) (number : ℕ) → number ≤ 1000000 → (number < 1000000 → outcome ≡ status.Script (number + 1)) → (number ≡ 1000000 → outcome ≡ status.TooLong)
-    → (old new : Bench) (left0 left1 taken0 taken1 : Option (List ℕ)) (line : List ℕ) (e : Event) (r : Reply)
-    → LineTaken left0 left1 line false e → DidEvent old new e r → Reported None e r taken0 taken1 → Stops outcome number old new left0 left1 taken0 taken1
-event_runs_out outcome number few missing long old new left0 left1 taken0 taken1 line e r l did rep = record {
-  bytes = l.bytes;
-  done = Did line e r ∷ [];
-  text = line_of r;
-  few = λ _. few;
-  ends = ran_out_as outcome number few missing long l.bytes (IsAtEnd left1) (line_of r) (Did line e r ∷ [])
-      (record { last = Did line e r; only = refl; reads = reads_of left0 left1 line false e r l; line = l.is; goes_on = rep.0; told = refl });
-  consumed = l.consumed;
-  appended = rep.1;
-  did = did-one old new line e r did;
-}
-
--- ---- one line after another
-
-pub progress_start : (b : Bench) (left taken : Option (List ℕ)) → Progress 0 b b left left taken taken
-progress_start b left taken = record {
-  deeds = [];
-  each = tt;
-  go_on = tt;
-  number = refl;
-  consumed = Consumes-nil left;
-  appended = Appends-nil taken;
-  did = did-nothing b;
-}
-
-pub progress_more : (count : ℕ) (old mid new : Bench) (a b c t u v : Option (List ℕ)) → Progress count old mid a b t u → Goes mid new b c u v → Progress (count + 1) old new a c t v
-progress_more count old mid new a b c t u v p g = record {
-  deeds = p.deeds ++ g.deed ∷ [];
-  each = each-append Reads p.deeds (g.deed ∷ []) p.each (g.reads, tt);
-  go_on = each-append GoesOn p.deeds (g.deed ∷ []) p.go_on (g.goes_on, tt);
-  number = length-append p.deeds (g.deed ∷ []) ∙ ap (λ n. n + 1) p.number;
-  consumed = subst (Consumes a c) (sym (flat-push (λ d. ended (line_in d)) p.deeds g.deed)) (Consumes-trans a b c _ _ p.consumed g.consumed);
-  appended = subst (Appends t v) (sym (flat-push text_for p.deeds g.deed)) (Appends-trans t u v _ _ p.appended g.appended);
-  did = did-append [] old mid new p.deeds (g.deed ∷ []) p.did g.did;
-}
-
-pub replayed : (outcome : Status) (count : ℕ) (old mid new : Bench) (a b c t u v : Option (List ℕ)) → Progress count old mid a b t u → Stops outcome (count + 1) mid new b c u v
-    → Replayed outcome (DidDeeds [] old new) a c t v
-replayed outcome count old mid new a b c t u v p s = record {
-  deeds = p.deeds;
-  each = p.each;
-  go_on = p.go_on;
-  rest = s.bytes;
-  done = s.done;
-  text = s.text;
-  few = λ h. subst (λ (n : ℕ). n + 1 ≤ 1000000) (sym p.number) (s.few h);
-  ends = subst (λ (n : ℕ). EndsIn outcome (n + 1) s.bytes (IsAtEnd c) s.text s.done) (sym p.number) s.ends;
-  consumed = Consumes-trans a b c _ _ p.consumed s.consumed;
-  appended = Appends-trans t u v _ _ p.appended s.appended;
-  did = did-append [] old mid new p.deeds s.done p.did s.did;
-}
-
-pub too_long : (old new : Bench) (a b t u : Option (List ℕ)) → Progress 1000000 old new a b t u → Replayed status.TooLong (DidDeeds [] old new) a b t u
-too_long old new a b t u p = replayed status.TooLong 1000000 old new new a b b t u u p (record {
-  bytes = [];
-  done = [];
-  text = [];
-  few = λ h. absurd (h refl);
-  ends = inl (refl, refl, refl, refl);
-  consumed = Consumes-nil b;
-  appended = Appends-nil u;
-  did = did-nothing new;
-})
-
--- ---- the run's beginning
-
--- a run that begins with an entry
-pub begun : (outcome : Status) (first : Ledger) (old mid new : Bench) (a b t u : Option (List ℕ)) → DidDeeds first old mid []
-    → Replayed outcome (DidDeeds [] mid new) a b t u → Replayed outcome (DidDeeds first old new) a b t u
-begun outcome first old mid new a b t u begins r = record {
+-- the same deeds, with more said of them
+said : (P Q : List Deed → Type 0) (outcome : Status) (a b t u : Option (List ℕ)) → ((deeds : List Deed) → P deeds → Q deeds) → Replayed outcome P a b t u → Replayed outcome Q a b t u
+said P Q outcome a b t u more r = record {
   deeds = r.deeds;
   each = r.each;
   go_on = r.go_on;
@@ -233,56 +165,208 @@ begun outcome first old mid new a b t u begins r = record {
   ends = r.ends;
   consumed = r.consumed;
   appended = r.appended;
-  did = did-append first old mid new [] (r.deeds ++ r.done) begins r.did;
+  did = more (r.deeds ++ r.done) r.did;
 }
 
-pub words_only : (b : Bench) (left taken : Option (List ℕ)) → Replayed status.Words (DidDeeds [] b b) left left taken taken
-words_only b left taken = record {
-  deeds = [];
-  each = tt;
-  go_on = tt;
-  rest = [];
-  done = [];
-  text = [];
-  few = λ h. omega arith;
-  ends = (refl, refl, refl, refl);
-  consumed = Consumes-nil left;
-  appended = Appends-nil taken;
-  did = did-nothing b;
-}
+module _ {M N : Type 0} (g : Ghosts M) where
+  -- a line that is skipped is done
+  pub line_skipped : (b : BenchOver M N g) (line : List ℕ) (taken : Option (List ℕ)) → IsSkipped line → DidLine g line None b b taken taken
+  line_skipped b line taken is =
+      record { deed = Skipped line; line_is = refl; is = is; did = did-skipped g b line; reported = (tt, Appends-nil taken) }
 
--- ---- a bad line
+  -- an event was done for the line
+  pub line_done : (outcome : Option Status) (old new : BenchOver M N g) (taken0 taken1 : Option (List ℕ)) (line : List ℕ) (e : Event) (r : Reply)
+      → IsLineOf e line → DidEvent g old new e r → Reported outcome (e ≢ event.End) (e ≡ event.End) (line_of r) taken0 taken1 → DidLine g line outcome old new taken0 taken1
+  line_done outcome old new taken0 taken1 line e r is did reported =
+      record { deed = Did line e r; line_is = refl; is = is; did = did-one g old new line e r did; reported = reported }
 
--- the run ends since what stands in the line's place is bad
-pub stops_bad : (number : ℕ) → number ≤ 1000000 → (b : Bench) (left0 left1 taken : Option (List ℕ)) (bytes : List ℕ) → Consumes left0 left1 bytes → IsBadPlace bytes (IsAtEnd left1)
-    → Stops (status.Script number) number b b left0 left1 taken taken
-stops_bad number few b left0 left1 taken bytes consumed bad = record {
-  bytes = bytes;
-  done = [];
-  text = [];
-  few = λ _. few;
-  ends = (few, inl (refl, refl, refl, bad));
-  consumed = consumed;
-  appended = Appends-nil taken;
-  did = did-nothing b;
-}
+  -- the run goes on behind a line end
+  pub line_goes : (number : ℕ) (old new : BenchOver M N g) (left0 left1 taken0 taken1 : Option (List ℕ)) (line : List ℕ)
+      → LineTaken left0 left1 line true → DidLine g line None old new taken0 taken1 ⊎ Refused number line None old new taken0 taken1 → Goes g old new left0 left1 taken0 taken1
+  line_goes number old new left0 left1 taken0 taken1 line l (inr r) = cc (r.outcome_is)
+  line_goes number old new left0 left1 taken0 taken1 line l (inl d) = record {
+    deed = d.deed;
+    reads = reads_of left0 left1 line true d.deed l d.line_is d.is;
+    goes_on = d.reported.0;
+    consumed = subst (Consumes left0 left1) (line_of_deed left0 left1 line true d.deed l d.line_is) l.consumed;
+    appended = d.reported.1;
+    did = d.did;
+  }
 
--- the line is no event's
-pub stops_at_line : (number : ℕ) → number ≤ 1000000 → (b : Bench) (left0 left1 taken : Option (List ℕ)) (buf : List ℕ) (len : ℕ) (is_ended : Bool) → ReadAs left0 left1 buf (read.Line len is_ended)
-    → ((e : Event) → IsWhole e → Spells e (take len buf) → ⊥) → Stops (status.Script number) number b b left0 left1 taken taken
-stops_at_line number few b left0 left1 taken buf len is_ended t none =
-    let bad : IsBad (take len buf) = record { no_event = none; not_skipped = λ x. x } in
-    stops_bad number few b left0 left1 taken t.0 t.1 (inl (record { line = take len buf; is_ended = is_ended; one = t.2.1; short = short_line len buf t.2.0; is = t.2.2; bad = bad }))
+  -- the run ends with what was done in the line
+  done_stops : (outcome : Status) (number : ℕ) → number ≤ 1000000 → (old new : BenchOver M N g) (left0 left1 taken0 taken1 : Option (List ℕ)) (line : List ℕ) (is_ended : Bool)
+      → LineTaken left0 left1 line is_ended → DidLine g line (Some outcome) old new taken0 taken1 → Stops g outcome number old new left0 left1 taken0 taken1
+  done_stops status.Words number few old new left0 left1 taken0 taken1 line is_ended l d = absurd d.reported
+  done_stops (status.Script n) number few old new left0 left1 taken0 taken1 line is_ended l d = absurd d.reported
+  done_stops status.ReadFault number few old new left0 left1 taken0 taken1 line is_ended l d = absurd d.reported
+  done_stops status.TooLong number few old new left0 left1 taken0 taken1 line is_ended l d = absurd d.reported
+  done_stops status.Done number few old new left0 left1 taken0 taken1 line is_ended l d = record {
+    bytes = l.bytes;
+    done = d.deed ∷ [];
+    text = text_for d.deed;
+    few = λ _. few;
+    ends = (did_last left0 left1 line is_ended d.deed l d.line_is d.is, d.reported.0, refl);
+    consumed = l.consumed;
+    appended = d.reported.1;
+    did = d.did;
+  }
+  done_stops status.WriteFault number few old new left0 left1 taken0 taken1 line is_ended l d = record {
+    bytes = l.bytes;
+    done = d.deed ∷ [];
+    text = d.reported.0;
+    few = λ _. few;
+    ends = (did_last left0 left1 line is_ended d.deed l d.line_is d.is, d.reported.2);
+    consumed = l.consumed;
+    appended = d.reported.1;
+    did = d.did;
+  }
 
--- the line is too long, or missing
-pub stops_unread : (r : LineRead) (number : ℕ) → number ≤ 1000000 → (b : Bench) (left0 left1 taken : Option (List ℕ)) (buf : List ℕ) → ReadAs left0 left1 buf r
-    → (r ≡ read.End) ⊎ (r ≡ read.Long) → Stops (status.Script number) number b b left0 left1 taken taken
-stops_unread r number few b left0 left1 taken buf t is =
-    elim is [
-      | inl e ↦
-          let at : ReadsLine read.End t.0 buf (IsAtEnd left1) = subst (λ (x : LineRead). ReadsLine x t.0 buf (IsAtEnd left1)) e t.2 in
-          stops_bad number few b left0 left1 taken t.0 t.1 (inr (inr at))
-      | inr e ↦
-          let at : ReadsLine read.Long t.0 buf (IsAtEnd left1) = subst (λ (x : LineRead). ReadsLine x t.0 buf (IsAtEnd left1)) e t.2 in
-          stops_bad number few b left0 left1 taken t.0 t.1 (inr (inl at))
-    ]
+  -- the run ends since what stands in the line's place is bad
+  pub stops_bad : (number : ℕ) → number ≤ 1000000 → (b : BenchOver M N g) (left0 left1 taken : Option (List ℕ)) (bytes : List ℕ) → Consumes left0 left1 bytes → IsBadPlace bytes (IsAtEnd left1)
+      → Stops g (status.Script number) number b b left0 left1 taken taken
+  stops_bad number few b left0 left1 taken bytes consumed bad = record {
+    bytes = bytes;
+    done = [];
+    text = [];
+    few = λ _. few;
+    ends = (few, inl (refl, refl, refl, bad));
+    consumed = consumed;
+    appended = Appends-nil taken;
+    did = did-nothing g b;
+  }
+
+  refused_stops : (outcome : Status) (number : ℕ) → number ≤ 1000000 → (old new : BenchOver M N g) (left0 left1 taken0 taken1 : Option (List ℕ)) (line : List ℕ) (is_ended : Bool)
+      → LineTaken left0 left1 line is_ended → Refused number line (Some outcome) old new taken0 taken1 → Stops g outcome number old new left0 left1 taken0 taken1
+  refused_stops outcome number few old new left0 left1 taken0 taken1 line is_ended l r =
+      let is : outcome ≡ status.Script number = cc (r.outcome_is) in
+      subst (λ s. Stops g s number old new left0 left1 taken0 taken1) (sym is)
+      (subst (λ b. Stops g (status.Script number) number old b left0 left1 taken0 taken1) (sym r.bench)
+      (subst (λ t. Stops g (status.Script number) number old old left0 left1 taken0 t) (sym r.report)
+      (stops_bad number few old left0 left1 taken0 l.bytes l.consumed
+      (inl (record { line = line; is_ended = is_ended; one = l.one; short = l.short; is = l.is; bad = r.bad })))))
+
+  -- the run ends in the line
+  pub line_stops : (outcome : Status) (number : ℕ) → number ≤ 1000000 → (old new : BenchOver M N g) (left0 left1 taken0 taken1 : Option (List ℕ)) (line : List ℕ) (is_ended : Bool)
+      → LineTaken left0 left1 line is_ended → DidLine g line (Some outcome) old new taken0 taken1 ⊎ Refused number line (Some outcome) old new taken0 taken1
+      → Stops g outcome number old new left0 left1 taken0 taken1
+  line_stops outcome number few old new left0 left1 taken0 taken1 line is_ended l (inl d) = done_stops outcome number few old new left0 left1 taken0 taken1 line is_ended l d
+  line_stops outcome number few old new left0 left1 taken0 taken1 line is_ended l (inr r) = refused_stops outcome number few old new left0 left1 taken0 taken1 line is_ended l r
+
+  -- the run ends since the script has ended behind the line
+  pub line_runs_out : (outcome : Status) (number : ℕ) → number ≤ 1000000 → (number < 1000000 → outcome ≡ status.Script (number + 1)) → (number ≡ 1000000 → outcome ≡ status.TooLong)
+      → (old new : BenchOver M N g) (left0 left1 taken0 taken1 : Option (List ℕ)) (line : List ℕ)
+      → LineTaken left0 left1 line false → DidLine g line None old new taken0 taken1 ⊎ Refused number line None old new taken0 taken1 → Stops g outcome number old new left0 left1 taken0 taken1
+  line_runs_out outcome number few missing long old new left0 left1 taken0 taken1 line l (inr r) = cc (r.outcome_is)
+  line_runs_out outcome number few missing long old new left0 left1 taken0 taken1 line l (inl d) = record {
+    bytes = l.bytes;
+    done = d.deed ∷ [];
+    text = text_for d.deed;
+    few = λ _. few;
+    ends = ran_out_as outcome number few missing long l.bytes (IsAtEnd left1) (text_for d.deed) (d.deed ∷ [])
+        (record {
+          last = d.deed;
+          only = refl;
+          reads = reads_of left0 left1 line false d.deed l d.line_is d.is;
+          line = line_of_deed left0 left1 line false d.deed l d.line_is;
+          goes_on = d.reported.0;
+          told = refl;
+        });
+    consumed = l.consumed;
+    appended = d.reported.1;
+    did = d.did;
+  }
+
+  -- the line is too long, or missing
+  pub stops_unread : (r : LineRead) (number : ℕ) → number ≤ 1000000 → (b : BenchOver M N g) (left0 left1 taken : Option (List ℕ)) (buf : List ℕ) → ReadAs left0 left1 buf r
+      → (r ≡ read.End) ⊎ (r ≡ read.Long) → Stops g (status.Script number) number b b left0 left1 taken taken
+  stops_unread r number few b left0 left1 taken buf t is =
+      elim is [
+        | inl e ↦
+            let at : ReadsLine read.End t.0 buf (IsAtEnd left1) = subst (λ (x : LineRead). ReadsLine x t.0 buf (IsAtEnd left1)) e t.2 in
+            stops_bad number few b left0 left1 taken t.0 t.1 (inr (inr at))
+        | inr e ↦
+            let at : ReadsLine read.Long t.0 buf (IsAtEnd left1) = subst (λ (x : LineRead). ReadsLine x t.0 buf (IsAtEnd left1)) e t.2 in
+            stops_bad number few b left0 left1 taken t.0 t.1 (inr (inl at))
+      ]
+
+  -- ---- one line after another
+
+  pub progress_start : (b : BenchOver M N g) (left taken : Option (List ℕ)) → Progress g 0 b b left left taken taken
+  progress_start b left taken = record {
+    deeds = [];
+    each = tt;
+    go_on = tt;
+    number = refl;
+    consumed = Consumes-nil left;
+    appended = Appends-nil taken;
+    did = did-nothing g b;
+  }
+
+  pub progress_more : (count : ℕ) (old mid new : BenchOver M N g) (a b c t u v : Option (List ℕ)) → Progress g count old mid a b t u → Goes g mid new b c u v → Progress g (count + 1) old new a c t v
+  progress_more count old mid new a b c t u v p n = record {
+    deeds = p.deeds ++ n.deed ∷ [];
+    each = each-append Reads p.deeds (n.deed ∷ []) p.each (n.reads, tt);
+    go_on = each-append GoesOn p.deeds (n.deed ∷ []) p.go_on (n.goes_on, tt);
+    number = length-append p.deeds (n.deed ∷ []) ∙ ap (λ x. x + 1) p.number;
+    consumed = subst (Consumes a c) (sym (flat-push (λ d. ended (line_in d)) p.deeds n.deed)) (Consumes-trans a b c _ _ p.consumed n.consumed);
+    appended = subst (Appends t v) (sym (flat-push text_for p.deeds n.deed)) (Appends-trans t u v _ _ p.appended n.appended);
+    did = did-append g [] old mid new p.deeds (n.deed ∷ []) p.did n.did;
+  }
+
+  pub replayed : (outcome : Status) (count : ℕ) (old mid new : BenchOver M N g) (a b c t u v : Option (List ℕ)) → Progress g count old mid a b t u → Stops g outcome (count + 1) mid new b c u v
+      → Replayed outcome (DidDeeds g [] old new) a c t v
+  replayed outcome count old mid new a b c t u v p s = record {
+    deeds = p.deeds;
+    each = p.each;
+    go_on = p.go_on;
+    rest = s.bytes;
+    done = s.done;
+    text = s.text;
+    few = λ h. subst (λ (n : ℕ). n + 1 ≤ 1000000) (sym p.number) (s.few h);
+    ends = subst (λ (n : ℕ). EndsIn outcome (n + 1) s.bytes (IsAtEnd c) s.text s.done) (sym p.number) s.ends;
+    consumed = Consumes-trans a b c _ _ p.consumed s.consumed;
+    appended = Appends-trans t u v _ _ p.appended s.appended;
+    did = did-append g [] old mid new p.deeds s.done p.did s.did;
+  }
+
+  pub too_long : (old new : BenchOver M N g) (a b t u : Option (List ℕ)) → Progress g 1000000 old new a b t u → Replayed status.TooLong (DidDeeds g [] old new) a b t u
+  too_long old new a b t u p = replayed status.TooLong 1000000 old new new a b b t u u p (record {
+    bytes = [];
+    done = [];
+    text = [];
+    few = λ h. absurd (h refl);
+    ends = inl (refl, refl, refl, refl);
+    consumed = Consumes-nil b;
+    appended = Appends-nil u;
+    did = did-nothing g new;
+  })
+
+  -- ---- the run's beginning, and the law
+
+  did-lawfully : Editions (first_rules ∷ []) → ForHistories (λ τ ρ ρs H. Lawful ρ H) → (first : Ledger) (old new : BenchOver M N g) (deeds : List Deed)
+      → DidDeeds g first old new deeds → DidLawfully g first old new deeds
+  did-lawfully today lawful first old new deeds did = record {
+    did = did;
+    lawful = λ τ tells H s u. lawful τ first_rules [] _ today ((did.over τ tells).stands H s u).history;
+  }
+
+  -- a run that begins with an entry, by the laws of histories
+  pub begun : Editions (first_rules ∷ []) → ForHistories (λ τ ρ ρs H. Lawful ρ H) → (outcome : Status) (first : Ledger) (old mid new : BenchOver M N g) (a b t u : Option (List ℕ))
+      → DidDeeds g first old mid [] → Replayed outcome (DidDeeds g [] mid new) a b t u → Replayed outcome (DidLawfully g first old new) a b t u
+  begun today lawful outcome first old mid new a b t u begins r = said (DidDeeds g [] mid new) (DidLawfully g first old new) outcome a b t u
+      (λ deeds did. did-lawfully today lawful first old new deeds (did-append g first old mid new [] deeds begins did)) r
+
+  pub words_only : (b : BenchOver M N g) (left taken : Option (List ℕ)) → Replayed status.Words (DidDeeds g [] b b) left left taken taken
+  words_only b left taken = record {
+    deeds = [];
+    each = tt;
+    go_on = tt;
+    rest = [];
+    done = [];
+    text = [];
+    few = λ h. omega arith;
+    ends = (refl, refl, refl, refl);
+    consumed = Consumes-nil left;
+    appended = Appends-nil taken;
+    did = did-nothing g b;
+  }

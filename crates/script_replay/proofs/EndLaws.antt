@@ -5,29 +5,34 @@ use Rattle.std.proofs.lemmas.List.{length-append, length-map}
 use Rattle.std.specs.List.{AllByRecursion}
 use Rattle.bench_base.specs.declared.events.Event.{Event}
 use Rattle.bench_base.specs.declared.events.Event.TheVariants as event
-use Rattle.script_replay.specs.Grammar.{Spells, IsBad}
+use Rattle.script_text.specs.Words.{joined}
+use Rattle.script_text.specs.Grammar.{Spells}
+use Rattle.script_text.proofs.EventsBack.{one_event_of, no_event_skipped}
+use Rattle.script_replay.specs.Events.{IsLineOf, IsBad}
 use Rattle.script_replay.specs.Lines.{IsOneLine, ended, IsLineIn}
 use Rattle.script_replay.specs.declared.status.Status.{Status}
 use Rattle.script_replay.specs.declared.status.Status.TheVariants as status
 use Rattle.script_replay.specs.Deeds.{Deed, Skipped, Did, line_in, Reads, IsEnd, GoesOn, script_of}
 use Rattle.script_replay.specs.Ends.{with_byte, lines_of, IsEndLine, IsPassed, EndsAt, EndsAs, IsByScript}
 use Rattle.script_replay.specs.Run.{IsBadPlace, RanOut, EndsIn, Replayed}
-use Rattle.script_replay.proofs.OneEvent.{one_event_of}
 
 -- ---- one end
+
+end_line : (line : List ℕ) → IsEndLine line → IsLineOf event.End line
+end_line line l = record { whole = tt; taken = tt; spells = l }
 
 passed_not_last : (line : List ℕ) → IsPassed line → IsEndLine line → ⊥
 passed_not_last line p l =
     elim p.1 [
-      | inl skipped ↦ skipped
-      | inr w ↦ w.3 (one_event_of w.0 event.End line w.1 tt w.2 l)
+      | inl skipped ↦ no_event_skipped event.End line l skipped
+      | inr w ↦ w.2 (one_event_of w.0 event.End line w.1.whole tt w.1.spells l)
     ]
 
 passed_not_bad : (line : List ℕ) → IsPassed line → (600 < length line) ⊎ IsBad line → ⊥
 passed_not_bad line p b =
     elim b [
       | inl long ↦ omega (arith, long, p.0)
-      | inr bad ↦ elim p.1 [ inl skipped ↦ bad.not_skipped skipped | inr w ↦ bad.no_event w.0 w.1 w.2 ]
+      | inr bad ↦ elim p.1 [ inl skipped ↦ bad.not_skipped skipped | inr w ↦ bad.no_event w.0 w.1 ]
     ]
 
 last_small : (s : Status) (number : ℕ) (rest : List (List ℕ)) → EndsAt s number rest → number ≤ 1000001
@@ -49,11 +54,14 @@ not_yet status.Words number line rest p l = absurd l
 not_yet status.ReadFault number line rest p l = absurd l
 not_yet status.WriteFault number line rest p l = absurd l
 
+end_short : (line : List ℕ) → IsEndLine line → length line ≡ 3
+end_short line l = ap length l.2 ∙ ap (λ (ws : List (List ℕ)). length (joined ws)) l.1
+
 end_not_bad : (line : List ℕ) → IsEndLine line → (600 < length line) ⊎ IsBad line → ⊥
 end_not_bad line l b =
     elim b [
-      | inl long ↦ omega (arith, long, ap length l)
-      | inr bad ↦ bad.no_event event.End tt l
+      | inl long ↦ omega (arith, long, end_short line l)
+      | inr bad ↦ bad.no_event event.End (end_line line l)
     ]
 
 same_last : (s t : Status) (number : ℕ) (rest : List (List ℕ)) → EndsAt s number rest → EndsAt t number rest → s ≡ t
@@ -147,7 +155,7 @@ lines_of-script (d ∷ deeds) more each =
 
 passed_of : (d : Deed) → Reads d → GoesOn d → IsPassed (line_in d)
 passed_of (Skipped line) r g = (r.short, inl r.is)
-passed_of (Did line e reply) r g = (r.short, inr (e, r.is.0, r.is.1, g))
+passed_of (Did line e reply) r g = (r.short, inr (e, r.is, g))
 
 all_passed : (deeds : List Deed) → AllByRecursion Reads deeds → AllByRecursion GoesOn deeds → AllByRecursion IsPassed (map line_in deeds)
 all_passed [] r g = tt
@@ -159,7 +167,7 @@ passed_append (x ∷ a) b p q = (p.0, passed_append a b p.1 q)
 
 last_of : (d : Deed) → Reads d → IsEnd d → IsEndLine (line_in d)
 last_of (Skipped line) r e = absurd e
-last_of (Did line x reply) r e = subst (λ (y : Event). Spells y line) e r.is.1
+last_of (Did line x reply) r e = subst (λ (y : Event). Spells y line) e r.is.spells
 
 -- what follows the lines of the deeds decides
 decided : (outcome : Status) (deeds : List Deed) (bytes : List ℕ) (rest : List (List ℕ)) → AllByRecursion Reads deeds → AllByRecursion GoesOn deeds

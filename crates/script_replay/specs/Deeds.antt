@@ -4,10 +4,13 @@ use Rattle.bench_base.specs.declared.events.Event.{Event}
 use Rattle.bench_base.specs.declared.events.Event.TheVariants as event
 use Rattle.bench_base.specs.declared.events.Reply.{Reply}
 use Rattle.bench_base.specs.Ledger.{Ledger}
-use Rattle.script_replay.specs.Grammar.{IsWhole, Spells, IsSkipped}
+use Rattle.bench_base.specs.Rules.{first_rules}
+use Rattle.ledger_laws.specs.Tariffs.{Tariff}
+use Rattle.ledger_laws.specs.Moves.{entries}
+use Rattle.script_text.specs.Grammar.{IsSkipped}
+use Rattle.script_text.specs.Texts.{text_of}
+use Rattle.script_replay.specs.Events.{IsLineOf}
 use Rattle.script_replay.specs.Lines.{IsOneLine, ended}
-use Rattle.script_replay.specs.Moves.{entries}
-use Rattle.script_replay.specs.Texts.{line_of}
 
 -- a line that does nothing; or a line, its event, and the reply that was given
 pub data Deed : Type 0 where
@@ -18,20 +21,19 @@ abbrev pub line_in : Deed → List ℕ
 line_in (Skipped line) = line
 line_in (Did line e r) = line
 
+-- a line of the report
+abbrev pub line_of : Reply → List ℕ
+line_of r = ended (text_of r)
+
 -- what the report has for the deed: the line of its reply
 abbrev pub text_for : Deed → List ℕ
 text_for (Skipped line) = []
 text_for (Did line e r) = line_of r
 
--- the ledger after the deed
-abbrev pub ledger_with : Ledger → Deed → Ledger
-ledger_with H (Skipped line) = H
-ledger_with H (Did line e r) = entries H e r ++ H
-
 -- the line is what the deed says it is
 abbrev pub IsOf : Deed → Type 0
 IsOf (Skipped line) = IsSkipped line
-IsOf (Did line e r) = IsWhole e × Spells e line
+IsOf (Did line e r) = IsLineOf e line
 
 -- the deed's line is one line of at most 600 bytes, and says what the deed did
 pub record Reads (d : Deed) : Type 0 where
@@ -57,25 +59,32 @@ script_of deeds = flat_map (λ d. ended (line_in d)) deeds
 abbrev pub report_of : List Deed → List ℕ
 report_of deeds = flat_map text_for deeds
 
+-- == ledgers, by what is read as rates ==
+
+-- the ledger after an event with this reply; no event of this bench takes the text of rates
+abbrev pub ledger_by : Tariff → Ledger → Event → Reply → Ledger
+ledger_by τ H e r = entries τ first_rules H e [] r
+
 -- the ledger after the deeds
-abbrev pub ledger_after : Ledger → List Deed → Ledger
-ledger_after H [] = H
-ledger_after H (d ∷ rest) = ledger_after (ledger_with H d) rest
+abbrev pub ledger_after : Tariff → Ledger → List Deed → Ledger
+ledger_after τ H [] = H
+ledger_after τ H (Skipped line ∷ rest) = ledger_after τ H rest
+ledger_after τ H (Did line e r ∷ rest) = ledger_after τ (ledger_by τ H e r) rest
 
 -- Each reply in turn is one that its event may get, as long as the events are unforged.
-abbrev pub RunWhile : (Ledger → Event → Type 0) → (Ledger → Event → Reply → Type 0) → Ledger → List Deed → Type 0
-RunWhile Unforged Moves H [] = Unit {0}
-RunWhile Unforged Moves H (Skipped line ∷ rest) = RunWhile Unforged Moves H rest
-RunWhile Unforged Moves H (Did line e r ∷ rest) = Unforged H e → Moves H e r × RunWhile Unforged Moves (entries H e r ++ H) rest
+abbrev pub RunWhile : Tariff → (Ledger → Event → Type 0) → (Ledger → Event → Reply → Type 0) → Ledger → List Deed → Type 0
+RunWhile τ Unforged Moves H [] = Unit {0}
+RunWhile τ Unforged Moves H (Skipped line ∷ rest) = RunWhile τ Unforged Moves H rest
+RunWhile τ Unforged Moves H (Did line e r ∷ rest) = Unforged H e → Moves H e r × RunWhile τ Unforged Moves (ledger_by τ H e r) rest
 
 -- each event is unforged at its place
-abbrev pub AreUnforged : (Ledger → Event → Type 0) → Ledger → List Deed → Type 0
-AreUnforged Unforged H [] = Unit {0}
-AreUnforged Unforged H (Skipped line ∷ rest) = AreUnforged Unforged H rest
-AreUnforged Unforged H (Did line e r ∷ rest) = Unforged H e × AreUnforged Unforged (entries H e r ++ H) rest
+abbrev pub AreUnforged : Tariff → (Ledger → Event → Type 0) → Ledger → List Deed → Type 0
+AreUnforged τ Unforged H [] = Unit {0}
+AreUnforged τ Unforged H (Skipped line ∷ rest) = AreUnforged τ Unforged H rest
+AreUnforged τ Unforged H (Did line e r ∷ rest) = Unforged H e × AreUnforged τ Unforged (ledger_by τ H e r) rest
 
 -- Whatever ledger the bench stood for: with the first entries put on it the deeds are a run over it, and the bench stands for what they leave.
-pub record DidOver {B : Type 0} (Stands : B → Ledger → Type 0) (Unforged : Ledger → Event → Type 0)
+pub record DidOver {B : Type 0} (τ : Tariff) (Stands : B → Ledger → Type 0) (Unforged : Ledger → Event → Type 0)
     (Moves : Ledger → Event → Reply → Type 0) (first : Ledger) (old new : B) (deeds : List Deed) : Type 0 where
-  pub run : (H : Ledger) → Stands old H → RunWhile Unforged Moves (first ++ H) deeds
-  pub stands : (H : Ledger) → Stands old H → AreUnforged Unforged (first ++ H) deeds → Stands new (ledger_after (first ++ H) deeds)
+  pub run : (H : Ledger) → Stands old H → RunWhile τ Unforged Moves (first ++ H) deeds
+  pub stands : (H : Ledger) → Stands old H → AreUnforged τ Unforged (first ++ H) deeds → Stands new (ledger_after τ (first ++ H) deeds)

@@ -3,7 +3,8 @@ use Rattle.std.specs.Prelude.{◌≡◌, ◌≢◌, ℕ, ◌+◌, ◌<◌, ◌�
 use Rattle.std.specs.List.{AllByRecursion}
 use Rattle.bench_base.specs.declared.events.Event.{Event}
 use Rattle.bench_base.specs.declared.events.Event.TheVariants as event
-use Rattle.script_replay.specs.Grammar.{IsWhole, Spells, IsSkipped, IsBad}
+use Rattle.script_text.specs.Grammar.{Spells, IsSkipped}
+use Rattle.script_replay.specs.Events.{IsLineOf, IsBad}
 use Rattle.script_replay.specs.declared.status.Status.{Status}
 use Rattle.script_replay.specs.declared.status.Status.TheVariants as status
 
@@ -23,7 +24,7 @@ IsEndLine line = Spells event.End line
 
 -- a run goes on behind this line: it is at most 600 bytes long, and is skipped or is that of another event than `end`
 abbrev pub IsPassed : List ℕ → Type 0
-IsPassed line = (length line ≤ 600) × (IsSkipped line ⊎ ((e : Event) × IsWhole e × Spells e line × (e ≢ event.End)))
+IsPassed line = (length line ≤ 600) × (IsSkipped line ⊎ ((e : Event) × IsLineOf e line × (e ≢ event.End)))
 
 -- the line of this number is the first that is `end`, or is the first that is bad or missing, or is one too many; the rest are the lines from it on
 abbrev pub EndsAt : Status → ℕ → List (List ℕ) → Type 0

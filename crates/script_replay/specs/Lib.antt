@@ -1,10 +1,8 @@
-pub mod Bench
 pub mod Codes
+pub mod Counts
 pub mod Deeds
 pub mod Ends
-pub mod Grammar
+pub mod Events
 pub mod Lines
-pub mod Moves
 pub mod Run
-pub mod Texts
 pub mod Turns

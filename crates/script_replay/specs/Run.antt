@@ -3,18 +3,54 @@ use Rattle.std.specs.Prelude.{◌≡◌, ◌≢◌, ℕ, ◌+◌, ◌<◌, ◌�
 use Rattle.std.specs.Io.KnownBytes.{Consumes, Appends, IsAtEnd}
 use Rattle.std.specs.List.{AllByRecursion}
 use Rattle.bench_base.specs.Ledger.{Ledger}
-use Rattle.script_replay.specs.Bench.{Bench}
-use Rattle.script_replay.specs.Deeds.{Deed, line_in, text_for, Reads, IsEnd, GoesOn, script_of, report_of, DidOver}
-use Rattle.script_replay.specs.Grammar.{IsBad}
+use Rattle.bench_base.specs.Rules.{first_rules}
+use Rattle.bench_base.specs.declared.events.Event.{Event}
+use Rattle.bench_base.specs.declared.events.Reply.{Reply}
+use Rattle.nv_model.specs.declared.nv.Nv.{Ghosts}
+use Rattle.ledger_book.specs.Lawful.{Lawful}
+use Rattle.ledger_laws.specs.Tariffs.{Tariff}
+use Rattle.ledger_laws.specs.Moves as moves
+use Rattle.ledger_laws.specs.Histories as histories
+use Rattle.ledger_laws.specs.Histories.{History}
+use Rattle.bench.specs.declared.devices.BenchOver.{BenchOver}
+use Rattle.bench.specs.Benches.{Stands, seats_of}
+use Rattle.script_replay.specs.Counts.{AreBalanced}
+use Rattle.script_replay.specs.Deeds.{Deed, line_in, text_for, Reads, IsEnd, GoesOn, script_of, report_of, ledger_after, AreUnforged, DidOver}
+use Rattle.script_replay.specs.Events.{IsBad}
 use Rattle.script_replay.specs.Lines.{IsOneLine, IsLineIn}
-use Rattle.script_replay.specs.Moves.{Stands, Unforged, Moves}
 use Rattle.script_replay.specs.declared.status.Status.{Status}
 use Rattle.script_replay.specs.declared.status.Status.TheVariants as status
 
--- The plain bench did the deeds, behind these first entries. What its device was made with stays.
-pub record DidDeeds (first : Ledger) (old new : Bench) (deeds : List Deed) : Type 0 where
-  pub setup : new.setup ≡ old.setup
-  pub over : DidOver Stands Unforged (Moves old.setup) first old new deeds
+-- == what it means to do the deeds ==
+
+-- the bench stands for this history
+pub record StandsFor {M N : Type 0} (g : Ghosts M) (τ : Tariff) (bench : BenchOver M N g) (H : Ledger) : Type 0 where
+  pub history : History τ (first_rules ∷ []) H
+  pub stands : Stands g bench H
+
+-- what comes from outside in the event is not forged
+abbrev pub Unforged : Ledger → Event → Type 0
+Unforged H e = histories.Unforged e H
+
+-- the reply is one that the event may get at this ledger
+abbrev pub Moves : Tariff → Ledger → Event → Reply → Type 0
+Moves τ H e r = moves.Moves τ first_rules H e [] r
+
+-- The bench did the deeds, behind these first entries.
+pub record DidDeeds {M N : Type 0} (g : Ghosts M) (first : Ledger) (old new : BenchOver M N g) (deeds : List Deed) : Type 0 where
+  -- by every history for which the bench stood, whatever is read as rates, where the storages tell what they hold
+  pub over : (τ : Tariff) → g.tells → DidOver τ (StandsFor g τ) Unforged (Moves τ) first old new deeds
+  -- whatever the storages tell
+  pub size : length (seats_of new) ≡ length (seats_of old)
+  pub balanced : AreBalanced g (seats_of old) (seats_of new) deeds
+
+-- The bench did them, and the ledger that they form is lawful.
+pub record DidLawfully {M N : Type 0} (g : Ghosts M) (first : Ledger) (old new : BenchOver M N g) (deeds : List Deed) : Type 0 where
+  pub did : DidDeeds g first old new deeds
+  pub lawful : (τ : Tariff) → g.tells → (H : Ledger) → StandsFor g τ old H → AreUnforged τ Unforged (first ++ H) deeds
+      → Lawful first_rules (ledger_after τ (first ++ H) deeds)
+
+-- == how the run ended ==
 
 -- the bytes are a line that is neither an event nor skipped
 pub record IsBadLine (bytes : List ℕ) (end : Type 0) : Type 0 where

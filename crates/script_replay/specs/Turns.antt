@@ -1,47 +1,63 @@
 -- One turn of a run: a line is read and done, and the run goes on or ends.
-use Rattle.std.specs.Prelude.{◌≡◌, ◌≢◌, ℕ, ◌≤◌, List, [], ◌∷◌, ◌++◌, length, Option, Some, None}
+use Rattle.std.specs.Prelude.{◌≡◌, ◌≢◌, ℕ, ◌≤◌, List, [], ◌∷◌, length, Option, Some, None}
 use Rattle.std.specs.Io.KnownBytes.{Consumes, Appends, IsAtEnd}
 use Rattle.std.specs.List.{AllByRecursion}
 use Rattle.bench_base.specs.declared.events.Event.{Event}
-use Rattle.bench_base.specs.declared.events.Event.TheVariants as event
 use Rattle.bench_base.specs.declared.events.Reply.{Reply}
-use Rattle.bench_base.specs.Ledger.{Ledger}
-use Rattle.script_replay.specs.Bench.{Bench}
-use Rattle.script_replay.specs.Deeds.{Deed, line_in, text_for, Reads, GoesOn, script_of, report_of}
+use Rattle.nv_model.specs.declared.nv.Nv.{Ghosts}
+use Rattle.bench.specs.declared.devices.BenchOver.{BenchOver}
+use Rattle.bench.specs.Benches.{Stands, ForEach, seats_of}
+use Rattle.bench.specs.Steps.{EachCharged}
+use Rattle.script_replay.specs.Deeds.{Deed, line_in, text_for, IsOf, Reads, IsEnd, GoesOn, script_of, report_of, ledger_by}
+use Rattle.script_replay.specs.Events.{IsBad}
 use Rattle.script_replay.specs.Lines.{ended}
-use Rattle.script_replay.specs.Moves.{Stands, Moves, entries}
-use Rattle.script_replay.specs.Run.{DidDeeds, EndsIn, IsCutOff}
-use Rattle.script_replay.specs.Texts.{line_of}
+use Rattle.script_replay.specs.Run.{DidDeeds, EndsIn, IsCutOff, Moves}
 use Rattle.script_replay.specs.declared.status.Status.{Status}
 use Rattle.script_replay.specs.declared.status.Status.TheVariants as status
 
 -- the bench did one event
-pub record DidEvent (old new : Bench) (e : Event) (r : Reply) : Type 0 where
-  pub setup : new.setup ≡ old.setup
-  pub moves : (H : Ledger) → Stands old H → Moves old.setup H e r
-  pub stands : (H : Ledger) → Stands old H → Stands new (entries H e r ++ H)
+pub record DidEvent {M N : Type 0} (g : Ghosts M) (old new : BenchOver M N g) (e : Event) (r : Reply) : Type 0 where
+  pub moves : ForEach g old (λ τ H. Moves τ H e r)
+  pub stands : ForEach g old (λ τ H. Stands g new (ledger_by τ H e r))
+  pub size : length (seats_of new) ≡ length (seats_of old)
+  pub charged : EachCharged g r (seats_of old) (seats_of new)
 
--- what the report took of a reply's line, and whether the run ends with it
-abbrev pub Reported : Option Status → Event → Reply → Option (List ℕ) → Option (List ℕ) → Type 0
-Reported None e r taken0 taken1 = (e ≢ event.End) × Appends taken0 taken1 (line_of r)
-Reported (Some status.Done) e r taken0 taken1 = (e ≡ event.End) × Appends taken0 taken1 (line_of r)
-Reported (Some status.WriteFault) e r taken0 taken1 = (text : List ℕ) × Appends taken0 taken1 text × IsCutOff text (line_of r)
-Reported (Some status.Words) e r taken0 taken1 = ⊥
-Reported (Some (status.Script line)) e r taken0 taken1 = ⊥
-Reported (Some status.ReadFault) e r taken0 taken1 = ⊥
-Reported (Some status.TooLong) e r taken0 taken1 = ⊥
+-- what the report took of a text, and whether the run ends with it: GoesOn and IsEnd say of what was done that the run goes on, and that it was `end`
+abbrev pub Reported : Option Status → Type 0 → Type 0 → List ℕ → Option (List ℕ) → Option (List ℕ) → Type 0
+Reported None GoesOn IsEnd text taken0 taken1 = GoesOn × Appends taken0 taken1 text
+Reported (Some status.Done) GoesOn IsEnd text taken0 taken1 = IsEnd × Appends taken0 taken1 text
+Reported (Some status.WriteFault) GoesOn IsEnd text taken0 taken1 = (part : List ℕ) × Appends taken0 taken1 part × IsCutOff part text
+Reported (Some status.Words) GoesOn IsEnd text taken0 taken1 = ⊥
+Reported (Some (status.Script line)) GoesOn IsEnd text taken0 taken1 = ⊥
+Reported (Some status.ReadFault) GoesOn IsEnd text taken0 taken1 = ⊥
+Reported (Some status.TooLong) GoesOn IsEnd text taken0 taken1 = ⊥
+
+-- the line was done, and its text reported
+pub record DidLine {M N : Type 0} (g : Ghosts M) (line : List ℕ) (outcome : Option Status) (old new : BenchOver M N g) (taken0 taken1 : Option (List ℕ)) : Type 0 where
+  pub deed : Deed
+  pub line_is : line_in deed ≡ line
+  pub is : IsOf deed
+  pub did : DidDeeds g [] old new (deed ∷ [])
+  pub reported : Reported outcome (GoesOn deed) (IsEnd deed) (text_for deed) taken0 taken1
+
+-- the line of this number is bad, and nothing was done
+pub record Refused {B : Type 0} (number : ℕ) (line : List ℕ) (outcome : Option Status) (old new : B) (taken0 taken1 : Option (List ℕ)) : Type 0 where
+  pub outcome_is : outcome ≡ Some (status.Script number)
+  pub bad : IsBad line
+  pub bench : new ≡ old
+  pub report : taken1 ≡ taken0
 
 -- One line was done, and the run goes on.
-pub record Goes (old new : Bench) (left0 left1 taken0 taken1 : Option (List ℕ)) : Type 0 where
+pub record Goes {M N : Type 0} (g : Ghosts M) (old new : BenchOver M N g) (left0 left1 taken0 taken1 : Option (List ℕ)) : Type 0 where
   pub deed : Deed
   pub reads : Reads deed
   pub goes_on : GoesOn deed
   pub consumed : Consumes left0 left1 (ended (line_in deed))
   pub appended : Appends taken0 taken1 (text_for deed)
-  pub did : DidDeeds [] old new (deed ∷ [])
+  pub did : DidDeeds g [] old new (deed ∷ [])
 
 -- The run ended in the line of this number.
-pub record Stops (outcome : Status) (number : ℕ) (old new : Bench) (left0 left1 taken0 taken1 : Option (List ℕ)) : Type 0 where
+pub record Stops {M N : Type 0} (g : Ghosts M) (outcome : Status) (number : ℕ) (old new : BenchOver M N g) (left0 left1 taken0 taken1 : Option (List ℕ)) : Type 0 where
   pub bytes : List ℕ
   pub done : List Deed
   pub text : List ℕ
@@ -49,14 +65,14 @@ pub record Stops (outcome : Status) (number : ℕ) (old new : Bench) (left0 left
   pub ends : EndsIn outcome number bytes (IsAtEnd left1) text done
   pub consumed : Consumes left0 left1 bytes
   pub appended : Appends taken0 taken1 text
-  pub did : DidDeeds [] old new done
+  pub did : DidDeeds g [] old new done
 
 -- This many lines were done, and the run goes on.
-pub record Progress (count : ℕ) (old new : Bench) (left0 left1 taken0 taken1 : Option (List ℕ)) : Type 0 where
+pub record Progress {M N : Type 0} (g : Ghosts M) (count : ℕ) (old new : BenchOver M N g) (left0 left1 taken0 taken1 : Option (List ℕ)) : Type 0 where
   pub deeds : List Deed
   pub each : AllByRecursion Reads deeds
   pub go_on : AllByRecursion GoesOn deeds
   pub number : length deeds ≡ count
   pub consumed : Consumes left0 left1 (script_of deeds)
   pub appended : Appends taken0 taken1 (report_of deeds)
-  pub did : DidDeeds [] old new deeds
+  pub did : DidDeeds g [] old new deeds

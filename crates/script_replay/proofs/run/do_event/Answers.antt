@@ -5,8 +5,8 @@ use Rattle.script_replay.proofs.run.do_event.Goals as goal
 pub returns-in-Err-clause-done : goal.returns-in-Err-clause-done
 returns-in-Err-clause-done g c =
     let w = c.in-Err.ensures.err in (
-      c.step-reply.result,
-      record { setup = c.step-reply.ensures.setup; moves = c.step-reply.ensures.moves; stands = c.step-reply.ensures.stands },
+      c.reply_to-reply.result,
+      c.reply_to-reply.ensures.did,
       (
         take w.0 c.as_slice.result.now,
         w.2,

@@ -1,0 +1,12 @@
+use Rattle.std.proofs.Common.{subst}
+use Rattle.std.proofs.lemmas.Option.{slice_get_within, get_or_from_slice_get}
+use Rattle.std.proofs.lemmas.List.Elements.{All-get_or}
+use Rattle.nv_model.specs.Meters.{Works}
+use Rattle.nv_model.specs.contracts.file.FileNvNv.TheImpl.{ghosts}
+use Rattle.meter_run.proofs.open_bench.Goals as goal
+
+pub new-requires-clause-fresh : goal.new-requires-clause-fresh
+new-requires-clause-fresh c i nv at =
+    let stores = c.in_ok-open_stores.field-0.devices.items in
+    subst (λ n. Works (ghosts.meters n)) (get_or_from_slice_get stores i nv nv at)
+    (All-get_or (λ n. Works (ghosts.meters n)) stores i nv (slice_get_within stores i nv at) c.in_ok-open_stores.ensures.fresh)

@@ -1,0 +1,148 @@
+//! Rows of devices on storage: what is kept across off and on, and across cuts of power.
+ghost use Rattle.std.specs.Prelude.{◌≡◌};
+
+use crate::worked::{FIRST_MARK, KEY, Piece, bench_over, outcome, told};
+use script_replay::status::Status;
+use std::test::Fail;
+
+/// Device 1 in service with 50,000 mills, as seven commits on two slots leave it. The first four pieces are the record after
+/// the last commit, and the others are the one before it.
+const SEVEN_COMMITS: &[Piece] = &[
+    Piece {
+        at: 0,
+        bytes: b"\xa5\0\0\0\x07\0\0\0\x01\x03",
+    },
+    Piece {
+        at: 10,
+        bytes: &KEY,
+    },
+    Piece {
+        at: 48,
+        bytes: b"\xc3\x50",
+    },
+    Piece {
+        at: 61,
+        bytes: b"\x03\0\0\x50\x7d\0\0\x50\x21\0\0\0\x01\0\x01\x6f\x99",
+    },
+    Piece {
+        at: 214,
+        bytes: b"\xa5\0\0\0\x06\0\0\0\x01\x03",
+    },
+    Piece {
+        at: 224,
+        bytes: &KEY,
+    },
+    Piece {
+        at: 275,
+        bytes: b"\x02\0\0\x50\x7d\0\0\x50\x21\0\0\0\x01\0\x01\x6f\x99\x01\x01\x01\0\0\0\x01\0\0\0\x03\x02\0\0\0\x01\0\0\xc3\x50",
+    },
+    Piece {
+        at: 330,
+        bytes: b"\x50\x21\x4f\xcb\x60\x45\x68\xd2\x4c\x5f\xa6\x30\xf7\x04\xd8\x2a\x23\xf3\x53\x57\xef\xea\xb4\x20\x65\xb9\xdd\x00\x9d\x62\xfc\xe3\xca\xa1",
+    },
+];
+
+/// An open slot with a payload that is no device's record.
+const RECORD_OF_ZEROS: &[Piece] = &[Piece {
+    at: 0,
+    bytes: b"\xa5\0\0\0\x01",
+}];
+
+/// What a device is asked over a storage, and what it answers.
+const ANSWERS: [(&str, &[Piece], &str, &str); 4] = [
+    (
+        "order of checks",
+        &[],
+        "status d1\nday 2026-03-01\nstatus d1\non d1\non d1\nstatus d1\noff d1\noff d1\nend\n",
+        "no day\nday 20513\noff d1\nup d1 commits 0\non already d1\nrefused d1 blank\ndown d1\noff d1\nend\n",
+    ),
+    (
+        "a sync is counted",
+        &[],
+        "day 2026-03-01\non d1\ncut d1 0 0 00\noff d1\non d1\non d1\noff d1\ncut d1 4 300 00\non d1\n\
+        make d1 0101010101010101010101010101010101010101010101010101010101010101\non d1\nstatus d1\nend\n",
+        "day 20513\nup d1 commits 0\ncut d1\ndown d1\npower d1\nup d1 commits 0\ndown d1\ncut d1\nup d1 commits 0\n\
+        power d1\nup d1 commits 1\n\
+        status d1 manufactured ascending 0 descending 0 refunded 0 pieces 0 number 0 deadline 0 pending none\nend\n",
+    ),
+    (
+        "no record of a device",
+        RECORD_OF_ZEROS,
+        "day 2026-03-01\non d1\nend\n",
+        "day 20513\ndamaged d1\nend\n",
+    ),
+    (
+        "cut twice",
+        SEVEN_COMMITS,
+        "day 2026-03-01\non d1\ncut d1 2 10 a5\ndebit d1 1 550 1\non d1\ncut d1 0 0 a5\ndebit d1 1 550 1\non d1\n\
+        debit d1 1 550 1\nend\n",
+        "day 20513\nup d1 commits 7\ncut d1\npower d1\nup d1 commits 7\ncut d1\npower d1\nup d1 commits 7\n\
+        mark d1 1 new 0101000000010000000100000226000002260000c12a0000502100016f9900010562e36e65f9617a07091681227f4b745673e719370e81c1bbc3cf8dcbc40d55\nend\n",
+    ),
+];
+
+#[test]
+fn devices_answer_in_order(rt: HostRuntime) -> Result<(), Fail> {
+    for (name, pieces, script, report) in ANSWERS {
+        let mut bench = bench_over(rt.alloc(), pieces)?;
+        let got = outcome(rt.alloc(), &told(script.as_bytes(), 600), &mut bench)?;
+        assert!(rt; got.0 == Status::Done, "{name}");
+        assert_eq!(rt; got.1.as_slice(), report.as_bytes(), "{name}");
+    }
+    Ok(())
+}
+
+#[test]
+fn a_device_is_kept_across_off_and_on(rt: HostRuntime) -> Result<(), Fail> {
+    let script =
+        "debit d1 1 550 1\nday 2026-03-01\non d1\ndebit d1 1 550 1\ndebit d1 1 550 1\ndebit d1 2 49451 1\n\
+        debit d1 2 49450 1\noff d1\non d1\nstatus d1\nend\n";
+    let report = format!(in rt.alloc();
+        "no day\nday 20513\nup d1 commits 7\nmark d1 1 new {FIRST_MARK}\nmark d1 1 again {FIRST_MARK}\n\
+        refused d1 no funds 49450\n\
+        mark d1 2 new 010100000001000000020000c12a0000c350000000000000502100016f9900010b0fb9883cf9cfeb0b8004565ecd1d95c761894979775c6af299df58051a37ef\n\
+        down d1\nup d1 commits 9\n\
+        status d1 in-service ascending 50000 descending 0 refunded 0 pieces 2 number 3 deadline 20605 pending none\nend\n"
+    )?;
+    let mut bench = bench_over(rt.alloc(), &SEVEN_COMMITS[..4])?;
+    let got = outcome(rt.alloc(), &told(script.as_bytes(), 600), &mut bench)?;
+    assert!(rt; got.0 == Status::Done);
+    assert_eq!(rt; got.1.as_slice(), report.as_bytes());
+    // The next run begins with all devices off, and no day.
+    let script = b"status d1\nday 2026-03-01\nstatus d1\non d1\nend\n".as_slice();
+    let got = outcome(rt.alloc(), &told(script, 600), &mut bench)?;
+    let report = b"no day\nday 20513\noff d1\nup d1 commits 9\nend\n".as_slice();
+    assert_eq!(rt; got.1.as_slice(), report);
+    Ok(())
+}
+
+/// Power is cut at each of these calls of a commit that makes six, from the first to the second, with so many bytes of a
+/// range kept and its rest filled with the byte: so many commits count afterwards, and so the same debit answers.
+const CUTS: [(u32, u32, u32, &str, u32, &str); 5] = [
+    (0, 3, 300, "00", 7, "new"),
+    (4, 5, 300, "00", 8, "again"),
+    (0, 5, 0, "00", 7, "new"),
+    (4, 4, 0, "a5", 8, "again"),
+    (4, 4, 0, "37", 7, "new"),
+];
+
+#[test]
+fn a_debit_is_cut_at_each_call(rt: HostRuntime) -> Result<(), Fail> {
+    for (from, to, keep, byte, commits, answer) in CUTS {
+        for call in from..=to {
+            let script = format!(in rt.alloc();
+                "day 2026-03-01\non d1\ncut d1 {call} {keep} {byte}\ndebit d1 1 550 1\non d1\ndebit d1 1 550 1\n\
+                status d1\nend\n"
+            )?;
+            let report = format!(in rt.alloc();
+                "day 20513\nup d1 commits 7\ncut d1\npower d1\nup d1 commits {commits}\nmark d1 1 {answer} {FIRST_MARK}\n\
+                status d1 in-service ascending 550 descending 49450 refunded 0 pieces 1 number 3 deadline 20605 pending none\nend\n"
+            )?;
+            let mut bench = bench_over(rt.alloc(), SEVEN_COMMITS)?;
+            let got = outcome(rt.alloc(), &told(script.as_bytes(), 600), &mut bench)?;
+            assert!(rt; got.0 == Status::Done, "call {call}");
+            assert_eq!(rt; got.1.as_slice(), report.as_bytes(), "call {call}");
+        }
+    }
+    Ok(())
+}

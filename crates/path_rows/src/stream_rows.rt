@@ -1,0 +1,130 @@
+//! Rows of scripts, words and streams over blank storages: how runs end.
+ghost use Rattle.std.specs.Prelude.{◌≡◌};
+
+use crate::worked::{Given, bench_over, outcome, told};
+use bench::step;
+use bench_base::events::Event;
+use bench_base::memory::{MemSink, MemSource};
+use bench_base::numbers::DevNo;
+use bench_base::words::Node;
+use script_replay::run::run;
+use script_replay::status::Status;
+use script_text::write_reply;
+use std::test::Fail;
+
+const SWITCH_ON: &str =
+    "day 2026-03-01\non d1\n\
+    make d1 0101010101010101010101010101010101010101010101010101010101010101\nstatus d1\nend\n";
+
+const SWITCHED_ON: &str =
+    "day 20513\nup d1 commits 0\nmade d1\n\
+    status d1 manufactured ascending 0 descending 0 refunded 0 pieces 0 number 0 deadline 0 pending none\nend\n";
+
+#[test]
+fn scripts_end(rt: HostRuntime) -> Result<(), Fail> {
+    let mut long = [b'x'; 602];
+    long[601] = b'\n';
+    let mut long_remark = [b'#'; 602];
+    long_remark[601] = b'\n';
+    let mut remark = [b'#'; 605];
+    remark[600..].copy_from_slice(b"\nend\n");
+    let rows: [(&[u8], Status, &str); 18] = [
+        (SWITCH_ON.as_bytes(), Status::Done, SWITCHED_ON),
+        (b"", Status::Script(1), ""),
+        (b"day 2026-02-30\n", Status::Script(1), ""),
+        (
+            b"day 2026-03-01\ndebit d1 1 0550 1\n",
+            Status::Script(2),
+            "day 20513\n",
+        ),
+        (&long, Status::Script(1), ""),
+        (&long_remark, Status::Script(1), ""),
+        (&remark, Status::Done, "end\n"),
+        (b"# x\n\nday 2026-03-01\nend\n", Status::Done, "day 20513\nend\n"),
+        (b"# x\nx\n", Status::Script(2), ""),
+        (b"#", Status::Script(2), ""),
+        (b"\n\n", Status::Script(3), ""),
+        (b"day 2026-03-01", Status::Script(2), "day 20513\n"),
+        (b"day 2026-03-01\nend", Status::Done, "day 20513\nend\n"),
+        (b"end\nx\n", Status::Done, "end\n"),
+        (b"status d1\r\n", Status::Script(1), ""),
+        (b"end \n", Status::Script(1), ""),
+        (b"on centre\n", Status::Script(1), ""),
+        (b"order d1 1 1 20 1\n", Status::Script(1), ""),
+    ];
+    for (script, status, report) in rows {
+        for piece in [1, 3, 600] {
+            let mut bench = bench_over(rt.alloc(), &[])?;
+            let got = outcome(rt.alloc(), &told(script, piece), &mut bench)?;
+            assert!(rt; got.0 == status, "of {report}");
+            assert_eq!(rt; got.1.as_slice(), report.as_bytes());
+        }
+    }
+    Ok(())
+}
+
+#[test]
+fn words_and_faults_end(rt: HostRuntime) -> Result<(), Fail> {
+    let script = b"day 2026-03-01\nend\n".as_slice();
+    let replay = ["replay"].as_slice();
+    let rows: [(&[&str], &[u64], &[u64], &[u64], Status, &str); 8] = [
+        (&[], &[], &[], &[], Status::Words, ""),
+        (&["replay", "x"], &[], &[], &[], Status::Words, ""),
+        (&["generate", "07", "1"], &[], &[], &[], Status::Words, ""),
+        (&["generate", "7", "90001"], &[], &[], &[], Status::Words, ""),
+        (replay, &[3], &[], &[], Status::ReadFault, ""),
+        (replay, &[16], &[], &[], Status::ReadFault, "day 20513\n"),
+        (replay, &[], &[1], &[], Status::WriteFault, "day 20513\n"),
+        (replay, &[], &[], &[0], Status::WriteFault, ""),
+    ];
+    for (words, read_fails, write_fails, write_zeros, status, report) in rows {
+        let given = Given {
+            words,
+            script,
+            piece: 1,
+            read_fails,
+            write_fails,
+            write_zeros,
+            room: 100,
+        };
+        let mut bench = bench_over(rt.alloc(), &[])?;
+        let got = outcome(rt.alloc(), &given, &mut bench)?;
+        assert!(rt; got.0 == status, "of {report}");
+        assert_eq!(rt; got.1.as_slice(), report.as_bytes());
+    }
+    Ok(())
+}
+
+#[test]
+fn a_full_report_ends_behind_the_event(rt: HostRuntime) -> Result<(), Fail> {
+    let given = Given {
+        room: 12,
+        ..told(SWITCH_ON.as_bytes(), 1)
+    };
+    let mut bench = bench_over(rt.alloc(), &[])?;
+    let got = outcome(rt.alloc(), &given, &mut bench)?;
+    assert!(rt; got.0 == Status::WriteFault);
+    assert_eq!(rt; got.1.as_slice(), b"day 20513\nup".as_slice());
+    let device = DevNo::new(1).expect(&rt, "device");
+    let turn = step(rt.alloc(), &mut bench, &Event::On(Node::Device(device)))?;
+    assert_eq!(rt; write_reply(&turn.reply).as_slice(), b"on already d1".as_slice());
+    Ok(())
+}
+
+#[test]
+fn a_million_lines_are_too_long(rt: HostRuntime) -> Result<(), Fail> {
+    let line = b"day 2026-03-01\n".as_slice();
+    let mut script = Vec::with_capacity(rt.alloc(), 15_000_000)?;
+    for _ in 0..1_000_000 {
+        script.extend_from_slice(line)?;
+    }
+    let words = vec![in rt.alloc(); String::from_str(rt.alloc(), "replay")?]?;
+    let mut source = MemSource::new(script, 4096, Vec::new(rt.alloc()));
+    let room = vec![in rt.alloc(); 0; 10_000_000]?;
+    let mut sink = MemSink::new(room, Vec::new(rt.alloc()), Vec::new(rt.alloc()));
+    let mut bench = bench_over(rt.alloc(), &[])?;
+    let status = run(rt.alloc(), &words, &mut source, &mut sink, &mut bench);
+    assert!(rt; status == Status::TooLong);
+    assert_eq!(rt; sink.taken().len(), 10_000_000);
+    Ok(())
+}

@@ -1,0 +1,123 @@
+//! A bench over storages in memory, and what a run over it answers.
+ghost use Rattle.std.specs.Prelude.{◌≡◌, ◌≤◌, IfOk, length};
+ghost use Rattle.std.specs.List.{All};
+ghost use Rattle.bench.specs.Benches.{IsReady};
+ghost use Rattle.nv_model.specs.Meters.{Works};
+
+use bench::{Bench, Stores};
+use bench_base::memory::{MemSink, MemSource};
+use nv_model::{Fused, MemNv, Nv};
+use script_replay::run::run;
+use script_replay::status::Status;
+use std::alloc::{AllocError, Global};
+use std::test::Fail;
+
+/// A piece of a storage of 3,424 bytes: from byte `at` on these bytes stand. What no piece has is zero.
+#[derive(Clone, Copy)]
+pub struct Piece {
+    pub at: usize,
+    pub bytes: &'static [u8],
+}
+
+pub const KEY: [u8; 32] = [1; 32];
+
+/// The mark of piece 1 with 550 mills on 2026-03-01, by a device that was loaded with 50,000. The code was computed by another program.
+pub const FIRST_MARK: &str =
+    "0101000000010000000100000226000002260000c12a0000502100016f9900010562e36e65f9617a07091681227f4b745673e719370e81c1bbc3cf8dcbc40d55";
+
+fn lay(content: &mut [u8], pieces: &[Piece]) {
+    for piece in pieces {
+        for (cell, byte) in content.iter_mut().skip(piece.at).zip(piece.bytes) {
+            *cell = *byte;
+        }
+    }
+}
+
+/// A storage with this content, without a plan.
+fn storage(alloc: Global, pieces: &[Piece]) -> Result<MemNv, AllocError>
+    ensures { IfOk result (λ nv. Works (⟦<MemNv as Nv>⟧.meters nv)) }
+{
+    let mut content = vec![in alloc; 0; 3424]?;
+    lay(&mut content, pieces);
+    let nv = MemNv::new(alloc, content, Vec::new(alloc), 400, 40_000)?;
+    Ok(nv)
+}
+
+/// Eight storages, of which the first has this content and the others are blank.
+fn stores(alloc: Global, pieces: &[Piece]) -> Result<Stores<MemNv>, AllocError>
+    ensures eight { IfOk result (λ stores. length stores.devices.items ≡ 8) }
+    ensures fresh { IfOk result (λ stores. All (λ nv. Works (⟦<MemNv as Nv>⟧.meters nv)) stores.devices.items) }
+{
+    let mut devices = Vec::with_capacity(alloc, 8)?;
+    for i in 0..8_u32 {
+        devices.push(storage(alloc, if i == 0 { pieces } else { &[] })?)?;
+    }
+    Ok(Stores { devices })
+}
+
+/// A bench whose device 1 has this storage; the others are blank.
+pub fn bench_over(alloc: Global, pieces: &[Piece]) -> Result<Bench<MemNv>, Fail>
+    ensures ready { IfOk result (λ bench. IsReady ⟦<Fused<MemNv> as Nv>⟧ bench) }
+{
+    match Bench::new(alloc, stores(alloc, pieces)?) {
+        Ok(bench) => Ok(bench),
+        Err(_) => Err(Fail::from(AllocError)),
+    }
+}
+
+/// What goes in: the words, the script and the size of its pieces, the numbers of the calls that fail, and the bytes that
+/// the report takes.
+#[derive(Clone, Copy)]
+pub struct Given<'a> {
+    pub words: &'a [&'a str],
+    pub script: &'a [u8],
+    pub piece: u32,
+    pub read_fails: &'a [u64],
+    pub write_fails: &'a [u64],
+    pub write_zeros: &'a [u64],
+    pub room: usize,
+}
+
+/// What a run reads and writes where no stream fails.
+pub fn told<'a>(script: &'a [u8], piece: u32) -> Given<'a>
+    requires { 1 ≤ piece }
+    ensures { result.piece ≡ piece }
+{
+    Given {
+        words: &["replay"],
+        script,
+        piece,
+        read_fails: &[],
+        write_fails: &[],
+        write_zeros: &[],
+        room: 4000,
+    }
+}
+
+/// The status and the report of a run.
+pub fn outcome(
+    alloc: Global,
+    given: &Given,
+    bench: &mut Bench<MemNv>,
+) -> Result<(Status, Vec<u8>), Fail>
+    requires some { 1 ≤ given.now.piece }
+    requires ready { IsReady ⟦<Fused<MemNv> as Nv>⟧ bench.old }
+    ensures ready { IsReady ⟦<Fused<MemNv> as Nv>⟧ bench.new }
+{
+    let mut words = Vec::new(alloc);
+    for word in given.words {
+        words.push(String::from_str(alloc, word)?)?;
+    }
+    let mut source = MemSource::new(
+        Vec::from_slice(alloc, given.script)?,
+        given.piece,
+        Vec::from_slice(alloc, given.read_fails)?,
+    );
+    let mut sink = MemSink::new(
+        vec![in alloc; 0; given.room]?,
+        Vec::from_slice(alloc, given.write_fails)?,
+        Vec::from_slice(alloc, given.write_zeros)?,
+    );
+    let status = run(alloc, &words, &mut source, &mut sink, bench);
+    Ok((status, Vec::from_slice(alloc, sink.taken())?))
+}
