@@ -11,6 +11,7 @@ use Rattle.device_seat.specs.declared.seat.Seat.{Seat}
 use Rattle.device_seat.specs.Seats.{is_seated}
 use Rattle.bench_views.specs.Devices.{view_of}
 use Rattle.bench.specs.Benches.{AreSeated, HasDay, SeatsStand, Pairs, IsStopped, StopsAt}
+use Rattle.bench.proofs.Making.{get_some}
 use Rattle.bench.proofs.Frames.{get_set_same, get_set_other, same_some}
 
 -- the first so many seats were switched off, and the others are as they were
@@ -69,10 +70,5 @@ begun_day today today' H none day = record { day = none; rates = refl; messages 
 pub begun_stands : {M : Type 0} (g : Ghosts M) (k : ℕ) (old new : List (Seat M g)) (H : Ledger) → k ≡ 8 → Stopping g k old new → SeatsStand g old H → g.tells → SeatsStand g new (Begin ∷ H)
 begun_stands {M} g k old new H all stopping stands tells i t is =
     let lt : i < 8 = omega (arith, slice_get_within new i t is, stopping.ready.eight) in
-    let s = seat_at old i (omega (arith, stopping.ready.eight, stopping.size)) in
+    let s = get_some old i (omega (arith, stopping.ready.eight, stopping.size)) in
     (stopping.stopped i s.0 t (omega arith) s.1 is).stands (i + 1) (view_of (i + 1) H) (stands i s.0 s.1) tells
-  where
-    seat_at : (xs : List (Seat M g)) (j : ℕ) → j < length xs → (s : Seat M g) × (slice_get xs j ≡ Some s)
-    seat_at [] j lt = absurd (omega arith)
-    seat_at (x ∷ xs) zero lt = (x, refl)
-    seat_at (x ∷ xs) (suc j) lt = seat_at xs j (omega arith)

@@ -4,6 +4,12 @@ use Rattle.std.specs.Prelude.{slice_get}
 use Rattle.std.proofs.lemmas.List.{reverse-append, length-reverse}
 use Rattle.bench.specs.Benches.{Pairs}
 
+-- the element at a place within a list
+pub get_some : {X : Type 0} (xs : List X) (i : ℕ) → i < length xs → (x : X) × (slice_get xs i ≡ Some x)
+get_some [] i lt = absurd (omega arith)
+get_some (x ∷ xs) zero lt = (x, refl)
+get_some (x ∷ xs) (suc i) lt = get_some xs i (omega arith)
+
 pub pairs_at : {X Y : Type 0} (P : X → Y → Type 0) (xs : List X) (ys : List Y) → Pairs P xs ys → (i : ℕ) (x : X) (y : Y) → slice_get xs i ≡ Some x → slice_get ys i ≡ Some y → P x y
 pairs_at P [] [] pairs i x y here there = cc
 pairs_at P [] (b ∷ ys) pairs i x y here there = absurd pairs
