@@ -33,8 +33,8 @@ fn event_of(line: &[u8]) -> Option<Event>
     ensures none { IfNone result ((e : Event) → IsLineOf e line.now → ⊥) }
 {
     match read_event(line) {
-        Ok(event) => { if is_taken(&event) { Some(event) } else { None } }
-        Err(_) => None,
+        Ok(event) if is_taken(&event) => Some(event),
+        _ => None,
     }
 }
 
