@@ -12,12 +12,10 @@ use script_replay::status::Status;
 use script_text::write_reply;
 use std::test::Fail;
 
-const SWITCH_ON: &str =
-    "day 2026-03-01\non d1\n\
+const SWITCH_ON: &str = "day 2026-03-01\non d1\n\
     make d1 0101010101010101010101010101010101010101010101010101010101010101\nstatus d1\nend\n";
 
-const SWITCHED_ON: &str =
-    "day 20513\nup d1 commits 0\nmade d1\n\
+const SWITCHED_ON: &str = "day 20513\nup d1 commits 0\nmade d1\n\
     status d1 manufactured ascending 0 descending 0 refunded 0 pieces 0 number 0 deadline 0 pending none\nend\n";
 
 #[test]
@@ -40,7 +38,11 @@ fn scripts_end(rt: HostRuntime) -> Result<(), Fail> {
         (&long, Status::Script(1), ""),
         (&long_remark, Status::Script(1), ""),
         (&remark, Status::Done, "end\n"),
-        (b"# x\n\nday 2026-03-01\nend\n", Status::Done, "day 20513\nend\n"),
+        (
+            b"# x\n\nday 2026-03-01\nend\n",
+            Status::Done,
+            "day 20513\nend\n",
+        ),
         (b"# x\nx\n", Status::Script(2), ""),
         (b"#", Status::Script(2), ""),
         (b"\n\n", Status::Script(3), ""),
@@ -71,7 +73,14 @@ fn words_and_faults_end(rt: HostRuntime) -> Result<(), Fail> {
         (&[], &[], &[], &[], Status::Words, ""),
         (&["replay", "x"], &[], &[], &[], Status::Words, ""),
         (&["generate", "07", "1"], &[], &[], &[], Status::Words, ""),
-        (&["generate", "7", "90001"], &[], &[], &[], Status::Words, ""),
+        (
+            &["generate", "7", "90001"],
+            &[],
+            &[],
+            &[],
+            Status::Words,
+            "",
+        ),
         (replay, &[3], &[], &[], Status::ReadFault, ""),
         (replay, &[16], &[], &[], Status::ReadFault, "day 20513\n"),
         (replay, &[], &[1], &[], Status::WriteFault, "day 20513\n"),
@@ -107,7 +116,10 @@ fn a_full_report_ends_behind_the_event(rt: HostRuntime) -> Result<(), Fail> {
     assert_eq!(rt; got.1.as_slice(), b"day 20513\nup".as_slice());
     let device = DevNo::new(1).expect(&rt, "device");
     let turn = step(rt.alloc(), &mut bench, &Event::On(Node::Device(device)))?;
-    assert_eq!(rt; write_reply(&turn.reply).as_slice(), b"on already d1".as_slice());
+    assert_eq!(rt;
+        write_reply(&turn.reply).as_slice(),
+        b"on already d1".as_slice()
+    );
     Ok(())
 }
 
