@@ -1,5 +1,5 @@
 -- What contracts see of a device and of its calls.
-use Rattle.std.specs.Prelude.{ℕ, List, Result, IfSome}
+use Rattle.std.specs.Prelude.{◌≡◌, ℕ, List, Result, None, IfSome}
 use Rattle.bench_base.specs.declared.refusals.DevFail.{DevFail}
 use Rattle.nv_model.specs.declared.nv.Nv.{Ghosts}
 use Rattle.nv_store.specs.Turns.{Turn, Spent}
@@ -45,3 +45,7 @@ CallSpent {g = g} act old new result = Spent 6 (g.meters (storage_of old)) (g.me
 -- the record of its commit can be kept
 abbrev pub CallKeeps : {N A : Type 0} {g : Ghosts N} → Act A → Device N g → Type 0
 CallKeeps act old = IfSome (commit_in (running old).count act) (λ x. IsKept x.1)
+
+-- it leaves the device and its storage as they were where it commits nothing
+abbrev pub CallRests : {N A : Type 0} {g : Ghosts N} → Act A → Device N g → Device N g → Type 0
+CallRests act old new = commit_in (running old).count act ≡ None → new ≡ old

@@ -1,8 +1,9 @@
 //! The calls of a device. Money is in mills, and a day counts from 1970-01-01.
 //!
 //! A call that commits answers `Store` with `Failed`, before every refusal, exactly where an earlier call of this value
-//! answered Power or Fault; after every refusal it answers Power or Fault where its commit failed, and Worn, with nothing
-//! changed, where the storage has 4,294,967,295 commits. The others never answer `Store`.
+//! answered Power or Fault; after every refusal it answers Power or Fault where its commit failed, and Worn where the
+//! storage has 4,294,967,295 commits. A refusal, Worn, and an answer that needs no commit leave the device and its storage
+//! as they were. The others never answer `Store`.
 ghost use Rattle.std.specs.Prelude.{◌≡◌, ◌≢◌, IfSome, None};
 ghost use Rattle.bench_base.specs.Rules.{first_rules};
 ghost use Rattle.psd_device.specs.Shown.{IsKept};
@@ -20,7 +21,7 @@ use psd_state::DevStatus;
 use psd_wire::DebitMsg;
 
 impl<N: Nv> Device<N> {
-    ghost use Rattle.psd_device.specs.DeviceView.{storage_of, running, first_of, start_of, CallDoes, CallTurn, CallSpent, CallKeeps};
+    ghost use Rattle.psd_device.specs.DeviceView.{storage_of, running, first_of, start_of, CallDoes, CallTurn, CallSpent, CallKeeps, CallRests};
 
     /// Makes the device under a key. `Made` exactly where it was made before.
     pub fn make(&mut self, key: &Key) -> Result<(), DevFail>
@@ -33,6 +34,7 @@ impl<N: Nv> Device<N> {
             → CallSpent (make_act (running self.old).device key.now (running self.old).state) self.old self.new result }
         ensures next { (running self.old).torn ≡ None
             → CallKeeps (make_act (running self.old).device key.now (running self.old).state) self.old }
+        ensures rests { CallRests (make_act (running self.old).device key.now (running self.old).state) self.old self.new }
         ensures kept { IfSome (running self.new).state IsKept }
         ensures size { N.size (storage_of self.new) ≡ 3424 }
         ensures wear { (first_of self.new ≡ first_of self.old) × (start_of self.new ≡ start_of self.old) }
@@ -53,6 +55,7 @@ impl<N: Nv> Device<N> {
             → CallSpent (debit_act first_rules (running self.old).device command.now day (running self.old).state) self.old self.new result }
         ensures next { (running self.old).torn ≡ None
             → CallKeeps (debit_act first_rules (running self.old).device command.now day (running self.old).state) self.old }
+        ensures rests { CallRests (debit_act first_rules (running self.old).device command.now day (running self.old).state) self.old self.new }
         ensures kept { IfSome (running self.new).state IsKept }
         ensures size { N.size (storage_of self.new) ≡ 3424 }
         ensures wear { (first_of self.new ≡ first_of self.old) × (start_of self.new ≡ start_of self.old) }
@@ -79,6 +82,7 @@ impl<N: Nv> Device<N> {
             → CallSpent (ask_act first_rules (running self.old).device kind customer amount day (running self.old).state) self.old self.new result }
         ensures next { (running self.old).torn ≡ None
             → CallKeeps (ask_act first_rules (running self.old).device kind customer amount day (running self.old).state) self.old }
+        ensures rests { CallRests (ask_act first_rules (running self.old).device kind customer amount day (running self.old).state) self.old self.new }
         ensures kept { IfSome (running self.new).state IsKept }
         ensures size { N.size (storage_of self.new) ≡ 3424 }
         ensures wear { (first_of self.new ≡ first_of self.old) × (start_of self.new ≡ start_of self.old) }
@@ -100,6 +104,7 @@ impl<N: Nv> Device<N> {
             → CallSpent (take_act first_rules (running self.old).device bytes.now day (running self.old).state) self.old self.new result }
         ensures next { (running self.old).torn ≡ None
             → CallKeeps (take_act first_rules (running self.old).device bytes.now day (running self.old).state) self.old }
+        ensures rests { CallRests (take_act first_rules (running self.old).device bytes.now day (running self.old).state) self.old self.new }
         ensures kept { IfSome (running self.new).state IsKept }
         ensures size { N.size (storage_of self.new) ≡ 3424 }
         ensures wear { (first_of self.new ≡ first_of self.old) × (start_of self.new ≡ start_of self.old) }

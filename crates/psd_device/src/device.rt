@@ -39,7 +39,7 @@ pub struct Device<N: Nv> {
 }
 
 impl<N: Nv> Device<N> {
-    ghost use Rattle.psd_device.specs.DeviceView.{storage_of, running, first_of, start_of, fills_in, CallDoes, CallTurn, CallSpent, CallKeeps};
+    ghost use Rattle.psd_device.specs.DeviceView.{storage_of, running, first_of, start_of, fills_in, CallDoes, CallTurn, CallSpent, CallKeeps, CallRests};
 
     /// Does what a call decided on. A device that failed does nothing, and answers `Failed` before every refusal; the
     /// other failures of storage come after every refusal.
@@ -49,6 +49,7 @@ impl<N: Nv> Device<N> {
         ensures turn { (running self.old).torn ≡ None → N.tells → CallTurn act self.old self.new result }
         ensures spent { (running self.old).torn ≡ None → CallSpent act self.old self.new result }
         ensures next { (running self.old).torn ≡ None → CallKeeps act self.old }
+        ensures rests { CallRests act self.old self.new }
         ensures kept { IfSome (running self.new).state IsKept }
         ensures size { N.size (storage_of self.new) ≡ 3424 }
         ensures wear { (first_of self.new ≡ first_of self.old) × (start_of self.new ≡ start_of self.old) }
