@@ -3,7 +3,8 @@ use Rattle.std.proofs.Common.{◌≡◌, ◌⊎◌, inl, inr, ℕ, ◌+◌, ◌�
 use Rattle.std.specs.Prelude.{IfSome, IsSome}
 use Rattle.std.proofs.lemmas.Bool.Decides.{nat_tests}
 use Rattle.nv_model.specs.declared.nv.Nv.{Ghosts}
-use Rattle.nv_model.specs.Moments.{Nested, Elapses, Stays}
+use Rattle.nv_model.specs.Moments.{Nested}
+use Rattle.nv_store.specs.Mounts.{Mounts}
 use Rattle.psd_state.specs.State.{State}
 use Rattle.psd_state.specs.Payload.{bytes_of}
 use Rattle.psd_state.specs.Laws.{OnePayload}
@@ -90,10 +91,11 @@ allowed_own d v image sound (inr new) =
 
 -- the storage of a device that stays off, after calls that wrote nothing
 pub off_stays : {M : Type 0} (g : Ghosts M) (d : ℕ) (v : View) (nv after : M) → ((s : M) → g.tells → Nested (g.times s)) → OffStands g d v nv → g.size after ≡ g.size nv
-    → (g.tells → Elapses (g.times nv) (g.times after)) → (g.tells → Stays (g.times nv) (g.times after)) → OffStands g d v after
-off_stays g d v nv after nested stands size time stays = record {
+    → (g.tells → Mounts (g.times nv) (g.times after)) → OffStands g d v after
+off_stays g d v nv after nested stands size mounts = record {
   off = stands.off;
   size = size ∙ stands.size;
   sound = stands.sound;
-  shows = λ tells image now. stands.shows tells image (stays tells image (nested after tells (g.times nv).moment (g.times after).moment image (time tells).later now));
+  shows = λ tells image now. stands.shows tells image
+      ((mounts tells).images image (nested after tells (g.times nv).moment (g.times after).moment image (mounts tells).time.later now));
 }

@@ -1,5 +1,5 @@
 -- What a call of a running device leaves in its seat.
-use Rattle.std.proofs.Common.{◌≡◌, inl, inr, ⊎_elim, ℕ, ◌+◌, ◌≤◌, List, Option, Some, None, Bool, true, false, not, Result, Ok, Err, if◌then◌else◌, ◌==◌, refl, sym, ◌∙◌, ap, subst, arith}
+use Rattle.std.proofs.Common.{◌≡◌, inl, inr, ⊎_elim, ℕ, ◌+◌, ◌≤◌, List, Option, Some, None, Bool, true, false, not, ◌&&◌, Result, Ok, Err, if◌then◌else◌, ◌==◌, refl, sym, ◌∙◌, ap, subst, arith}
 use Rattle.std.specs.Prelude.{IfSome, IsSome}
 use Rattle.bench_base.specs.declared.ledger.Commit.{Commit}
 use Rattle.bench_base.specs.declared.refusals.DevFail.{DevFail}
@@ -24,7 +24,7 @@ use Rattle.device_seat.specs.declared.seat.Seat.{Seat}
 use Rattle.device_seat.specs.declared.seat.Seat.TheVariants as seat
 use Rattle.device_seat.specs.Views.{View, Allowed, Sound, committed, torn}
 use Rattle.device_seat.specs.Seats.{is_seated, is_on, OffStands, OnStands, SeatStands, SeatTurn, seat_with}
-use Rattle.device_seat.specs.Calls.{outcome_at, outcome_of, commit_of, MayCome, IsEnd, outcome_in, after_call, end_of_call, has_failed}
+use Rattle.device_seat.specs.Calls.{outcome_at, outcome_of, commit_of, MayCome, IsEnd, outcome_in, after_call, end_of_call, has_failed, is_refusal}
 use Rattle.device_seat.proofs.Rests.{works, shown_same}
 use Rattle.device_seat.proofs.Owns.{own_of}
 
@@ -108,6 +108,26 @@ leaves {A = A} g act dev e (Err (Store Fault)) none does =
     let is : (running e).torn ≡ Some t.commit.0 = ap (λ (n : Running). n.torn) t.left in
     subst (λ (u : Option Commit). is_on g (seat_with g u e) ≡ not (has_failed (outcome_in {A = A} (Err (Store Fault)) u))) (sym is) refl
 
+-- a device that committed nothing and refused is as it was, and so is its seat
+refused_seat : {M : Type 0} (g : Ghosts M) (dev e : Device M g) → (running dev).torn ≡ None → e ≡ dev → seat_with g (running e).torn e ≡ seat.On dev
+refused_seat {M} g dev e none same =
+    subst (λ (x : Device M g). seat_with g (running x).torn x ≡ seat.On dev) (sym same) (ap (λ (t : Option Commit). seat_with g t dev) none)
+
+pub refuses : {M A : Type 0} (g : Ghosts M) (act : Act A) (dev e : Device M g) (r : Result A DevFail) → (running dev).torn ≡ None → Does act (running dev) (running e) r
+    → (commit_in (running dev).count act ≡ None → e ≡ dev) → is_refusal (outcome_in r (running e).torn) ≡ true → seat_with g (running e).torn e ≡ seat.On dev
+refuses g act dev e (Ok a) none does rests is = cc
+refuses g act dev e (Err (Refused x)) none does rests is = refused_seat g dev e none (rests (no_commit (running dev).count act (ap is_err (sym does.answer))))
+refuses g act dev e (Err (Store Worn)) none does rests is = refused_seat g dev e none (rests (no_commit (running dev).count act (ap is_err (sym does.answer))))
+refuses g act dev e (Err (Store Failed)) none does rests is = absurd does
+refuses {A = A} g act dev e (Err (Store Power)) none does rests is =
+    let t = tore _ (running dev) (running e) does in
+    let torn : is_refusal (outcome_in {A = A} (Err (Store Power)) (Some t.commit.0)) ≡ true = subst (λ (u : Option Commit). is_refusal (outcome_in {A = A} (Err (Store Power)) u) ≡ true) (ap (λ (n : Running). n.torn) t.left) is in
+    cc
+refuses {A = A} g act dev e (Err (Store Fault)) none does rests is =
+    let t = tore _ (running dev) (running e) does in
+    let torn : is_refusal (outcome_in {A = A} (Err (Store Fault)) (Some t.commit.0)) ≡ true = subst (λ (u : Option Commit). is_refusal (outcome_in {A = A} (Err (Store Fault)) u) ≡ true) (ap (λ (n : Running). n.torn) t.left) is in
+    cc
+
 -- == what the bench sees ==
 
 abbrev after_made : Option (Commit × State) → View → View
@@ -165,7 +185,8 @@ module _ {M A : Type 0} (g : Ghosts M) (nested : (s : M) → g.tells → Nested 
   answer_is = outcome_is (running dev).count act ∙ ap (λ (k : ℕ). outcome_at k act) (stands.count tells) ∙ ap (λ (a : Act A). outcome_at v.count a) same
       ∙ sym (ap (λ (b : Bool). if b then outcome_at v.count seen else o.Off) stands.on)
 
-  own_made : IfSome (commit_of v seen) (λ x. IsOwn d x.1)
+  -- its record is one of this device
+  pub own_made : IfSome (commit_of v seen) (λ x. IsOwn d x.1)
   own_made = subst (λ (m : Option (Commit × State)). IfSome m (λ x. IsOwn d x.1)) made_is own
 
   sound : Sound d v
@@ -300,6 +321,9 @@ pub record Left {M A : Type 0} (g : Ghosts M) (s t : Seat M g) (seen : ℕ → V
   pub stands : (d : ℕ) (v : View) → SeatStands g d v s → g.tells → SeatStands g d (after_call result (commit_of v (seen d v)) v) t
   pub turn : (d : ℕ) (v : View) → SeatStands g d v s → g.tells
       → SeatTurn g (Allowed v) (IsAfter v.count (commit_of v (seen d v))) s t (end_of_call result (commit_of v (seen d v)))
+  pub keeps : (d : ℕ) (v : View) → SeatStands g d v s → g.tells → IfSome (commit_of v (seen d v)) (λ x. IsOwn d x.1)
+  pub refused : is_refusal result ≡ true → t ≡ s
+  pub is_left : is_on g t ≡ (is_on g s && not (has_failed result))
 
 -- the device's act is the one that the bench sees, and its commit makes a record of this device
 pub record Seen {A : Type 0} (count d : ℕ) (act seen : Act A) : Type 0 where
@@ -312,8 +336,9 @@ pub call_leaves : {M A : Type 0} (g : Ghosts M) (nested : (s : M) → g.tells �
     → ((running dev).torn ≡ None → g.tells → Turn (IsShown (running dev).count (running dev).state) (IsAfter (running dev).count (commit_in (running dev).count act))
     (g.times (storage_of dev)) (g.times (storage_of e)) (end_in (running dev).count act r))
     → ((running dev).torn ≡ None → IfSome (commit_in (running dev).count act) (λ x. IsKept x.1))
+    → (commit_in (running dev).count act ≡ None → e ≡ dev)
     → ((d : ℕ) (v : View) → OnStands g d v dev → g.tells → Seen (running dev).count d act (seen d v)) → Left g s t seen result
-call_leaves {M} {A} g nested s t dev e act seen r result was seated is came does turn kept sees = record {
+call_leaves {M} {A} g nested s t dev e act seen r result was seated is came does turn kept rests sees = record {
   comes = λ d v stands tells. let st = on_is d v stands in let saw = sees d v st tells in
       subst (λ (x : Outcome A). MayCome v (seen d v) x) (sym came)
       (called_comes g nested tells d v dev e act (seen d v) r st works_here saw.same (does works_here) (turn works_here tells) (own d v st tells));
@@ -326,6 +351,11 @@ call_leaves {M} {A} g nested s t dev e act seen r result was seated is came does
       (subst (λ (u : Seat M g). SeatTurn g (Allowed v) (IsAfter v.count (commit_of v (seen d v))) s u (end_of_call (outcome_in r (running e).torn) (commit_of v (seen d v)))) (sym is)
       (subst (λ (u : Seat M g). SeatTurn g (Allowed v) (IsAfter v.count (commit_of v (seen d v))) u (seat_with g (running e).torn e) (end_of_call (outcome_in r (running e).torn) (commit_of v (seen d v)))) (sym was)
       (called_turn g nested tells d v dev e act (seen d v) r st works_here saw.same (does works_here) (turn works_here tells) (own d v st tells))));
+  keeps = λ d v stands tells. let st = on_is d v stands in let saw = sees d v st tells in
+      own_made g nested tells d v dev e act (seen d v) r st works_here saw.same (does works_here) (turn works_here tells) (own d v st tells);
+  is_left = ap (is_on g) is ∙ leaves g act dev e r works_here (does works_here) ∙ ap (λ (x : Outcome A). not (has_failed x)) (sym came)
+      ∙ ap (λ (b : Bool). b && not (has_failed result)) (sym (ap (is_on g) was));
+  refused = λ no. is ∙ refuses g act dev e r works_here (does works_here) rests (subst (λ (x : Outcome A). is_refusal x ≡ true) came no) ∙ sym was;
 }
   where
     works_here : (running dev).torn ≡ None

@@ -1,10 +1,11 @@
 -- What a device that is left alone shows.
-use Rattle.std.proofs.Common.{◌≡◌, inl, ℕ, List, Option, Some, None, true, subst, arith}
+use Rattle.std.proofs.Common.{◌≡◌, inl, ℕ, List, Option, Some, None, true, subst}
 use Rattle.std.specs.Prelude.{is_none}
 use Rattle.bench_base.specs.declared.ledger.Commit.{Commit}
 use Rattle.nv_model.specs.declared.nv.Nv.{Ghosts}
 use Rattle.nv_model.specs.Moments.{Times, Image, Nested, Elapses, Stays}
-use Rattle.nv_store.specs.Turns.{End, Kept, Made, Turn}
+use Rattle.nv_model.proofs.Runs.{elapses_none, elapses_twice, stays_twice}
+use Rattle.nv_store.specs.Mounts.{Mounts}
 use Rattle.psd_state.specs.State.{State}
 use Rattle.psd_device.specs.Shown.{IsShown}
 use Rattle.psd_device.specs.DeviceView.{storage_of, running}
@@ -13,7 +14,7 @@ use Rattle.psd_device.specs.declared.device.Device.{Device}
 use Rattle.device_seat.specs.declared.seat.Seat.{Seat}
 use Rattle.device_seat.specs.declared.seat.Seat.TheVariants as seat
 use Rattle.device_seat.specs.Views.{View, Allowed, stopped}
-use Rattle.device_seat.specs.Seats.{is_seated, times_of, OffStands, OnStands, SeatStands, SeatTurn}
+use Rattle.device_seat.specs.Seats.{is_seated, times_of, OffStands, OnStands, SeatStands}
 
 none_torn : (o : Option Commit) → is_none o ≡ true → o ≡ None
 none_torn None is = let r : ◌≡◌ {A = Option Commit} None None = cc in r
@@ -39,16 +40,6 @@ seat_shows g d v (seat.Off nv) stands seated tells image now = stands.shows tell
 seat_shows g d v (seat.On device) stands seated tells image now = inl (on_shows g d v device stands seated tells image now)
 seat_shows g d v seat.Gone stands seated tells image now = absurd stands
 
--- nothing was done to it
-pub seat_rests : {M : Type 0} (g : Ghosts M) (d : ℕ) (v : View) (New : List ℕ → Type 0) (s : Seat M g) → SeatStands g d v s → is_seated g s ≡ true → g.tells
-    → SeatTurn g (Allowed v) New s s Kept
-seat_rests g d v New s stands seated tells = record {
-  time = record { later = omega arith; nothing_else = λ t c le is. inl is; keeps = λ t c le is. is };
-  any_moment = λ c is. inl (seat_shows g d v s stands seated tells c is);
-  kept = λ end. seat_shows g d v s stands seated tells;
-  made = λ end. cc;
-}
-
 -- a device that is on is switched off
 pub on_stops : {M : Type 0} (g : Ghosts M) (d : ℕ) (v : View) (device : Device M g) → OnStands g d v device → is_seated g (seat.On device) ≡ true
     → OffStands g d (stopped v) (storage_of device)
@@ -61,12 +52,12 @@ on_stops g d v device stands seated =
       shows = λ tells image now. inl (on_shows g d v device stands seated tells image now);
     }
 
--- calls that write nothing, of which each image was one before them
-pub stays_turn : (Old New : List ℕ → Type 0) (before now : Times) (end : End) → Nested now → Elapses before now → Stays before now → ((c : List ℕ) → Image before c → Old c) → (end ≡ Made → ⊥)
-    → Turn Old New before now end
-stays_turn Old New before now end nested time stays known not_made = record {
-  time = time;
-  any_moment = λ c is. inl (known c (stays c is));
-  kept = λ e c is. known c (stays c (nested before.moment now.moment c time.later is));
-  made = λ e. absurd (not_made e);
+-- nothing is written by calls that write nothing, one after the other
+pub mounts_twice : (before mid now : Times) → Nested mid → Nested now → Elapses before mid → Stays before mid → Mounts mid now → Mounts before now
+mounts_twice before mid now nested_mid nested time stays mounts = record {
+  images = stays_twice before mid now nested_mid time mounts.time stays mounts.images;
+  time = elapses_twice before mid now nested time mounts.time;
 }
+
+pub mounts_none : (now : Times) → Mounts now now
+mounts_none now = record { images = λ c is. is; time = elapses_none now }

@@ -88,3 +88,10 @@ abbrev pub has_failed : {A : Type 0} → Outcome A → Bool
 has_failed (o.Power c) = true
 has_failed (o.Fault c) = true
 has_failed _ = false
+
+-- the device did nothing: it was off, it refused, or it has all its commits
+abbrev pub is_refusal : {A : Type 0} → Outcome A → Bool
+is_refusal o.Off = true
+is_refusal (o.Refused x) = true
+is_refusal o.Worn = true
+is_refusal _ = false

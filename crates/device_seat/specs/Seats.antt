@@ -8,6 +8,7 @@ use Rattle.nv_model.specs.Fuses.{FuseState, state_of}
 use Rattle.nv_model.specs.declared.fused.Fused.{Fused}
 use Rattle.nv_store.specs.Turns.{End, Turn}
 use Rattle.psd_device.specs.declared.device.Device.{Device}
+use Rattle.psd_device.specs.Boots.{IsDamaged}
 use Rattle.psd_device.specs.DeviceView.{storage_of, running}
 use Rattle.device_seat.specs.declared.seat.Seat.{Seat}
 use Rattle.device_seat.specs.declared.seat.Seat.TheVariants as seat
@@ -47,13 +48,19 @@ storage_in g (seat.Off nv) none = nv
 storage_in g (seat.On device) none = storage_of device
 storage_in g seat.Gone none = none
 
+-- its storage is none of device d
+abbrev pub HasDamage : {M : Type 0} (g : Ghosts M) → ℕ → Seat M g → Type 0
+HasDamage g d (seat.Off nv) = IsDamaged d (g.size nv) (g.times nv) (g.content nv)
+HasDamage g d (seat.On device) = IsDamaged d (g.size (storage_of device)) (g.times (storage_of device)) (g.content (storage_of device))
+HasDamage g d seat.Gone = ⊥
+
 -- the fuse of its storage is armed so
 abbrev pub IsArmed : {N : Type 0} {h : Ghosts N} {g : Ghosts (Fused N h)} → Seat (Fused N h) g → ℕ → ℕ → ℕ → Type 0
 IsArmed (seat.Off nv) calls keep byte = HasFuse (state_of nv) calls keep byte
 IsArmed (seat.On device) calls keep byte = HasFuse (state_of (storage_of device)) calls keep byte
 IsArmed seat.Gone calls keep byte = ⊥
 
--- what an event did to its storage
+-- what a call did to its storage
 abbrev pub SeatTurn : {M : Type 0} (g : Ghosts M) → (List ℕ → Type 0) → (List ℕ → Type 0) → Seat M g → Seat M g → End → Type 0
 SeatTurn g Old New s t end = Turn Old New (times_of g s) (times_of g t) end
 
@@ -77,10 +84,6 @@ abbrev pub SeatStands : {M : Type 0} (g : Ghosts M) → ℕ → View → Seat M 
 SeatStands g d v (seat.Off nv) = OffStands g d v nv
 SeatStands g d v (seat.On device) = OnStands g d v device
 SeatStands g d v seat.Gone = ⊥
-
--- no image shows a commit of the event: it makes none
-abbrev pub NoCommit : List ℕ → Type 0
-NoCommit image = ⊥
 
 -- the seat of a device after a call: it is off where a commit failed
 abbrev pub seat_with : {M : Type 0} (g : Ghosts M) → Option Commit → Device M g → Seat M g

@@ -28,3 +28,9 @@ abbrev pub leaves_on : Started → Bool
 leaves_on start.Already = true
 leaves_on (start.Up k) = true
 leaves_on _ = false
+
+-- it read the storage
+abbrev pub HasRead : Started → Type 0
+HasRead (start.Up k) = Unit {0}
+HasRead start.Damaged = Unit {0}
+HasRead _ = ⊥

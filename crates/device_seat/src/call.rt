@@ -1,13 +1,14 @@
 //! Calls of the device in its seat. A device whose commit fails is switched off.
-ghost use Rattle.std.specs.Prelude.{◌≡◌, ◌&&◌, ◌↔◌, ℕ, None, true, false, not};
+ghost use Rattle.std.specs.Prelude.{◌≡◌, ◌&&◌, ◌↔◌, ℕ, None, IfSome, true, false, not};
 ghost use Rattle.bench_base.specs.Rules.{first_rules};
-ghost use Rattle.nv_store.specs.Turns.{Kept, Spent};
+ghost use Rattle.nv_store.specs.Turns.{Spent};
 ghost use Rattle.psd_device.specs.Acts.{IsAfter};
+ghost use Rattle.psd_device.specs.Boots.{IsOwn};
 ghost use Rattle.psd_device.specs.Calls.{make_act, debit_act};
 ghost use Rattle.psd_device.specs.DeviceView.{running};
 ghost use Rattle.device_seat.specs.Views.{View, Allowed};
-ghost use Rattle.device_seat.specs.Seats.{is_seated, is_on, meters_of, SeatStands, SeatTurn, NoCommit, seat_with};
-ghost use Rattle.device_seat.specs.Calls.{IsEnd, outcome_in, outcome_of, status_act, MayCome, after_call, commit_of, end_of_call, has_failed};
+ghost use Rattle.device_seat.specs.Seats.{is_seated, is_on, meters_of, SeatStands, SeatTurn, seat_with};
+ghost use Rattle.device_seat.specs.Calls.{IsEnd, outcome_in, outcome_of, status_act, MayCome, after_call, commit_of, end_of_call, has_failed, is_refusal};
 
 use crate::outcome::Outcome;
 use crate::seat::Seat;
@@ -65,6 +66,9 @@ impl<M: Nv + Drop> Seat<M> {
         ensures turn { (d : ℕ) (v : View) → SeatStands M.Nv d v self.old → M.tells
             → SeatTurn M.Nv (Allowed v) (IsAfter v.count (commit_of v (make_act d key.now v.state))) self.old self.new
             (end_of_call result (commit_of v (make_act d key.now v.state))) }
+        ensures keeps { (d : ℕ) (v : View) → SeatStands M.Nv d v self.old → M.tells
+            → IfSome (commit_of v (make_act d key.now v.state)) (λ x. IsOwn d x.1) }
+        ensures refused { is_refusal result ≡ true → self.new ≡ self.old }
         ensures spent { Spent 6 (meters_of M.Nv self.old) (meters_of M.Nv self.new) (end_of_call result None) }
     {
         match mem::replace(self, Seat::Gone) {
@@ -96,6 +100,9 @@ impl<M: Nv + Drop> Seat<M> {
         ensures turn { (d : ℕ) (v : View) → SeatStands M.Nv d v self.old → M.tells
             → SeatTurn M.Nv (Allowed v) (IsAfter v.count (commit_of v (debit_act first_rules d command.now day v.state))) self.old self.new
             (end_of_call result (commit_of v (debit_act first_rules d command.now day v.state))) }
+        ensures keeps { (d : ℕ) (v : View) → SeatStands M.Nv d v self.old → M.tells
+            → IfSome (commit_of v (debit_act first_rules d command.now day v.state)) (λ x. IsOwn d x.1) }
+        ensures refused { is_refusal result ≡ true → self.new ≡ self.old }
         ensures spent { Spent 6 (meters_of M.Nv self.old) (meters_of M.Nv self.new) (end_of_call result None) }
     {
         match mem::replace(self, Seat::Gone) {
@@ -120,7 +127,6 @@ impl<M: Nv + Drop> Seat<M> {
         ensures off { (result ≡ Outcome.Off) ↔ (is_on M.Nv self.now ≡ false) }
         ensures fails { has_failed result ≡ false }
         ensures comes { (d : ℕ) (v : View) → SeatStands M.Nv d v self.now → M.tells → result ≡ outcome_of v (status_act day v.state) }
-        ensures rests { (d : ℕ) (v : View) → SeatStands M.Nv d v self.now → M.tells → SeatTurn M.Nv (Allowed v) NoCommit self.now self.now Kept }
     {
         match self {
             Seat::On(device) => outcome(device.status(day), None),

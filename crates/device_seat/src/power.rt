@@ -1,10 +1,11 @@
 //! Switching a device on and off, and cutting its power.
 ghost use Rattle.std.specs.Prelude.{◌≡◌, ◌≢◌, ◌↔◌, ℕ, Some, true, false};
-ghost use Rattle.nv_store.specs.Turns.{Kept, Spent};
+ghost use Rattle.nv_store.specs.Mounts.{Mounts};
+ghost use Rattle.nv_store.specs.Turns.{Spent};
 ghost use Rattle.device_seat.specs.declared.seat.Seat.TheVariants as seat;
-ghost use Rattle.device_seat.specs.Views.{View, Allowed, stopped};
-ghost use Rattle.device_seat.specs.Seats.{is_seated, is_on, times_of, meters_of, SeatStands, SeatTurn, NoCommit, storage_in, IsArmed};
-ghost use Rattle.device_seat.specs.Starts.{MayStart, after_start, end_of_start, leaves_on};
+ghost use Rattle.device_seat.specs.Views.{View, stopped};
+ghost use Rattle.device_seat.specs.Seats.{is_seated, is_on, times_of, meters_of, SeatStands, storage_in, IsArmed, HasDamage};
+ghost use Rattle.device_seat.specs.Starts.{MayStart, after_start, end_of_start, leaves_on, HasRead};
 
 use crate::outcome::Started;
 use crate::seat::Seat;
@@ -22,8 +23,8 @@ fn boot<M: Nv + Drop>(number: DevNo, nv: M) -> (Seat<M>, Started)
     ensures tried { result.1 ≢ Started.Already }
     ensures comes { (v : View) → SeatStands M.Nv number v (seat.Off nv) → M.tells → MayStart v result.1 }
     ensures stands { (v : View) → SeatStands M.Nv number v (seat.Off nv) → M.tells → SeatStands M.Nv number (after_start result.1 v) result.0 }
-    ensures turn { (v : View) → SeatStands M.Nv number v (seat.Off nv) → M.tells
-        → SeatTurn M.Nv (Allowed v) NoCommit (seat.Off nv) result.0 (end_of_start result.1) }
+    ensures mounts { M.tells → Mounts (M.times nv) (times_of M.Nv result.0) }
+    ensures damaged { M.tells → HasRead result.1 → (result.1 ≡ Started.Damaged) ↔ HasDamage M.Nv number result.0 }
     ensures spent { Spent 6 (M.meters nv) (meters_of M.Nv result.0) (end_of_start result.1) }
 {
     // What an image shows, it shows of one record.
@@ -53,8 +54,12 @@ impl<M: Nv + Drop> Seat<M> {
         ensures leaves { is_on M.Nv self.new ≡ leaves_on result }
         ensures comes { (v : View) → SeatStands M.Nv number v self.old → M.tells → MayStart v result }
         ensures stands { (v : View) → SeatStands M.Nv number v self.old → M.tells → SeatStands M.Nv number (after_start result v) self.new }
-        ensures turn { (v : View) → SeatStands M.Nv number v self.old → M.tells
-            → SeatTurn M.Nv (Allowed v) NoCommit self.old self.new (end_of_start result) }
+
+        // Nothing is written, and `Damaged` comes exactly where what was read is no device of this number.
+        ensures mounts { M.tells → Mounts (times_of M.Nv self.old) (times_of M.Nv self.new) }
+        ensures damaged { M.tells → HasRead result → (result ≡ Started.Damaged) ↔ HasDamage M.Nv number self.new }
+
+        ensures refused { result ≡ Started.Already → self.new ≡ self.old }
         ensures spent { Spent 6 (meters_of M.Nv self.old) (meters_of M.Nv self.new) (end_of_start result) }
     {
         match mem::replace(self, Seat::Gone) {
@@ -78,8 +83,9 @@ impl<M: Nv + Drop> Seat<M> {
         ensures was_on { result ≡ is_on M.Nv self.old }
         ensures off { is_on M.Nv self.new ≡ false }
         ensures stands { (d : ℕ) (v : View) → SeatStands M.Nv d v self.old → M.tells → SeatStands M.Nv d (stopped v) self.new }
-        ensures turn { (d : ℕ) (v : View) → SeatStands M.Nv d v self.old → M.tells → SeatTurn M.Nv (Allowed v) NoCommit self.old self.new Kept }
+        ensures mounts { M.tells → Mounts (times_of M.Nv self.old) (times_of M.Nv self.new) }
         ensures meters { meters_of M.Nv self.new ≡ meters_of M.Nv self.old }
+        ensures refused { result ≡ false → self.new ≡ self.old }
     {
         match mem::replace(self, Seat::Gone) {
             Seat::Off(nv) => {
@@ -114,8 +120,7 @@ impl<N: Nv + Drop> Seat<Fused<N>> {
         ensures seated { is_seated ⟦<Fused<N> as Nv>⟧ self.new ≡ true }
         ensures leaves { is_on ⟦<Fused<N> as Nv>⟧ self.new ≡ is_on ⟦<Fused<N> as Nv>⟧ self.old }
         ensures stands { (d : ℕ) (v : View) → SeatStands ⟦<Fused<N> as Nv>⟧ d v self.old → N.tells → SeatStands ⟦<Fused<N> as Nv>⟧ d v self.new }
-        ensures turn { (d : ℕ) (v : View) → SeatStands ⟦<Fused<N> as Nv>⟧ d v self.old → N.tells
-            → SeatTurn ⟦<Fused<N> as Nv>⟧ (Allowed v) NoCommit self.old self.new Kept }
+        ensures mounts { N.tells → Mounts (times_of ⟦<Fused<N> as Nv>⟧ self.old) (times_of ⟦<Fused<N> as Nv>⟧ self.new) }
         ensures armed { IsArmed self.new calls keep byte }
         ensures cuts { (meters_of ⟦<Fused<N> as Nv>⟧ self.new).cuts ≡ (meters_of ⟦<Fused<N> as Nv>⟧ self.old).cuts }
         ensures faults { (meters_of ⟦<Fused<N> as Nv>⟧ self.new).faults ≡ (meters_of ⟦<Fused<N> as Nv>⟧ self.old).faults }

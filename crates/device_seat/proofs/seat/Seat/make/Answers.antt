@@ -1,15 +1,11 @@
-use Rattle.std.proofs.Common.{◌≡◌, ℕ, sym, ◌∙◌, ap, subst, Option}
-use Rattle.std.specs.Prelude.{◌&&◌, Bool, not, true}
+use Rattle.std.proofs.Common.{ℕ, sym, ◌∙◌, ap, Option}
 use Rattle.bench_base.specs.declared.ledger.Commit.{Commit}
 use Rattle.psd_state.specs.State.{State}
 use Rattle.psd_device.specs.Calls.{make_act}
 use Rattle.psd_device.specs.DeviceView.{running}
-use Rattle.device_seat.specs.declared.seat.Seat.{Seat}
-use Rattle.device_seat.specs.Seats.{is_on, is_seated}
-use Rattle.device_seat.specs.Calls.{has_failed, outcome_in}
+use Rattle.device_seat.specs.Calls.{outcome_in}
 use Rattle.device_seat.specs.Views.{View}
-use Rattle.device_seat.proofs.Called.{Left, call_leaves, leaves}
-use Rattle.device_seat.proofs.Rests.{works}
+use Rattle.device_seat.proofs.Called.{Left, call_leaves}
 use Rattle.device_seat.proofs.Owns.{make_own}
 use Rattle.device_seat.proofs.seat.Seat.make.Given.{Over}
 use Rattle.device_seat.proofs.seat.Seat.make.Goals as goal
@@ -22,7 +18,7 @@ left g c =
     let key = c.args.key.now in
     let e = c.make-answer.ensures in
     call_leaves g.M.Nv g.met.M.Nv.nested _ _ dev c.make-answer.new.self (make_act r.device key r.state) _ c.make-answer.result _
-    (sym c.replace.ensures.value ∙ c.in-On.is) c.requires.seated c.settled.ensures (c.outcome-result.ensures ∙ ap (λ (t : Option Commit). outcome_in c.make-answer.result t) c.torn.ensures) e.does e.turn e.next
+    (sym c.replace.ensures.value ∙ c.in-On.is) c.requires.seated c.settled.ensures (◌∙◌ {b = outcome_in c.make-answer.result c.torn.result} c.outcome-result.ensures (ap (λ (t : Option Commit). outcome_in c.make-answer.result t) c.torn.ensures)) e.does e.turn e.next e.rests
     (λ d v stands tells. record {
       same = ap (λ (n : ℕ). make_act n key r.state) stands.number ∙ ap (λ (o : Option State). make_act d key o) (stands.state tells);
       number = make_own d r.device r.count key r.state stands.number;
@@ -37,13 +33,11 @@ returns-in-On-clause-stands g c = (left g c).stands
 pub returns-in-On-clause-turn : goal.returns-in-On-clause-turn
 returns-in-On-clause-turn g c = (left g c).turn
 
+pub returns-in-On-clause-keeps : goal.returns-in-On-clause-keeps
+returns-in-On-clause-keeps g c = (left g c).keeps
+
+pub returns-in-On-clause-refused : goal.returns-in-On-clause-refused
+returns-in-On-clause-refused g c = (left g c).refused
+
 pub returns-in-On-clause-leaves : goal.returns-in-On-clause-leaves
-returns-in-On-clause-leaves g c =
-    let dev = c.in-On.device in
-    let r = running dev in
-    let was = sym c.replace.ensures.value ∙ c.in-On.is in
-    let intact = works g.M.Nv dev (subst (λ (u : Seat g.row.M.Denot g.M.Nv). is_seated g.M.Nv u ≡ true) was c.requires.seated) in
-    ap (is_on g.M.Nv) c.settled.ensures
-    ∙ leaves g.M.Nv (make_act r.device c.args.key.now r.state) dev c.make-answer.new.self c.make-answer.result intact (c.make-answer.ensures.does intact)
-    ∙ ap (λ x. not (has_failed x)) (sym (c.outcome-result.ensures ∙ ap (λ (t : Option Commit). outcome_in c.make-answer.result t) c.torn.ensures))
-    ∙ sym (ap (λ (b : Bool). b && not (has_failed c.outcome-result.result)) (ap (is_on g.M.Nv) was))
+returns-in-On-clause-leaves g c = (left g c).is_left
