@@ -8,7 +8,7 @@ use Rattle.bench_base.specs.declared.ledger.Entry.TheVariants as entry
 use Rattle.bench_base.specs.declared.events.Reply.TheVariants as r
 use Rattle.bench_base.specs.Rules.{first_rules}
 use Rattle.psd_wire.specs.declared.message.DebitMsg.{DebitMsg}
-use Rattle.nv_model.specs.Meters.{Meters, Uses}
+use Rattle.nv_model.specs.Meters.{Meters}
 use Rattle.nv_store.specs.Turns.{Kept, Spent}
 use Rattle.psd_state.specs.State.{State}
 use Rattle.psd_state.specs.Answers.{debit_answer}
@@ -24,16 +24,17 @@ use Rattle.device_seat.specs.Views.{View}
 use Rattle.device_seat.specs.Calls.{status_act, outcome_of, MayCome, after_call, end_of_call, has_failed}
 use Rattle.bench_views.specs.Devices as views
 use Rattle.bench.specs.Turns.{franked_entries}
+use Rattle.bench.proofs.Seated.{uses_none}
 use Rattle.bench.proofs.Told.{IsDone, Agrees}
 
 pub made_done : (d : ℕ) → IsDone (r.Made d)
-made_done d = record { adds = λ p H. refl; commits = λ c v. refl; keeps = λ v. refl; not_off = λ n e. cc; on_day = λ e. cc; power = λ i. refl; fault = λ i. refl; cut = λ i. refl; on = λ b. refl }
+made_done d = record { adds = λ p H. refl; commits = λ c v. refl; keeps = λ v. refl; not_off = λ n e. cc; on_day = λ e. cc; power = λ i. refl; fault = λ i. refl; names = λ e. tt; on = λ b. refl; not_refused = refl; not_read = λ read. absurd read }
 
 pub marked_done : (d piece : ℕ) (f : Franked) → IsDone (views.marked d piece f)
-marked_done d piece f = record { adds = λ p H. refl; commits = λ c v. refl; keeps = λ v. refl; not_off = λ n e. cc; on_day = λ e. cc; power = λ i. refl; fault = λ i. refl; cut = λ i. refl; on = λ b. refl }
+marked_done d piece f = record { adds = λ p H. refl; commits = λ c v. refl; keeps = λ v. refl; not_off = λ n e. cc; on_day = λ e. cc; power = λ i. refl; fault = λ i. refl; names = λ e. tt; on = λ b. refl; not_refused = refl; not_read = λ read. absurd read }
 
 pub status_done : (d : ℕ) (w : DevView) → IsDone (r.Status d w)
-status_done d w = record { adds = λ p H. refl; commits = λ c v. refl; keeps = λ v. refl; not_off = λ n e. cc; on_day = λ e. cc; power = λ i. refl; fault = λ i. refl; cut = λ i. refl; on = λ b. refl }
+status_done d w = record { adds = λ p H. refl; commits = λ c v. refl; keeps = λ v. refl; not_off = λ n e. cc; on_day = λ e. cc; power = λ i. refl; fault = λ i. refl; names = λ e. tt; on = λ b. refl; not_refused = refl; not_read = λ read. absurd read }
 
 pub make_agrees : (d : ℕ) (key : List ℕ) (o : Option State) → Agrees d (λ u. []) (λ u. entry.Commit (Made d key) ∷ []) (make_act d key o)
 make_agrees d key None = (refl, refl)
@@ -79,10 +80,6 @@ after_none v (o.Done a) = refl
 after_none v o.Worn = refl
 after_none v (o.Power c) = refl
 after_none v (o.Fault c) = refl
-
-uses_none : (f : Option ℕ) → Uses 6 f f
-uses_none None = refl
-uses_none (Some left) = (omega arith, omega arith)
 
 spent_none : (m : Meters) → Spent 6 m m Kept
 spent_none m = record { cuts = omega arith; faults = omega arith; fuse = uses_none m.fuse; power = λ e. cc; fault = λ e. cc }

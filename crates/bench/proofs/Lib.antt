@@ -6,4 +6,5 @@ pub mod Making
 pub mod Over
 pub mod Quiet
 pub mod Seated
+pub mod Stops
 pub mod Told

@@ -1,6 +1,7 @@
 -- Events that leave the seats as they are: a day, the end, and each event without a day.
 use Rattle.std.proofs.Common.{◌≡◌, ◌≢◌, inl, ℕ, ℤ, ◌+◌, List, [], ◌∷◌, ◌++◌, Option, Some, None, false, refl, sym, ◌∙◌, ap, subst, append-nil}
 use Rattle.std.specs.Prelude.{slice_get, IsSome}
+use Rattle.bench_base.specs.declared.ledger.Commit.{Commit}
 use Rattle.bench_base.specs.declared.events.Event.{Event}
 use Rattle.bench_base.specs.declared.events.Event.TheVariants as ev
 use Rattle.bench_base.specs.declared.events.Reply.{Reply}
@@ -12,8 +13,9 @@ use Rattle.bench_base.specs.Ranges.{IsWholeEvent}
 use Rattle.bench_base.specs.Ledger.{Ledger, day_in}
 use Rattle.nv_model.specs.declared.nv.Nv.{Ghosts}
 use Rattle.device_seat.specs.declared.seat.Seat.{Seat}
-use Rattle.device_seat.specs.Seats.{meters_of, times_of}
-use Rattle.device_seat.proofs.Rests.{seat_shows}
+use Rattle.device_seat.specs.Seats.{meters_of, times_of, OffStands}
+use Rattle.nv_store.specs.Mounts.{Mounts}
+use Rattle.device_seat.proofs.Rests.{seat_shows, mounts_none}
 use Rattle.bench_views.specs.Devices.{view_of}
 use Rattle.ledger_laws.specs.Tariffs.{Tariff}
 use Rattle.ledger_laws.specs.Moves.{Moves, plan, plan_at, after, entries}
@@ -21,10 +23,13 @@ use Rattle.bench.specs.declared.coming.Turn.{Turn}
 use Rattle.bench.specs.Turns.{in_order, turn_of}
 use Rattle.bench.specs.Costs.{tells_power, tells_fault}
 use Rattle.bench.specs.declared.devices.BenchOver.{BenchOver}
-use Rattle.bench.specs.Benches.{AreSeated, HasDay, SeatsStand, Stands}
-use Rattle.bench.specs.Steps.{NeedsDay, AtAnyMoment, EachCharged}
+use Rattle.bench.specs.Benches.{AreSeated, HasDay, SeatsStand, StoresStand, Stands}
+use Rattle.bench.specs.Steps.{NeedsDay, AtAnyMoment, EachCharged, NamesDevice, HasRead, FindsDamage, WritesNothing}
+use Rattle.bench.specs.Stops.{AreLeft, with_open, after_stop}
 use Rattle.bench.proofs.Seated.{rests_charged}
 use Rattle.bench.proofs.Frames.{same_some}
+use Rattle.bench.proofs.Stops.{none_left, none_day}
+use Rattle.bench.proofs.Told.{damage_read}
 
 -- The turn is that of this plan, which commits nothing, wherever the bench has this day.
 pub record IsPlanned (e : Event) (p : Plan) (turn : Turn) (today : Option ℤ) : Type 0 where
@@ -33,6 +38,9 @@ pub record IsPlanned (e : Event) (p : Plan) (turn : Turn) (today : Option ℤ) :
   pub adds : (H : Ledger) → after p p.reply H ≡ p.after ++ H
   pub power : (i : ℕ) → tells_power i p.reply ≡ false
   pub fault : (i : ℕ) → tells_fault i p.reply ≡ false
+  pub silent : p.commit ≡ None
+  pub not_read : HasRead p.reply → ⊥
+  pub names : NamesDevice e p.reply
 
 plan_day : (τ : Tariff) (H : Ledger) (t : ℤ) → plan τ first_rules H (ev.Day t) [] ≡ told (r.Day t) (entry.Day t ∷ [])
 unfolding plan
@@ -52,13 +60,13 @@ unfolding plan
 plan_none τ H e needs none = ap (λ (t : Option ℤ). plan_at τ first_rules H e [] t) (sym none) ∙ without_day τ H e needs
 
 pub planned_day : (t : ℤ) (turn : Turn) (today : Option ℤ) → turn ≡ turn_of (r.Day t) (entry.Day t ∷ []) → IsPlanned (ev.Day t) (told (r.Day t) (entry.Day t ∷ [])) turn today
-planned_day t turn today is = record { turn_is = is; plan_is = λ τ H day. plan_day τ H t; adds = λ H. refl; power = λ i. refl; fault = λ i. refl }
+planned_day t turn today is = record { turn_is = is; plan_is = λ τ H day. plan_day τ H t; adds = λ H. refl; power = λ i. refl; fault = λ i. refl; silent = refl; not_read = λ read. absurd read; names = tt }
 
 pub planned_end : (turn : Turn) (today : Option ℤ) → turn ≡ turn_of r.End [] → IsPlanned ev.End (refuse r.End) turn today
-planned_end turn today is = record { turn_is = is; plan_is = λ τ H day. plan_end τ H; adds = λ H. refl; power = λ i. refl; fault = λ i. refl }
+planned_end turn today is = record { turn_is = is; plan_is = λ τ H day. plan_end τ H; adds = λ H. refl; power = λ i. refl; fault = λ i. refl; silent = refl; not_read = λ read. absurd read; names = tt }
 
 pub planned_none : (e : Event) (turn : Turn) → NeedsDay e → turn ≡ turn_of r.NoDay [] → IsPlanned e (refuse r.NoDay) turn None
-planned_none e turn needs is = record { turn_is = is; plan_is = λ τ H none. plan_none τ H e needs none; adds = λ H. refl; power = λ i. refl; fault = λ i. refl }
+planned_none e turn needs is = record { turn_is = is; plan_is = λ τ H none. plan_none τ H e needs none; adds = λ H. refl; power = λ i. refl; fault = λ i. refl; silent = refl; not_read = λ read. absurd read; names = tt }
 
 pub at_event : (e e' : Event) (p : Plan) (turn : Turn) (today : Option ℤ) → e' ≡ e → IsPlanned e p turn today → IsPlanned e' p turn today
 at_event e e' p turn today is planned = subst (λ (i : Event). IsPlanned i p turn today) (sym is) planned
@@ -66,6 +74,9 @@ at_event e e' p turn today is planned = subst (λ (i : Event). IsPlanned i p tur
 module _ (e : Event) (p : Plan) (turn : Turn) (today : Option ℤ) (planned : IsPlanned e p turn today) where
   reply_is : turn.reply ≡ p.reply
   reply_is = ap (λ (t : Turn). t.reply) planned.turn_is
+
+  pub quiet_names : NamesDevice e turn.reply
+  quiet_names = subst (NamesDevice e) (sym reply_is) planned.names
 
   module _ (τ : Tariff) (H : Ledger) (day : HasDay today H) where
     pub quiet_moves : IsWholeEvent e → Moves τ first_rules H e [] turn.reply
@@ -93,6 +104,25 @@ module _ (e : Event) (p : Plan) (turn : Turn) (today : Option ℤ) (planned : Is
         inl (seat_shows g (i + 1) (view_of (i + 1) H) s (stands i s was) (ready.each i s was) tells image
         (subst (λ (u : Seat M g). (times_of g u).since (times_of g s).moment image) (same_seat i s t was is) now))
 
+    pub quiet_unwritten : WritesNothing g seats seats
+    quiet_unwritten i s t was is = subst (λ (u : Seat M g). Mounts (times_of g s) (times_of g u)) (sym (same_seat i s t was is)) (mounts_none (times_of g s))
+
+    pub quiet_damage : FindsDamage g e turn.reply seats
+    quiet_damage = record {
+      on = λ n is. absurd (damage_read turn.reply n (λ read. planned.not_read (subst HasRead reply_is read)) is);
+      exact = λ tells read. absurd (planned.not_read (subst HasRead reply_is read));
+    }
+
+    pub quiet_left : {N : Type 0} (h : Ghosts N) (τ : Tariff) (H : Ledger) → HasDay today H → SeatsStand g seats H → AreSeated g seats → g.tells
+        → (stores : List N) → AreLeft g h seats seats stores → StoresStand h stores (after_stop τ H e)
+    quiet_left {N} h τ H day stands ready tells stores left =
+        let none : (plan τ first_rules H e []).commit ≡ None = ap (λ (q : Plan). q.commit) (planned.plan_is τ H day.day) ∙ planned.silent in
+        record {
+          day = none_day _;
+          each = λ i nv is. subst (λ (o : Option Commit). OffStands h (i + 1) (view_of (i + 1) (entry.Begin ∷ with_open o H)) nv) (sym none)
+              (none_left g h τ H e seats seats stores left stands ready ready tells (quiet_any_moment τ H stands ready tells) none i nv is);
+        }
+
 -- a day that was set
 pub day_set : (t : ℤ) (today : Option ℤ) (H : Ledger) → HasDay today H → HasDay (Some t) (entry.Day t ∷ H)
 day_set t today H day = record { day = refl; rates = day.rates; messages = day.messages; centre = day.centre; host = day.host; verifier = day.verifier }
@@ -109,8 +139,8 @@ pub some_day : (o : Option ℤ) → IsSome o → o ≡ None → ⊥
 some_day None some none = cc
 some_day (Some t) some none = cc
 
-pub none_day : (o : Option ℤ) (t : ℤ) → o ≡ None → o ≡ Some t → ⊥
-none_day o t none some = cc
+pub no_day : (o : Option ℤ) (t : ℤ) → o ≡ None → o ≡ Some t → ⊥
+no_day o t none some = cc
 
 -- the same ledger by another word
 pub stands_at : {M N : Type 0} (g : Ghosts M) (bench : BenchOver M N g) (H L : Ledger) → L ≡ H → Stands g bench H → Stands g bench L

@@ -1,11 +1,12 @@
 -- How what a device did is told, and what the ledger may answer and adds.
-use Rattle.std.proofs.Common.{◌≡◌, ◌≢◌, ◌⊎◌, inl, inr, ℕ, List, [], ◌∷◌, ◌++◌, Option, Some, None, Bool, true, false, not, ◌&&◌, ◌==◌, if◌then◌else◌, ◌↔◌, refl, sym, ◌∙◌, ap, subst, append-nil, true≢false, arith}
+use Rattle.std.proofs.Common.{◌≡◌, ◌≢◌, ◌⊎◌, inl, inr, ℕ, List, [], ◌∷◌, ◌++◌, Option, Some, None, Bool, true, false, not, ◌&&◌, ◌==◌, if◌then◌else◌, option_map, ◌↔◌, refl, sym, ◌∙◌, ap, subst, append-nil, true≢false, arith}
 use Rattle.std.proofs.lemmas.Bool.Decides.{nat_tests}
 use Rattle.bench_base.specs.declared.words.Node.{Node}
-use Rattle.bench_base.specs.declared.words.Node.TheVariants.{Device}
+use Rattle.bench_base.specs.declared.words.Node.TheVariants.{Device, Centre, Host, Verifier}
 use Rattle.bench_base.specs.declared.ledger.Commit.{Commit}
 use Rattle.bench_base.specs.declared.ledger.Entry.{Entry}
 use Rattle.bench_base.specs.declared.ledger.Entry.TheVariants as entry
+use Rattle.bench_base.specs.declared.events.Event.{Event}
 use Rattle.bench_base.specs.declared.events.Reply.{Reply}
 use Rattle.bench_base.specs.declared.events.Reply.TheVariants as r
 use Rattle.bench_base.specs.Nodes.{node_of}
@@ -21,13 +22,15 @@ use Rattle.device_seat.specs.declared.outcome.Outcome.{Outcome}
 use Rattle.device_seat.specs.declared.outcome.Outcome.TheVariants as o
 use Rattle.device_seat.specs.Views.{View, committed}
 use Rattle.device_seat.specs.Calls.{outcome_at, outcome_of, commit_of, MayCome, after_call, end_of_call, has_failed}
+use Rattle.device_seat.specs.Calls as seats
+use Rattle.bench_views.specs.Taken.{device_of}
 use Rattle.bench_views.specs.Devices.{done_plan, when_on, view_after}
 use Rattle.ledger_laws.specs.Moves.{after, with_commit, with_torn, Fails}
-use Rattle.bench.specs.Costs.{tells_power, tells_fault, tells_cut, Charged}
+use Rattle.bench.specs.Costs.{is_device, tells_power, tells_fault, Charged}
 use Rattle.bench.specs.Turns.{in_order, call_turn}
-use Rattle.bench.specs.Steps.{on_after, Names}
+use Rattle.bench.specs.Steps.{on_after, IsFor, NamesDevice, is_refusal, HasRead}
 
--- A reply that tells that a call was done, and of no failure, start or stop.
+-- A reply that tells that a call was done, and of no refusal, failure, start or stop.
 pub record IsDone (x : Reply) : Type 0 where
   pub adds : (p : Plan) (H : Ledger) → after p x H ≡ p.after ++ with_commit p.commit H
   pub commits : (c : Commit × State) (v : View) → view_after x (Some c) v ≡ committed c.1 v
@@ -36,8 +39,10 @@ pub record IsDone (x : Reply) : Type 0 where
   pub on_day : x ≢ r.NoDay
   pub power : (i : ℕ) → tells_power i x ≡ false
   pub fault : (i : ℕ) → tells_fault i x ≡ false
-  pub cut : (i : ℕ) → tells_cut i x ≡ false
+  pub names : (e : Event) → NamesDevice e x
   pub on : (b : Bool) → on_after x b ≡ b
+  pub not_refused : is_refusal x ≡ false
+  pub not_read : HasRead x → ⊥
 
 -- what is added where a call is done is what its act tells, after its commit, which is the device's
 abbrev pub Agrees : {A : Type 0} → ℕ → (A → List Entry) → (A → Ledger) → Act A → Type 0
@@ -85,22 +90,34 @@ module _ {A : Type 0} (d : ℕ) (reply : A → Reply) (tell : A → List Entry) 
   was_answered true count act agrees = was_done count act agrees
   was_answered false count act agrees = record { may = inl refl; entries_are = refl; view = λ v. refl }
 
-  -- the commit of the plan
-  made_if : (worn : Bool) (c : Commit) (s : State) (a : A) (x : Commit × State) → (if worn then None else Some (c, s)) ≡ Some x
-      → ((if worn then refuse (r.Worn (Device d)) else made (reply a) c (tell a)).commit ≡ Some x.0) × (c ≡ x.0)
-  made_if true c s a x is = cc
-  made_if false c s a x is = let same : ◌≡◌ {A = Commit × State} (c, s) x = cc in (ap (λ (y : Commit × State). Some y.0) same, ap (λ (y : Commit × State). y.0) same)
+  -- the commit of the plan is that of the act
+  worn_commit : (worn : Bool) (c : Commit) (s : State) (a : A)
+      → (if worn then refuse (r.Worn (Device d)) else made (reply a) c (tell a)).commit ≡ option_map (λ (x : Commit × State). x.0) (if worn then None else Some (c, s))
+  worn_commit true c s a = refl
+  worn_commit false c s a = refl
 
-  done_commit : (count : ℕ) (act : Act A) (x : Commit × State) → Agrees d tell done act → commit_in count act ≡ Some x
-      → ((done_plan d reply tell count act).commit ≡ Some x.0) × (node_of x.0 ≡ Device d)
-  done_commit count (Refuse y) x agrees is = cc
-  done_commit count (Tell a) x agrees is = cc
-  done_commit count (Commits c s a) x agrees is = let m = made_if (count == 4294967295) c s a x is in (m.0, ap node_of (sym m.1) ∙ agrees.1)
+  done_commit : (count : ℕ) (act : Act A) → (done_plan d reply tell count act).commit ≡ option_map (λ (x : Commit × State). x.0) (commit_in count act)
+  done_commit count (Refuse y) = refl
+  done_commit count (Tell a) = refl
+  done_commit count (Commits c s a) = worn_commit (count == 4294967295) c s a
 
-  pub plan_commit : (on : Bool) (count : ℕ) (act : Act A) (x : Commit × State) → Agrees d tell done act → (if on then commit_in count act else None) ≡ Some x
-      → ((plan_at d reply tell on count act).commit ≡ Some x.0) × (node_of x.0 ≡ Device d)
-  plan_commit true count act x agrees is = done_commit count act x agrees is
-  plan_commit false count act x agrees is = cc
+  pub plan_commit : (on : Bool) (count : ℕ) (act : Act A) → (plan_at d reply tell on count act).commit ≡ option_map (λ (x : Commit × State). x.0) (if on then commit_in count act else None)
+  plan_commit true count act = done_commit count act
+  plan_commit false count act = refl
+
+  -- and the device's
+  worn_own : (worn : Bool) (c : Commit) (s : State) (x : Commit × State) → node_of c ≡ Device d → (if worn then None else Some (c, s)) ≡ Some x → node_of x.0 ≡ Device d
+  worn_own true c s x own is = cc
+  worn_own false c s x own is = let same : ◌≡◌ {A = Commit × State} (c, s) x = cc in ap (λ (y : Commit × State). node_of y.0) (sym same) ∙ own
+
+  done_own : (count : ℕ) (act : Act A) (x : Commit × State) → Agrees d tell done act → commit_in count act ≡ Some x → node_of x.0 ≡ Device d
+  done_own count (Refuse y) x agrees is = cc
+  done_own count (Tell a) x agrees is = cc
+  done_own count (Commits c s a) x agrees is = worn_own (count == 4294967295) c s x agrees.1 is
+
+  pub commit_own : (on : Bool) (count : ℕ) (act : Act A) (x : Commit × State) → Agrees d tell done act → (if on then commit_in count act else None) ≡ Some x → node_of x.0 ≡ Device d
+  commit_own true count act x agrees is = done_own count act x agrees is
+  commit_own false count act x agrees is = cc
 
   module _ (v : View) (act : Act A) (agrees : Agrees d tell done act) where
     -- an answer, where the storage did not fail
@@ -118,43 +135,45 @@ module _ {A : Type 0} (d : ℕ) (reply : A → Reply) (tell : A → List Entry) 
     tells (o.Done a) may = by_answer (o.Done a) may
     tells o.Worn may = by_answer o.Worn may
     tells (o.Power c) may =
-        let p = plan_commit v.on v.count act (c, may.0) agrees may.1 in
+        let planned = plan_commit v.on v.count act ∙ ap (λ (m : Option (Commit × State)). option_map (λ (x : Commit × State). x.0) m) may.1 in
         record {
-          may = inr (inr (c, p.0, p.1));
-          entries_are = torn_entries (c, may.0) r.Power p.0 (λ q. refl);
+          may = inr (inr (c, planned, commit_own v.on v.count act (c, may.0) agrees may.1));
+          entries_are = torn_entries (c, may.0) r.Power planned (λ q. refl);
           view = λ w. subst (λ (m : Option (Commit × State)). view_after (r.Power (Device d)) m w ≡ after_call {A = A} (o.Power c) m w) (sym may.1) refl;
         }
     tells (o.Fault c) may =
-        let p = plan_commit v.on v.count act (c, may.0) agrees may.1 in
+        let planned = plan_commit v.on v.count act ∙ ap (λ (m : Option (Commit × State)). option_map (λ (x : Commit × State). x.0) m) may.1 in
         record {
-          may = inr (inr (c, p.0, p.1));
-          entries_are = torn_entries (c, may.0) r.Fault p.0 (λ q. refl);
+          may = inr (inr (c, planned, commit_own v.on v.count act (c, may.0) agrees may.1));
+          entries_are = torn_entries (c, may.0) r.Fault planned (λ q. refl);
           view = λ w. subst (λ (m : Option (Commit × State)). view_after (r.Fault (Device d)) m w ≡ after_call {A = A} (o.Fault c) m w) (sym may.1) refl;
         }
 
 -- == whatever the storage tells ==
 
-pub same_device : (i d : ℕ) → (d == i) ≡ true → i ≡ d
-same_device i d is = grind (arith, nat_tests)
+-- a failure that is told of device i is one of the device of the event
+failure_of : (e : Event) (n : Node) (i : ℕ) → IsFor e n → is_device i n ≡ true → device_of e ≡ Some i
+failure_of e (Device j) i for_it is = let same : j ≡ i = grind (arith, nat_tests) in for_it ∙ ap (λ (k : ℕ). Some k) same
+failure_of e Centre i for_it is = absurd for_it
+failure_of e Host i for_it is = absurd for_it
+failure_of e Verifier i for_it is = absurd for_it
 
-pub never : (i d : ℕ) → false ≡ true → i ≡ d
-never i d is = absurd (true≢false (sym is))
+pub power_of : (e : Event) (x : Reply) (i : ℕ) → NamesDevice e x → tells_power i x ≡ true → device_of e ≡ Some i
+power_of e (r.Power n) i names is = failure_of e n i names is
+power_of e _ i names is = absurd (true≢false (sym is))
 
-pub names_none : (d : ℕ) (x : Reply) → ((i : ℕ) → tells_power i x ≡ false) → ((i : ℕ) → tells_fault i x ≡ false) → ((i : ℕ) → tells_cut i x ≡ false) → Names d x
-names_none d x power fault cut = record {
-  power = λ i is. never i d (sym (power i) ∙ is);
-  fault = λ i is. never i d (sym (fault i) ∙ is);
-  cut = λ i is. never i d (sym (cut i) ∙ is);
-}
+pub fault_of : (e : Event) (x : Reply) (i : ℕ) → NamesDevice e x → tells_fault i x ≡ true → device_of e ≡ Some i
+fault_of e (r.Fault n) i names is = failure_of e n i names is
+fault_of e _ i names is = absurd (true≢false (sym is))
 
 module _ {A : Type 0} (d : ℕ) (reply : A → Reply) (done : A → Ledger) (is_done : (a : A) → IsDone (reply a)) where
-  pub call_names : (result : Outcome A) → Names d (call_turn d reply done result).reply
-  call_names o.Off = names_none d _ (λ i. refl) (λ i. refl) (λ i. refl)
-  call_names (o.Refused y) = names_none d _ (λ i. refl) (λ i. refl) (λ i. refl)
-  call_names (o.Done a) = names_none d (reply a) (is_done a).power (is_done a).fault (is_done a).cut
-  call_names o.Worn = names_none d _ (λ i. refl) (λ i. refl) (λ i. refl)
-  call_names (o.Power c) = record { power = λ i is. same_device i d is; fault = λ i is. never i d is; cut = λ i is. never i d is }
-  call_names (o.Fault c) = record { power = λ i is. never i d is; fault = λ i is. same_device i d is; cut = λ i is. never i d is }
+  pub call_names : (e : Event) → device_of e ≡ Some d → (result : Outcome A) → NamesDevice e (call_turn d reply done result).reply
+  call_names e for_it o.Off = tt
+  call_names e for_it (o.Refused y) = tt
+  call_names e for_it (o.Done a) = (is_done a).names e
+  call_names e for_it o.Worn = tt
+  call_names e for_it (o.Power c) = for_it
+  call_names e for_it (o.Fault c) = for_it
 
   none_charged : (x : Reply) (end : End) (was is : Meters) → Spent 6 was is end → tells_power d x ≡ false → tells_fault d x ≡ false → Charged d x was is
   none_charged x end was is spent power fault = record {
@@ -200,6 +219,24 @@ module _ {A : Type 0} (d : ℕ) (reply : A → Reply) (done : A → Ledger) (is_
   call_off (o.Power c) P is = (λ e. cc, λ p. let e = is.1 p in cc)
   call_off (o.Fault c) P is = (λ e. cc, λ p. let e = is.1 p in cc)
 
+  -- a call that did nothing is a refusal, which adds nothing
+  pub call_refused : (result : Outcome A) (P : Type 0) → (seats.is_refusal result ≡ true → P) → is_refusal (call_turn d reply done result).reply ≡ true
+      → P × ((call_turn d reply done result).entries ≡ in_order [])
+  call_refused o.Off P same is = (same refl, refl)
+  call_refused (o.Refused y) P same is = (same refl, refl)
+  call_refused (o.Done a) P same is = absurd (true≢false (sym is ∙ (is_done a).not_refused))
+  call_refused o.Worn P same is = (same refl, refl)
+  call_refused (o.Power c) P same is = absurd (true≢false (sym is))
+  call_refused (o.Fault c) P same is = absurd (true≢false (sym is))
+
+  pub call_not_read : (result : Outcome A) → HasRead (call_turn d reply done result).reply → ⊥
+  call_not_read o.Off read = absurd read
+  call_not_read (o.Refused y) read = absurd read
+  call_not_read (o.Done a) read = (is_done a).not_read read
+  call_not_read o.Worn read = absurd read
+  call_not_read (o.Power c) read = absurd read
+  call_not_read (o.Fault c) read = absurd read
+
   pub call_on_day : (result : Outcome A) → (call_turn d reply done result).reply ≢ r.NoDay
   call_on_day o.Off e = cc
   call_on_day (o.Refused y) e = cc
@@ -207,3 +244,7 @@ module _ {A : Type 0} (d : ℕ) (reply : A → Reply) (done : A → Ledger) (is_
   call_on_day o.Worn e = cc
   call_on_day (o.Power c) e = cc
   call_on_day (o.Fault c) e = cc
+
+-- a reply that tells of damage tells that a storage was read
+pub damage_read : (x : Reply) (n : Node) → (HasRead x → ⊥) → x ≡ r.Damaged n → ⊥
+damage_read x n not_read is = not_read (subst HasRead (sym is) tt)

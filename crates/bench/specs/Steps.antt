@@ -1,6 +1,7 @@
 -- What one event does to the bench.
-use Rattle.std.specs.Prelude.{◌≡◌, ◌≢◌, ◌⊎◌, ◌↔◌, ℕ, ℤ, ◌+◌, List, [], ◌∷◌, Bool, true, false, Some, length, slice_get}
-use Rattle.bench_base.specs.declared.words.Node.TheVariants.{Device}
+use Rattle.std.specs.Prelude.{◌≡◌, ◌≢◌, ◌⊎◌, ◌↔◌, ℕ, ℤ, ◌+◌, List, [], ◌∷◌, Bool, true, false, Some, IfSome, slice_get, slice_set}
+use Rattle.bench_base.specs.declared.words.Node.{Node}
+use Rattle.bench_base.specs.declared.words.Node.TheVariants.{Device, Centre, Host, Verifier}
 use Rattle.bench_base.specs.declared.ledger.Commit.{Commit}
 use Rattle.bench_base.specs.declared.events.Event.{Event}
 use Rattle.bench_base.specs.declared.events.Event.TheVariants as ev
@@ -11,18 +12,22 @@ use Rattle.bench_base.specs.Nodes.{node_of}
 use Rattle.bench_base.specs.Ledger.{Ledger, count_of, counted}
 use Rattle.nv_model.specs.declared.nv.Nv.{Ghosts}
 use Rattle.nv_model.specs.declared.fused.Fused.{Fused}
+use Rattle.nv_store.specs.Mounts.{Mounts}
 use Rattle.psd_device.specs.Shown.{IsShown}
 use Rattle.device_seat.specs.declared.seat.Seat.{Seat}
 use Rattle.psd_device.specs.Acts.{IsAfter}
+use Rattle.psd_device.specs.Boots.{IsOwn}
 use Rattle.device_seat.specs.Views.{View, Allowed}
-use Rattle.device_seat.specs.Seats.{is_seated, is_on, times_of, meters_of, SeatStands, IsArmed}
+use Rattle.device_seat.specs.Seats.{is_seated, is_on, times_of, meters_of, SeatStands, HasDamage, IsArmed}
 use Rattle.bench_views.specs.Taken.{device_of}
 use Rattle.bench_views.specs.Devices.{record_in, view_of, device_plan, commit_by, MayReply, view_after}
 use Rattle.ledger_laws.specs.Tariffs.{Tariff}
 use Rattle.ledger_laws.specs.Moves.{plan, after}
 use Rattle.bench.specs.declared.coming.Turn.{Turn}
+use Rattle.bench.specs.declared.devices.BenchOver.{BenchOver}
+use Rattle.bench.specs.Benches.{seats_of, day_of}
 use Rattle.bench.specs.Turns.{in_order}
-use Rattle.bench.specs.Costs.{Charged, tells_power, tells_fault, tells_cut}
+use Rattle.bench.specs.Costs.{Charged}
 
 -- == a stop within a step ==
 
@@ -42,6 +47,21 @@ AtAnyMoment {M} g τ H e old new = (i : ℕ) (s t : Seat M g) → slice_get old 
 abbrev pub EachCharged : {M : Type 0} (g : Ghosts M) → Reply → List (Seat M g) → List (Seat M g) → Type 0
 EachCharged {M} g reply old new = (i : ℕ) (s t : Seat M g) → slice_get old i ≡ Some s → slice_get new i ≡ Some t
     → Charged (i + 1) reply (meters_of g s) (meters_of g t)
+
+-- a failure is told, and a fuse said to be armed, of the device of the event alone; no printer and no source of rates can fail
+abbrev pub IsFor : Event → Node → Type 0
+IsFor e (Device d) = device_of e ≡ Some d
+IsFor e Centre = ⊥
+IsFor e Host = ⊥
+IsFor e Verifier = ⊥
+
+abbrev pub NamesDevice : Event → Reply → Type 0
+NamesDevice e (r.Power n) = IsFor e n
+NamesDevice e (r.Fault n) = IsFor e n
+NamesDevice e (r.CutSet n) = IsFor e n
+NamesDevice e (r.PrinterFault j) = ⊥
+NamesDevice e r.RatesFault = ⊥
+NamesDevice e _ = Unit {0}
 
 -- the event leaves all seats but that of its device as they are
 abbrev pub OthersStay : {M : Type 0} (g : Ghosts M) → Event → List (Seat M g) → List (Seat M g) → Type 0
@@ -86,13 +106,48 @@ abbrev pub Arms : {N : Type 0} {h : Ghosts N} {g : Ghosts (Fused N h)} → Event
 Arms {N} {h} {g} e new = (i : ℕ) (t : Seat (Fused N h) g) (calls keep byte : ℕ) → e ≡ ev.Cut (Device (i + 1)) calls keep byte → slice_get new i ≡ Some t
     → IsArmed t calls keep byte
 
--- == an event of one device ==
+-- whether the event was refused: by the bench, or by the node
+abbrev pub is_refusal : Reply → Bool
+is_refusal r.NoDay = true
+is_refusal (r.NoMessage k) = true
+is_refusal (r.OffNode n) = true
+is_refusal (r.OnAlready n) = true
+is_refusal (r.DevRefused d x) = true
+is_refusal (r.CentreRefused x) = true
+is_refusal (r.HostRefused x) = true
+is_refusal (r.ScanRefused x) = true
+is_refusal (r.Worn n) = true
+is_refusal _ = false
 
--- the reply names no other device
-pub record Names (d : ℕ) (reply : Reply) : Type 0 where
-  pub power : (i : ℕ) → tells_power i reply ≡ true → i ≡ d
-  pub fault : (i : ℕ) → tells_fault i reply ≡ true → i ≡ d
-  pub cut : (i : ℕ) → tells_cut i reply ≡ true → i ≡ d
+-- each seat, with its storage, and the day are as they were, and nothing is added to the ledger
+pub record IsAsBefore {M N : Type 0} {g : Ghosts M} (old new : BenchOver M N g) (turn : Turn) : Type 0 where
+  pub seats : seats_of new ≡ seats_of old
+  pub day : day_of new ≡ day_of old
+  pub entries : turn.entries ≡ in_order []
+
+-- the event may commit
+abbrev pub MayCommit : Event → Type 0
+MayCommit (ev.Make d key) = Unit {0}
+MayCommit (ev.Debit d piece postage class) = Unit {0}
+MayCommit _ = ⊥
+
+-- nothing was written to any storage: each image since the event began is one of its beginning
+abbrev pub WritesNothing : {M : Type 0} (g : Ghosts M) → List (Seat M g) → List (Seat M g) → Type 0
+WritesNothing {M} g old new = (i : ℕ) (s t : Seat M g) → slice_get old i ≡ Some s → slice_get new i ≡ Some t → Mounts (times_of g s) (times_of g t)
+
+-- the reply tells that a storage was read, to switch its device on
+abbrev pub HasRead : Reply → Type 0
+HasRead (r.Up n k) = Unit {0}
+HasRead (r.Damaged n) = Unit {0}
+HasRead _ = ⊥
+
+-- A device is told to be damaged where it was to come on, exactly where the storage that was read is none of the device.
+pub record FindsDamage {M : Type 0} (g : Ghosts M) (e : Event) (reply : Reply) (new : List (Seat M g)) : Type 0 where
+  pub on : (n : Node) → reply ≡ r.Damaged n → e ≡ ev.On n
+  pub exact : g.tells → HasRead reply → (i : ℕ) (t : Seat M g) → e ≡ ev.On (Device (i + 1)) → slice_get new i ≡ Some t
+      → (reply ≡ r.Damaged (Device (i + 1))) ↔ HasDamage g (i + 1) t
+
+-- == an event of one device ==
 
 -- what an event of device d did on that day to its seat, and what it came to
 pub record Did {N : Type 0} {h : Ghosts N} (g : Ghosts (Fused N h)) (d : ℕ) (today : ℤ) (e : Event) (s t : Seat (Fused N h) g) (turn : Turn) : Type 0 where
@@ -102,8 +157,13 @@ pub record Did {N : Type 0} {h : Ghosts N} (g : Ghosts (Fused N h)) (d : ℕ) (t
   pub stands : (v : View) → SeatStands g d v s → g.tells → SeatStands g d (view_after turn.reply (commit_by d today v e) v) t
   pub any_moment : (v : View) → SeatStands g d v s → g.tells → (image : List ℕ) → (times_of g t).since (times_of g s).moment image
       → Allowed v image ⊎ IsAfter v.count (commit_by d today v e) image
+  pub keeps : (v : View) → SeatStands g d v s → g.tells → IfSome (commit_by d today v e) (λ x. IsOwn d x.1)
   pub on_day : turn.reply ≢ r.NoDay
-  pub names : Names d turn.reply
+  pub refused : is_refusal turn.reply ≡ true → (t ≡ s) × (turn.entries ≡ in_order [])
+  pub damaged : (n : Node) → turn.reply ≡ r.Damaged n → e ≡ ev.On n
+  pub unwritten : g.tells → (MayCommit e → ⊥) → Mounts (times_of g s) (times_of g t)
+  pub found : g.tells → HasRead turn.reply → (turn.reply ≡ r.Damaged (Device d)) ↔ HasDamage g d t
+  pub names : NamesDevice e turn.reply
   pub charged : Charged d turn.reply (meters_of g s) (meters_of g t)
   pub switches : Switches d e turn.reply (is_on g s) (is_on g t)
   pub armed : (calls keep byte : ℕ) → e ≡ ev.Cut (Device d) calls keep byte → IsArmed t calls keep byte
@@ -115,7 +175,5 @@ pub record DidAt {N : Type 0} {h : Ghosts N} (g : Ghosts (Fused N h)) (today : �
   pub before : Seat (Fused N h) g
   pub now : Seat (Fused N h) g
   pub was : slice_get old place ≡ Some before
-  pub is : slice_get new place ≡ Some now
-  pub size : length new ≡ length old
-  pub others : (i : ℕ) → i ≢ place → slice_get new i ≡ slice_get old i
+  pub set : new ≡ slice_set old place now
   pub did : Did g (place + 1) today e before now turn

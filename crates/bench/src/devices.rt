@@ -83,10 +83,12 @@ impl<N: Nv + Drop> Bench<N> {
         }
     }
 
-    /// The storages, without their fuses. A device that is on is switched off.
+    /// The storages, without their fuses. A device that is on is switched off. They stand for what the bench stood for, with a
+    /// new run begun.
     pub fn into_stores(self) -> Stores<N>
         requires ready { IsReady ⟦<Fused<N> as Nv>⟧ self }
         ensures inside { Pairs IsInside (seats_of self) result.devices.items }
+        ensures stands { (H : Ledger) → Stands ⟦<Fused<N> as Nv>⟧ self H → StoresStand N.Nv result.devices.items (Begin ∷ H) }
     {
         let BenchOver {
             seats,

@@ -1,5 +1,5 @@
 //! One event.
-ghost use Rattle.std.specs.Prelude.{◌≡◌, ◌↔◌, ℕ, List, [], Some, None, IfOk, IsOk, IsSome, IsTrue, true};
+ghost use Rattle.std.specs.Prelude.{◌≡◌, ◌↔◌, ℕ, List, [], ◌∷◌, Some, None, IfOk, IsOk, IsSome, IsTrue, true};
 ghost use Rattle.bench_base.specs.declared.events.Reply.{Reply};
 ghost use Rattle.bench_base.specs.declared.ledger.Entry.{Entry};
 ghost use Rattle.bench_base.specs.Ranges.{IsWholeEvent};
@@ -10,8 +10,10 @@ ghost use Rattle.bench_views.specs.Taken.{IsTaken};
 ghost use Rattle.ledger_laws.specs.Moves.{Moves, plan, after, entries};
 ghost use Rattle.ledger_laws.specs.Histories.{History};
 ghost use Rattle.bench.specs.Turns.{in_order};
-ghost use Rattle.bench.specs.Benches.{AreSeated, IsReady, Stands, ForEach, seats_of, day_of};
-ghost use Rattle.bench.specs.Steps.{Did, DidAt, AtAnyMoment, EachCharged, OthersStay, SeatSwitches, Arms, NeedsDay};
+ghost use Rattle.bench.specs.Benches.{AreSeated, IsReady, Stands, StoresStand, ForEach, seats_of, day_of};
+ghost use Rattle.bench.specs.Steps.{Did, DidAt, AtAnyMoment, EachCharged, OthersStay, SeatSwitches, Arms, NeedsDay, NamesDevice, IsAsBefore, FindsDamage, MayCommit, WritesNothing};
+ghost use Rattle.bench.specs.Steps as steps;
+ghost use Rattle.bench.specs.Stops.{AreLeft, after_stop};
 
 use crate::answers::{debit_turn, make_turn, start_turn, status_turn, stop_turn};
 use crate::coming::Turn;
@@ -110,12 +112,17 @@ fn device_turn<N: Nv + Drop>(seats: &mut Vec<Seat<Fused<N>>>, day: DayNo, event:
 ///
 /// For every history for which the bench stands and whose storages tell what they hold: the reply is one that the event may
 /// get there (`moves`), the entries are those of the event and the reply (`entries`), and the bench stands for the history
-/// with them (`stands`). Where the process is stopped meanwhile, what is left shows the
-/// ledger, or the ledger and the one commit of the event (`any_moment`).
+/// with them (`stands`). At every moment meanwhile the storages show the ledger, or the ledger and the one commit of the event
+/// (`any_moment`); so where the process is stopped, they stand for the ledger, with at most that commit torn, and a bench that
+/// is made over them does (`stopped`).
 ///
 /// Whatever the storages tell: a day is missing, a device is off or is on already exactly where the reply says so, and a
-/// device is off after a failure (`day`, `switches`); a failure of power or storage is answered only where its count rose
-/// or its fuse burnt (`charged`); and only a `cut` arms a fuse, with its own numbers (`armed`).
+/// device is off after a failure (`day`, `switches`); a refusal leaves all as it was and adds nothing (`refused`); a failure
+/// of power or storage is told of the event's device alone (`names`), and only where its count rose or its fuse burnt
+/// (`charged`); and only a `cut` arms a fuse, with its own numbers (`armed`).
+///
+/// Where they tell, whether the bench stands for a history or not: no event but `make` and `debit` writes anything
+/// (`unwritten`), and `damaged` comes exactly where the storage that an `on` read is none of the device (`damaged`).
 pub fn step<N: Nv + Drop>(
     _alloc: Global,
     bench: &mut Bench<N>,
@@ -134,10 +141,16 @@ pub fn step<N: Nv + Drop>(
         Stands ⟦<Fused<N> as Nv>⟧ bench.new (entries τ first_rules H event.now [] turn.reply))) }
     ensures any_moment { ForEach ⟦<Fused<N> as Nv>⟧ bench.old (λ τ H.
         AtAnyMoment ⟦<Fused<N> as Nv>⟧ τ H event.now (seats_of bench.old) (seats_of bench.new)) }
+    ensures stopped { ForEach ⟦<Fused<N> as Nv>⟧ bench.old (λ τ H. (stores : List N) → AreLeft ⟦<Fused<N> as Nv>⟧ N.Nv (seats_of bench.old) (seats_of bench.new) stores
+        → History τ (first_rules ∷ []) (after_stop τ H event.now) × StoresStand N.Nv stores (after_stop τ H event.now)) }
 
+    ensures refused { IfOk result (λ turn. steps.is_refusal turn.reply ≡ true → IsAsBefore bench.old bench.new turn) }
+    ensures unwritten { N.tells → (MayCommit event.now → ⊥) → WritesNothing ⟦<Fused<N> as Nv>⟧ (seats_of bench.old) (seats_of bench.new) }
+    ensures damaged { IfOk result (λ turn. FindsDamage ⟦<Fused<N> as Nv>⟧ event.now turn.reply (seats_of bench.new)) }
     ensures day { NeedsDay event.now → IfOk result (λ turn. (turn.reply ≡ Reply.NoDay) ↔ (day_of bench.old ≡ None)) }
     ensures switches { IsSome (day_of bench.old) → IfOk result (λ turn.
         SeatSwitches ⟦<Fused<N> as Nv>⟧ event.now turn.reply (seats_of bench.old) (seats_of bench.new)) }
+    ensures names { IfOk result (λ turn. NamesDevice event.now turn.reply) }
     ensures charged { IfOk result (λ turn. EachCharged ⟦<Fused<N> as Nv>⟧ turn.reply (seats_of bench.old) (seats_of bench.new)) }
     ensures armed { IsSome (day_of bench.old) → Arms event.now (seats_of bench.new) }
     ensures others { OthersStay ⟦<Fused<N> as Nv>⟧ event.now (seats_of bench.old) (seats_of bench.new) }

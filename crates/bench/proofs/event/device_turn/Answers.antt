@@ -1,9 +1,7 @@
-use Rattle.std.proofs.Common.{◌≡◌, ℕ, ◌+◌, ◌-◌, ◌<◌, Some, sym, ◌∙◌, ap, subst, arith}
-use Rattle.std.proofs.lemmas.List.{length-set}
+use Rattle.std.proofs.Common.{◌≡◌, ℕ, ◌+◌, ◌-◌, ◌<◌, Some, sym, ◌∙◌, ap, subst, arith, refl}
 use Rattle.std.proofs.lemmas.Option.{slice_get_read}
 use Rattle.nv_model.specs.contracts.fused.FusedNv.TheImpl.{ghosts}
 use Rattle.bench.specs.Steps.{Did}
-use Rattle.bench.proofs.Frames.{get_set_same, get_set_other}
 use Rattle.bench.proofs.event.device_turn.Goals as goal
 
 pub seat_turn-requires-clause-seated : goal.seat_turn-requires-clause-seated
@@ -27,9 +25,7 @@ returns g c =
         before = c.index_mut.result.now;
         now = t;
         was = slice_get_read seats 8 place c.index_mut.result.now (sym c.requires.ready.eight) inside c.index_mut.ensures.value;
-        is = get_set_same seats place t (omega (arith, c.requires.ready.eight, inside));
-        size = length-set seats place t;
-        others = λ j differs. get_set_other seats place t j differs;
+        set = refl;
         did = subst (λ (d : ℕ). Did (ghosts g.row.N g.N.Nv g.N.Nv-dict) d c.args.day c.args.event.now c.index_mut.result.now t c.seat_turn.result) number c.seat_turn.ensures.did;
       };
     }

@@ -8,8 +8,9 @@ use Rattle.bench_base.specs.Ledger.{Ledger}
 use Rattle.ledger_laws.specs.Moves.{entries}
 use Rattle.bench.specs.Benches.{Stands, HasDay, seats_of}
 use Rattle.bench.specs.Steps.{NeedsDay}
-use Rattle.bench.proofs.Frames.{at_ready, at_charged, at_switches, at_armed, at_others, at_moves, at_entries, at_day, at_stands, at_any_moment}
-use Rattle.bench.proofs.Quiet.{IsPlanned, planned_day, planned_end, planned_none, at_event, quiet_moves, quiet_entries, quiet_ledger, quiet_charged, quiet_any_moment, day_set, needs_day, some_day, none_day, stands_at}
+use Rattle.bench.proofs.Frames.{at_ready, at_charged, at_switches, at_armed, at_others, at_moves, at_entries, at_day, at_stands, at_any_moment, at_refused, at_unwritten, at_damage, at_left}
+use Rattle.bench.proofs.Stops.{stop_history}
+use Rattle.bench.proofs.Quiet.{IsPlanned, planned_day, planned_end, planned_none, at_event, quiet_moves, quiet_entries, quiet_ledger, quiet_charged, quiet_any_moment, day_set, needs_day, some_day, no_day, stands_at, quiet_damage, quiet_left, quiet_names, quiet_unwritten}
 use Rattle.bench.proofs.event.step.Given.{Over}
 use Rattle.bench.proofs.event.step.Goals as goal
 
@@ -33,6 +34,21 @@ pub returns-in-Day-clause-any_moment : goal.returns-in-Day-clause-any_moment
 returns-in-Day-clause-any_moment g c τ H history stands tells =
     quiet_any_moment _ _ _ _ (set g c) (ghosts g.row.N g.N.Nv g.N.Nv-dict) (seats_of c.args.bench.now) τ H stands.seats c.requires.ready tells
 
+pub returns-in-Day-clause-stopped : goal.returns-in-Day-clause-stopped
+returns-in-Day-clause-stopped g c τ H history stands tells stores left = (
+  stop_history τ H _ history c.requires.whole c.requires.taken,
+  quiet_left _ _ _ _ (set g c) (ghosts g.row.N g.N.Nv g.N.Nv-dict) (seats_of c.args.bench.now) g.N.Nv τ H stands.day stands.seats c.requires.ready tells stores left,
+)
+
+pub returns-in-Day-clause-names : goal.returns-in-Day-clause-names
+returns-in-Day-clause-names g c = quiet_names _ _ _ _ (set g c)
+
+pub returns-in-Day-clause-unwritten : goal.returns-in-Day-clause-unwritten
+returns-in-Day-clause-unwritten g c tells commits_none = quiet_unwritten _ _ _ _ (set g c) (ghosts g.row.N g.N.Nv g.N.Nv-dict) (seats_of c.args.bench.now)
+
+pub returns-in-Day-clause-damaged : goal.returns-in-Day-clause-damaged
+returns-in-Day-clause-damaged g c = quiet_damage _ _ _ _ (set g c) (ghosts g.row.N g.N.Nv g.N.Nv-dict) (seats_of c.args.bench.now)
+
 -- == the end ==
 
 ended : (g : Over) (c : goal.After-silent g) → IsPlanned c.args.event.now (refuse r.End) c.silent.result c.args.bench.now.day
@@ -52,6 +68,21 @@ pub returns-in-End-clause-any_moment : goal.returns-in-End-clause-any_moment
 returns-in-End-clause-any_moment g c τ H history stands tells =
     quiet_any_moment _ _ _ _ (ended g c) (ghosts g.row.N g.N.Nv g.N.Nv-dict) (seats_of c.args.bench.now) τ H stands.seats c.requires.ready tells
 
+pub returns-in-End-clause-stopped : goal.returns-in-End-clause-stopped
+returns-in-End-clause-stopped g c τ H history stands tells stores left = (
+  stop_history τ H _ history c.requires.whole c.requires.taken,
+  quiet_left _ _ _ _ (ended g c) (ghosts g.row.N g.N.Nv g.N.Nv-dict) (seats_of c.args.bench.now) g.N.Nv τ H stands.day stands.seats c.requires.ready tells stores left,
+)
+
+pub returns-in-End-clause-names : goal.returns-in-End-clause-names
+returns-in-End-clause-names g c = quiet_names _ _ _ _ (ended g c)
+
+pub returns-in-End-clause-unwritten : goal.returns-in-End-clause-unwritten
+returns-in-End-clause-unwritten g c tells commits_none = quiet_unwritten _ _ _ _ (ended g c) (ghosts g.row.N g.N.Nv g.N.Nv-dict) (seats_of c.args.bench.now)
+
+pub returns-in-End-clause-damaged : goal.returns-in-End-clause-damaged
+returns-in-End-clause-damaged g c = quiet_damage _ _ _ _ (ended g c) (ghosts g.row.N g.N.Nv g.N.Nv-dict) (seats_of c.args.bench.now)
+
 -- == no day ==
 
 pub returns-in-None : goal.returns-in-None
@@ -69,8 +100,16 @@ returns-in-None g c =
       entries = λ τ H history stands tells. quiet_entries _ _ _ _ planned τ H stands.day;
       stands = λ τ H history stands tells. subst (λ (L : Ledger). Stands nv bench L) (sym (quiet_ledger _ _ _ _ planned τ H stands.day)) stands;
       any_moment = λ τ H history stands tells. quiet_any_moment _ _ _ _ planned nv (seats_of bench) τ H stands.seats c.requires.ready tells;
+      stopped = λ τ H history stands tells stores left. (
+        stop_history τ H e history c.requires.whole c.requires.taken,
+        quiet_left _ _ _ _ planned nv (seats_of bench) g.N.Nv τ H stands.day stands.seats c.requires.ready tells stores left,
+      );
+      refused = λ is. record { seats = refl; day = refl; entries = ap (λ t. t.entries) c.silent-in-None.ensures };
+      unwritten = λ tells no. quiet_unwritten _ _ _ _ planned nv (seats_of bench);
+      damaged = quiet_damage _ _ _ _ planned nv (seats_of bench);
       day = λ n. (λ is. c.in-None.is, λ is. ap (λ t. t.reply) c.silent-in-None.ensures);
       switches = λ some. absurd (some_day bench.day some c.in-None.is);
+      names = quiet_names _ _ _ _ planned;
       charged = quiet_charged _ _ _ _ planned nv (seats_of bench);
       armed = λ some. absurd (some_day bench.day some c.in-None.is);
       others = λ i not. refl;
@@ -101,8 +140,16 @@ returns-in-Some g c =
       };
       any_moment = λ τ H history stands tells. at_any_moment nv today e _ _ _ at τ H history c.requires.whole (has H stands.day) c.requires.ready stands.seats tells
           laws.plans laws.moves laws.here laws.others laws.rests;
-      day = λ needs. (λ is. absurd (at.did.on_day is), λ none. absurd (none_day bench.day today none c.in-Some.is));
+      stopped = λ τ H history stands tells stores left. (
+        stop_history τ H e history c.requires.whole c.requires.taken,
+        at_left nv today e _ _ _ at τ H history c.requires.whole (has H stands.day) c.requires.ready stands.seats tells laws.plans laws.moves laws.here laws.others laws.rests stores left,
+      );
+      refused = λ is. let left = at_refused nv today e _ _ _ at is in record { seats = left.0; day = refl; entries = left.1 };
+      unwritten = at_unwritten nv today e _ _ _ at;
+      damaged = at_damage nv today e _ _ _ at;
+      day = λ needs. (λ is. absurd (at.did.on_day is), λ none. absurd (no_day bench.day today none c.in-Some.is));
       switches = λ some. at_switches nv today e _ _ _ at;
+      names = at.did.names;
       charged = at_charged nv today e _ _ _ at;
       armed = λ some. at_armed nv today e _ _ _ at;
       others = at_others nv today e _ _ _ at;

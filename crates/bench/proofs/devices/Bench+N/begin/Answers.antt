@@ -1,7 +1,10 @@
-use Rattle.std.proofs.Common.{◌≡◌, arith}
+use Rattle.std.proofs.Common.{◌≡◌, refl, arith}
 use Rattle.nv_model.specs.contracts.fused.FusedNv.TheImpl.{ghosts}
-use Rattle.bench.proofs.Begun.{stopping_more, all_stopped, begun_day, begun_stands}
+use Rattle.bench.proofs.Begun.{stopping_none, stopping_more, all_stopped, begun_day, begun_stands}
 use Rattle.bench.proofs.devices.Bench+N.begin.Goals as goal
+
+pub loop-i-init : goal.loop-i-init
+loop-i-init g c = record { few = omega arith; day = refl; stopping = stopping_none (ghosts g.row.N g.N.Nv g.N.Nv-dict) c.args.self.now.seats.items c.requires.ready }
 
 pub loop-i-preserved : goal.loop-i-preserved
 loop-i-preserved g c = record {

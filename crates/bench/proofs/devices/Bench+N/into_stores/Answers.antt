@@ -1,7 +1,8 @@
-use Rattle.std.proofs.Common.{true, false, ◌≡◌, length, arith}
+use Rattle.std.proofs.Common.{true, false, ◌≡◌, length, refl, arith}
 use Rattle.nv_model.specs.contracts.fused.FusedNv.TheImpl.{ghosts}
 use Rattle.bench.specs.Benches.{IsInside}
 use Rattle.bench.proofs.Making.{moved_more, moved_some, moved_done, moved_from}
+use Rattle.bench.proofs.Over.{inside_stands}
 use Rattle.bench.proofs.devices.Bench+N.into_stores.Goals as goal
 
 pub storage_of-requires : goal.storage_of-requires
@@ -22,7 +23,10 @@ loop-preserved g c = record {
   room = omega (arith, c.loop.invariant.room, c.in-Ok.ensures.capacity);
 }
 
-pub returns : goal.returns
-returns g c = record {
-  inside = moved_done (λ s nv. IsInside {h = g.N.Nv} {g = ghosts g.row.N g.N.Nv g.N.Nv-dict} s nv) c.loop.counter c.args.self.seats.items c.loop.seats.items c.loop.devices.items c.reverse.new.self.items c.loop.invariant.moved (omega (arith, c.loop-test.false, c.loop.invariant.few, c.requires.ready.eight)) c.reverse.ensures.items;
-}
+pub returns-clause-inside : goal.returns-clause-inside
+returns-clause-inside g c =
+    moved_done (λ s nv. IsInside {h = g.N.Nv} {g = ghosts g.row.N g.N.Nv g.N.Nv-dict} s nv) c.loop.counter c.args.self.seats.items c.loop.seats.items c.loop.devices.items c.reverse.new.self.items c.loop.invariant.moved (omega (arith, c.loop-test.false, c.loop.invariant.few, c.requires.ready.eight)) c.reverse.ensures.items
+
+pub returns-clause-stands : goal.returns-clause-stands
+returns-clause-stands g c H stands =
+    inside_stands (ghosts g.row.N g.N.Nv g.N.Nv-dict) c.args.self.seats.items c.reverse.new.self.items H (λ t. t) (λ f. refl) (λ f. refl) (returns-clause-inside g c) c.requires.ready stands.seats
