@@ -27,8 +27,9 @@ use Rattle.script_replay.specs.Lines.{IsOneLine, ended, IsLineIn, ReadsLine}
 use Rattle.script_replay.specs.declared.status.Status.{Status}
 use Rattle.script_replay.specs.declared.status.Status.TheVariants as status
 use Rattle.script_replay.specs.Deeds.{Deed, Did, Skipped, line_in, line_of, text_for, IsOf, Reads, GoesOn}
-use Rattle.script_replay.specs.Run.{StandsFor, Unforged, Moves, DidDeeds, DidLawfully, IsBadPlace, IsCutOff, DidLast, RanOut, EndsIn, Replayed}
+use Rattle.script_replay.specs.Run.{StandsFor, Unforged, Moves, IsNamed, DidDeeds, DidLawfully, IsBadPlace, IsCutOff, DidLast, RanOut, EndsIn, Replayed}
 use Rattle.script_replay.specs.Turns.{DidEvent, DidLine, Refused, Reported, Goes, Stops, Progress}
+use Rattle.script_replay.proofs.Answering.{no_failure, all_answered}
 use Rattle.script_replay.proofs.Counting.{still_balanced, rest_balanced, skipped_balanced, event_balanced, balanced-append}
 use Rattle.script_replay.proofs.Overs.{did_over-append}
 
@@ -56,6 +57,7 @@ module _ {M N : Type 0} (g : Ghosts M) where
   did-nothing b = record {
     over = λ τ tells. record { run = λ H s. tt; stands = λ H s u. s };
     size = refl;
+    named = tt;
     balanced = rest_balanced g (seats_of b);
   }
 
@@ -63,6 +65,7 @@ module _ {M N : Type 0} (g : Ghosts M) where
   did-skipped b line = record {
     over = λ τ tells. record { run = λ H s. tt; stands = λ H s u. s };
     size = refl;
+    named = (tt, tt);
     balanced = skipped_balanced g line (seats_of b);
   }
 
@@ -71,6 +74,7 @@ module _ {M N : Type 0} (g : Ghosts M) where
   did-begin old new before after begins begun = record {
     over = λ τ tells. record { run = λ H s. tt; stands = λ H s u. record { history = History.begins s.history; stands = begins H s.stands tells } };
     size = after.eight ∙ sym before.eight;
+    named = tt;
     balanced = still_balanced g (seats_of old) (seats_of new) (λ i s t hs ht. (pairs_at (IsStopped g) (seats_of old) (seats_of new) begun i s t hs ht).meters);
   }
 
@@ -84,6 +88,7 @@ module _ {M N : Type 0} (g : Ghosts M) where
       };
     };
     size = did.size;
+    named = (did.names, tt);
     balanced = event_balanced g line e r (seats_of old) (seats_of new) did.charged;
   }
 
@@ -91,6 +96,7 @@ module _ {M N : Type 0} (g : Ghosts M) where
   did-append first x y z a b p q = record {
     over = λ τ tells. did_over-append τ Unforged (StandsFor g τ) (Moves τ) first x y z a b (p.over τ tells) (q.over τ tells);
     size = q.size ∙ p.size;
+    named = each-append IsNamed a b p.named q.named;
     balanced = balanced-append g (seats_of x) (seats_of y) (seats_of z) a b p.size p.balanced q.balanced;
   }
 
@@ -344,17 +350,19 @@ module _ {M N : Type 0} (g : Ghosts M) where
   -- ---- the run's beginning, and the law
 
   did-lawfully : Editions (first_rules ∷ []) → ForHistories (λ τ ρ ρs H. Lawful ρ H) → (first : Ledger) (old new : BenchOver M N g) (deeds : List Deed)
-      → DidDeeds g first old new deeds → DidLawfully g first old new deeds
-  did-lawfully today lawful first old new deeds did = record {
+      → AreSeated g (seats_of old) → DidDeeds g first old new deeds → DidLawfully g first old new deeds
+  did-lawfully today lawful first old new deeds ready did = record {
     did = did;
     lawful = λ τ tells H s u. lawful τ first_rules [] _ today ((did.over τ tells).stands H s u).history;
+    answers = λ τ tells H s quiet. all_answered τ Unforged (first ++ H) deeds did.named
+        (no_failure g (seats_of old) (seats_of new) deeds ready.eight did.size did.balanced quiet) ((did.over τ tells).run H s);
   }
 
   -- a run that begins with an entry, by the laws of histories
   pub begun : Editions (first_rules ∷ []) → ForHistories (λ τ ρ ρs H. Lawful ρ H) → (outcome : Status) (first : Ledger) (old mid new : BenchOver M N g) (a b t u : Option (List ℕ))
-      → DidDeeds g first old mid [] → Replayed outcome (DidDeeds g [] mid new) a b t u → Replayed outcome (DidLawfully g first old new) a b t u
-  begun today lawful outcome first old mid new a b t u begins r = said (DidDeeds g [] mid new) (DidLawfully g first old new) outcome a b t u
-      (λ deeds did. did-lawfully today lawful first old new deeds (did-append g first old mid new [] deeds begins did)) r
+      → AreSeated g (seats_of old) → DidDeeds g first old mid [] → Replayed outcome (DidDeeds g [] mid new) a b t u → Replayed outcome (DidLawfully g first old new) a b t u
+  begun today lawful outcome first old mid new a b t u ready begins r = said (DidDeeds g [] mid new) (DidLawfully g first old new) outcome a b t u
+      (λ deeds did. did-lawfully today lawful first old new deeds ready (did-append g first old mid new [] deeds begins did)) r
 
   pub words_only : (b : BenchOver M N g) (left taken : Option (List ℕ)) → Replayed status.Words (DidDeeds g [] b b) left left taken taken
   words_only b left taken = record {

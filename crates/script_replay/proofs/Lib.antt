@@ -1,3 +1,4 @@
+pub mod Answering
 pub mod Counting
 pub mod Deeds
 pub mod EndLaws

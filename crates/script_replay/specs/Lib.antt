@@ -6,3 +6,4 @@ pub mod Events
 pub mod Lines
 pub mod Run
 pub mod Turns
+pub mod Undisturbed

@@ -14,10 +14,12 @@ use Rattle.ledger_laws.specs.Histories as histories
 use Rattle.ledger_laws.specs.Histories.{History}
 use Rattle.bench.specs.declared.devices.BenchOver.{BenchOver}
 use Rattle.bench.specs.Benches.{Stands, seats_of}
+use Rattle.bench.specs.Steps.{NamesDevice}
 use Rattle.script_replay.specs.Counts.{AreBalanced}
-use Rattle.script_replay.specs.Deeds.{Deed, line_in, text_for, Reads, IsEnd, GoesOn, script_of, report_of, ledger_after, AreUnforged, DidOver}
+use Rattle.script_replay.specs.Deeds.{Deed, Skipped, Did, line_in, text_for, Reads, IsEnd, GoesOn, script_of, report_of, ledger_after, RunWhile, AreUnforged, DidOver}
 use Rattle.script_replay.specs.Events.{IsBad}
 use Rattle.script_replay.specs.Lines.{IsOneLine, IsLineIn}
+use Rattle.script_replay.specs.Undisturbed.{IsAnswer, AreUndisturbed}
 use Rattle.script_replay.specs.declared.status.Status.{Status}
 use Rattle.script_replay.specs.declared.status.Status.TheVariants as status
 
@@ -36,12 +38,18 @@ Unforged H e = histories.Unforged e H
 abbrev pub Moves : Tariff → Ledger → Event → Reply → Type 0
 Moves τ H e r = moves.Moves τ first_rules H e [] r
 
+-- a failure that the deed tells of is one of the device of its event
+abbrev pub IsNamed : Deed → Type 0
+IsNamed (Skipped line) = Unit {0}
+IsNamed (Did line e r) = NamesDevice e r
+
 -- The bench did the deeds, behind these first entries.
 pub record DidDeeds {M N : Type 0} (g : Ghosts M) (first : Ledger) (old new : BenchOver M N g) (deeds : List Deed) : Type 0 where
   -- by every history for which the bench stood, whatever is read as rates, where the storages tell what they hold
   pub over : (τ : Tariff) → g.tells → DidOver τ (StandsFor g τ) Unforged (Moves τ) first old new deeds
   -- whatever the storages tell
   pub size : length (seats_of new) ≡ length (seats_of old)
+  pub named : AllByRecursion IsNamed deeds
   pub balanced : AreBalanced g (seats_of old) (seats_of new) deeds
 
 -- The bench did them, and the ledger that they form is lawful.
@@ -49,6 +57,9 @@ pub record DidLawfully {M N : Type 0} (g : Ghosts M) (first : Ledger) (old new :
   pub did : DidDeeds g first old new deeds
   pub lawful : (τ : Tariff) → g.tells → (H : Ledger) → StandsFor g τ old H → AreUnforged τ Unforged (first ++ H) deeds
       → Lawful first_rules (ledger_after τ (first ++ H) deeds)
+  -- where no storage failed, each reply is the answer
+  pub answers : (τ : Tariff) → g.tells → (H : Ledger) → StandsFor g τ old H → AreUndisturbed g (seats_of old) (seats_of new) deeds
+      → RunWhile τ Unforged (IsAnswer τ) (first ++ H) deeds
 
 -- == how the run ended ==
 

@@ -7,7 +7,7 @@ use Rattle.bench_base.specs.declared.events.Reply.{Reply}
 use Rattle.nv_model.specs.declared.nv.Nv.{Ghosts}
 use Rattle.bench.specs.declared.devices.BenchOver.{BenchOver}
 use Rattle.bench.specs.Benches.{Stands, ForEach, seats_of}
-use Rattle.bench.specs.Steps.{EachCharged}
+use Rattle.bench.specs.Steps.{EachCharged, NamesDevice}
 use Rattle.script_replay.specs.Deeds.{Deed, line_in, text_for, IsOf, Reads, IsEnd, GoesOn, script_of, report_of, ledger_by}
 use Rattle.script_replay.specs.Events.{IsBad}
 use Rattle.script_replay.specs.Lines.{ended}
@@ -20,6 +20,7 @@ pub record DidEvent {M N : Type 0} (g : Ghosts M) (old new : BenchOver M N g) (e
   pub moves : ForEach g old (λ τ H. Moves τ H e r)
   pub stands : ForEach g old (λ τ H. Stands g new (ledger_by τ H e r))
   pub size : length (seats_of new) ≡ length (seats_of old)
+  pub names : NamesDevice e r
   pub charged : EachCharged g r (seats_of old) (seats_of new)
 
 -- what the report took of a text, and whether the run ends with it: GoesOn and IsEnd say of what was done that the run goes on, and that it was `end`

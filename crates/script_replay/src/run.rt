@@ -206,7 +206,8 @@ pub fn is_replay(words: &[String]) -> bool
 ///
 /// For every history for which the bench stands, and whose storages tell what they hold, each reply is one that its event may
 /// get, the bench stands for what the events leave, and that ledger is lawful, as long as nothing from outside is forged.
-/// Whatever the storages tell, a failure of power or storage is answered only as often as they and the cuts account for.
+/// Whatever the storages tell, a failure of power or storage is answered only as often as they and the cuts account for; so
+/// where none failed, no fuse was armed and no `cut` was answered, each reply is its event's answer.
 pub fn run<S: Source, K: Sink, N: Nv + Drop>(
     alloc: Global,
     words: &[String],
