@@ -83,7 +83,7 @@ impl<M: Nv + Drop> Seat<M> {
                 *self = settled(device);
                 result
             }
-            Seat::Gone => Outcome::Off,
+            Seat::Gone => unreachable!(),
         }
     }
 
@@ -117,7 +117,7 @@ impl<M: Nv + Drop> Seat<M> {
                 *self = settled(device);
                 result
             }
-            Seat::Gone => Outcome::Off,
+            Seat::Gone => unreachable!(),
         }
     }
 
@@ -129,8 +129,9 @@ impl<M: Nv + Drop> Seat<M> {
         ensures comes { (d : ℕ) (v : View) → SeatStands M.Nv d v self.now → M.tells → result ≡ outcome_of v (status_act day v.state) }
     {
         match self {
+            Seat::Off(_) => Outcome::Off,
             Seat::On(device) => outcome(device.status(day), None),
-            _ => Outcome::Off,
+            Seat::Gone => unreachable!(),
         }
     }
 }

@@ -72,7 +72,7 @@ impl<M: Nv + Drop> Seat<M> {
                 *self = Seat::On(device);
                 Started::Already
             }
-            Seat::Gone => Started::Already,
+            Seat::Gone => unreachable!(),
         }
     }
 
@@ -96,7 +96,7 @@ impl<M: Nv + Drop> Seat<M> {
                 *self = Seat::Off(device.shut());
                 true
             }
-            Seat::Gone => false,
+            Seat::Gone => unreachable!(),
         }
     }
 
@@ -128,7 +128,7 @@ impl<N: Nv + Drop> Seat<Fused<N>> {
         match self {
             Seat::Off(nv) => nv.arm(calls, keep, byte),
             Seat::On(device) => device.arm(calls, keep, byte),
-            Seat::Gone => {}
+            Seat::Gone => unreachable!(),
         }
     }
 }
