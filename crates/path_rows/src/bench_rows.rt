@@ -1,7 +1,7 @@
 //! Rows of devices on storage: what is kept across off and on, and across cuts of power.
 ghost use Rattle.std.specs.Prelude.{◌≡◌};
 
-use crate::worked::{FIRST_MARK, KEY, Piece, bench_over, outcome, told};
+use crate::worked::{FIRST_MARK, KEY, Piece, bench_over, made_again, outcome, told};
 use script_replay::status::Status;
 use std::test::Fail;
 
@@ -113,6 +113,27 @@ fn a_device_is_kept_across_off_and_on(rt: HostRuntime) -> Result<(), Fail> {
     let got = outcome(rt.alloc(), &told(script, 600), &mut bench)?;
     let report = b"no day\nday 20513\noff d1\nup d1 commits 9\nend\n".as_slice();
     assert_eq!(rt; got.1.as_slice(), report);
+    Ok(())
+}
+
+#[test]
+fn a_device_outlives_its_bench(rt: HostRuntime) -> Result<(), Fail> {
+    let debit = "day 2026-03-01\non d1\ndebit d1 1 550 1\n";
+    let mut bench = bench_over(rt.alloc(), SEVEN_COMMITS)?;
+    // The fuse that is armed at the end is the bench's, and not its storage's.
+    let script = format!(in rt.alloc(); "{debit}cut d1 0 0 00\nend\n")?;
+    let got = outcome(rt.alloc(), &told(script.as_bytes(), 600), &mut bench)?;
+    let report = format!(in rt.alloc();
+        "day 20513\nup d1 commits 7\nmark d1 1 new {FIRST_MARK}\ncut d1\nend\n"
+    )?;
+    assert_eq!(rt; got.1.as_slice(), report.as_bytes());
+    let mut bench = made_again(rt.alloc(), bench)?;
+    let script = format!(in rt.alloc(); "{debit}end\n")?;
+    let got = outcome(rt.alloc(), &told(script.as_bytes(), 600), &mut bench)?;
+    let report = format!(in rt.alloc();
+        "day 20513\nup d1 commits 8\nmark d1 1 again {FIRST_MARK}\nend\n"
+    )?;
+    assert_eq!(rt; got.1.as_slice(), report.as_bytes());
     Ok(())
 }
 

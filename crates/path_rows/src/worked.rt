@@ -55,14 +55,58 @@ fn stores(alloc: Global, pieces: &[Piece]) -> Result<Stores<MemNv>, AllocError>
     Ok(Stores { devices })
 }
 
+/// A bench over eight storages.
+fn made(alloc: Global, stores: Stores<MemNv>) -> Result<Bench<MemNv>, Fail>
+    requires eight { length stores.devices.items ≡ 8 }
+    requires fresh { All (λ nv. Works (⟦<MemNv as Nv>⟧.meters nv)) stores.devices.items }
+    ensures ready { IfOk result (λ bench. IsReady ⟦<Fused<MemNv> as Nv>⟧ bench) }
+{
+    match Bench::new(alloc, stores) {
+        Ok(bench) => Ok(bench),
+        Err(_) => Err(Fail::from(AllocError)),
+    }
+}
+
 /// A bench whose device 1 has this storage; the others are blank.
 pub fn bench_over(alloc: Global, pieces: &[Piece]) -> Result<Bench<MemNv>, Fail>
     ensures ready { IfOk result (λ bench. IsReady ⟦<Fused<MemNv> as Nv>⟧ bench) }
 {
-    match Bench::new(alloc, stores(alloc, pieces)?) {
-        Ok(bench) => Ok(bench),
-        Err(_) => Err(Fail::from(AllocError)),
+    made(alloc, stores(alloc, pieces)?)
+}
+
+/// A storage that begins again, as a new bench wants it.
+fn restarted(nv: MemNv) -> Result<MemNv, Fail>
+    ensures { IfOk result (λ nv. Works (⟦<MemNv as Nv>⟧.meters nv)) }
+{
+    let mut nv = nv;
+    nv.restart()?;
+    Ok(nv)
+}
+
+/// The storages of a bench, each of which begins again.
+fn left(alloc: Global, bench: Bench<MemNv>) -> Result<Stores<MemNv>, Fail>
+    requires ready { IsReady ⟦<Fused<MemNv> as Nv>⟧ bench }
+    ensures eight { IfOk result (λ stores. length stores.devices.items ≡ 8) }
+    ensures fresh { IfOk result (λ stores. All (λ nv. Works (⟦<MemNv as Nv>⟧.meters nv)) stores.devices.items) }
+{
+    let mut storages = bench.into_stores().devices;
+    storages.reverse();
+    let mut devices = Vec::with_capacity(alloc, 8)?;
+    for _ in 0..8_u32 {
+        let Some(nv) = storages.pop() else {
+            return Err(Fail::from("fewer than eight storages"));
+        };
+        devices.push(restarted(nv)?)?;
     }
+    Ok(Stores { devices })
+}
+
+/// Another bench over the storages of this one.
+pub fn made_again(alloc: Global, bench: Bench<MemNv>) -> Result<Bench<MemNv>, Fail>
+    requires ready { IsReady ⟦<Fused<MemNv> as Nv>⟧ bench }
+    ensures ready { IfOk result (λ bench. IsReady ⟦<Fused<MemNv> as Nv>⟧ bench) }
+{
+    made(alloc, left(alloc, bench)?)
 }
 
 /// What goes in: the words, the script and the size of its pieces, the numbers of the calls that fail, and the bytes that

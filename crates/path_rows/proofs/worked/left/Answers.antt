@@ -1,0 +1,16 @@
+use Rattle.std.proofs.Common.{length, sym, ap, subst, arith}
+use Rattle.std.proofs.lemmas.List.{length_push}
+use Rattle.std.proofs.lemmas.List.Elements.{All-push}
+use Rattle.std.specs.List.{All}
+use Rattle.nv_model.specs.Meters.{Works}
+use Rattle.nv_model.specs.contracts.memory.MemNvNv.TheImpl.{ghosts}
+use Rattle.path_rows.proofs.worked.left.Goals as goal
+
+pub loop-preserved : goal.loop-preserved
+loop-preserved c =
+    let before = c.loop.devices.items in
+    let more = c.in_ok-push.ensures.items in
+    record {
+      count = omega (arith, ap (λ l. length l) more, length_push before c.in_ok-restarted.field-0, c.loop.invariant.count);
+      fresh = subst (All (λ nv. Works (ghosts.meters nv))) (sym more) (All-push (λ nv. Works (ghosts.meters nv)) before c.in_ok-restarted.field-0 c.loop.invariant.fresh c.in_ok-restarted.ensures);
+    }
