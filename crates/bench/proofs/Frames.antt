@@ -43,7 +43,7 @@ use Rattle.bench.specs.declared.coming.Turn.{Turn}
 use Rattle.bench.specs.Turns.{in_order, franked_entries}
 use Rattle.bench.specs.Costs.{Charged, tells_power, tells_fault}
 use Rattle.bench.specs.Benches.{AreSeated, HasDay, SeatsStand, StoresStand}
-use Rattle.bench.specs.Steps.{DidAt, ShowsCommit, AtAnyMoment, EachCharged, OthersStay, SeatSwitches, Arms, Switches, FindsDamage, MayCommit, WritesNothing, is_refusal}
+use Rattle.bench.specs.Steps.{DidAt, ShowsCommit, AtAnyMoment, EachCharged, OthersStay, SeatSwitches, Arms, Switches, FindsDamage, MayCommit, WritesNothing, MovesView, MovesViews, is_refusal}
 use Rattle.bench.specs.Stops.{AreLeft, with_open, after_stop}
 use Rattle.bench.proofs.Told.{plan_commit, commit_own, power_of, fault_of}
 use Rattle.bench.proofs.Acts.{made_done, marked_done, status_done, make_agrees, debit_agrees, status_none}
@@ -197,6 +197,17 @@ module _ {N : Type 0} {h : Ghosts N} (g : Ghosts (Fused N h)) (today : ℤ) (e :
   at_refused is =
       let left = at.did.refused is in
       (at.set ∙ ap (λ (s : Seat (Fused N h) g). slice_set old at.place s) left.0 ∙ set_there old at.place at.before at.was, left.1)
+
+  pub at_views : g.tells → MovesViews g today e turn.reply old new
+  at_views tells i s t was is device v st =
+      let same = at_place i device in
+      let here : SeatStands g (at.place + 1) v at.before =
+      subst (λ (u : Seat (Fused N h) g). SeatStands g (at.place + 1) v u) (sym (here_was i s same was)) (subst (λ (k : ℕ). SeatStands g (k + 1) v s) same st) in
+      let moved : MovesView g (at.place + 1) today e turn.reply v at.before at.now =
+      record { may = at.did.may v here tells; stands = at.did.stands v here tells; any_moment = at.did.any_moment v here tells } in
+      subst (λ (k : ℕ). MovesView g (k + 1) today e turn.reply v s t) (sym same)
+      (subst (λ (u : Seat (Fused N h) g). MovesView g (at.place + 1) today e turn.reply v u t) (here_was i s same was)
+      (subst (λ (u : Seat (Fused N h) g). MovesView g (at.place + 1) today e turn.reply v at.before u) (here_is i t same is) moved))
 
   pub at_unwritten : g.tells → (MayCommit e → ⊥) → WritesNothing g old new
   at_unwritten tells commits_none i s t was is = elim (cases_eq i at.place) [

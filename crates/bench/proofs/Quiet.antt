@@ -142,6 +142,9 @@ some_day (Some t) some none = cc
 pub no_day : (o : Option ℤ) (t : ℤ) → o ≡ None → o ≡ Some t → ⊥
 no_day o t none some = cc
 
+pub same_day : (o : Option ℤ) (t u : ℤ) → o ≡ Some t → o ≡ Some u → t ≡ u
+same_day o t u is is' = cc
+
 -- the same ledger by another word
 pub stands_at : {M N : Type 0} (g : Ghosts M) (bench : BenchOver M N g) (H L : Ledger) → L ≡ H → Stands g bench H → Stands g bench L
 stands_at g bench H L is stands = subst (λ (K : Ledger). Stands g bench K) (sym is) stands

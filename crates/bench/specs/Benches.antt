@@ -9,7 +9,8 @@ use Rattle.device_seat.specs.declared.seat.Seat.{Seat}
 use Rattle.device_seat.specs.declared.seat.Seat.TheVariants as seat
 use Rattle.device_seat.specs.Views.{View, stopped}
 use Rattle.psd_device.specs.DeviceView.{storage_of}
-use Rattle.device_seat.specs.Seats.{is_seated, is_on, meters_of, SeatStands, OffStands}
+use Rattle.nv_store.specs.Mounts.{Mounts}
+use Rattle.device_seat.specs.Seats.{is_seated, is_on, times_of, meters_of, SeatStands, OffStands}
 use Rattle.nv_model.specs.declared.fused.Fused.{Fused}
 use Rattle.nv_model.specs.Fuses.{inside, state_of}
 use Rattle.bench_views.specs.Devices.{view_of}
@@ -85,10 +86,11 @@ IsInside (seat.Off f) nv = nv ≡ inside f
 IsInside (seat.On device) nv = nv ≡ inside (storage_of device)
 IsInside seat.Gone nv = ⊥
 
--- a seat after a begin: it is off, over its storage as it was
+-- a seat after a begin: it is off, and nothing was written to its storage
 pub record IsStopped {M : Type 0} (g : Ghosts M) (s t : Seat M g) : Type 0 where
   pub off : is_on g t ≡ false
   pub meters : meters_of g t ≡ meters_of g s
+  pub mounts : g.tells → Mounts (times_of g s) (times_of g t)
   pub stands : (d : ℕ) (v : View) → SeatStands g d v s → g.tells → SeatStands g d (stopped v) t
 
 abbrev pub Begun : {M : Type 0} (g : Ghosts M) → List (Seat M g) → List (Seat M g) → Type 0

@@ -41,6 +41,19 @@ abbrev pub AtAnyMoment : {M : Type 0} (g : Ghosts M) → Tariff → Ledger → E
 AtAnyMoment {M} g τ H e old new = (i : ℕ) (s t : Seat M g) → slice_get old i ≡ Some s → slice_get new i ≡ Some t → (image : List ℕ)
     → (times_of g t).since (times_of g s).moment image → Allowed (view_of (i + 1) H) image ⊎ ShowsCommit τ H e (i + 1) image
 
+-- == by what the storage shows, whether or not a history leads to it ==
+
+-- what an event of device d with this reply did on that day, by a view for which its seat stood
+pub record MovesView {M : Type 0} (g : Ghosts M) (d : ℕ) (today : ℤ) (e : Event) (reply : Reply) (v : View) (s t : Seat M g) : Type 0 where
+  pub may : MayReply d today v e reply
+  pub stands : SeatStands g d (view_after reply (commit_by d today v e) v) t
+  pub any_moment : (image : List ℕ) → (times_of g t).since (times_of g s).moment image → Allowed v image ⊎ IsAfter v.count (commit_by d today v e) image
+
+-- the same of the device of the event, by each view
+abbrev pub MovesViews : {M : Type 0} (g : Ghosts M) → ℤ → Event → Reply → List (Seat M g) → List (Seat M g) → Type 0
+MovesViews {M} g today e reply old new = (i : ℕ) (s t : Seat M g) → slice_get old i ≡ Some s → slice_get new i ≡ Some t → device_of e ≡ Some (i + 1)
+    → (v : View) → SeatStands g (i + 1) v s → MovesView g (i + 1) today e reply v s t
+
 -- == whatever the storages tell ==
 
 -- each storage is charged with what the reply tells of it, and no more

@@ -1,5 +1,5 @@
 //! One event.
-ghost use Rattle.std.specs.Prelude.{◌≡◌, ◌↔◌, ℕ, List, [], ◌∷◌, Some, None, IfOk, IsOk, IsSome, IsTrue, true};
+ghost use Rattle.std.specs.Prelude.{◌≡◌, ◌↔◌, ℕ, ℤ, List, [], ◌∷◌, Some, None, IfOk, IsOk, IsSome, IsTrue, true};
 ghost use Rattle.bench_base.specs.declared.events.Reply.{Reply};
 ghost use Rattle.bench_base.specs.declared.ledger.Entry.{Entry};
 ghost use Rattle.bench_base.specs.Ranges.{IsWholeEvent};
@@ -11,7 +11,7 @@ ghost use Rattle.ledger_laws.specs.Moves.{Moves, plan, after, entries};
 ghost use Rattle.ledger_laws.specs.Histories.{History};
 ghost use Rattle.bench.specs.Turns.{in_order};
 ghost use Rattle.bench.specs.Benches.{AreSeated, IsReady, Stands, StoresStand, ForEach, seats_of, day_of};
-ghost use Rattle.bench.specs.Steps.{Did, DidAt, AtAnyMoment, EachCharged, OthersStay, SeatSwitches, Arms, NeedsDay, NamesDevice, IsAsBefore, FindsDamage, MayCommit, WritesNothing};
+ghost use Rattle.bench.specs.Steps.{Did, DidAt, AtAnyMoment, EachCharged, OthersStay, SeatSwitches, Arms, NeedsDay, NamesDevice, IsAsBefore, FindsDamage, MayCommit, WritesNothing, MovesViews};
 ghost use Rattle.bench.specs.Steps as steps;
 ghost use Rattle.bench.specs.Stops.{AreLeft, after_stop};
 
@@ -121,8 +121,9 @@ fn device_turn<N: Nv + Drop>(seats: &mut Vec<Seat<Fused<N>>>, day: DayNo, event:
 /// of power or storage is told of the event's device alone (`names`), and only where its count rose or its fuse burnt
 /// (`charged`); and only a `cut` arms a fuse, with its own numbers (`armed`).
 ///
-/// Where they tell, whether the bench stands for a history or not: no event but `make` and `debit` writes anything
-/// (`unwritten`), and `damaged` comes exactly where the storage that an `on` read is none of the device (`damaged`).
+/// Where they tell, whether the bench stands for a history or not: an event of a device answers and leaves what any view allows
+/// for which its seat stands (`views`); no event but `make` and `debit` writes anything (`unwritten`); and `damaged` comes
+/// exactly where the storage that an `on` read is none of the device (`damaged`).
 pub fn step<N: Nv + Drop>(
     _alloc: Global,
     bench: &mut Bench<N>,
@@ -145,6 +146,8 @@ pub fn step<N: Nv + Drop>(
         → History τ (first_rules ∷ []) (after_stop τ H event.now) × StoresStand N.Nv stores (after_stop τ H event.now)) }
 
     ensures refused { IfOk result (λ turn. steps.is_refusal turn.reply ≡ true → IsAsBefore bench.old bench.new turn) }
+    ensures views { N.tells → (today : ℤ) → day_of bench.old ≡ Some today → IfOk result (λ turn.
+        MovesViews ⟦<Fused<N> as Nv>⟧ today event.now turn.reply (seats_of bench.old) (seats_of bench.new)) }
     ensures unwritten { N.tells → (MayCommit event.now → ⊥) → WritesNothing ⟦<Fused<N> as Nv>⟧ (seats_of bench.old) (seats_of bench.new) }
     ensures damaged { IfOk result (λ turn. FindsDamage ⟦<Fused<N> as Nv>⟧ event.now turn.reply (seats_of bench.new)) }
     ensures day { NeedsDay event.now → IfOk result (λ turn. (turn.reply ≡ Reply.NoDay) ↔ (day_of bench.old ≡ None)) }

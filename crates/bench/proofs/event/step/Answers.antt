@@ -7,10 +7,10 @@ use Rattle.bench_base.specs.Rules.{first_rules}
 use Rattle.bench_base.specs.Ledger.{Ledger}
 use Rattle.ledger_laws.specs.Moves.{entries}
 use Rattle.bench.specs.Benches.{Stands, HasDay, seats_of}
-use Rattle.bench.specs.Steps.{NeedsDay}
-use Rattle.bench.proofs.Frames.{at_ready, at_charged, at_switches, at_armed, at_others, at_moves, at_entries, at_day, at_stands, at_any_moment, at_refused, at_unwritten, at_damage, at_left}
+use Rattle.bench.specs.Steps.{NeedsDay, MovesViews}
+use Rattle.bench.proofs.Frames.{at_ready, at_charged, at_switches, at_armed, at_others, at_moves, at_entries, at_day, at_stands, at_any_moment, at_refused, at_views, at_unwritten, at_damage, at_left}
 use Rattle.bench.proofs.Stops.{stop_history}
-use Rattle.bench.proofs.Quiet.{IsPlanned, planned_day, planned_end, planned_none, at_event, quiet_moves, quiet_entries, quiet_ledger, quiet_charged, quiet_any_moment, day_set, needs_day, some_day, no_day, stands_at, quiet_damage, quiet_left, quiet_names, quiet_unwritten}
+use Rattle.bench.proofs.Quiet.{IsPlanned, planned_day, planned_end, planned_none, at_event, quiet_moves, quiet_entries, quiet_ledger, quiet_charged, quiet_any_moment, day_set, needs_day, some_day, no_day, same_day, stands_at, quiet_damage, quiet_left, quiet_names, quiet_unwritten}
 use Rattle.bench.proofs.event.step.Given.{Over}
 use Rattle.bench.proofs.event.step.Goals as goal
 
@@ -105,6 +105,7 @@ returns-in-None g c =
         quiet_left _ _ _ _ planned nv (seats_of bench) g.N.Nv τ H stands.day stands.seats c.requires.ready tells stores left,
       );
       refused = λ is. record { seats = refl; day = refl; entries = ap (λ t. t.entries) c.silent-in-None.ensures };
+      views = λ tells t is. absurd (no_day bench.day t c.in-None.is is);
       unwritten = λ tells no. quiet_unwritten _ _ _ _ planned nv (seats_of bench);
       damaged = quiet_damage _ _ _ _ planned nv (seats_of bench);
       day = λ n. (λ is. c.in-None.is, λ is. ap (λ t. t.reply) c.silent-in-None.ensures);
@@ -145,6 +146,7 @@ returns-in-Some g c =
         at_left nv today e _ _ _ at τ H history c.requires.whole (has H stands.day) c.requires.ready stands.seats tells laws.plans laws.moves laws.here laws.others laws.rests stores left,
       );
       refused = λ is. let left = at_refused nv today e _ _ _ at is in record { seats = left.0; day = refl; entries = left.1 };
+      views = λ tells t is. subst (λ (k : ℤ). MovesViews nv k e c.device_turn.result.reply (seats_of bench) c.device_turn.new.seats.items) (same_day bench.day today t c.in-Some.is is) (at_views nv today e _ _ _ at tells);
       unwritten = at_unwritten nv today e _ _ _ at;
       damaged = at_damage nv today e _ _ _ at;
       day = λ needs. (λ is. absurd (at.did.on_day is), λ none. absurd (no_day bench.day today none c.in-Some.is));
