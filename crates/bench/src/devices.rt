@@ -84,7 +84,7 @@ impl<N: Nv + Drop> Bench<N> {
     }
 
     /// The storages, without their fuses. A device that is on is switched off. They stand for what the bench stood for, with a
-    /// new run begun.
+    /// new run begun. One whose power was lost wants a restart before another bench is made of it.
     pub fn into_stores(self) -> Stores<N>
         requires ready { IsReady ⟦<Fused<N> as Nv>⟧ self }
         ensures inside { Pairs IsInside (seats_of self) result.devices.items }
