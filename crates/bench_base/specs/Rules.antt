@@ -1,5 +1,5 @@
 -- What a later edition of the rules may change. Each definition that turns on one of these takes the record.
-use Rattle.std.specs.Prelude.{ℕ}
+use Rattle.std.specs.Prelude.{ℕ, List, [], ◌∷◌}
 
 pub record Rules : Type 0 where
   -- the greatest sum of ascending, descending and refunded, in mills
@@ -10,6 +10,15 @@ pub record Rules : Type 0 where
   pub grace : ℕ
   pub small : ℕ
 
--- the edition in use
+-- == the editions ==
+
 abbrev pub first_rules : Rules
 first_rules = record { total = 4294967295; version = 1; grace = 0; small = 0 }
+
+-- the edition in use
+abbrev pub todays_rules : Rules
+todays_rules = first_rules
+
+-- all editions, the newest first
+abbrev pub editions : List Rules
+editions = todays_rules ∷ []

@@ -7,7 +7,7 @@ use Rattle.bench_base.specs.declared.ledger.Commit.{Commit}
 use Rattle.bench_base.specs.declared.ledger.Commit.TheVariants.{Made, Asked, Applied, Debited}
 use Rattle.bench_base.specs.Nodes.{node_of}
 use Rattle.bench_base.specs.Ledger.{count_of}
-use Rattle.psd_wire.specs.Franking.{mark_after}
+use Rattle.ledger_terms.specs.Franking.{mark_after}
 use Rattle.bench_views.specs.Devices.{record_in, record_with}
 
 -- a commit of device i, and one of another device

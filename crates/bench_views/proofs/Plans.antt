@@ -15,7 +15,7 @@ use Rattle.bench_base.specs.Plans.{refuse, made}
 use Rattle.bench_base.specs.Cells.{OfDevice, place_of}
 use Rattle.bench_base.specs.Ledger.{Ledger, day_in, count_of, counted}
 use Rattle.psd_wire.specs.declared.message.DebitMsg.{DebitMsg}
-use Rattle.psd_wire.specs.Devices.{key_of}
+use Rattle.ledger_terms.specs.Devices.{key_of}
 use Rattle.psd_state.specs.State.{State}
 use Rattle.psd_state.specs.Records.{state_of}
 use Rattle.psd_state.specs.Answers.{debit_answer}

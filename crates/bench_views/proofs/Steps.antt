@@ -16,7 +16,7 @@ use Rattle.bench_base.specs.Nodes.{node_of}
 use Rattle.bench_base.specs.Plans.{Plan, refuse, made, told}
 use Rattle.bench_base.specs.Ledger.{Ledger, is_on, counted}
 use Rattle.psd_wire.specs.declared.message.DebitMsg.{DebitMsg}
-use Rattle.psd_wire.specs.Devices.{key_of}
+use Rattle.ledger_terms.specs.Devices.{key_of}
 use Rattle.psd_state.specs.State.{State}
 use Rattle.psd_state.specs.Records.{IsRecordOf, state_of}
 use Rattle.psd_state.specs.Answers.{debit_answer}

@@ -11,7 +11,7 @@ use Rattle.bench_base.specs.declared.ledger.Entry.TheVariants as entry
 use Rattle.bench_base.specs.declared.events.Reply.{Reply}
 use Rattle.bench_base.specs.Nodes.{node_of}
 use Rattle.bench_base.specs.Ledger.{Ledger, is_on, count_of, torn_of, at_up, counted}
-use Rattle.psd_wire.specs.Devices.{key_of}
+use Rattle.ledger_terms.specs.Devices.{key_of}
 use Rattle.psd_state.specs.State.{State}
 use Rattle.psd_state.specs.Records.{Follows, state_of}
 use Rattle.device_seat.specs.Views.{View, up_with, started}

@@ -11,7 +11,7 @@ use Rattle.bench_base.specs.declared.events.Reply.TheVariants as r
 use Rattle.bench_base.specs.Rules.{first_rules}
 use Rattle.bench_base.specs.Plans.{Plan, refuse, made, told}
 use Rattle.bench_base.specs.Ledger.{Ledger, count_of, torn_of, is_on, counted}
-use Rattle.psd_wire.specs.Devices.{key_of}
+use Rattle.ledger_terms.specs.Devices.{key_of}
 use Rattle.psd_state.specs.State.{State}
 use Rattle.psd_state.specs.Records.{state_of}
 use Rattle.psd_device.specs.declared.acts.Act.{Act}

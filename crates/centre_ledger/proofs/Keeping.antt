@@ -16,8 +16,8 @@ use Rattle.bench_base.specs.Rows.{first_holding, any_true}
 use Rattle.psd_wire.specs.declared.message.Request.{Request}
 use Rattle.psd_wire.specs.declared.message.Message.TheVariants as m
 use Rattle.psd_wire.specs.Grammar.{IsWhole, HasCode, ReadsAs, body, spell, kind_code, verdict_code}
-use Rattle.psd_wire.specs.Sums.{adds, takes}
-use Rattle.psd_wire.specs.Rulings.{Account, verdict_by, own_customer, has_left, is_enrolled, out_of_balance, is_past_limits, buys_limit}
+use Rattle.ledger_terms.specs.Sums.{adds, takes}
+use Rattle.ledger_terms.specs.Rulings.{Account, verdict_by, own_customer, has_left, is_enrolled, out_of_balance, is_past_limits, buys_limit}
 use Rattle.psd_wire.proofs.Readings.{cut}
 use Rattle.centre_ledger.specs.declared.rows.DeviceRow.{DeviceRow}
 use Rattle.centre_ledger.specs.declared.rows.CustomerRow.{CustomerRow}

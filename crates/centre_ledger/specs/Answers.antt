@@ -18,10 +18,10 @@ use Rattle.psd_wire.specs.declared.message.DoneMsg.{DoneMsg}
 use Rattle.psd_wire.specs.declared.message.Message.{Message}
 use Rattle.psd_wire.specs.declared.message.Message.TheVariants as m
 use Rattle.psd_wire.specs.Codes.{has_code}
-use Rattle.psd_wire.specs.Requests.{request_in}
-use Rattle.psd_wire.specs.Centres.{registered, ruled, settled}
-use Rattle.psd_wire.specs.InFlight.{in_flight, acknowledged_resets, acknowledged_refunds}
-use Rattle.psd_wire.specs.Rulings.{verdict, reply_note, stored_reply}
+use Rattle.ledger_terms.specs.Requests.{request_in}
+use Rattle.ledger_terms.specs.Centres.{registered, ruled, settled}
+use Rattle.ledger_terms.specs.InFlight.{in_flight, acknowledged_resets, acknowledged_refunds}
+use Rattle.ledger_terms.specs.Rulings.{verdict, reply_note, stored_reply}
 
 abbrev pub no_centre : CentreRefusal → Plan
 no_centre x = refuse (r.CentreRefused x)

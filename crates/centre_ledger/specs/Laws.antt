@@ -5,9 +5,9 @@ use Rattle.bench_base.specs.declared.ledger.Commit.{Commit}
 use Rattle.bench_base.specs.declared.ledger.Commit.TheVariants.{Registered, Opened, Deposited, Flagged, Ruled, Settled}
 use Rattle.bench_base.specs.Ranges.{IsCustomer}
 use Rattle.psd_wire.specs.declared.message.Request.{Request}
-use Rattle.psd_wire.specs.Requests.{request_in}
-use Rattle.psd_wire.specs.Centres.{registered, opened, device_numbers, customer_bought, customer_returned}
-use Rattle.psd_wire.specs.Rulings.{verdict, verdict_by}
+use Rattle.ledger_terms.specs.Requests.{request_in}
+use Rattle.ledger_terms.specs.Centres.{registered, opened, device_numbers, customer_bought, customer_returned}
+use Rattle.ledger_terms.specs.Rulings.{verdict, verdict_by}
 use Rattle.centre_ledger.specs.declared.rows.DeviceRow.{DeviceRow}
 use Rattle.centre_ledger.specs.declared.rows.CustomerRow.{CustomerRow}
 use Rattle.centre_ledger.specs.Answers.{settle_answer, deposit_answer}

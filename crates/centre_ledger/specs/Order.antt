@@ -2,9 +2,9 @@
 use Rattle.std.specs.Prelude.{◌≡◌, ◌<◌, true, false, List, [], ◌∷◌, None, IsSome}
 use Rattle.bench_base.specs.declared.ledger.Commit.{Commit}
 use Rattle.bench_base.specs.declared.ledger.Commit.TheVariants.{Registered, Opened, Deposited, Flagged, Ruled, Settled}
-use Rattle.psd_wire.specs.Requests.{request_in}
-use Rattle.psd_wire.specs.Centres.{registered, opened, ruled}
-use Rattle.psd_wire.specs.Rulings.{verdict}
+use Rattle.ledger_terms.specs.Requests.{request_in}
+use Rattle.ledger_terms.specs.Centres.{registered, opened, ruled}
+use Rattle.ledger_terms.specs.Rulings.{verdict}
 
 -- a device is registered once, and a customer opened once, before the centre's other commits of them; a Ruled has a greater
 -- number than those before it, and the verdict that follows from the commits before it

@@ -2,9 +2,9 @@
 use Rattle.std.specs.Prelude.{◌≡◌, ℕ, true, false, List, [], Option, Some, None, ◌==◌, is_some}
 use Rattle.bench_base.specs.declared.ledger.Commit.{Commit}
 use Rattle.psd_wire.specs.declared.message.Request.{Request}
-use Rattle.psd_wire.specs.Sums.{bought, returned}
-use Rattle.psd_wire.specs.Centres.{registered, enrolled, withdrawn, ruled, settled, opened, suspended, deposits, receipt, balance}
-use Rattle.psd_wire.specs.Rulings.{stored_reply, payer, own_customer}
+use Rattle.ledger_terms.specs.Sums.{bought, returned}
+use Rattle.ledger_terms.specs.Centres.{registered, enrolled, withdrawn, ruled, settled, opened, suspended, deposits, receipt, balance}
+use Rattle.ledger_terms.specs.Rulings.{stored_reply, payer, own_customer}
 use Rattle.centre_ledger.specs.declared.rows.DeviceRow.{DeviceRow}
 use Rattle.centre_ledger.specs.declared.rows.CustomerRow.{CustomerRow}
 use Rattle.centre_ledger.specs.Answers.{last_ruling, stored_note}

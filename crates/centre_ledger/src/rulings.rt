@@ -4,8 +4,8 @@ ghost use Rattle.bench_base.specs.declared.words.Kind.TheVariants.{Enrol, Reset}
 ghost use Rattle.bench_base.specs.Kinds as kinds;
 ghost use Rattle.psd_wire.specs.declared.message.Message.TheVariants as m;
 ghost use Rattle.psd_wire.specs.Grammar.{IsWhole};
-ghost use Rattle.psd_wire.specs.Rulings as rulings;
-ghost use Rattle.psd_wire.specs.Rulings.{verdict_by};
+ghost use Rattle.ledger_terms.specs.Rulings as rulings;
+ghost use Rattle.ledger_terms.specs.Rulings.{verdict_by};
 ghost use Rattle.std.specs.Option.{option_copied};
 ghost use Rattle.centre_ledger.specs.Rows as rows;
 ghost use Rattle.centre_ledger.specs.Rows.{account};

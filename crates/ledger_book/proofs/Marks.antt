@@ -10,7 +10,7 @@ use Rattle.indicium.specs.Marks.{IsWhole, spell, body}
 use Rattle.bench_base.specs.declared.ledger.Commit.{Commit}
 use Rattle.bench_base.specs.declared.ledger.Commit.TheVariants.{Debited}
 use Rattle.bench_base.specs.Rules.{first_rules}
-use Rattle.psd_wire.specs.Sums.{ascending, descending}
+use Rattle.ledger_terms.specs.Sums.{ascending, descending}
 use Rattle.ledger_book.specs.Lawful.{Debits}
 
 -- a debit of a after the sums x and y, with a mark of version w

@@ -1,7 +1,7 @@
 -- The empty ledger is lawful.
 use Rattle.std.proofs.Common.{[], refl, arith}
 use Rattle.bench_base.specs.Rules.{Rules}
-use Rattle.psd_wire.specs.Centres.{customer_sum}
+use Rattle.ledger_terms.specs.Centres.{customer_sum}
 use Rattle.ledger_book.specs.Lawful.{LawfulAt}
 
 pub lawful-nothing : (ρ : Rules) → LawfulAt ρ []

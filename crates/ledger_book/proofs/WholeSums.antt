@@ -8,9 +8,9 @@ use Rattle.bench_base.specs.declared.ledger.Commit.{Commit}
 use Rattle.bench_base.specs.declared.ledger.Commit.TheVariants.{Applied, Debited, Ruled}
 use Rattle.bench_base.specs.Kinds.{same_kind, empties, is_granted}
 use Rattle.psd_wire.specs.declared.message.Request.{Request}
-use Rattle.psd_wire.specs.Requests.{request_in, request_of}
-use Rattle.psd_wire.specs.Centres.{deposits, customer_bought, customer_returned, balance, whole_balance}
-use Rattle.psd_wire.specs.Sums.{buy_of, return_of, adds, takes, applied_list, ruled_list, applied_sum, ruled_sum, buys, returns, loads, clears, spent, bought, returned, loaded, refunded, ascending, descending, whole_descending}
+use Rattle.ledger_terms.specs.Requests.{request_in, request_of}
+use Rattle.ledger_terms.specs.Centres.{deposits, customer_bought, customer_returned, balance, whole_balance}
+use Rattle.ledger_terms.specs.Sums.{buy_of, return_of, adds, takes, applied_list, ruled_list, applied_sum, ruled_sum, buys, returns, loads, clears, spent, bought, returned, loaded, refunded, ascending, descending, whole_descending}
 
 abbrev Sums : (Verdict → Request → List ℕ) → (Verdict → Request → ℕ) → Type 0
 Sums f g = (v : Verdict) (q : Request) (xs : List ℕ) → sum (f v q ++ xs) ≡ sum xs + g v q

@@ -9,12 +9,12 @@ use Rattle.bench_base.specs.Kinds.{is_granted, empties}
 use Rattle.bench_base.specs.Ledger.{Ledger, counted, IsReleased, IsReleasedAs, IsPrinted}
 use Rattle.bench_base.specs.Jobs.{Job, job_of, held_of, begun}
 use Rattle.bench_base.specs.Scans.{accepted}
-use Rattle.psd_wire.specs.Requests.{request_in, note_of, request_of}
-use Rattle.psd_wire.specs.Sums.{adds, takes, loaded, refunded, ascending, descending, pieces}
-use Rattle.psd_wire.specs.Devices.{applied_of, pending, frozen, phase, deadline, last_day}
-use Rattle.psd_wire.specs.Centres.{ruled, settled, deposits, customer_bought, customer_returned}
-use Rattle.psd_wire.specs.Franking.{marked}
-use Rattle.psd_wire.specs.InFlight.{ruling_of, acknowledged_resets, acknowledged_refunds, flight}
+use Rattle.ledger_terms.specs.Requests.{request_in, note_of, request_of}
+use Rattle.ledger_terms.specs.Sums.{adds, takes, loaded, refunded, ascending, descending, pieces}
+use Rattle.ledger_terms.specs.Devices.{applied_of, pending, frozen, phase, deadline, last_day}
+use Rattle.ledger_terms.specs.Centres.{ruled, settled, deposits, customer_bought, customer_returned}
+use Rattle.ledger_terms.specs.Franking.{marked}
+use Rattle.ledger_terms.specs.InFlight.{ruling_of, acknowledged_resets, acknowledged_refunds, flight}
 
 -- P holds of the list and of each list that it grew from
 abbrev pub Always : {A : Type 0} → (List A → Type 0) → List A → Type 0

@@ -2,7 +2,7 @@
 use Rattle.std.specs.Prelude.{ℕ}
 use Rattle.bench_base.specs.declared.words.Verdict.{Verdict}
 use Rattle.psd_wire.specs.declared.message.Request.{Request}
-use Rattle.psd_wire.specs.Sums.{adds, takes}
+use Rattle.ledger_terms.specs.Sums.{adds, takes}
 use Rattle.ledger_book.specs.declared.totals.Side.{Side}
 use Rattle.ledger_book.specs.declared.totals.Side.TheVariants.{Buys, Returns}
 

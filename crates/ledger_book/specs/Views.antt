@@ -6,10 +6,10 @@ use Rattle.bench_base.specs.declared.ledger.Commit.{Commit}
 use Rattle.bench_base.specs.Kinds.{same_kind, is_granted, is_dated}
 use Rattle.bench_base.specs.Rows.{first_of}
 use Rattle.psd_wire.specs.declared.message.Request.{Request}
-use Rattle.psd_wire.specs.Requests.{request_in}
-use Rattle.psd_wire.specs.Sums.{adds, takes, loaded, refunded, ascending, pieces, bought, returned}
-use Rattle.psd_wire.specs.Devices.{key_of, asked, number, pending, unless_applied, applied_kind, deadline, last_day, customer}
-use Rattle.psd_wire.specs.Centres.{registered, enrolled, withdrawn, ruled, done, stored_request, opened, suspended, deposits, receipt}
+use Rattle.ledger_terms.specs.Requests.{request_in}
+use Rattle.ledger_terms.specs.Sums.{adds, takes, loaded, refunded, ascending, pieces, bought, returned}
+use Rattle.ledger_terms.specs.Devices.{key_of, asked, number, pending, unless_applied, applied_kind, deadline, last_day, customer}
+use Rattle.ledger_terms.specs.Centres.{registered, enrolled, withdrawn, ruled, done, stored_request, opened, suspended, deposits, receipt}
 
 pub record OfDevice : Type 0 where
   pub key : Option (List ℕ)

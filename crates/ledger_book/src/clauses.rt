@@ -3,10 +3,10 @@ ghost use Rattle.std.specs.Prelude.{◌≡◌, ◌↔◌, ◌+◌, ◌-◌, ◌�
 ghost use Rattle.bench_base.specs.declared.ledger.Commit.{Commit as ACommit};
 ghost use Rattle.bench_base.specs.Rules.{first_rules};
 ghost use Rattle.bench_base.specs.Kinds.{empties, is_granted};
-ghost use Rattle.psd_wire.specs.Requests.{request_in, note_of, request_of};
-ghost use Rattle.psd_wire.specs.Sums.{pieces, descending};
-ghost use Rattle.psd_wire.specs.Devices.{applied_of};
-ghost use Rattle.psd_wire.specs.InFlight.{ruling_of};
+ghost use Rattle.ledger_terms.specs.Requests.{request_in, note_of, request_of};
+ghost use Rattle.ledger_terms.specs.Sums.{pieces, descending};
+ghost use Rattle.ledger_terms.specs.Devices.{applied_of};
+ghost use Rattle.ledger_terms.specs.InFlight.{ruling_of};
 ghost use Rattle.ledger_book.specs.Lawful.{asks, Numbering, IsNextDebit, NextDebit, Totals, AllDevices, Debits, debited_since, Refunds, AfterApplied, Accounts, Registers, Solvent, AllCustomers, Balances, Days};
 
 use crate::centres::{customer_sum, deposits, device_at, ruled, settled};

@@ -1,7 +1,7 @@
 //! The state of a device, over its commits.
 ghost use Rattle.std.specs.Prelude.{◌≡◌, ◌||◌, [], ◌∷◌, List, reverse};
 ghost use Rattle.bench_base.specs.declared.ledger.Commit.{Commit as ACommit};
-ghost use Rattle.psd_wire.specs.Devices.{key_of, applied_of, pending, unless_applied, frozen, applied_kind, phase, deadline, last_day};
+ghost use Rattle.ledger_terms.specs.Devices.{key_of, applied_of, pending, unless_applied, frozen, applied_kind, phase, deadline, last_day};
 
 use crate::requests::{request_in, request_of};
 use crate::words::{empties, is_dated, is_granted, same_kind};

@@ -1,7 +1,7 @@
 //! Which rulings are acknowledged, and the one in flight. Amounts are in mills.
 ghost use Rattle.std.specs.Prelude.{◌≡◌, ◌≤◌, ◌<◌, ◌*◌, ◌^◌, [], ◌∷◌, length, reverse};
-ghost use Rattle.psd_wire.specs.Centres.{settled};
-ghost use Rattle.psd_wire.specs.InFlight.{ruling_of, ruled_sum_to, flight};
+ghost use Rattle.ledger_terms.specs.Centres.{settled};
+ghost use Rattle.ledger_terms.specs.InFlight.{ruling_of, ruled_sum_to, flight};
 ghost use Rattle.ledger_book.specs.Sides.{amount_of};
 
 use crate::centres::settled;

@@ -2,9 +2,9 @@
 ghost use Rattle.bench_base.specs.Rows.{first_of};
 ghost use Rattle.std.specs.Prelude.{◌≡◌, ◌+◌, ◌≤◌, ◌<◌, ◌^◌, [], ◌∷◌, length, reverse};
 ghost use Rattle.bench_base.specs.Rules.{first_rules};
-ghost use Rattle.psd_wire.specs.Sums.{ascending, descending};
-ghost use Rattle.psd_wire.specs.Devices.{origin};
-ghost use Rattle.psd_wire.specs.Franking.{marked, mark_after, key_or_none};
+ghost use Rattle.ledger_terms.specs.Sums.{ascending, descending};
+ghost use Rattle.ledger_terms.specs.Devices.{origin};
+ghost use Rattle.ledger_terms.specs.Franking.{marked, mark_after, key_or_none};
 ghost use Rattle.bench_base.specs.declared.ledger.Commit.TheVariants.{Debited};
 ghost use Rattle.indicium.specs.Marks.{IsWhole, spell};
 ghost use Rattle.ledger_book.specs.Lawful.{Always, Debits};

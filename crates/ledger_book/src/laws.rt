@@ -9,9 +9,9 @@ ghost use Rattle.bench_base.specs.Nodes.{same_node, node_of};
 ghost use Rattle.bench_base.specs.Ledger.{Ledger, counted};
 ghost use Rattle.bench_base.specs.Jobs.{last_job, job_of, held_of, state_of, begun, open_job, top};
 ghost use Rattle.bench_base.specs.Scans.{trusted, accepted, blocks};
-ghost use Rattle.psd_wire.specs.Requests.{request_of};
-ghost use Rattle.psd_wire.specs.Sums.{buys, returns, loads, clears, spent, bought, returned, loaded, refunded, ascending, descending, whole_descending};
-ghost use Rattle.psd_wire.specs.Centres.{deposits, customer_bought, customer_returned, balance, whole_balance};
+ghost use Rattle.ledger_terms.specs.Requests.{request_of};
+ghost use Rattle.ledger_terms.specs.Sums.{buys, returns, loads, clears, spent, bought, returned, loaded, refunded, ascending, descending, whole_descending};
+ghost use Rattle.ledger_terms.specs.Centres.{deposits, customer_bought, customer_returned, balance, whole_balance};
 ghost use Rattle.ledger_book.specs.Growth.{newest, grown};
 ghost use Rattle.ledger_book.specs.Views.{of_device, device_made, device_asked, device_applied, device_debited, of_centre, centre_registered, centre_ruled, centre_settled, of_customer};
 

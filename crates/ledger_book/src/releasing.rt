@@ -3,7 +3,7 @@ ghost use Rattle.std.specs.Prelude.{◌≡◌, ◌↔◌, ◌⊎◌, true, false
 ghost use Rattle.bench_base.specs.Rules.{first_rules};
 ghost use Rattle.bench_base.specs.Ledger.{Ledger, counted, IsReleased, IsReleasedAs, IsPrinted};
 ghost use Rattle.bench_base.specs.Jobs.{Job, job_of, held_of};
-ghost use Rattle.psd_wire.specs.Franking.{marked};
+ghost use Rattle.ledger_terms.specs.Franking.{marked};
 ghost use Rattle.ledger_book.specs.Lawful.{held_piece, Always, Debits, Releases, AcceptedOnce, PrintedOnce, HeldOnce};
 
 use crate::franking::marked;

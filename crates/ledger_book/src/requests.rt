@@ -1,6 +1,6 @@
 //! Which Request a number of a device stands for.
 ghost use Rattle.std.specs.Prelude.{◌≡◌, ◌<◌, ◌^◌, [], ◌∷◌, reverse};
-ghost use Rattle.psd_wire.specs.Requests.{request_in, note_of, request_of, no_request};
+ghost use Rattle.ledger_terms.specs.Requests.{request_in, note_of, request_of, no_request};
 
 use bench_base::bytes::Note;
 use bench_base::ledger::Commit;

@@ -1,6 +1,6 @@
 //! The sums of a device, in mills.
 ghost use Rattle.std.specs.Prelude.{◌≡◌, pos, ◌≤◌, ◌<◌, ◌+◌, ◌*◌, ◌^◌, [], ◌∷◌, length, reverse};
-ghost use Rattle.psd_wire.specs.Sums.{pieces, ascending, applied_sum, ruled_sum, adds, takes, loaded, refunded, descending, whole_descending};
+ghost use Rattle.ledger_terms.specs.Sums.{pieces, ascending, applied_sum, ruled_sum, adds, takes, loaded, refunded, descending, whole_descending};
 ghost use Rattle.ledger_book.specs.Sides.{amount_of};
 
 use crate::registers::Sums;

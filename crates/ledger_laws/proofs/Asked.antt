@@ -10,8 +10,8 @@ use Rattle.bench_base.specs.Ranges.{IsDevice, IsWord}
 use Rattle.bench_base.specs.Kinds.{empties}
 use Rattle.psd_wire.specs.declared.message.Message.TheVariants as m
 use Rattle.psd_wire.specs.Grammar.{read, IsWhole}
-use Rattle.psd_wire.specs.Requests.{request_in, note_of}
-use Rattle.psd_wire.specs.Devices.{asked, number, pending, unless_applied, frozen, applied_of}
+use Rattle.ledger_terms.specs.Requests.{request_in, note_of}
+use Rattle.ledger_terms.specs.Devices.{asked, number, pending, unless_applied, frozen, applied_of}
 use Rattle.ledger_book.specs.Lawful.{debited_since}
 use Rattle.ledger_laws.proofs.Basics.{some-same, either, found, first_of-none}
 use Rattle.ledger_laws.proofs.Kept.{note-kept}

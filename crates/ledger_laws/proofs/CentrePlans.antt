@@ -30,12 +30,12 @@ use Rattle.psd_wire.specs.declared.message.Message.TheVariants as m
 use Rattle.psd_wire.specs.Grammar.{read, IsWhole}
 use Rattle.psd_wire.proofs.Readings.{read-spell}
 use Rattle.psd_wire.specs.Codes.{has_code}
-use Rattle.psd_wire.specs.Requests.{request_in, request_or_none, note_of}
-use Rattle.psd_wire.specs.Sums.{bought, returned}
-use Rattle.psd_wire.specs.Devices.{applied_of}
-use Rattle.psd_wire.specs.Centres.{registered, key_in, ruled, settled, opened, receipt, deposits}
-use Rattle.psd_wire.specs.InFlight.{ruling_of}
-use Rattle.psd_wire.specs.Rulings.{verdict, verdict_by, verdict_rows, account_of, Account, reply_to, reply_note, stored_reply}
+use Rattle.ledger_terms.specs.Requests.{request_in, request_or_none, note_of}
+use Rattle.ledger_terms.specs.Sums.{bought, returned}
+use Rattle.ledger_terms.specs.Devices.{applied_of}
+use Rattle.ledger_terms.specs.Centres.{registered, key_in, ruled, settled, opened, receipt, deposits}
+use Rattle.ledger_terms.specs.InFlight.{ruling_of}
+use Rattle.ledger_terms.specs.Rulings.{verdict, verdict_by, verdict_rows, account_of, Account, reply_to, reply_note, stored_reply}
 use Rattle.centre_ledger.specs.Answers as centre
 use Rattle.centre_ledger.specs.Answers.{last_ruling}
 use Rattle.ledger_laws.specs.Histories.{IsKnown}

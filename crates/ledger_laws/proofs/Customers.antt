@@ -15,12 +15,12 @@ use Rattle.bench_base.specs.Rules.{Rules}
 use Rattle.bench_base.specs.Rows.{first_of, first_holding}
 use Rattle.bench_base.specs.Kinds.{same_kind, is_granted}
 use Rattle.psd_wire.specs.declared.message.Request.{Request}
-use Rattle.psd_wire.specs.Requests.{request_in}
-use Rattle.psd_wire.specs.Sums.{adds, takes, ruled_sum}
+use Rattle.ledger_terms.specs.Requests.{request_in}
+use Rattle.ledger_terms.specs.Sums.{adds, takes, ruled_sum}
 use Rattle.ledger_laws.proofs.Basics.{some-same, either, when}
 use Rattle.ledger_laws.proofs.Good.{Good}
-use Rattle.psd_wire.specs.Centres.{enrolled, withdrawn, deposits, customer_sum, balance, is_some_at, device_numbers, sum_over, device_share}
-use Rattle.psd_wire.specs.Rulings.{verdict, verdict_by, verdict_rows, account_of, own_customer, has_left, is_enrolled}
+use Rattle.ledger_terms.specs.Centres.{enrolled, withdrawn, deposits, customer_sum, balance, is_some_at, device_numbers, sum_over, device_share}
+use Rattle.ledger_terms.specs.Rulings.{verdict, verdict_by, verdict_rows, account_of, own_customer, has_left, is_enrolled}
 use Rattle.ledger_laws.proofs.Asked.{note-reads}
 use Rattle.ledger_laws.proofs.Basics.{AllFalse, and_false}
 

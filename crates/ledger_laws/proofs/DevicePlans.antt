@@ -33,12 +33,12 @@ use Rattle.psd_wire.specs.declared.message.Message.TheVariants as m
 use Rattle.psd_wire.specs.Grammar.{read, spell, IsWhole}
 use Rattle.psd_wire.proofs.Readings.{read-spell}
 use Rattle.psd_wire.specs.Codes.{has_code}
-use Rattle.psd_wire.specs.Requests.{request_in, request_or_none, note_of}
-use Rattle.psd_wire.specs.Sums.{adds, loaded, refunded, ascending, descending, pieces}
-use Rattle.psd_wire.specs.Devices.{key_of, asked, number, pending, waiting, frozen, phase, deadline, last_day, customer}
-use Rattle.psd_wire.specs.InFlight.{ruling_of}
-use Rattle.psd_wire.specs.Rulings.{buys_limit}
-use Rattle.psd_wire.specs.Franking.{key_or_none, mark_after, indicium_after, kept, marked}
+use Rattle.ledger_terms.specs.Requests.{request_in, request_or_none, note_of}
+use Rattle.ledger_terms.specs.Sums.{adds, loaded, refunded, ascending, descending, pieces}
+use Rattle.ledger_terms.specs.Devices.{key_of, asked, number, pending, waiting, frozen, phase, deadline, last_day, customer}
+use Rattle.ledger_terms.specs.InFlight.{ruling_of}
+use Rattle.ledger_terms.specs.Rulings.{buys_limit}
+use Rattle.ledger_terms.specs.Franking.{key_or_none, mark_after, indicium_after, kept, marked}
 use Rattle.ledger_laws.specs.Devices
 use Rattle.ledger_laws.specs.Devices.{Teller}
 use Rattle.registers.specs.Sums.{total}

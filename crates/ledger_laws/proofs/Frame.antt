@@ -8,8 +8,8 @@ use Rattle.bench_base.specs.declared.ledger.Commit.{Commit}
 use Rattle.bench_base.specs.declared.ledger.Commit.TheVariants.{Made, Asked, Applied, Debited, Registered, Opened, Deposited, Flagged, Ruled, Settled, Ordered, Held, Began, Closed, Trusted, Accepted}
 use Rattle.bench_base.specs.Rules.{Rules}
 use Rattle.psd_wire.specs.declared.message.Request.{Request}
-use Rattle.psd_wire.specs.Requests.{request_in}
-use Rattle.psd_wire.specs.Centres.{ruled, done}
+use Rattle.ledger_terms.specs.Requests.{request_in}
+use Rattle.ledger_terms.specs.Centres.{ruled, done}
 use Rattle.ledger_laws.proofs.Good.{Fits}
 use Rattle.bench_base.specs.declared.words.Node.TheVariants.{Centre, Host, Verifier}
 use Rattle.bench_base.specs.Nodes.{same_node, node_of}
@@ -22,8 +22,8 @@ use Rattle.std.specs.Prelude.{nat_le}
 use Rattle.psd_wire.specs.declared.message.ReplyMsg.{ReplyMsg}
 use Rattle.psd_wire.specs.declared.message.Message.TheVariants as m
 use Rattle.psd_wire.specs.Grammar.{IsWhole}
-use Rattle.psd_wire.specs.Centres.{registered, opened, receipt, deposits, customer_sum}
-use Rattle.psd_wire.specs.Rulings.{verdict, verdict_by, reply_to}
+use Rattle.ledger_terms.specs.Centres.{registered, opened, receipt, deposits, customer_sum}
+use Rattle.ledger_terms.specs.Rulings.{verdict, verdict_by, reply_to}
 use Rattle.ledger_laws.proofs.Kept.{note-kept, ruling-kept, applied-kept}
 
 -- == the centre's state, after a commit of another node ==

@@ -13,12 +13,12 @@ use Rattle.indicium.specs.declared.Mark.{Mark}
 use Rattle.indicium.specs.Marks as marks
 use Rattle.indicium.specs.Marks.{read_mark}
 use Rattle.indicium.proofs.Readings as readings
-use Rattle.psd_wire.specs.Requests.{note_of, in_note, request_of}
-use Rattle.psd_wire.specs.Sums.{ascending, pieces}
-use Rattle.psd_wire.specs.Centres.{registered, origin_in}
-use Rattle.psd_wire.specs.Devices.{key_of, applied_kind, origin, customer}
-use Rattle.psd_wire.specs.Franking.{key_or_none, mark_after, indicium_after, kept, marked}
-use Rattle.psd_wire.specs.Rulings.{buys_limit}
+use Rattle.ledger_terms.specs.Requests.{note_of, in_note, request_of}
+use Rattle.ledger_terms.specs.Sums.{ascending, pieces}
+use Rattle.ledger_terms.specs.Centres.{registered, origin_in}
+use Rattle.ledger_terms.specs.Devices.{key_of, applied_kind, origin, customer}
+use Rattle.ledger_terms.specs.Franking.{key_or_none, mark_after, indicium_after, kept, marked}
+use Rattle.ledger_terms.specs.Rulings.{buys_limit}
 use Rattle.ledger_laws.specs.Editions.{IsCarried}
 use Rattle.ledger_laws.proofs.Basics.{some-same, some-none, either, found, first_of-none}
 use Rattle.ledger_laws.proofs.Good.{Good, Fits}

@@ -24,12 +24,12 @@ use Rattle.verifier.specs.Answers.{is_full}
 use Rattle.psd_wire.specs.declared.message.Message.TheVariants as m
 use Rattle.psd_wire.specs.declared.message.ReplyMsg.{ReplyMsg}
 use Rattle.psd_wire.specs.Grammar.{read, spell, IsWhole}
-use Rattle.psd_wire.specs.Requests.{request_in, note_of}
-use Rattle.psd_wire.specs.Sums.{adds, loaded, refunded, ascending, descending, pieces}
-use Rattle.psd_wire.specs.Devices.{key_of, number, applied_of, pending, frozen, phase, deadline, last_day, customer}
-use Rattle.psd_wire.specs.Centres.{registered, ruled, settled, opened, receipt, deposits}
-use Rattle.psd_wire.specs.InFlight.{ruling_of}
-use Rattle.psd_wire.specs.Rulings.{verdict, reply_to, buys_limit}
+use Rattle.ledger_terms.specs.Requests.{request_in, note_of}
+use Rattle.ledger_terms.specs.Sums.{adds, loaded, refunded, ascending, descending, pieces}
+use Rattle.ledger_terms.specs.Devices.{key_of, number, applied_of, pending, frozen, phase, deadline, last_day, customer}
+use Rattle.ledger_terms.specs.Centres.{registered, ruled, settled, opened, receipt, deposits}
+use Rattle.ledger_terms.specs.InFlight.{ruling_of}
+use Rattle.ledger_terms.specs.Rulings.{verdict, reply_to, buys_limit}
 
 pub record FitsAsked (ρ : Rules) (d n : ℕ) (r : List ℕ) (key : Option (List ℕ)) (waiting : Option (ℕ × List ℕ)) (last loaded left cleared used : ℕ) (last_day : ℤ) (phase : Phase) (customer : ℕ) : Type 0 where
   -- the note is the spelling, under the device's key, of a Request that fits its fields

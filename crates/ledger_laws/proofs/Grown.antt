@@ -22,10 +22,10 @@ use Rattle.psd_wire.specs.declared.message.ReplyMsg.{ReplyMsg}
 use Rattle.psd_wire.specs.declared.message.Message.{Message}
 use Rattle.psd_wire.specs.declared.message.Message.TheVariants as m
 use Rattle.psd_wire.specs.Grammar.{read}
-use Rattle.psd_wire.specs.Requests.{request_in, note_of}
-use Rattle.psd_wire.specs.Devices.{applied_of}
-use Rattle.psd_wire.specs.InFlight.{ruling_of}
-use Rattle.psd_wire.specs.Franking.{marked}
+use Rattle.ledger_terms.specs.Requests.{request_in, note_of}
+use Rattle.ledger_terms.specs.Devices.{applied_of}
+use Rattle.ledger_terms.specs.InFlight.{ruling_of}
+use Rattle.ledger_terms.specs.Franking.{marked}
 use Rattle.ledger_book.specs.Lawful.{Always, Releases, PrintedOnce}
 use Rattle.ledger_laws.proofs.Basics.{some-same, ok-same}
 use Rattle.ledger_laws.proofs.Kept.{note-kept, ruling-kept, applied-kept, begun-kept}

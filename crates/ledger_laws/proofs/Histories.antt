@@ -28,8 +28,8 @@ use Rattle.psd_wire.specs.declared.message.Message.{Message}
 use Rattle.psd_wire.specs.declared.message.Message.TheVariants as m
 use Rattle.psd_wire.specs.Grammar.{read}
 use Rattle.psd_wire.proofs.Readings.{read-found}
-use Rattle.psd_wire.specs.Devices.{key_of, pending}
-use Rattle.psd_wire.specs.Centres.{registered, opened, balance}
+use Rattle.ledger_terms.specs.Devices.{key_of, pending}
+use Rattle.ledger_terms.specs.Centres.{registered, opened, balance}
 use Rattle.ledger_laws.specs.Devices
 use Rattle.host_jobs.specs.Answers as host
 use Rattle.ledger_laws.specs.Tariffs.{Tariff, TextFault, NoToml, NoForm}

@@ -7,10 +7,10 @@ use Rattle.bench_base.specs.declared.ledger.Commit.{Commit}
 use Rattle.bench_base.specs.declared.ledger.Commit.TheVariants.{Asked, Applied, Ruled, Began}
 use Rattle.bench_base.specs.Kinds.{same_kind, is_granted}
 use Rattle.bench_base.specs.Jobs.{begun}
-use Rattle.psd_wire.specs.Requests.{request_in, note_of}
-use Rattle.psd_wire.specs.Devices.{applied_of}
-use Rattle.psd_wire.specs.Centres.{enrolled}
-use Rattle.psd_wire.specs.InFlight.{ruling_of}
+use Rattle.ledger_terms.specs.Requests.{request_in, note_of}
+use Rattle.ledger_terms.specs.Devices.{applied_of}
+use Rattle.ledger_terms.specs.Centres.{enrolled}
+use Rattle.ledger_terms.specs.InFlight.{ruling_of}
 use Rattle.ledger_laws.proofs.Basics.{kept_first}
 
 pub note-kept : (d n : ℕ) (x : List ℕ) (c : Commit) (C : List Commit) → note_of d n C ≡ Some x → note_of d n (c ∷ C) ≡ Some x

@@ -13,11 +13,11 @@ use Rattle.bench_base.specs.Kinds.{same_kind, empties, is_granted}
 use Rattle.bench_base.specs.Ledger.{Ledger, counted}
 use Rattle.bench_base.specs.Scans.{accepted}
 use Rattle.psd_wire.specs.declared.message.Request.{Request}
-use Rattle.psd_wire.specs.Requests.{request_in, note_of, in_note, request_of}
-use Rattle.psd_wire.specs.Sums.{adds, takes, loaded, ascending, descending}
-use Rattle.psd_wire.specs.Devices.{asked, number, applied_of, pending}
-use Rattle.psd_wire.specs.Centres.{ruled, deposits, stored_request}
-use Rattle.psd_wire.specs.InFlight.{ruling_of}
+use Rattle.ledger_terms.specs.Requests.{request_in, note_of, in_note, request_of}
+use Rattle.ledger_terms.specs.Sums.{adds, takes, loaded, ascending, descending}
+use Rattle.ledger_terms.specs.Devices.{asked, number, applied_of, pending}
+use Rattle.ledger_terms.specs.Centres.{ruled, deposits, stored_request}
+use Rattle.ledger_terms.specs.InFlight.{ruling_of}
 use Rattle.centre_ledger.specs.Answers.{last_ruling}
 use Rattle.ledger_book.specs.Lawful.{Always, asks, Numbering, NextDebit, Totals, Refunds, AfterApplied, Accounts, Solvent, Days, AcceptedOnce, HeldOnce, held_piece, LawfulAt, Lawful}
 use Rattle.ledger_laws.specs.Links.{Link}

@@ -8,10 +8,10 @@ use Rattle.bench_base.specs.declared.words.Verdict.{Verdict}
 use Rattle.bench_base.specs.declared.ledger.Commit.{Commit}
 use Rattle.bench_base.specs.declared.ledger.Commit.TheVariants.{Asked, Applied, Ruled, Settled}
 use Rattle.bench_base.specs.Rules.{Rules}
-use Rattle.psd_wire.specs.Requests.{note_of}
-use Rattle.psd_wire.specs.Devices.{asked, number, pending, unless_applied, applied_of}
-use Rattle.psd_wire.specs.Centres.{ruled, settled}
-use Rattle.psd_wire.specs.InFlight.{ruling_of}
+use Rattle.ledger_terms.specs.Requests.{note_of}
+use Rattle.ledger_terms.specs.Devices.{asked, number, pending, unless_applied, applied_of}
+use Rattle.ledger_terms.specs.Centres.{ruled, settled}
+use Rattle.ledger_terms.specs.InFlight.{ruling_of}
 use Rattle.ledger_laws.proofs.Basics.{either, found}
 use Rattle.ledger_laws.proofs.Good.{Good, Fits}
 

@@ -7,11 +7,11 @@ use Rattle.bench_base.specs.declared.ledger.Commit.{Commit}
 use Rattle.bench_base.specs.declared.ledger.Commit.TheVariants.{Applied, Ruled}
 use Rattle.bench_base.specs.Rules.{Rules}
 use Rattle.psd_wire.specs.declared.message.Request.{Request}
-use Rattle.psd_wire.specs.Requests.{request_in, in_note, request_of}
-use Rattle.psd_wire.specs.Sums.{applied_list, ruled_list}
-use Rattle.psd_wire.specs.Devices.{asked, number, pending}
-use Rattle.psd_wire.specs.Centres.{ruled}
-use Rattle.psd_wire.specs.InFlight.{ruling_of}
+use Rattle.ledger_terms.specs.Requests.{request_in, in_note, request_of}
+use Rattle.ledger_terms.specs.Sums.{applied_list, ruled_list}
+use Rattle.ledger_terms.specs.Devices.{asked, number, pending}
+use Rattle.ledger_terms.specs.Centres.{ruled}
+use Rattle.ledger_terms.specs.InFlight.{ruling_of}
 use Rattle.centre_ledger.specs.Answers.{last_ruling}
 use Rattle.ledger_laws.proofs.Basics.{some-same, either}
 use Rattle.ledger_laws.proofs.Good.{Good, Fits}

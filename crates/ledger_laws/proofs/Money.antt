@@ -12,11 +12,11 @@ use Rattle.bench_base.specs.declared.ledger.Commit.TheVariants.{Asked, Applied, 
 use Rattle.bench_base.specs.Rules.{Rules}
 use Rattle.bench_base.specs.Kinds.{empties, is_granted}
 use Rattle.psd_wire.specs.declared.message.Request.{Request}
-use Rattle.psd_wire.specs.Requests.{request_in, note_of, in_note, request_of}
-use Rattle.psd_wire.specs.Sums.{adds, takes, applied_sum, ruled_sum, loaded, refunded, bought, returned, ascending, descending}
-use Rattle.psd_wire.specs.Devices.{asked, number, applied_of, pending, unless_applied, frozen}
-use Rattle.psd_wire.specs.Centres.{ruled, settled}
-use Rattle.psd_wire.specs.InFlight.{ruling_of, ruled_sum_to, acknowledged_resets, acknowledged_refunds, in_flight, flight_of, flight}
+use Rattle.ledger_terms.specs.Requests.{request_in, note_of, in_note, request_of}
+use Rattle.ledger_terms.specs.Sums.{adds, takes, applied_sum, ruled_sum, loaded, refunded, bought, returned, ascending, descending}
+use Rattle.ledger_terms.specs.Devices.{asked, number, applied_of, pending, unless_applied, frozen}
+use Rattle.ledger_terms.specs.Centres.{ruled, settled}
+use Rattle.ledger_terms.specs.InFlight.{ruling_of, ruled_sum_to, acknowledged_resets, acknowledged_refunds, in_flight, flight_of, flight}
 use Rattle.centre_ledger.specs.Answers.{last_ruling}
 use Rattle.ledger_laws.proofs.Basics.{some-same, either, found, first_of-none, first_of-some, when}
 use Rattle.ledger_laws.proofs.Good.{Good, Fits}

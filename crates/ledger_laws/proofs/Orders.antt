@@ -13,11 +13,11 @@ use Rattle.bench_base.specs.Jobs.{last_job}
 use Rattle.host_jobs.specs.Answers.{is_open}
 use Rattle.psd_wire.specs.declared.message.Message.TheVariants as m
 use Rattle.psd_wire.specs.Grammar.{spell}
-use Rattle.psd_wire.specs.Requests.{request_in}
-use Rattle.psd_wire.specs.Sums.{loaded, refunded, ascending}
-use Rattle.psd_wire.specs.Devices.{key_of, asked, number, applied_of, pending, unless_applied, waiting}
-use Rattle.psd_wire.specs.Centres.{registered}
-use Rattle.psd_wire.specs.InFlight.{ruling_of}
+use Rattle.ledger_terms.specs.Requests.{request_in}
+use Rattle.ledger_terms.specs.Sums.{loaded, refunded, ascending}
+use Rattle.ledger_terms.specs.Devices.{key_of, asked, number, applied_of, pending, unless_applied, waiting}
+use Rattle.ledger_terms.specs.Centres.{registered}
+use Rattle.ledger_terms.specs.InFlight.{ruling_of}
 use Rattle.psd_state.specs.Records as device
 use Rattle.psd_state.specs.Records.{IsRecordOf, IsOutstanding, state_of as record_of}
 use Rattle.centre_ledger.specs.Order as centre

@@ -12,14 +12,14 @@ use Rattle.bench_base.specs.declared.ledger.Commit.TheVariants.{Asked, Applied, 
 use Rattle.bench_base.specs.Rules.{Rules}
 use Rattle.bench_base.specs.Kinds.{same_kind, is_granted}
 use Rattle.psd_wire.specs.declared.message.Request.{Request}
-use Rattle.psd_wire.specs.Requests.{request_in, note_of, in_note, request_of}
-use Rattle.psd_wire.specs.Devices.{pending, unless_applied}
-use Rattle.psd_wire.specs.InFlight.{ruling_of}
+use Rattle.ledger_terms.specs.Requests.{request_in, note_of, in_note, request_of}
+use Rattle.ledger_terms.specs.Devices.{pending, unless_applied}
+use Rattle.ledger_terms.specs.InFlight.{ruling_of}
 use Rattle.ledger_laws.proofs.Basics.{some-same, either, found, kept_first}
 use Rattle.ledger_laws.proofs.Good.{Good, Fits}
 use Rattle.bench_base.specs.Kinds.{is_allowed}
-use Rattle.psd_wire.specs.Devices.{applied_kind, customer, phase_of}
-use Rattle.psd_wire.specs.Centres.{enrolled}
+use Rattle.ledger_terms.specs.Devices.{applied_kind, customer, phase_of}
+use Rattle.ledger_terms.specs.Centres.{enrolled}
 use Rattle.ledger_laws.proofs.Kept.{enrolled-kept}
 use Rattle.ledger_laws.proofs.Money.{ruling-asked}
 use Rattle.ledger_laws.proofs.Customers.{grants}

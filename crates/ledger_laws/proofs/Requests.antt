@@ -13,17 +13,17 @@ use Rattle.bench_base.specs.Rules.{Rules}
 use Rattle.bench_base.specs.Rows.{first_holding}
 use Rattle.bench_base.specs.Kinds.{same_kind, empties}
 use Rattle.psd_wire.specs.declared.message.Request.{Request}
-use Rattle.psd_wire.specs.Requests.{request_in, note_of}
-use Rattle.psd_wire.specs.Sums.{adds, loaded, refunded, bought, returned}
-use Rattle.psd_wire.specs.Devices.{asked, number, pending, unless_applied}
-use Rattle.psd_wire.specs.Centres.{ruled}
-use Rattle.psd_wire.specs.InFlight.{ruling_of}
+use Rattle.ledger_terms.specs.Requests.{request_in, note_of}
+use Rattle.ledger_terms.specs.Sums.{adds, loaded, refunded, bought, returned}
+use Rattle.ledger_terms.specs.Devices.{asked, number, pending, unless_applied}
+use Rattle.ledger_terms.specs.Centres.{ruled}
+use Rattle.ledger_terms.specs.InFlight.{ruling_of}
 use Rattle.ledger_laws.proofs.Basics.{some-same, either, found}
 use Rattle.ledger_laws.proofs.Good.{Good, Fits}
 use Rattle.ledger_laws.proofs.Links.{link, waits, waits-some, note-le}
 use Rattle.std.specs.Prelude.{nat_lt}
 use Rattle.bench_base.specs.Rows.{any_true}
-use Rattle.psd_wire.specs.Rulings.{verdict, verdict_by, verdict_rows, account_of, out_of_balance, imbalances, buys_limit}
+use Rattle.ledger_terms.specs.Rulings.{verdict, verdict_by, verdict_rows, account_of, out_of_balance, imbalances, buys_limit}
 use Rattle.ledger_laws.specs.Sane.{is_imbalance}
 use Rattle.ledger_laws.proofs.Links.{Waits}
 use Rattle.ledger_laws.proofs.Money.{funds, balance}

@@ -12,11 +12,11 @@ use Rattle.bench_base.specs.declared.ledger.Commit.TheVariants.{Applied, Ruled}
 use Rattle.bench_base.specs.Rules.{Rules}
 use Rattle.bench_base.specs.Kinds.{same_kind, empties, is_granted}
 use Rattle.psd_wire.specs.declared.message.Request.{Request}
-use Rattle.psd_wire.specs.Requests.{request_in, in_note, request_of}
-use Rattle.psd_wire.specs.Sums.{adds, takes, buy_of, return_of, clears, loaded, refunded}
-use Rattle.psd_wire.specs.Devices.{asked, number, pending}
-use Rattle.psd_wire.specs.Centres.{ruled, settled}
-use Rattle.psd_wire.specs.InFlight.{ruling_of}
+use Rattle.ledger_terms.specs.Requests.{request_in, in_note, request_of}
+use Rattle.ledger_terms.specs.Sums.{adds, takes, buy_of, return_of, clears, loaded, refunded}
+use Rattle.ledger_terms.specs.Devices.{asked, number, pending}
+use Rattle.ledger_terms.specs.Centres.{ruled, settled}
+use Rattle.ledger_terms.specs.InFlight.{ruling_of}
 use Rattle.centre_ledger.specs.Answers.{last_ruling}
 use Rattle.ledger_laws.specs.Laws.{Begins, IsCovered}
 use Rattle.ledger_laws.proofs.Basics.{some-same, some-none, either}

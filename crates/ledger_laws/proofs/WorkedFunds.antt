@@ -15,11 +15,11 @@ use Rattle.sha2.specs.Sha256.{first_words, schedule, rounds, compress, hash_afte
 use Rattle.indicium.specs.Marks as marks
 use Rattle.psd_wire.specs.Grammar.{read, spell, body, request_at, reply_at, done_at, debit_at, release_at, kind_of, verdict_of, size_of, day_of}
 use Rattle.psd_wire.specs.Codes.{has_code}
-use Rattle.psd_wire.specs.Requests.{request_in}
-use Rattle.psd_wire.specs.Sums.{adds, takes}
-use Rattle.psd_wire.specs.Centres.{customer_sum}
-use Rattle.psd_wire.specs.Rulings.{verdict, verdict_by, reply_to}
-use Rattle.psd_wire.specs.Franking.{mark_after}
+use Rattle.ledger_terms.specs.Requests.{request_in}
+use Rattle.ledger_terms.specs.Sums.{adds, takes}
+use Rattle.ledger_terms.specs.Centres.{customer_sum}
+use Rattle.ledger_terms.specs.Rulings.{verdict, verdict_by, reply_to}
+use Rattle.ledger_terms.specs.Franking.{mark_after}
 use Rattle.ledger_laws.specs.Moves.{plan}
 use Rattle.ledger_laws.specs.Runs.{IsRow, sample}
 use Rattle.ledger_laws.specs.Rows.{key1, reset_3, reset_granted, done_3, mark_1, refund_4, refund_granted, withdraw_4, withdraw_granted, reset_50001, no_funds_4, reset_5, funds_ledger, funds_steps, lost_ledger, lost_steps, refund_ledger, refund_steps, reply_lost_start, settled_ledger, withdrawal_ledger, withdrawal_steps}

@@ -16,11 +16,11 @@ use Rattle.sha2.specs.Sha256.{first_words, schedule, rounds, compress, hash_afte
 use Rattle.indicium.specs.Marks as marks
 use Rattle.psd_wire.specs.Grammar.{read, spell, body, request_at, reply_at, done_at, debit_at, release_at, kind_of, verdict_of, size_of, day_of}
 use Rattle.psd_wire.specs.Codes.{has_code}
-use Rattle.psd_wire.specs.Requests.{request_in}
-use Rattle.psd_wire.specs.Sums.{adds, takes}
-use Rattle.psd_wire.specs.Centres.{customer_sum}
-use Rattle.psd_wire.specs.Rulings.{verdict, verdict_by, reply_to}
-use Rattle.psd_wire.specs.Franking.{mark_after}
+use Rattle.ledger_terms.specs.Requests.{request_in}
+use Rattle.ledger_terms.specs.Sums.{adds, takes}
+use Rattle.ledger_terms.specs.Centres.{customer_sum}
+use Rattle.ledger_terms.specs.Rulings.{verdict, verdict_by, reply_to}
+use Rattle.ledger_terms.specs.Franking.{mark_after}
 use Rattle.ledger_laws.specs.Moves.{plan}
 use Rattle.ledger_laws.specs.Runs.{IsRow, sample}
 use Rattle.ledger_laws.specs.Rows.{key1, rates1, enrol_1, enrol_granted, audit_2, audit_granted, reset_3, done_3, debit_1, mark_1, release_1, first_steps, ordinary_ledger, ordinary_steps, reply_lost_start, settled_ledger, settling_steps}

@@ -15,11 +15,11 @@ use Rattle.sha2.specs.Sha256.{first_words, schedule, rounds, compress, hash_afte
 use Rattle.indicium.specs.Marks as marks
 use Rattle.psd_wire.specs.Grammar.{read, spell, body, request_at, reply_at, done_at, debit_at, release_at, kind_of, verdict_of, size_of, day_of}
 use Rattle.psd_wire.specs.Codes.{has_code}
-use Rattle.psd_wire.specs.Requests.{request_in}
-use Rattle.psd_wire.specs.Sums.{adds, takes}
-use Rattle.psd_wire.specs.Centres.{customer_sum}
-use Rattle.psd_wire.specs.Rulings.{verdict, verdict_by, reply_to}
-use Rattle.psd_wire.specs.Franking.{mark_after}
+use Rattle.ledger_terms.specs.Requests.{request_in}
+use Rattle.ledger_terms.specs.Sums.{adds, takes}
+use Rattle.ledger_terms.specs.Centres.{customer_sum}
+use Rattle.ledger_terms.specs.Rulings.{verdict, verdict_by, reply_to}
+use Rattle.ledger_terms.specs.Franking.{mark_after}
 use Rattle.ledger_laws.specs.Moves.{plan}
 use Rattle.ledger_laws.specs.Runs.{IsRow, sample}
 use Rattle.ledger_laws.specs.Rows.{key1, debit_2, debit_3, mark_2, mark_3, release_2, release_3, debit_other, checks_ledger, checks_steps, ordinary_ledger, refusals_ledger, refusals_steps, scans_ledger, scans_steps, settled_ledger}

@@ -20,7 +20,7 @@ use Rattle.psd_wire.specs.declared.message.Message.{Message}
 use Rattle.psd_wire.specs.declared.message.Message.TheVariants as m
 use Rattle.psd_wire.specs.Grammar.{spell}
 use Rattle.psd_wire.specs.Codes.{has_code}
-use Rattle.psd_wire.specs.Devices.{number}
+use Rattle.ledger_terms.specs.Devices.{number}
 use Rattle.psd_state.specs.State.{State}
 use Rattle.psd_state.specs.Records.{state_of}
 use Rattle.psd_state.specs.Answers.{debit_answer, ask_answer, apply_answer, done_answer, status_of}

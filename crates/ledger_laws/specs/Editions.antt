@@ -1,7 +1,7 @@
 -- Editions of the rules: each allows what the one before it does.
 use Rattle.std.specs.Prelude.{◌≡◌, ◌≤◌, List, [], ◌∷◌}
 use Rattle.bench_base.specs.Rules.{Rules}
-use Rattle.psd_wire.specs.Rulings.{buys_limit}
+use Rattle.ledger_terms.specs.Rulings.{buys_limit}
 
 -- the rules are ones that today's marks and messages can carry
 pub record IsCarried (ρ : Rules) : Type 0 where

@@ -17,8 +17,8 @@ use Rattle.psd_wire.specs.declared.message.Message.{Message}
 use Rattle.psd_wire.specs.declared.message.Message.TheVariants as m
 use Rattle.psd_wire.specs.Grammar.{read}
 use Rattle.psd_wire.specs.Codes.{has_code}
-use Rattle.psd_wire.specs.Devices.{key_of}
-use Rattle.psd_wire.specs.Centres.{registered}
+use Rattle.ledger_terms.specs.Devices.{key_of}
+use Rattle.ledger_terms.specs.Centres.{registered}
 use Rattle.ledger_laws.specs.Tariffs.{Tariff}
 use Rattle.ledger_laws.specs.Moves.{Moves, entries}
 

@@ -11,10 +11,10 @@ use Rattle.bench_base.specs.Scans.{accepted}
 use Rattle.psd_wire.specs.declared.message.Message.{Message}
 use Rattle.psd_wire.specs.declared.message.Message.TheVariants as m
 use Rattle.psd_wire.specs.Grammar.{read}
-use Rattle.psd_wire.specs.Requests.{request_in}
-use Rattle.psd_wire.specs.Sums.{adds, ascending, loads, clears, buys, returns}
-use Rattle.psd_wire.specs.Centres.{enrolled}
-use Rattle.psd_wire.specs.InFlight.{acknowledged_resets, acknowledged_refunds, flight}
+use Rattle.ledger_terms.specs.Requests.{request_in}
+use Rattle.ledger_terms.specs.Sums.{adds, ascending, loads, clears, buys, returns}
+use Rattle.ledger_terms.specs.Centres.{enrolled}
+use Rattle.ledger_terms.specs.InFlight.{acknowledged_resets, acknowledged_refunds, flight}
 use Rattle.ledger_laws.specs.Tariffs.{Tariff}
 use Rattle.ledger_laws.specs.Editions.{Editions}
 use Rattle.ledger_laws.specs.Histories.{History}

@@ -1,9 +1,9 @@
 -- How far a device and the centre may be apart.
 use Rattle.std.specs.Prelude.{◌≡◌, ℕ, ◌+◌, ◌≤◌, List, Option}
 use Rattle.bench_base.specs.declared.ledger.Commit.{Commit}
-use Rattle.psd_wire.specs.Requests.{note_of}
-use Rattle.psd_wire.specs.Devices.{asked, number}
-use Rattle.psd_wire.specs.Centres.{ruled, settled, stored_request}
+use Rattle.ledger_terms.specs.Requests.{note_of}
+use Rattle.ledger_terms.specs.Devices.{asked, number}
+use Rattle.ledger_terms.specs.Centres.{ruled, settled, stored_request}
 
 -- the device's last number is settled, or the one after; it was ruled; the centre is at most one ruling ahead; and the device asked for that
 pub record Linked (settled number ruled asked : ℕ) (stored note : Option (List ℕ)) : Type 0 where

@@ -23,9 +23,9 @@ use Rattle.indicium.specs.Marks.{read_mark}
 use Rattle.psd_wire.specs.declared.message.Message.{Message}
 use Rattle.psd_wire.specs.declared.message.Message.TheVariants as m
 use Rattle.psd_wire.specs.Grammar.{read}
-use Rattle.psd_wire.specs.Sums.{ascending, descending}
-use Rattle.psd_wire.specs.Devices.{key_of, pending}
-use Rattle.psd_wire.specs.Centres.{registered, opened, receipt, deposits, balance}
+use Rattle.ledger_terms.specs.Sums.{ascending, descending}
+use Rattle.ledger_terms.specs.Devices.{key_of, pending}
+use Rattle.ledger_terms.specs.Centres.{registered, opened, receipt, deposits, balance}
 use Rattle.psd_wire.specs.declared.message.DebitMsg.{DebitMsg}
 use Rattle.centre_ledger.specs.Answers as centre
 use Rattle.host_jobs.specs.Answers as host

@@ -5,7 +5,7 @@ use Rattle.bench_base.specs.declared.ledger.Commit.{Commit}
 use Rattle.bench_base.specs.Nodes.{node_of}
 use Rattle.bench_base.specs.Ranges.{InRange}
 use Rattle.bench_base.specs.Ledger.{Ledger, is_on, counted}
-use Rattle.psd_wire.specs.Devices.{key_of}
+use Rattle.ledger_terms.specs.Devices.{key_of}
 use Rattle.psd_state.specs.Records as device
 use Rattle.centre_ledger.specs.Order as centre
 use Rattle.host_jobs.specs.Order as host

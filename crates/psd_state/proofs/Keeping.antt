@@ -17,9 +17,9 @@ use Rattle.psd_wire.specs.declared.message.Request.{Request}
 use Rattle.psd_wire.specs.declared.message.DebitMsg.{DebitMsg}
 use Rattle.psd_wire.specs.declared.message.Message.TheVariants as m
 use Rattle.psd_wire.specs.Grammar as grammar
-use Rattle.psd_wire.specs.Requests.{request_in, request_of, in_note, note_of}
-use Rattle.psd_wire.specs.Sums.{takes, loaded, refunded, ascending, descending, whole_descending}
-use Rattle.psd_wire.specs.Devices.{key_of, number, pending, unless_applied, waiting, applied_kind, phase_of, phase}
+use Rattle.ledger_terms.specs.Requests.{request_in, request_of, in_note, note_of}
+use Rattle.ledger_terms.specs.Sums.{takes, loaded, refunded, ascending, descending, whole_descending}
+use Rattle.ledger_terms.specs.Devices.{key_of, number, pending, unless_applied, waiting, applied_kind, phase_of, phase}
 use Rattle.registers.specs.Sums.{Sums}
 use Rattle.psd_state.specs.declared.debiting.Debited.{Debited as Answer}
 use Rattle.psd_state.specs.declared.debiting.Debited.TheVariants.{New, Again}

@@ -9,11 +9,11 @@ use Rattle.bench_base.specs.declared.ledger.Commit.TheVariants.{Asked, Applied, 
 use Rattle.bench_base.specs.Rows.{first_of}
 use Rattle.bench_base.specs.Kinds.{is_granted, is_dated, same_kind}
 use Rattle.psd_wire.specs.declared.message.ReplyMsg.{ReplyMsg}
-use Rattle.psd_wire.specs.Requests.{request_in, request_of, note_of}
-use Rattle.psd_wire.specs.Devices.{asked, number, pending, unless_applied, applied_of, applied_kind}
-use Rattle.psd_wire.specs.Centres.{registered, origin_in, ruled}
-use Rattle.psd_wire.specs.InFlight.{ruling_of}
-use Rattle.psd_wire.specs.Rulings.{reply_to}
+use Rattle.ledger_terms.specs.Requests.{request_in, request_of, note_of}
+use Rattle.ledger_terms.specs.Devices.{asked, number, pending, unless_applied, applied_of, applied_kind}
+use Rattle.ledger_terms.specs.Centres.{registered, origin_in, ruled}
+use Rattle.ledger_terms.specs.InFlight.{ruling_of}
+use Rattle.ledger_terms.specs.Rulings.{reply_to}
 use Rattle.psd_state.specs.Records.{asks, ruled_reply, InOrder}
 
 -- the two are one, or their test says no

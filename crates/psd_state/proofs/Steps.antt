@@ -15,11 +15,11 @@ use Rattle.psd_wire.specs.declared.message.ReplyMsg.{ReplyMsg}
 use Rattle.psd_wire.specs.declared.message.DebitMsg.{DebitMsg}
 use Rattle.psd_wire.specs.declared.message.Message.TheVariants as m
 use Rattle.psd_wire.specs.Grammar as grammar
-use Rattle.psd_wire.specs.Requests.{request_or_none, request_in, note_of, in_note, request_of}
-use Rattle.psd_wire.specs.Sums.{adds, takes, loaded, refunded, ascending, pieces, descending, whole_descending}
-use Rattle.psd_wire.specs.Devices.{pending, unless_applied, waiting, applied_kind, phase_of, phase, deadline, last_day, customer, key_of}
-use Rattle.psd_wire.specs.Centres.{registered, origin_in}
-use Rattle.psd_wire.specs.Franking.{mark_after, kept}
+use Rattle.ledger_terms.specs.Requests.{request_or_none, request_in, note_of, in_note, request_of}
+use Rattle.ledger_terms.specs.Sums.{adds, takes, loaded, refunded, ascending, pieces, descending, whole_descending}
+use Rattle.ledger_terms.specs.Devices.{pending, unless_applied, waiting, applied_kind, phase_of, phase, deadline, last_day, customer, key_of}
+use Rattle.ledger_terms.specs.Centres.{registered, origin_in}
+use Rattle.ledger_terms.specs.Franking.{mark_after, kept}
 use Rattle.psd_wire.proofs.Readings.{read-spell}
 use Rattle.psd_state.specs.State.{State, IsAmount}
 use Rattle.psd_state.specs.Answers as answers

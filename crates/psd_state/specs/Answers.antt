@@ -18,7 +18,7 @@ use Rattle.psd_wire.specs.declared.message.ReplyMsg.{ReplyMsg}
 use Rattle.psd_wire.specs.declared.message.DebitMsg.{DebitMsg}
 use Rattle.psd_wire.specs.declared.message.Message.TheVariants as m
 use Rattle.psd_wire.specs.Grammar.{spell}
-use Rattle.psd_wire.specs.Devices.{lock}
+use Rattle.ledger_terms.specs.Devices.{lock}
 use Rattle.registers.specs.Sums.{Sums, total, debited, loaded, cleared, zeros}
 use Rattle.psd_state.specs.State.{State, Holds}
 use Rattle.psd_state.specs.declared.debiting.Debited.{Debited}

@@ -9,7 +9,7 @@ use Rattle.bench_base.specs.Rules.{Rules}
 use Rattle.psd_wire.specs.declared.message.Request.{Request}
 use Rattle.psd_wire.specs.declared.message.ReplyMsg.{ReplyMsg}
 use Rattle.psd_wire.specs.declared.message.DebitMsg.{DebitMsg}
-use Rattle.psd_wire.specs.Devices.{key_of, pending}
+use Rattle.ledger_terms.specs.Devices.{key_of, pending}
 use Rattle.psd_state.specs.State.{State, Holds}
 use Rattle.psd_state.specs.Answers.{made_state, ask_answer, debit_answer, apply_answer, resend_answer}
 use Rattle.psd_state.specs.Payload.{bytes_of, Ranges}

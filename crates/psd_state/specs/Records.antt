@@ -8,13 +8,13 @@ use Rattle.psd_wire.specs.declared.message.Request.{Request}
 use Rattle.psd_wire.specs.declared.message.ReplyMsg.{ReplyMsg}
 use Rattle.psd_wire.specs.declared.message.Message.TheVariants as m
 use Rattle.psd_wire.specs.Grammar.{spell}
-use Rattle.psd_wire.specs.Requests.{request_in, note_of}
-use Rattle.psd_wire.specs.Sums.{ascending, descending, refunded, pieces, whole_descending}
-use Rattle.psd_wire.specs.Devices.{key_of, asked, number, applied_of, pending, waiting, phase, deadline, last_day, customer, origin}
-use Rattle.psd_wire.specs.Centres.{registered, ruled}
-use Rattle.psd_wire.specs.Franking.{kept}
-use Rattle.psd_wire.specs.InFlight.{ruling_of}
-use Rattle.psd_wire.specs.Rulings.{verdict, reply_to}
+use Rattle.ledger_terms.specs.Requests.{request_in, note_of}
+use Rattle.ledger_terms.specs.Sums.{ascending, descending, refunded, pieces, whole_descending}
+use Rattle.ledger_terms.specs.Devices.{key_of, asked, number, applied_of, pending, waiting, phase, deadline, last_day, customer, origin}
+use Rattle.ledger_terms.specs.Centres.{registered, ruled}
+use Rattle.ledger_terms.specs.Franking.{kept}
+use Rattle.ledger_terms.specs.InFlight.{ruling_of}
+use Rattle.ledger_terms.specs.Rulings.{verdict, reply_to}
 use Rattle.psd_state.specs.State.{State}
 
 -- what follows from the commits for a device with this key

@@ -1,6 +1,6 @@
 //! The record of a device: what it keeps, and what it shows of it.
 ghost use Rattle.std.specs.Prelude.{◌≡◌};
-ghost use Rattle.psd_wire.specs.Devices.{lock};
+ghost use Rattle.ledger_terms.specs.Devices.{lock};
 ghost use Rattle.psd_state.specs.State.{Holds};
 ghost use Rattle.psd_state.specs.Answers.{made_state, status_of, waiting_kind};
 

@@ -1,11 +1,4 @@
-pub mod Centres
 pub mod Codes
-pub mod Devices
 pub mod Faults
-pub mod Franking
 pub mod Grammar
-pub mod InFlight
 pub mod Laws
-pub mod Requests
-pub mod Rulings
-pub mod Sums

@@ -1,5 +1,5 @@
 use Rattle.std.proofs.Common.{◌≡◌, take, reverse}
-use Rattle.psd_wire.specs.Centres.{enrolled}
+use Rattle.ledger_terms.specs.Centres.{enrolled}
 use Rattle.ledger_book.proofs.centres.enrolled.Given as goal
 
 abbrev pub invariant-loop-commit : goal.invariant-loop-commit

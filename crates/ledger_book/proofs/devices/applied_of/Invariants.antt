@@ -1,5 +1,5 @@
 use Rattle.std.proofs.Common.{◌≡◌, take, reverse}
-use Rattle.psd_wire.specs.Devices.{applied_of}
+use Rattle.ledger_terms.specs.Devices.{applied_of}
 use Rattle.ledger_book.proofs.devices.applied_of.Given as goal
 
 abbrev pub invariant-loop-commit : goal.invariant-loop-commit

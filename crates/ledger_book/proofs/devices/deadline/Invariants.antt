@@ -1,5 +1,5 @@
 use Rattle.std.proofs.Common.{◌≡◌, take, reverse}
-use Rattle.psd_wire.specs.Devices.{deadline}
+use Rattle.ledger_terms.specs.Devices.{deadline}
 use Rattle.ledger_book.proofs.devices.deadline.Given as goal
 
 abbrev pub invariant-loop-i : goal.invariant-loop-i

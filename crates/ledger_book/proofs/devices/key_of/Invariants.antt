@@ -1,5 +1,5 @@
 use Rattle.std.proofs.Common.{◌≡◌, take, reverse}
-use Rattle.psd_wire.specs.Devices.{key_of}
+use Rattle.ledger_terms.specs.Devices.{key_of}
 use Rattle.ledger_book.proofs.devices.key_of.Given as goal
 
 abbrev pub invariant-loop-commit : goal.invariant-loop-commit

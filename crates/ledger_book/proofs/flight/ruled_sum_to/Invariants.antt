@@ -1,5 +1,5 @@
 use Rattle.std.proofs.Common.{◌≡◌, ◌≤◌, ◌*◌, ◌^◌, take, reverse}
-use Rattle.psd_wire.specs.InFlight.{ruled_sum_to}
+use Rattle.ledger_terms.specs.InFlight.{ruled_sum_to}
 use Rattle.ledger_book.specs.Sides.{amount_of}
 use Rattle.ledger_book.proofs.flight.ruled_sum_to.Given as goal
 

@@ -1,5 +1,5 @@
 use Rattle.std.proofs.Common.{◌≡◌, take, reverse}
-use Rattle.psd_wire.specs.Franking.{marked}
+use Rattle.ledger_terms.specs.Franking.{marked}
 use Rattle.ledger_book.proofs.franking.marked.Given as goal
 
 abbrev pub invariant-loop-i : goal.invariant-loop-i

@@ -1,6 +1,6 @@
 use Rattle.std.proofs.Common.{◌∙◌, sym, ap}
 use Rattle.indicium.specs.Marks.{spell}
-use Rattle.psd_wire.specs.Franking.{key_or_none}
+use Rattle.ledger_terms.specs.Franking.{key_or_none}
 use Rattle.ledger_book.proofs.Marks.{spell-no_key}
 use Rattle.ledger_book.proofs.franking.spelled.Goals as goal
 

@@ -1,5 +1,5 @@
 use Rattle.std.proofs.Common.{◌≡◌, take, reverse}
-use Rattle.psd_wire.specs.Requests.{note_of}
+use Rattle.ledger_terms.specs.Requests.{note_of}
 use Rattle.ledger_book.proofs.requests.note_of.Given as goal
 
 abbrev pub invariant-loop-commit : goal.invariant-loop-commit

@@ -1,5 +1,5 @@
 use Rattle.std.proofs.Common.{◌≡◌, ◌≤◌, take, reverse}
-use Rattle.psd_wire.specs.Sums.{pieces}
+use Rattle.ledger_terms.specs.Sums.{pieces}
 use Rattle.ledger_book.proofs.totals.pieces.Given as goal
 
 abbrev pub invariant-loop-commit : goal.invariant-loop-commit

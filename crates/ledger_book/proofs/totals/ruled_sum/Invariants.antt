@@ -1,5 +1,5 @@
 use Rattle.std.proofs.Common.{◌≡◌, ◌≤◌, ◌*◌, ◌^◌, take, reverse}
-use Rattle.psd_wire.specs.Sums.{ruled_sum}
+use Rattle.ledger_terms.specs.Sums.{ruled_sum}
 use Rattle.ledger_book.specs.Sides.{amount_of}
 use Rattle.ledger_book.proofs.totals.ruled_sum.Given as goal
 

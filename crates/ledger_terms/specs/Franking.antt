@@ -5,8 +5,8 @@ use Rattle.bench_base.specs.declared.ledger.Commit.TheVariants.{Debited}
 use Rattle.bench_base.specs.Rows.{first_of}
 use Rattle.indicium.specs.declared.Mark.{Mark}
 use Rattle.indicium.specs.Marks.{spell}
-use Rattle.psd_wire.specs.Sums.{ascending, descending}
-use Rattle.psd_wire.specs.Devices.{key_of, origin}
+use Rattle.ledger_terms.specs.Sums.{ascending, descending}
+use Rattle.ledger_terms.specs.Devices.{key_of, origin}
 
 abbrev pub key_or_none : Option (List ℕ) → List ℕ
 key_or_none None = []

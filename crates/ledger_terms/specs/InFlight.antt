@@ -5,10 +5,10 @@ use Rattle.bench_base.specs.declared.ledger.Commit.{Commit}
 use Rattle.bench_base.specs.declared.ledger.Commit.TheVariants.{Ruled}
 use Rattle.bench_base.specs.Rows.{first_of}
 use Rattle.psd_wire.specs.declared.message.Request.{Request}
-use Rattle.psd_wire.specs.Requests.{request_in}
-use Rattle.psd_wire.specs.Sums.{adds, takes}
-use Rattle.psd_wire.specs.Centres.{settled}
-use Rattle.psd_wire.specs.Devices.{applied_of}
+use Rattle.ledger_terms.specs.Requests.{request_in}
+use Rattle.ledger_terms.specs.Sums.{adds, takes}
+use Rattle.ledger_terms.specs.Centres.{settled}
+use Rattle.ledger_terms.specs.Devices.{applied_of}
 
 -- the verdict and the Request of the first Ruled of number n
 abbrev pub ruling_of : ℕ → ℕ → List Commit → Option (Verdict × List ℕ)

@@ -7,8 +7,8 @@ use Rattle.bench_base.specs.declared.ledger.Commit.TheVariants.{Registered, Open
 use Rattle.bench_base.specs.Kinds.{same_kind, is_granted}
 use Rattle.bench_base.specs.Rows.{first_of}
 use Rattle.psd_wire.specs.declared.message.Request.{Request}
-use Rattle.psd_wire.specs.Requests.{request_in}
-use Rattle.psd_wire.specs.Sums.{adds, takes, ruled_sum}
+use Rattle.ledger_terms.specs.Requests.{request_in}
+use Rattle.ledger_terms.specs.Sums.{adds, takes, ruled_sum}
 
 -- == devices ==
 

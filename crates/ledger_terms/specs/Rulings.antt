@@ -11,9 +11,9 @@ use Rattle.psd_wire.specs.declared.message.Request.{Request}
 use Rattle.psd_wire.specs.declared.message.ReplyMsg.{ReplyMsg}
 use Rattle.psd_wire.specs.declared.message.Message.TheVariants as m
 use Rattle.psd_wire.specs.Grammar.{spell}
-use Rattle.psd_wire.specs.Requests.{request_in}
-use Rattle.psd_wire.specs.Sums.{bought, returned}
-use Rattle.psd_wire.specs.Centres.{registered, origin_in, key_in, enrolled, withdrawn, opened, suspended, balance}
+use Rattle.ledger_terms.specs.Requests.{request_in}
+use Rattle.ledger_terms.specs.Sums.{bought, returned}
+use Rattle.ledger_terms.specs.Centres.{registered, origin_in, key_in, enrolled, withdrawn, opened, suspended, balance}
 
 -- the greatest sum of buys that a Request of this version may bring about; no other version is read
 abbrev pub buys_limit : ℕ → ℕ

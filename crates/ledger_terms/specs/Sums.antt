@@ -6,7 +6,7 @@ use Rattle.bench_base.specs.declared.ledger.Commit.{Commit}
 use Rattle.bench_base.specs.declared.ledger.Commit.TheVariants.{Applied, Debited, Ruled}
 use Rattle.bench_base.specs.Kinds.{same_kind, empties, is_granted}
 use Rattle.psd_wire.specs.declared.message.Request.{Request}
-use Rattle.psd_wire.specs.Requests.{request_in, request_of}
+use Rattle.ledger_terms.specs.Requests.{request_in, request_of}
 
 -- == the amounts as lists ==
 

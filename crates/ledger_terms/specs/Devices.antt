@@ -11,8 +11,8 @@ use Rattle.bench_base.specs.declared.ledger.Commit.TheVariants.{Made, Asked, App
 use Rattle.bench_base.specs.Kinds.{same_kind, empties, is_granted, is_dated}
 use Rattle.bench_base.specs.Rows.{first_of}
 use Rattle.psd_wire.specs.declared.message.Request.{Request}
-use Rattle.psd_wire.specs.Requests.{request_in, request_of}
-use Rattle.psd_wire.specs.Centres.{registered, origin_in}
+use Rattle.ledger_terms.specs.Requests.{request_in, request_of}
+use Rattle.ledger_terms.specs.Centres.{registered, origin_in}
 
 -- the key that the device was made with
 abbrev pub key_of : ℕ → List Commit → Option (List ℕ)

@@ -1,0 +1,7 @@
+pub mod Centres
+pub mod Devices
+pub mod Franking
+pub mod InFlight
+pub mod Requests
+pub mod Rulings
+pub mod Sums
