@@ -1,0 +1,5 @@
+pub mod Views
+pub mod Acts
+pub mod Starts
+pub mod Replies
+pub mod Plans

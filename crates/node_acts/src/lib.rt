@@ -1,0 +1,7 @@
+//! What a call of a node does, as a value: an act. What it came to in storage, what is seen of the node, and what the
+//! ledger plans are each read off the act, whatever the kind of the node.
+#![tactic(auto)]
+
+mod act;
+
+pub use act::{Act, Outcome, Started};
