@@ -1,5 +1,6 @@
 pub mod Causes
 pub mod Cells
+pub mod Events
 pub mod Jobs
 pub mod Kinds
 pub mod Ledger
@@ -8,6 +9,7 @@ pub mod Nodes
 pub mod Padded
 pub mod Plans
 pub mod Ranges
+pub mod Replies
 pub mod Rows
 pub mod Rules
 pub mod Scans

@@ -1,17 +1,40 @@
 -- Which node a commit belongs to.
-use Rattle.std.specs.Prelude.{Bool, true, false, ◌==◌}
+use Rattle.std.specs.Prelude.{ℕ, Bool, true, false, ◌==◌}
 use Rattle.bench_base.specs.declared.words.Node.{Node}
 use Rattle.bench_base.specs.declared.words.Node.TheVariants.{Device, Centre, Host, Verifier}
 use Rattle.bench_base.specs.declared.ledger.Commit.{Commit}
 use Rattle.bench_base.specs.declared.ledger.Commit.TheVariants.{Made, Asked, Applied, Debited, Registered, Opened, Deposited, Flagged, Ruled, Settled, Ordered, Held, Began, Closed, Trusted, Accepted}
 
+abbrev pub is_device : ℕ → Node → Bool
+is_device d (Device e) = d == e
+is_device d Centre = false
+is_device d Host = false
+is_device d Verifier = false
+
+abbrev pub is_centre : Node → Bool
+is_centre (Device d) = false
+is_centre Centre = true
+is_centre Host = false
+is_centre Verifier = false
+
+abbrev pub is_host : Node → Bool
+is_host (Device d) = false
+is_host Centre = false
+is_host Host = true
+is_host Verifier = false
+
+abbrev pub is_verifier : Node → Bool
+is_verifier (Device d) = false
+is_verifier Centre = false
+is_verifier Host = false
+is_verifier Verifier = true
+
 -- whether the two are one node
 abbrev pub same_node : Node → Node → Bool
-same_node (Device d) (Device e) = d == e
-same_node Centre Centre = true
-same_node Host Host = true
-same_node Verifier Verifier = true
-same_node _ _ = false
+same_node (Device d) n = is_device d n
+same_node Centre n = is_centre n
+same_node Host n = is_host n
+same_node Verifier n = is_verifier n
 
 -- the node whose record the commit changes
 abbrev pub node_of : Commit → Node

@@ -29,7 +29,9 @@ IsKey key = (length key ≡ 32) × IsBytes key
 
 abbrev pub IsNode : Node → Type 0
 IsNode (Device d) = IsDevice d
-IsNode n = Unit {0}
+IsNode Centre = Unit {0}
+IsNode Host = Unit {0}
+IsNode Verifier = Unit {0}
 
 -- each number of the commit fits its field; a note is left to what it reads as
 abbrev pub InRange : Commit → Type 0

@@ -11,7 +11,8 @@ use Rattle.psd_wire.specs.declared.message.Message.{Message}
 use Rattle.psd_wire.specs.declared.message.Message.TheVariants as m
 use Rattle.ledger_laws.specs.Tariffs.{Tariff}
 use Rattle.ledger_laws.specs.Editions.{Editions}
-use Rattle.ledger_laws.specs.Moves.{plan, Moves, OtherUp, Fails, FailsToRead}
+use Rattle.node_acts.specs.Plans.{Fails}
+use Rattle.ledger_laws.specs.Moves.{plan, Moves, OtherUp, FailsToRead}
 use Rattle.ledger_laws.specs.Histories.{Unforged, History}
 use Rattle.ledger_laws.specs.Sane.{IsSane}
 use Rattle.ledger_laws.specs.Laws.{IsAddressed, SentAreRead}
@@ -21,9 +22,7 @@ use Rattle.ledger_laws.proofs.Grown.{Inv, GenuineAs}
 use Rattle.ledger_laws.proofs.Histories.{histories, plan-ok, allows-same, carried-by}
 
 other-sane : (was x : Reply) (H : Ledger) → OtherUp was x H → IsSane x
-other-sane (r.Up n k) (r.Up m l) H h = tt
-other-sane (r.Up n k) _ H h = absurd h
-other-sane _ x H h = absurd h
+other-sane was x H h = subst IsSane (sym h.more) tt
 
 fails-sane : (p : Plan) (x : Reply) → Fails p x → IsSane x
 fails-sane p (r.Power n) h = tt
@@ -32,10 +31,7 @@ fails-sane p (r.PrinterFault j) h = tt
 fails-sane p _ h = absurd h
 
 unread-sane : (x : Event) (y : Reply) (day : Option ℤ) → FailsToRead x y day → IsSane y
-unread-sane ev.Rates r.RatesFault (Some t) h = tt
-unread-sane ev.Rates r.RatesFault None h = absurd h
-unread-sane ev.Rates _ day h = absurd h
-unread-sane _ y day h = absurd h
+unread-sane x y day h = subst IsSane (sym h.reply_is) tt
 
 pub moves-sane : (τ : Tariff) (ρ : Rules) (ρs : List Rules) (H : Ledger) → Editions (ρ ∷ ρs) → History τ (ρ ∷ ρs) H → (x : Event) (text : List ℕ) (reply : Reply) → Unforged x H → Moves τ ρ H x text reply → IsSane reply
 moves-sane τ ρ ρs H E h x text reply u v =

@@ -50,7 +50,7 @@ use Rattle.psd_state.specs.declared.debiting.Debited.{Debited}
 use Rattle.psd_state.specs.declared.debiting.Debited.TheVariants.{New, Again}
 use Rattle.ledger_laws.specs.Editions.{IsCarried}
 use Rattle.ledger_laws.specs.Histories.{IsKnown}
-use Rattle.ledger_laws.specs.Moves.{with_commit, after}
+use Rattle.node_acts.specs.Plans.{with_commit, after}
 use Rattle.ledger_laws.specs.Sane.{IsSane, IsSaneDevice}
 use Rattle.ledger_laws.proofs.Basics.{some-same, or_false, and_false, chosen, first, AllFalse}
 use Rattle.ledger_laws.proofs.Dates.{not_before, before}

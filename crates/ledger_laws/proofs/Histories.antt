@@ -34,6 +34,7 @@ use Rattle.ledger_laws.specs.Devices
 use Rattle.host_jobs.specs.Answers as host
 use Rattle.ledger_laws.specs.Tariffs.{Tariff, TextFault, NoToml, NoForm}
 use Rattle.ledger_laws.specs.Editions.{IsCarried, Allows, Follows, Editions}
+use Rattle.bench_base.specs.Events.{needs_day}
 use Rattle.ledger_laws.specs.Moves
 use Rattle.ledger_laws.specs.Moves.{plan}
 use Rattle.ledger_laws.specs.Histories.{IsKnown, IsKnownMark, Unforged, History, nothing, begins, moves, earlier}
@@ -204,11 +205,17 @@ module _ (τ : Tariff) (ρ : Rules) (carried : IsCarried ρ) (H : Ledger) (i : I
   day-ok (ev.ScanHex n bytes) text today day w u = scan-bytes n today bytes w.1 u
   day-ok (ev.Reconcile d) text today day w u = at-ok (Device d) _ (λ _. at-ok Centre _ (λ on. reconcile-all d (key_of d (counted H)) on))
 
+  dated-ok : (x : Event) (text : List ℕ) (day : Option ℤ) → day_in H ≡ day → IsWholeEvent x → Unforged x H → PlanOk ρ H (Moves.on_day (Moves.plan_on τ ρ H x text) day)
+  dated-ok x text None is w u = ok-refuse ρ H r.NoDay refl tt
+  dated-ok x text (Some today) is w u = day-ok x text today (i.dated today is) w u
+
+  undated-ok : (x : Event) (text : List ℕ) → needs_day x ≡ false → IsWholeEvent x → PlanOk ρ H (Moves.plan_on τ ρ H x text (pos 0))
+  undated-ok (ev.Day t) text no w = record { sane = tt; plain = refl; no_up = λ n k h. refl; fit = λ y h. none-some h; keeps = λ j. inv-day ρ H t w j }
+  undated-ok ev.End text no w = ok-refuse ρ H r.End refl tt
+  undated-ok _ text no w = absurd (true≢false no)
+
   event-ok : (x : Event) (text : List ℕ) (day : Option ℤ) → day_in H ≡ day → IsWholeEvent x → Unforged x H → PlanOk ρ H (Moves.plan_at τ ρ H x text day)
-  event-ok (ev.Day t) text day is w u = record { sane = tt; plain = refl; no_up = λ n k h. refl; fit = λ y h. none-some h; keeps = λ j. inv-day ρ H t w j }
-  event-ok ev.End text day is w u = ok-refuse ρ H r.End refl tt
-  event-ok x text None is w u = ok-refuse ρ H r.NoDay refl tt
-  event-ok x text (Some today) is w u = day-ok x text today (i.dated today is) w u
+  event-ok x text day is w u = chosen (PlanOk ρ H) (needs_day x) _ _ (λ yes. dated-ok x text day is w u) (λ no. undated-ok x text no w)
 
   -- the plan of every whole event is right
   pub plan-ok : (x : Event) (text : List ℕ) → IsWholeEvent x → Unforged x H → PlanOk ρ H (plan τ ρ H x text)

@@ -14,7 +14,9 @@ use Rattle.bench_base.specs.Ranges.{InRange}
 use Rattle.bench_base.specs.Cells.{is_worn}
 use Rattle.bench_base.specs.Ledger.{Ledger, counted, is_on, day_in}
 use Rattle.ledger_laws.specs.Sane.{IsSane}
-use Rattle.ledger_laws.specs.Moves.{with_commit, with_torn, after, OtherUp, Fails, MayFail, FailsToRead, unless_worn, at_node}
+use Rattle.bench_base.specs.Replies.{Told, LostPower, Faulted, PrinterFailed, told_by}
+use Rattle.node_acts.specs.Plans.{with_commit, with_torn, after, after_told, MayFail, Fails, FailsTold}
+use Rattle.ledger_laws.specs.Moves.{OtherUp, FailsToRead, unless_worn, at_node}
 use Rattle.ledger_laws.proofs.Basics.{some-same, some-none, chosen}
 use Rattle.ledger_laws.proofs.Good.{Fits}
 use Rattle.ledger_laws.proofs.Grown.{Inv, Sure, inv-commit, inv-torn, inv-up}
@@ -70,21 +72,19 @@ module _ (ρ : Rules) (H : Ledger) (i : Inv ρ H) where
       may)
 
   other_up : (p : Plan) (was x : Reply) → OtherUp was x H → Inv ρ (after p x H)
-  other_up p (r.Up n k) (r.Up m l) h = inv-up ρ H m l i
-  other_up p (r.Up n k) _ h = absurd h
-  other_up p _ x h = absurd h
+  other_up p was x h = subst (λ (y : Reply). Inv ρ (after p y H)) (sym h.more) (inv-up ρ H h.node (h.count + 1) i)
+
+  fails_told : (p : Plan) → PlanOk ρ H p → (x : Told) → FailsTold p x → Inv ρ (after_told p x H)
+  fails_told p ok (LostPower n) h = failed p ok n h
+  fails_told p ok (Faulted n) h = failed p ok n h
+  fails_told p ok (PrinterFailed j) h = committed p.commit ok.fit
+  fails_told p ok _ h = absurd h
 
   fails : (p : Plan) → PlanOk ρ H p → (x : Reply) → Fails p x → Inv ρ (after p x H)
-  fails p ok (r.Power n) h = failed p ok n h
-  fails p ok (r.Fault n) h = failed p ok n h
-  fails p ok (r.PrinterFault j) h = committed p.commit ok.fit
-  fails p ok _ h = absurd h
+  fails p ok x h = fails_told p ok (told_by x) h
 
   unread : (p : Plan) (x : Event) (y : Reply) (day : Option ℤ) → FailsToRead x y day → Inv ρ (after p y H)
-  unread p ev.Rates r.RatesFault (Some t) h = i
-  unread p ev.Rates r.RatesFault None h = absurd h
-  unread p ev.Rates _ day h = absurd h
-  unread p _ y day h = absurd h
+  unread p x y day h = subst (λ (z : Reply). Inv ρ (after p z H)) (sym h.reply_is) i
 
   pub moved : (p : Plan) → PlanOk ρ H p → (x : Event) (y : Reply) → ((y ≡ p.reply) ⊎ (OtherUp p.reply y H ⊎ (Fails p y ⊎ FailsToRead x y (day_in H)))) → Inv ρ (after p y H)
   moved p ok x y m = ⊎_elim

@@ -1,5 +1,5 @@
 -- What an event does: the answer and entries where nothing fails, and what else may come where storage, power or a stream fails.
-use Rattle.std.specs.Prelude.{◌≡◌, ℕ, ℤ, ◌+◌, List, [], ◌∷◌, ◌++◌, length, drop, Option, Some, None, Result, Ok, Err, ◌⊎◌, nat_lt, if◌then◌else◌}
+use Rattle.std.specs.Prelude.{◌≡◌, ℕ, ℤ, pos, ◌+◌, List, [], ◌∷◌, ◌++◌, length, drop, Option, Some, None, IsSome, Result, Ok, Err, ◌⊎◌, nat_lt, if◌then◌else◌}
 use Rattle.bench_base.specs.declared.words.Node.{Node}
 use Rattle.bench_base.specs.declared.words.Node.TheVariants.{Device, Centre, Host, Verifier}
 use Rattle.bench_base.specs.declared.refusals.Unread.{Unread}
@@ -14,11 +14,13 @@ use Rattle.bench_base.specs.declared.events.Reply.TheVariants as r
 use Rattle.bench_base.specs.Rules.{Rules}
 use Rattle.bench_base.specs.Nodes.{node_of}
 use Rattle.bench_base.specs.Plans.{Plan, refuse, told}
+use Rattle.bench_base.specs.Events.{needs_day}
 use Rattle.bench_base.specs.Ranges.{IsWholeEvent}
 use Rattle.bench_base.specs.Cells.{is_worn}
 use Rattle.bench_base.specs.Ledger.{Ledger, day_in, rates_in, messages, message, is_on, count_of, torn_of, counted}
 use Rattle.bench_base.specs.Jobs.{job_of, held_of}
 use Rattle.bench_base.specs.Scans.{trusted}
+use Rattle.node_acts.specs.Plans.{after, Fails}
 use Rattle.indicium.specs.Marks.{read_mark}
 use Rattle.psd_wire.specs.declared.message.Message.{Message}
 use Rattle.psd_wire.specs.declared.message.Message.TheVariants as m
@@ -140,12 +142,14 @@ plan_on τ ρ H (ev.ScanMsg n k) text today = scan_sent n today k (message k H) 
 plan_on τ ρ H (ev.ScanHex n bytes) text today = scan_plan n today bytes H
 plan_on τ ρ H (ev.Reconcile d) text today = at_node (Device d) H (at_node Centre H (reconcile_plan d (key_of d (counted H)) (counted H)))
 
--- each event but `day` and `end` needs a day
+-- the plan, where there is a day
+abbrev pub on_day : (ℤ → Plan) → Option ℤ → Plan
+on_day p None = refuse r.NoDay
+on_day p (Some today) = p today
+
+-- an event that needs no day doesn't look at it
 abbrev pub plan_at : Tariff → Rules → Ledger → Event → List ℕ → Option ℤ → Plan
-plan_at τ ρ H (ev.Day t) text day = told (r.Day t) (e.Day t ∷ [])
-plan_at τ ρ H ev.End text day = refuse r.End
-plan_at τ ρ H x text None = refuse r.NoDay
-plan_at τ ρ H x text (Some today) = plan_on τ ρ H x text today
+plan_at τ ρ H x text day = if needs_day x then on_day (plan_on τ ρ H x text) day else plan_on τ ρ H x text (pos 0)
 
 unfoldable pub plan : Tariff → Rules → Ledger → Event → List ℕ → Plan
 plan τ ρ H x text = plan_at τ ρ H x text (day_in H)
@@ -154,46 +158,21 @@ plan τ ρ H x text = plan_at τ ρ H x text (day_in H)
 abbrev pub answer : Tariff → Rules → Ledger → Event → List ℕ → Reply
 answer τ ρ H x text = (plan τ ρ H x text).reply
 
--- == entries ==
-
-abbrev pub with_commit : Option Commit → Ledger → Ledger
-with_commit None H = H
-with_commit (Some x) H = e.Commit x ∷ H
-
-abbrev pub with_torn : Option Commit → Node → Ledger → Ledger
-with_torn None n H = H
-with_torn (Some x) n H = e.Torn n x ∷ H
-
--- the ledger after a reply to the plan: a commit that failed is open, and nothing is told; a printer that failed leaves the commit alone
-abbrev pub after : Plan → Reply → Ledger → Ledger
-after p (r.Power n) H = with_torn p.commit n H
-after p (r.Fault n) H = with_torn p.commit n H
-after p (r.Up n k) H = e.Up n k ∷ H
-after p (r.PrinterFault j) H = with_commit p.commit H
-after p r.RatesFault H = H
-after p x H = p.after ++ with_commit p.commit H
-
 -- == moves ==
 
 -- at the Up of a node with an open commit, the answer with one commit more
-abbrev pub OtherUp : Reply → Reply → Ledger → Type 0
-OtherUp (r.Up n k) (r.Up m l) H = (n ≡ m) × (l ≡ k + 1) × (x : Commit) × (torn_of n H ≡ Some x)
-OtherUp _ _ H = ⊥
-
--- the node boots, or commits
-abbrev pub MayFail : Plan → Node → Type 0
-MayFail p n = ((k : ℕ) × (p.reply ≡ r.Up n k)) ⊎ ((x : Commit) × (p.commit ≡ Some x) × (node_of x ≡ n))
-
-abbrev pub Fails : Plan → Reply → Type 0
-Fails p (r.Power n) = MayFail p n
-Fails p (r.Fault n) = MayFail p n
-Fails p (r.PrinterFault j) = p.reply ≡ r.Printed j
-Fails p _ = ⊥
+pub record OtherUp (answer reply : Reply) (H : Ledger) : Type 0 where
+  pub node : Node
+  pub count : ℕ
+  pub answer_is : answer ≡ r.Up node count
+  pub more : reply ≡ r.Up node (count + 1)
+  pub open : IsSome (torn_of node H)
 
 -- a `rates` on a day may find that its source fails
-abbrev pub FailsToRead : Event → Reply → Option ℤ → Type 0
-FailsToRead ev.Rates r.RatesFault (Some today) = Unit {0}
-FailsToRead _ _ _ = ⊥
+pub record FailsToRead (x : Event) (reply : Reply) (day : Option ℤ) : Type 0 where
+  pub event : x ≡ ev.Rates
+  pub reply_is : reply ≡ r.RatesFault
+  pub dated : IsSome day
 
 -- the replies that a whole event may get
 abbrev pub Moves : Tariff → Rules → Ledger → Event → List ℕ → Reply → Type 0

@@ -13,7 +13,7 @@ use Rattle.node_acts.specs.declared.act.Outcome.{Outcome}
 use Rattle.node_acts.specs.declared.act.Outcome.TheVariants as o
 use Rattle.node_acts.specs.Views.{Counting, View}
 use Rattle.node_acts.specs.Acts.{commit_in, commit_of, outcome_in, outcome_of, MayCome, after_call}
-use Rattle.node_acts.specs.Replies.{Told, Did, Refused, told_by}
+use Rattle.bench_base.specs.Replies.{Told, Did, Refused, told_by}
 use Rattle.node_acts.specs.Plans.{with_torn, after, after_told, Fails, call_reply, call_entries, IsOfNode, done_plan, when_on, view_after, view_told}
 
 module _ {S X : Type 0} (n : Counting S X) {F A : Type 0} (m : Node) (refusal : F → Reply) (reply : A → Reply) (tell : A → List Entry)

@@ -1,5 +1,4 @@
 pub mod Views
 pub mod Acts
 pub mod Starts
-pub mod Replies
 pub mod Plans

@@ -9,13 +9,13 @@ use Rattle.bench_base.specs.declared.events.Reply.TheVariants as r
 use Rattle.bench_base.specs.Nodes.{node_of}
 use Rattle.bench_base.specs.Plans.{Plan, refuse, made, told}
 use Rattle.bench_base.specs.Ledger.{Ledger}
+use Rattle.bench_base.specs.Replies.{Told, Did, Refused, Armed, CameOn, WentOff, LostPower, Faulted, WasDamaged, PrinterFailed, RatesFailed, told_by}
 use Rattle.node_acts.specs.declared.act.Act.{Act}
 use Rattle.node_acts.specs.declared.act.Act.TheVariants.{Refuse, Tell, Commits}
 use Rattle.node_acts.specs.declared.act.Outcome.{Outcome}
 use Rattle.node_acts.specs.declared.act.Outcome.TheVariants as o
 use Rattle.node_acts.specs.Views.{Counting, View, up, stopped, torn, committed}
 use Rattle.node_acts.specs.Acts.{is_full}
-use Rattle.node_acts.specs.Replies.{Told, Did, Refused, CameOn, WentOff, Failed, IsForeign, PrinterFailed, RatesFailed, told_by}
 
 -- == the plan ==
 
@@ -38,10 +38,12 @@ with_torn (Some x) m H = entry.Torn m x ∷ H
 abbrev pub after_told : Plan → Told → Ledger → Ledger
 after_told p Did H = p.after ++ with_commit p.commit H
 after_told p Refused H = p.after ++ with_commit p.commit H
+after_told p (Armed m) H = p.after ++ with_commit p.commit H
 after_told p (CameOn m k) H = entry.Up m k ∷ H
 after_told p (WentOff m) H = p.after ++ with_commit p.commit H
-after_told p (Failed m) H = with_torn p.commit m H
-after_told p (IsForeign m) H = p.after ++ with_commit p.commit H
+after_told p (LostPower m) H = with_torn p.commit m H
+after_told p (Faulted m) H = with_torn p.commit m H
+after_told p (WasDamaged m) H = p.after ++ with_commit p.commit H
 after_told p (PrinterFailed j) H = with_commit p.commit H
 after_told p RatesFailed H = H
 
@@ -58,10 +60,12 @@ MayFail p m = ((k : ℕ) × (p.reply ≡ r.Up m k)) ⊎ ((x : Commit) × (p.comm
 abbrev pub FailsTold : Plan → Told → Type 0
 FailsTold p Did = ⊥
 FailsTold p Refused = ⊥
+FailsTold p (Armed m) = ⊥
 FailsTold p (CameOn m k) = ⊥
 FailsTold p (WentOff m) = ⊥
-FailsTold p (Failed m) = MayFail p m
-FailsTold p (IsForeign m) = ⊥
+FailsTold p (LostPower m) = MayFail p m
+FailsTold p (Faulted m) = MayFail p m
+FailsTold p (WasDamaged m) = ⊥
 FailsTold p (PrinterFailed j) = p.reply ≡ r.Printed j
 FailsTold p RatesFailed = ⊥
 
@@ -125,11 +129,14 @@ module _ {S X : Type 0} (n : Counting S X) where
   view_told Did (Some x) v = committed x.1 v
   view_told Did None v = v
   view_told Refused made v = v
+  view_told (Armed m) made v = v
   view_told (CameOn m k) made v = up n k v
   view_told (WentOff m) made v = stopped v
-  view_told (Failed m) (Some x) v = torn x.1 v
-  view_told (Failed m) None v = v
-  view_told (IsForeign m) made v = v
+  view_told (LostPower m) (Some x) v = torn x.1 v
+  view_told (LostPower m) None v = v
+  view_told (Faulted m) (Some x) v = torn x.1 v
+  view_told (Faulted m) None v = v
+  view_told (WasDamaged m) made v = v
   view_told (PrinterFailed j) (Some x) v = committed x.1 v
   view_told (PrinterFailed j) None v = v
   view_told RatesFailed made v = v

@@ -1,10 +1,11 @@
 -- The lines of a script, and the events that they spell.
-use Rattle.std.specs.Prelude.{◌≡◌, ℕ, List, [], ◌∷◌, ◌++◌, Bool, true, false, codes, decimal}
+use Rattle.std.specs.Prelude.{◌≡◌, ℕ, ℤ, Option, Some, None, List, [], ◌∷◌, ◌++◌, Bool, true, false, codes, decimal}
 use Rattle.psd_audit.specs.Dates.{IsDateText}
 use Rattle.bench_base.specs.declared.words.Kind.{Kind}
 use Rattle.bench_base.specs.declared.words.Kind.TheVariants.{Enrol, Reset}
 use Rattle.bench_base.specs.declared.events.Event.{Event}
 use Rattle.bench_base.specs.declared.events.Event.TheVariants as ev
+use Rattle.bench_base.specs.Events.{needs}
 use Rattle.script_text.specs.Words.{joined, device_word, node_word, hex_word, byte_word, given_word, kind_word}
 
 -- the kind of what is asked for, and the one number that counts for it
@@ -48,10 +49,14 @@ words_of (ev.ScanHex scan bytes) = codes "scan" ∷ decimal scan ∷ codes "hex"
 words_of (ev.Reconcile d) = codes "reconcile" ∷ device_word d ∷ []
 words_of ev.End = codes "end" ∷ []
 
+-- these words, and behind them the date of the day that an event sets
+abbrev pub AreDated : Option ℤ → List (List ℕ) → List (List ℕ) → Type 0
+AreDated None front ws = ws ≡ front
+AreDated (Some t) front ws = (date : List ℕ) × IsDateText t date × (ws ≡ front ++ date ∷ [])
+
 -- these are the words of the event
 abbrev pub AreWordsOf : Event → List (List ℕ) → Type 0
-AreWordsOf (ev.Day t) ws = (date : List ℕ) × IsDateText t date × (ws ≡ words_of (ev.Day t) ++ date ∷ [])
-AreWordsOf e ws = ws ≡ words_of e
+AreWordsOf e ws = AreDated (needs e).sets (words_of e) ws
 
 -- the line is that of the event: its words, joined
 abbrev pub Spells : Event → List ℕ → Type 0

@@ -180,7 +180,7 @@ pub fn give(rest: &[u8]) -> Option<Event>
     let (node, bytes) = two::<Node, Given>(rest)?;
     match node {
         Node::Verifier => None,
-        _ => Some(Event::Give(node, bytes)),
+        Node::Device(_) | Node::Centre | Node::Host => Some(Event::Give(node, bytes)),
     }
 }
 

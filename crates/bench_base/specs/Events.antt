@@ -1,0 +1,97 @@
+-- What an event needs, and what it may do: a row for every event.
+use Rattle.std.specs.Prelude.{◌≡◌, ℕ, ℤ, Bool, true, false, Option, Some, None}
+use Rattle.bench_base.specs.declared.words.Node.{Node}
+use Rattle.bench_base.specs.declared.words.Node.TheVariants.{Device, Centre, Host, Verifier}
+use Rattle.bench_base.specs.declared.events.Event.{Event}
+use Rattle.bench_base.specs.declared.events.Event.TheVariants as ev
+
+pub record Needs : Type 0 where
+  -- the node that it is for; none where it is the bench's own, or where a message tells the node
+  pub node : Option Node
+  -- whether it needs a day
+  pub day : Bool
+  -- whether its node has to be on
+  pub on : Bool
+  -- whether it may commit
+  pub commits : Bool
+  -- the day that it sets
+  pub sets : Option ℤ
+
+-- the bench's own: it sets the day, it needs no day, or it needs one
+abbrev pub dates : ℤ → Needs
+dates t = record { node = None; day = false; on = false; commits = false; sets = Some t }
+
+abbrev pub apart : Needs
+apart = record { node = None; day = false; on = false; commits = false; sets = None }
+
+abbrev pub on_a_day : Needs
+on_a_day = record { node = None; day = true; on = false; commits = false; sets = None }
+
+-- of a node, on or off
+abbrev pub switches : Node → Needs
+switches n = record { node = Some n; day = true; on = false; commits = false; sets = None }
+
+-- of a node that is on: it commits nothing, or it may commit
+abbrev pub asks : Node → Needs
+asks n = record { node = Some n; day = true; on = true; commits = false; sets = None }
+
+abbrev pub changes : Node → Needs
+changes n = record { node = Some n; day = true; on = true; commits = true; sets = None }
+
+-- of the node that a message is for
+abbrev pub delivers : Needs
+delivers = record { node = None; day = true; on = true; commits = true; sets = None }
+
+abbrev pub needs : Event → Needs
+needs (ev.Day t) = dates t
+needs ev.Rates = on_a_day
+needs (ev.Make d key) = changes (Device d)
+needs (ev.On n) = switches n
+needs (ev.Off n) = asks n
+needs (ev.Cut n calls keep byte) = switches n
+needs (ev.Debit d piece postage class) = changes (Device d)
+needs (ev.Ask d kind who amount) = changes (Device d)
+needs (ev.Resend d) = asks (Device d)
+needs (ev.Ack d) = asks (Device d)
+needs (ev.Status d) = asks (Device d)
+needs (ev.Register d origin key) = changes Centre
+needs (ev.OpenCustomer w) = changes Centre
+needs (ev.Deposit w receipt amount) = changes Centre
+needs (ev.Flag w suspended) = changes Centre
+needs (ev.Balance w) = asks Centre
+needs (ev.Deliver k) = delivers
+needs (ev.Give n bytes) = changes n
+needs (ev.Order d piece class grams zone) = changes Host
+needs (ev.Send j) = asks Host
+needs (ev.Print j) = changes Host
+needs (ev.Close j) = changes Host
+needs (ev.Trust d key) = changes Verifier
+needs (ev.ScanMsg scan k) = changes Verifier
+needs (ev.ScanHex scan bytes) = changes Verifier
+needs (ev.Reconcile d) = asks (Device d)
+needs ev.End = apart
+
+abbrev pub node_for : Event → Option Node
+node_for e = (needs e).node
+
+abbrev pub needs_day : Event → Bool
+needs_day e = (needs e).day
+
+abbrev pub needs_on : Event → Bool
+needs_on e = (needs e).on
+
+abbrev pub may_commit : Event → Bool
+may_commit e = (needs e).commits
+
+abbrev pub set_or : Option ℤ → Option ℤ → Option ℤ
+set_or None today = today
+set_or (Some t) today = Some t
+
+-- the day after an event, by the one before it
+abbrev pub day_after : Event → Option ℤ → Option ℤ
+day_after e today = set_or (needs e).sets today
+
+-- an event for this node, or for one that a message tells, may be one of node n
+abbrev pub IsAt : Option Node → Node → Type 0
+IsAt None n = Unit {0}
+IsAt (Some m) n = m ≡ n

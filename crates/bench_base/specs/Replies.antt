@@ -1,0 +1,250 @@
+-- What each reply tells, and which events may get it: two tables with a row for every reply.
+use Rattle.std.specs.Prelude.{◌≡◌, ◌≢◌, ◌⊎◌, ℕ, ℤ, Bool, true, false, List, Option}
+use Rattle.bench_base.specs.declared.words.Kind.{Kind}
+use Rattle.bench_base.specs.declared.words.Node.{Node}
+use Rattle.bench_base.specs.declared.words.Node.TheVariants.{Device, Centre, Host, Verifier}
+use Rattle.bench_base.specs.declared.events.Event.{Event}
+use Rattle.bench_base.specs.declared.events.Event.TheVariants as ev
+use Rattle.bench_base.specs.declared.events.Reply.{Reply}
+use Rattle.bench_base.specs.declared.events.Reply.TheVariants as r
+use Rattle.bench_base.specs.Nodes.{same_node}
+use Rattle.bench_base.specs.Events.{node_for, needs_day, needs_on, may_commit, IsAt}
+
+pub data Told : Type 0 where
+  -- what was asked for was done
+  Did : Told
+  -- it was refused, and nothing was changed
+  Refused : Told
+  -- the fuse of the node's storage was armed
+  Armed : Node → Told
+  -- the node's storage was read, and the node came on with so many commits
+  CameOn : Node → ℕ → Told
+  WentOff : Node → Told
+  -- power was cut, or the storage failed; the node is off
+  LostPower : Node → Told
+  Faulted : Node → Told
+  -- the node's storage was read, and is none of the node, which is off
+  WasDamaged : Node → Told
+  -- the printer failed after the commit of this job
+  PrinterFailed : ℕ → Told
+  -- the rates could not be read
+  RatesFailed : Told
+
+abbrev pub told_by : Reply → Told
+told_by (r.Day t) = Did
+told_by (r.Rates classes zones) = Did
+told_by r.RatesFault = RatesFailed
+told_by r.RatesLength = Refused
+told_by r.RatesToml = Refused
+told_by r.RatesForm = Refused
+told_by (r.Made d) = Did
+told_by (r.Up n k) = CameOn n k
+told_by (r.Down n) = WentOff n
+told_by (r.CutSet n) = Armed n
+told_by (r.Marked d piece again mark) = Did
+told_by (r.SentRequest d number message) = Did
+told_by (r.SentDone d number message) = Did
+told_by (r.Status d shown) = Did
+told_by (r.Registered d) = Did
+told_by (r.Opened w) = Did
+told_by (r.Deposited w receipt again total) = Did
+told_by (r.Flagged w suspended) = Did
+told_by (r.Balance w left) = Did
+told_by (r.Ruled d number verdict again message) = Did
+told_by (r.Settled d number again) = Did
+told_by (r.Applied d number verdict) = Did
+told_by (r.Released d piece again message) = Did
+told_by (r.Held job) = Did
+told_by (r.Ordered job postage) = Did
+told_by (r.SentDebit job message) = Did
+told_by (r.Printed job) = Did
+told_by (r.PrinterFault job) = PrinterFailed job
+told_by (r.Closed job) = Did
+told_by (r.Trusted d) = Did
+told_by (r.Accepted d piece scan again) = Did
+told_by (r.Reconciled d shown booked under_way) = Did
+told_by r.End = Did
+told_by r.NoDay = Refused
+told_by (r.NoMessage k) = Refused
+told_by (r.OffNode n) = Refused
+told_by (r.OnAlready n) = Refused
+told_by (r.Power n) = LostPower n
+told_by (r.Fault n) = Faulted n
+told_by (r.Worn n) = Refused
+told_by (r.Damaged n) = WasDamaged n
+told_by (r.DevRefused d why) = Refused
+told_by (r.CentreRefused why) = Refused
+told_by (r.HostRefused why) = Refused
+told_by (r.ScanRefused why) = Refused
+
+-- == what a reply tells of ==
+
+-- the event was refused: by the bench, or by the node
+abbrev pub refuses : Told → Bool
+refuses Did = false
+refuses Refused = true
+refuses (Armed n) = false
+refuses (CameOn n k) = false
+refuses (WentOff n) = false
+refuses (LostPower n) = false
+refuses (Faulted n) = false
+refuses (WasDamaged n) = false
+refuses (PrinterFailed j) = false
+refuses RatesFailed = false
+
+abbrev pub is_refusal : Reply → Bool
+is_refusal reply = refuses (told_by reply)
+
+-- power was cut at this node, its storage failed, its fuse was armed
+abbrev pub loses_power : Node → Told → Bool
+loses_power n Did = false
+loses_power n Refused = false
+loses_power n (Armed m) = false
+loses_power n (CameOn m k) = false
+loses_power n (WentOff m) = false
+loses_power n (LostPower m) = same_node m n
+loses_power n (Faulted m) = false
+loses_power n (WasDamaged m) = false
+loses_power n (PrinterFailed j) = false
+loses_power n RatesFailed = false
+
+abbrev pub faults : Node → Told → Bool
+faults n Did = false
+faults n Refused = false
+faults n (Armed m) = false
+faults n (CameOn m k) = false
+faults n (WentOff m) = false
+faults n (LostPower m) = false
+faults n (Faulted m) = same_node m n
+faults n (WasDamaged m) = false
+faults n (PrinterFailed j) = false
+faults n RatesFailed = false
+
+abbrev pub arms : Node → Told → Bool
+arms n Did = false
+arms n Refused = false
+arms n (Armed m) = same_node m n
+arms n (CameOn m k) = false
+arms n (WentOff m) = false
+arms n (LostPower m) = false
+arms n (Faulted m) = false
+arms n (WasDamaged m) = false
+arms n (PrinterFailed j) = false
+arms n RatesFailed = false
+
+abbrev pub tells_power : Node → Reply → Bool
+tells_power n reply = loses_power n (told_by reply)
+
+abbrev pub tells_fault : Node → Reply → Bool
+tells_fault n reply = faults n (told_by reply)
+
+abbrev pub tells_cut : Node → Reply → Bool
+tells_cut n reply = arms n (told_by reply)
+
+-- a storage was read, to switch its node on
+abbrev pub reads : Told → Bool
+reads Did = false
+reads Refused = false
+reads (Armed n) = false
+reads (CameOn n k) = true
+reads (WentOff n) = false
+reads (LostPower n) = false
+reads (Faulted n) = false
+reads (WasDamaged n) = true
+reads (PrinterFailed j) = false
+reads RatesFailed = false
+
+abbrev pub has_read : Reply → Bool
+has_read reply = reads (told_by reply)
+
+-- whether the node of the event is on afterwards
+abbrev pub leaves_on : Told → Bool → Bool
+leaves_on Did was = was
+leaves_on Refused was = was
+leaves_on (Armed n) was = was
+leaves_on (CameOn n k) was = true
+leaves_on (WentOff n) was = false
+leaves_on (LostPower n) was = false
+leaves_on (Faulted n) was = false
+leaves_on (WasDamaged n) was = false
+leaves_on (PrinterFailed j) was = was
+leaves_on RatesFailed was = was
+
+abbrev pub on_after : Reply → Bool → Bool
+on_after reply was = leaves_on (told_by reply) was
+
+-- == which events may get it, whatever the storages tell ==
+
+-- the event is a call of this node, or of the one that a message is for
+pub record Calls (e : Event) (n : Node) : Type 0 where
+  pub on : needs_on e ≡ true
+  pub at : IsAt (node_for e) n
+  pub no_switch : e ≢ ev.Off n
+
+-- the event commits at this node
+pub record Commits (e : Event) (n : Node) : Type 0 where
+  pub commits : may_commit e ≡ true
+  pub at : IsAt (node_for e) n
+
+-- bytes are handed to this node
+abbrev pub Hands : Event → Node → Type 0
+Hands e n = ((k : ℕ) × (e ≡ ev.Deliver k)) ⊎ ((bytes : List ℕ) × (e ≡ ev.Give n bytes))
+
+-- the event compares this device with the centre
+abbrev pub Compares : Event → Type 0
+Compares e = (d : ℕ) × (e ≡ ev.Reconcile d)
+
+-- the event finds this node off
+abbrev pub FindsOff : Event → Node → Type 0
+FindsOff e n = (needs_on e ≡ true) × IsAt (node_for e) n
+
+-- the event boots this node, or commits at it
+abbrev pub MayFailAt : Event → Node → Type 0
+MayFailAt e n = (e ≡ ev.On n) ⊎ Commits e n
+
+abbrev pub MayGet : Event → Reply → Type 0
+MayGet e (r.Day t) = e ≡ ev.Day t
+MayGet e (r.Rates classes zones) = e ≡ ev.Rates
+MayGet e r.RatesFault = e ≡ ev.Rates
+MayGet e r.RatesLength = e ≡ ev.Rates
+MayGet e r.RatesToml = e ≡ ev.Rates
+MayGet e r.RatesForm = e ≡ ev.Rates
+MayGet e (r.Made d) = (key : List ℕ) × (e ≡ ev.Make d key)
+MayGet e (r.Up n k) = e ≡ ev.On n
+MayGet e (r.Down n) = e ≡ ev.Off n
+MayGet e (r.CutSet n) = (calls keep byte : ℕ) × (e ≡ ev.Cut n calls keep byte)
+MayGet e (r.Marked d piece again mark) = (postage class : ℕ) × (e ≡ ev.Debit d piece postage class)
+MayGet e (r.SentRequest d number message) = ((kind : Kind) × (who amount : ℕ) × (e ≡ ev.Ask d kind who amount)) ⊎ (e ≡ ev.Resend d)
+MayGet e (r.SentDone d number message) = e ≡ ev.Ack d
+MayGet e (r.Status d shown) = e ≡ ev.Status d
+MayGet e (r.Registered d) = (origin : ℕ) × (key : List ℕ) × (e ≡ ev.Register d origin key)
+MayGet e (r.Opened w) = e ≡ ev.OpenCustomer w
+MayGet e (r.Deposited w receipt again total) = (amount : ℕ) × (e ≡ ev.Deposit w receipt amount)
+MayGet e (r.Flagged w suspended) = e ≡ ev.Flag w suspended
+MayGet e (r.Balance w left) = e ≡ ev.Balance w
+MayGet e (r.Ruled d number verdict again message) = Hands e Centre
+MayGet e (r.Settled d number again) = Hands e Centre
+MayGet e (r.Applied d number verdict) = Hands e (Device d)
+MayGet e (r.Released d piece again message) = Hands e (Device d)
+MayGet e (r.Held job) = Hands e Host
+MayGet e (r.Ordered job postage) = (d piece class grams zone : ℕ) × (e ≡ ev.Order d piece class grams zone)
+MayGet e (r.SentDebit job message) = e ≡ ev.Send job
+MayGet e (r.Printed job) = e ≡ ev.Print job
+MayGet e (r.PrinterFault job) = e ≡ ev.Print job
+MayGet e (r.Closed job) = e ≡ ev.Close job
+MayGet e (r.Trusted d) = (key : List ℕ) × (e ≡ ev.Trust d key)
+MayGet e (r.Accepted d piece scan again) = ((k : ℕ) × (e ≡ ev.ScanMsg scan k)) ⊎ ((bytes : List ℕ) × (e ≡ ev.ScanHex scan bytes))
+MayGet e (r.Reconciled d shown booked under_way) = e ≡ ev.Reconcile d
+MayGet e r.End = e ≡ ev.End
+MayGet e r.NoDay = needs_day e ≡ true
+MayGet e (r.NoMessage k) = (e ≡ ev.Deliver k) ⊎ ((scan : ℕ) × (e ≡ ev.ScanMsg scan k))
+MayGet e (r.OffNode n) = FindsOff e n ⊎ ((n ≡ Centre) × Compares e)
+MayGet e (r.OnAlready n) = e ≡ ev.On n
+MayGet e (r.Power n) = MayFailAt e n
+MayGet e (r.Fault n) = MayFailAt e n
+MayGet e (r.Worn n) = Commits e n
+MayGet e (r.Damaged n) = e ≡ ev.On n
+MayGet e (r.DevRefused d why) = Calls e (Device d)
+MayGet e (r.CentreRefused why) = Calls e Centre ⊎ Compares e
+MayGet e (r.HostRefused why) = Calls e Host
+MayGet e (r.ScanRefused why) = Calls e Verifier
