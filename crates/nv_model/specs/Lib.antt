@@ -1,6 +1,7 @@
 pub mod Bytes
 pub mod Meters
 pub mod Moments
+pub mod Still
 pub mod Replay
 pub mod Media
 pub mod Plans

@@ -2,6 +2,7 @@
 #![tactic(auto)]
 
 mod file;
+mod fuse;
 mod fused;
 mod lay;
 mod medium;
@@ -13,6 +14,7 @@ mod tally;
 mod tear;
 
 pub use file::{FileNv, StartFault};
+pub use fuse::Fuse;
 pub use fused::Fused;
 pub use memory::MemNv;
 pub use nv::{Nv, NvFail};

@@ -1,0 +1,4 @@
+pub mod Rests
+pub mod Booted
+pub mod Called
+pub mod Armed

@@ -1,0 +1,73 @@
+-- What a node that is left alone shows.
+use Rattle.std.proofs.Common.{◌≡◌, inl, ℕ, List, Option, Some, None, false, refl, sym, ◌∙◌, subst, arith}
+use Rattle.nv_model.specs.declared.nv.Nv as nv
+use Rattle.nv_model.specs.Meters.{Meters, Uses}
+use Rattle.nv_model.specs.Moments.{Times, Image, Nested, Elapses, Stays}
+use Rattle.nv_model.specs.Still.{SameTimes}
+use Rattle.nv_model.proofs.Runs.{elapses_none, elapses_twice, stays_twice}
+use Rattle.nv_store.specs.Mounts.{Mounts}
+use Rattle.nv_store.specs.Turns.{Spent, Kept, Turn}
+use Rattle.node_acts.specs.Views.{View, stopped}
+use Rattle.node_seat.specs.declared.node.Node.{Ghosts}
+use Rattle.node_seat.specs.Stands.{StoreStands, Stands}
+
+-- no call of a fuse is used
+pub uses_none : (calls : ℕ) (f : Option ℕ) → Uses calls f f
+uses_none calls None = refl
+uses_none calls (Some left) = (omega arith, omega arith)
+
+pub spent_none : (calls : ℕ) (m : Meters) → Spent calls m m Kept
+spent_none calls m = record { cuts = omega arith; faults = omega arith; fuse = uses_none calls m.fuse; power = λ e. cc; fault = λ e. cc }
+
+-- nothing is written by calls that write nothing, one after the other
+pub mounts_twice : (before mid now : Times) → Nested mid → Nested now → Elapses before mid → Stays before mid → Mounts mid now → Mounts before now
+mounts_twice before mid now nested_mid nested time stays mounts = record {
+  images = stays_twice before mid now nested_mid time mounts.time stays mounts.images;
+  time = elapses_twice before mid now nested time mounts.time;
+}
+
+pub mounts_none : (now : Times) → Mounts now now
+mounts_none now = record { images = λ c is. is; time = elapses_none now }
+
+-- while time stands still nothing is written
+pub mounts_same : (before now : Times) → SameTimes before now → Mounts before now
+mounts_same before now same = record {
+  images = λ c is. same.since before.moment c is;
+  time = record {
+    later = omega (arith, same.moment);
+    nothing_else = λ t c le is. inl (same.since t c is);
+    keeps = λ t c le is. same.back t c is;
+  };
+}
+
+-- a call that touches nothing
+pub turn_none : (Old New : List ℕ → Type 0) (now : Times) → ((c : List ℕ) → Image now c → Old c) → Turn Old New now now Kept
+turn_none Old New now known = record {
+  time = elapses_none now;
+  any_moment = λ c is. inl (known c is);
+  kept = λ end. known;
+  made = λ end. cc;
+}
+
+module _ {K S N C R : Type 0} (n : Ghosts K S N C R) (g : nv.Ghosts S) where
+  -- the storage of a node, after calls that wrote nothing
+  pub store_stays : (nested : (s : S) → g.tells → Nested (g.times s)) (d : N) (v : View n.Seen) (before now : S) → StoreStands n g d v before
+      → g.size now ≡ g.size before → (g.tells → Mounts (g.times before) (g.times now)) → StoreStands n g d v now
+  store_stays nested d v before now stands size mounts = record {
+    size = size ∙ stands.size;
+    sound = stands.sound;
+    shows = λ tells image is. stands.shows tells image
+        ((mounts tells).images image (nested now tells (g.times before).moment (g.times now).moment image (mounts tells).time.later is));
+  }
+
+  -- a node that is switched off
+  pub stops : (d : N) (v : View n.Seen) (s t : K) → n.is_on t ≡ false → n.storage t ≡ n.storage s → Stands n g d v s → Stands n g d (stopped v) t
+  stops d v s t off same stands = record {
+    on = off;
+    store = subst (λ (i : S). StoreStands n g d (stopped v) i) (sym same) (record {
+      size = stands.store.size;
+      sound = λ tells. record { state = (stands.store.sound tells).state; next = (stands.store.sound tells).next; more = (stands.store.sound tells).more };
+      shows = stands.store.shows;
+    });
+    runs = λ is. cc;
+  }

@@ -1,0 +1,58 @@
+use Rattle.std.proofs.Common.{◌≡◌, Err, sym, ◌∙◌, ap, subst}
+use Rattle.bench_base.specs.declared.refusals.StoreFail.{StoreFail}
+use Rattle.nv_store.specs.Turns.{Spent}
+use Rattle.node_seat.specs.Ends.{end_of_commit, leaves_running}
+use Rattle.node_seat.proofs.Called.{off_call, refuses, tells_only, worn, done, cut, faulted, not_worn}
+use Rattle.node_seat.proofs.seat.perform.Goals as goal
+
+pub returns-then-not-is_on : goal.returns-then-not-is_on
+returns-then-not-is_on g c by is = off_call g.K.Node g.K.Storage.Nv by c.args.node.now (sym c.if-not-is_on.ensures)
+
+pub returns-in-Refuse : goal.returns-in-Refuse
+returns-in-Refuse g c by is =
+    refuses g.K.Node g.K.Storage.Nv by c.in-Refuse.refusal c.args.node.now (is ∙ c.in-Refuse.is) (sym c.if-not-is_on.ensures)
+
+pub returns-in-Tell : goal.returns-in-Tell
+returns-in-Tell g c by is =
+    tells_only g.K.Node g.K.Storage.Nv by c.in-Tell.answer c.args.node.now (is ∙ c.in-Tell.is) (sym c.if-not-is_on.ensures)
+
+pub returns-in-Ok : goal.returns-in-Ok
+returns-in-Ok g c by is =
+    let e = c.in-Ok.ensures in
+    let b = c.in-Commits in
+    done g.K.Node g.K.Storage.Nv by b.commit b.change b.answer c.args.node.now c.commit.new.self (is ∙ b.is) (sym c.if-not-is_on.ensures)
+    g.met.K.Storage.Nv.nested g.met.K.Node.keeps g.met.K.Node.counts (not_worn _ (λ w. let x = e.worn.1 w in cc)) e.name e.kept e.size e.time e.any_moment
+    e.leaves e.done (λ tells. g.met.K.Node.knows c.commit.new.self tells e.leaves) e.spent
+
+pub returns-in-Err-Worn : goal.returns-in-Err-Worn
+returns-in-Err-Worn g c by is =
+    let e = c.in-Err-Worn.ensures in
+    let b = c.in-Commits in
+    let full = ap (λ (f : StoreFail). Err f) c.in-Err-Worn.field-0-is in
+    worn g.K.Node g.K.Storage.Nv by b.commit b.change b.answer c.args.node.now c.commit.new.self (is ∙ b.is) (sym c.if-not-is_on.ensures) (e.rests full) (e.worn.0 full)
+
+pub returns-in-Err-Power : goal.returns-in-Err-Power
+returns-in-Err-Power g c by is =
+    let n = g.K.Node in
+    let nv = g.K.Storage.Nv in
+    let k = c.args.node.now in
+    let k' = c.commit.new.self in
+    let e = c.in-Err-Power.ensures in
+    let b = c.in-Commits in
+    cut n nv by b.commit b.change b.answer k k' (is ∙ b.is) (sym c.if-not-is_on.ensures)
+    g.met.K.Storage.Nv.nested g.met.K.Node.keeps g.met.K.Node.counts (not_worn _ (λ w. let x = e.worn.1 w in let y = c.in-Err-Power.field-0-is in cc)) e.name e.kept e.size e.time e.any_moment
+    (subst (λ (f : StoreFail). n.is_on k' ≡ leaves_running (Err f)) c.in-Err-Power.field-0-is e.leaves)
+    (subst (λ (f : StoreFail). Spent 6 (nv.meters (n.storage k)) (nv.meters (n.storage k')) (end_of_commit (Err f))) c.in-Err-Power.field-0-is e.spent)
+
+pub returns-in-Err-Fault : goal.returns-in-Err-Fault
+returns-in-Err-Fault g c by is =
+    let n = g.K.Node in
+    let nv = g.K.Storage.Nv in
+    let k = c.args.node.now in
+    let k' = c.commit.new.self in
+    let e = c.in-Err-Fault.ensures in
+    let b = c.in-Commits in
+    faulted n nv by b.commit b.change b.answer k k' (is ∙ b.is) (sym c.if-not-is_on.ensures)
+    g.met.K.Storage.Nv.nested g.met.K.Node.keeps g.met.K.Node.counts (not_worn _ (λ w. let x = e.worn.1 w in let y = c.in-Err-Fault.field-0-is in cc)) e.name e.kept e.size e.time e.any_moment
+    (subst (λ (f : StoreFail). n.is_on k' ≡ leaves_running (Err f)) c.in-Err-Fault.field-0-is e.leaves)
+    (subst (λ (f : StoreFail). Spent 6 (nv.meters (n.storage k)) (nv.meters (n.storage k')) (end_of_commit (Err f))) c.in-Err-Fault.field-0-is e.spent)

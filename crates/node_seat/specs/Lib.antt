@@ -1,0 +1,5 @@
+pub mod Ends
+pub mod Shown
+pub mod Stands
+pub mod Starts
+pub mod Calls

@@ -1,0 +1,34 @@
+-- What the storage of a node may show, by what the bench sees of it.
+use Rattle.std.specs.Prelude.{◌≡◌, ◌⊎◌, ℕ, ◌+◌, List, Option, Some, None, IfSome}
+use Rattle.bench_base.specs.declared.ledger.Commit.{Commit}
+use Rattle.node_acts.specs.declared.act.Act.{Act}
+use Rattle.node_acts.specs.declared.act.Act.TheVariants.{Refuse, Tell, Commits}
+use Rattle.node_acts.specs.Views.{View}
+use Rattle.node_seat.specs.declared.node.Node.{Ghosts}
+
+module _ {K S N C R : Type 0} (n : Ghosts K S N C R) where
+  -- an image that shows this record, if there is one
+  abbrev pub ShowsNext : Option n.Seen → List ℕ → Type 0
+  ShowsNext None image = ⊥
+  ShowsNext (Some s) image = n.IsShown s image
+
+  -- the images that its storage may have: they show its commits that count, or these and the open one
+  abbrev pub Allowed : View n.Seen → List ℕ → Type 0
+  Allowed v image = n.IsShown v.state image ⊎ ShowsNext v.next image
+
+  -- the images that show the commit too
+  abbrev pub IsAfter : Option (Commit × n.Seen) → List ℕ → Type 0
+  IsAfter None image = ⊥
+  IsAfter (Some x) image = n.IsShown x.1 image
+
+  -- what a node d that storage can show looks like
+  pub record Sound (d : N) (v : View n.Seen) : Type 0 where
+    pub state : n.IsSound d v.state
+    pub next : IfSome v.next (n.IsSound d)
+    pub more : IfSome v.next (λ s. n.counting.count s ≡ n.counting.count v.state + 1)
+
+  -- a change of the act is one of node d and this record
+  abbrev pub IsFitting : {F A : Type 0} → N → n.Seen → Act C F A → Type 0
+  IsFitting d s (Refuse x) = Unit {0}
+  IsFitting d s (Tell a) = Unit {0}
+  IsFitting d s (Commits c x a) = n.IsFrom d s x

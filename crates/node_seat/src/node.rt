@@ -1,0 +1,142 @@
+//! What a node of the bench promises: a record over its storage, one commit at a time.
+ghost use Rattle.std.specs.Prelude.{◌≡◌, ◌⊎◌, ◌↔◌, ◌+◌, List, Bool, ℕ, OnOk, IsErrOf, Some, true, false, is_ok};
+ghost use Rattle.nv_model.specs.Meters.{Restarts};
+ghost use Rattle.nv_model.specs.Moments.{Image, Elapses, Stays};
+ghost use Rattle.nv_model.specs.Still.{SameTimes};
+ghost use Rattle.nv_store.specs.Mounts.{Mounts};
+ghost use Rattle.nv_store.specs.Turns.{Spent};
+ghost use Rattle.node_acts.specs.Views.{Counting};
+ghost use Rattle.node_seat.specs.Ends.{end_of_boot, end_of_commit, leaves_running};
+
+use bench_base::refusals::{BootFail, StoreFail};
+use nv_model::{Fuse, NvFail};
+
+/// A node in its storage, on or off: what its record is, and how a change of it is committed. While it is off, what it
+/// knew of its storage counts for nothing.
+pub trait Node: Drop + Sized {
+    type Storage: Fuse + Drop;
+    /// Which node of its kind it is.
+    type Name: Copy;
+    /// What a commit changes of the record.
+    type Change: Copy;
+    /// The memory that it runs in.
+    type Spare: Drop;
+
+    /// The record as callers see it, with the count of each of its cells.
+    ghost Seen: { Type 0 };
+
+    /// The size of its storage in bytes.
+    ghost bytes: { ℕ };
+
+    /// What its record counts, and how a change goes into it.
+    ghost counting: { Counting Seen Self.Change };
+
+    /// What is true of each change that code can make.
+    ghost IsKept: { Self.Change → Type 0 };
+
+    /// The change is one of this record of the node.
+    ghost IsFrom: { Self.Name → Seen → Self.Change → Type 0 };
+
+    /// A record of the node that its storage can show.
+    ghost IsSound: { Self.Name → Seen → Type 0 };
+
+    /// An image that shows this record.
+    ghost IsShown: { Seen → List ℕ → Type 0 };
+
+    /// The storage is none of the node.
+    ghost IsDamaged: { Self.Name → Self.Storage → Type 0 };
+
+    ghost name: { Self → Self.Name };
+
+    ghost seen: { Self → Seen };
+
+    ghost is_on: { Self → Bool };
+
+    ghost storage: { Self → Self.Storage };
+
+    /// A node that is off, in this storage. The number counts from its next boot on.
+    fn off(number: Self::Name, nv: Self::Storage, spare: Self::Spare) -> Self
+        ensures off { is_on result ≡ false }
+        ensures storage { storage result ≡ nv };
+
+    /// Whether it is on.
+    fn is_on(&self) -> bool
+        ensures { result ≡ is_on self.now };
+
+    /// Restarts the storage of a node that is off, and leaves it off.
+    fn restart(&mut self) -> Result<(), NvFail>
+        requires off { is_on self.old ≡ false }
+        ensures off { is_on self.new ≡ false }
+        ensures size { Self.Storage.size (storage self.new) ≡ Self.Storage.size (storage self.old) }
+        ensures images { Self.Storage.tells → Stays (Self.Storage.times (storage self.old)) (Self.Storage.times (storage self.new)) }
+        ensures time { Self.Storage.tells → Elapses (Self.Storage.times (storage self.old)) (Self.Storage.times (storage self.new)) }
+        ensures answer { Restarts (Self.Storage.meters (storage self.old)) (Self.Storage.meters (storage self.new)) result };
+
+    /// Switches a node that is off on, from what its storage shows, or leaves it off. Nothing is written.
+    fn boot(&mut self, number: Self::Name) -> Result<(), BootFail>
+        requires off { is_on self.old ≡ false }
+        requires powered { (Self.Storage.meters (storage self.old)).lost ≡ false }
+        ensures leaves { is_on self.new ≡ is_ok result }
+        ensures name { OnOk result (name self.new ≡ number) }
+        ensures sound { OnOk result (IsSound number (seen self.new)) }
+        ensures mounts { Self.Storage.tells → Mounts (Self.Storage.times (storage self.old)) (Self.Storage.times (storage self.new)) }
+        ensures size { Self.Storage.size (storage self.new) ≡ Self.Storage.size (storage self.old) }
+        ensures damaged { Self.Storage.tells → IsErrOf result BootFail.Damaged → IsDamaged number (storage self.new) }
+        ensures spent { Spent 1 (Self.Storage.meters (storage self.old)) (Self.Storage.meters (storage self.new)) (end_of_boot result) };
+
+    /// Commits a change of a node that is on, and keeps it once it is committed. After Power and Fault the node is off.
+    fn commit(&mut self, change: &Self::Change) -> Result<(), StoreFail>
+        requires on { is_on self.old ≡ true }
+        ensures leaves { is_on self.new ≡ leaves_running result }
+        ensures name { name self.new ≡ name self.old }
+        ensures kept { IsKept change.now }
+        ensures worn { IsErrOf result StoreFail.Worn ↔ (counting.is_worn (seen self.old) change.now ≡ true) }
+        ensures rests { IsErrOf result StoreFail.Worn → self.new ≡ self.old }
+        ensures not_failed { IsErrOf result StoreFail.Failed → ⊥ }
+        ensures done { OnOk result (seen self.new ≡ counting.after (seen self.old) change.now) }
+        ensures size { Self.Storage.size (storage self.new) ≡ Self.Storage.size (storage self.old) }
+        ensures any_moment { Self.Storage.tells → (c : List ℕ) → (Self.Storage.times (storage self.new)).since (Self.Storage.times (storage self.old)).moment c
+            → IsShown (seen self.old) c ⊎ IsShown (counting.after (seen self.old) change.now) c }
+        ensures time { Self.Storage.tells → Elapses (Self.Storage.times (storage self.old)) (Self.Storage.times (storage self.new)) }
+        ensures spent { Spent 6 (Self.Storage.meters (storage self.old)) (Self.Storage.meters (storage self.new)) (end_of_commit result) };
+
+    /// The number of commits.
+    fn commits(&self) -> u64
+        ensures { result ≡ counting.count (seen self.now) };
+
+    /// Switches it off. Nothing is written.
+    fn shut(&mut self)
+        ensures off { is_on self.new ≡ false }
+        ensures storage { storage self.new ≡ storage self.old };
+
+    /// Gives the storage and the memory back.
+    fn into_parts(self) -> (Self::Storage, Self::Spare)
+        ensures { result.0 ≡ storage self };
+
+    /// Arms the fuse of the storage.
+    fn arm(&mut self, calls: u32, keep: u32, byte: u8)
+        ensures armed { Self.Storage.fuse_of (storage self.new) ≡ record (Self.Storage.fuse_of (storage self.old)) { fuse = Some calls; keep = keep; byte = byte } }
+        ensures times { SameTimes (Self.Storage.times (storage self.old)) (Self.Storage.times (storage self.new)) }
+        ensures size { Self.Storage.size (storage self.new) ≡ Self.Storage.size (storage self.old) }
+        ensures meters { Self.Storage.meters (storage self.new) ≡ record (Self.Storage.meters (storage self.old)) { fuse = Some calls } }
+        ensures name { name self.new ≡ name self.old }
+        ensures seen { seen self.new ≡ seen self.old }
+        ensures leaves { is_on self.new ≡ is_on self.old };
+
+    ghost sized: { (k : Self) → is_on k ≡ true → Self.Storage.size (storage k) ≡ bytes };
+
+    /// While it is on, each image shows the record.
+    ghost knows: { (k : Self) → Self.Storage.tells → is_on k ≡ true → (c : List ℕ) → Image (Self.Storage.times (storage k)) c → IsShown (seen k) c };
+
+    /// An image shows one record.
+    ghost one_shown: { (d : Self.Name) (a b : Seen) (c : List ℕ) → IsSound d a → IsSound d b → IsShown a c → IsShown b c → a ≡ b };
+
+    ghost keeps: { (d : Self.Name) (s : Seen) (x : Self.Change) → IsSound d s → IsKept x → IsFrom d s x → counting.is_worn s x ≡ false
+        → IsSound d (counting.after s x) };
+
+    ghost counts: { (d : Self.Name) (s : Seen) (x : Self.Change) → IsSound d s → IsKept x → counting.count (counting.after s x) ≡ counting.count s + 1 };
+
+    /// Storage that shows a record of the node is not damaged.
+    ghost intact: { (d : Self.Name) (s : Seen) (nv : Self.Storage) → IsSound d s → IsShown s (Self.Storage.content nv) → Self.Storage.size nv ≡ bytes
+        → IsDamaged d nv → ⊥ };
+}
