@@ -36,9 +36,9 @@ use Rattle.bench_views.specs.Taken.{device_of}
 use Rattle.bench_views.specs.Devices as views
 use Rattle.bench_views.specs.Devices.{record_in, record_with, view_of, device_plan, commit_by, MayReply, view_after}
 use Rattle.bench_views.specs.Follows.{ForDeviceEvents, Rests}
-use Rattle.ledger_laws.specs.Tariffs.{Tariff}
-use Rattle.ledger_laws.specs.Histories.{History}
-use Rattle.ledger_laws.specs.Moves.{Moves, plan, after, entries, with_torn, debit_by}
+use Rattle.ledger_moves.specs.Tariffs.{Tariff}
+use Rattle.ledger_moves.specs.Histories.{History}
+use Rattle.ledger_moves.specs.Moves.{Moves, plan, after, entries, with_torn, debit_by}
 use Rattle.bench.specs.declared.coming.Turn.{Turn}
 use Rattle.bench.specs.Turns.{in_order, franked_entries}
 use Rattle.bench.specs.Costs.{Charged, tells_power, tells_fault}

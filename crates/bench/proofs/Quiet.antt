@@ -17,8 +17,8 @@ use Rattle.device_seat.specs.Seats.{meters_of, times_of, OffStands}
 use Rattle.nv_store.specs.Mounts.{Mounts}
 use Rattle.device_seat.proofs.Rests.{seat_shows, mounts_none}
 use Rattle.bench_views.specs.Devices.{view_of}
-use Rattle.ledger_laws.specs.Tariffs.{Tariff}
-use Rattle.ledger_laws.specs.Moves.{Moves, plan, plan_at, after, entries}
+use Rattle.ledger_moves.specs.Tariffs.{Tariff}
+use Rattle.ledger_moves.specs.Moves.{Moves, plan, plan_at, after, entries}
 use Rattle.bench.specs.declared.coming.Turn.{Turn}
 use Rattle.bench.specs.Turns.{in_order, turn_of}
 use Rattle.bench.specs.Costs.{tells_power, tells_fault}

@@ -37,7 +37,7 @@ use Rattle.device_seat.specs.Calls.{commit_of, MayCome, after_call, end_of_call,
 use Rattle.device_seat.proofs.Rests.{seat_shows}
 use Rattle.bench_views.specs.Taken.{device_of}
 use Rattle.bench_views.specs.Devices.{device_plan, commit_by, on_plan, when_on, done_plan, IsOtherUp, view_after}
-use Rattle.ledger_laws.specs.Moves.{after, Fails}
+use Rattle.ledger_moves.specs.Moves.{after, Fails}
 use Rattle.bench.specs.declared.coming.Turn.{Turn}
 use Rattle.bench.specs.Costs.{tells_power, tells_fault, Charged}
 use Rattle.bench.specs.Turns.{in_order, start_turn, stop_turn, call_turn, turn_of}

@@ -19,9 +19,9 @@ use Rattle.device_seat.specs.Views.{View, Allowed, Sound, stopped}
 use Rattle.device_seat.specs.Seats.{SeatStands, OffStands}
 use Rattle.bench_views.specs.Taken.{IsTaken}
 use Rattle.bench_views.specs.Devices.{view_of}
-use Rattle.ledger_laws.specs.Tariffs.{Tariff}
-use Rattle.ledger_laws.specs.Moves.{plan, entries, with_torn}
-use Rattle.ledger_laws.specs.Histories.{Unforged, History, begins, moves}
+use Rattle.ledger_moves.specs.Tariffs.{Tariff}
+use Rattle.ledger_moves.specs.Moves.{plan, entries, with_torn}
+use Rattle.ledger_moves.specs.Histories.{Unforged, History, begins, moves}
 use Rattle.bench.specs.Benches.{AreSeated, HasDay, SeatsStand}
 use Rattle.bench.specs.Steps.{AtAnyMoment}
 use Rattle.bench.specs.Stops.{AreLeft, with_open, after_stop}

@@ -25,7 +25,7 @@ use Rattle.device_seat.specs.Calls.{outcome_at, outcome_of, commit_of, MayCome, 
 use Rattle.device_seat.specs.Calls as seats
 use Rattle.bench_views.specs.Taken.{device_of}
 use Rattle.bench_views.specs.Devices.{done_plan, when_on, view_after}
-use Rattle.ledger_laws.specs.Moves.{after, with_commit, with_torn, Fails}
+use Rattle.ledger_moves.specs.Moves.{after, with_commit, with_torn, Fails}
 use Rattle.bench.specs.Costs.{is_device, tells_power, tells_fault, Charged}
 use Rattle.bench.specs.Turns.{in_order, call_turn}
 use Rattle.bench.specs.Steps.{on_after, IsFor, NamesDevice, is_refusal, HasRead}

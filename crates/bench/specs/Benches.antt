@@ -14,8 +14,8 @@ use Rattle.device_seat.specs.Seats.{is_seated, is_on, times_of, meters_of, SeatS
 use Rattle.nv_model.specs.declared.fused.Fused.{Fused}
 use Rattle.nv_model.specs.Fuses.{inside, state_of}
 use Rattle.bench_views.specs.Devices.{view_of}
-use Rattle.ledger_laws.specs.Tariffs.{Tariff}
-use Rattle.ledger_laws.specs.Histories.{History}
+use Rattle.ledger_moves.specs.Tariffs.{Tariff}
+use Rattle.ledger_moves.specs.Histories.{History}
 use Rattle.bench.specs.declared.devices.BenchOver.{BenchOver}
 
 -- its seats, of which number i is that of device i + 1

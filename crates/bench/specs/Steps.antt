@@ -21,8 +21,8 @@ use Rattle.device_seat.specs.Views.{View, Allowed}
 use Rattle.device_seat.specs.Seats.{is_seated, is_on, times_of, meters_of, SeatStands, HasDamage, IsArmed}
 use Rattle.bench_views.specs.Taken.{device_of}
 use Rattle.bench_views.specs.Devices.{record_in, view_of, device_plan, commit_by, MayReply, view_after}
-use Rattle.ledger_laws.specs.Tariffs.{Tariff}
-use Rattle.ledger_laws.specs.Moves.{plan, after}
+use Rattle.ledger_moves.specs.Tariffs.{Tariff}
+use Rattle.ledger_moves.specs.Moves.{plan, after}
 use Rattle.bench.specs.declared.coming.Turn.{Turn}
 use Rattle.bench.specs.declared.devices.BenchOver.{BenchOver}
 use Rattle.bench.specs.Benches.{seats_of, day_of}

@@ -10,8 +10,8 @@ use Rattle.nv_model.specs.declared.nv.Nv.{Ghosts}
 use Rattle.nv_model.specs.Moments.{Image}
 use Rattle.device_seat.specs.declared.seat.Seat.{Seat}
 use Rattle.device_seat.specs.Seats.{times_of}
-use Rattle.ledger_laws.specs.Tariffs.{Tariff}
-use Rattle.ledger_laws.specs.Moves.{plan}
+use Rattle.ledger_moves.specs.Tariffs.{Tariff}
+use Rattle.ledger_moves.specs.Moves.{plan}
 
 -- Eight storages that a stop leaves: of each, whatever it may hold is an image that the device had at some moment between
 -- these seats, before and after the event.

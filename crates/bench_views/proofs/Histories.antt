@@ -11,10 +11,10 @@ use Rattle.bench_base.specs.Plans.{Plan}
 use Rattle.bench_base.specs.Ranges.{IsWholeEvent}
 use Rattle.bench_base.specs.Ledger.{Ledger, day_in, count_of, torn_of, counted}
 use Rattle.psd_state.specs.Laws.{MakingStarts, DebitingKeeps}
-use Rattle.ledger_laws.specs.Tariffs.{Tariff}
-use Rattle.ledger_laws.specs.Editions.{Editions}
-use Rattle.ledger_laws.specs.Moves.{Moves, OtherUp, Fails, FailsToRead, after, entries}
-use Rattle.ledger_laws.specs.Nexts.{AreOrdered}
+use Rattle.ledger_moves.specs.Tariffs.{Tariff}
+use Rattle.ledger_lawful.specs.Editions.{Editions}
+use Rattle.ledger_moves.specs.Moves.{Moves, OtherUp, Fails, FailsToRead, after, entries}
+use Rattle.law_orders.specs.Nexts.{AreOrdered}
 use Rattle.bench_views.specs.Taken.{device_of}
 use Rattle.bench_views.specs.Devices.{record_with, view_of, device_plan, commit_by, IsOtherUp, MayReply}
 use Rattle.bench_views.proofs.Plans.{planned}

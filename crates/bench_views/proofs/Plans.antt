@@ -23,9 +23,9 @@ use Rattle.psd_state.specs.declared.debiting.Debited.{Debited}
 use Rattle.psd_state.specs.declared.debiting.Debited.TheVariants.{New, Again}
 use Rattle.psd_device.specs.Calls.{make_act, franked_act, debit_act}
 use Rattle.device_seat.specs.Calls.{status_act}
-use Rattle.ledger_laws.specs.Tariffs.{Tariff}
-use Rattle.ledger_laws.specs.Devices as device
-use Rattle.ledger_laws.specs.Moves.{plan, at_node, debit_by}
+use Rattle.ledger_moves.specs.Tariffs.{Tariff}
+use Rattle.ledger_moves.specs.Devices as device
+use Rattle.ledger_moves.specs.Moves.{plan, at_node, debit_by}
 use Rattle.bench_views.specs.Taken.{device_of}
 use Rattle.bench_views.specs.Devices.{view_of, device_plan, done_plan, when_on, marked, released}
 use Rattle.bench_views.proofs.Counts.{worn-is}

@@ -29,8 +29,8 @@ use Rattle.psd_device.specs.Acts.{commit_in}
 use Rattle.psd_device.specs.Calls.{make_act, franked_act, debit_act}
 use Rattle.device_seat.specs.Views.{View, committed, torn}
 use Rattle.device_seat.specs.Calls.{status_act}
-use Rattle.ledger_laws.specs.Moves.{Fails, MayFail, after, with_commit, debit_by}
-use Rattle.ledger_laws.specs.Nexts.{AreOrdered}
+use Rattle.ledger_moves.specs.Moves.{Fails, MayFail, after, with_commit, debit_by}
+use Rattle.law_orders.specs.Nexts.{AreOrdered}
 use Rattle.bench_views.specs.Taken.{device_of}
 use Rattle.bench_views.specs.Devices.{record_in, view_of, device_plan, done_plan, marked, released, commit_by, IsOtherUp, MayReply, view_after}
 use Rattle.bench_views.proofs.Events.{of-event, some-same, none-some}

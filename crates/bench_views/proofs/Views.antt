@@ -15,7 +15,7 @@ use Rattle.ledger_terms.specs.Devices.{key_of}
 use Rattle.psd_state.specs.State.{State}
 use Rattle.psd_state.specs.Records.{Follows, state_of}
 use Rattle.device_seat.specs.Views.{View, up_with, started}
-use Rattle.ledger_laws.specs.Nexts.{IsOpen}
+use Rattle.law_orders.specs.Nexts.{IsOpen}
 use Rattle.bench_views.specs.Devices.{record_in, record_with, view_of, view_after}
 use Rattle.bench_views.specs.Follows.{Rests}
 use Rattle.bench_views.proofs.Frames.{one-device, own-is, other-is, count-frame, record-frame, with-frame}

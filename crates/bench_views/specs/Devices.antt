@@ -20,7 +20,7 @@ use Rattle.psd_device.specs.Calls.{make_act, debit_act}
 use Rattle.psd_device.specs.declared.acts.Franked.{Franked}
 use Rattle.device_seat.specs.Views.{View, committed, torn, stopped, up}
 use Rattle.device_seat.specs.Calls.{status_act, commit_of}
-use Rattle.ledger_laws.specs.Moves.{Fails, debit_by}
+use Rattle.ledger_moves.specs.Moves.{Fails, debit_by}
 
 -- the record of device d after these commits, if it was made
 abbrev pub record_in : ℕ → List Commit → Option State

@@ -5,8 +5,8 @@ use Rattle.bench_base.specs.declared.events.Event.{Event}
 use Rattle.bench_base.specs.Rules.{first_rules}
 use Rattle.bench_base.specs.Ranges.{IsWholeEvent}
 use Rattle.bench_base.specs.Ledger.{Ledger, day_in, rates_in, messages, is_on}
-use Rattle.ledger_laws.specs.Tariffs.{Tariff}
-use Rattle.ledger_laws.specs.Histories.{History}
+use Rattle.ledger_moves.specs.Tariffs.{Tariff}
+use Rattle.ledger_moves.specs.Histories.{History}
 use Rattle.bench_views.specs.Taken.{device_of}
 use Rattle.bench_views.specs.Devices.{view_of}
 

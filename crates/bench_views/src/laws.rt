@@ -2,7 +2,7 @@
 ghost use Rattle.std.specs.Prelude.{◌≡◌, ◌≢◌, ℕ, []};
 ghost use Rattle.bench_base.specs.declared.events.Reply.{Reply};
 ghost use Rattle.bench_base.specs.Rules.{first_rules};
-ghost use Rattle.ledger_laws.specs.Moves.{Moves, plan, entries};
+ghost use Rattle.ledger_moves.specs.Moves.{Moves, plan, entries};
 ghost use Rattle.bench_views.specs.Devices.{view_of, device_plan, commit_by, MayReply, view_after};
 ghost use Rattle.bench_views.specs.Follows.{ForDeviceEvents, Rests};
 

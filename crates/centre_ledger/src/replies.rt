@@ -83,7 +83,7 @@ fn customer_after(customer: u32, verdict: Verdict, request: &Request) -> u32
     }
 }
 
-#[tactic(auto, unfolding(bench_base::specs::Kinds::same_kind, psd_wire::specs::Sums::adds))]
+#[tactic(auto, unfolding(bench_base::specs::Kinds::same_kind, ledger_terms::specs::Sums::adds))]
 fn adds(verdict: Verdict, request: &Request) -> u64
     ensures exact { result ≡ sums.adds verdict request.now }
     ensures most { result ≤ request.now.amount }
@@ -95,7 +95,7 @@ fn adds(verdict: Verdict, request: &Request) -> u64
     }
 }
 
-#[tactic(auto, unfolding(bench_base::specs::Kinds::same_kind, psd_wire::specs::Sums::takes))]
+#[tactic(auto, unfolding(bench_base::specs::Kinds::same_kind, ledger_terms::specs::Sums::takes))]
 fn takes(verdict: Verdict, request: &Request) -> u64
     ensures exact { result ≡ sums.takes verdict request.now }
     ensures most { result ≤ request.now.amount }

@@ -80,7 +80,7 @@ fn is_suspended(customer: Option<&CustomerRow>) -> bool
 /// `NotEnrolled` for all but an enrolment of a device that isn't enrolled, or no longer; `EnrolledAlready` for an
 /// enrolment of one that was; `Imbalance` where the request disagrees with what was granted before; `NoCustomer`
 /// and `Suspended` by the customer's row; `NoFunds` for a reset above the balance.
-#[tactic(auto, unfolding(psd_wire::specs::Rulings::verdict_by))]
+#[tactic(auto, unfolding(ledger_terms::specs::Rulings::verdict_by))]
 pub fn verdict(
     row: &DeviceRow,
     customer: Option<&CustomerRow>,

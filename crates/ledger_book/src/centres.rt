@@ -154,7 +154,7 @@ fn device_share(commits: &[Commit], customer: Customer, side: Side, number: u32)
 }
 
 /// The sum of that side over the rulings on all devices that were ever enrolled under the customer.
-#[tactic(auto, unfolding(psd_wire::specs::Centres::customer_sum))]
+#[tactic(auto, unfolding(ledger_terms::specs::Centres::customer_sum))]
 pub(crate) fn customer_sum(commits: &[Commit], customer: Customer, side: Side) -> u128
     ensures value { result ≡ customer_sum (amount_of side) customer (reverse commits.now) }
     ensures small { result ≤ length commits.now * 2 ^ 35 }

@@ -7,7 +7,7 @@ ghost use Rattle.ledger_terms.specs.Devices.{origin};
 ghost use Rattle.ledger_terms.specs.Franking.{marked, mark_after, key_or_none};
 ghost use Rattle.bench_base.specs.declared.ledger.Commit.TheVariants.{Debited};
 ghost use Rattle.indicium.specs.Marks.{IsWhole, spell};
-ghost use Rattle.ledger_book.specs.Lawful.{Always, Debits};
+ghost use Rattle.ledger_lawful.specs.Lawful.{Always, Debits};
 
 use crate::centres::registered;
 use crate::devices::{applied_kind, key_of};
@@ -43,7 +43,7 @@ fn spelled(mark: &Mark, key: Option<Key>) -> [u8; 64]
 }
 
 // The mark of a debit after these commits, which keeps the registers within their limit.
-#[tactic(auto, unfolding(psd_wire::specs::Franking::mark_after))]
+#[tactic(auto, unfolding(ledger_terms::specs::Franking::mark_after))]
 fn mark_after(
     before: &[Commit],
     device: DevNo,
@@ -72,7 +72,7 @@ fn mark_after(
 }
 
 // The spelling of the mark of this commit after those before it, where it is the debit of the piece.
-#[tactic(auto, unfolding(psd_wire::specs::Franking::indicium_after))]
+#[tactic(auto, unfolding(ledger_terms::specs::Franking::indicium_after))]
 fn marked_in(commit: &Commit, before: &[Commit], device: DevNo, piece: u32) -> Option<[u8; 64]>
     requires { Debits first_rules (commit.now ∷ reverse before.now) }
     ensures { marked device piece (commit.now ∷ reverse before.now) ≡ first_of (marked device piece (reverse before.now)) result }

@@ -4,7 +4,7 @@ ghost use Rattle.bench_base.specs.Rules.{first_rules};
 ghost use Rattle.bench_base.specs.Ledger.{Ledger, counted, IsReleased, IsReleasedAs, IsPrinted};
 ghost use Rattle.bench_base.specs.Jobs.{Job, job_of, held_of};
 ghost use Rattle.ledger_terms.specs.Franking.{marked};
-ghost use Rattle.ledger_book.specs.Lawful.{held_piece, Always, Debits, Releases, AcceptedOnce, PrintedOnce, HeldOnce};
+ghost use Rattle.ledger_lawful.specs.Lawful.{held_piece, Always, Debits, Releases, AcceptedOnce, PrintedOnce, HeldOnce};
 
 use crate::franking::marked;
 use crate::jobs::{accepted, held_of, held_piece, is_begun, named};

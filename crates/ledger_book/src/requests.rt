@@ -30,7 +30,7 @@ fn no_request() -> Request
     }
 }
 
-#[tactic(auto, unfolding(psd_wire::specs::Requests::request_in))]
+#[tactic(auto, unfolding(ledger_terms::specs::Requests::request_in))]
 fn request_from(bytes: &[u8]) -> Request
     ensures value { result ≡ request_in bytes.now }
     ensures small { result.amount < 2 ^ 32 }

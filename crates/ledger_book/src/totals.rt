@@ -21,7 +21,7 @@ pub(crate) enum Side {
 }
 
 /// What the verdict on the request adds to that side.
-#[tactic(auto, unfolding(psd_wire::specs::Sums::adds, psd_wire::specs::Sums::takes))]
+#[tactic(auto, unfolding(ledger_terms::specs::Sums::adds, ledger_terms::specs::Sums::takes))]
 pub(crate) fn amount_of(side: Side, verdict: Verdict, request: &Request) -> u64
     ensures value { result ≡ amount_of side verdict request.now }
     ensures within { result ≤ request.now.amount }

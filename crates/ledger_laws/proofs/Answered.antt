@@ -9,15 +9,15 @@ use Rattle.bench_base.specs.Plans.{Plan}
 use Rattle.bench_base.specs.Ledger.{Ledger, day_in, counted}
 use Rattle.psd_wire.specs.declared.message.Message.{Message}
 use Rattle.psd_wire.specs.declared.message.Message.TheVariants as m
-use Rattle.ledger_laws.specs.Tariffs.{Tariff}
-use Rattle.ledger_laws.specs.Editions.{Editions}
-use Rattle.ledger_laws.specs.Moves.{plan, Moves, OtherUp, Fails, FailsToRead}
-use Rattle.ledger_laws.specs.Histories.{Unforged, History}
-use Rattle.ledger_laws.specs.Sane.{IsSane}
-use Rattle.ledger_laws.specs.Laws.{IsAddressed, SentAreRead}
-use Rattle.ledger_laws.proofs.Money.{ruling-asked}
-use Rattle.ledger_laws.proofs.Asked.{note-reads, applied-asked}
-use Rattle.ledger_laws.proofs.Grown.{Inv, GenuineAs}
+use Rattle.ledger_moves.specs.Tariffs.{Tariff}
+use Rattle.ledger_lawful.specs.Editions.{Editions}
+use Rattle.ledger_moves.specs.Moves.{plan, Moves, OtherUp, Fails, FailsToRead}
+use Rattle.ledger_moves.specs.Histories.{Unforged, History}
+use Rattle.ledger_lawful.specs.Sane.{IsSane}
+use Rattle.ledger_lawful.specs.Further.{IsAddressed, SentAreRead}
+use Rattle.law_money.proofs.Money.{ruling-asked}
+use Rattle.law_money.proofs.Asked.{note-reads, applied-asked}
+use Rattle.law_good.proofs.Grown.{Inv, GenuineAs}
 use Rattle.ledger_laws.proofs.Histories.{histories, plan-ok, allows-same, carried-by}
 
 other-sane : (was x : Reply) (H : Ledger) → OtherUp was x H → IsSane x

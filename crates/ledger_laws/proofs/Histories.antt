@@ -30,23 +30,23 @@ use Rattle.psd_wire.specs.Grammar.{read}
 use Rattle.psd_wire.proofs.Readings.{read-found}
 use Rattle.ledger_terms.specs.Devices.{key_of, pending}
 use Rattle.ledger_terms.specs.Centres.{registered, opened, balance}
-use Rattle.ledger_laws.specs.Devices
+use Rattle.ledger_moves.specs.Devices
 use Rattle.host_jobs.specs.Answers as host
-use Rattle.ledger_laws.specs.Tariffs.{Tariff, TextFault, NoToml, NoForm}
-use Rattle.ledger_laws.specs.Editions.{IsCarried, Allows, Follows, Editions}
-use Rattle.ledger_laws.specs.Moves
-use Rattle.ledger_laws.specs.Moves.{plan}
-use Rattle.ledger_laws.specs.Histories.{IsKnown, IsKnownMark, Unforged, History, nothing, begins, moves, earlier}
-use Rattle.ledger_laws.proofs.Basics.{some-same, ok-same, chosen}
-use Rattle.ledger_laws.proofs.Good.{Fits, Good}
-use Rattle.ledger_laws.proofs.Money.{ruling-asked}
-use Rattle.ledger_laws.proofs.Asked.{note-reads}
-use Rattle.ledger_laws.proofs.Lengths.{mark-long, mark-behind, long-release}
-use Rattle.ledger_laws.proofs.Grown.{Inv, GenuineAs, genuine-at, inv-none, inv-begin, inv-day, inv-rates, inv-down, inv-up}
-use Rattle.ledger_laws.proofs.Plans.{PlanOk, ok-refuse, ok-at, moved}
-use Rattle.ledger_laws.proofs.DevicePlans.{ask-ok, debit-ok, ok-shown, make-ok, resend-ok, ack-ok, status-ok, device-ok}
-use Rattle.ledger_laws.proofs.CentrePlans.{register-ok, open-ok, flag-ok, balance-ok, deposit-ok, centre-ok, reconcile-ok}
-use Rattle.ledger_laws.proofs.HostPlans.{order-ok, send-ok, host-ok, print-ok, close-ok, trust-ok, scan-ok}
+use Rattle.ledger_moves.specs.Tariffs.{Tariff, TextFault, NoToml, NoForm}
+use Rattle.ledger_lawful.specs.Editions.{IsCarried, Allows, Follows, Editions}
+use Rattle.ledger_moves.specs.Moves
+use Rattle.ledger_moves.specs.Moves.{plan}
+use Rattle.ledger_moves.specs.Histories.{IsKnown, IsKnownMark, Unforged, History, nothing, begins, moves, earlier}
+use Rattle.law_good.proofs.Basics.{some-same, ok-same, chosen}
+use Rattle.law_good.proofs.Good.{Fits, Good}
+use Rattle.law_money.proofs.Money.{ruling-asked}
+use Rattle.law_money.proofs.Asked.{note-reads}
+use Rattle.law_plans.proofs.Lengths.{mark-long, mark-behind, long-release}
+use Rattle.law_good.proofs.Grown.{Inv, GenuineAs, genuine-at, inv-none, inv-begin, inv-day, inv-rates, inv-down, inv-up}
+use Rattle.law_plans.proofs.Plans.{PlanOk, ok-refuse, ok-at, moved}
+use Rattle.law_device.proofs.DevicePlans.{ask-ok, debit-ok, ok-shown, make-ok, resend-ok, ack-ok, status-ok, device-ok}
+use Rattle.law_centre.proofs.CentrePlans.{register-ok, open-ok, flag-ok, balance-ok, deposit-ok, centre-ok, reconcile-ok}
+use Rattle.law_host.proofs.HostPlans.{order-ok, send-ok, host-ok, print-ok, close-ok, trust-ok, scan-ok}
 
 none-some : {A : Type 0} {a : A} {P : Type 0} → None ≡ Some a → P
 none-some h = absurd (cc)

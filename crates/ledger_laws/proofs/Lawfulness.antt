@@ -19,20 +19,20 @@ use Rattle.ledger_terms.specs.Devices.{asked, number, applied_of, pending}
 use Rattle.ledger_terms.specs.Centres.{ruled, deposits, stored_request}
 use Rattle.ledger_terms.specs.InFlight.{ruling_of}
 use Rattle.centre_ledger.specs.Answers.{last_ruling}
-use Rattle.ledger_book.specs.Lawful.{Always, asks, Numbering, NextDebit, Totals, Refunds, AfterApplied, Accounts, Solvent, Days, AcceptedOnce, HeldOnce, held_piece, LawfulAt, Lawful}
-use Rattle.ledger_laws.specs.Links.{Link}
-use Rattle.ledger_laws.specs.Laws.{HasOwner, NoImbalance, IsFitting, postage_in, Paid}
-use Rattle.ledger_laws.proofs.Basics.{some-same, some-none, either, none-if}
-use Rattle.ledger_laws.proofs.Good.{Good, Fits}
-use Rattle.ledger_laws.proofs.Links.{Waits, link, waits, waits-none, waits-some, ruling-le, note-le, applied-le}
-use Rattle.ledger_laws.proofs.Money.{Keeps, funds, account, applied-some, ruling-asked, last-is, last-some}
-use Rattle.ledger_laws.proofs.Asked.{pending-asked, since-asked}
-use Rattle.ledger_laws.proofs.Requests.{sane-here}
-use Rattle.ledger_laws.proofs.Customers.{solvent}
-use Rattle.ledger_laws.proofs.Owners.{owner}
-use Rattle.ledger_laws.proofs.Jobs.{jobs}
-use Rattle.ledger_laws.proofs.HostPlans.{good-before}
-use Rattle.ledger_laws.proofs.Grown.{Inv, Told, NewestSure}
+use Rattle.ledger_lawful.specs.Lawful.{Always, asks, Numbering, NextDebit, Totals, Refunds, AfterApplied, Accounts, Solvent, Days, AcceptedOnce, HeldOnce, held_piece, LawfulAt, Lawful}
+use Rattle.ledger_lawful.specs.Links.{Link}
+use Rattle.ledger_lawful.specs.Further.{HasOwner, NoImbalance, IsFitting, postage_in, Paid}
+use Rattle.law_good.proofs.Basics.{some-same, some-none, either, none-if}
+use Rattle.law_good.proofs.Good.{Good, Fits}
+use Rattle.law_money.proofs.Links.{Waits, link, waits, waits-none, waits-some, ruling-le, note-le, applied-le}
+use Rattle.law_money.proofs.Money.{Keeps, funds, account, applied-some, ruling-asked, last-is, last-some}
+use Rattle.law_money.proofs.Asked.{pending-asked, since-asked}
+use Rattle.law_money.proofs.Requests.{sane-here}
+use Rattle.law_money.proofs.Customers.{solvent}
+use Rattle.law_money.proofs.Owners.{owner}
+use Rattle.law_jobs.proofs.Jobs.{jobs}
+use Rattle.law_host.proofs.HostPlans.{good-before}
+use Rattle.law_good.proofs.Grown.{Inv, Told, NewestSure}
 
 not-reset : (k : Kind) → empties k ≡ true → same_kind k Reset ≡ false
 unfolding same_kind

@@ -6,16 +6,16 @@ use Rattle.bench_base.specs.declared.events.Event.{Event}
 use Rattle.bench_base.specs.Rules.{Rules}
 use Rattle.bench_base.specs.Ranges.{IsWholeEvent}
 use Rattle.bench_base.specs.Ledger.{Ledger, torn_of, counted}
-use Rattle.ledger_laws.specs.Tariffs.{Tariff}
-use Rattle.ledger_laws.specs.Editions.{Editions}
-use Rattle.ledger_laws.specs.Moves.{plan}
-use Rattle.ledger_laws.specs.Histories.{Unforged, History}
-use Rattle.ledger_laws.specs.Nexts.{AreOrdered, IsNext, IsOpen}
-use Rattle.ledger_laws.proofs.Good.{Good}
-use Rattle.ledger_laws.proofs.Grown.{Inv}
+use Rattle.ledger_moves.specs.Tariffs.{Tariff}
+use Rattle.ledger_lawful.specs.Editions.{Editions}
+use Rattle.ledger_moves.specs.Moves.{plan}
+use Rattle.ledger_moves.specs.Histories.{Unforged, History}
+use Rattle.law_orders.specs.Nexts.{AreOrdered, IsNext, IsOpen}
+use Rattle.law_good.proofs.Good.{Good}
+use Rattle.law_good.proofs.Grown.{Inv}
 use Rattle.ledger_laws.proofs.Histories.{histories, plan-ok, allows-same, carried-by}
-use Rattle.ledger_laws.proofs.Orders.{device-order, device-record, centre-order, host-order, verifier-order}
-use Rattle.ledger_laws.proofs.Cells.{roomy}
+use Rattle.law_orders.proofs.Orders.{device-order, device-record, centre-order, host-order, verifier-order}
+use Rattle.law_jobs.proofs.Cells.{roomy}
 
 pub ordered : (ρ : Rules) (C : List Commit) → Good ρ C → AreOrdered C
 ordered ρ C g = record { devices = device-order ρ C g; records = device-record ρ C g; centre = centre-order ρ C g; host = host-order ρ C g; verifier = verifier-order ρ C g; roomy = roomy ρ C g }

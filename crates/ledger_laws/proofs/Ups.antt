@@ -10,10 +10,10 @@ use Rattle.bench_base.specs.Rules.{Rules}
 use Rattle.bench_base.specs.Nodes.{node_of}
 use Rattle.bench_base.specs.Ranges.{IsNode, InRange}
 use Rattle.bench_base.specs.Ledger.{Ledger, day_in, is_on, count_of, torn_of, counted}
-use Rattle.ledger_laws.specs.Tariffs.{Tariff}
-use Rattle.ledger_laws.specs.Editions.{Editions}
-use Rattle.ledger_laws.specs.Moves.{plan, OtherUp}
-use Rattle.ledger_laws.specs.Histories.{History, moves}
+use Rattle.ledger_moves.specs.Tariffs.{Tariff}
+use Rattle.ledger_lawful.specs.Editions.{Editions}
+use Rattle.ledger_moves.specs.Moves.{plan, OtherUp}
+use Rattle.ledger_moves.specs.Histories.{History, moves}
 use Rattle.ledger_laws.proofs.Histories.{histories, allows-same, carried-by}
 
 -- the node of a commit in range is one of the nodes

@@ -1,86 +1,11 @@
--- What holds of every history beside that it is lawful.
-use Rattle.std.specs.Prelude.{◌≡◌, ℕ, ◌+◌, ◌≤◌, false, List, [], ◌∷◌, ◌++◌, length, Some, Ok, is_some, ◌==◌, if◌then◌else◌}
-use Rattle.bench_base.specs.declared.words.Kind.TheVariants.{Enrol}
-use Rattle.bench_base.specs.declared.ledger.Commit.{Commit}
-use Rattle.bench_base.specs.declared.ledger.Commit.TheVariants.{Debited, Ruled}
+-- What is said of every history.
+use Rattle.std.specs.Prelude.{List, ◌∷◌}
 use Rattle.bench_base.specs.Rules.{Rules}
-use Rattle.bench_base.specs.Kinds.{same_kind}
-use Rattle.bench_base.specs.Ranges.{IsDevice, InRange}
-use Rattle.bench_base.specs.Ledger.{Ledger, IsSent}
-use Rattle.bench_base.specs.Scans.{accepted}
-use Rattle.psd_wire.specs.declared.message.Message.{Message}
-use Rattle.psd_wire.specs.declared.message.Message.TheVariants as m
-use Rattle.psd_wire.specs.Grammar.{read}
-use Rattle.ledger_terms.specs.Requests.{request_in}
-use Rattle.ledger_terms.specs.Sums.{adds, ascending, loads, clears, buys, returns}
-use Rattle.ledger_terms.specs.Centres.{enrolled}
-use Rattle.ledger_terms.specs.InFlight.{acknowledged_resets, acknowledged_refunds, flight}
-use Rattle.ledger_laws.specs.Tariffs.{Tariff}
-use Rattle.ledger_laws.specs.Editions.{Editions}
-use Rattle.ledger_laws.specs.Histories.{History}
-use Rattle.ledger_laws.specs.Sane.{is_imbalance}
+use Rattle.bench_base.specs.Ledger.{Ledger}
+use Rattle.ledger_moves.specs.Tariffs.{Tariff}
+use Rattle.ledger_lawful.specs.Editions.{Editions}
+use Rattle.ledger_moves.specs.Histories.{History}
 
 -- P holds of every history, whatever the tariff and the editions of the rules
 abbrev pub ForHistories : (Tariff → Rules → List Rules → Ledger → Type 0) → Type 0
 ForHistories P = (τ : Tariff) (ρ : Rules) (ρs : List Rules) (H : Ledger) → Editions (ρ ∷ ρs) → History τ (ρ ∷ ρs) H → P τ ρ ρs H
-
--- a ruled Request that is no enrolment has the customer under which the centre enrolled its device
-abbrev pub HasOwner : List Commit → Type 0
-HasOwner (Ruled d n v note ∷ C) = same_kind (request_in note).kind Enrol ≡ false → enrolled d C ≡ Some (request_in note).customer
-HasOwner C = Unit {0}
-
--- no ruling is that the sums disagree
-abbrev pub NoImbalance : List Commit → Type 0
-NoImbalance (Ruled d n v note ∷ C) = is_imbalance v ≡ false
-NoImbalance C = Unit {0}
-
--- the numbers of the newest commit fit their fields; each device is one of 1 to 8
-abbrev pub IsFitting : List Commit → Type 0
-IsFitting [] = Unit {0}
-IsFitting (c ∷ C) = InRange c
-
--- a message but a Release names one of the devices
-abbrev pub IsAddressed : Message → Type 0
-IsAddressed (m.Request q) = IsDevice q.device
-IsAddressed (m.Reply p) = IsDevice p.device
-IsAddressed (m.Done q) = IsDevice q.device
-IsAddressed (m.Debit q) = IsDevice q.device
-IsAddressed (m.Release x) = Unit {0}
-
--- what was sent reads as a message that is addressed
-abbrev pub SentAreRead : Ledger → Type 0
-SentAreRead H = (bytes : List ℕ) → IsSent bytes H → (x : Message) × (read bytes ≡ Ok x) × IsAddressed x
-
--- what was loaded is the beginning of what was bought, and what was cleared of what was returned, but for at most one amount; the newest comes first
-pub record IsBeginning (loaded cleared buys returns : List ℕ) : Type 0 where
-  pub bought : List ℕ
-  pub returned : List ℕ
-  pub loads : bought ++ loaded ≡ buys
-  pub clears : returned ++ cleared ≡ returns
-  pub one : length bought + length returned ≤ 1
-
-abbrev pub Begins : List Commit → ℕ → Type 0
-Begins C d = IsBeginning (loads d C) (clears d C) (buys d C) (returns d C)
-
--- no more is acknowledged as refunded than as bought
-abbrev pub IsCovered : List Commit → ℕ → Type 0
-IsCovered C d = acknowledged_refunds d C ≤ acknowledged_resets d C
-
--- == money to the letter box ==
-
--- the postage of the debits among C whose piece is accepted in the commits A
-abbrev pub postage_in : ℕ → List Commit → List Commit → ℕ
-postage_in d A [] = 0
-postage_in d A (Debited e piece postage class day version ∷ C) = if e == d then (if is_some (accepted d piece A) then postage_in d A C + postage else postage_in d A C) else postage_in d A C
-postage_in d A (_ ∷ C) = postage_in d A C
-
-abbrev pub accepted_postage : ℕ → List Commit → ℕ
-accepted_postage d C = postage_in d C C
-
--- mail that was accepted was franked, and what was franked was bought: by resets that are acknowledged, or by the one that is in flight and applied
-pub record IsPaid (accepted ascending resets flight : ℕ) : Type 0 where
-  pub franked : accepted ≤ ascending
-  pub bought : ascending ≤ resets + flight
-
-abbrev pub Paid : List Commit → ℕ → Type 0
-Paid C d = IsPaid (accepted_postage d C) (ascending d C) (acknowledged_resets d C) (flight adds d C)

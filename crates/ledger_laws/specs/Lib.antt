@@ -1,11 +1,1 @@
-pub mod Devices
-pub mod Editions
-pub mod Histories
 pub mod Laws
-pub mod Links
-pub mod Moves
-pub mod Nexts
-pub mod Rows
-pub mod Runs
-pub mod Sane
-pub mod Tariffs

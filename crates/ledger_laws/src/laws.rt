@@ -7,15 +7,16 @@ ghost use Rattle.bench_base.specs.declared.events.Event.{Event};
 ghost use Rattle.bench_base.specs.declared.events.Reply.{Reply};
 ghost use Rattle.bench_base.specs.Rules.{first_rules};
 ghost use Rattle.bench_base.specs.Ledger.{day_in, count_of, torn_of, counted};
-ghost use Rattle.ledger_book.specs.Lawful.{Always, Lawful};
-ghost use Rattle.ledger_laws.specs.Editions.{Editions};
+ghost use Rattle.ledger_lawful.specs.Lawful.{Always, Lawful};
+ghost use Rattle.ledger_lawful.specs.Editions.{Editions};
 ghost use Rattle.bench_base.specs.Ranges.{IsWholeEvent};
-ghost use Rattle.ledger_laws.specs.Moves.{Moves, plan};
-ghost use Rattle.ledger_laws.specs.Nexts.{AreOrdered, IsNext, IsOpen};
-ghost use Rattle.ledger_laws.specs.Histories.{Unforged, History};
-ghost use Rattle.ledger_laws.specs.Links.{Link};
-ghost use Rattle.ledger_laws.specs.Sane.{IsSane};
-ghost use Rattle.ledger_laws.specs.Laws.{ForHistories, HasOwner, NoImbalance, IsFitting, SentAreRead, Begins, IsCovered, Paid};
+ghost use Rattle.ledger_moves.specs.Moves.{Moves, plan};
+ghost use Rattle.law_orders.specs.Nexts.{AreOrdered, IsNext, IsOpen};
+ghost use Rattle.ledger_moves.specs.Histories.{Unforged, History};
+ghost use Rattle.ledger_lawful.specs.Links.{Link};
+ghost use Rattle.ledger_lawful.specs.Sane.{IsSane};
+ghost use Rattle.ledger_laws.specs.Laws.{ForHistories};
+ghost use Rattle.ledger_lawful.specs.Further.{HasOwner, NoImbalance, IsFitting, SentAreRead, Begins, IsCovered, Paid};
 
 use bench_base::ledger::Entry;
 

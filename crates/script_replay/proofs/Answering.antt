@@ -18,8 +18,8 @@ use Rattle.nv_model.specs.declared.nv.Nv.{Ghosts}
 use Rattle.nv_model.specs.Meters.{Meters}
 use Rattle.device_seat.specs.declared.seat.Seat.{Seat}
 use Rattle.device_seat.specs.Seats.{meters_of}
-use Rattle.ledger_laws.specs.Tariffs.{Tariff}
-use Rattle.ledger_laws.specs.Moves.{plan, Fails, FailsToRead}
+use Rattle.ledger_moves.specs.Tariffs.{Tariff}
+use Rattle.ledger_moves.specs.Moves.{plan, Fails, FailsToRead}
 use Rattle.bench_views.specs.Taken.{device_of}
 use Rattle.bench.specs.Costs.{Balanced, armed, one_if, is_device, tells_power, tells_fault}
 use Rattle.bench.specs.Steps.{NamesDevice, IsFor}

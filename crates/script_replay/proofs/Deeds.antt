@@ -12,9 +12,9 @@ use Rattle.bench_base.specs.declared.events.Event.{Event}
 use Rattle.bench_base.specs.declared.events.Event.TheVariants as event
 use Rattle.bench_base.specs.declared.events.Reply.{Reply}
 use Rattle.nv_model.specs.declared.nv.Nv.{Ghosts}
-use Rattle.ledger_book.specs.Lawful.{Lawful}
-use Rattle.ledger_laws.specs.Histories.{History}
-use Rattle.ledger_laws.specs.Editions.{Editions}
+use Rattle.ledger_lawful.specs.Lawful.{Lawful}
+use Rattle.ledger_moves.specs.Histories.{History}
+use Rattle.ledger_lawful.specs.Editions.{Editions}
 use Rattle.ledger_laws.specs.Laws.{ForHistories}
 use Rattle.bench.specs.declared.devices.BenchOver.{BenchOver}
 use Rattle.bench.specs.Benches.{Stands, AreSeated, Begun, IsStopped, seats_of}

@@ -3,7 +3,7 @@ use Rattle.std.proofs.Common.{◌≡◌, List, [], ◌∷◌, ◌++◌, refl, sy
 use Rattle.bench_base.specs.declared.events.Event.{Event}
 use Rattle.bench_base.specs.declared.events.Reply.{Reply}
 use Rattle.bench_base.specs.Ledger.{Ledger}
-use Rattle.ledger_laws.specs.Tariffs.{Tariff}
+use Rattle.ledger_moves.specs.Tariffs.{Tariff}
 use Rattle.script_replay.specs.Deeds.{Deed, Skipped, Did, ledger_by, ledger_after, RunWhile, AreUnforged, DidOver}
 
 module _ (τ : Tariff) where

@@ -5,8 +5,8 @@ use Rattle.bench_base.specs.declared.events.Event.TheVariants as event
 use Rattle.bench_base.specs.declared.events.Reply.{Reply}
 use Rattle.bench_base.specs.Ledger.{Ledger}
 use Rattle.bench_base.specs.Rules.{first_rules}
-use Rattle.ledger_laws.specs.Tariffs.{Tariff}
-use Rattle.ledger_laws.specs.Moves.{entries}
+use Rattle.ledger_moves.specs.Tariffs.{Tariff}
+use Rattle.ledger_moves.specs.Moves.{entries}
 use Rattle.script_text.specs.Grammar.{IsSkipped}
 use Rattle.script_text.specs.Texts.{text_of}
 use Rattle.script_replay.specs.Events.{IsLineOf}

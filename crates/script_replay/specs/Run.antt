@@ -7,11 +7,11 @@ use Rattle.bench_base.specs.Rules.{first_rules}
 use Rattle.bench_base.specs.declared.events.Event.{Event}
 use Rattle.bench_base.specs.declared.events.Reply.{Reply}
 use Rattle.nv_model.specs.declared.nv.Nv.{Ghosts}
-use Rattle.ledger_book.specs.Lawful.{Lawful}
-use Rattle.ledger_laws.specs.Tariffs.{Tariff}
-use Rattle.ledger_laws.specs.Moves as moves
-use Rattle.ledger_laws.specs.Histories as histories
-use Rattle.ledger_laws.specs.Histories.{History}
+use Rattle.ledger_lawful.specs.Lawful.{Lawful}
+use Rattle.ledger_moves.specs.Tariffs.{Tariff}
+use Rattle.ledger_moves.specs.Moves as moves
+use Rattle.ledger_moves.specs.Histories as histories
+use Rattle.ledger_moves.specs.Histories.{History}
 use Rattle.bench.specs.declared.devices.BenchOver.{BenchOver}
 use Rattle.bench.specs.Benches.{Stands, seats_of}
 use Rattle.bench.specs.Steps.{NamesDevice}

@@ -9,8 +9,8 @@ use Rattle.nv_model.specs.declared.nv.Nv.{Ghosts}
 use Rattle.nv_model.specs.Meters.{Meters}
 use Rattle.device_seat.specs.declared.seat.Seat.{Seat}
 use Rattle.device_seat.specs.Seats.{meters_of}
-use Rattle.ledger_laws.specs.Tariffs.{Tariff}
-use Rattle.ledger_laws.specs.Moves.{answer, OtherUp}
+use Rattle.ledger_moves.specs.Tariffs.{Tariff}
+use Rattle.ledger_moves.specs.Moves.{answer, OtherUp}
 use Rattle.bench.specs.Costs.{tells_cut}
 use Rattle.script_replay.specs.Deeds.{Deed}
 use Rattle.script_replay.specs.Counts.{replies_that}

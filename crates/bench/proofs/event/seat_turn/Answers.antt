@@ -18,7 +18,7 @@ use Rattle.device_seat.specs.Views.{View}
 use Rattle.device_seat.specs.Calls.{status_act, commit_of, after_call}
 use Rattle.bench_views.specs.Taken.{device_of}
 use Rattle.bench_views.specs.Devices as views
-use Rattle.ledger_laws.specs.Moves.{debit_by}
+use Rattle.ledger_moves.specs.Moves.{debit_by}
 use Rattle.bench.specs.Turns.{call_turn, franked_entries}
 use Rattle.bench.proofs.Acts.{made_done, marked_done, status_done, make_agrees, debit_agrees, status_agrees, status_none, may_of, after_none, spent_nothing, stays_on}
 use Rattle.bench.proofs.Seated.{did_on, did_off, did_cut, did_call, did_same}

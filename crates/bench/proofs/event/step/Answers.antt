@@ -5,7 +5,7 @@ use Rattle.bench_base.specs.declared.ledger.Entry.TheVariants as entry
 use Rattle.bench_base.specs.Plans.{refuse, told}
 use Rattle.bench_base.specs.Rules.{first_rules}
 use Rattle.bench_base.specs.Ledger.{Ledger}
-use Rattle.ledger_laws.specs.Moves.{entries}
+use Rattle.ledger_moves.specs.Moves.{entries}
 use Rattle.bench.specs.Benches.{Stands, HasDay, seats_of}
 use Rattle.bench.specs.Steps.{NeedsDay, MovesViews}
 use Rattle.bench.proofs.Frames.{at_ready, at_charged, at_switches, at_armed, at_others, at_moves, at_entries, at_day, at_stands, at_any_moment, at_refused, at_views, at_unwritten, at_damage, at_left}

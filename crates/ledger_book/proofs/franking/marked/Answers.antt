@@ -1,6 +1,6 @@
 use Rattle.std.proofs.Common.{arith}
 use Rattle.bench_base.specs.Rules.{first_rules}
-use Rattle.ledger_book.specs.Lawful.{Debits}
+use Rattle.ledger_lawful.specs.Lawful.{Debits}
 use Rattle.ledger_book.proofs.Prefixes.{always-at}
 use Rattle.ledger_book.proofs.franking.marked.Goals as goal
 

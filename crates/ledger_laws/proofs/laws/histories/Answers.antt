@@ -2,7 +2,7 @@ use Rattle.std.proofs.Common.{◌∷◌, refl, arith}
 use Rattle.bench_base.specs.Ledger.{counted}
 use Rattle.ledger_laws.proofs.Histories.{histories, allows-same, carried-by}
 use Rattle.ledger_laws.proofs.Lawfulness.{everywhere, lawful, has-owner, no-imbalance, is-fitting, linked, paid}
-use Rattle.ledger_laws.proofs.Standing.{standing, begins}
+use Rattle.law_money.proofs.Standing.{standing, begins}
 use Rattle.ledger_laws.proofs.Answered.{moves-sane, sent-read}
 use Rattle.ledger_laws.proofs.Ups.{either_up}
 use Rattle.ledger_laws.proofs.laws.histories.Goals as goal

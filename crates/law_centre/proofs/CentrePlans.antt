@@ -1,0 +1,321 @@
+-- The centre's part of a plan is right: a Request that it rules on was asked and not ruled before, and shows what the centre
+-- holds; what it settles was applied; and it never answers `ahead` or `changed`.
+use Rattle.std.proofs.Common.{◌≡◌, ℕ, pos, ◌+◌, ◌<◌, ◌≤◌, ◌+ℤ◌, Bool, true, false, List, [], ◌∷◌, Option, Some, None, Result, Ok, Err, cond, refl, sym, ap, subst, ◌∙◌, true≢false, arith, FitsSigned}
+use Rattle.std.specs.Prelude.{◌==◌, ◌&&◌, ◌||◌, nat_lt, nat_le, bytes_eq}
+use Rattle.std.specs.Int.{w32}
+use Rattle.std.proofs.lemmas.Bool.{eqb-true, eqb-false, ltb-false, ltb-true, leb-false, not-false, eq-eqb, and_parts}
+use Rattle.std.proofs.lemmas.Slice.Eq.{bytes_eq-Decides}
+use Rattle.bench_base.specs.declared.words.Node.TheVariants.{Centre}
+use Rattle.bench_base.specs.declared.words.Kind.TheVariants.{Reset}
+use Rattle.bench_base.specs.declared.words.Verdict.{Verdict}
+use Rattle.bench_base.specs.declared.words.Verdict.TheVariants.{Granted}
+use Rattle.bench_base.specs.declared.refusals.Unread.{Unread}
+use Rattle.bench_base.specs.declared.refusals.Unread.TheVariants as unread
+use Rattle.bench_base.specs.declared.refusals.CentreRefusal.{CentreRefusal}
+use Rattle.bench_base.specs.declared.refusals.CentreRefusal.TheVariants as no
+use Rattle.bench_base.specs.declared.ledger.Commit.{Commit}
+use Rattle.bench_base.specs.declared.ledger.Commit.TheVariants as c
+use Rattle.bench_base.specs.declared.ledger.Entry.TheVariants as e
+use Rattle.bench_base.specs.declared.events.Reply.TheVariants as r
+use Rattle.bench_base.specs.Rules.{Rules}
+use Rattle.bench_base.specs.Rows.{first_holding}
+use Rattle.bench_base.specs.Kinds.{is_granted, is_dated, same_kind}
+use Rattle.bench_base.specs.Ranges.{IsDevice, IsCustomer, IsWord, IsDay, IsKey}
+use Rattle.bench_base.specs.Ledger.{Ledger, counted, is_on, IsSent}
+use Rattle.psd_wire.specs.declared.message.Request.{Request}
+use Rattle.psd_wire.specs.declared.message.ReplyMsg.{ReplyMsg}
+use Rattle.psd_wire.specs.declared.message.DoneMsg.{DoneMsg}
+use Rattle.psd_wire.specs.declared.message.Message.{Message}
+use Rattle.psd_wire.specs.declared.message.Message.TheVariants as m
+use Rattle.psd_wire.specs.Grammar.{read, IsWhole}
+use Rattle.psd_wire.proofs.Readings.{read-spell}
+use Rattle.psd_wire.specs.Codes.{has_code}
+use Rattle.ledger_terms.specs.Requests.{request_in, request_or_none, note_of}
+use Rattle.ledger_terms.specs.Sums.{bought, returned}
+use Rattle.ledger_terms.specs.Devices.{applied_of}
+use Rattle.ledger_terms.specs.Centres.{registered, key_in, ruled, settled, opened, receipt, deposits}
+use Rattle.ledger_terms.specs.InFlight.{ruling_of}
+use Rattle.ledger_terms.specs.Rulings.{verdict, verdict_by, verdict_rows, account_of, Account, reply_to, reply_note, stored_reply}
+use Rattle.centre_ledger.specs.Answers as centre
+use Rattle.centre_ledger.specs.Answers.{last_ruling}
+use Rattle.ledger_moves.specs.Histories.{IsKnown}
+use Rattle.ledger_lawful.specs.Sane.{IsSaneCentre, is_imbalance}
+use Rattle.law_good.proofs.Basics.{some-same, some-none, or_false, chosen, first, first-that, none-holds, either}
+use Rattle.law_plans.proofs.Whole.{whole-reply, deadline_signed, no_deadline}
+use Rattle.law_good.proofs.Good.{Good}
+use Rattle.law_money.proofs.Links.{link, note-le, applied-le}
+use Rattle.law_money.proofs.Money.{added, last-is, last-some, ruling-asked}
+use Rattle.law_money.proofs.Asked.{note-reads, applied-asked}
+use Rattle.law_plans.proofs.Franked.{registered-word}
+use Rattle.law_money.proofs.Customers.{granted-rows, AllRefuse}
+use Rattle.law_money.proofs.Requests.{Shown, new-shown, never-imbalance, ruling-sane}
+use Rattle.law_good.proofs.Grown.{Inv, GenuineReply, genuine-at, reply-kept, inv-sent}
+use Rattle.law_plans.proofs.Plans.{PlanOk, IsFit, ok-refuse, ok-made}
+
+none-some : {A : Type 0} {a : A} {P : Type 0} → None ≡ Some a → P
+none-some h = absurd (cc)
+
+request_in-read : (note : List ℕ) (q : Request) → read note ≡ Ok (m.Request q) → request_in note ≡ q
+unfolding request_in
+request_in-read note q h = ap request_or_none h
+
+bytes_eq-same : (xs : List ℕ) → bytes_eq xs xs ≡ true
+bytes_eq-same xs = (bytes_eq-Decides xs xs).1 refl
+
+-- where the verdict is granted, the amount is the Request's
+granted-amount : (rows : List (Bool × (Verdict × ℕ))) (a : ℕ) → AllRefuse rows → is_granted (first_holding rows (Granted, a)).0 ≡ true → (first_holding rows (Granted, a)).1 ≡ a
+granted-amount rows a each h = ap (λ (z : Verdict × ℕ). z.1) (none-holds rows (Granted, a) (granted-rows rows a each h))
+
+-- an amount in a Reply is 0, the Request's, or a balance below it; but for a disagreement of the sums
+amount-word : (a : Account) (q : Request) → IsWord q.amount → is_imbalance (verdict_by a q).0 ≡ false → IsWord (verdict_by a q).1
+unfolding verdict_by
+amount-word a q fits = first-that (λ (x : Verdict × ℕ). is_imbalance x.0 ≡ false → IsWord x.1) (verdict_rows a q) (Granted, q.amount)
+    ((λ _ _. omega arith), ((λ _ _. omega arith), ((λ _ t. absurd (true≢false t)), ((λ _ _. omega arith), ((λ _ _. omega arith), ((λ t _. let less = ltb-true a.balance q.amount (and_parts (same_kind q.kind Reset) (nat_lt a.balance q.amount) t).1 in omega arith), tt))))))
+    (λ _ _. fits)
+
+dated-signed : (t : Bool) (q : Request) → IsDay q.day → FitsSigned w32 (cond t (q.day +ℤ pos 92) (pos 0))
+dated-signed true q h = deadline_signed q.day h
+dated-signed false q h = no_deadline
+
+-- == the last ruling ==
+
+stored-is : (d : ℕ) (x : Verdict × List ℕ) (C : List Commit) → last_ruling d C ≡ Some x → stored_reply d C ≡ None → ⊥
+stored-is d x [] h k = some-none (sym h)
+stored-is d x (c.Ruled f n v note ∷ C) h k = either f d
+    (λ t y. some-none (rw t at k))
+    (λ t. stored-is d x C (rw t at h) (rw t at k))
+stored-is d x (_ ∷ C) h k = stored-is d x C h k
+
+module _ (ρ : Rules) where
+  -- the Reply to a Request that shows what the centre holds fits its fields
+  pub reply-whole : (q : Request) (C : List Commit) → Good ρ C → IsWhole (m.Request q) → Shown q (bought q.device C) (returned q.device C) → IsWhole (m.Reply (reply_to C q))
+  unfolding reply_to verdict
+  reply-whole q C g w shown =
+      whole-reply _ w.0 w.1.1.1.0 w.1.1.1.1.0 (amount-word (account_of C q) q w.1.1.1.1.1.1.1.0 (never-imbalance ρ C q shown))
+      (dated-signed (is_dated (verdict C q).0 q.kind) q w.2) (registered-word ρ q.device C g)
+
+  -- and says what the ruling says
+  reply-vouched : (d n : ℕ) (v : Verdict) (note : List ℕ) (q : Request) (C : List Commit) → request_in note ≡ q → q.device ≡ d → q.number ≡ n → v ≡ (verdict C q).0 → ruled d C < n → GenuineReply (reply_to C q) (c.Ruled d n v note ∷ C)
+  unfolding reply_to verdict verdict_by AllRefuse
+  reply-vouched d n v note q C is_note same number says above =
+      let at = added ρ d d n v note C (eq-eqb d d refl) above in
+      let there : ruling_of q.device q.number (c.Ruled d n v note ∷ C) ≡ Some (v, note) = subst (λ (z : ℕ × ℕ). ruling_of z.0 z.1 (c.Ruled d n v note ∷ C) ≡ Some (v, note)) (λ j. (sym same j, sym number j)) at in
+      record {
+        note = note;
+        ruled_as = there ∙ ap (λ (z : Verdict). Some (z, note)) says;
+        kind = ap (λ (z : Request). z.kind) (sym is_note);
+        amount = λ h. granted-amount (verdict_rows (account_of C q) q) q.amount (refl, (refl, (refl, (refl, (refl, (refl, tt)))))) h ∙ ap (λ (z : Request). z.amount) (sym is_note);
+      }
+
+  record StoredReply (x : List ℕ) (C : List Commit) : Type 0 where
+    reply : ReplyMsg
+    reads : read x ≡ Ok (m.Reply reply)
+    vouched : GenuineReply reply C
+
+  -- the stored Reply reads as one that the ruling vouches for
+  stored-vouched : (d : ℕ) (x : List ℕ) (C : List Commit) → Good ρ C → stored_reply d C ≡ Some x → StoredReply x C
+  stored-vouched d x [] g h = none-some h
+  stored-vouched d x (c.Ruled f n v note ∷ C) g h = either f d
+      (λ t s.
+      let it = note-reads ρ f n note C g.1 g.0.asked_as in
+      let is : reply_note C (request_in note) ≡ x = some-same (rw t at h) in
+      let next = g.0.next in
+      let q = request_in note in
+      record {
+        reply = reply_to C q;
+        reads = ap read (sym is) ∙ read-spell (m.Reply (reply_to C q)) (key_in (registered q.device C)) g.0.whole;
+        vouched = reply-vouched f n v note q C refl it.device it.number g.0.verdict (omega arith);
+      })
+      (λ t. let was = stored-vouched d x C g.1 (rw t at h) in record { reply = was.reply; reads = was.reads; vouched = reply-kept was.reply (c.Ruled f n v note) C was.vouched })
+  stored-vouched d x (k ∷ C) g h = let was = stored-vouched d x C g.1 h in record { reply = was.reply; reads = was.reads; vouched = reply-kept was.reply k C was.vouched }
+
+module _ (ρ : Rules) (H : Ledger) (i : Inv ρ H) (on : is_on Centre H ≡ true) where
+  no-ok : (x : CentreRefusal) → IsSaneCentre x → PlanOk ρ H (centre.no_centre x)
+  no-ok x s = ok-refuse ρ H (r.CentreRefused x) refl s
+
+  pub register-ok : (d o : ℕ) (key : List ℕ) → IsDevice d → IsWord o → IsKey key → (w : Option (ℕ × List ℕ)) → registered d (counted H) ≡ w → PlanOk ρ H (centre.register_plan d o key w)
+  register-ok d o key device origin fits None has = ok-made ρ H (r.Registered d) (c.Registered d o key) refl tt (λ n k h. absurd (cc)) (record { fits = has; on = on; range = (device, origin, fits); sure = tt })
+  register-ok d o key device origin fits (Some x) has = no-ok no.Known tt
+
+  pub open-ok : (w : ℕ) → IsCustomer w → (t : Bool) → opened w (counted H) ≡ t → PlanOk ρ H (centre.open_plan w t)
+  open-ok w range true has = no-ok no.Known tt
+  open-ok w range false has = ok-made ρ H (r.Opened w) (c.Opened w) refl tt (λ n k h. absurd (cc)) (record { fits = has; on = on; range = range; sure = tt })
+
+  pub flag-ok : (w : ℕ) (s : Bool) → IsCustomer w → (t : Bool) → opened w (counted H) ≡ t → PlanOk ρ H (centre.flag_plan w s t)
+  flag-ok w s range true has = ok-made ρ H (r.Flagged w s) (c.Flagged w s) refl tt (λ n k h. absurd (cc)) (record { fits = has; on = on; range = range; sure = tt })
+  flag-ok w s range false has = no-ok (no.UnknownCustomer w) tt
+
+  pub balance-ok : (w n : ℕ) (t : Bool) → PlanOk ρ H (centre.balance_plan w n t)
+  balance-ok w n true = record { sane = tt; plain = refl; no_up = λ l k h. refl; fit = λ x h. none-some h; keeps = λ j. j }
+  balance-ok w n false = no-ok (no.UnknownCustomer w) tt
+
+  pub deposit-ok : (w n a : ℕ) → IsCustomer w → IsWord n → IsWord a → (t : Bool) → opened w (counted H) ≡ t → PlanOk ρ H (centre.deposit_plan w n a (receipt w (counted H)) (deposits w (counted H)) t)
+  deposit-ok w n a range receipts amounts false has = no-ok (no.UnknownCustomer w) tt
+  deposit-ok w n a range receipts amounts true has =
+      let C = counted H in
+      let last = receipt w C in
+      let sum = deposits w C in
+      let P = λ (z : Result (Option ℕ) CentreRefusal). PlanOk ρ H (centre.deposit_act w n a sum z) in
+      chosen P ((n == last.0) && nat_lt 0 n) _ _
+      (λ _. chosen P (a == last.1) (Ok None) (Err (no.Conflict last.1))
+      (λ _. record { sane = tt; plain = refl; no_up = λ l k h. refl; fit = λ x h. none-some h; keeps = λ j. j })
+      (λ _. no-ok (no.Conflict last.1) tt))
+      (λ _. first P (centre.deposit_rows last sum n a) (Ok (Some (sum + a)))
+      (no-ok (no.WrongReceipt last.0) tt, (no-ok (no.BadAmount a) tt, (no-ok (no.DepositsFull sum) tt, tt)))
+      (λ rows.
+      let amount = or_false (a == 0) (nat_lt 1000000000 a) rows.1.0 in
+      let some : a ≡ 0 → ⊥ = eqb-false a 0 amount.0 in
+      ok-made ρ H (r.Deposited w n false (sum + a)) (c.Deposited w n a) refl tt (λ l k h. absurd (cc)) (record {
+        fits = record {
+          known = has;
+          next = eqb-true n (last.0 + 1) (not-false (n == last.0 + 1) rows.0);
+          low = omega arith;
+          high = ltb-false 1000000000 a amount.1;
+          room = ltb-false 1000000000000000 (sum + a) rows.1.1.0;
+        };
+        on = on;
+        range = (range, receipts, amounts);
+        sure = tt;
+      })))
+
+  -- == a Request ==
+
+  -- a Request that was ruled last is the stored one
+  stored-same : (bytes : List ℕ) (q : Request) → read bytes ≡ Ok (m.Request q) → IsSent bytes H → q.number ≡ ruled q.device (counted H) → 0 < ruled q.device (counted H)
+      → bytes_eq (centre.stored_note (last_ruling q.device (counted H))) bytes ≡ true
+  stored-same bytes q reads sent same some =
+      let C = counted H in
+      let last = last-some ρ q.device C some in
+      let asked : note_of q.device q.number C ≡ Some bytes = genuine-at bytes (m.Request q) H C (i.sents bytes sent) reads in
+      let one = ruling-asked ρ q.device (ruled q.device C) last.0 C i.good (last-is ρ q.device last.0 C i.good last.1) in
+      let two = subst (λ z. note_of q.device z C ≡ Some bytes) same asked in
+      let note : last.0.1 ≡ bytes = some-same (sym one ∙ two) in
+      subst (λ z. bytes_eq (centre.stored_note z) bytes ≡ true) (sym last.1) (subst (λ z. bytes_eq z bytes ≡ true) (sym note) (bytes_eq-same bytes))
+
+  -- and is sent its Reply again
+  repeat-ok : (d n k : ℕ) → 0 < ruled d (counted H) → (x : Option (Verdict × List ℕ)) → last_ruling d (counted H) ≡ x → (y : Option (List ℕ)) → stored_reply d (counted H) ≡ y → PlanOk ρ H (centre.repeat_plan d n k x y)
+  repeat-ok d n k some None none y stored = absurd (let last = last-some ρ d (counted H) some in some-none (sym last.1 ∙ none))
+  repeat-ok d n k some (Some x) last None none = absurd (stored-is d x (counted H) last none)
+  repeat-ok d n k some (Some x) last (Some y) stored =
+      let C = counted H in
+      let it = stored-vouched ρ d y C i.good stored in
+      record {
+        sane = ruling-sane ρ d (ruled d C) x C i.good (last-is ρ d x C i.good last);
+        plain = refl;
+        no_up = λ l j h. refl;
+        fit = λ z h. none-some h;
+        keeps = λ j. inv-sent ρ H y (record { what = m.Reply it.reply; reads = it.reads; vouched = it.vouched }) j;
+      }
+
+  -- a Request of the next number is ruled
+  new-ok : (bytes : List ℕ) (q : Request) (k : ℕ) → read bytes ≡ Ok (m.Request q) → note_of q.device q.number (counted H) ≡ Some bytes → q.number ≡ ruled q.device (counted H) + 1 → (x : ℕ × List ℕ) → registered q.device (counted H) ≡ Some x
+      → PlanOk ρ H (centre.rule_act k bytes q (counted H) (Ok false))
+  new-ok bytes q k reads asked next x has =
+      let C = counted H in
+      let d = q.device in
+      let n = q.number in
+      let it = note-reads ρ d n bytes C i.good asked in
+      let is : request_in bytes ≡ q = request_in-read bytes q reads in
+      let shown : Shown q (bought d C) (returned d C) = subst (λ (z : Request). Shown z (bought d C) (returned d C)) is (new-shown ρ d n bytes C i.good asked (omega arith)) in
+      let whole : IsWhole (m.Request q) = subst (λ (z : Request). IsWhole (m.Request z)) is it.whole in
+      let reply = reply-whole ρ q C i.good whole shown in
+      record {
+        sane = never-imbalance ρ C q shown;
+        plain = refl;
+        no_up = λ l j h. absurd (cc);
+        fit = λ y h. subst (IsFit ρ H) (some-same h) (record {
+          fits = record {
+            next = next;
+            asked_as = asked;
+            known = (x, has);
+            verdict = ap (λ (z : Request). (verdict C z).0) (sym is);
+            whole = subst (λ (z : Request). IsWhole (m.Reply (reply_to C z))) (sym is) reply;
+          };
+          on = on;
+          range = it.range;
+          sure = tt;
+        });
+        keeps = λ j. inv-sent ρ (e.Commit (c.Ruled d n (verdict C q).0 bytes) ∷ H) (reply_note C q) (record {
+          what = m.Reply (reply_to C q);
+          reads = read-spell (m.Reply (reply_to C q)) (key_in (registered d C)) reply;
+          vouched = reply-vouched ρ d n (verdict C q).0 bytes q C is refl refl refl (omega arith);
+        }) j;
+      }
+
+  rule-ok : (bytes : List ℕ) (q : Request) (k : ℕ) → read bytes ≡ Ok (m.Request q) → IsSent bytes H → (x : ℕ × List ℕ) → registered q.device (counted H) ≡ Some x → PlanOk ρ H (centre.rule_plan k bytes q (counted H))
+  rule-ok bytes q k reads sent x has =
+      let C = counted H in
+      let d = q.device in
+      let n = q.number in
+      let g = ruled d C in
+      let P = λ (z : Result Bool CentreRefusal). PlanOk ρ H (centre.rule_act k bytes q C z) in
+      let asked : note_of d n C ≡ Some bytes = genuine-at bytes (m.Request q) H C (i.sents bytes sent) reads in
+      chosen P (nat_lt n g || (n == 0)) _ _
+      (λ _. no-ok (no.Old g) tt)
+      (λ old.
+      let parts = or_false (nat_lt n g) (n == 0) old in
+      let low : g ≤ n = ltb-false n g parts.0 in
+      let some : n ≡ 0 → ⊥ = eqb-false n 0 parts.1 in
+      chosen P (n == g) _ _
+      (λ same.
+      let is : n ≡ g = eqb-true n g same in
+      chosen P (bytes_eq (centre.stored_note (last_ruling d C)) bytes) (Ok true) (Err (no.Changed g))
+      (λ _. repeat-ok d n k (omega arith) (last_ruling d C) refl (stored_reply d C) refl)
+      (λ t. absurd (true≢false (sym (stored-same bytes q reads sent is (omega arith)) ∙ t))))
+      (λ not_same.
+      let apart : n ≡ g → ⊥ = eqb-false n g not_same in
+      chosen P (nat_lt (g + 1) n) (Err (no.Ahead g)) (Ok false)
+      (λ t. absurd (let up = ltb-true (g + 1) n t in let l = link ρ d C i.good in let le = note-le ρ d n bytes C i.good asked in omega arith))
+      (λ ahead. let high : n ≤ g + 1 = ltb-false (g + 1) n ahead in new-ok bytes q k reads asked (omega arith) x has)))
+
+  -- == a Done ==
+
+  settle-ok : (q : DoneMsg) (bytes : List ℕ) → read bytes ≡ Ok (m.Done q) → IsSent bytes H → PlanOk ρ H (centre.settle_act q.device q.number (centre.settle_answer (settled q.device (counted H)) (ruled q.device (counted H)) q.number))
+  settle-ok q bytes reads sent =
+      let C = counted H in
+      let d = q.device in
+      let n = q.number in
+      let P = λ (z : Result (Option ℕ) CentreRefusal). PlanOk ρ H (centre.settle_act d n z) in
+      let applied : (v : Verdict) × (applied_of d n C ≡ Some v) = genuine-at bytes (m.Done q) H C (i.sents bytes sent) reads in
+      chosen P (nat_le n (settled d C)) _ _
+      (λ _. record { sane = tt; plain = refl; no_up = λ l k h. refl; fit = λ x h. none-some h; keeps = λ j. j })
+      (λ new. chosen P (n == ruled d C) (Ok (Some n)) (Err (no.Ahead (ruled d C)))
+      (λ same.
+      let is : n ≡ ruled d C = eqb-true n (ruled d C) same in
+      let note = applied-asked ρ d n applied.0 C i.good applied.1 in
+      ok-made ρ H (r.Settled d n false) (c.Settled d n) refl tt (λ l k h. absurd (cc)) (record {
+        fits = record { new = leb-false n (settled d C) new; known = omega arith; v = applied.0; applied_as = applied.1 };
+        on = on;
+        range = (note-reads ρ d n note.0 C i.good note.1).range;
+        sure = tt;
+      }))
+      (λ t. no-ok (no.Ahead (ruled d C)) (absurd (
+      let l = link ρ d C i.good in
+      let up = leb-false n (settled d C) new in
+      let le = applied-le ρ d n applied.0 C i.good applied.1 in
+      let apart : n ≡ ruled d C → ⊥ = eqb-false n (ruled d C) t in
+      omega arith))))
+
+  pub centre-ok : (k : ℕ) (bytes : List ℕ) (x : Result Message Unread) → read bytes ≡ x → IsKnown bytes x Centre H → PlanOk ρ H (centre.centre_take k bytes x (counted H))
+  centre-ok k bytes (Ok (m.Request q)) reads known = keyed (registered q.device (counted H)) refl
+    where
+      keyed : (w : Option (ℕ × List ℕ)) → registered q.device (counted H) ≡ w → PlanOk ρ H (centre.request_plan k bytes q w (counted H))
+      keyed None has = no-ok (no.UnknownDevice q.device) tt
+      keyed (Some x) has = chosen (PlanOk ρ H) (has_code x.1 bytes) _ _
+          (λ t. rule-ok bytes q k reads (known x has t) x has)
+          (λ _. no-ok no.BadCode tt)
+  centre-ok k bytes (Ok (m.Done q)) reads known = keyed (registered q.device (counted H)) refl
+    where
+      keyed : (w : Option (ℕ × List ℕ)) → registered q.device (counted H) ≡ w → PlanOk ρ H (centre.done_plan bytes q w (settled q.device (counted H)) (ruled q.device (counted H)))
+      keyed None has = no-ok (no.UnknownDevice q.device) tt
+      keyed (Some x) has = chosen (PlanOk ρ H) (has_code x.1 bytes) _ _
+          (λ t. settle-ok q bytes reads (known x has t))
+          (λ _. no-ok no.BadCode tt)
+  centre-ok k bytes (Ok (m.Reply p)) reads known = no-ok (no.Unread unread.Tag) tt
+  centre-ok k bytes (Ok (m.Debit p)) reads known = no-ok (no.Unread unread.Tag) tt
+  centre-ok k bytes (Ok (m.Release x)) reads known = no-ok (no.Unread unread.Tag) tt
+  centre-ok k bytes (Err x) reads known = no-ok (no.Unread x) tt
+
+  pub reconcile-ok : (d sum : ℕ) (w : Option (ℕ × List ℕ)) → PlanOk ρ H (centre.reconcile_plan d sum w (counted H))
+  reconcile-ok d sum None = no-ok (no.UnknownDevice d) tt
+  reconcile-ok d sum (Some x) = record { sane = tt; plain = refl; no_up = λ l k h. refl; fit = λ y h. none-some h; keeps = λ j. j }

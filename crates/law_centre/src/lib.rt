@@ -1,0 +1,2 @@
+//! The plans of the centre keep a good list.
+#![tactic(auto)]

@@ -1,0 +1,2 @@
+//! The plans of a device keep a good list.
+#![tactic(auto)]

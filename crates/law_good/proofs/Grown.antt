@@ -1,0 +1,354 @@
+-- What holds of every history, and that each kind of entry keeps it. The counted commits are a good list; an open commit would
+-- fit them, and its node is off; each message that was sent reads as one that the counted commits vouch for; and the entries
+-- that tell of a mark, a print or an acceptance have what they rest on. At an Up the open commit counts or not: either way the
+-- list stays good, and what other nodes' open commits rest on stays too.
+use Rattle.std.proofs.Common.{◌≡◌, ℕ, ℤ, ◌+◌, ◌<◌, ◌^◌, Bool, true, false, List, [], ◌∷◌, Option, Some, None, Ok, cond, refl, sym, ap, subst, ◌∙◌, true≢false, ◌⊎◌, inl, inr, ⊎_elim}
+use Rattle.std.specs.Prelude.{◌==◌}
+use Rattle.std.proofs.lemmas.Bool.{eqb-true, cases_Bool}
+use Rattle.bench_base.specs.declared.words.Node.{Node}
+use Rattle.bench_base.specs.declared.words.Node.TheVariants.{Device, Centre, Host, Verifier}
+use Rattle.bench_base.specs.declared.words.Verdict.{Verdict}
+use Rattle.bench_base.specs.declared.ledger.Commit.{Commit}
+use Rattle.bench_base.specs.declared.ledger.Commit.TheVariants.{Held, Accepted}
+use Rattle.bench_base.specs.declared.ledger.Entry.{Entry}
+use Rattle.bench_base.specs.declared.ledger.Entry.TheVariants as e
+use Rattle.bench_base.specs.Rules.{Rules}
+use Rattle.bench_base.specs.Nodes.{same_node, node_of}
+use Rattle.bench_base.specs.Ranges.{IsDay, IsDevice, InRange}
+use Rattle.bench_base.specs.Kinds.{is_granted}
+use Rattle.bench_base.specs.Ledger.{Ledger, day_in, IsSent, IsReleased, IsReleasedAs, IsPrinted, is_on, count_of, torn_of, at_up, counted}
+use Rattle.bench_base.specs.Jobs.{held_of, begun}
+use Rattle.psd_wire.specs.declared.message.ReplyMsg.{ReplyMsg}
+use Rattle.psd_wire.specs.declared.message.Message.{Message}
+use Rattle.psd_wire.specs.declared.message.Message.TheVariants as m
+use Rattle.psd_wire.specs.Grammar.{read}
+use Rattle.ledger_terms.specs.Requests.{request_in, note_of}
+use Rattle.ledger_terms.specs.Devices.{applied_of}
+use Rattle.ledger_terms.specs.InFlight.{ruling_of}
+use Rattle.ledger_terms.specs.Franking.{marked}
+use Rattle.ledger_lawful.specs.Lawful.{Always, Releases, PrintedOnce}
+use Rattle.law_good.proofs.Basics.{some-same, ok-same}
+use Rattle.law_good.proofs.Kept.{note-kept, ruling-kept, applied-kept, begun-kept}
+use Rattle.law_good.proofs.Good.{Fits, Good}
+use Rattle.law_good.proofs.Frame.{frame}
+
+-- == nodes ==
+
+pub same_node-true : (m n : Node) → same_node m n ≡ true → m ≡ n
+same_node-true (Device d) (Device e) h = ap Device (eqb-true d e h)
+same_node-true (Device d) _ h = absurd (true≢false (sym h))
+same_node-true Centre Centre h = refl
+same_node-true Centre _ h = absurd (true≢false (sym h))
+same_node-true Host Host h = refl
+same_node-true Host _ h = absurd (true≢false (sym h))
+same_node-true Verifier Verifier h = refl
+same_node-true Verifier _ h = absurd (true≢false (sym h))
+
+-- a node that is on and a node that is off are two
+apart : (m n : Node) (H : Ledger) → is_on m H ≡ true → is_on n H ≡ false → same_node m n ≡ false
+apart m n H on off = ⊎_elim
+    (λ (h : same_node m n ≡ true). absurd (true≢false (sym on ∙ (ap (λ x. is_on x H) (same_node-true m n h) ∙ off))))
+    (λ (h : same_node m n ≡ false). h)
+    (cases_Bool (same_node m n))
+
+-- == messages that the commits vouch for ==
+
+pub record GenuineReply (p : ReplyMsg) (C : List Commit) : Type 0 where
+  pub note : List ℕ
+  pub ruled_as : ruling_of p.device p.number C ≡ Some (p.verdict, note)
+  pub kind : p.kind ≡ (request_in note).kind
+  pub amount : is_granted p.verdict ≡ true → p.amount ≡ (request_in note).amount
+
+-- a Request was asked so, a Reply was ruled so, a Done was applied, a Debit is for one of the devices and a class of 16 bits, and a Release carries a mark that was released
+abbrev pub GenuineAs : List ℕ → Message → Ledger → List Commit → Type 0
+GenuineAs bytes (m.Request q) H C = note_of q.device q.number C ≡ Some bytes
+GenuineAs bytes (m.Reply p) H C = GenuineReply p C
+GenuineAs bytes (m.Done q) H C = (v : Verdict) × (applied_of q.device q.number C ≡ Some v)
+GenuineAs bytes (m.Debit q) H C = IsDevice q.device × (q.class < 2 ^ 16)
+GenuineAs bytes (m.Release x) H C = IsReleased x H
+
+pub record Genuine (bytes : List ℕ) (H : Ledger) (C : List Commit) : Type 0 where
+  pub what : Message
+  pub reads : read bytes ≡ Ok what
+  pub vouched : GenuineAs bytes what H C
+
+-- by whatever message the bytes read as
+pub genuine-at : (bytes : List ℕ) (x : Message) (H : Ledger) (C : List Commit) → Genuine bytes H C → read bytes ≡ Ok x → GenuineAs bytes x H C
+genuine-at bytes x H C g reads = subst (λ (y : Message). GenuineAs bytes y H C) (ok-same (sym g.reads ∙ reads)) g.vouched
+
+pub released-kept : (x : List ℕ) (k : Entry) (H : Ledger) → IsReleased x H → IsReleased x (k ∷ H)
+released-kept x (e.Released d p y) H h = inr h
+released-kept x _ H h = h
+
+pub reply-kept : (p : ReplyMsg) (c : Commit) (C : List Commit) → GenuineReply p C → GenuineReply p (c ∷ C)
+reply-kept p c C g = record { note = g.note; ruled_as = ruling-kept p.device p.number (p.verdict, g.note) c C g.ruled_as; kind = g.kind; amount = g.amount }
+
+as-commit : (bytes : List ℕ) (x : Message) (H : Ledger) (c : Commit) (C : List Commit) → GenuineAs bytes x H C → GenuineAs bytes x H (c ∷ C)
+as-commit bytes (m.Request q) H c C g = note-kept q.device q.number bytes c C g
+as-commit bytes (m.Reply p) H c C g = reply-kept p c C g
+as-commit bytes (m.Done q) H c C g = (g.0, applied-kept q.device q.number g.0 c C g.1)
+as-commit bytes (m.Debit q) H c C g = g
+as-commit bytes (m.Release x) H c C g = g
+
+as-entry : (bytes : List ℕ) (x : Message) (k : Entry) (H : Ledger) (C : List Commit) → GenuineAs bytes x H C → GenuineAs bytes x (k ∷ H) C
+as-entry bytes (m.Request q) k H C g = g
+as-entry bytes (m.Reply p) k H C g = g
+as-entry bytes (m.Done q) k H C g = g
+as-entry bytes (m.Debit q) k H C g = g
+as-entry bytes (m.Release x) k H C g = released-kept x k H g
+
+pub genuine-commit : (bytes : List ℕ) (H : Ledger) (c : Commit) (C : List Commit) → Genuine bytes H C → Genuine bytes H (c ∷ C)
+genuine-commit bytes H c C g = record { what = g.what; reads = g.reads; vouched = as-commit bytes g.what H c C g.vouched }
+
+pub genuine-entry : (bytes : List ℕ) (k : Entry) (H : Ledger) (C : List Commit) → Genuine bytes H C → Genuine bytes (k ∷ H) C
+genuine-entry bytes k H C g = record { what = g.what; reads = g.reads; vouched = as-entry bytes g.what k H C g.vouched }
+
+-- == what a commit rests on beside the commits: a mark that is held or accepted was released ==
+
+abbrev pub Sure : Commit → Ledger → Type 0
+Sure (Held j x) H = IsReleased x H
+Sure (Accepted d p s) H = IsReleasedAs d p H
+Sure c H = Unit {0}
+
+-- the newest counted commit has it
+abbrev pub NewestSure : Ledger → List Commit → Type 0
+NewestSure H [] = Unit {0}
+NewestSure H (c ∷ C) = Sure c H
+
+released_as-kept : (d p : ℕ) (k : Entry) (H : Ledger) → IsReleasedAs d p H → IsReleasedAs d p (k ∷ H)
+released_as-kept d p (e.Released f q y) H h = inr h
+released_as-kept d p _ H h = h
+
+sure-kept : (c : Commit) (k : Entry) (H : Ledger) → Sure c H → Sure c (k ∷ H)
+sure-kept (Held j x) k H h = released-kept x k H h
+sure-kept (Accepted d p s) k H h = released_as-kept d p k H h
+sure-kept _ k H h = tt
+
+newest-kept : (k : Entry) (H : Ledger) (C : List Commit) → NewestSure H C → NewestSure (k ∷ H) C
+newest-kept k H [] h = tt
+newest-kept k H (c ∷ C) h = sure-kept c k H h
+
+-- == the invariant ==
+
+-- what the newest entry tells of, and the newest counted commit, have what they rest on
+pub record Told (P : Ledger) : Type 0 where
+  pub releases : Releases P
+  pub prints : PrintedOnce P
+  pub sure : NewestSure P (counted P)
+
+-- an open commit: its node is off, and counting it next would do no harm
+pub record OpenFits (ρ : Rules) (n : Node) (c : Commit) (on : Bool) (H : Ledger) (C : List Commit) : Type 0 where
+  pub node : node_of c ≡ n
+  pub off : on ≡ false
+  pub fits : Fits ρ c C
+  pub range : InRange c
+  pub sure : Sure c H
+
+abbrev pub Opens : Rules → Ledger → Type 0
+Opens ρ H = (n : Node) (c : Commit) → torn_of n H ≡ Some c → OpenFits ρ n c (is_on n H) H (counted H)
+
+abbrev pub Sents : Ledger → Type 0
+Sents H = (bytes : List ℕ) → IsSent bytes H → Genuine bytes H (counted H)
+
+abbrev pub Printeds : Ledger → Type 0
+Printeds H = (j : ℕ) → IsPrinted j H → begun j (counted H) ≡ true
+
+abbrev pub Dated : Ledger → Type 0
+Dated H = (t : ℤ) → day_in H ≡ Some t → IsDay t
+
+pub record Inv (ρ : Rules) (H : Ledger) : Type 0 where
+  pub good : Good ρ (counted H)
+  pub opens : Opens ρ H
+  pub sents : Sents H
+  pub told : Always Told H
+  pub printed : Printeds H
+  pub dated : Dated H
+
+pub now : {A : Type 0} (P : List A → Type 0) (xs : List A) → Always P xs → P xs
+now P [] h = h
+now P (x ∷ xs) h = h.0
+
+none-some : {A : Type 0} {a : A} {P : Type 0} → None ≡ Some a → P
+none-some e = absurd (cc)
+
+module _ (ρ : Rules) where
+  pub inv-none : Inv ρ []
+  inv-none = record { good = tt; opens = λ n c h. none-some h; sents = λ x h. absurd h; told = record { releases = tt; prints = tt; sure = tt }; printed = λ j h. absurd h; dated = λ t h. none-some h }
+
+  -- an entry that changes no more than what is told leaves open commits as they are
+  open-kept : (k : Entry) (H : Ledger) (n : Node) (c : Commit) (on : Bool) → OpenFits ρ n c on H (counted H) → OpenFits ρ n c on (k ∷ H) (counted H)
+  open-kept k H n c on o = record { node = o.node; off = o.off; fits = o.fits; range = o.range; sure = sure-kept c k H o.sure }
+
+  sure-of : (k : Entry) (H : Ledger) → Inv ρ H → NewestSure (k ∷ H) (counted H)
+  sure-of k H i = newest-kept k H (counted H) (now Told H i.told).sure
+
+  pub inv-day : (H : Ledger) (t : ℤ) → IsDay t → Inv ρ H → Inv ρ (e.Day t ∷ H)
+  inv-day H t day i = record {
+    good = i.good;
+    opens = λ n c h. open-kept (e.Day t) H n c (is_on n H) (i.opens n c h);
+    sents = λ x h. genuine-entry x (e.Day t) H (counted H) (i.sents x h);
+    told = (record { releases = tt; prints = tt; sure = sure-of (e.Day t) H i }, i.told);
+    printed = i.printed;
+    dated = λ z h. subst IsDay (some-same h) day;
+  }
+
+  pub inv-rates : (H : Ledger) (text : List ℕ) → Inv ρ H → Inv ρ (e.Rates text ∷ H)
+  inv-rates H text i = record {
+    good = i.good;
+    opens = λ n c h. open-kept (e.Rates text) H n c (is_on n H) (i.opens n c h);
+    sents = λ x h. genuine-entry x (e.Rates text) H (counted H) (i.sents x h);
+    told = (record { releases = tt; prints = tt; sure = sure-of (e.Rates text) H i }, i.told);
+    printed = i.printed;
+    dated = i.dated;
+  }
+
+  pub inv-released : (H : Ledger) (d p : ℕ) (x : List ℕ) → marked d p (counted H) ≡ Some x → Inv ρ H → Inv ρ (e.Released d p x ∷ H)
+  inv-released H d p x mark i = record {
+    good = i.good;
+    opens = λ n c h. open-kept (e.Released d p x) H n c (is_on n H) (i.opens n c h);
+    sents = λ y h. genuine-entry y (e.Released d p x) H (counted H) (i.sents y h);
+    told = (record { releases = mark; prints = tt; sure = sure-of (e.Released d p x) H i }, i.told);
+    printed = i.printed;
+    dated = i.dated;
+  }
+
+  pub inv-begin : (H : Ledger) → Inv ρ H → Inv ρ (e.Begin ∷ H)
+  inv-begin H i = record {
+    good = i.good;
+    opens = λ n c h. let o = i.opens n c h in record { node = o.node; off = refl; fits = o.fits; range = o.range; sure = sure-kept c e.Begin H o.sure };
+    sents = λ x h. genuine-entry x e.Begin H (counted H) (i.sents x h);
+    told = (record { releases = tt; prints = tt; sure = sure-of e.Begin H i }, i.told);
+    printed = i.printed;
+    dated = λ t h. none-some h;
+  }
+
+  either_off : (t b : Bool) → b ≡ false → cond t false b ≡ false
+  either_off true b h = refl
+  either_off false b h = h
+
+  pub inv-down : (H : Ledger) (k : Node) → Inv ρ H → Inv ρ (e.Down k ∷ H)
+  inv-down H k i = record {
+    good = i.good;
+    opens = λ n c h. let o = i.opens n c h in record { node = o.node; off = either_off (same_node k n) (is_on n H) o.off; fits = o.fits; range = o.range; sure = sure-kept c (e.Down k) H o.sure };
+    sents = λ x h. genuine-entry x (e.Down k) H (counted H) (i.sents x h);
+    told = (record { releases = tt; prints = tt; sure = sure-of (e.Down k) H i }, i.told);
+    printed = i.printed;
+    dated = i.dated;
+  }
+
+  pub inv-sent : (H : Ledger) (bytes : List ℕ) → Genuine bytes H (counted H) → Inv ρ H → Inv ρ (e.Sent bytes ∷ H)
+  inv-sent H bytes g i = record {
+    good = i.good;
+    opens = λ n c h. open-kept (e.Sent bytes) H n c (is_on n H) (i.opens n c h);
+    sents = λ x h. genuine-entry x (e.Sent bytes) H (counted H) (⊎_elim (λ (s : bytes ≡ x). subst (λ y. Genuine y H (counted H)) s g) (λ (s : IsSent x H). i.sents x s) h);
+    told = (record { releases = tt; prints = tt; sure = sure-of (e.Sent bytes) H i }, i.told);
+    printed = i.printed;
+    dated = i.dated;
+  }
+
+  pub inv-printed : (H : Ledger) (j : ℕ) (x : List ℕ) → held_of j (counted H) ≡ Some x → begun j (counted H) ≡ true → (IsPrinted j H → ⊥) → Inv ρ H → Inv ρ (e.Printed j x ∷ H)
+  inv-printed H j x held began new i = record {
+    good = i.good;
+    opens = λ n c h. open-kept (e.Printed j x) H n c (is_on n H) (i.opens n c h);
+    sents = λ y h. genuine-entry y (e.Printed j x) H (counted H) (i.sents y h);
+    told = (record { releases = tt; prints = (held, began, new); sure = sure-of (e.Printed j x) H i }, i.told);
+    printed = λ k h. ⊎_elim (λ (s : j ≡ k). subst (λ z. begun z (counted H) ≡ true) s began) (λ (s : IsPrinted k H). i.printed k s) h;
+    dated = i.dated;
+  }
+
+  pub inv-commit : (H : Ledger) (c : Commit) → Fits ρ c (counted H) → is_on (node_of c) H ≡ true → InRange c → Sure c H → Inv ρ H → Inv ρ (e.Commit c ∷ H)
+  inv-commit H c f on range sure i = record {
+    good = (f, i.good, range);
+    opens = λ n o h.
+        let was = i.opens n o h in
+        let two = apart (node_of c) n H on was.off in
+        record {
+          node = was.node;
+          off = was.off;
+          fits = frame ρ o c (counted H) (ap (same_node (node_of c)) was.node ∙ two) was.fits;
+          range = was.range;
+          sure = sure-kept o (e.Commit c) H was.sure;
+        };
+    sents = λ x h. genuine-entry x (e.Commit c) H (c ∷ counted H) (genuine-commit x H c (counted H) (i.sents x h));
+    told = (record { releases = tt; prints = tt; sure = sure-kept c (e.Commit c) H sure }, i.told);
+    printed = λ j h. begun-kept j c (counted H) (i.printed j h);
+    dated = i.dated;
+  }
+
+  torn-case : (n : Node) (c o : Commit) (t b : Bool) (w : Option Commit) (H : Ledger) → (t ≡ true → node_of c ≡ n) → Fits ρ c (counted H) → InRange c → Sure c H
+      → (w ≡ Some o → OpenFits ρ n o b H (counted H)) → cond t (Some c) w ≡ Some o → OpenFits ρ n o (cond t false b) (e.Torn (node_of c) c ∷ H) (counted H)
+  torn-case n c o true b w H same f range sure was h = record {
+    node = ap node_of (sym (some-same h)) ∙ same refl;
+    off = refl;
+    fits = subst (λ x. Fits ρ x (counted H)) (some-same h) f;
+    range = subst InRange (some-same h) range;
+    sure = sure-kept o (e.Torn (node_of c) c) H (subst (λ x. Sure x H) (some-same h) sure);
+  }
+  torn-case n c o false b w H same f range sure was h = open-kept (e.Torn (node_of c) c) H n o b (was h)
+
+  pub inv-torn : (H : Ledger) (c : Commit) → Fits ρ c (counted H) → InRange c → Sure c H → Inv ρ H → Inv ρ (e.Torn (node_of c) c ∷ H)
+  inv-torn H c f range sure i = record {
+    good = i.good;
+    opens = λ n o h. torn-case n c o (same_node (node_of c) n) (is_on n H) (torn_of n H) H (λ t. same_node-true (node_of c) n t) f range sure (i.opens n o) h;
+    sents = λ x h. genuine-entry x (e.Torn (node_of c) c) H (counted H) (i.sents x h);
+    told = (record { releases = tt; prints = tt; sure = sure-of (e.Torn (node_of c) c) H i }, i.told);
+    printed = i.printed;
+    dated = i.dated;
+  }
+
+  -- == an Up ==
+
+  -- the counted commits after an Up of k: as before, or with its open commit
+  Next : Node → Ledger → List Commit → List Commit → Type 0
+  Next k H C D = (D ≡ C) ⊎ ((c : Commit) × (D ≡ c ∷ C) × (node_of c ≡ k) × Fits ρ c C × InRange c × Sure c H)
+
+  next-if : (k : Node) (c : Commit) (t : Bool) (H : Ledger) (C : List Commit) → node_of c ≡ k → Fits ρ c C → InRange c → Sure c H → Next k H C (cond t (c ∷ C) C)
+  unfolding Next
+  next-if k c true H C n f r s = inr (c, refl, n, f, r, s)
+  next-if k c false H C n f r s = inl refl
+
+  next : (k : Node) (count : ℕ) (w : Option Commit) (b : Bool) (H : Ledger) (C : List Commit) → ((c : Commit) → w ≡ Some c → OpenFits ρ k c b H C) → Next k H C (at_up w k count C)
+  unfolding Next
+  next k count None b H C was = inl refl
+  next k count (Some c) b H C was = let o = was c refl in next-if k c (count == count_of k C + 1) H C o.node o.fits o.range o.sure
+
+  -- what holds of the commits before, and of each that they may grow to, holds after the Up
+  by-next : (k : Node) (H : Ledger) (C D : List Commit) (P : List Commit → Type 0) → P C → ((c : Commit) → node_of c ≡ k → Fits ρ c C → InRange c → Sure c H → P (c ∷ C)) → Next k H C D → P D
+  unfolding Next
+  by-next k H C D P here more x = ⊎_elim
+      (λ (h : D ≡ C). subst P (sym h) here)
+      (λ (h : (c : Commit) × (D ≡ c ∷ C) × (node_of c ≡ k) × Fits ρ c C × InRange c × Sure c H). subst P (sym h.1) (more h.0 h.2 h.3 h.4 h.5))
+      x
+
+  up-case : (k n : Node) (o : Commit) (t b : Bool) (w : Option Commit) (u : Entry) (H : Ledger) (C D : List Commit) → same_node k n ≡ t → (w ≡ Some o → OpenFits ρ n o b H C) → Next k H C D → cond t None w ≡ Some o → OpenFits ρ n o (cond t true b) (u ∷ H) D
+  up-case k n o true b w u H C D is was x h = none-some h
+  up-case k n o false b w u H C D is was x h =
+      let it = was h in
+      record {
+        node = it.node;
+        off = it.off;
+        fits = by-next k H C D (Fits ρ o) it.fits (λ c own f r s. frame ρ o c C (ap (λ y. same_node y (node_of o)) own ∙ (ap (same_node k) it.node ∙ is)) it.fits) x;
+        range = it.range;
+        sure = sure-kept o u H it.sure;
+      }
+
+  pub inv-up : (H : Ledger) (k : Node) (count : ℕ) → Inv ρ H → Inv ρ (e.Up k count ∷ H)
+  inv-up H k count i =
+      let C = counted H in
+      let D = at_up (torn_of k H) k count C in
+      let x : Next k H C D = next k count (torn_of k H) (is_on k H) H C (i.opens k) in
+      record {
+        good = by-next k H C D (Good ρ) i.good (λ c own f r s. (f, i.good, r)) x;
+        opens = λ n o h. up-case k n o (same_node k n) (is_on n H) (torn_of n H) (e.Up k count) H C D refl (i.opens n o) x h;
+        sents = λ y h. genuine-entry y (e.Up k count) H D (by-next k H C D (Genuine y H) (i.sents y h) (λ c own f r s. genuine-commit y H c C (i.sents y h)) x);
+        told = (
+          record {
+            releases = tt;
+            prints = tt;
+            sure = by-next k H C D (NewestSure (e.Up k count ∷ H)) (sure-of (e.Up k count) H i) (λ c own f r s. sure-kept c (e.Up k count) H s) x;
+          },
+          i.told,
+        );
+        printed = λ j h. by-next k H C D (λ E. begun j E ≡ true) (i.printed j h) (λ c own f r s. begun-kept j c C (i.printed j h)) x;
+        dated = i.dated;
+      }

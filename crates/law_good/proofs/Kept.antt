@@ -1,0 +1,38 @@
+-- What a later commit doesn't change: a look-up by number that found something, and what was once so.
+use Rattle.std.proofs.Common.{◌≡◌, ℕ, Bool, true, false, List, ◌∷◌, Some, cond, refl}
+use Rattle.std.specs.Prelude.{◌==◌, ◌&&◌}
+use Rattle.bench_base.specs.declared.words.Kind.TheVariants.{Enrol}
+use Rattle.bench_base.specs.declared.words.Verdict.{Verdict}
+use Rattle.bench_base.specs.declared.ledger.Commit.{Commit}
+use Rattle.bench_base.specs.declared.ledger.Commit.TheVariants.{Asked, Applied, Ruled, Began}
+use Rattle.bench_base.specs.Kinds.{same_kind, is_granted}
+use Rattle.bench_base.specs.Jobs.{begun}
+use Rattle.ledger_terms.specs.Requests.{request_in, note_of}
+use Rattle.ledger_terms.specs.Devices.{applied_of}
+use Rattle.ledger_terms.specs.Centres.{enrolled}
+use Rattle.ledger_terms.specs.InFlight.{ruling_of}
+use Rattle.law_good.proofs.Basics.{kept_first}
+
+pub note-kept : (d n : ℕ) (x : List ℕ) (c : Commit) (C : List Commit) → note_of d n C ≡ Some x → note_of d n (c ∷ C) ≡ Some x
+note-kept d n x (Asked f m r) C e = kept_first ((f == d) && (m == n)) (note_of d n C) r x e
+note-kept d n x _ C e = e
+
+pub ruling-kept : (d n : ℕ) (x : Verdict × List ℕ) (c : Commit) (C : List Commit) → ruling_of d n C ≡ Some x → ruling_of d n (c ∷ C) ≡ Some x
+ruling-kept d n x (Ruled f m v r) C e = kept_first ((f == d) && (m == n)) (ruling_of d n C) (v, r) x e
+ruling-kept d n x _ C e = e
+
+pub applied-kept : (d n : ℕ) (x : Verdict) (c : Commit) (C : List Commit) → applied_of d n C ≡ Some x → applied_of d n (c ∷ C) ≡ Some x
+applied-kept d n x (Applied f m v) C e = kept_first ((f == d) && (m == n)) (applied_of d n C) v x e
+applied-kept d n x _ C e = e
+
+pub enrolled-kept : (d c : ℕ) (k : Commit) (C : List Commit) → enrolled d C ≡ Some c → enrolled d (k ∷ C) ≡ Some c
+enrolled-kept d c (Ruled f m v r) C e = kept_first ((f == d) && (is_granted v && same_kind (request_in r).kind Enrol)) (enrolled d C) (request_in r).customer c e
+enrolled-kept d c _ C e = e
+
+pub begun-kept : (j : ℕ) (c : Commit) (C : List Commit) → begun j C ≡ true → begun j (c ∷ C) ≡ true
+begun-kept j (Began i) C h = go (i == j) (begun j C) h
+  where
+    go : (t b : Bool) → b ≡ true → cond t true b ≡ true
+    go true b e = refl
+    go false b e = e
+begun-kept j _ C h = h

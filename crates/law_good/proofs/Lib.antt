@@ -1,0 +1,5 @@
+pub mod Basics
+pub mod Frame
+pub mod Good
+pub mod Grown
+pub mod Kept

@@ -1,0 +1,2 @@
+//! The plans of the host and the verifier keep a good list.
+#![tactic(auto)]

@@ -1,0 +1,2 @@
+//! Jobs, cells and scans in a good list.
+#![tactic(auto)]

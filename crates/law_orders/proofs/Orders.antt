@@ -1,0 +1,199 @@
+-- The commits of each node are in its order: what a node's own record needs to be that of the commits.
+use Rattle.std.proofs.Common.{◌≡◌, ℕ, pos, ◌+◌, ◌-◌, ◌≤◌, true, false, List, [], ◌∷◌, Option, Some, None, refl, sym, ap, subst, ◌∙◌, ⊎_elim, true≢false, arith}
+use Rattle.std.specs.Prelude.{◌==◌, ◌&&◌, ◌-ℤ◌, is_some}
+use Rattle.std.proofs.lemmas.Bool.{cases_Bool, eqb-true, and_parts}
+use Rattle.std.proofs.lemmas.Int.{ints}
+use Rattle.bench_base.specs.declared.words.JobState.{JobState}
+use Rattle.bench_base.specs.declared.words.JobState.TheVariants.{Ordered as OrderedJob, Held as HeldJob, Closed as ClosedJob}
+use Rattle.bench_base.specs.declared.words.Verdict.{Verdict}
+use Rattle.bench_base.specs.declared.ledger.Commit.{Commit}
+use Rattle.bench_base.specs.declared.ledger.Commit.TheVariants.{Made, Asked, Applied, Debited, Registered, Opened, Deposited, Flagged, Ruled, Settled, Ordered, Held, Began, Closed, Trusted, Accepted}
+use Rattle.bench_base.specs.Rules.{Rules}
+use Rattle.bench_base.specs.Jobs.{last_job}
+use Rattle.host_jobs.specs.Answers.{is_open}
+use Rattle.psd_wire.specs.declared.message.Message.TheVariants as m
+use Rattle.psd_wire.specs.Grammar.{spell}
+use Rattle.ledger_terms.specs.Requests.{request_in}
+use Rattle.ledger_terms.specs.Sums.{loaded, refunded, ascending}
+use Rattle.ledger_terms.specs.Devices.{key_of, asked, number, applied_of, pending, unless_applied, waiting}
+use Rattle.ledger_terms.specs.Centres.{registered}
+use Rattle.ledger_terms.specs.InFlight.{ruling_of}
+use Rattle.psd_state.specs.Records as device
+use Rattle.psd_state.specs.Records.{IsRecordOf, IsOutstanding, state_of as record_of}
+use Rattle.centre_ledger.specs.Order as centre
+use Rattle.host_jobs.specs.Order as host
+use Rattle.verifier.specs.Order as verifier
+use Rattle.law_good.proofs.Basics.{some-same, some-none, either, found, none-if}
+use Rattle.law_good.proofs.Good.{Good, Fits}
+use Rattle.law_money.proofs.Links.{waits, waits-none, waits-some, applied-le}
+use Rattle.law_money.proofs.Money.{funds, ruling-asked}
+use Rattle.law_money.proofs.Asked.{pending-asked, note-reads}
+use Rattle.law_jobs.proofs.Jobs.{jobs}
+use Rattle.law_jobs.proofs.Cells.{in-cells, in-cell, unheld, oldest-closed, has-state}
+
+module _ (ρ : Rules) where
+  -- == devices ==
+
+  unless-some : (n : ℕ) (w : Option (ℕ × List ℕ)) (p : ℕ × List ℕ) → unless_applied n w ≡ Some p → w ≡ Some p
+  unless-some n None p h = h
+  unless-some n (Some q) p h = ⊎_elim
+      (λ (t : (q.0 == n) ≡ true). absurd (some-none (sym (rw t at h))))
+      (λ (t : (q.0 == n) ≡ false). rw t at h)
+      (cases_Bool (q.0 == n))
+
+  -- what is pending was asked by a device that has a key
+  pending-made : (d : ℕ) (p : ℕ × List ℕ) (C : List Commit) → Good ρ C → pending d C ≡ Some p → (key : List ℕ) × (key_of d C ≡ Some key) × (p.1 ≡ spell (m.Request (request_in p.1)) key)
+  pending-made d p [] g h = absurd (some-none (sym h))
+  pending-made d p (Made e key ∷ C) g h =
+      let was = pending-made d p C g.1 h in
+      either e d
+      (λ t y. absurd (some-none (sym was.1 ∙ subst (λ z. key_of z C ≡ None) y g.0)))
+      (λ t. (was.0, rw t was.1, was.2))
+  pending-made d p (Asked e n r ∷ C) g h = either e d
+      (λ t y.
+      let fits = subst (λ z. Fits ρ (Asked z n r) C) y g.0 in
+      let is : (n, r) ≡ p = some-same (rw t at h) in
+      (fits.made.0, fits.made.1, subst (λ (z : ℕ × List ℕ). z.1 ≡ spell (m.Request (request_in z.1)) fits.made.0) is fits.made.2))
+      (λ t. pending-made d p C g.1 (rw t at h))
+  pending-made d p (Applied e n v ∷ C) g h = either e d
+      (λ t y. pending-made d p C g.1 (unless-some n (pending d C) p (rw t at h)))
+      (λ t. pending-made d p C g.1 (rw t at h))
+  pending-made d p (_ ∷ C) g h = pending-made d p C g.1 h
+
+  asks-asked : (d : ℕ) (C : List Commit) → Good ρ C → device.asks d C ≡ asked d C
+  asks-asked d [] g = refl
+  asks-asked d (Asked f n r ∷ C) g = either f d
+      (λ t x.
+      let fits = subst (λ y. Fits ρ (Asked y n r) C) x g.0 in
+      let w = waits-none ρ (pending d C) (asked d C) (number d C) fits.idle (waits ρ d C g.1) in
+      let next = fits.next in
+      let is = asks-asked d C g.1 in
+      rw t (omega arith))
+      (λ t. rw t (asks-asked d C g.1))
+  asks-asked d (_ ∷ C) g = asks-asked d C g.1
+
+  device-follows : (d : ℕ) (c : Commit) (C : List Commit) → Fits ρ c C → Good ρ C → device.Follows d c C
+  device-follows d (Made e key) C f g = λ y. subst (λ z. key_of z C ≡ None) y f
+  device-follows d (Asked e n r) C f g = λ y.
+      let fits = subst (λ z. Fits ρ (Asked z n r) C) y f in
+      let w = waits-none ρ (pending d C) (asked d C) (number d C) fits.idle (waits ρ d C g) in
+      let is = asks-asked d C g in
+      let next = fits.next in
+      (ap is_some fits.made.1, omega arith)
+  device-follows d (Applied e n v) C f g = λ y.
+      let fits = subst (λ z. Fits ρ (Applied z n v) C) y f in
+      let w = waits-some ρ (pending d C) (asked d C) (number d C) n fits.note fits.waits (waits ρ d C g) in
+      let made = pending-made d (n, fits.note) C g fits.waits in (
+        ap is_some made.1,
+        w.0,
+        none-if (applied_of d n C) (λ x o. let le = applied-le ρ d n x C g o in omega arith),
+        record { note = fits.note; ruling = fits.ruled_as; request = ruling-asked ρ d n (v, fits.note) C g fits.ruled_as },
+      )
+  device-follows d (Debited e p a k t v) C f g = λ y. let fits = subst (λ z. Fits ρ (Debited z p a k t v) C) y f in ap is_some fits.made.1
+  device-follows d (Registered e o key) C f g = λ y. subst (λ z. registered z C ≡ None) y f
+  device-follows d (Ruled e n v r) C f g = λ y.
+      let fits = subst (λ z. Fits ρ (Ruled z n v r) C) y f in
+      let next = fits.next in
+      (ap is_some fits.known.1, omega arith, fits.verdict)
+  device-follows d _ C f g = tt
+
+  pub device-order : (C : List Commit) → Good ρ C → (d : ℕ) → device.InOrder d C
+  device-order [] g d = tt
+  device-order (c ∷ C) g d = (device-follows d c C g.0 g.1, device-order C g.1 d)
+
+  outstanding : (d : ℕ) (key : List ℕ) (C : List Commit) → Good ρ C → key_of d C ≡ Some key → (w : Option (ℕ × List ℕ)) → pending d C ≡ w → IsOutstanding key (waiting w) w
+  outstanding d key C g has None at = refl
+  outstanding d key C g has (Some p) at =
+      let made = pending-made d p C g at in
+      let it = note-reads ρ d p.0 p.1 C g (pending-asked ρ d p C g at) in
+      let same : made.0 ≡ key = some-same (sym made.1 ∙ has) in
+      let text : p.1 ≡ spell (m.Request (request_in p.1)) key = subst (λ z. p.1 ≡ spell (m.Request (request_in p.1)) z) same made.2 in
+      λ i. Some (sym it.number i, text i)
+
+  whole : (loads spent cleared : ℕ) → spent + cleared ≤ loads → pos (loads - (spent + cleared)) ≡ pos loads -ℤ pos spent -ℤ pos cleared
+  whole loads spent cleared h = omega (arith, ints)
+
+  -- a device that was made has the record that follows from the commits
+  pub device-record : (C : List Commit) → Good ρ C → (d : ℕ) (key : List ℕ) → key_of d C ≡ Some key → IsRecordOf (record_of d key C) d C
+  device-record C g d key has = record {
+    made = has;
+    state = refl;
+    descending = whole (loaded d C) (ascending d C) (refunded d C) (funds ρ d C g).covered;
+    outstanding = outstanding d key C g has (pending d C) refl;
+  }
+
+  -- == the centre ==
+
+  ruled-registered : (d n : ℕ) (x : Verdict × List ℕ) (C : List Commit) → Good ρ C → ruling_of d n C ≡ Some x → (o : ℕ × List ℕ) × (registered d C ≡ Some o)
+  ruled-registered d n x [] g h = absurd (some-none (sym h))
+  ruled-registered d n x (Ruled f k v r ∷ C) g h = ⊎_elim
+      (λ (t : (((f == d) && (k == n)) ≡ true) × ((v, r) ≡ x)).
+      let p = and_parts (f == d) (k == n) t.0 in
+      let fits = subst (λ z. Fits ρ (Ruled z k v r) C) (eqb-true f d p.0) g.0 in
+      fits.known)
+      (λ (o : ruling_of d n C ≡ Some x). ruled-registered d n x C g.1 o)
+      (found ((f == d) && (k == n)) (ruling_of d n C) (v, r) x h)
+  ruled-registered d n x (Registered f o key ∷ C) g h =
+      let was = ruled-registered d n x C g.1 h in
+      either f d
+      (λ t y. absurd (some-none (sym was.1 ∙ subst (λ z. registered z C ≡ None) y g.0)))
+      (λ t. (was.0, rw t was.1))
+  ruled-registered d n x (_ ∷ C) g h = ruled-registered d n x C g.1 h
+
+  applied-ruled : (d n : ℕ) (v : Verdict) (C : List Commit) → Good ρ C → applied_of d n C ≡ Some v → (x : Verdict × List ℕ) × (ruling_of d n C ≡ Some x)
+  applied-ruled d n v [] g h = absurd (some-none (sym h))
+  applied-ruled d n v (Applied f k w ∷ C) g h = ⊎_elim
+      (λ (t : (((f == d) && (k == n)) ≡ true) × (w ≡ v)).
+      let p = and_parts (f == d) (k == n) t.0 in
+      let fits = subst (λ z. Fits ρ (Applied z k w) C) (eqb-true f d p.0) g.0 in
+      ((w, fits.note), subst (λ z. ruling_of d z C ≡ Some (w, fits.note)) (eqb-true k n p.1) fits.ruled_as))
+      (λ (o : applied_of d n C ≡ Some v). applied-ruled d n v C g.1 o)
+      (found ((f == d) && (k == n)) (applied_of d n C) w v h)
+  applied-ruled d n v (Ruled f k w r ∷ C) g h = let it = applied-ruled d n v C g.1 h in (it.0, Rattle.law_good.proofs.Kept.ruling-kept d n it.0 (Ruled f k w r) C it.1)
+  applied-ruled d n v (_ ∷ C) g h = applied-ruled d n v C g.1 h
+
+  centre-follows : (c : Commit) (C : List Commit) → Fits ρ c C → Good ρ C → centre.Follows c C
+  centre-follows (Registered d o key) C f g = f
+  centre-follows (Opened w) C f g = f
+  centre-follows (Deposited w n a) C f g = f.known
+  centre-follows (Flagged w s) C f g = f
+  centre-follows (Ruled d n v r) C f g = let next = f.next in (ap is_some f.known.1, omega arith, f.verdict)
+  centre-follows (Settled d n) C f g =
+      let x = applied-ruled d n f.v C g f.applied_as in
+      ap is_some (ruled-registered d n x.0 C g x.1).1
+  centre-follows _ C f g = tt
+
+  pub centre-order : (C : List Commit) → Good ρ C → centre.InOrder C
+  centre-order [] g = tt
+  centre-order (c ∷ C) g = (centre-follows c C g.0 g.1, centre-order C g.1)
+
+  -- == the host and the verifier ==
+
+  host-follows : (c : Commit) (C : List Commit) → Fits ρ c C → Good ρ C → host.Follows c C
+  host-follows (Ordered j d p a k) C f g =
+      (f.next, λ le. let s = has-state ρ (last_job C - 1023) C g (omega arith) (omega arith) in s.1 ∙ ap (λ (z : JobState). Some z) (oldest-closed ρ C g f.room le s.0 s.1))
+  host-follows (Held j x) C f g =
+      let it = (jobs ρ C g).open_is f.at.device j f.open_is in
+      (in-cells j C (in-cell ρ j OrderedJob C g it.state ordered-closed), unheld ρ j C g it.state)
+    where
+      ordered-closed : OrderedJob ≡ ClosedJob → ⊥
+      ordered-closed e = cc
+  host-follows (Began j) C f g = in-cells j C (in-cell ρ j HeldJob C g f held-closed)
+    where
+      held-closed : HeldJob ≡ ClosedJob → ⊥
+      held-closed e = cc
+  host-follows (Closed j) C f g = in-cells j C (in-cell ρ j f.0 C g f.1 (λ e. true≢false (sym f.2 ∙ ap (λ (z : JobState). is_open (Some z)) e)))
+  host-follows _ C f g = tt
+
+  pub host-order : (C : List Commit) → Good ρ C → host.InOrder C
+  host-order [] g = tt
+  host-order (c ∷ C) g = (host-follows c C g.0 g.1, host-order C g.1)
+
+  verifier-follows : (c : Commit) (C : List Commit) → Fits ρ c C → verifier.Follows c C
+  verifier-follows (Trusted d key) C f = f
+  verifier-follows (Accepted d p s) C f = (ap is_some f.known.1, f.new)
+  verifier-follows _ C f = tt
+
+  pub verifier-order : (C : List Commit) → Good ρ C → verifier.InOrder C
+  verifier-order [] g = tt
+  verifier-order (c ∷ C) g = (verifier-follows c C g.0, verifier-order C g.1)

@@ -1,0 +1,2 @@
+//! A good list is in the order of each node.
+#![tactic(auto)]

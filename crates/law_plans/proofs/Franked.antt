@@ -1,0 +1,182 @@
+-- The marks of debits: each fits its fields and reads as a mark of its device and piece; a piece has one mark; and the kept
+-- mark is that of the last piece.
+use Rattle.std.proofs.Common.{◌≡◌, ℕ, ℤ, ◌<◌, ◌≤◌, ◌^◌, Bool, true, false, List, [], ◌∷◌, Option, Some, None, Ok, refl, sym, ap, subst, ◌∙◌, ⊎_elim, arith}
+use Rattle.std.specs.Prelude.{◌==◌, ◌&&◌, if◌then◌else◌}
+use Rattle.std.proofs.lemmas.Bool.{eqb-true, cases_Bool, eq-eqb, and_parts}
+use Rattle.bench_base.specs.declared.words.Kind.TheVariants.{Enrol}
+use Rattle.bench_base.specs.declared.ledger.Commit.{Commit}
+use Rattle.bench_base.specs.declared.ledger.Commit.TheVariants.{Made, Applied, Debited, Registered}
+use Rattle.bench_base.specs.Rules.{Rules}
+use Rattle.bench_base.specs.Ranges.{IsDevice, IsWord}
+use Rattle.bench_base.specs.Kinds.{is_granted, same_kind}
+use Rattle.indicium.specs.declared.Mark.{Mark}
+use Rattle.indicium.specs.Marks as marks
+use Rattle.indicium.specs.Marks.{read_mark}
+use Rattle.indicium.proofs.Readings as readings
+use Rattle.ledger_terms.specs.Requests.{note_of, in_note, request_of}
+use Rattle.ledger_terms.specs.Sums.{ascending, pieces}
+use Rattle.ledger_terms.specs.Centres.{registered, origin_in}
+use Rattle.ledger_terms.specs.Devices.{key_of, applied_kind, origin, customer}
+use Rattle.ledger_terms.specs.Franking.{key_or_none, mark_after, indicium_after, kept, marked}
+use Rattle.ledger_terms.specs.Rulings.{buys_limit}
+use Rattle.ledger_lawful.specs.Editions.{IsCarried}
+use Rattle.law_good.proofs.Basics.{some-same, some-none, either, found, first_of-none}
+use Rattle.law_good.proofs.Good.{Good, Fits}
+use Rattle.law_money.proofs.Money.{funds}
+use Rattle.law_money.proofs.Asked.{note-reads}
+use Rattle.law_plans.proofs.Whole.{whole-mark}
+
+-- today's rules keep each sum within a field of 32 bits
+pub total-word : (ρ : Rules) → IsCarried ρ → ρ.total < 2 ^ 32
+total-word ρ c =
+    let le : ρ.total ≤ buys_limit 1 = subst (λ v. ρ.total ≤ buys_limit v) c.version c.total in
+    omega arith
+
+pub device-word : (d : ℕ) → IsDevice d → IsWord d
+device-word d h = omega arith
+
+pub record MarkOf (d p : ℕ) (x : List ℕ) : Type 0 where
+  pub mark_is : Mark
+  pub code : List ℕ
+  pub reads : read_mark x ≡ Ok (mark_is, code)
+  pub device : mark_is.device ≡ d
+  pub piece : mark_is.piece ≡ p
+  pub range : IsDevice d × IsWord p
+
+module _ (ρ : Rules) where
+  -- == ranges of what a device holds ==
+
+  pub pieces-le : (d : ℕ) (C : List Commit) → Good ρ C → pieces d C ≤ ascending d C
+  pieces-le d [] g = omega arith
+  pieces-le d (Debited e p a k t v ∷ C) g =
+      let le = pieces-le d C g.1 in
+      either e d
+      (λ s y. let fits = subst (λ z. Fits ρ (Debited z p a k t v) C) y g.0 in let low = fits.low in rw s (omega arith))
+      (λ s. rw s le)
+  pieces-le d (_ ∷ C) g = pieces-le d C g.1
+
+  origin-registered : (d : ℕ) (x : ℕ × List ℕ) (C : List Commit) → Good ρ C → registered d C ≡ Some x → IsWord x.0
+  origin-registered d x [] g h = absurd (some-none (sym h))
+  origin-registered d x (Registered e o k ∷ C) g h = either e d
+      (λ t y. let is : (o, k) ≡ x = some-same (rw t at h) in subst (λ (z : ℕ × List ℕ). IsWord z.0) is g.2.1)
+      (λ t. origin-registered d x C g.1 (rw t at h))
+  origin-registered d x (_ ∷ C) g h = origin-registered d x C g.1 h
+
+  origin-of : (o : Option (ℕ × List ℕ)) → ((x : ℕ × List ℕ) → o ≡ Some x → IsWord x.0) → IsWord (origin_in o)
+  origin-of None f = omega arith
+  origin-of (Some x) f = f x refl
+
+  pub registered-word : (d : ℕ) (C : List Commit) → Good ρ C → IsWord (origin_in (registered d C))
+  registered-word d C g = origin-of (registered d C) (λ x h. origin-registered d x C g h)
+
+  pub origin-word : (d : ℕ) (C : List Commit) → Good ρ C → IsWord (origin d C)
+  origin-word d C g = go (applied_kind Enrol d C) (registered-word d C g)
+    where
+      go : (t : Bool) → IsWord (origin_in (registered d C)) → IsWord (if t then origin_in (registered d C) else 0)
+      go true h = h
+      go false h = omega arith
+
+  customer-asked : (d n : ℕ) (o : Option (List ℕ)) (C : List Commit) → Good ρ C → note_of d n C ≡ o → IsWord (in_note o).customer
+  customer-asked d n None C g h = omega arith
+  customer-asked d n (Some note) C g h = (note-reads ρ d n note C g h).whole.1.1.1.1.1.1.0
+
+  pub customer-word : (d : ℕ) (C : List Commit) → Good ρ C → IsWord (customer d C)
+  customer-word d [] g = omega arith
+  customer-word d (Applied e n v ∷ C) g =
+      let here = customer-asked d n (note_of d n C) C g.1 refl in
+      let was = customer-word d C g.1 in
+      either e d
+      (λ t y. ⊎_elim
+      (λ (k : (is_granted v && same_kind (request_of d n C).kind Enrol) ≡ true). rw (t, k) here)
+      (λ (k : (is_granted v && same_kind (request_of d n C).kind Enrol) ≡ false). rw (t, k) was)
+      (cases_Bool (is_granted v && same_kind (request_of d n C).kind Enrol)))
+      (λ t. rw t was)
+  customer-word d (_ ∷ C) g = customer-word d C g.1
+
+  -- == marks ==
+
+  pub mark-fits : IsCarried ρ → (d p a k : ℕ) (t : ℤ) (v : ℕ) (C : List Commit) → Good ρ (Debited d p a k t v ∷ C) → marks.IsWhole (mark_after d p a k t v C)
+  unfolding mark_after
+  mark-fits carried d p a k t v C g =
+      let f = funds ρ d C g.1 in
+      let covered = f.covered in
+      let within = f.within in
+      let funded = g.0.funded in
+      let top = total-word ρ carried in
+      whole-mark _ g.0.version (device-word d g.2.0) g.2.1 g.2.2 (omega arith) (omega arith) g.2.4 (origin-word d C g.1) g.2.3
+
+  pub marked-le : (d p : ℕ) (x : List ℕ) (C : List Commit) → Good ρ C → marked d p C ≡ Some x → p ≤ pieces d C
+  marked-le d p x [] g h = absurd (some-none (sym h))
+  marked-le d p x (Debited f q a k t v ∷ C) g h = ⊎_elim
+      (λ (s : ((f == d) && (q == p)) ≡ true).
+      let b = and_parts (f == d) (q == p) s in
+      let is : q ≡ p = eqb-true q p b.1 in
+      let fits = subst (λ z. Fits ρ (Debited z q a k t v) C) (eqb-true f d b.0) g.0 in
+      let next = fits.next in
+      rw b.0 (omega arith))
+      (λ (s : ((f == d) && (q == p)) ≡ false).
+      let le = marked-le d p x C g.1 (rw s at h) in
+      either f d (λ t y. rw t (omega arith)) (λ t. rw t le))
+      (cases_Bool ((f == d) && (q == p)))
+  marked-le d p x (_ ∷ C) g h = marked-le d p x C g.1 h
+
+  after-mark : IsCarried ρ → (d p a k : ℕ) (t : ℤ) (v : ℕ) (C : List Commit) → Good ρ (Debited d p a k t v ∷ C) → MarkOf d p (indicium_after d p a k t v C)
+  unfolding indicium_after mark_after
+  after-mark carried d p a k t v C g = record {
+    mark_is = mark_after d p a k t v C;
+    code = _;
+    reads = readings.read-spell (mark_after d p a k t v C) (key_or_none (key_of d C)) (mark-fits carried d p a k t v C g);
+    device = refl;
+    piece = refl;
+    range = (g.2.0, g.2.1);
+  }
+
+  -- the mark of a debit reads as one of its device and piece
+  pub marked-reads : IsCarried ρ → (d p : ℕ) (x : List ℕ) (C : List Commit) → Good ρ C → marked d p C ≡ Some x → MarkOf d p x
+  marked-reads carried d p x [] g h = absurd (some-none (sym h))
+  marked-reads carried d p x (Debited f q a k t v ∷ C) g h = ⊎_elim
+      (λ (s : (((f == d) && (q == p)) ≡ true) × (indicium_after d q a k t v C ≡ x)).
+      let b = and_parts (f == d) (q == p) s.0 in
+      let g' = subst (λ z. Good ρ (Debited z q a k t v ∷ C)) (eqb-true f d b.0) g in
+      subst (λ z. MarkOf d p z) s.1 (subst (λ z. MarkOf d z (indicium_after d q a k t v C)) (eqb-true q p b.1) (after-mark carried d q a k t v C g')))
+      (λ (o : marked d p C ≡ Some x). marked-reads carried d p x C g.1 o)
+      (found ((f == d) && (q == p)) (marked d p C) (indicium_after d q a k t v C) x h)
+  marked-reads carried d p x (_ ∷ C) g h = marked-reads carried d p x C g.1 h
+
+  -- a debit is of the next piece, so its mark is the first of that piece
+  pub marked-new : (d p a k : ℕ) (t : ℤ) (v : ℕ) (C : List Commit) → Good ρ (Debited d p a k t v ∷ C) → marked d p (Debited d p a k t v ∷ C) ≡ Some (indicium_after d p a k t v C)
+  marked-new d p a k t v C g =
+      let next = g.0.next in
+      rw (eq-eqb d d refl, eq-eqb p p refl) (first_of-none (marked d p C) (Some (indicium_after d p a k t v C)) (λ x h. let le = marked-le d p x C g.1 h in omega arith))
+
+  kept-made : (d : ℕ) (k : Mark) (C : List Commit) → Good ρ C → kept d C ≡ Some k → (key : List ℕ) × (key_of d C ≡ Some key)
+  kept-made d k [] g h = absurd (some-none (sym h))
+  kept-made d k (Made e key ∷ C) g h = either e d (λ t y. (key, rw t refl)) (λ t. rw t (kept-made d k C g.1 h))
+  kept-made d k (Debited e p a c t v ∷ C) g h = either e d
+      (λ s y. let fits = subst (λ z. Fits ρ (Debited z p a c t v) C) y g.0 in fits.made)
+      (λ s. kept-made d k C g.1 (rw s at h))
+  kept-made d k (_ ∷ C) g h = kept-made d k C g.1 h
+
+  -- the kept mark is that of its piece, under the device's key
+  pub kept-marked : (d : ℕ) (k : Mark) (key : List ℕ) (C : List Commit) → Good ρ C → kept d C ≡ Some k → key_of d C ≡ Some key → marked d k.piece C ≡ Some (marks.spell k key)
+  unfolding mark_after indicium_after
+  kept-marked d k key [] g h has = absurd (some-none (sym h))
+  kept-marked d k key (Made e l ∷ C) g h has = either e d
+      (λ t y.
+      let made = kept-made d k C g.1 h in
+      let fits = subst (λ z. key_of z C ≡ None) y g.0 in
+      absurd (some-none (sym made.1 ∙ fits)))
+      (λ t. kept-marked d k key C g.1 h (rw t at has))
+  kept-marked d k key (Debited e p a c t v ∷ C) g h has = either e d
+      (λ s y.
+      let g' = subst (λ z. Good ρ (Debited z p a c t v ∷ C)) y g in
+      let is : mark_after d p a c t v C ≡ k = some-same (rw s at h) in
+      let piece : p ≡ k.piece = ap (λ (z : Mark). z.piece) is in
+      let new = marked-new d p a c t v C g' in
+      let text : indicium_after d p a c t v C ≡ marks.spell k key = ap (λ o. marks.spell (mark_after d p a c t v C) (key_or_none o)) has ∙ ap (λ (z : Mark). marks.spell z key) is in
+      subst (λ z. marked d z (Debited e p a c t v ∷ C) ≡ Some (marks.spell k key)) piece
+      (subst (λ z. marked d p (Debited z p a c t v ∷ C) ≡ Some (marks.spell k key)) (sym y) (new ∙ ap (λ (z : List ℕ). Some z) text)))
+      (λ s.
+      let was = kept-marked d k key C g.1 (rw s at h) has in
+      rw s was)
+  kept-marked d k key (_ ∷ C) g h has = kept-marked d k key C g.1 h has

@@ -1,0 +1,60 @@
+-- Only a Release has 64 bytes from its third byte on.
+use Rattle.std.proofs.Common.{◌≡◌, ℕ, Bool, true, false, List, length, drop, get_or, Option, Some, None, Result, Ok, Err, cond, refl, sym, ap, ◌∙◌, true≢false, length-drop, arith}
+use Rattle.std.specs.Prelude.{◌==◌}
+use Rattle.std.proofs.lemmas.Bool.{cases_Bool, eqb-true}
+use Rattle.bench_base.specs.declared.refusals.Unread.{Unread}
+use Rattle.indicium.specs.declared.Mark.{Mark}
+use Rattle.indicium.specs.Marks.{read_mark}
+use Rattle.psd_wire.specs.declared.message.Message.{Message}
+use Rattle.psd_wire.specs.declared.message.Message.TheVariants as m
+use Rattle.psd_wire.specs.Grammar.{read, size_of, given, by_tag, release_at, if_mark}
+use Rattle.psd_wire.proofs.Readings.{let_through, held_back}
+use Rattle.law_good.proofs.Basics.{some-same, ok-same}
+
+pub mark-long : (x : List ℕ) (found : Mark × List ℕ) → read_mark x ≡ Ok found → length x ≡ 64
+unfolding read_mark
+mark-long x found e = eqb-true _ _ (let_through _ _ _ _ e).0
+
+there : {A B : Type 0} (e : Unread) (o : Option A) (f : A → Result B Unread) (y : B) → given e o f ≡ Ok y → (a : A) × (o ≡ Some a) × (f a ≡ Ok y)
+there e None f y h = absurd (cc)
+there e (Some a) f y h = (a, refl, h)
+
+-- a test that would give another size doesn't hold
+other : {A : Type 0} (b : Bool) (x y : A) (rest : Option A) → (x ≡ y → ⊥) → cond b (Some x) rest ≡ Some y → (b ≡ false) × (rest ≡ Some y)
+other true x y rest apart h = absurd (apart (some-same h))
+other false x y rest apart h = (refl, h)
+
+apart : (a b : ℕ) → (a == b) ≡ false → a ≡ b → ⊥
+apart a b h e = true≢false (sym (ap (λ x. x == b) e ∙ same b) ∙ h)
+  where
+    same : (n : ℕ) → (n == n) ≡ true
+    same n = Rattle.std.proofs.lemmas.Bool.eq-eqb n n refl
+
+release-tag : (t : ℕ) (bytes : List ℕ) → size_of t ≡ Some 66 → by_tag t bytes ≡ release_at bytes
+unfolding size_of
+release-tag t bytes h =
+    let a = other (t == 1) 71 66 _ (apart 71 66 refl) h in
+    let b = other (t == 2) 56 66 _ (apart 56 66 refl) a.1 in
+    let c = other (t == 3) 42 66 _ (apart 42 66 refl) b.1 in
+    let d = other (t == 16) 16 66 _ (apart 16 66 refl) c.1 in
+    rw (a.0, b.0, c.0, d.0) refl
+
+marked : {A F : Type 0} (o : Result A F) (bytes : List ℕ) (x : Message) → if_mark o bytes ≡ Ok x → x ≡ m.Release bytes
+marked (Ok a) bytes x h = sym (ok-same h)
+marked (Err e) bytes x h = absurd (cc)
+
+-- a message of 66 bytes is a Release
+pub long-release : (bytes : List ℕ) (x : Message) → read bytes ≡ Ok x → length bytes ≡ 66 → x ≡ m.Release (drop 2 bytes)
+unfolding read release_at
+long-release bytes x h l =
+    let some = held_back _ _ _ _ h in
+    let version = let_through _ _ _ _ some.1 in
+    let size = there _ _ _ _ version.1 in
+    let fits = let_through _ _ _ _ size.2 in
+    let is : size.0 ≡ 66 = sym (eqb-true (length bytes) size.0 fits.0) ∙ l in
+    let tag : size_of (get_or bytes 1 0) ≡ Some 66 = size.1 ∙ ap (λ n. Some n) is in
+    marked (read_mark (drop 2 bytes)) (drop 2 bytes) x (sym (release-tag (get_or bytes 1 0) bytes tag) ∙ fits.1)
+
+-- what is a mark from the third byte on has 66 bytes
+pub mark-behind : (bytes : List ℕ) → length (drop 2 bytes) ≡ 64 → length bytes ≡ 66
+mark-behind bytes h = omega (arith, length-drop 2 bytes)

@@ -1,0 +1,4 @@
+pub mod Franked
+pub mod Lengths
+pub mod Plans
+pub mod Whole

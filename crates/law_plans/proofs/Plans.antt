@@ -1,0 +1,96 @@
+-- What a plan adds keeps the invariant, whatever reply the event gets. A plan is right where its commit fits and its node is on,
+-- where what it tells afterwards keeps the invariant, and where its answer is one that honest devices and centres give.
+use Rattle.std.proofs.Common.{◌≡◌, ℕ, ℤ, true, [], ◌++◌, Option, Some, None, refl, sym, ap, subst, ◌∙◌, ◌⊎◌, ⊎_elim}
+use Rattle.bench_base.specs.declared.words.Node.{Node}
+use Rattle.bench_base.specs.declared.ledger.Commit.{Commit}
+use Rattle.bench_base.specs.declared.events.Event.{Event}
+use Rattle.bench_base.specs.declared.events.Event.TheVariants as ev
+use Rattle.bench_base.specs.declared.events.Reply.{Reply}
+use Rattle.bench_base.specs.declared.events.Reply.TheVariants as r
+use Rattle.bench_base.specs.Rules.{Rules}
+use Rattle.bench_base.specs.Nodes.{node_of}
+use Rattle.bench_base.specs.Plans.{Plan, refuse, made}
+use Rattle.bench_base.specs.Ranges.{InRange}
+use Rattle.bench_base.specs.Cells.{is_worn}
+use Rattle.bench_base.specs.Ledger.{Ledger, counted, is_on, day_in}
+use Rattle.ledger_lawful.specs.Sane.{IsSane}
+use Rattle.ledger_moves.specs.Moves.{with_commit, with_torn, after, OtherUp, Fails, MayFail, FailsToRead, unless_worn, at_node}
+use Rattle.law_good.proofs.Basics.{some-same, some-none, chosen}
+use Rattle.law_good.proofs.Good.{Fits}
+use Rattle.law_good.proofs.Grown.{Inv, Sure, inv-commit, inv-torn, inv-up}
+
+-- the commit may be made
+pub record IsFit (ρ : Rules) (H : Ledger) (c : Commit) : Type 0 where
+  pub fits : Fits ρ c (counted H)
+  pub on : is_on (node_of c) H ≡ true
+  pub range : InRange c
+  pub sure : Sure c H
+
+pub record PlanOk (ρ : Rules) (H : Ledger) (p : Plan) : Type 0 where
+  pub sane : IsSane p.reply
+  pub plain : after p p.reply H ≡ p.after ++ with_commit p.commit H
+  pub no_up : (n : Node) (k : ℕ) → p.reply ≡ r.Up n k → p.commit ≡ None
+  pub fit : (c : Commit) → p.commit ≡ Some c → IsFit ρ H c
+  pub keeps : Inv ρ (with_commit p.commit H) → Inv ρ (p.after ++ with_commit p.commit H)
+
+none-some : {A : Type 0} {a : A} {P : Type 0} → None ≡ Some a → P
+none-some e = absurd (cc)
+
+pub ok-refuse : (ρ : Rules) (H : Ledger) (x : Reply) → after (refuse x) x H ≡ H → IsSane x → PlanOk ρ H (refuse x)
+ok-refuse ρ H x e s = record { sane = s; plain = e; no_up = λ n k h. refl; fit = λ c h. none-some h; keeps = λ i. i }
+
+-- a plan that commits and says no more than that
+pub ok-made : (ρ : Rules) (H : Ledger) (x : Reply) (c : Commit) → after (made x c []) x H ≡ with_commit (Some c) H → IsSane x → ((n : Node) (k : ℕ) → x ≡ r.Up n k → ⊥) → IsFit ρ H c → PlanOk ρ H (made x c [])
+ok-made ρ H x c e s no_up f = record { sane = s; plain = e; no_up = λ n k h. absurd (no_up n k h); fit = λ o h. subst (IsFit ρ H) (some-same h) f; keeps = λ i. i }
+
+-- a worn cell refuses what a right plan would commit
+pub ok-worn : (ρ : Rules) (H : Ledger) (p : Plan) → PlanOk ρ H p → PlanOk ρ H (unless_worn (counted H) p p.commit)
+ok-worn ρ H p ok = go p.commit
+  where
+    go : (w : Option Commit) → PlanOk ρ H (unless_worn (counted H) p w)
+    go None = ok
+    go (Some c) = chosen (PlanOk ρ H) (is_worn c (counted H)) (refuse (r.Worn (node_of c))) p (λ _. ok-refuse ρ H (r.Worn (node_of c)) refl tt) (λ _. ok)
+
+pub ok-at : (ρ : Rules) (H : Ledger) (n : Node) (p : Plan) → (is_on n H ≡ true → PlanOk ρ H p) → PlanOk ρ H (at_node n H p)
+ok-at ρ H n p f = chosen (PlanOk ρ H) (is_on n H) (unless_worn (counted H) p p.commit) (refuse (r.OffNode n)) (λ on. ok-worn ρ H p (f on)) (λ _. ok-refuse ρ H (r.OffNode n) refl tt)
+
+module _ (ρ : Rules) (H : Ledger) (i : Inv ρ H) where
+  committed : (w : Option Commit) → ((c : Commit) → w ≡ Some c → IsFit ρ H c) → Inv ρ (with_commit w H)
+  committed None f = i
+  committed (Some c) f = let h = f c refl in inv-commit ρ H c h.fits h.on h.range h.sure i
+
+  torn : (w : Option Commit) (n : Node) → ((c : Commit) → w ≡ Some c → IsFit ρ H c) → ((c : Commit) → w ≡ Some c → node_of c ≡ n) → Inv ρ (with_torn w n H)
+  torn None n f own = i
+  torn (Some c) n f own = let h = f c refl in subst (λ (k : Node). Inv ρ (with_torn (Some c) k H)) (own c refl) (inv-torn ρ H c h.fits h.range h.sure i)
+
+  failed : (p : Plan) → PlanOk ρ H p → (n : Node) → MayFail p n → Inv ρ (with_torn p.commit n H)
+  failed p ok n may = torn p.commit n ok.fit (λ c e. ⊎_elim
+      (λ (h : (k : ℕ) × (p.reply ≡ r.Up n k)). let none = ok.no_up n h.0 h.1 in absurd (some-none (sym e ∙ none)))
+      (λ (h : (x : Commit) × (p.commit ≡ Some x) × (node_of x ≡ n)). ap node_of (some-same (sym e ∙ h.1)) ∙ h.2)
+      may)
+
+  other_up : (p : Plan) (was x : Reply) → OtherUp was x H → Inv ρ (after p x H)
+  other_up p (r.Up n k) (r.Up m l) h = inv-up ρ H m l i
+  other_up p (r.Up n k) _ h = absurd h
+  other_up p _ x h = absurd h
+
+  fails : (p : Plan) → PlanOk ρ H p → (x : Reply) → Fails p x → Inv ρ (after p x H)
+  fails p ok (r.Power n) h = failed p ok n h
+  fails p ok (r.Fault n) h = failed p ok n h
+  fails p ok (r.PrinterFault j) h = committed p.commit ok.fit
+  fails p ok _ h = absurd h
+
+  unread : (p : Plan) (x : Event) (y : Reply) (day : Option ℤ) → FailsToRead x y day → Inv ρ (after p y H)
+  unread p ev.Rates r.RatesFault (Some t) h = i
+  unread p ev.Rates r.RatesFault None h = absurd h
+  unread p ev.Rates _ day h = absurd h
+  unread p _ y day h = absurd h
+
+  pub moved : (p : Plan) → PlanOk ρ H p → (x : Event) (y : Reply) → ((y ≡ p.reply) ⊎ (OtherUp p.reply y H ⊎ (Fails p y ⊎ FailsToRead x y (day_in H)))) → Inv ρ (after p y H)
+  moved p ok x y m = ⊎_elim
+      (λ (h : y ≡ p.reply). subst (λ z. Inv ρ (after p z H)) (sym h) (subst (Inv ρ) (sym ok.plain) (ok.keeps (committed p.commit ok.fit))))
+      (λ (h : OtherUp p.reply y H ⊎ (Fails p y ⊎ FailsToRead x y (day_in H))). ⊎_elim
+      (other_up p p.reply y)
+      (λ (k : Fails p y ⊎ FailsToRead x y (day_in H)). ⊎_elim (fails p ok y) (unread p x y (day_in H)) k)
+      h)
+      m

@@ -1,0 +1,5 @@
+pub mod Bytes
+pub mod Runs
+pub mod WorkedFunds
+pub mod WorkedPath
+pub mod WorkedRefusals

@@ -1,0 +1,4 @@
+pub mod Devices
+pub mod Histories
+pub mod Moves
+pub mod Tariffs

@@ -1,0 +1,206 @@
+-- What an event does: the answer and entries where nothing fails, and what else may come where storage, power or a stream fails.
+use Rattle.std.specs.Prelude.{◌≡◌, ℕ, ℤ, ◌+◌, List, [], ◌∷◌, ◌++◌, length, drop, Option, Some, None, Result, Ok, Err, ◌⊎◌, nat_lt, if◌then◌else◌}
+use Rattle.bench_base.specs.declared.words.Node.{Node}
+use Rattle.bench_base.specs.declared.words.Node.TheVariants.{Device, Centre, Host, Verifier}
+use Rattle.bench_base.specs.declared.refusals.Unread.{Unread}
+use Rattle.bench_base.specs.declared.refusals.RateRefusal.{RateRefusal}
+use Rattle.bench_base.specs.declared.refusals.DevRefusal.TheVariants as no
+use Rattle.bench_base.specs.declared.ledger.Commit.{Commit}
+use Rattle.bench_base.specs.declared.ledger.Entry.TheVariants as e
+use Rattle.bench_base.specs.declared.events.Event.{Event}
+use Rattle.bench_base.specs.declared.events.Event.TheVariants as ev
+use Rattle.bench_base.specs.declared.events.Reply.{Reply}
+use Rattle.bench_base.specs.declared.events.Reply.TheVariants as r
+use Rattle.bench_base.specs.Rules.{Rules}
+use Rattle.bench_base.specs.Nodes.{node_of}
+use Rattle.bench_base.specs.Plans.{Plan, refuse, told}
+use Rattle.bench_base.specs.Ranges.{IsWholeEvent}
+use Rattle.bench_base.specs.Cells.{is_worn}
+use Rattle.bench_base.specs.Ledger.{Ledger, day_in, rates_in, messages, message, is_on, count_of, torn_of, counted}
+use Rattle.bench_base.specs.Jobs.{job_of, held_of}
+use Rattle.bench_base.specs.Scans.{trusted}
+use Rattle.indicium.specs.Marks.{read_mark}
+use Rattle.psd_wire.specs.declared.message.Message.{Message}
+use Rattle.psd_wire.specs.declared.message.Message.TheVariants as m
+use Rattle.psd_wire.specs.Grammar.{read}
+use Rattle.ledger_terms.specs.Sums.{ascending, descending}
+use Rattle.ledger_terms.specs.Devices.{key_of, pending}
+use Rattle.ledger_terms.specs.Centres.{registered, opened, receipt, deposits, balance}
+use Rattle.psd_wire.specs.declared.message.DebitMsg.{DebitMsg}
+use Rattle.centre_ledger.specs.Answers as centre
+use Rattle.host_jobs.specs.Answers as host
+use Rattle.verifier.specs.Answers as scans
+use Rattle.ledger_moves.specs.Devices as device
+use Rattle.ledger_moves.specs.Tariffs.{Tariff, TextFault, NoToml, NoForm}
+
+-- == the bench's checks ==
+
+-- a plan whose commit finds its cell worn
+abbrev pub unless_worn : List Commit → Plan → Option Commit → Plan
+unless_worn C p None = p
+unless_worn C p (Some c) = if is_worn c C then refuse (r.Worn (node_of c)) else p
+
+-- the plan of a node that has to be on
+abbrev pub at_node : Node → Ledger → Plan → Plan
+at_node n H p = if is_on n H then unless_worn (counted H) p p.commit else refuse (r.OffNode n)
+
+-- == rates ==
+
+abbrev pub reading_plan : List ℕ → Result (ℕ × ℕ) TextFault → Plan
+reading_plan text (Err NoToml) = refuse r.RatesToml
+reading_plan text (Err NoForm) = refuse r.RatesForm
+reading_plan text (Ok x) = told (r.Rates x.0 x.1) (e.Rates text ∷ [])
+
+abbrev pub rates_plan : Tariff → List ℕ → Plan
+rates_plan τ text = if nat_lt 65536 (length text) then refuse r.RatesLength else reading_plan text (τ.reading text)
+
+abbrev pub price_by : Tariff → ℕ → ℕ → ℕ → Option (List ℕ) → Option (Result ℕ RateRefusal)
+price_by τ class grams zone None = None
+price_by τ class grams zone (Some text) = Some (τ.price text class grams zone)
+
+-- == bytes that are handed to a node ==
+
+-- a device with a key and what it holds takes bytes
+abbrev pub device_plan : Rules → ℤ → ℕ → List ℕ → Ledger → Plan
+device_plan ρ today d bytes H = at_node (Device d) H (device.device_take ρ (messages H) today d bytes (read bytes) (counted H) (key_of d (counted H)))
+
+abbrev pub centre_plan : List ℕ → Ledger → Plan
+centre_plan bytes H = at_node Centre H (centre.centre_take (messages H) bytes (read bytes) (counted H))
+
+abbrev pub host_plan : List ℕ → Ledger → Plan
+host_plan bytes H = at_node Host H (host.host_take (read bytes) (counted H))
+
+-- a message goes to the node of its tag
+abbrev pub deliver_to : Rules → ℤ → List ℕ → Result Message Unread → Ledger → Plan
+deliver_to ρ today bytes (Ok (m.Reply p)) H = device_plan ρ today p.device bytes H
+deliver_to ρ today bytes (Ok (m.Debit q)) H = device_plan ρ today q.device bytes H
+deliver_to ρ today bytes (Ok (m.Release x)) H = host_plan bytes H
+deliver_to ρ today bytes _ H = centre_plan bytes H
+
+abbrev pub deliver_plan : Rules → ℤ → ℕ → Option (List ℕ) → Ledger → Plan
+deliver_plan ρ today k None H = refuse (r.NoMessage k)
+deliver_plan ρ today k (Some bytes) H = deliver_to ρ today bytes (read bytes) H
+
+abbrev pub give_plan : Rules → ℤ → Node → List ℕ → Ledger → Plan
+give_plan ρ today (Device d) bytes H = device_plan ρ today d bytes H
+give_plan ρ today Centre bytes H = centre_plan bytes H
+give_plan ρ today Host bytes H = host_plan bytes H
+give_plan ρ today Verifier bytes H = refuse (r.OffNode Verifier)
+
+abbrev pub scan_plan : ℕ → ℤ → List ℕ → Ledger → Plan
+scan_plan n today bytes H = at_node Verifier H (scans.scan_plan n bytes today (read_mark bytes) (counted H))
+
+-- a message is scanned from its third byte on
+abbrev pub scan_sent : ℕ → ℤ → ℕ → Option (List ℕ) → Ledger → Plan
+scan_sent n today k None H = refuse (r.NoMessage k)
+scan_sent n today k (Some bytes) H = scan_plan n today (drop 2 bytes) H
+
+-- == all events ==
+
+-- the device answers before the centre
+abbrev pub reconcile_plan : ℕ → Option (List ℕ) → List Commit → Plan
+reconcile_plan d None C = device.no_device d no.Blank
+reconcile_plan d (Some key) C = centre.reconcile_plan d (ascending d C + descending d C) (registered d C) C
+
+abbrev pub on_plan : Node → Ledger → Plan
+on_plan n H = if is_on n H then refuse (r.OnAlready n) else told (r.Up n (count_of n (counted H))) (e.Up n (count_of n (counted H)) ∷ [])
+
+abbrev pub debit_by : ℕ → ℕ → ℕ → ℕ → DebitMsg
+debit_by d piece postage class = record { device = d; piece = piece; postage = postage; class = class }
+
+-- the plan of an event on a day; text is what a `rates` takes
+abbrev pub plan_on : Tariff → Rules → Ledger → Event → List ℕ → ℤ → Plan
+plan_on τ ρ H (ev.Day t) text today = told (r.Day t) (e.Day t ∷ [])
+plan_on τ ρ H ev.End text today = refuse r.End
+plan_on τ ρ H ev.Rates text today = rates_plan τ text
+plan_on τ ρ H (ev.On n) text today = on_plan n H
+plan_on τ ρ H (ev.Off n) text today = at_node n H (told (r.Down n) (e.Down n ∷ []))
+plan_on τ ρ H (ev.Cut n calls keep byte) text today = refuse (r.CutSet n)
+plan_on τ ρ H (ev.Make d key) text today = at_node (Device d) H (device.make_plan d key (key_of d (counted H)))
+plan_on τ ρ H (ev.Debit d piece postage class) text today =
+    at_node (Device d) H (device.debit_plan ρ (device.shown d piece) d (debit_by d piece postage class) today (counted H) (key_of d (counted H)))
+plan_on τ ρ H (ev.Ask d kind who a) text today = at_node (Device d) H (device.ask_plan ρ d kind who a today (messages H) (counted H) (key_of d (counted H)))
+plan_on τ ρ H (ev.Resend d) text today = at_node (Device d) H (device.resend_plan d (messages H) (key_of d (counted H)) (pending d (counted H)))
+plan_on τ ρ H (ev.Ack d) text today = at_node (Device d) H (device.ack_plan d (messages H) (counted H) (key_of d (counted H)))
+plan_on τ ρ H (ev.Status d) text today = at_node (Device d) H (device.status_plan d today (counted H) (key_of d (counted H)))
+plan_on τ ρ H (ev.Register d origin key) text today = at_node Centre H (centre.register_plan d origin key (registered d (counted H)))
+plan_on τ ρ H (ev.OpenCustomer w) text today = at_node Centre H (centre.open_plan w (opened w (counted H)))
+plan_on τ ρ H (ev.Deposit w n a) text today = at_node Centre H (centre.deposit_plan w n a (receipt w (counted H)) (deposits w (counted H)) (opened w (counted H)))
+plan_on τ ρ H (ev.Flag w flag) text today = at_node Centre H (centre.flag_plan w flag (opened w (counted H)))
+plan_on τ ρ H (ev.Balance w) text today = at_node Centre H (centre.balance_plan w (balance w (counted H)) (opened w (counted H)))
+plan_on τ ρ H (ev.Deliver k) text today = deliver_plan ρ today k (message k H) H
+plan_on τ ρ H (ev.Give n bytes) text today = give_plan ρ today n bytes H
+plan_on τ ρ H (ev.Order d piece class grams zone) text today =
+    at_node Host H (host.order_plan d piece class (host.shelf_of d (counted H)) (price_by τ class grams zone (rates_in H)))
+plan_on τ ρ H (ev.Send j) text today = at_node Host H (host.send_plan (messages H) j (host.shown_state j (counted H)) (job_of j (counted H)))
+plan_on τ ρ H (ev.Print j) text today = at_node Host H (host.print_plan j (host.shown_state j (counted H)) (held_of j (counted H)))
+plan_on τ ρ H (ev.Close j) text today = at_node Host H (host.close_plan j (host.shown_state j (counted H)))
+plan_on τ ρ H (ev.Trust d key) text today = at_node Verifier H (scans.trust_plan d key (trusted d (counted H)))
+plan_on τ ρ H (ev.ScanMsg n k) text today = scan_sent n today k (message k H) H
+plan_on τ ρ H (ev.ScanHex n bytes) text today = scan_plan n today bytes H
+plan_on τ ρ H (ev.Reconcile d) text today = at_node (Device d) H (at_node Centre H (reconcile_plan d (key_of d (counted H)) (counted H)))
+
+-- each event but `day` and `end` needs a day
+abbrev pub plan_at : Tariff → Rules → Ledger → Event → List ℕ → Option ℤ → Plan
+plan_at τ ρ H (ev.Day t) text day = told (r.Day t) (e.Day t ∷ [])
+plan_at τ ρ H ev.End text day = refuse r.End
+plan_at τ ρ H x text None = refuse r.NoDay
+plan_at τ ρ H x text (Some today) = plan_on τ ρ H x text today
+
+unfoldable pub plan : Tariff → Rules → Ledger → Event → List ℕ → Plan
+plan τ ρ H x text = plan_at τ ρ H x text (day_in H)
+
+-- the answer where nothing fails
+abbrev pub answer : Tariff → Rules → Ledger → Event → List ℕ → Reply
+answer τ ρ H x text = (plan τ ρ H x text).reply
+
+-- == entries ==
+
+abbrev pub with_commit : Option Commit → Ledger → Ledger
+with_commit None H = H
+with_commit (Some x) H = e.Commit x ∷ H
+
+abbrev pub with_torn : Option Commit → Node → Ledger → Ledger
+with_torn None n H = H
+with_torn (Some x) n H = e.Torn n x ∷ H
+
+-- the ledger after a reply to the plan: a commit that failed is open, and nothing is told; a printer that failed leaves the commit alone
+abbrev pub after : Plan → Reply → Ledger → Ledger
+after p (r.Power n) H = with_torn p.commit n H
+after p (r.Fault n) H = with_torn p.commit n H
+after p (r.Up n k) H = e.Up n k ∷ H
+after p (r.PrinterFault j) H = with_commit p.commit H
+after p r.RatesFault H = H
+after p x H = p.after ++ with_commit p.commit H
+
+-- == moves ==
+
+-- at the Up of a node with an open commit, the answer with one commit more
+abbrev pub OtherUp : Reply → Reply → Ledger → Type 0
+OtherUp (r.Up n k) (r.Up m l) H = (n ≡ m) × (l ≡ k + 1) × (x : Commit) × (torn_of n H ≡ Some x)
+OtherUp _ _ H = ⊥
+
+-- the node boots, or commits
+abbrev pub MayFail : Plan → Node → Type 0
+MayFail p n = ((k : ℕ) × (p.reply ≡ r.Up n k)) ⊎ ((x : Commit) × (p.commit ≡ Some x) × (node_of x ≡ n))
+
+abbrev pub Fails : Plan → Reply → Type 0
+Fails p (r.Power n) = MayFail p n
+Fails p (r.Fault n) = MayFail p n
+Fails p (r.PrinterFault j) = p.reply ≡ r.Printed j
+Fails p _ = ⊥
+
+-- a `rates` on a day may find that its source fails
+abbrev pub FailsToRead : Event → Reply → Option ℤ → Type 0
+FailsToRead ev.Rates r.RatesFault (Some today) = Unit {0}
+FailsToRead _ _ _ = ⊥
+
+-- the replies that a whole event may get
+abbrev pub Moves : Tariff → Rules → Ledger → Event → List ℕ → Reply → Type 0
+Moves τ ρ H x text reply =
+    IsWholeEvent x
+    × ((reply ≡ answer τ ρ H x text) ⊎ (OtherUp (answer τ ρ H x text) reply H ⊎ (Fails (plan τ ρ H x text) reply ⊎ FailsToRead x reply (day_in H))))
+
+-- the ledger afterwards
+abbrev pub entries : Tariff → Rules → Ledger → Event → List ℕ → Reply → Ledger
+entries τ ρ H x text reply = after (plan τ ρ H x text) reply H
