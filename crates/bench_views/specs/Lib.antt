@@ -1,3 +1,4 @@
-pub mod Taken
 pub mod Devices
 pub mod Follows
+pub mod Nodes
+pub mod Taken

@@ -11,5 +11,6 @@ pub mod Knows
 pub mod TableKnows
 pub mod OneView
 pub mod RoomView
+pub mod Rooms
 pub mod TableView
 pub mod Turns
