@@ -24,8 +24,8 @@ use Rattle.psd_state.specs.declared.debiting.Debited.{Debited}
 use Rattle.psd_state.specs.declared.debiting.Debited.TheVariants.{New, Again}
 use Rattle.ledger_moves.specs.Moves.{debit_by}
 use Rattle.law_orders.specs.Nexts.{AreOrdered}
-use Rattle.bench_views.specs.declared.taken.Asked.{Asked}
-use Rattle.bench_views.specs.declared.taken.Asked.TheVariants.{On, Off, Cut, Call}
+use Rattle.node_acts.specs.declared.asked.Asked.{Asked}
+use Rattle.node_acts.specs.declared.asked.Asked.TheVariants.{On, Off, Cut, Call}
 use Rattle.bench_views.specs.declared.taken.DeviceCall.{DeviceCall}
 use Rattle.bench_views.specs.declared.taken.DeviceCall.TheVariants.{Make, Debit, Status}
 use Rattle.bench_views.specs.Devices.{record_in, seen_in, view_of, marked, released, device_plan, commit_by, MayReply}

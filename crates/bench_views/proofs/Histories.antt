@@ -15,7 +15,7 @@ use Rattle.psd_state.specs.Laws.{MakingStarts, DebitingKeeps}
 use Rattle.ledger_moves.specs.Tariffs.{Tariff}
 use Rattle.ledger_moves.specs.Moves.{Moves, OtherUp, FailsToRead, entries}
 use Rattle.law_orders.specs.Nexts.{AreOrdered}
-use Rattle.bench_views.specs.declared.taken.Asked.{Asked}
+use Rattle.node_acts.specs.declared.asked.Asked.{Asked}
 use Rattle.bench_views.specs.declared.taken.DeviceCall.{DeviceCall}
 use Rattle.bench_views.specs.declared.taken.Taken.TheVariants as take
 use Rattle.bench_views.specs.Taken.{taken}

@@ -26,7 +26,7 @@ use Rattle.ledger_moves.specs.Tariffs.{Tariff}
 use Rattle.ledger_moves.specs.Devices as device
 use Rattle.ledger_moves.specs.Moves.{plan, at_node, debit_by}
 use Rattle.node_acts.specs.Plans.{when_on}
-use Rattle.bench_views.specs.declared.taken.Asked.{Asked}
+use Rattle.node_acts.specs.declared.asked.Asked.{Asked}
 use Rattle.bench_views.specs.declared.taken.DeviceCall.{DeviceCall}
 use Rattle.bench_views.specs.declared.taken.Taken.TheVariants as take
 use Rattle.bench_views.specs.Taken.{taken}

@@ -4,8 +4,8 @@ use Rattle.bench_base.specs.declared.words.Node.{Node}
 use Rattle.bench_base.specs.declared.words.Node.TheVariants.{Device}
 use Rattle.bench_base.specs.declared.events.Event.{Event}
 use Rattle.bench_base.specs.declared.events.Event.TheVariants as ev
-use Rattle.bench_views.specs.declared.taken.Asked.{Asked}
-use Rattle.bench_views.specs.declared.taken.Asked.TheVariants.{On, Off, Cut, Call}
+use Rattle.node_acts.specs.declared.asked.Asked.{Asked}
+use Rattle.node_acts.specs.declared.asked.Asked.TheVariants.{On, Off, Cut, Call}
 use Rattle.bench_views.specs.declared.taken.DeviceCall.{DeviceCall}
 use Rattle.bench_views.specs.declared.taken.DeviceCall.TheVariants.{Make, Debit, Status}
 use Rattle.bench_views.specs.declared.taken.Taken.{Taken}

@@ -14,7 +14,7 @@ use Rattle.bench_base.specs.Ledger.{Ledger, is_on, count_of, torn_of, at_up, cou
 use Rattle.node_acts.specs.Views.{Counting, View, up_with, started}
 use Rattle.node_acts.specs.Plans.{view_after}
 use Rattle.law_orders.specs.Nexts.{IsOpen}
-use Rattle.bench_views.specs.Nodes.{view_in}
+use Rattle.node_acts.specs.Kinds.{view_in}
 use Rattle.bench_views.specs.Follows.{Rests}
 use Rattle.bench_views.proofs.Steps.{AreTold, Step, tells, does, tears, boots, stops}
 

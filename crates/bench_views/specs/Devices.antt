@@ -22,10 +22,10 @@ use Rattle.psd_state.specs.Seen.{Seen, counting}
 use Rattle.psd_state.specs.Acts.{make_act, debit_act, status_act}
 use Rattle.psd_state.specs.declared.acts.Franked.{Franked}
 use Rattle.ledger_moves.specs.Moves.{debit_by}
-use Rattle.bench_views.specs.declared.taken.Asked.{Asked}
+use Rattle.node_acts.specs.declared.asked.Asked.{Asked}
 use Rattle.bench_views.specs.declared.taken.DeviceCall.{DeviceCall}
 use Rattle.bench_views.specs.declared.taken.DeviceCall.TheVariants.{Make, Debit, Status}
-use Rattle.bench_views.specs.Nodes.{view_in, node_plan, node_commit}
+use Rattle.node_acts.specs.Kinds.{Kind, view_in, node_plan, node_commit}
 
 -- the record of device d after these commits, if it was made
 abbrev pub record_in : ℕ → List Commit → Option State
@@ -60,6 +60,9 @@ abbrev pub call_commit : ℕ → ℤ → View Seen → DeviceCall → Option (Co
 call_commit d today v (Make key) = commit_of counting v (make_act d key v.state.state)
 call_commit d today v (Debit piece postage class) = commit_of counting v (debit_act todays_rules d (debit_by d piece postage class) today v.state.state)
 call_commit d today v Status = None
+
+abbrev pub device_kind : Kind ℕ Seen DeviceCall
+device_kind = record { node = Device; seen = seen_in; plan = call_plan; commit = call_commit }
 
 -- == its events ==
 

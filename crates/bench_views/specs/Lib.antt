@@ -1,4 +1,3 @@
 pub mod Devices
 pub mod Follows
-pub mod Nodes
 pub mod Taken

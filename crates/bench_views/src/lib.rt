@@ -4,4 +4,4 @@
 pub mod laws;
 mod taken;
 
-pub use taken::{Asked, DeviceCall, Taken, taken};
+pub use taken::{DeviceCall, Taken, take};

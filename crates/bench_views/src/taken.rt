@@ -6,16 +6,7 @@ ghost use Rattle.bench_views.specs.Taken as takes;
 use bench_base::events::Event;
 use bench_base::numbers::{DayNo, DevNo};
 use bench_base::words::{Key, Node};
-
-/// What a node is asked, whatever its kind: to be switched on or off, to have the fuse of its storage armed, or a call.
-#[derive(Clone, Copy)]
-pub enum Asked<C> {
-    On,
-    Off,
-    /// Calls of the storage that pass, bytes that are kept, and the byte that fills the rest.
-    Cut(u32, u32, u8),
-    Call(C),
-}
+use node_acts::Asked;
 
 /// A call of a device.
 #[derive(Clone, Copy)]
@@ -49,7 +40,7 @@ fn of_node(node: Node, asked: Asked<DeviceCall>) -> Option<Taken>
 }
 
 /// Whom the event is for, and what it asks; `None` where the bench doesn't take it.
-pub fn taken(event: &Event) -> Option<Taken>
+pub fn take(event: &Event) -> Option<Taken>
     ensures { result ≡ takes.taken event.now }
 {
     match event {
