@@ -2,3 +2,4 @@ pub mod Views
 pub mod Acts
 pub mod Starts
 pub mod Plans
+pub mod Kinds

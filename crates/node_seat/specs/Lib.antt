@@ -1,4 +1,5 @@
 pub mod Ends
+pub mod Does
 pub mod Shown
 pub mod Stands
 pub mod Starts

@@ -1,11 +1,11 @@
 //! What a node of the bench promises: a record over its storage, one commit at a time.
-ghost use Rattle.std.specs.Prelude.{◌≡◌, ◌⊎◌, ◌↔◌, ◌+◌, List, Bool, ℕ, OnOk, IsErrOf, Some, true, false, is_ok};
+ghost use Rattle.std.specs.Prelude.{◌≡◌, ◌+◌, List, Bool, ℕ, OnOk, IsErrOf, Some, true, false, is_ok};
 ghost use Rattle.nv_model.specs.Meters.{Restarts};
-ghost use Rattle.nv_model.specs.Moments.{Image, Elapses, Stays};
+ghost use Rattle.nv_model.specs.Moments.{Image};
 ghost use Rattle.nv_model.specs.Still.{SameTimes};
-ghost use Rattle.nv_store.specs.Mounts.{Mounts};
 ghost use Rattle.nv_store.specs.Turns.{Spent};
 ghost use Rattle.node_acts.specs.Views.{Counting};
+ghost use Rattle.node_seat.specs.Does.{Reads, Commits, Stores};
 ghost use Rattle.node_seat.specs.Ends.{end_of_boot, end_of_commit, leaves_running};
 
 use bench_base::refusals::{BootFail, StoreFail};
@@ -63,13 +63,11 @@ pub trait Node: Drop + Sized {
     fn is_on(&self) -> bool
         ensures { result ≡ is_on self.now };
 
-    /// Restarts the storage of a node that is off, and leaves it off.
+    /// Restarts the storage of a node that is off, and leaves it off. Nothing is written.
     fn restart(&mut self) -> Result<(), NvFail>
         requires off { is_on self.old ≡ false }
         ensures off { is_on self.new ≡ false }
-        ensures size { Self.Storage.size (storage self.new) ≡ Self.Storage.size (storage self.old) }
-        ensures images { Self.Storage.tells → Stays (Self.Storage.times (storage self.old)) (Self.Storage.times (storage self.new)) }
-        ensures time { Self.Storage.tells → Elapses (Self.Storage.times (storage self.old)) (Self.Storage.times (storage self.new)) }
+        ensures reads { Reads Self.Storage.Nv (storage self.old) (storage self.new) }
         ensures answer { Restarts (Self.Storage.meters (storage self.old)) (Self.Storage.meters (storage self.new)) result };
 
     /// Switches a node that is off on, from what its storage shows, or leaves it off. Nothing is written.
@@ -77,10 +75,8 @@ pub trait Node: Drop + Sized {
         requires off { is_on self.old ≡ false }
         requires powered { (Self.Storage.meters (storage self.old)).lost ≡ false }
         ensures leaves { is_on self.new ≡ is_ok result }
-        ensures name { OnOk result (name self.new ≡ number) }
-        ensures sound { OnOk result (IsSound number (seen self.new)) }
-        ensures mounts { Self.Storage.tells → Mounts (Self.Storage.times (storage self.old)) (Self.Storage.times (storage self.new)) }
-        ensures size { Self.Storage.size (storage self.new) ≡ Self.Storage.size (storage self.old) }
+        ensures starts { OnOk result ((name self.new ≡ number) × IsSound number (seen self.new)) }
+        ensures reads { Reads Self.Storage.Nv (storage self.old) (storage self.new) }
         ensures damaged { Self.Storage.tells → IsErrOf result BootFail.Damaged → IsDamaged number (storage self.new) }
         ensures spent { Spent 1 (Self.Storage.meters (storage self.old)) (Self.Storage.meters (storage self.new)) (end_of_boot result) };
 
@@ -90,15 +86,10 @@ pub trait Node: Drop + Sized {
         ensures leaves { is_on self.new ≡ leaves_running result }
         ensures name { name self.new ≡ name self.old }
         ensures kept { IsKept change.now }
-        ensures worn { IsErrOf result StoreFail.Worn ↔ (counting.is_worn (seen self.old) change.now ≡ true) }
         ensures rests { IsErrOf result StoreFail.Worn → self.new ≡ self.old }
-        ensures not_failed { IsErrOf result StoreFail.Failed → ⊥ }
-        ensures done { OnOk result (seen self.new ≡ counting.after (seen self.old) change.now) }
-        ensures size { Self.Storage.size (storage self.new) ≡ Self.Storage.size (storage self.old) }
-        ensures any_moment { Self.Storage.tells → (c : List ℕ) → (Self.Storage.times (storage self.new)).since (Self.Storage.times (storage self.old)).moment c
-            → IsShown (seen self.old) c ⊎ IsShown (counting.after (seen self.old) change.now) c }
-        ensures time { Self.Storage.tells → Elapses (Self.Storage.times (storage self.old)) (Self.Storage.times (storage self.new)) }
-        ensures spent { Spent 6 (Self.Storage.meters (storage self.old)) (Self.Storage.meters (storage self.new)) (end_of_commit result) };
+        ensures answers { Commits counting (seen self.old) (seen self.new) change.now result }
+        ensures stores { Stores Self.Storage.Nv (IsShown (seen self.old)) (IsShown (counting.after (seen self.old) change.now))
+            (storage self.old) (storage self.new) (end_of_commit result) };
 
     /// The number of commits.
     fn commits(&self) -> u64

@@ -4,3 +4,4 @@ pub mod Ordered
 pub mod Parted
 pub mod Steps
 pub mod Under
+mod Decisions

@@ -1,6 +1,7 @@
 //! A device as a record and pure rules over it: each call answers, and gives the record to be kept.
 #![tactic(auto)]
 
+pub mod acts;
 mod applying;
 mod asking;
 mod debiting;
@@ -13,6 +14,7 @@ mod tests;
 mod theorems;
 mod words;
 
+pub use acts::{DeviceAct, Franked, Taken};
 pub use bench_base::events::DevView as DevStatus;
 pub use debiting::Debited;
 pub use record::DevRec;

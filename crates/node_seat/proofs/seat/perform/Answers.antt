@@ -21,15 +21,15 @@ returns-in-Ok g c by is =
     let e = c.in-Ok.ensures in
     let b = c.in-Commits in
     done g.K.Node g.K.Storage.Nv by b.commit b.change b.answer c.args.node.now c.commit.new.self (is ∙ b.is) (sym c.if-not-is_on.ensures)
-    g.met.K.Storage.Nv.nested g.met.K.Node.keeps g.met.K.Node.counts (not_worn _ (λ w. let x = e.worn.1 w in cc)) e.name e.kept e.size e.time e.any_moment
-    e.leaves e.done (λ tells. g.met.K.Node.knows c.commit.new.self tells e.leaves) e.spent
+    g.met.K.Storage.Nv.nested g.met.K.Node.keeps g.met.K.Node.counts (not_worn _ (λ w. let x = e.answers.worn.1 w in cc)) e.name e.kept e.stores.size e.stores.time e.stores.any_moment
+    e.leaves e.answers.done (λ tells. g.met.K.Node.knows c.commit.new.self tells e.leaves) e.stores.spent
 
 pub returns-in-Err-Worn : goal.returns-in-Err-Worn
 returns-in-Err-Worn g c by is =
     let e = c.in-Err-Worn.ensures in
     let b = c.in-Commits in
     let full = ap (λ (f : StoreFail). Err f) c.in-Err-Worn.field-0-is in
-    worn g.K.Node g.K.Storage.Nv by b.commit b.change b.answer c.args.node.now c.commit.new.self (is ∙ b.is) (sym c.if-not-is_on.ensures) (e.rests full) (e.worn.0 full)
+    worn g.K.Node g.K.Storage.Nv by b.commit b.change b.answer c.args.node.now c.commit.new.self (is ∙ b.is) (sym c.if-not-is_on.ensures) (e.rests full) (e.answers.worn.0 full)
 
 pub returns-in-Err-Power : goal.returns-in-Err-Power
 returns-in-Err-Power g c by is =
@@ -40,9 +40,9 @@ returns-in-Err-Power g c by is =
     let e = c.in-Err-Power.ensures in
     let b = c.in-Commits in
     cut n nv by b.commit b.change b.answer k k' (is ∙ b.is) (sym c.if-not-is_on.ensures)
-    g.met.K.Storage.Nv.nested g.met.K.Node.keeps g.met.K.Node.counts (not_worn _ (λ w. let x = e.worn.1 w in let y = c.in-Err-Power.field-0-is in cc)) e.name e.kept e.size e.time e.any_moment
+    g.met.K.Storage.Nv.nested g.met.K.Node.keeps g.met.K.Node.counts (not_worn _ (λ w. let x = e.answers.worn.1 w in let y = c.in-Err-Power.field-0-is in cc)) e.name e.kept e.stores.size e.stores.time e.stores.any_moment
     (subst (λ (f : StoreFail). n.is_on k' ≡ leaves_running (Err f)) c.in-Err-Power.field-0-is e.leaves)
-    (subst (λ (f : StoreFail). Spent 6 (nv.meters (n.storage k)) (nv.meters (n.storage k')) (end_of_commit (Err f))) c.in-Err-Power.field-0-is e.spent)
+    (subst (λ (f : StoreFail). Spent 6 (nv.meters (n.storage k)) (nv.meters (n.storage k')) (end_of_commit (Err f))) c.in-Err-Power.field-0-is e.stores.spent)
 
 pub returns-in-Err-Fault : goal.returns-in-Err-Fault
 returns-in-Err-Fault g c by is =
@@ -53,6 +53,6 @@ returns-in-Err-Fault g c by is =
     let e = c.in-Err-Fault.ensures in
     let b = c.in-Commits in
     faulted n nv by b.commit b.change b.answer k k' (is ∙ b.is) (sym c.if-not-is_on.ensures)
-    g.met.K.Storage.Nv.nested g.met.K.Node.keeps g.met.K.Node.counts (not_worn _ (λ w. let x = e.worn.1 w in let y = c.in-Err-Fault.field-0-is in cc)) e.name e.kept e.size e.time e.any_moment
+    g.met.K.Storage.Nv.nested g.met.K.Node.keeps g.met.K.Node.counts (not_worn _ (λ w. let x = e.answers.worn.1 w in let y = c.in-Err-Fault.field-0-is in cc)) e.name e.kept e.stores.size e.stores.time e.stores.any_moment
     (subst (λ (f : StoreFail). n.is_on k' ≡ leaves_running (Err f)) c.in-Err-Fault.field-0-is e.leaves)
-    (subst (λ (f : StoreFail). Spent 6 (nv.meters (n.storage k)) (nv.meters (n.storage k')) (end_of_commit (Err f))) c.in-Err-Fault.field-0-is e.spent)
+    (subst (λ (f : StoreFail). Spent 6 (nv.meters (n.storage k)) (nv.meters (n.storage k')) (end_of_commit (Err f))) c.in-Err-Fault.field-0-is e.stores.spent)

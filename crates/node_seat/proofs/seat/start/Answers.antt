@@ -17,14 +17,14 @@ mounted g c tells =
     let r = c.in-Ok.ensures in
     mounts_twice (nv.times (n.storage c.args.node.now)) (nv.times (n.storage c.restart.new.self)) (nv.times (n.storage c.boot.new.self))
     (g.met.K.Storage.Nv.nested (n.storage c.restart.new.self) tells) (g.met.K.Storage.Nv.nested (n.storage c.boot.new.self) tells)
-    (r.time tells) (r.images tells) (c.boot.ensures.mounts tells)
+    (r.reads.mounts tells).time (r.reads.mounts tells).images (c.boot.ensures.reads.mounts tells)
 
 stays : (g : Over) (c : goal.In-Err-Damaged g) (v : View g.K.Node.Seen) → Stands g.K.Node g.K.Storage.Nv c.args.number v c.args.node.now
     → StoreStands g.K.Node g.K.Storage.Nv c.args.number v (g.K.Node.storage c.boot.new.self)
 stays g c v st =
     let n = g.K.Node in
     store_stays n g.K.Storage.Nv g.met.K.Storage.Nv.nested c.args.number v (n.storage c.args.node.now) (n.storage c.boot.new.self) st.store
-    (c.boot.ensures.size ∙ c.in-Ok.ensures.size) (mounted g c)
+    (c.boot.ensures.reads.size ∙ c.in-Ok.ensures.reads.size) (mounted g c)
 
 pub returns-in-Err-Damaged : goal.returns-in-Err-Damaged
 returns-in-Err-Damaged g c =

@@ -1,0 +1,27 @@
+-- What the calls of a node do to its record and its storage.
+use Rattle.std.specs.Prelude.{◌≡◌, ◌↔◌, ◌⊎◌, List, ℕ, true, Result, OnOk, IsErrOf}
+use Rattle.bench_base.specs.declared.refusals.StoreFail.{StoreFail}
+use Rattle.bench_base.specs.declared.refusals.StoreFail.TheVariants.{Worn, Failed}
+use Rattle.nv_model.specs.declared.nv.Nv.{Ghosts}
+use Rattle.nv_model.specs.Moments.{Elapses}
+use Rattle.nv_store.specs.Mounts.{Mounts}
+use Rattle.nv_store.specs.Turns.{End, Spent}
+use Rattle.node_acts.specs.Views.{Counting}
+
+-- a storage was read, and nothing was written
+pub record Reads {S : Type 0} (g : Ghosts S) (before now : S) : Type 0 where
+  pub mounts : g.tells → Mounts (g.times before) (g.times now)
+  pub size : g.size now ≡ g.size before
+
+-- how a commit of this change ended for the record: Worn comes exactly where the change's cell has all its commits
+pub record Commits {S X : Type 0} (n : Counting S X) (before now : S) (change : X) (result : Result (Unit {0}) StoreFail) : Type 0 where
+  pub worn : IsErrOf result Worn ↔ (n.is_worn before change ≡ true)
+  pub not_failed : IsErrOf result Failed → ⊥
+  pub done : OnOk result (now ≡ n.after before change)
+
+-- and for the storage: at every moment each image shows the record before it, or that after it
+pub record Stores {S : Type 0} (g : Ghosts S) (IsOld IsNew : List ℕ → Type 0) (before now : S) (end : End) : Type 0 where
+  pub any_moment : g.tells → (c : List ℕ) → (g.times now).since (g.times before).moment c → IsOld c ⊎ IsNew c
+  pub time : g.tells → Elapses (g.times before) (g.times now)
+  pub spent : Spent 6 (g.meters before) (g.meters now) end
+  pub size : g.size now ≡ g.size before

@@ -1,5 +1,0 @@
-use Rattle.psd_device.proofs.Decisions.{code-is}
-use Rattle.psd_device.proofs.acts.is_own_code.Goals as goal
-
-pub returns : goal.returns
-returns c = code-is _ _ _ c.code_matches.ensures

@@ -1,0 +1,5 @@
+use Rattle.psd_state.proofs.Decisions.{code-is}
+use Rattle.psd_state.proofs.acts.is_own_code.Goals as goal
+
+pub returns : goal.returns
+returns c = code-is _ _ _ c.code_matches.ensures

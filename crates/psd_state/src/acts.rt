@@ -1,0 +1,247 @@
+//! What a device does in a call, decided by its record alone. Money is in mills, and a day counts from 1970-01-01.
+ghost use Rattle.std.specs.Prelude.{◌≡◌};
+ghost use Rattle.bench_base.specs.Rules.{todays_rules};
+ghost use Rattle.psd_wire.specs.Codes.{has_code};
+ghost use Rattle.psd_state.specs.Answers.{apply_answer};
+ghost use Rattle.psd_state.specs.Acts as act_of;
+
+use crate::debiting::Debited;
+use crate::record::DevRec;
+use bench_base::bytes::Note;
+use bench_base::events::DevView as DevStatus;
+use bench_base::ledger::Commit;
+use bench_base::numbers::{DayNo, DevNo};
+use bench_base::refusals::{DevRefusal, Unread};
+use bench_base::words::{Key, Kind, Verdict};
+use node_acts::Act;
+use psd_wire::{DebitMsg, Message, ReplyMsg, code_matches, read_message};
+
+/// What a call of a device does.
+pub type DeviceAct<A> = Act<DevRec, DevRefusal, A>;
+
+/// The mark of a piece, and whether it was debited before.
+#[derive(Clone, Copy)]
+pub struct Franked {
+    pub mark: [u8; 64],
+    pub again: bool,
+}
+
+/// What became of a message that a device took.
+#[derive(Clone, Copy)]
+pub enum Taken {
+    /// A reply: the transaction of this number is over.
+    Applied {
+        number: u32,
+        verdict: Verdict,
+    },
+    /// A debit: the mark of the piece, and whether it was debited before.
+    Released {
+        piece: u32,
+        mark: [u8; 64],
+        again: bool,
+    },
+}
+
+/// The commit of a debit of a piece that was not debited before.
+pub fn debit_commit(device: DevNo, command: &DebitMsg, day: DayNo) -> Commit
+    ensures { result ≡ act_of.debit_commit todays_rules device command.now day }
+{
+    Commit::Debited(
+        device,
+        command.piece,
+        command.postage,
+        command.class,
+        day,
+        1,
+    )
+}
+
+/// Makes the device under a key. `Made` exactly where it was made before.
+pub fn make_act(device: DevNo, key: &Key, state: &Option<DevRec>) -> DeviceAct<()>
+    ensures { result ≡ act_of.make_act device key.now state.now }
+{
+    match state {
+        Some(_) => Act::Refuse(DevRefusal::Made),
+        None => Act::Commits(Commit::Made(device, *key), DevRec::made(device, key), ()),
+    }
+}
+
+/// Marks a piece: see `DevRec::debit`. `Blank`, before its refusals, exactly where there is no record. The mark of the last
+/// piece is given once more without a commit.
+pub fn debit_act(
+    device: DevNo,
+    command: &DebitMsg,
+    day: DayNo,
+    state: &Option<DevRec>,
+) -> DeviceAct<Franked>
+    ensures { result ≡ act_of.debit_act todays_rules device command.now day state.now }
+{
+    let Some(record) = state else {
+        return Act::Refuse(DevRefusal::Blank);
+    };
+    match record.debit(command, day) {
+        Err(refusal) => Act::Refuse(refusal),
+        Ok(debited) => franked_act(device, command, day, debited),
+    }
+}
+
+fn franked_act(
+    device: DevNo,
+    command: &DebitMsg,
+    day: DayNo,
+    debited: Debited,
+) -> DeviceAct<Franked>
+    ensures { result ≡ act_of.franked_act todays_rules device command.now day (Ok debited) }
+{
+    match debited {
+        Debited::Again(mark) => Act::Tell(Franked { mark, again: true }),
+        Debited::New(next, mark) => Act::Commits(
+            debit_commit(device, command, day),
+            next,
+            Franked { mark, again: false },
+        ),
+    }
+}
+
+/// Asks for a transaction: see `DevRec::ask`. `Blank`, before its refusals, exactly where there is no record. The customer
+/// counts for an enrolment only, and the amount, in mills, for a reset only.
+pub fn ask_act(
+    device: DevNo,
+    kind: Kind,
+    customer: u32,
+    amount: u32,
+    day: DayNo,
+    state: &Option<DevRec>,
+) -> DeviceAct<Note>
+    ensures { result ≡ act_of.ask_act todays_rules device kind customer amount day state.now }
+{
+    let Some(record) = state else {
+        return Act::Refuse(DevRefusal::Blank);
+    };
+    match record.ask(kind, customer, amount, day) {
+        Err(refusal) => Act::Refuse(refusal),
+        Ok((next, note)) => {
+            let number = record.status(day).number + 1;
+            Act::Commits(Commit::Asked(device, number, note), next, note)
+        }
+    }
+}
+
+// A reply whose code is the device's own.
+fn apply_act(device: DevNo, reply: &ReplyMsg, kept: &DevRec) -> DeviceAct<Taken>
+    ensures { result ≡ act_of.applied_act device reply.now (apply_answer kept.now kept.now.pending reply.now) }
+{
+    match kept.apply(reply) {
+        Err(refusal) => Act::Refuse(refusal),
+        Ok(next) => Act::Commits(
+            Commit::Applied(device, reply.number, reply.verdict),
+            next,
+            Taken::Applied {
+                number: reply.number,
+                verdict: reply.verdict,
+            },
+        ),
+    }
+}
+
+fn is_own_code(bytes: &[u8], key: &Key) -> bool
+    ensures { result ≡ has_code key.now bytes.now }
+{
+    code_matches(bytes, key)
+}
+
+fn reply_act(
+    device: DevNo,
+    bytes: &[u8],
+    reply: &ReplyMsg,
+    state: &Option<DevRec>,
+) -> DeviceAct<Taken>
+    ensures { result ≡ act_of.reply_act device bytes.now reply.now state.now }
+{
+    let Some(record) = state else {
+        return Act::Refuse(DevRefusal::Blank);
+    };
+    if reply.device != device.get() {
+        return Act::Refuse(DevRefusal::WrongDevice(reply.device));
+    }
+    if !is_own_code(bytes, record.key()) {
+        return Act::Refuse(DevRefusal::BadCode);
+    }
+    apply_act(device, reply, record)
+}
+
+// A debit that came as a message: the piece is told of too.
+fn released(piece: u32, act: DeviceAct<Franked>) -> DeviceAct<Taken>
+    ensures { result ≡ act_of.released piece act }
+{
+    match act {
+        Act::Refuse(refusal) => Act::Refuse(refusal),
+        Act::Tell(franked) => Act::Tell(released_of(piece, franked)),
+        Act::Commits(commit, next, franked) => {
+            Act::Commits(commit, next, released_of(piece, franked))
+        }
+    }
+}
+
+fn released_of(piece: u32, franked: Franked) -> Taken
+    ensures { result ≡ act_of.released_of piece franked }
+{
+    let mark = franked.mark;
+    Taken::Released {
+        piece,
+        mark,
+        again: franked.again,
+    }
+}
+
+/// Takes a Reply or a Debit. The first refusal that holds: `Unread` of `read_message`; `Unread` with `Tag` for another
+/// message; for a Debit those of `debit_act`; for a Reply `Blank`, `WrongDevice` with the Reply's device, `BadCode` exactly
+/// where its code is not of this device's key, and then those of `DevRec::apply`.
+pub fn take_act(device: DevNo, bytes: &[u8], day: DayNo, state: &Option<DevRec>) -> DeviceAct<Taken>
+    ensures { result ≡ act_of.take_act todays_rules device bytes.now day state.now }
+{
+    match read_message(bytes) {
+        Err(unread) => Act::Refuse(DevRefusal::Unread(unread)),
+        Ok(Message::Reply(reply)) => reply_act(device, bytes, &reply, state),
+        Ok(Message::Debit(command)) => {
+            released(command.piece, debit_act(device, &command, day, state))
+        }
+        Ok(_) => Act::Refuse(DevRefusal::Unread(Unread::Tag)),
+    }
+}
+
+/// The request that is outstanding, byte for byte as it was sent. `Blank`, then `NothingPending`.
+pub fn resend_act(state: &Option<DevRec>) -> DeviceAct<Note>
+    ensures { result ≡ act_of.resend_act state.now }
+{
+    let Some(record) = state else {
+        return Act::Refuse(DevRefusal::Blank);
+    };
+    match record.resend() {
+        Ok(note) => Act::Tell(note),
+        Err(refusal) => Act::Refuse(refusal),
+    }
+}
+
+/// The message that the last transaction was applied. `Blank`, then `NothingDone`.
+pub fn ack_act(state: &Option<DevRec>) -> DeviceAct<Note>
+    ensures { result ≡ act_of.ack_act state.now }
+{
+    let Some(record) = state else {
+        return Act::Refuse(DevRefusal::Blank);
+    };
+    match record.done() {
+        Ok(bytes) => Act::Tell(Note::of(&bytes)),
+        Err(refusal) => Act::Refuse(refusal),
+    }
+}
+
+/// What the device shows of its record on that day. `Blank` where there is none.
+pub fn status_act(day: DayNo, state: &Option<DevRec>) -> DeviceAct<DevStatus>
+    ensures { result ≡ act_of.status_act day state.now }
+{
+    match state {
+        Some(record) => Act::Tell(record.status(day)),
+        None => Act::Refuse(DevRefusal::Blank),
+    }
+}
