@@ -1,5 +1,5 @@
 pub mod Benches
 pub mod Costs
+pub mod NodeTurns
 pub mod Steps
-pub mod Stops
 pub mod Turns

@@ -1,20 +1,21 @@
 -- What an event comes to: its reply and its entries.
-use Rattle.std.specs.Prelude.{ℕ, ℤ, List, [], ◌∷◌, Bool, true, false, Option, Some, None, Result, Ok, Err, if◌then◌else◌}
-use Rattle.bench_base.specs.declared.words.Node.TheVariants.{Device}
+use Rattle.std.specs.Prelude.{ℕ, ℤ, List, [], ◌∷◌, Bool, true, false, Option, Some, None, if◌then◌else◌}
+use Rattle.bench_base.specs.declared.words.Node.{Node}
 use Rattle.bench_base.specs.declared.ledger.Entry.{Entry}
 use Rattle.bench_base.specs.declared.ledger.Entry.TheVariants as entry
 use Rattle.bench_base.specs.declared.events.Reply.{Reply}
 use Rattle.bench_base.specs.declared.events.Reply.TheVariants as r
-use Rattle.bench_base.specs.Rules.{first_rules}
+use Rattle.bench_base.specs.Rules.{todays_rules}
 use Rattle.bench_base.specs.Ledger.{Ledger}
-use Rattle.psd_device.specs.declared.acts.Franked.{Franked}
-use Rattle.psd_device.specs.Calls.{debit_commit}
+use Rattle.node_acts.specs.declared.act.Outcome.{Outcome}
+use Rattle.node_acts.specs.declared.act.Outcome.TheVariants as o
+use Rattle.node_acts.specs.declared.act.Started.{Started}
+use Rattle.node_acts.specs.declared.act.Started.TheVariants as start
+use Rattle.node_acts.specs.Plans.{call_reply}
 use Rattle.psd_wire.specs.declared.message.DebitMsg.{DebitMsg}
-use Rattle.device_seat.specs.declared.outcome.Outcome.{Outcome}
-use Rattle.device_seat.specs.declared.outcome.Outcome.TheVariants as o
-use Rattle.device_seat.specs.declared.outcome.Started.{Started}
-use Rattle.device_seat.specs.declared.outcome.Started.TheVariants as start
-use Rattle.bench.specs.declared.coming.Turn.{Turn}
+use Rattle.psd_state.specs.Acts.{debit_commit}
+use Rattle.psd_state.specs.declared.acts.Franked.{Franked}
+use Rattle.bench.specs.declared.turn.Turn.{Turn}
 
 -- entries in the order in which they happened, from a list whose newest comes first
 abbrev pub in_order : Ledger → List (Option Entry)
@@ -26,38 +27,33 @@ in_order (z ∷ y ∷ x ∷ more) = Some x ∷ Some y ∷ Some z ∷ []
 abbrev pub turn_of : Reply → Ledger → Turn
 turn_of reply entries = record { reply = reply; entries = in_order entries }
 
--- the turn of a call of device d, by how it replies where the call is done, and what is added then, the newest first
-abbrev pub call_turn : {A : Type 0} → ℕ → (A → Reply) → (A → Ledger) → Outcome A → Turn
-call_turn d reply done o.Off = turn_of (r.OffNode (Device d)) []
-call_turn d reply done (o.Refused x) = turn_of (r.DevRefused d x) []
-call_turn d reply done (o.Done a) = turn_of (reply a) (done a)
-call_turn d reply done o.Worn = turn_of (r.Worn (Device d)) []
-call_turn d reply done (o.Power c) = turn_of (r.Power (Device d)) (entry.Torn (Device d) c ∷ [])
-call_turn d reply done (o.Fault c) = turn_of (r.Fault (Device d)) (entry.Torn (Device d) c ∷ [])
+-- what is added by a call of node m, by what is added where it is done, the newest first
+abbrev pub added : {F A : Type 0} → Node → (A → Ledger) → Outcome F A → Ledger
+added m done o.Off = []
+added m done (o.Refused x) = []
+added m done (o.Done a) = done a
+added m done o.Worn = []
+added m done (o.Power c) = entry.Torn m c ∷ []
+added m done (o.Fault c) = entry.Torn m c ∷ []
 
--- what was done, or the turn of a call that was not done
-abbrev pub done_by : {A : Type 0} → ℕ → Outcome A → Result A Turn
-done_by d (o.Done a) = Ok a
-done_by d o.Off = Err (turn_of (r.OffNode (Device d)) [])
-done_by d (o.Refused x) = Err (turn_of (r.DevRefused d x) [])
-done_by d o.Worn = Err (turn_of (r.Worn (Device d)) [])
-done_by d (o.Power c) = Err (turn_of (r.Power (Device d)) (entry.Torn (Device d) c ∷ []))
-done_by d (o.Fault c) = Err (turn_of (r.Fault (Device d)) (entry.Torn (Device d) c ∷ []))
+-- the turn of a call of node m, by how the node refuses, how it replies where the call is done, and what is added then
+abbrev pub call_turn : {F A : Type 0} → Node → (F → Reply) → (A → Reply) → (A → Ledger) → Outcome F A → Turn
+call_turn m refusal reply done outcome = turn_of (call_reply m refusal reply outcome) (added m done outcome)
 
 -- a mark that is given again was debited before
 abbrev pub franked_entries : ℕ → DebitMsg → ℤ → Franked → Ledger
 franked_entries d q today f =
     if f.again
     then entry.Released d q.piece f.mark ∷ []
-    else entry.Released d q.piece f.mark ∷ entry.Commit (debit_commit first_rules d q today) ∷ []
+    else entry.Released d q.piece f.mark ∷ entry.Commit (debit_commit todays_rules d q today) ∷ []
 
-abbrev pub start_turn : ℕ → Started → Turn
-start_turn d start.Already = turn_of (r.OnAlready (Device d)) []
-start_turn d (start.Up k) = turn_of (r.Up (Device d) k) (entry.Up (Device d) k ∷ [])
-start_turn d start.Power = turn_of (r.Power (Device d)) []
-start_turn d start.Fault = turn_of (r.Fault (Device d)) []
-start_turn d start.Damaged = turn_of (r.Damaged (Device d)) []
+abbrev pub start_turn : Node → Started → Turn
+start_turn m start.Already = turn_of (r.OnAlready m) []
+start_turn m (start.Up k) = turn_of (r.Up m k) (entry.Up m k ∷ [])
+start_turn m start.Power = turn_of (r.Power m) []
+start_turn m start.Fault = turn_of (r.Fault m) []
+start_turn m start.Damaged = turn_of (r.Damaged m) []
 
-abbrev pub stop_turn : ℕ → Bool → Turn
-stop_turn d true = turn_of (r.Down (Device d)) (entry.Down (Device d) ∷ [])
-stop_turn d false = turn_of (r.OffNode (Device d)) []
+abbrev pub stop_turn : Node → Bool → Turn
+stop_turn m true = turn_of (r.Down m) (entry.Down m ∷ [])
+stop_turn m false = turn_of (r.OffNode m) []

@@ -14,41 +14,46 @@ pub record Needs : Type 0 where
   pub on : Bool
   -- whether it may commit
   pub commits : Bool
+  -- how many calls of an armed fuse it uses at most
+  pub calls : ℕ
   -- the day that it sets
   pub sets : Option ℤ
 
 -- the bench's own: it sets the day, it needs no day, or it needs one
 abbrev pub dates : ℤ → Needs
-dates t = record { node = None; day = false; on = false; commits = false; sets = Some t }
+dates t = record { node = None; day = false; on = false; commits = false; calls = 0; sets = Some t }
 
 abbrev pub apart : Needs
-apart = record { node = None; day = false; on = false; commits = false; sets = None }
+apart = record { node = None; day = false; on = false; commits = false; calls = 0; sets = None }
 
 abbrev pub on_a_day : Needs
-on_a_day = record { node = None; day = true; on = false; commits = false; sets = None }
+on_a_day = record { node = None; day = true; on = false; commits = false; calls = 0; sets = None }
 
--- of a node, on or off
-abbrev pub switches : Node → Needs
-switches n = record { node = Some n; day = true; on = false; commits = false; sets = None }
+-- of a node, on or off: it boots the node, or leaves its storage alone
+abbrev pub boots : Node → Needs
+boots n = record { node = Some n; day = true; on = false; commits = false; calls = 1; sets = None }
+
+abbrev pub arms : Node → Needs
+arms n = record { node = Some n; day = true; on = false; commits = false; calls = 0; sets = None }
 
 -- of a node that is on: it commits nothing, or it may commit
 abbrev pub asks : Node → Needs
-asks n = record { node = Some n; day = true; on = true; commits = false; sets = None }
+asks n = record { node = Some n; day = true; on = true; commits = false; calls = 0; sets = None }
 
 abbrev pub changes : Node → Needs
-changes n = record { node = Some n; day = true; on = true; commits = true; sets = None }
+changes n = record { node = Some n; day = true; on = true; commits = true; calls = 6; sets = None }
 
 -- of the node that a message is for
 abbrev pub delivers : Needs
-delivers = record { node = None; day = true; on = true; commits = true; sets = None }
+delivers = record { node = None; day = true; on = true; commits = true; calls = 6; sets = None }
 
 abbrev pub needs : Event → Needs
 needs (ev.Day t) = dates t
 needs ev.Rates = on_a_day
 needs (ev.Make d key) = changes (Device d)
-needs (ev.On n) = switches n
+needs (ev.On n) = boots n
 needs (ev.Off n) = asks n
-needs (ev.Cut n calls keep byte) = switches n
+needs (ev.Cut n calls keep byte) = arms n
 needs (ev.Debit d piece postage class) = changes (Device d)
 needs (ev.Ask d kind who amount) = changes (Device d)
 needs (ev.Resend d) = asks (Device d)
@@ -82,6 +87,9 @@ needs_on e = (needs e).on
 
 abbrev pub may_commit : Event → Bool
 may_commit e = (needs e).commits
+
+abbrev pub calls_of : Event → ℕ
+calls_of e = (needs e).calls
 
 abbrev pub set_or : Option ℤ → Option ℤ → Option ℤ
 set_or None today = today

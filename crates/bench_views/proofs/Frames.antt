@@ -1,14 +1,15 @@
 -- A commit of one device leaves the record of another as it is, also the record that follows from an open commit of its own.
-use Rattle.std.proofs.Common.{◌≡◌, ℕ, true, false, List, ◌∷◌, Option, Some, None, refl, sym, ◌∙◌}
-use Rattle.std.specs.Prelude.{◌==◌, ◌≢◌}
+use Rattle.std.proofs.Common.{◌≡◌, ℕ, true, false, List, ◌∷◌, Option, Some, None, refl, sym, ◌∙◌, ap, ◌+◌}
+use Rattle.std.specs.Prelude.{◌==◌, ◌≢◌, if◌then◌else◌}
 use Rattle.std.proofs.lemmas.Bool.{ne_eqb, eq-eqb}
 use Rattle.bench_base.specs.declared.words.Node.TheVariants.{Device}
 use Rattle.bench_base.specs.declared.ledger.Commit.{Commit}
 use Rattle.bench_base.specs.declared.ledger.Commit.TheVariants.{Made, Asked, Applied, Debited}
-use Rattle.bench_base.specs.Nodes.{node_of}
+use Rattle.bench_base.specs.Nodes.{same_node, node_of}
 use Rattle.bench_base.specs.Ledger.{count_of}
 use Rattle.ledger_terms.specs.Franking.{mark_after}
-use Rattle.bench_views.specs.Devices.{record_in, record_with}
+use Rattle.bench_views.specs.Devices.{record_in, seen_in}
+use Rattle.bench_views.proofs.Views.{Apart}
 
 -- a commit of device i, and one of another device
 abbrev pub IsOwn : ℕ → Commit → Type 0
@@ -84,6 +85,12 @@ under i (Debited e p b l s v) (Debited f q a k t u) C o h = simp (o, h)
 under i (Debited e p b l s v) _ C o h = absurd h
 under i _ c C o h = absurd o
 
-pub with-frame : (i : ℕ) (x : Option Commit) (c : Commit) (C : List Commit) → ((y : Commit) → x ≡ Some y → IsOwn i y) → IsOther i c → record_with i (c ∷ C) x ≡ record_with i C x
-with-frame i None c C o h = refl
-with-frame i (Some y) c C o h = under i y c C (o y refl) h
+count-under : (i : ℕ) (x c : Commit) (C : List Commit) → IsOther i c → count_of (Device i) (x ∷ c ∷ C) ≡ count_of (Device i) (x ∷ C)
+count-under i x c C h = ap (λ (k : ℕ). if same_node (node_of x) (Device i) then k + 1 else k) (count-frame i c C h)
+
+-- a commit of another device leaves what is seen of this one as it is, also under an open commit of its own
+pub apart : (d i : ℕ) → i ≢ d → Apart (Device d) (Device i) (seen_in i)
+apart d i ne = record {
+  frame = λ c C own. let other = other-is d i c ne own in λ k. record { count = count-frame i c C other k; state = record-frame i c C other k };
+  under = λ x c C its own. let other = other-is d i c ne own in λ k. record { count = count-under i x c C other k; state = under i x c C (own-is i x its) other k };
+}

@@ -1,7 +1,8 @@
-pub mod Counts
-pub mod Events
-pub mod Frames
-pub mod Histories
-pub mod Plans
+mod Acts
+mod Counts
+mod Frames
+mod Histories
+mod Plans
 pub mod Steps
-pub mod Views
+pub mod Taken
+mod Views

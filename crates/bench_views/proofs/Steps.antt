@@ -1,39 +1,24 @@
--- The ways in which an event of a device goes: what it is answered, the commit that it makes, and the ledger afterwards.
-use Rattle.std.proofs.Common.{◌≡◌, ℕ, ℤ, Bool, true, false, List, [], ◌∷◌, ◌++◌, Option, Some, None, Result, Ok, Err, cond, refl, sym, ap, subst, ◌∙◌, ◌⊎◌, inl, inr, ⊎_elim}
-use Rattle.std.specs.Prelude.{◌==◌, ◌+◌, option_map}
+-- The ways in which an event of a node goes: what it is answered, the commit that it makes, and the ledger afterwards. The node
+-- is m, of any kind; its record after some commits is as seen says.
+use Rattle.std.proofs.Common.{◌≡◌, ℕ, Bool, true, false, List, [], ◌∷◌, ◌++◌, Option, Some, None, cond, refl, sym, ap, subst, ◌∙◌, ◌⊎◌, inl, inr, ⊎_elim}
+use Rattle.std.specs.Prelude.{◌+◌}
 use Rattle.bench_base.specs.declared.words.Node.{Node}
-use Rattle.bench_base.specs.declared.words.Node.TheVariants.{Device}
-use Rattle.bench_base.specs.declared.refusals.DevRefusal.{DevRefusal}
 use Rattle.bench_base.specs.declared.ledger.Commit.{Commit}
 use Rattle.bench_base.specs.declared.ledger.Entry.{Entry}
 use Rattle.bench_base.specs.declared.ledger.Entry.TheVariants as entry
-use Rattle.bench_base.specs.declared.events.Event.{Event}
-use Rattle.bench_base.specs.declared.events.Event.TheVariants as ev
 use Rattle.bench_base.specs.declared.events.Reply.{Reply}
 use Rattle.bench_base.specs.declared.events.Reply.TheVariants as r
-use Rattle.bench_base.specs.Rules.{first_rules}
 use Rattle.bench_base.specs.Nodes.{node_of}
 use Rattle.bench_base.specs.Plans.{Plan, refuse, made, told}
+use Rattle.bench_base.specs.Replies.{Told, Did, Refused, Armed, LostPower, Faulted, PrinterFailed, told_by}
 use Rattle.bench_base.specs.Ledger.{Ledger, is_on, counted}
-use Rattle.psd_wire.specs.declared.message.DebitMsg.{DebitMsg}
-use Rattle.ledger_terms.specs.Devices.{key_of}
-use Rattle.psd_state.specs.State.{State}
-use Rattle.psd_state.specs.Records.{IsRecordOf, state_of}
-use Rattle.psd_state.specs.Answers.{debit_answer}
-use Rattle.psd_state.specs.Laws.{MakingStarts, DebitingKeeps}
-use Rattle.psd_state.specs.declared.debiting.Debited.{Debited}
-use Rattle.psd_state.specs.declared.debiting.Debited.TheVariants.{New, Again}
-use Rattle.psd_device.specs.declared.acts.Act.{Act}
-use Rattle.psd_device.specs.declared.acts.Act.TheVariants.{Refuse, Tell, Commits}
-use Rattle.psd_device.specs.Acts.{commit_in}
-use Rattle.psd_device.specs.Calls.{make_act, franked_act, debit_act}
-use Rattle.device_seat.specs.Views.{View, committed, torn}
-use Rattle.device_seat.specs.Calls.{status_act}
-use Rattle.ledger_moves.specs.Moves.{Fails, MayFail, after, with_commit, debit_by}
-use Rattle.law_orders.specs.Nexts.{AreOrdered}
-use Rattle.bench_views.specs.Taken.{device_of}
-use Rattle.bench_views.specs.Devices.{record_in, view_of, device_plan, done_plan, marked, released, commit_by, IsOtherUp, MayReply, view_after}
-use Rattle.bench_views.proofs.Events.{of-event, some-same, none-some}
+use Rattle.node_acts.specs.declared.act.Act.{Act}
+use Rattle.node_acts.specs.declared.act.Act.TheVariants.{Refuse, Tell, Commits}
+use Rattle.node_acts.specs.Views.{Counting, View, committed, torn}
+use Rattle.node_acts.specs.Acts.{commit_in}
+use Rattle.node_acts.specs.Plans.{with_commit, after, after_told, Fails, FailsTold, MayFail, MayReply, IsOtherUp, done_plan, view_after, view_told}
+use Rattle.node_acts.specs.Kinds.{view_in}
+use Rattle.bench_views.proofs.Taken.{some-same, none-some}
 
 -- entries that tell of what was done
 abbrev pub AreTold : List Entry → Type 0
@@ -41,49 +26,41 @@ AreTold [] = Unit {0}
 AreTold (entry.Released d piece mark ∷ T) = AreTold T
 AreTold (_ ∷ T) = ⊥
 
--- for the device d and the ledger H: the answer, the commit with the record after it, and the ledger afterwards
-pub data Step (d : ℕ) (H : Ledger) : Reply → Option (Commit × State) → Ledger → Type 0 where
-  tells : {x : Reply} (T : List Entry) → AreTold T → ((v : View) → view_after x None v ≡ v) → Step d H x None (T ++ H)
-  does : {x : Reply} (T : List Entry) (c : Commit) (s : State) → AreTold T → ((v : View) → view_after x (Some (c, s)) v ≡ committed s v) → is_on (Device d) H ≡ true
-      → node_of c ≡ Device d → record_in d (c ∷ counted H) ≡ Some s → Step d H x (Some (c, s)) (T ++ (entry.Commit c ∷ H))
-  tears : {x : Reply} (c : Commit) (s : State) → ((v : View) → view_after x (Some (c, s)) v ≡ torn s v)
-      → node_of c ≡ Device d → record_in d (c ∷ counted H) ≡ Some s → Step d H x (Some (c, s)) (entry.Torn (Device d) c ∷ H)
-  boots : (k : ℕ) → Step d H (r.Up (Device d) k) None (entry.Up (Device d) k ∷ H)
-  stops : Step d H (r.Down (Device d)) None (entry.Down (Device d) ∷ H)
+-- for the node m and the ledger H: the answer, the commit with the record after it, and the ledger afterwards
+pub data Step {S X : Type 0} (n : Counting S X) (m : Node) (seen : List Commit → S) (H : Ledger) : Reply → Option (Commit × S) → Ledger → Type 0 where
+  tells : {x : Reply} (T : List Entry) → AreTold T → ((v : View S) → view_after n x None v ≡ v) → Step n m seen H x None (T ++ H)
+  does : {x : Reply} (T : List Entry) (c : Commit) (s : S) → AreTold T → ((v : View S) → view_after n x (Some (c, s)) v ≡ committed s v) → is_on m H ≡ true
+      → node_of c ≡ m → seen (c ∷ counted H) ≡ s → Step n m seen H x (Some (c, s)) (T ++ (entry.Commit c ∷ H))
+  tears : {x : Reply} (c : Commit) (s : S) → ((v : View S) → view_after n x (Some (c, s)) v ≡ torn s v)
+      → node_of c ≡ m → seen (c ∷ counted H) ≡ s → Step n m seen H x (Some (c, s)) (entry.Torn m c ∷ H)
+  boots : (k : ℕ) → Step n m seen H (r.Up m k) None (entry.Up m k ∷ H)
+  stops : Step n m seen H (r.Down m) None (entry.Down m ∷ H)
 
 -- == answers ==
 
--- the answer of a node that neither boots nor stops nor fails
-abbrev pub IsPlain : Reply → Type 0
-IsPlain (r.Up n k) = ⊥
-IsPlain (r.Down n) = ⊥
-IsPlain (r.Power n) = ⊥
-IsPlain (r.Fault n) = ⊥
-IsPlain (r.Printed j) = ⊥
-IsPlain (r.PrinterFault j) = ⊥
-IsPlain r.RatesFault = ⊥
-IsPlain _ = Unit {0}
+-- the reply tells that what was asked for was done, or refused, and nothing else
+abbrev pub IsPlain : Told → Type 0
+IsPlain Did = Unit {0}
+IsPlain Refused = Unit {0}
+IsPlain (Armed n) = Unit {0}
+IsPlain _ = ⊥
 
-plain-after : (x : Reply) (p : Plan) (H : Ledger) → IsPlain x → after p x H ≡ p.after ++ with_commit p.commit H
-plain-after (r.Up n k) p H h = absurd h
-plain-after (r.Down n) p H h = absurd h
-plain-after (r.Power n) p H h = absurd h
-plain-after (r.Fault n) p H h = absurd h
-plain-after (r.PrinterFault j) p H h = absurd h
-plain-after r.RatesFault p H h = absurd h
-plain-after _ p H h = refl
+plain-after : (t : Told) (p : Plan) (H : Ledger) → IsPlain t → after_told p t H ≡ p.after ++ with_commit p.commit H
+plain-after Did p H h = refl
+plain-after Refused p H h = refl
+plain-after (Armed n) p H h = refl
+plain-after _ p H h = absurd h
 
-plain-still : (x : Reply) (v : View) → IsPlain x → view_after x None v ≡ v
-plain-still (r.Up n k) v h = absurd h
-plain-still (r.Down n) v h = absurd h
-plain-still _ v h = refl
+plain-still : {S X : Type 0} (n : Counting S X) (t : Told) (v : View S) → IsPlain t → view_told n t None v ≡ v
+plain-still n Did v h = refl
+plain-still n Refused v h = refl
+plain-still n (Armed m) v h = refl
+plain-still n _ v h = absurd h
 
-plain-done : (x : Reply) (c : Commit) (s : State) (v : View) → IsPlain x → view_after x (Some (c, s)) v ≡ committed s v
-plain-done (r.Up n k) c s v h = absurd h
-plain-done (r.Down n) c s v h = absurd h
-plain-done (r.Power n) c s v h = absurd h
-plain-done (r.Fault n) c s v h = absurd h
-plain-done _ c s v h = refl
+-- a plan with such a reply prints nothing
+pub record IsQuiet (y : Reply) : Type 0 where
+  pub plain : IsPlain (told_by y)
+  pub no_print : (j : ℕ) → y ≡ r.Printed j → ⊥
 
 -- == failures ==
 
@@ -93,167 +70,125 @@ record Failed (p : Plan) (x : Reply) : Type 0 where
   c : Commit
   is : p.commit ≡ Some c
   own : node_of c ≡ n
-  how : (x ≡ r.Power n) ⊎ (x ≡ r.Fault n)
+  how : (told_by x ≡ LostPower n) ⊎ (told_by x ≡ Faulted n)
 
-module _ (p : Plan) (no_up : (n : Node) (k : ℕ) → p.reply ≡ r.Up n k → ⊥) (no_print : (j : ℕ) → p.reply ≡ r.Printed j → ⊥) where
-  failing : (n : Node) (x : Reply) → (x ≡ r.Power n) ⊎ (x ≡ r.Fault n) → MayFail p n → Failed p x
-  failing n x how may = ⊎_elim
+module _ (p : Plan) (x : Reply) (no_up : (n : Node) (k : ℕ) → p.reply ≡ r.Up n k → ⊥) (no_print : (j : ℕ) → p.reply ≡ r.Printed j → ⊥) where
+  failing : (n : Node) → (told_by x ≡ LostPower n) ⊎ (told_by x ≡ Faulted n) → MayFail p n → Failed p x
+  failing n how may = ⊎_elim
       (λ (h : (k : ℕ) × (p.reply ≡ r.Up n k)). absurd (no_up n h.0 h.1))
       (λ (h : (c : Commit) × (p.commit ≡ Some c) × (node_of c ≡ n)). record { n = n; c = h.0; is = h.1; own = h.2; how = how })
       may
 
-  failed : (x : Reply) → Fails p x → Failed p x
-  failed (r.Power n) h = failing n (r.Power n) (inl refl) h
-  failed (r.Fault n) h = failing n (r.Fault n) (inr refl) h
-  failed (r.PrinterFault j) h = absurd (no_print j h)
-  failed _ h = absurd h
+  failed_told : (t : Told) → told_by x ≡ t → FailsTold p t → Failed p x
+  failed_told (LostPower n) is h = failing n (inl is) h
+  failed_told (Faulted n) is h = failing n (inr is) h
+  failed_told (PrinterFailed j) is h = absurd (no_print j h)
+  failed_told _ is h = absurd h
 
-module _ (d : ℕ) (H : Ledger) where
+  failed : Fails p x → Failed p x
+  failed h = failed_told (told_by x) refl h
+
+module _ {S X : Type 0} (n : Counting S X) (m : Node) (seen : List Commit → S) (H : Ledger) where
   -- the reply is one that the event of this plan may get
-  abbrev MayGet : Plan → Reply → Type 0
-  MayGet p x = (x ≡ p.reply) ⊎ (IsOtherUp d (view_of d H) p x ⊎ Fails p x)
+  abbrev pub Gets : Plan → Reply → Type 0
+  Gets p x = MayReply n m (view_in m seen H) p x
 
-  tells-plain : (x y : Reply) (T : List Entry) → IsPlain y → AreTold T → MayGet (told y T) x → Step d H x None (after (told y T) x H)
-  tells-plain x y T plain are may = ⊎_elim
-      (λ (h : x ≡ y). subst (λ z. Step d H z None (after (told y T) z H)) (sym h)
-      (subst (Step d H y None) (sym (plain-after y (told y T) H plain)) (tells T are (λ v. plain-still y v plain))))
-      (λ (h : IsOtherUp d (view_of d H) (told y T) x ⊎ Fails (told y T) x). ⊎_elim
-      (λ (o : IsOtherUp d (view_of d H) (told y T) x). absurd (subst IsPlain o.0 plain))
-      (λ (f : Fails (told y T) x).
-      let g = failed (told y T) (λ n k e. subst IsPlain e plain) (λ j e. subst IsPlain e plain) x f in
-      none-some {a = g.c} g.is)
-      h)
-      may
+  abbrev pub Goes : Reply → Option (Commit × S) → Ledger → Type 0
+  Goes x made new = Step n m seen H x made new
 
-  makes : (x y : Reply) (c : Commit) (s : State) (T : List Entry) → IsPlain y → AreTold T → is_on (Device d) H ≡ true → node_of c ≡ Device d → record_in d (c ∷ counted H) ≡ Some s
-      → MayGet (made y c T) x → Step d H x (Some (c, s)) (after (made y c T) x H)
-  makes x y c s T plain are on own is may = ⊎_elim
-      (λ (h : x ≡ y). subst (λ z. Step d H z (Some (c, s)) (after (made y c T) z H)) (sym h)
-      (subst (Step d H y (Some (c, s))) (sym (plain-after y (made y c T) H plain)) (does T c s are (λ v. plain-done y c s v plain) on own is)))
-      (λ (h : IsOtherUp d (view_of d H) (made y c T) x ⊎ Fails (made y c T) x). ⊎_elim
-      (λ (o : IsOtherUp d (view_of d H) (made y c T) x). absurd (subst IsPlain o.0 plain))
-      (λ (f : Fails (made y c T) x).
-      let g = failed (made y c T) (λ n k e. subst IsPlain e plain) (λ j e. subst IsPlain e plain) x f in
-      let at : g.n ≡ Device d = sym g.own ∙ ap node_of (sym (some-same g.is)) ∙ own in
-      ⊎_elim
-      (λ (e : x ≡ r.Power g.n). subst (λ z. Step d H z (Some (c, s)) (after (made y c T) z H)) (sym (e ∙ ap r.Power at)) (tears c s (λ v. refl) own is))
-      (λ (e : x ≡ r.Fault g.n). subst (λ z. Step d H z (Some (c, s)) (after (made y c T) z H)) (sym (e ∙ ap r.Fault at)) (tears c s (λ v. refl) own is))
-      g.how)
-      h)
-      may
+  no_boot : (y : Reply) → IsPlain (told_by y) → (i : Node) (k : ℕ) → y ≡ r.Up i k → ⊥
+  no_boot y plain i k e = subst (λ (z : Reply). IsPlain (told_by z)) e plain
 
-  -- == a device that is on, by what it does ==
+  -- the reply of the plan itself
+  by_answer : (x y : Reply) (p : Plan) (made : Option (Commit × S)) → x ≡ y → IsPlain (told_by y) → Goes y made (p.after ++ with_commit p.commit H) → Goes x made (after p x H)
+  by_answer x y p made is plain goes = subst (λ (z : Reply). Goes z made (after p z H)) (sym is) (subst (Goes y made) (sym (plain-after (told_by y) p H plain)) goes)
 
-  -- the commit is the device's, and its record follows from it
-  abbrev pub IsRight : {A : Type 0} → Act A → Type 0
-  IsRight (Commits c s a) = (node_of c ≡ Device d) × (record_in d (c ∷ counted H) ≡ Some s)
-  IsRight _ = Unit {0}
+  pub tells-plain : (x y : Reply) (T : List Entry) → IsQuiet y → AreTold T → Gets (told y T) x → Goes x None (after (told y T) x H)
+  tells-plain x y T quiet are (inl h) = by_answer x y (told y T) None h quiet.plain (tells T are (λ v. plain-still n (told_by y) v quiet.plain))
+  tells-plain x y T quiet are (inr (inl o)) = absurd (no_boot y quiet.plain m (n.count (seen (counted H))) o.0)
+  tells-plain x y T quiet are (inr (inr f)) = none-some (failed (told y T) x (no_boot y quiet.plain) quiet.no_print f).is
 
-  module _ {A : Type 0} (reply : A → Reply) (tell : A → List Entry) (plain : (a : A) → IsPlain (reply a)) (are : (a : A) → AreTold (tell a)) where
-    commits : (worn : Bool) (c : Commit) (s : State) (a : A) (x : Reply) → is_on (Device d) H ≡ true → node_of c ≡ Device d → record_in d (c ∷ counted H) ≡ Some s
-        → MayGet (cond worn (refuse (r.Worn (Device d))) (made (reply a) c (tell a))) x
-        → Step d H x (cond worn None (Some (c, s))) (after (cond worn (refuse (r.Worn (Device d))) (made (reply a) c (tell a))) x H)
-    commits true c s a x on own is may = tells-plain x (r.Worn (Device d)) [] tt tt may
-    commits false c s a x on own is may = makes x (reply a) c s (tell a) (plain a) (are a) on own is may
+  torn-still : (t : Told) (i : Node) (c : Commit) (s : S) (v : View S) → (t ≡ LostPower i) ⊎ (t ≡ Faulted i) → view_told n t (Some (c, s)) v ≡ torn s v
+  torn-still t i c s v (inl is) = ap (λ (z : Told). view_told n z (Some (c, s)) v) is
+  torn-still t i c s v (inr is) = ap (λ (z : Told). view_told n z (Some (c, s)) v) is
 
-    abbrev act_plan : Act A → Plan
-    act_plan act = done_plan d reply tell (view_of d H).count act
+  torn-after : (t : Told) (i : Node) (y : Reply) (c : Commit) (T : List Entry) → i ≡ m → (t ≡ LostPower i) ⊎ (t ≡ Faulted i) → after_told (made y c T) t H ≡ entry.Torn m c ∷ H
+  torn-after t i y c T at (inl is) = ap (λ (z : Told). after_told (made y c T) z H) is ∙ ap (λ (z : Node). entry.Torn z c ∷ H) at
+  torn-after t i y c T at (inr is) = ap (λ (z : Told). after_told (made y c T) z H) is ∙ ap (λ (z : Node). entry.Torn z c ∷ H) at
 
-    acts-on : (act : Act A) (x : Reply) → IsRight act → is_on (Device d) H ≡ true → MayGet (act_plan act) x
-        → Step d H x (commit_in (view_of d H).count act) (after (act_plan act) x H)
-    acts-on (Refuse y) x right on may = tells-plain x (r.DevRefused d y) [] tt tt may
-    acts-on (Tell a) x right on may = tells-plain x (reply a) (tell a) (plain a) (are a) may
-    acts-on (Commits c s a) x right on may = commits ((view_of d H).count == 4294967295) c s a x on right.0 right.1 may
+  makes : (x y : Reply) (c : Commit) (s : S) (T : List Entry) → told_by y ≡ Did → ((j : ℕ) → y ≡ r.Printed j → ⊥) → AreTold T → is_on m H ≡ true → node_of c ≡ m → seen (c ∷ counted H) ≡ s
+      → Gets (made y c T) x → Goes x (Some (c, s)) (after (made y c T) x H)
+  makes x y c s T did no_print are on own is (inl h) =
+      by_answer x y (made y c T) (Some (c, s)) h (subst IsPlain (sym did) tt) (does T c s are (λ v. ap (λ (t : Told). view_told n t (Some (c, s)) v) did) on own is)
+  makes x y c s T did no_print are on own is (inr (inl o)) = absurd (no_boot y (subst IsPlain (sym did) tt) m (n.count (seen (counted H))) o.0)
+  makes x y c s T did no_print are on own is (inr (inr f)) =
+      let g = failed (made y c T) x (no_boot y (subst IsPlain (sym did) tt)) no_print f in
+      let at : g.n ≡ m = sym g.own ∙ ap node_of (sym (some-same g.is)) ∙ own in
+      subst (λ (new : Ledger). Goes x (Some (c, s)) new) (sym (torn-after (told_by x) g.n y c T at g.how)) (tears c s (λ v. torn-still (told_by x) g.n c s v g.how) own is)
 
-    acts : (on : Bool) (act : Act A) (x : Reply) → IsRight act → is_on (Device d) H ≡ on → MayGet (cond on (act_plan act) (refuse (r.OffNode (Device d)))) x
-        → Step d H x (cond on (commit_in (view_of d H).count act) None) (after (cond on (act_plan act) (refuse (r.OffNode (Device d)))) x H)
+  -- == a call, by its act ==
+
+  -- the commit is the node's, and its record follows from it
+  abbrev pub IsRight : {F A : Type 0} → Act X F A → Type 0
+  IsRight (Commits c y a) = (node_of c ≡ m) × (seen (c ∷ counted H) ≡ n.after (seen (counted H)) y)
+  IsRight (Refuse x) = Unit {0}
+  IsRight (Tell a) = Unit {0}
+
+  module _ {F A : Type 0} (refusal : F → Reply) (reply : A → Reply) (tell : A → List Entry) (refuses : (y : F) → IsQuiet (refusal y))
+      (did : (a : A) → told_by (reply a) ≡ Did) (no_print : (a : A) (j : ℕ) → reply a ≡ r.Printed j → ⊥) (are : (a : A) → AreTold (tell a)) where
+    worn_quiet : IsQuiet (r.Worn m)
+    worn_quiet = record { plain = tt; no_print = λ j e. cc }
+
+    off_quiet : IsQuiet (r.OffNode m)
+    off_quiet = record { plain = tt; no_print = λ j e. cc }
+
+    commits : (worn : Bool) (c : Commit) (s : S) (a : A) (x : Reply) → is_on m H ≡ true → node_of c ≡ m → seen (c ∷ counted H) ≡ s
+        → Gets (cond worn (refuse (r.Worn m)) (made (reply a) c (tell a))) x
+        → Goes x (cond worn None (Some (c, s))) (after (cond worn (refuse (r.Worn m)) (made (reply a) c (tell a))) x H)
+    commits true c s a x on own is may = tells-plain x (r.Worn m) [] worn_quiet tt may
+    commits false c s a x on own is may = makes x (reply a) c s (tell a) (did a) (no_print a) (are a) on own is may
+
+    abbrev by_act : Act X F A → Plan
+    by_act act = done_plan n m refusal reply tell (seen (counted H)) act
+
+    acts-on : (act : Act X F A) (x : Reply) → IsRight act → is_on m H ≡ true → Gets (by_act act) x → Goes x (commit_in n (seen (counted H)) act) (after (by_act act) x H)
+    acts-on (Refuse y) x right on may = tells-plain x (refusal y) [] (refuses y) tt may
+    acts-on (Tell a) x right on may = tells-plain x (reply a) (tell a) (record { plain = subst IsPlain (sym (did a)) tt; no_print = no_print a }) (are a) may
+    acts-on (Commits c y a) x right on may = commits (n.is_worn (seen (counted H)) y) c (n.after (seen (counted H)) y) a x on right.0 right.1 may
+
+    pub acts : (on : Bool) (act : Act X F A) (x : Reply) → IsRight act → is_on m H ≡ on → Gets (cond on (by_act act) (refuse (r.OffNode m))) x
+        → Goes x (cond on (commit_in n (seen (counted H)) act) None) (after (cond on (by_act act) (refuse (r.OffNode m))) x H)
     acts true act x right is may = acts-on act x right is may
-    acts false act x right is may = tells-plain x (r.OffNode (Device d)) [] tt tt may
+    acts false act x right is may = tells-plain x (r.OffNode m) [] off_quiet tt may
 
-  -- == the device that boots, and the one that stops ==
+  -- == the node that boots, and the one that stops ==
 
   abbrev boot_plan : Plan
-  boot_plan = told (r.Up (Device d) (view_of d H).count) (entry.Up (Device d) (view_of d H).count ∷ [])
+  boot_plan = told (r.Up m (n.count (seen (counted H)))) (entry.Up m (n.count (seen (counted H))) ∷ [])
 
   abbrev stop_plan : Plan
-  stop_plan = told (r.Down (Device d)) (entry.Down (Device d) ∷ [])
+  stop_plan = told (r.Down m) (entry.Down m ∷ [])
 
-  boot-may : (k : ℕ) (x : Reply) → x ≡ r.Up (Device d) k → Step d H x None (after boot_plan x H)
-  boot-may k x h = subst (λ z. Step d H z None (after boot_plan z H)) (sym h) (boots k)
+  boot-may : (k : ℕ) (x : Reply) → x ≡ r.Up m k → Goes x None (after boot_plan x H)
+  boot-may k x h = subst (λ z. Goes z None (after boot_plan z H)) (sym h) (boots k)
 
-  boot-fails : (x : Reply) → Fails boot_plan x
-      → Step d H x None (after boot_plan x H)
-  boot-fails (r.Power n) h = tells [] tt (λ v. refl)
-  boot-fails (r.Fault n) h = tells [] tt (λ v. refl)
-  boot-fails (r.PrinterFault j) h = cc
-  boot-fails _ h = absurd h
+  boot-fails : (x : Reply) (t : Told) → told_by x ≡ t → FailsTold boot_plan t → Goes x None (after_told boot_plan t H)
+  boot-fails x (LostPower i) is h = tells [] tt (λ v. ap (λ (t : Told). view_told n t None v) is)
+  boot-fails x (Faulted i) is h = tells [] tt (λ v. ap (λ (t : Told). view_told n t None v) is)
+  boot-fails x (PrinterFailed j) is h = cc
+  boot-fails x _ is h = absurd h
 
-  turns-on : (on : Bool) (x : Reply) → MayGet (cond on (refuse (r.OnAlready (Device d))) boot_plan) x
-      → Step d H x None (after (cond on (refuse (r.OnAlready (Device d))) boot_plan) x H)
-  turns-on true x may = tells-plain x (r.OnAlready (Device d)) [] tt tt may
-  turns-on false x may = ⊎_elim
-      (boot-may (view_of d H).count x)
-      (λ (h : IsOtherUp d (view_of d H) boot_plan x ⊎ Fails boot_plan x). ⊎_elim
-      (λ (o : IsOtherUp d (view_of d H) boot_plan x). boot-may ((view_of d H).count + 1) x o.2)
-      (boot-fails x)
-      h)
-      may
+  pub turns-on : (on : Bool) (x : Reply) → Gets (cond on (refuse (r.OnAlready m)) boot_plan) x → Goes x None (after (cond on (refuse (r.OnAlready m)) boot_plan) x H)
+  turns-on true x may = tells-plain x (r.OnAlready m) [] (record { plain = tt; no_print = λ j e. cc }) tt may
+  turns-on false x (inl h) = boot-may (n.count (seen (counted H))) x h
+  turns-on false x (inr (inl o)) = boot-may (n.count (seen (counted H)) + 1) x o.2
+  turns-on false x (inr (inr f)) = boot-fails x (told_by x) refl f
 
-  turns-off : (on : Bool) (x : Reply) → MayGet (cond on stop_plan (refuse (r.OffNode (Device d)))) x
-      → Step d H x None (after (cond on stop_plan (refuse (r.OffNode (Device d)))) x H)
-  turns-off true x may = ⊎_elim
-      (λ (h : x ≡ r.Down (Device d)). subst (λ z. Step d H z None (after stop_plan z H)) (sym h) stops)
-      (λ (h : IsOtherUp d (view_of d H) stop_plan x ⊎ Fails stop_plan x). ⊎_elim
-      (λ (o : IsOtherUp d (view_of d H) stop_plan x). let e = o.0 in cc)
-      (λ (f : Fails stop_plan x).
-      let g = failed stop_plan (λ n k e. cc) (λ j e. cc) x f in
-      none-some {a = g.c} g.is)
-      h)
-      may
-  turns-off false x may = tells-plain x (r.OffNode (Device d)) [] tt tt may
+  pub turns-off : (on : Bool) (x : Reply) → Gets (cond on stop_plan (refuse (r.OffNode m))) x → Goes x None (after (cond on stop_plan (refuse (r.OffNode m))) x H)
+  turns-off true x (inl h) = subst (λ z. Goes z None (after stop_plan z H)) (sym h) stops
+  turns-off true x (inr (inl o)) = let e = o.0 in cc
+  turns-off true x (inr (inr f)) = none-some (failed stop_plan x (λ i k e. cc) (λ j e. cc) f).is
+  turns-off false x may = tells-plain x (r.OffNode m) [] (record { plain = tt; no_print = λ j e. cc }) tt may
 
--- == all events ==
-
-module _ (H : Ledger) (ordered : AreOrdered (counted H)) (making : MakingStarts) (debiting : DebitingKeeps) where
-  record-is : (d : ℕ) (s : State) (C : List Commit) → IsRecordOf s d C → record_in d C ≡ Some s
-  record-is d s C is = rw is.made (ap Some (sym is.state))
-
-  abbrev kept : ℕ → Option (List ℕ) → Option State
-  kept d k = option_map (λ key. state_of d key (counted H)) k
-
-  make-right : (d : ℕ) (key : List ℕ) (k : Option (List ℕ)) → key_of d (counted H) ≡ k → IsRight d H (make_act d key (kept d k))
-  make-right d key None h = (refl, record-is d _ _ (making d key (counted H) (ordered.devices d) h).0)
-  make-right d key (Some old) h = tt
-
-  franked-right : (d : ℕ) (q : DebitMsg) (today : ℤ) (s : State) (result : Result Debited DevRefusal) → IsRecordOf s d (counted H) → debit_answer first_rules s q today ≡ result
-      → IsRight d H (franked_act first_rules d q today result)
-  franked-right d q today s (Err x) is h = tt
-  franked-right d q today s (Ok (New t mark)) is h = (refl, record-is d t _ (debiting first_rules d (counted H) s t q today mark (ordered.devices d) is h).0)
-  franked-right d q today s (Ok (Again mark)) is h = tt
-
-  debit-right : (d : ℕ) (q : DebitMsg) (today : ℤ) (k : Option (List ℕ)) → key_of d (counted H) ≡ k → IsRight d H (debit_act first_rules d q today (kept d k))
-  debit-right d q today None h = tt
-  debit-right d q today (Some key) h = franked-right d q today (state_of d key (counted H)) _ (ordered.records d key h) refl
-
-  status-right : (d : ℕ) (today : ℤ) (k : Option (List ℕ)) → IsRight d H (status_act today (kept d k))
-  status-right d today None = tt
-  status-right d today (Some key) = tt
-
-  -- to be asked for the status makes no commit
-  status-none : (on : Bool) (count : ℕ) (today : ℤ) (s : Option State) → cond on (commit_in count (status_act today s)) None ≡ None
-  status-none true count today None = refl
-  status-none true count today (Some s) = refl
-  status-none false count today s = refl
-
-  pub stepped : (today : ℤ) (e : Event) (d : ℕ) → device_of e ≡ Some d → (x : Reply) → MayReply d today (view_of d H) e x
-      → Step d H x (commit_by d today (view_of d H) e) (after (device_plan d today (view_of d H) e) x H)
-  stepped today = of-event (λ d e. (x : Reply) → MayReply d today (view_of d H) e x → Step d H x (commit_by d today (view_of d H) e) (after (device_plan d today (view_of d H) e) x H)) (record {
-    on = λ d x may. turns-on d H (is_on (Device d) H) x may;
-    off = λ d x may. turns-off d H (is_on (Device d) H) x may;
-    cut = λ d calls keep byte x may. tells-plain d H x (r.CutSet (Device d)) [] tt tt may;
-    make = λ d key x may. acts d H (λ u. r.Made d) (λ u. []) (λ u. tt) (λ u. tt) (is_on (Device d) H) (make_act d key (view_of d H).state) x (make-right d key (key_of d (counted H)) refl) refl may;
-    debit = λ d piece postage class x may. acts d H (marked d piece) (released d piece) (λ f. tt) (λ f. tt) (is_on (Device d) H)
-        (debit_act first_rules d (debit_by d piece postage class) today (view_of d H).state) x (debit-right d (debit_by d piece postage class) today (key_of d (counted H)) refl) refl may;
-    status = λ d x may. subst (λ m. Step d H x m (after (device_plan d today (view_of d H) (ev.Status d)) x H)) (status-none (is_on (Device d) H) (view_of d H).count today (view_of d H).state)
-        (acts d H (r.Status d) (λ view. []) (λ view. tt) (λ view. tt) (is_on (Device d) H) (status_act today (view_of d H).state) x (status-right d today (key_of d (counted H))) refl may);
-  })
+  pub cuts : (x : Reply) → Gets (refuse (r.CutSet m)) x → Goes x None (after (refuse (r.CutSet m)) x H)
+  cuts x may = tells-plain x (r.CutSet m) [] (record { plain = tt; no_print = λ j e. cc }) tt may

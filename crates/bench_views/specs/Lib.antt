@@ -1,3 +1,3 @@
-pub mod Taken
 pub mod Devices
 pub mod Follows
+pub mod Taken

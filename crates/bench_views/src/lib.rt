@@ -1,4 +1,7 @@
-//! What the bench sees of its devices by the ledger, and how an event of one changes it: laws, without code.
+//! The events that the bench takes; what the bench sees of its nodes by the ledger, and how an event of one changes it.
 #![tactic(auto)]
 
 pub mod laws;
+mod taken;
+
+pub use taken::{DeviceCall, Taken, take};

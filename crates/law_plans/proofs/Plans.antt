@@ -1,6 +1,6 @@
 -- What a plan adds keeps the invariant, whatever reply the event gets. A plan is right where its commit fits and its node is on,
 -- where what it tells afterwards keeps the invariant, and where its answer is one that honest devices and centres give.
-use Rattle.std.proofs.Common.{◌≡◌, ℕ, ℤ, true, [], ◌++◌, Option, Some, None, refl, sym, ap, subst, ◌∙◌, ◌⊎◌, ⊎_elim}
+use Rattle.std.proofs.Common.{◌≡◌, ◌+◌, ℕ, ℤ, true, [], ◌++◌, Option, Some, None, refl, sym, ap, subst, ◌∙◌, ◌⊎◌, ⊎_elim}
 use Rattle.bench_base.specs.declared.words.Node.{Node}
 use Rattle.bench_base.specs.declared.ledger.Commit.{Commit}
 use Rattle.bench_base.specs.declared.events.Event.{Event}

@@ -166,7 +166,7 @@ pub record OtherUp (answer reply : Reply) (H : Ledger) : Type 0 where
   pub count : ℕ
   pub answer_is : answer ≡ r.Up node count
   pub more : reply ≡ r.Up node (count + 1)
-  pub open : IsSome (torn_of node H)
+  pub torn : IsSome (torn_of node H)
 
 -- a `rates` on a day may find that its source fails
 pub record FailsToRead (x : Event) (reply : Reply) (day : Option ℤ) : Type 0 where

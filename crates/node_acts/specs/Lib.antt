@@ -3,3 +3,4 @@ pub mod Acts
 pub mod Starts
 pub mod Plans
 pub mod Results
+pub mod Kinds

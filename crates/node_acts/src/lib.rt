@@ -3,5 +3,7 @@
 #![tactic(auto)]
 
 mod act;
+mod asked;
 
 pub use act::{Act, Outcome, Started};
+pub use asked::Asked;

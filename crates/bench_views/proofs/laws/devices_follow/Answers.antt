@@ -1,30 +1,28 @@
-use Rattle.std.proofs.Common.{[]}
-use Rattle.bench_base.specs.Rules.{first_rules}
+use Rattle.std.proofs.Common.{refl, ap}
+use Rattle.bench_base.specs.declared.words.Node.TheVariants.{Device}
+use Rattle.bench_base.specs.Rules.{todays_rules}
+use Rattle.psd_state.specs.Seen.{counting}
+use Rattle.bench_views.specs.Devices.{seen_in}
 use Rattle.bench_views.proofs.Plans.{planned}
-use Rattle.bench_views.proofs.Views.{here, others, rests}
-use Rattle.bench_views.proofs.Histories.{editions, moves, goes}
+use Rattle.bench_views.proofs.Frames.{apart, one-device}
+use Rattle.bench_views.proofs.Views.{here, others, device-rests}
+use Rattle.bench_views.proofs.Histories.{moves, goes}
 use Rattle.bench_views.proofs.laws.devices_follow.Goals as goal
 
-pub returns-clause-plans : goal.returns-clause-plans
-returns-clause-plans c τ H e d today h day whole of le = planned H τ today day e d of le
-
-pub returns-clause-moves : goal.returns-clause-moves
-returns-clause-moves c τ H e d today h day whole of le reply may = moves τ H e d today day of le whole reply may
-
-pub returns-clause-here : goal.returns-clause-here
-returns-clause-here c τ H e d today h day whole of le reply may =
+pub returns-ensures : goal.returns-ensures
+returns-ensures c τ H e d today asked h day whole of le =
     let laws = c.record_follows_the_commits.ensures in
-    let ordered = c.orders.ensures.ordered τ first_rules [] H editions h in
-    here H (c.orders.ensures.torn τ first_rules [] H editions h) d reply _ _ (goes τ H e d today day of le ordered laws.made laws.debited reply may)
-
-pub returns-clause-others : goal.returns-clause-others
-returns-clause-others c τ H e d today h day whole of le reply may =
-    let laws = c.record_follows_the_commits.ensures in
-    let ordered = c.orders.ensures.ordered τ first_rules [] H editions h in
-    others H (c.orders.ensures.torn τ first_rules [] H editions h) d reply _ _ (goes τ H e d today day of le ordered laws.made laws.debited reply may)
-
-pub returns-clause-rests : goal.returns-clause-rests
-returns-clause-rests c τ H e d today h day whole of le reply may =
-    let laws = c.record_follows_the_commits.ensures in
-    let ordered = c.orders.ensures.ordered τ first_rules [] H editions h in
-    rests H (c.orders.ensures.torn τ first_rules [] H editions h) d reply _ _ (goes τ H e d today day of le ordered laws.made laws.debited reply may)
+    let editions = c.histories.ensures.today in
+    let ordered = c.orders.ensures.ordered τ todays_rules _ H editions h in
+    let opens = c.orders.ensures.torn τ todays_rules _ H editions h in
+    record {
+      plan = planned H τ today day e d asked of le;
+      replied = λ reply may.
+          let goes' = goes τ H e d today asked day of le ordered laws.made laws.debited reply may in
+          record {
+            moves = moves τ H e d today asked day of le whole reply may;
+            here = here H opens counting (Device d) (seen_in d) (λ C. refl) reply _ _ goes';
+            others = λ i ne. others H opens counting (Device d) (seen_in d) (Device i) (λ is. ne (one-device i d is)) (seen_in i) (apart d i ne) reply _ _ goes';
+            rests = device-rests H opens counting d (seen_in d) reply _ _ goes';
+          };
+    }
