@@ -35,7 +35,7 @@ use Rattle.ledger_terms.specs.Sums.{bought, returned}
 use Rattle.ledger_terms.specs.Devices.{applied_of}
 use Rattle.ledger_terms.specs.Centres.{registered, key_in, ruled, settled, opened, receipt, deposits}
 use Rattle.ledger_terms.specs.InFlight.{ruling_of}
-use Rattle.ledger_terms.specs.Rulings.{verdict, verdict_by, verdict_rows, account_of, Account, reply_to, reply_note, stored_reply}
+use Rattle.ledger_terms.specs.Rulings.{verdict, verdict_by, verdict_rows, account_of, Account, reply_to, reply_note, stored_reply, ruled_reply}
 use Rattle.centre_ledger.specs.Answers as centre
 use Rattle.centre_ledger.specs.Answers.{last_ruling}
 use Rattle.ledger_moves.specs.Histories.{IsKnown}
@@ -44,7 +44,7 @@ use Rattle.law_good.proofs.Basics.{some-same, some-none, or_false, chosen, first
 use Rattle.law_plans.proofs.Whole.{whole-reply, deadline_signed, no_deadline}
 use Rattle.law_good.proofs.Good.{Good}
 use Rattle.law_money.proofs.Links.{link, note-le, applied-le}
-use Rattle.law_money.proofs.Money.{added, last-is, last-some, ruling-asked}
+use Rattle.law_money.proofs.Money.{added, reply-added, last-is, last-some, ruling-asked}
 use Rattle.law_money.proofs.Asked.{note-reads, applied-asked}
 use Rattle.law_plans.proofs.Franked.{registered-word}
 use Rattle.law_money.proofs.Customers.{granted-rows, AllRefuse}
@@ -105,6 +105,8 @@ module _ (ρ : Rules) where
         ruled_as = there ∙ ap (λ (z : Verdict). Some (z, note)) says;
         kind = ap (λ (z : Request). z.kind) (sym is_note);
         amount = λ h. granted-amount (verdict_rows (account_of C q) q) q.amount (refl, (refl, (refl, (refl, (refl, (refl, tt)))))) h ∙ ap (λ (z : Request). z.amount) (sym is_note);
+        whole = subst (λ (z : ℕ × ℕ). ruled_reply z.0 z.1 (c.Ruled d n v note ∷ C) ≡ Some (reply_to C q)) (λ j. (sym same j, sym number j))
+            (reply-added ρ d d n v note C (eq-eqb d d refl) above ∙ ap (λ (z : Request). Some (reply_to C z)) is_note);
       }
 
   record StoredReply (x : List ℕ) (C : List Commit) : Type 0 where

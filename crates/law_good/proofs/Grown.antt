@@ -25,10 +25,11 @@ use Rattle.psd_wire.specs.Grammar.{read}
 use Rattle.ledger_terms.specs.Requests.{request_in, note_of}
 use Rattle.ledger_terms.specs.Devices.{applied_of}
 use Rattle.ledger_terms.specs.InFlight.{ruling_of}
+use Rattle.ledger_terms.specs.Rulings.{ruled_reply}
 use Rattle.ledger_terms.specs.Franking.{marked}
 use Rattle.ledger_lawful.specs.Lawful.{Always, Releases, PrintedOnce}
 use Rattle.law_good.proofs.Basics.{some-same, ok-same}
-use Rattle.law_good.proofs.Kept.{note-kept, ruling-kept, applied-kept, begun-kept}
+use Rattle.law_good.proofs.Kept.{note-kept, ruling-kept, ruled_reply-kept, applied-kept, begun-kept}
 use Rattle.law_good.proofs.Good.{Fits, Good}
 use Rattle.law_good.proofs.Frame.{frame}
 
@@ -58,6 +59,8 @@ pub record GenuineReply (p : ReplyMsg) (C : List Commit) : Type 0 where
   pub ruled_as : ruling_of p.device p.number C ≡ Some (p.verdict, note)
   pub kind : p.kind ≡ (request_in note).kind
   pub amount : is_granted p.verdict ≡ true → p.amount ≡ (request_in note).amount
+  -- and it is, whole, the Reply of that ruling
+  pub whole : ruled_reply p.device p.number C ≡ Some p
 
 -- a Request was asked so, a Reply was ruled so, a Done was applied, a Debit is for one of the devices and a class of 16 bits, and a Release carries a mark that was released
 abbrev pub GenuineAs : List ℕ → Message → Ledger → List Commit → Type 0
@@ -81,7 +84,7 @@ released-kept x (e.Released d p y) H h = inr h
 released-kept x _ H h = h
 
 pub reply-kept : (p : ReplyMsg) (c : Commit) (C : List Commit) → GenuineReply p C → GenuineReply p (c ∷ C)
-reply-kept p c C g = record { note = g.note; ruled_as = ruling-kept p.device p.number (p.verdict, g.note) c C g.ruled_as; kind = g.kind; amount = g.amount }
+reply-kept p c C g = record { note = g.note; ruled_as = ruling-kept p.device p.number (p.verdict, g.note) c C g.ruled_as; kind = g.kind; amount = g.amount; whole = ruled_reply-kept p.device p.number p c C g.whole }
 
 as-commit : (bytes : List ℕ) (x : Message) (H : Ledger) (c : Commit) (C : List Commit) → GenuineAs bytes x H C → GenuineAs bytes x H (c ∷ C)
 as-commit bytes (m.Request q) H c C g = note-kept q.device q.number bytes c C g

@@ -10,7 +10,9 @@ use Rattle.bench_base.specs.Jobs.{begun}
 use Rattle.ledger_terms.specs.Requests.{request_in, note_of}
 use Rattle.ledger_terms.specs.Devices.{applied_of}
 use Rattle.ledger_terms.specs.Centres.{enrolled}
+use Rattle.psd_wire.specs.declared.message.ReplyMsg.{ReplyMsg}
 use Rattle.ledger_terms.specs.InFlight.{ruling_of}
+use Rattle.ledger_terms.specs.Rulings.{reply_to, ruled_reply}
 use Rattle.law_good.proofs.Basics.{kept_first}
 
 pub note-kept : (d n : ℕ) (x : List ℕ) (c : Commit) (C : List Commit) → note_of d n C ≡ Some x → note_of d n (c ∷ C) ≡ Some x
@@ -20,6 +22,10 @@ note-kept d n x _ C e = e
 pub ruling-kept : (d n : ℕ) (x : Verdict × List ℕ) (c : Commit) (C : List Commit) → ruling_of d n C ≡ Some x → ruling_of d n (c ∷ C) ≡ Some x
 ruling-kept d n x (Ruled f m v r) C e = kept_first ((f == d) && (m == n)) (ruling_of d n C) (v, r) x e
 ruling-kept d n x _ C e = e
+
+pub ruled_reply-kept : (d n : ℕ) (p : ReplyMsg) (c : Commit) (C : List Commit) → ruled_reply d n C ≡ Some p → ruled_reply d n (c ∷ C) ≡ Some p
+ruled_reply-kept d n p (Ruled f m v r) C e = kept_first ((f == d) && (m == n)) (ruled_reply d n C) (reply_to C (request_in r)) p e
+ruled_reply-kept d n p _ C e = e
 
 pub applied-kept : (d n : ℕ) (x : Verdict) (c : Commit) (C : List Commit) → applied_of d n C ≡ Some x → applied_of d n (c ∷ C) ≡ Some x
 applied-kept d n x (Applied f m v) C e = kept_first ((f == d) && (m == n)) (applied_of d n C) v x e

@@ -8,10 +8,12 @@ use Rattle.bench_base.specs.declared.words.Verdict.{Verdict}
 use Rattle.bench_base.specs.declared.ledger.Commit.{Commit}
 use Rattle.bench_base.specs.declared.ledger.Commit.TheVariants.{Asked, Applied, Ruled, Settled}
 use Rattle.bench_base.specs.Rules.{Rules}
-use Rattle.ledger_terms.specs.Requests.{note_of}
+use Rattle.psd_wire.specs.declared.message.ReplyMsg.{ReplyMsg}
+use Rattle.ledger_terms.specs.Requests.{request_in, note_of}
 use Rattle.ledger_terms.specs.Devices.{asked, number, pending, unless_applied, applied_of}
 use Rattle.ledger_terms.specs.Centres.{ruled, settled}
 use Rattle.ledger_terms.specs.InFlight.{ruling_of}
+use Rattle.ledger_terms.specs.Rulings.{reply_to, ruled_reply}
 use Rattle.law_good.proofs.Basics.{either, found}
 use Rattle.law_good.proofs.Good.{Good, Fits}
 
@@ -52,6 +54,19 @@ module _ (ρ : Rules) where
       either f d (λ t y. rw t (omega arith)) (λ t. rw t h))
       (found ((f == d) && (m == n)) (ruling_of d n C) (v, r) x e)
   ruling-le d n x (_ ∷ C) e = ruling-le d n x C e
+
+  pub ruled_reply-le : (d n : ℕ) (p : ReplyMsg) (C : List Commit) → ruled_reply d n C ≡ Some p → n ≤ ruled d C
+  ruled_reply-le d n p [] e = cc
+  ruled_reply-le d n p (Ruled f m v r ∷ C) e = ⊎_elim
+      (λ (t : (((f == d) && (m == n)) ≡ true) × (reply_to C (request_in r) ≡ p)).
+      let both = and_parts (f == d) (m == n) t.0 in
+      let same = eqb-true m n both.1 in
+      rw both.0 (omega arith))
+      (λ (o : ruled_reply d n C ≡ Some p).
+      let h = ruled_reply-le d n p C o in
+      either f d (λ t y. rw t (omega arith)) (λ t. rw t h))
+      (found ((f == d) && (m == n)) (ruled_reply d n C) (reply_to C (request_in r)) p e)
+  ruled_reply-le d n p (_ ∷ C) e = ruled_reply-le d n p C e
 
   pub waits-le : (w : Option (ℕ × List ℕ)) (a k : ℕ) → Waits w a k → a ≤ k + 1
   waits-le None a k h = omega arith

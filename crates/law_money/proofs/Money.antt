@@ -17,11 +17,12 @@ use Rattle.ledger_terms.specs.Sums.{adds, takes, applied_sum, ruled_sum, loaded,
 use Rattle.ledger_terms.specs.Devices.{asked, number, applied_of, pending, unless_applied, frozen}
 use Rattle.ledger_terms.specs.Centres.{ruled, settled}
 use Rattle.ledger_terms.specs.InFlight.{ruling_of, ruled_sum_to, acknowledged_resets, acknowledged_refunds, in_flight, flight_of, flight}
+use Rattle.ledger_terms.specs.Rulings.{reply_to, ruled_reply}
 use Rattle.centre_ledger.specs.Answers.{last_ruling}
 use Rattle.law_good.proofs.Basics.{some-same, either, found, first_of-none, first_of-some, when}
 use Rattle.law_good.proofs.Good.{Good, Fits}
 use Rattle.law_good.proofs.Kept.{note-kept}
-use Rattle.law_money.proofs.Links.{link, waits, waits-some, ruling-le, note-le, applied-le}
+use Rattle.law_money.proofs.Links.{link, waits, waits-some, ruling-le, ruled_reply-le, note-le, applied-le}
 
 module _ (ρ : Rules) where
   -- the Request of a ruling is the one that was asked
@@ -42,6 +43,10 @@ module _ (ρ : Rules) where
 
   pub added : (d f m : ℕ) (v : Verdict) (r : List ℕ) (C : List Commit) → (f == d) ≡ true → ruled d C < m → ruling_of d m (Ruled f m v r ∷ C) ≡ Some (v, r)
   added d f m v r C t h = rw (t, eq-eqb m m refl) (first_of-none (ruling_of d m C) (Some (v, r)) (λ x o. let le = ruling-le ρ d m x C o in omega arith))
+
+  -- so its Reply is the one of that number from then on
+  pub reply-added : (d f m : ℕ) (v : Verdict) (r : List ℕ) (C : List Commit) → (f == d) ≡ true → ruled d C < m → ruled_reply d m (Ruled f m v r ∷ C) ≡ Some (reply_to C (request_in r))
+  reply-added d f m v r C t h = rw (t, eq-eqb m m refl) (first_of-none (ruled_reply d m C) (Some (reply_to C (request_in r))) (λ p o. let le = ruled_reply-le ρ d m p C o in omega arith))
 
   ruled-added : (d f m : ℕ) (v : Verdict) (r : List ℕ) (C : List Commit) → (f == d) ≡ true → ruled d C < m → ruled d (Ruled f m v r ∷ C) ≡ m
   ruled-added d f m v r C t h = rw t (omega arith)

@@ -5,14 +5,16 @@ use Rattle.bench_base.specs.declared.ledger.Commit.{Commit}
 use Rattle.bench_base.specs.declared.ledger.Commit.TheVariants.{Debited, Ruled}
 use Rattle.bench_base.specs.Kinds.{same_kind}
 use Rattle.bench_base.specs.Ranges.{IsDevice, InRange}
-use Rattle.bench_base.specs.Ledger.{Ledger, IsSent}
+use Rattle.bench_base.specs.Ledger.{Ledger, IsSent, counted}
 use Rattle.bench_base.specs.Scans.{accepted}
+use Rattle.psd_wire.specs.declared.message.ReplyMsg.{ReplyMsg}
 use Rattle.psd_wire.specs.declared.message.Message.{Message}
 use Rattle.psd_wire.specs.declared.message.Message.TheVariants as m
 use Rattle.psd_wire.specs.Grammar.{read}
 use Rattle.ledger_terms.specs.Requests.{request_in}
 use Rattle.ledger_terms.specs.Sums.{adds, ascending, loads, clears, buys, returns}
 use Rattle.ledger_terms.specs.Centres.{enrolled}
+use Rattle.ledger_terms.specs.Rulings.{ruled_reply}
 use Rattle.ledger_terms.specs.InFlight.{acknowledged_resets, acknowledged_refunds, flight}
 use Rattle.ledger_lawful.specs.Sane.{is_imbalance}
 
@@ -42,6 +44,10 @@ IsAddressed (m.Release x) = Unit {0}
 -- what was sent reads as a message that is addressed
 abbrev pub SentAreRead : Ledger → Type 0
 SentAreRead H = (bytes : List ℕ) → IsSent bytes H → (x : Message) × (read bytes ≡ Ok x) × IsAddressed x
+
+-- a Reply that was sent is, whole, the one to its ruling: its verdict and amount, its deadline and its origin
+abbrev pub RepliesAreRuled : Ledger → Type 0
+RepliesAreRuled H = (bytes : List ℕ) (p : ReplyMsg) → IsSent bytes H → read bytes ≡ Ok (m.Reply p) → ruled_reply p.device p.number (counted H) ≡ Some p
 
 -- what was loaded is the beginning of what was bought, and what was cleared of what was returned, but for at most one amount; the newest comes first
 pub record IsBeginning (loaded cleared buys returns : List ℕ) : Type 0 where

@@ -15,10 +15,10 @@ use Rattle.node_acts.specs.Plans.{Fails}
 use Rattle.ledger_moves.specs.Moves.{plan, Moves, OtherUp, FailsToRead}
 use Rattle.ledger_moves.specs.Histories.{Unforged, History}
 use Rattle.ledger_lawful.specs.Sane.{IsSane}
-use Rattle.ledger_lawful.specs.Further.{IsAddressed, SentAreRead}
+use Rattle.ledger_lawful.specs.Further.{IsAddressed, SentAreRead, RepliesAreRuled}
 use Rattle.law_money.proofs.Money.{ruling-asked}
 use Rattle.law_money.proofs.Asked.{note-reads, applied-asked}
-use Rattle.law_good.proofs.Grown.{Inv, GenuineAs}
+use Rattle.law_good.proofs.Grown.{Inv, GenuineAs, genuine-at}
 use Rattle.ledger_laws.proofs.Histories.{histories, plan-ok, allows-same, carried-by}
 
 other-sane : (was x : Reply) (H : Ledger) → OtherUp was x H → IsSane x
@@ -55,3 +55,6 @@ addressed ρ H i bytes (m.Release x) g = tt
 
 pub sent-read : (ρ : Rules) (H : Ledger) → Inv ρ H → SentAreRead H
 sent-read ρ H i bytes s = let g = i.sents bytes s in (g.what, g.reads, addressed ρ H i bytes g.what g.vouched)
+
+pub replies-ruled : (ρ : Rules) (H : Ledger) → Inv ρ H → RepliesAreRuled H
+replies-ruled ρ H i bytes p s reads = (genuine-at bytes (m.Reply p) H (counted H) (i.sents bytes s) reads).whole

@@ -210,12 +210,12 @@ module _ (τ : Tariff) (ρ : Rules) (carried : IsCarried ρ) (H : Ledger) (i : I
   dated-ok x text (Some today) is w u = day-ok x text today (i.dated today is) w u
 
   undated-ok : (x : Event) (text : List ℕ) → needs_day x ≡ false → IsWholeEvent x → PlanOk ρ H (Moves.plan_on τ ρ H x text (pos 0))
-  undated-ok (ev.Day t) text no w = record { sane = tt; plain = refl; no_up = λ n k h. refl; fit = λ y h. none-some h; keeps = λ j. inv-day ρ H t w j }
-  undated-ok ev.End text no w = ok-refuse ρ H r.End refl tt
-  undated-ok _ text no w = absurd (true≢false no)
+  undated-ok (ev.Day t) text free w = record { sane = tt; plain = refl; no_up = λ n k h. refl; fit = λ y h. none-some h; keeps = λ j. inv-day ρ H t w j }
+  undated-ok ev.End text free w = ok-refuse ρ H r.End refl tt
+  undated-ok _ text free w = absurd (true≢false free)
 
   event-ok : (x : Event) (text : List ℕ) (day : Option ℤ) → day_in H ≡ day → IsWholeEvent x → Unforged x H → PlanOk ρ H (Moves.plan_at τ ρ H x text day)
-  event-ok x text day is w u = chosen (PlanOk ρ H) (needs_day x) _ _ (λ yes. dated-ok x text day is w u) (λ no. undated-ok x text no w)
+  event-ok x text day is w u = chosen (PlanOk ρ H) (needs_day x) _ _ (λ yes. dated-ok x text day is w u) (λ free. undated-ok x text free w)
 
   -- the plan of every whole event is right
   pub plan-ok : (x : Event) (text : List ℕ) → IsWholeEvent x → Unforged x H → PlanOk ρ H (plan τ ρ H x text)

@@ -50,6 +50,6 @@ either_up τ ρ ρs H E h t day n c there k which =
       subst IsNode o.node (node-in c o.range),
       ⊎_elim
           (λ (same : k ≡ count_of n (counted H)). inl (ap (r.Up n) same ∙ sym is))
-          (λ (more : k ≡ count_of n (counted H) + 1). inr (inl (subst (λ x. OtherUp x (r.Up n k) H) (sym is) (record { node = n; count = count_of n (counted H); answer_is = refl; more = ap (r.Up n) more; torn = subst IsSome (sym there) tt }))))
+          (λ (more : k ≡ count_of n (counted H) + 1). inr (inl (subst (λ x. OtherUp x (r.Up n k) H) (sym is) (record { node = n; count = count_of n (counted H); answer_is = refl; more = ap (r.Up n) more; torn = subst IsSome (sym there) refl }))))
           which,
     )

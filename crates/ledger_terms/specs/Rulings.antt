@@ -6,7 +6,7 @@ use Rattle.bench_base.specs.declared.words.Verdict.TheVariants.{Granted, NotEnro
 use Rattle.bench_base.specs.declared.ledger.Commit.{Commit}
 use Rattle.bench_base.specs.declared.ledger.Commit.TheVariants.{Ruled}
 use Rattle.bench_base.specs.Kinds.{same_kind, empties, is_dated}
-use Rattle.bench_base.specs.Rows.{first_holding, any_true}
+use Rattle.bench_base.specs.Rows.{first_holding, first_of, any_true}
 use Rattle.psd_wire.specs.declared.message.Request.{Request}
 use Rattle.psd_wire.specs.declared.message.ReplyMsg.{ReplyMsg}
 use Rattle.psd_wire.specs.declared.message.Message.TheVariants as m
@@ -113,6 +113,12 @@ reply_to C q = record {
 -- its spelling under the registered key
 abbrev pub reply_note : List Commit → Request → List ℕ
 reply_note C q = spell (m.Reply (reply_to C q)) (key_in (registered q.device C))
+
+-- the Reply to the first Ruled of number n, over the commits before it
+abbrev pub ruled_reply : ℕ → ℕ → List Commit → Option ReplyMsg
+ruled_reply d n [] = None
+ruled_reply d n (Ruled e m v note ∷ C) = if (e == d) && (m == n) then first_of (ruled_reply d n C) (Some (reply_to C (request_in note))) else ruled_reply d n C
+ruled_reply d n (_ ∷ C) = ruled_reply d n C
 
 -- the stored Reply: the one to the last Ruled, over the commits before that
 abbrev pub stored_reply : ℕ → List Commit → Option (List ℕ)

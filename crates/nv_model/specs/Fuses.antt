@@ -1,6 +1,7 @@
 -- What contracts see of a storage with a fuse.
-use Rattle.std.specs.Prelude.{◌≡◌, ◌⊎◌, ℕ, List, length, Bool, true, false, Option, Result}
+use Rattle.std.specs.Prelude.{◌≡◌, ◌⊎◌, ℕ, List, length, Bool, true, false, Option, IsSome, Result}
 use Rattle.nv_model.specs.Meters.{burns, Failing}
+use Rattle.nv_model.specs.Moments.{Only}
 use Rattle.nv_model.specs.Plans.{torn, last_filled, last_after_write, last_after_sync}
 use Rattle.nv_model.specs.declared.nv.NvFail.{NvFail}
 use Rattle.nv_model.specs.declared.nv.Nv.{Ghosts}
@@ -28,6 +29,8 @@ pub record WriteIs {N : Type 0} {g : Ghosts N} (old new : Fused N g) (at : ℕ) 
   pub off : old.lost ≡ true → inside new ≡ inside old
   pub torn : old.lost ≡ false → burns old.fuse ≡ true → g.tells
       → (g.content (inside new) ≡ torn (g.content (inside old)) at bytes old.keep old.byte) ⊎ Failing (g.meters (inside old)) (g.meters (inside new))
+  pub durable : old.lost ≡ false → burns old.fuse ≡ true → g.tells
+      → Only (g.times (inside new)) (g.content (inside new)) ⊎ Failing (g.meters (inside old)) (g.meters (inside new))
   pub passed : old.lost ≡ false → burns old.fuse ≡ false → g.write_is (inside old) (inside new) at bytes result
   pub last : new.last ≡ last_after_write result at (length bytes) old.last
   pub tear : (new.keep ≡ old.keep) × (new.byte ≡ old.byte)
@@ -36,6 +39,8 @@ pub record SyncIs {N : Type 0} {g : Ghosts N} (old new : Fused N g) (result : Re
   pub off : old.lost ≡ true → inside new ≡ inside old
   pub torn : old.lost ≡ false → burns old.fuse ≡ true → g.tells
       → (g.content (inside new) ≡ last_filled old.last (g.content (inside old)) old.keep old.byte) ⊎ Failing (g.meters (inside old)) (g.meters (inside new))
+  pub durable : old.lost ≡ false → burns old.fuse ≡ true → IsSome old.last → g.tells
+      → Only (g.times (inside new)) (g.content (inside new)) ⊎ Failing (g.meters (inside old)) (g.meters (inside new))
   pub passed : old.lost ≡ false → burns old.fuse ≡ false → g.sync_is (inside old) (inside new) result
   pub last : new.last ≡ last_after_sync result old.last
   pub tear : (new.keep ≡ old.keep) × (new.byte ≡ old.byte)

@@ -1,6 +1,6 @@
 //! Storage in memory, with a plan of calls that fail.
 ghost use Rattle.std.specs.Prelude.{◌≡◌, ◌+◌, ◌*◌, ◌≤◌, ◌<◌, ◌^◌, ℕ, Option, Result, Some, None, false, true, length, get_or, vec_len, vec_capacity, IfOk};
-ghost use Rattle.nv_model.specs.Moments.{RangeWritten};
+ghost use Rattle.nv_model.specs.Moments.{RangeWritten, Only};
 ghost use Rattle.nv_model.specs.Replay.{replay, at_first};
 
 use crate::lay::take_from;
@@ -173,6 +173,8 @@ impl MemNv {
     ) -> Result<MemNv, AllocError>
         requires { length content.items < 2 ^ 32 }
         ensures starts { IfOk result (λ nv. memory_of nv ≡ new_memory content.items plan.items calls bytes) }
+        ensures tells { ⟦<MemNv as Nv>⟧.tells }
+        ensures only { IfOk result (λ nv. Only (⟦<MemNv as Nv>⟧.times nv) content.items) }
     {
         let medium = Medium::new(alloc, content, calls, bytes)?;
         Ok(MemNv {

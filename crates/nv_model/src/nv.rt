@@ -1,5 +1,5 @@
 //! What storage promises: the trait Nv.
-ghost use Rattle.std.specs.Prelude.{◌≡◌, ◌+◌, ◌≤◌, List, ℕ, Bool, false, length, Result, OnOk, IsErrOf};
+ghost use Rattle.std.specs.Prelude.{◌≡◌, ◌+◌, ◌≤◌, List, ℕ, Bool, true, false, length, Result, OnOk, IsErrOf};
 ghost use Rattle.nv_model.specs.Bytes.{SameOutside, laid, range};
 ghost use Rattle.nv_model.specs.Meters.{Meters, Answers, Restarts, after_call};
 ghost use Rattle.nv_model.specs.Moments.{Times, Image, Nested, Only, Elapses, Tears, Stays, IsImage, Writes, Unwritten, SamePlaces};
@@ -74,6 +74,7 @@ pub trait Nv {
         ensures base { tells → (IsErrOf result NvFail.Power → ⊥) → base self.new ≡ base self.old }
         ensures places { tells → (IsErrOf result NvFail.Power → ⊥) → Writes at (length bytes.now) (written self.old) (written self.new) }
         ensures images { tells → Tears at (length bytes.now) (times self.old) (times self.new) }
+        ensures off { tells → (meters self.old).lost ≡ true → Stays (times self.old) (times self.new) }
         ensures time { tells → Elapses (times self.old) (times self.new) }
         ensures size { size self.new ≡ size self.old }
         ensures answer { Answers (meters self.old) (meters self.new) result }

@@ -1,9 +1,9 @@
 //! Tears: what a cut of power leaves of a range, written through the storage itself.
-ghost use Rattle.std.specs.Prelude.{◌≡◌, ◌+◌, ◌≤◌, ◌<◌, ◌^◌, ℕ, ◌⊎◌, length, replicate, Some, true, false};
+ghost use Rattle.std.specs.Prelude.{◌≡◌, ◌+◌, ◌≤◌, ◌<◌, ◌^◌, ℕ, ◌⊎◌, length, replicate, Some, IsSome, true, false};
 ghost use Rattle.nv_model.specs.Bytes.{laid};
 ghost use Rattle.nv_model.specs.Meters.{Counts, Works, Failing};
 ghost use Rattle.nv_model.specs.Plans.{torn, filled, last_filled};
-ghost use Rattle.nv_model.specs.Moments.{Part, Stays, Elapses, RangeWritten};
+ghost use Rattle.nv_model.specs.Moments.{Part, Stays, Elapses, RangeWritten, Only};
 
 use crate::nv::Nv;
 
@@ -55,6 +55,7 @@ fn fill_and_sync<N: Nv>(nv: &mut N, at: u32, count: u32, byte: u8)
     requires fits { at + count < 2 ^ 32 }
     requires works { Works (N.meters nv.old) }
     ensures exact { N.tells → (N.content nv.new ≡ laid (N.content nv.old) at (replicate count byte)) ⊎ Failing (N.meters nv.old) (N.meters nv.new) }
+    ensures durable { N.tells → Only (N.times nv.new) (N.content nv.new) ⊎ Failing (N.meters nv.old) (N.meters nv.new) }
     ensures part { N.tells → Part at count (N.times nv.old) (N.times nv.new) }
     ensures counts { Counts (N.meters nv.old) (N.meters nv.new) }
     ensures size { N.size nv.new ≡ N.size nv.old }
@@ -70,6 +71,7 @@ pub fn tear_write<N: Nv>(nv: &mut N, at: u32, bytes: &[u8], keep: u32, byte: u8)
     requires fits { at + length bytes.now < 2 ^ 32 }
     requires works { Works (N.meters nv.old) }
     ensures exact { N.tells → (N.content nv.new ≡ torn (N.content nv.old) at bytes.now keep byte) ⊎ Failing (N.meters nv.old) (N.meters nv.new) }
+    ensures durable { N.tells → Only (N.times nv.new) (N.content nv.new) ⊎ Failing (N.meters nv.old) (N.meters nv.new) }
     ensures part { N.tells → Part at (length bytes.now) (N.times nv.old) (N.times nv.new) }
     ensures counts { Counts (N.meters nv.old) (N.meters nv.new) }
     ensures size { N.size nv.new ≡ N.size nv.old }
@@ -87,6 +89,7 @@ pub fn tear_range<N: Nv>(nv: &mut N, at: u32, count: u32, keep: u32, byte: u8)
     requires fits { at + count < 2 ^ 32 }
     requires works { Works (N.meters nv.old) }
     ensures exact { N.tells → (N.content nv.new ≡ filled (N.content nv.old) at count keep byte) ⊎ Failing (N.meters nv.old) (N.meters nv.new) }
+    ensures durable { N.tells → Only (N.times nv.new) (N.content nv.new) ⊎ Failing (N.meters nv.old) (N.meters nv.new) }
     ensures part { N.tells → Part at count (N.times nv.old) (N.times nv.new) }
     ensures counts { Counts (N.meters nv.old) (N.meters nv.new) }
     ensures size { N.size nv.new ≡ N.size nv.old }
@@ -102,6 +105,7 @@ pub fn tear_last<N: Nv>(nv: &mut N, last: Option<(u32, u32)>, keep: u32, byte: u
     requires works { Works (N.meters nv.old) }
     requires last_is { (r : ℕ × ℕ) → N.tells → last ≡ Some r → RangeWritten r.0 r.1 (N.written nv.old) }
     ensures exact { N.tells → (N.content nv.new ≡ last_filled last (N.content nv.old) keep byte) ⊎ Failing (N.meters nv.old) (N.meters nv.new) }
+    ensures durable { N.tells → IsSome last → Only (N.times nv.new) (N.content nv.new) ⊎ Failing (N.meters nv.old) (N.meters nv.new) }
     ensures images { N.tells → Stays (N.times nv.old) (N.times nv.new) }
     ensures time { N.tells → Elapses (N.times nv.old) (N.times nv.new) }
     ensures counts { Counts (N.meters nv.old) (N.meters nv.new) }
