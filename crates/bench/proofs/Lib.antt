@@ -1,9 +1,9 @@
 mod Acts
 mod Begun
 mod Blank
-mod Events
+pub mod Events
 mod Frames
-mod Making
+pub mod Making
 mod Over
 mod Quiet
 mod Sets

@@ -1,7 +1,7 @@
 //! Benches whose device 1 has money for every debit, over memory and over files.
 ghost use Rattle.std.specs.Prelude.{◌≡◌, ◌≤◌, ◌<◌, ◌+◌, ◌*◌, ◌^◌, ℕ, Some, IfOk, length, slice_get};
 ghost use Rattle.std.specs.List.{All};
-ghost use Rattle.bench.specs.Benches.{IsReady};
+ghost use Rattle.bench.specs.Benches.{IsReady, bench_of};
 ghost use Rattle.nv_model.specs.Meters.{Works};
 
 use crate::{bare, debits};
@@ -80,7 +80,7 @@ pub fn blank(alloc: Global, commits: u32) -> Result<MemNv, AllocError>
 fn over<N: Nv + Drop>(alloc: Global, devices: Vec<N>) -> Result<Bench<N>>
     requires eight { length devices.items ≡ 8 }
     requires fresh { All (λ nv. Works (N.meters nv)) devices.items }
-    ensures ready { IfOk result (λ bench. IsReady ⟦<Fused<N> as Nv>⟧ bench) }
+    ensures ready { IfOk result (λ bench. IsReady (bench_of bench)) }
 {
     match Bench::new(alloc, Stores { devices }) {
         Ok(bench) => Ok(bench),
@@ -91,7 +91,7 @@ fn over<N: Nv + Drop>(alloc: Global, devices: Vec<N>) -> Result<Bench<N>>
 /// A bench over memory, with room for so many debits.
 pub fn in_memory(alloc: Global, commits: u32) -> Result<Bench<MemNv>>
     requires few { commits ≤ 1000000 }
-    ensures ready { IfOk result (λ bench. IsReady ⟦<Fused<MemNv> as Nv>⟧ bench) }
+    ensures ready { IfOk result (λ bench. IsReady (bench_of bench)) }
 {
     let devices = vec![in alloc;
         recorded(alloc, loaded(alloc)?, commits)?,
@@ -118,7 +118,7 @@ fn file(rt: &HostRuntime, device: usize) -> Result<FileNv>
 }
 
 fn over_files(rt: &HostRuntime) -> Result<Bench<FileNv>>
-    ensures ready { IfOk result (λ bench. IsReady ⟦<Fused<FileNv> as Nv>⟧ bench) }
+    ensures ready { IfOk result (λ bench. IsReady (bench_of bench)) }
 {
     let devices = vec![in rt.alloc();
         file(rt, 1)?,

@@ -1,6 +1,6 @@
 //! A run of debits of one device.
 ghost use Rattle.std.specs.Prelude.{◌≡◌, ◌≤◌};
-ghost use Rattle.bench.specs.Benches.{IsReady};
+ghost use Rattle.bench.specs.Benches.{IsReady, bench_of};
 
 use crate::watch::Watch;
 use anyhow::{Result, ensure};
@@ -30,7 +30,7 @@ pub fn timed<N: Nv + Drop>(
     bench: &mut Bench<N>,
     count: u32,
 ) -> Result<Vec<Duration>>
-    requires ready { IsReady ⟦<Fused<N> as Nv>⟧ bench.old }
+    requires ready { IsReady (bench_of bench.old) }
 {
     let alloc = rt.alloc();
     let words = vec![in alloc; String::from_str(alloc, "replay")?]?;

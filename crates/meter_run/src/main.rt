@@ -5,7 +5,7 @@
 ghost use Rattle.std.specs.Prelude.{◌≡◌, IfOk, length};
 ghost use Rattle.std.specs.List.{All};
 ghost use Rattle.nv_model.specs.Meters.{Works};
-ghost use Rattle.bench.specs.Benches.{IsReady};
+ghost use Rattle.bench.specs.Benches.{IsReady, bench_of};
 
 use bench::{Bench, Stores};
 use bench_base::stream::{IoSink, IoSource};
@@ -114,7 +114,7 @@ fn open_stores(rt: &HostRuntime) -> Result<Stores<FileNv>, OpenFault>
 }
 
 fn open_bench(rt: &HostRuntime) -> Result<Bench<FileNv>, OpenFault>
-    ensures ready { IfOk result (λ bench. IsReady ⟦<Fused<FileNv> as Nv>⟧ bench) }
+    ensures ready { IfOk result (λ bench. IsReady (bench_of bench)) }
 {
     match Bench::new(rt.alloc(), open_stores(rt)?) {
         Ok(bench) => Ok(bench),

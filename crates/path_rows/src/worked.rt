@@ -1,7 +1,7 @@
 //! A bench over storages in memory, and what a run over it answers.
 ghost use Rattle.std.specs.Prelude.{◌≡◌, ◌≤◌, IfOk, length};
 ghost use Rattle.std.specs.List.{All};
-ghost use Rattle.bench.specs.Benches.{IsReady};
+ghost use Rattle.bench.specs.Benches.{IsReady, bench_of};
 ghost use Rattle.nv_model.specs.Meters.{Works};
 
 use bench::{Bench, Stores};
@@ -59,7 +59,7 @@ fn stores(alloc: Global, pieces: &[Piece]) -> Result<Stores<MemNv>, AllocError>
 fn made(alloc: Global, stores: Stores<MemNv>) -> Result<Bench<MemNv>, Fail>
     requires eight { length stores.devices.items ≡ 8 }
     requires fresh { All (λ nv. Works (⟦<MemNv as Nv>⟧.meters nv)) stores.devices.items }
-    ensures ready { IfOk result (λ bench. IsReady ⟦<Fused<MemNv> as Nv>⟧ bench) }
+    ensures ready { IfOk result (λ bench. IsReady (bench_of bench)) }
 {
     match Bench::new(alloc, stores) {
         Ok(bench) => Ok(bench),
@@ -69,7 +69,7 @@ fn made(alloc: Global, stores: Stores<MemNv>) -> Result<Bench<MemNv>, Fail>
 
 /// A bench whose device 1 has this storage; the others are blank.
 pub fn bench_over(alloc: Global, pieces: &[Piece]) -> Result<Bench<MemNv>, Fail>
-    ensures ready { IfOk result (λ bench. IsReady ⟦<Fused<MemNv> as Nv>⟧ bench) }
+    ensures ready { IfOk result (λ bench. IsReady (bench_of bench)) }
 {
     made(alloc, stores(alloc, pieces)?)
 }
@@ -85,7 +85,7 @@ fn restarted(nv: MemNv) -> Result<MemNv, Fail>
 
 /// The storages of a bench, each of which begins again.
 fn left(alloc: Global, bench: Bench<MemNv>) -> Result<Stores<MemNv>, Fail>
-    requires ready { IsReady ⟦<Fused<MemNv> as Nv>⟧ bench }
+    requires ready { IsReady (bench_of bench) }
     ensures eight { IfOk result (λ stores. length stores.devices.items ≡ 8) }
     ensures fresh { IfOk result (λ stores. All (λ nv. Works (⟦<MemNv as Nv>⟧.meters nv)) stores.devices.items) }
 {
@@ -103,8 +103,8 @@ fn left(alloc: Global, bench: Bench<MemNv>) -> Result<Stores<MemNv>, Fail>
 
 /// Another bench over the storages of this one.
 pub fn made_again(alloc: Global, bench: Bench<MemNv>) -> Result<Bench<MemNv>, Fail>
-    requires ready { IsReady ⟦<Fused<MemNv> as Nv>⟧ bench }
-    ensures ready { IfOk result (λ bench. IsReady ⟦<Fused<MemNv> as Nv>⟧ bench) }
+    requires ready { IsReady (bench_of bench) }
+    ensures ready { IfOk result (λ bench. IsReady (bench_of bench)) }
 {
     made(alloc, left(alloc, bench)?)
 }
@@ -145,8 +145,8 @@ pub fn outcome(
     bench: &mut Bench<MemNv>,
 ) -> Result<(Status, Vec<u8>), Fail>
     requires some { 1 ≤ given.now.piece }
-    requires ready { IsReady ⟦<Fused<MemNv> as Nv>⟧ bench.old }
-    ensures ready { IsReady ⟦<Fused<MemNv> as Nv>⟧ bench.new }
+    requires ready { IsReady (bench_of bench.old) }
+    ensures ready { IsReady (bench_of bench.new) }
 {
     let mut words = Vec::new(alloc);
     for word in given.words {

@@ -19,7 +19,7 @@ use Rattle.script_replay.specs.Run.{IsBadPlace, RanOut, EndsIn, Replayed}
 -- ---- one end
 
 end_line : (line : List ℕ) → IsEndLine line → IsLineOf event.End line
-end_line line l = record { whole = tt; taken = tt; spells = l }
+end_line line l = record { whole = tt; taken = refl; spells = l }
 
 passed_not_last : (line : List ℕ) → IsPassed line → IsEndLine line → ⊥
 passed_not_last line p l =

@@ -1,7 +1,8 @@
-pub mod Answering
-pub mod Counting
-pub mod Deeds
-pub mod EndLaws
-pub mod Held
-pub mod Overs
-pub mod Streams
+mod Answering
+mod Chains
+mod Counting
+mod Deeds
+mod EndLaws
+mod Held
+mod Running
+mod Streams

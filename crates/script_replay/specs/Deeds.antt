@@ -4,7 +4,7 @@ use Rattle.bench_base.specs.declared.events.Event.{Event}
 use Rattle.bench_base.specs.declared.events.Event.TheVariants as event
 use Rattle.bench_base.specs.declared.events.Reply.{Reply}
 use Rattle.bench_base.specs.Ledger.{Ledger}
-use Rattle.bench_base.specs.Rules.{first_rules}
+use Rattle.bench_base.specs.Rules.{todays_rules}
 use Rattle.ledger_moves.specs.Tariffs.{Tariff}
 use Rattle.ledger_moves.specs.Moves.{entries}
 use Rattle.script_text.specs.Grammar.{IsSkipped}
@@ -63,7 +63,7 @@ report_of deeds = flat_map text_for deeds
 
 -- the ledger after an event with this reply; no event of this bench takes the text of rates
 abbrev pub ledger_by : Tariff → Ledger → Event → Reply → Ledger
-ledger_by τ H e r = entries τ first_rules H e [] r
+ledger_by τ H e r = entries τ todays_rules H e [] r
 
 -- the ledger after the deeds
 abbrev pub ledger_after : Tariff → Ledger → List Deed → Ledger
@@ -82,9 +82,3 @@ abbrev pub AreUnforged : Tariff → (Ledger → Event → Type 0) → Ledger →
 AreUnforged τ Unforged H [] = Unit {0}
 AreUnforged τ Unforged H (Skipped line ∷ rest) = AreUnforged τ Unforged H rest
 AreUnforged τ Unforged H (Did line e r ∷ rest) = Unforged H e × AreUnforged τ Unforged (ledger_by τ H e r) rest
-
--- Whatever ledger the bench stood for: with the first entries put on it the deeds are a run over it, and the bench stands for what they leave.
-pub record DidOver {B : Type 0} (τ : Tariff) (Stands : B → Ledger → Type 0) (Unforged : Ledger → Event → Type 0)
-    (Moves : Ledger → Event → Reply → Type 0) (first : Ledger) (old new : B) (deeds : List Deed) : Type 0 where
-  pub run : (H : Ledger) → Stands old H → RunWhile τ Unforged Moves (first ++ H) deeds
-  pub stands : (H : Ledger) → Stands old H → AreUnforged τ Unforged (first ++ H) deeds → Stands new (ledger_after τ (first ++ H) deeds)

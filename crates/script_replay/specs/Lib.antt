@@ -1,8 +1,10 @@
+pub mod Chains
 pub mod Codes
 pub mod Counts
 pub mod Deeds
 pub mod Ends
 pub mod Events
+pub mod Fresh
 pub mod Lines
 pub mod Run
 pub mod Turns

@@ -1,34 +1,34 @@
 -- A run over a script: the deeds, and how it ended.
-use Rattle.std.specs.Prelude.{◌≡◌, ◌≢◌, ℕ, ◌+◌, ◌<◌, ◌≤◌, List, [], ◌∷◌, ◌++◌, length, Option, ◌⊎◌, Bool, false}
+use Rattle.std.specs.Prelude.{◌≡◌, ◌≢◌, ℕ, ◌+◌, ◌<◌, ◌≤◌, List, [], ◌∷◌, ◌++◌, length, Option, None, ◌⊎◌, Bool, false}
 use Rattle.std.specs.Io.KnownBytes.{Consumes, Appends, IsAtEnd}
 use Rattle.std.specs.List.{AllByRecursion}
+use Rattle.bench_base.specs.declared.ledger.Entry.TheVariants.{Begin}
 use Rattle.bench_base.specs.Ledger.{Ledger}
-use Rattle.bench_base.specs.Rules.{first_rules}
+use Rattle.bench_base.specs.Rules.{todays_rules, editions}
 use Rattle.bench_base.specs.declared.events.Event.{Event}
 use Rattle.bench_base.specs.declared.events.Reply.{Reply}
-use Rattle.nv_model.specs.declared.nv.Nv.{Ghosts}
+use Rattle.nv_model.specs.declared.nv.Nv as nv
+use Rattle.nv_model.specs.declared.fuse.Fuse as fuse
+use Rattle.node_acts.specs.Kinds.{Kind}
+use Rattle.node_seat.specs.declared.node.Node.{Ghosts}
 use Rattle.ledger_lawful.specs.Lawful.{Lawful}
 use Rattle.ledger_moves.specs.Tariffs.{Tariff}
 use Rattle.ledger_moves.specs.Moves as moves
 use Rattle.ledger_moves.specs.Histories as histories
 use Rattle.ledger_moves.specs.Histories.{History}
-use Rattle.bench.specs.declared.devices.BenchOver.{BenchOver}
-use Rattle.bench.specs.Benches.{Stands, seats_of}
-use Rattle.bench.specs.Steps.{NamesDevice}
+use Rattle.bench_views.specs.declared.taken.DeviceCall.{DeviceCall}
+use Rattle.bench.specs.Benches.{Bench, Stands}
+use Rattle.bench.specs.Places.{Begun}
+use Rattle.script_replay.specs.Chains.{DidDeeds}
 use Rattle.script_replay.specs.Counts.{AreBalanced}
-use Rattle.script_replay.specs.Deeds.{Deed, Skipped, Did, line_in, text_for, Reads, IsEnd, GoesOn, script_of, report_of, ledger_after, RunWhile, AreUnforged, DidOver}
+use Rattle.script_replay.specs.Deeds.{Deed, line_in, text_for, Reads, IsEnd, GoesOn, script_of, report_of, ledger_after, RunWhile, AreUnforged}
 use Rattle.script_replay.specs.Events.{IsBad}
 use Rattle.script_replay.specs.Lines.{IsOneLine, IsLineIn}
-use Rattle.script_replay.specs.Undisturbed.{IsAnswer, AreUndisturbed}
+use Rattle.script_replay.specs.Undisturbed.{IsAnswer, IsTheAnswer, NoneOpen, AreUndisturbed}
 use Rattle.script_replay.specs.declared.status.Status.{Status}
 use Rattle.script_replay.specs.declared.status.Status.TheVariants as status
 
 -- == what it means to do the deeds ==
-
--- the bench stands for this history
-pub record StandsFor {M N : Type 0} (g : Ghosts M) (τ : Tariff) (bench : BenchOver M N g) (H : Ledger) : Type 0 where
-  pub history : History τ (first_rules ∷ []) H
-  pub stands : Stands g bench H
 
 -- what comes from outside in the event is not forged
 abbrev pub Unforged : Ledger → Event → Type 0
@@ -36,30 +36,34 @@ Unforged H e = histories.Unforged e H
 
 -- the reply is one that the event may get at this ledger
 abbrev pub Moves : Tariff → Ledger → Event → Reply → Type 0
-Moves τ H e r = moves.Moves τ first_rules H e [] r
+Moves τ H e r = moves.Moves τ todays_rules H e [] r
 
--- a failure that the deed tells of is one of the device of its event
-abbrev pub IsNamed : Deed → Type 0
-IsNamed (Skipped line) = Unit {0}
-IsNamed (Did line e r) = NamesDevice e r
+module _ {K S C R : Type 0} (n : Ghosts K S ℕ C R) (g : nv.Ghosts S) (kind : Kind ℕ n.Seen DeviceCall) where
+  -- the bench stands for this history
+  pub record StandsFor (τ : Tariff) (bench : Bench K) (H : Ledger) : Type 0 where
+    pub history : History τ editions H
+    pub stands : Stands n kind g bench H
 
--- The bench did the deeds, behind these first entries.
-pub record DidDeeds {M N : Type 0} (g : Ghosts M) (first : Ledger) (old new : BenchOver M N g) (deeds : List Deed) : Type 0 where
-  -- by every history for which the bench stood, whatever is read as rates, where the storages tell what they hold
-  pub over : (τ : Tariff) → g.tells → DidOver τ (StandsFor g τ) Unforged (Moves τ) first old new deeds
-  -- whatever the storages tell
-  pub size : length (seats_of new) ≡ length (seats_of old)
-  pub named : AllByRecursion IsNamed deeds
-  pub balanced : AreBalanced g (seats_of old) (seats_of new) deeds
+  -- By a history for which the bench stood, with a run begun: each reply is one that its event may get there, and as long as
+  -- nothing from outside is forged the bench stands for what the deeds leave, which is lawful. Where no storage failed and no
+  -- fuse was armed, each reply is the answer: of a device that comes on with an open commit one of its two, and where no commit
+  -- was open at the beginning the answer itself.
+  pub record DidOver (τ : Tariff) (H : Ledger) (old new : Bench K) (deeds : List Deed) : Type 0 where
+    pub run : RunWhile τ Unforged (Moves τ) (Begin ∷ H) deeds
+    pub stands : AreUnforged τ Unforged (Begin ∷ H) deeds → StandsFor τ new (ledger_after τ (Begin ∷ H) deeds)
+    pub lawful : AreUnforged τ Unforged (Begin ∷ H) deeds → Lawful todays_rules (ledger_after τ (Begin ∷ H) deeds)
+    pub answers : AreUndisturbed n g old new deeds → RunWhile τ Unforged (IsAnswer τ) (Begin ∷ H) deeds
+    pub exact : AreUndisturbed n g old new deeds → NoneOpen H → RunWhile τ Unforged (IsTheAnswer τ) (Begin ∷ H) deeds
 
--- The bench did them, and the ledger that they form is lawful.
-pub record DidLawfully {M N : Type 0} (g : Ghosts M) (first : Ledger) (old new : BenchOver M N g) (deeds : List Deed) : Type 0 where
-  pub did : DidDeeds g first old new deeds
-  pub lawful : (τ : Tariff) → g.tells → (H : Ledger) → StandsFor g τ old H → AreUnforged τ Unforged (first ++ H) deeds
-      → Lawful first_rules (ledger_after τ (first ++ H) deeds)
-  -- where no storage failed, each reply is the answer
-  pub answers : (τ : Tariff) → g.tells → (H : Ledger) → StandsFor g τ old H → AreUndisturbed g (seats_of old) (seats_of new) deeds
-      → RunWhile τ Unforged (IsAnswer τ) (first ++ H) deeds
+-- The bench began a run and did the deeds: each event by a step, whether or not a history leads to what the storages show.
+pub record DidRun {K S C R N : Type 0} (n : Ghosts K S ℕ C R) (g : nv.Ghosts S) (f : fuse.Ghosts S) (h : nv.Ghosts N) (kind : Kind ℕ n.Seen DeviceCall)
+    (old new : Bench K) (deeds : List Deed) : Type 0 where
+  pub begun : Bench K
+  pub begins : Begun n g old.devices begun.devices
+  pub no_day : begun.day ≡ None
+  pub steps : DidDeeds n g f h kind begun new deeds
+  pub balanced : AreBalanced n g old new deeds
+  pub over : (τ : Tariff) (H : Ledger) → StandsFor n g kind τ old H → g.tells → DidOver n g kind τ H old new deeds
 
 -- == how the run ended ==
 

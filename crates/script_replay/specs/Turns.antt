@@ -2,26 +2,15 @@
 use Rattle.std.specs.Prelude.{◌≡◌, ◌≢◌, ℕ, ◌≤◌, List, [], ◌∷◌, length, Option, Some, None}
 use Rattle.std.specs.Io.KnownBytes.{Consumes, Appends, IsAtEnd}
 use Rattle.std.specs.List.{AllByRecursion}
-use Rattle.bench_base.specs.declared.events.Event.{Event}
-use Rattle.bench_base.specs.declared.events.Reply.{Reply}
-use Rattle.nv_model.specs.declared.nv.Nv.{Ghosts}
-use Rattle.bench.specs.declared.devices.BenchOver.{BenchOver}
-use Rattle.bench.specs.Benches.{Stands, ForEach, seats_of}
-use Rattle.bench.specs.Steps.{EachCharged, NamesDevice}
-use Rattle.script_replay.specs.Deeds.{Deed, line_in, text_for, IsOf, Reads, IsEnd, GoesOn, script_of, report_of, ledger_by}
+use Rattle.script_replay.specs.Deeds.{Deed, line_in, text_for, IsOf, Reads, IsEnd, GoesOn, script_of, report_of}
 use Rattle.script_replay.specs.Events.{IsBad}
 use Rattle.script_replay.specs.Lines.{ended}
-use Rattle.script_replay.specs.Run.{DidDeeds, EndsIn, IsCutOff, Moves}
+use Rattle.script_replay.specs.Run.{EndsIn, IsCutOff}
 use Rattle.script_replay.specs.declared.status.Status.{Status}
 use Rattle.script_replay.specs.declared.status.Status.TheVariants as status
 
--- the bench did one event
-pub record DidEvent {M N : Type 0} (g : Ghosts M) (old new : BenchOver M N g) (e : Event) (r : Reply) : Type 0 where
-  pub moves : ForEach g old (λ τ H. Moves τ H e r)
-  pub stands : ForEach g old (λ τ H. Stands g new (ledger_by τ H e r))
-  pub size : length (seats_of new) ≡ length (seats_of old)
-  pub names : NamesDevice e r
-  pub charged : EachCharged g r (seats_of old) (seats_of new)
+-- Does says that a bench did these deeds. The turns of a run need no more than that none are done by doing nothing, and some by
+-- doing one after the other.
 
 -- what the report took of a text, and whether the run ends with it: GoesOn and IsEnd say of what was done that the run goes on, and that it was `end`
 abbrev pub Reported : Option Status → Type 0 → Type 0 → List ℕ → Option (List ℕ) → Option (List ℕ) → Type 0
@@ -34,11 +23,11 @@ Reported (Some status.ReadFault) GoesOn IsEnd text taken0 taken1 = ⊥
 Reported (Some status.TooLong) GoesOn IsEnd text taken0 taken1 = ⊥
 
 -- the line was done, and its text reported
-pub record DidLine {M N : Type 0} (g : Ghosts M) (line : List ℕ) (outcome : Option Status) (old new : BenchOver M N g) (taken0 taken1 : Option (List ℕ)) : Type 0 where
+pub record DidLine {B : Type 0} (Does : B → B → List Deed → Type 0) (line : List ℕ) (outcome : Option Status) (old new : B) (taken0 taken1 : Option (List ℕ)) : Type 0 where
   pub deed : Deed
   pub line_is : line_in deed ≡ line
   pub is : IsOf deed
-  pub did : DidDeeds g [] old new (deed ∷ [])
+  pub did : Does old new (deed ∷ [])
   pub reported : Reported outcome (GoesOn deed) (IsEnd deed) (text_for deed) taken0 taken1
 
 -- the line of this number is bad, and nothing was done
@@ -49,16 +38,16 @@ pub record Refused {B : Type 0} (number : ℕ) (line : List ℕ) (outcome : Opti
   pub report : taken1 ≡ taken0
 
 -- One line was done, and the run goes on.
-pub record Goes {M N : Type 0} (g : Ghosts M) (old new : BenchOver M N g) (left0 left1 taken0 taken1 : Option (List ℕ)) : Type 0 where
+pub record Goes {B : Type 0} (Does : B → B → List Deed → Type 0) (old new : B) (left0 left1 taken0 taken1 : Option (List ℕ)) : Type 0 where
   pub deed : Deed
   pub reads : Reads deed
   pub goes_on : GoesOn deed
   pub consumed : Consumes left0 left1 (ended (line_in deed))
   pub appended : Appends taken0 taken1 (text_for deed)
-  pub did : DidDeeds g [] old new (deed ∷ [])
+  pub did : Does old new (deed ∷ [])
 
 -- The run ended in the line of this number.
-pub record Stops {M N : Type 0} (g : Ghosts M) (outcome : Status) (number : ℕ) (old new : BenchOver M N g) (left0 left1 taken0 taken1 : Option (List ℕ)) : Type 0 where
+pub record Stops {B : Type 0} (Does : B → B → List Deed → Type 0) (outcome : Status) (number : ℕ) (old new : B) (left0 left1 taken0 taken1 : Option (List ℕ)) : Type 0 where
   pub bytes : List ℕ
   pub done : List Deed
   pub text : List ℕ
@@ -66,14 +55,14 @@ pub record Stops {M N : Type 0} (g : Ghosts M) (outcome : Status) (number : ℕ)
   pub ends : EndsIn outcome number bytes (IsAtEnd left1) text done
   pub consumed : Consumes left0 left1 bytes
   pub appended : Appends taken0 taken1 text
-  pub did : DidDeeds g [] old new done
+  pub did : Does old new done
 
 -- This many lines were done, and the run goes on.
-pub record Progress {M N : Type 0} (g : Ghosts M) (count : ℕ) (old new : BenchOver M N g) (left0 left1 taken0 taken1 : Option (List ℕ)) : Type 0 where
+pub record Progress {B : Type 0} (Does : B → B → List Deed → Type 0) (count : ℕ) (old new : B) (left0 left1 taken0 taken1 : Option (List ℕ)) : Type 0 where
   pub deeds : List Deed
   pub each : AllByRecursion Reads deeds
   pub go_on : AllByRecursion GoesOn deeds
   pub number : length deeds ≡ count
   pub consumed : Consumes left0 left1 (script_of deeds)
   pub appended : Appends taken0 taken1 (report_of deeds)
-  pub did : DidDeeds g [] old new deeds
+  pub did : Does old new deeds

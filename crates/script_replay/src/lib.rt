@@ -1,6 +1,7 @@
 //! A script from its bytes to the report's bytes: its lines, the bench that does their events, and the replies.
 #![tactic(auto)]
 
+pub mod fresh;
 pub mod laws;
 pub mod lines;
 pub mod report;

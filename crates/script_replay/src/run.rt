@@ -2,25 +2,30 @@
 ghost use Rattle.std.specs.Prelude.{◌≡◌, ◌≢◌, ◌⊎◌, ℕ, List, ◌+◌, ◌≤◌, ◌<◌, ◌∷◌, [], IfNone, IfSome, Some, map, codes, string_bytes, ◌↔◌, IsTrue};
 ghost use Rattle.bench_base.specs.Causes.{Rose};
 ghost use Rattle.bench_base.specs.Ranges.{IsWholeEvent};
+ghost use Rattle.bench_base.specs.declared.events.Event.TheVariants as ends;
 ghost use Rattle.bench_base.specs.declared.events.Reply.{Reply};
-ghost use Rattle.bench_base.specs.declared.ledger.Entry.TheVariants.{Begin};
+ghost use Rattle.bench_views.specs.Devices.{device_kind};
 ghost use Rattle.bench_views.specs.Taken.{IsTaken};
-ghost use Rattle.bench.specs.Benches.{IsReady};
+ghost use Rattle.bench.specs.Benches.{IsReady, bench_of, fuse_in};
+ghost use Rattle.script_replay.specs.Chains.{DidEvent, DidDeeds};
 ghost use Rattle.script_replay.specs.Deeds.{line_of};
 ghost use Rattle.script_replay.specs.Ends.{EndsAs, IsByScript};
 ghost use Rattle.script_replay.specs.Events.{IsLineOf};
-ghost use Rattle.script_replay.specs.Run.{DidDeeds, DidLawfully, Replayed};
-ghost use Rattle.script_replay.specs.Turns.{DidEvent, DidLine, Refused, Reported, Goes, Stops};
+ghost use Rattle.script_replay.specs.Run.{DidRun, Replayed};
+ghost use Rattle.script_replay.specs.Turns.{DidLine, Refused, Reported, Goes, Stops};
 ghost use Rattle.script_replay.specs.declared.status.Status.{Status};
 
 use crate::lines::{LineRead, read_line};
 use crate::report::put_text;
 use crate::status::Status;
-use bench::{Bench, is_taken, step};
+use bench::{Bench, BenchOver, is_taken, react};
 use bench_base::events::{Event, Reply};
 use bench_base::stream::{Sink, Source};
+use bench_views::{Taken, take};
 use ledger_laws::laws::histories;
-use nv_model::{Fused, Nv};
+use node_seat::Node;
+use nv_model::{Fuse, Fused, Nv};
+use psd_device::DeviceNode;
 use script_text::{is_skipped, read_event, write_reply};
 use std::alloc::Global;
 
@@ -39,60 +44,63 @@ fn event_of(line: &[u8]) -> Option<Event>
 }
 
 // The bench's reply to one event.
-fn reply_to<N: Nv + Drop>(alloc: Global, event: &Event, bench: &mut Bench<N>) -> Reply
+fn reply_to<M: Fuse + Drop, N: Nv>(event: &Event, bench: &mut BenchOver<M, N>) -> Reply
     requires whole { IsWholeEvent event.now }
     requires taken { IsTaken event.now }
-    requires ready { IsReady ⟦<Fused<N> as Nv>⟧ bench.old }
-    ensures ready { IsReady ⟦<Fused<N> as Nv>⟧ bench.new }
-    ensures did { DidEvent ⟦<Fused<N> as Nv>⟧ bench.old bench.new event.now result }
+    requires ready { IsReady (bench_of bench.old) }
+    ensures ready { IsReady (bench_of bench.new) }
+    ensures did { DidEvent ⟦<DeviceNode<M> as Node>⟧ M.Nv M.Fuse.own N.Nv device_kind (bench_of bench.old) (bench_of bench.new) event.now result }
 {
-    match step(alloc, bench, event) {
-        Ok(turn) => turn.reply,
-        Err(_) => unreachable!(),
+    react(bench, event)
+}
+
+// The end of the run, with the event that is it.
+fn ended_by(event: &Event) -> Option<Status>
+    ensures goes_on { IfNone result (event.now ≢ ends.End) }
+    ensures done { IfSome result (λ s. (s ≡ Status.Done) × (event.now ≡ ends.End)) }
+{
+    match take(event) {
+        Some(Taken::End) => Some(Status::Done),
+        Some(Taken::Day(_) | Taken::Device(_, _)) | None => None,
     }
 }
 
 // Does one event and writes its reply's line. A status is the run's end.
-fn do_event<K: Sink, N: Nv + Drop>(
-    alloc: Global,
+fn do_event<K: Sink, M: Fuse + Drop, N: Nv>(
     event: &Event,
     report: &mut K,
-    bench: &mut Bench<N>,
+    bench: &mut BenchOver<M, N>,
 ) -> Option<Status>
     requires whole { IsWholeEvent event.now }
     requires taken { IsTaken event.now }
-    requires ready { IsReady ⟦<Fused<N> as Nv>⟧ bench.old }
-    ensures ready { IsReady ⟦<Fused<N> as Nv>⟧ bench.new }
-    ensures done { (r : Reply) × DidEvent ⟦<Fused<N> as Nv>⟧ bench.old bench.new event.now r
-        × Reported result (event.now ≢ Event.End) (event.now ≡ Event.End) (line_of r) (K.taken report.old) (K.taken report.new) }
+    requires ready { IsReady (bench_of bench.old) }
+    ensures ready { IsReady (bench_of bench.new) }
+    ensures done { (r : Reply) × DidEvent ⟦<DeviceNode<M> as Node>⟧ M.Nv M.Fuse.own N.Nv device_kind (bench_of bench.old) (bench_of bench.new) event.now r
+        × Reported result (event.now ≢ ends.End) (event.now ≡ ends.End) (line_of r) (K.taken report.old) (K.taken report.new) }
     ensures not_words { result ≢ Some Status.Words }
     ensures later { K.faults report.old ≤ K.faults report.new }
     ensures failed { result ≡ Some Status.WriteFault → Rose (K.faults report.old) (K.faults report.new) }
 {
-    let reply = reply_to(alloc, event, bench);
+    let reply = reply_to(event, bench);
     let mut line = write_reply(&reply);
     line.put(b"\n");
     match put_text(report, line.as_slice()) {
         Err(_) => Some(Status::WriteFault),
-        Ok(()) => match event {
-            Event::End => Some(Status::Done),
-            _ => None,
-        },
+        Ok(()) => ended_by(event),
     }
 }
 
 // Does the line of this number. A status is the run's end.
-fn do_line<K: Sink, N: Nv + Drop>(
-    alloc: Global,
+fn do_line<K: Sink, M: Fuse + Drop, N: Nv>(
     number: u32,
     line: &[u8],
     report: &mut K,
-    bench: &mut Bench<N>,
+    bench: &mut BenchOver<M, N>,
 ) -> Option<Status>
-    requires ready { IsReady ⟦<Fused<N> as Nv>⟧ bench.old }
-    ensures ready { IsReady ⟦<Fused<N> as Nv>⟧ bench.new }
-    ensures done { DidLine ⟦<Fused<N> as Nv>⟧ line.now result bench.old bench.new (K.taken report.old) (K.taken report.new)
-        ⊎ Refused number line.now result bench.old bench.new (K.taken report.old) (K.taken report.new) }
+    requires ready { IsReady (bench_of bench.old) }
+    ensures ready { IsReady (bench_of bench.new) }
+    ensures done { DidLine (DidDeeds ⟦<DeviceNode<M> as Node>⟧ M.Nv M.Fuse.own N.Nv device_kind) line.now result (bench_of bench.old) (bench_of bench.new) (K.taken report.old) (K.taken report.new)
+        ⊎ Refused number line.now result (bench_of bench.old) (bench_of bench.new) (K.taken report.old) (K.taken report.new) }
     ensures not_words { result ≢ Some Status.Words }
     ensures later { K.faults report.old ≤ K.faults report.new }
     ensures failed { result ≡ Some Status.WriteFault → Rose (K.faults report.old) (K.faults report.new) }
@@ -101,7 +109,7 @@ fn do_line<K: Sink, N: Nv + Drop>(
         return None;
     }
     match event_of(line) {
-        Some(event) => do_event(alloc, &event, report, bench),
+        Some(event) => do_event(&event, report, bench),
         None => Some(Status::Script(number)),
     }
 }
@@ -120,20 +128,19 @@ fn missing_after(number: u32) -> Status
 }
 
 // Reads the line of this number and does it. A status is the run's end.
-fn turn<S: Source, K: Sink, N: Nv + Drop>(
-    alloc: Global,
+fn turn<S: Source, K: Sink, M: Fuse + Drop, N: Nv>(
     number: u32,
     buf: &mut [u8; 600],
     script: &mut S,
     report: &mut K,
-    bench: &mut Bench<N>,
+    bench: &mut BenchOver<M, N>,
 ) -> Option<Status>
     requires few { number ≤ 1000000 }
-    requires ready { IsReady ⟦<Fused<N> as Nv>⟧ bench.old }
-    ensures ready { IsReady ⟦<Fused<N> as Nv>⟧ bench.new }
-    ensures goes { IfNone result (Goes ⟦<Fused<N> as Nv>⟧ bench.old bench.new (S.left script.old) (S.left script.new)
+    requires ready { IsReady (bench_of bench.old) }
+    ensures ready { IsReady (bench_of bench.new) }
+    ensures goes { IfNone result (Goes (DidDeeds ⟦<DeviceNode<M> as Node>⟧ M.Nv M.Fuse.own N.Nv device_kind) (bench_of bench.old) (bench_of bench.new) (S.left script.old) (S.left script.new)
         (K.taken report.old) (K.taken report.new)) }
-    ensures stops { IfSome result (λ s. Stops ⟦<Fused<N> as Nv>⟧ s number bench.old bench.new (S.left script.old) (S.left script.new)
+    ensures stops { IfSome result (λ s. Stops (DidDeeds ⟦<DeviceNode<M> as Node>⟧ M.Nv M.Fuse.own N.Nv device_kind) s number (bench_of bench.old) (bench_of bench.new) (S.left script.old) (S.left script.new)
         (K.taken report.old) (K.taken report.new)) }
     ensures not_words { result ≢ Some Status.Words }
     ensures read_later { S.faults script.old ≤ S.faults script.new }
@@ -145,7 +152,7 @@ fn turn<S: Source, K: Sink, N: Nv + Drop>(
         LineRead::Fault => Some(Status::ReadFault),
         LineRead::End | LineRead::Long => Some(Status::Script(number)),
         LineRead::Line(len, is_ended) => {
-            match do_line(alloc, number, &buf[..len as usize], report, bench) {
+            match do_line(number, &buf[..len as usize], report, bench) {
                 Some(status) => Some(status),
                 None => {
                     if is_ended {
@@ -159,15 +166,14 @@ fn turn<S: Source, K: Sink, N: Nv + Drop>(
 }
 
 // Does the script's lines up to the run's end.
-fn replay<S: Source, K: Sink, N: Nv + Drop>(
-    alloc: Global,
+fn replay<S: Source, K: Sink, M: Fuse + Drop, N: Nv>(
     script: &mut S,
     report: &mut K,
-    bench: &mut Bench<N>,
+    bench: &mut BenchOver<M, N>,
 ) -> Status
-    requires ready { IsReady ⟦<Fused<N> as Nv>⟧ bench.old }
-    ensures ready { IsReady ⟦<Fused<N> as Nv>⟧ bench.new }
-    ensures ran { Replayed result (DidDeeds ⟦<Fused<N> as Nv>⟧ [] bench.old bench.new) (S.left script.old) (S.left script.new)
+    requires ready { IsReady (bench_of bench.old) }
+    ensures ready { IsReady (bench_of bench.new) }
+    ensures ran { Replayed result (DidDeeds ⟦<DeviceNode<M> as Node>⟧ M.Nv M.Fuse.own N.Nv device_kind (bench_of bench.old) (bench_of bench.new)) (S.left script.old) (S.left script.new)
         (K.taken report.old) (K.taken report.new) }
     ensures not_words { result ≢ Status.Words }
     ensures read_later { S.faults script.old ≤ S.faults script.new }
@@ -177,7 +183,7 @@ fn replay<S: Source, K: Sink, N: Nv + Drop>(
 {
     let mut buf = [0; 600];
     for count in 0..LINES {
-        match turn(alloc, count + 1, &mut buf, script, report, bench) {
+        match turn(count + 1, &mut buf, script, report, bench) {
             Some(status) => return status,
             None => {}
         }
@@ -204,22 +210,23 @@ pub fn is_replay(words: &[String]) -> bool
 /// Does all that the program does: where the words are `replay` it does the events of the script, line by line, and writes
 /// a line of the report for each before it reads the next. It takes no memory. The bench begins a new run in any case.
 ///
-/// For every history for which the bench stands, and whose storages tell what they hold, each reply is one that its event may
-/// get, the bench stands for what the events leave, and that ledger is lawful, as long as nothing from outside is forged.
-/// Whatever the storages tell, a failure of power or storage is answered only as often as they and the cuts account for; so
-/// where none failed, no fuse was armed and no `cut` was answered, each reply is its event's answer.
+/// Each event is done by a step of the bench; that holds of each whether or not a history leads to what the storages show. For
+/// every history for which the bench stood, and whose storages tell what they hold, each reply is one that its event may get,
+/// the bench stands for what the events leave, and that ledger is lawful, as long as nothing from outside is forged. Whatever the
+/// storages tell, a failure of power or storage is answered only as often as they and the cuts account for; so where none
+/// failed, no fuse was armed and no `cut` was answered, each reply is its event's answer.
 pub fn run<S: Source, K: Sink, N: Nv + Drop>(
-    alloc: Global,
+    _alloc: Global,
     words: &[String],
     script: &mut S,
     report: &mut K,
     bench: &mut Bench<N>,
 ) -> Status
-    requires ready { IsReady ⟦<Fused<N> as Nv>⟧ bench.old }
-    ensures ready { IsReady ⟦<Fused<N> as Nv>⟧ bench.new }
+    requires ready { IsReady (bench_of bench.old) }
+    ensures ready { IsReady (bench_of bench.new) }
 
     // The deeds, and the status by them: each status has its row in `EndsIn`.
-    ensures ran { Replayed result (DidLawfully ⟦<Fused<N> as Nv>⟧ (Begin ∷ []) bench.old bench.new) (S.left script.old) (S.left script.new)
+    ensures ran { Replayed result (DidRun ⟦<DeviceNode<Fused<N>> as Node>⟧ ⟦<Fused<N> as Nv>⟧ fuse_in N.Nv device_kind (bench_of bench.old) (bench_of bench.new)) (S.left script.old) (S.left script.new)
         (K.taken report.old) (K.taken report.new) }
 
     // Done, Script and TooLong come exactly where the bytes of the script say so, and only a fault of a stream hinders them.
@@ -238,7 +245,7 @@ pub fn run<S: Source, K: Sink, N: Nv + Drop>(
     histories();
     bench.begin();
     if is_replay(words) {
-        replay(alloc, script, report, bench)
+        replay(script, report, bench)
     } else {
         Status::Words
     }

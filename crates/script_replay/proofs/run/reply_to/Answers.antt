@@ -1,7 +1,10 @@
-use Rattle.std.proofs.Common.{◌∙◌, sym}
 use Rattle.script_replay.proofs.run.reply_to.Goals as goal
 
 pub returns-clause-did : goal.returns-clause-did
-returns-clause-did g c =
-    let did = c.in-Ok.ensures in
-    record { moves = did.moves; stands = did.stands; size = did.ready.eight ∙ sym c.requires.ready.eight; names = did.names; charged = did.charged }
+returns-clause-did g c = record {
+  ready = c.react.ensures.ready;
+  taken = c.requires.taken;
+  turn = c.react.ensures.did.0;
+  told = c.react.ensures.did.1;
+  steps = c.react.ensures.did.2;
+}

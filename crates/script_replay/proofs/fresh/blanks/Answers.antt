@@ -1,0 +1,16 @@
+use Rattle.std.proofs.Common.{length, sym, ap, subst, arith}
+use Rattle.std.proofs.lemmas.List.{length_push}
+use Rattle.std.proofs.lemmas.List.Elements.{All-push}
+use Rattle.std.specs.List.{All}
+use Rattle.nv_model.specs.contracts.memory.MemNvNv.TheImpl.{ghosts}
+use Rattle.script_replay.specs.Fresh.{IsFresh}
+use Rattle.script_replay.proofs.fresh.blanks.Goals as goal
+
+pub loop-i-preserved : goal.loop-i-preserved
+loop-i-preserved c =
+    let before = c.loop-i.stores.items in
+    let more = c.in-Ok.ensures.items in
+    record {
+      count = omega (arith, ap (λ l. length l) more, length_push before c.in_ok-blank.field-0, c.loop-i.invariant.count);
+      fresh = subst (All (λ nv. IsFresh ghosts nv)) (sym more) (All-push (λ nv. IsFresh ghosts nv) before c.in_ok-blank.field-0 c.loop-i.invariant.fresh c.in_ok-blank.ensures);
+    }
