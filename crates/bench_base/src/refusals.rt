@@ -153,11 +153,16 @@ pub enum BootFail {
     Damaged,
 }
 
-/// Why a device on storage did not do what it was asked.
+/// Why a node on storage did not do what it was asked.
 #[derive(Clone, Copy)]
-pub enum DevFail {
-    /// The device refuses. Nothing was changed.
-    Refused(DevRefusal),
+pub enum Fail<F> {
+    /// The node refuses. Nothing was changed.
+    Refused(F),
     /// The commit failed.
     Store(StoreFail),
 }
+
+pub type DevFail = Fail<DevRefusal>;
+pub type CentreFail = Fail<CentreRefusal>;
+pub type HostFail = Fail<HostRefusal>;
+pub type ScanFail = Fail<ScanRefusal>;

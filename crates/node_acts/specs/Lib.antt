@@ -2,4 +2,5 @@ pub mod Views
 pub mod Acts
 pub mod Starts
 pub mod Plans
+pub mod Results
 pub mod Kinds

@@ -3,6 +3,8 @@ use Rattle.std.specs.Prelude.{Result, Ok, Err, Option, Some, None, Bool, true, f
 use Rattle.bench_base.specs.declared.ledger.Commit.{Commit}
 use Rattle.bench_base.specs.declared.refusals.BootFail.{BootFail}
 use Rattle.bench_base.specs.declared.refusals.BootFail.TheVariants as boot
+use Rattle.bench_base.specs.declared.refusals.Fail.{Fail}
+use Rattle.bench_base.specs.declared.refusals.Fail.TheVariants.{Refused, Store}
 use Rattle.bench_base.specs.declared.refusals.StoreFail.{StoreFail}
 use Rattle.bench_base.specs.declared.refusals.StoreFail.TheVariants as store
 use Rattle.nv_store.specs.Turns.{End, Kept, Made, Cut, Faulted}
@@ -59,3 +61,13 @@ end_of (o.Done a) = Kept
 end_of o.Worn = Kept
 end_of (o.Power c) = Cut
 end_of (o.Fault c) = Faulted
+
+-- a call that answers a result and makes this commit, if it makes one
+abbrev pub end_of_result : {S F A : Type 0} → Result A (Fail F) → Option (Commit × S) → End
+end_of_result (Ok a) (Some x) = Made
+end_of_result (Ok a) None = Kept
+end_of_result (Err (Refused x)) made = Kept
+end_of_result (Err (Store store.Power)) made = Cut
+end_of_result (Err (Store store.Fault)) made = Faulted
+end_of_result (Err (Store store.Worn)) made = Kept
+end_of_result (Err (Store store.Failed)) made = Kept

@@ -1,3 +1,2 @@
-mod Decisions
 mod Commits
-mod Starts
+mod Performs

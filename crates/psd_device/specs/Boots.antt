@@ -1,12 +1,9 @@
--- What a boot finds, and what it costs the storage.
+-- What a boot finds.
 use Rattle.std.specs.Prelude.{◌≡◌, ◌≢◌, ◌⊎◌, ℕ, List, Option, Some, IfSome}
-use Rattle.bench_base.specs.declared.refusals.BootFail.{BootFail}
-use Rattle.bench_base.specs.declared.refusals.BootFail.TheVariants.{Power, Fault, Damaged}
 use Rattle.nv_model.specs.Moments.{Times, Only}
 use Rattle.nv_store.specs.Slot.{Held, slots_at}
 use Rattle.nv_store.specs.Scans.{IsMixed}
 use Rattle.nv_store.specs.Store.{cell_shown}
-use Rattle.nv_store.specs.Turns.{End, Kept, Cut, Faulted}
 use Rattle.psd_state.specs.State.{State}
 use Rattle.psd_state.specs.Payload.{bytes_of}
 use Rattle.psd_device.specs.Shown.{IsShown, IsKept}
@@ -32,9 +29,3 @@ pub record IsForeign (device : ℕ) (image : List ℕ) : Type 0 where
 -- why a boot answers Damaged: the size is another, or what the storage is sure to hold is mixed or no record of this device
 abbrev pub IsDamaged : ℕ → ℕ → Times → List ℕ → Type 0
 IsDamaged device size now content = (size ≢ 3424) ⊎ (Only now content × (IsMixed 16 (slots_at 209 0 content) ⊎ IsForeign device content))
-
--- how a boot that failed ended for the storage; none writes
-abbrev pub end_of_boot : BootFail → End
-end_of_boot Power = Cut
-end_of_boot Fault = Faulted
-end_of_boot Damaged = Kept

@@ -1,51 +1,97 @@
 -- What contracts see of a device and of its calls.
-use Rattle.std.specs.Prelude.{◌≡◌, ℕ, List, Result, None, IfSome}
-use Rattle.bench_base.specs.declared.refusals.DevFail.{DevFail}
+use Rattle.std.specs.Prelude.{◌≡◌, ◌≢◌, ℕ, List, Option, Result, Ok, Err, Some, None, IfSome}
+use Rattle.bench_base.specs.declared.ledger.Commit.{Commit}
+use Rattle.bench_base.specs.declared.refusals.DevRefusal.{DevRefusal}
+use Rattle.bench_base.specs.declared.refusals.Fail.{Fail}
+use Rattle.bench_base.specs.declared.refusals.Fail.TheVariants.{Refused, Store}
+use Rattle.bench_base.specs.declared.refusals.StoreFail.TheVariants.{Power, Fault, Worn, Failed}
 use Rattle.nv_model.specs.declared.nv.Nv.{Ghosts}
+use Rattle.nv_ring.specs.declared.wear.Wear.{Wear}
+use Rattle.nv_store.specs.Store.{OnlyShows}
 use Rattle.nv_store.specs.Turns.{Turn, Spent}
-use Rattle.psd_device.specs.Shown.{IsShown, IsKept}
-use Rattle.psd_device.specs.Acts.{Act, Does, IsAfter, commit_in, end_in}
-use Rattle.psd_device.specs.Running.{Running}
+use Rattle.node_acts.specs.declared.act.Act.{Act}
+use Rattle.node_acts.specs.Acts.{commit_in, cost}
+use Rattle.node_acts.specs.Results.{result_in}
+use Rattle.node_seat.specs.Ends.{end_of_result}
+use Rattle.psd_state.specs.State.{State}
+use Rattle.psd_state.specs.Seen.{Seen, counting}
+use Rattle.psd_device.specs.Shown.{device_held, ShowsSeen, IsKept}
+use Rattle.psd_device.specs.Sound.{IsSound, StartsAt}
+use Rattle.psd_device.specs.NodeView.{storage_in, seen_in, number_in, wear_in, SameWear}
 use Rattle.psd_device.specs.declared.device.Device.{Device}
 
 -- its storage
 abbrev pub storage_of : {N : Type 0} {g : Ghosts N} → Device N g → N
-storage_of device = device.nv
+storage_of d = storage_in d.node
 
--- its number, commits and record, and the commit that failed
-abbrev pub running : {N : Type 0} {g : Ghosts N} → Device N g → Running
-running d = record { device = d.device; count = d.head.count; state = d.state; torn = d.torn }
+-- its commits and its record
+abbrev pub seen_of : {N : Type 0} {g : Ghosts N} → Device N g → Seen
+seen_of d = seen_in d.node
 
--- the number of commits at the boot
-abbrev pub first_of : {N : Type 0} {g : Ghosts N} → Device N g → ℕ
-first_of device = device.wear.first
+abbrev pub number_of : {N : Type 0} {g : Ghosts N} → Device N g → ℕ
+number_of d = number_in d.node
 
--- the current slot at the boot, 15 where the storage was blank
-abbrev pub start_of : {N : Type 0} {g : Ghosts N} → Device N g → ℕ
-start_of device = device.wear.start
+-- the commit of it that failed
+abbrev pub torn_of : {N : Type 0} {g : Ghosts N} → Device N g → Option Commit
+torn_of d = d.torn
 
--- how many commits since the boot filled each slot
-abbrev pub fills_in : {N : Type 0} {g : Ghosts N} → Device N g → List ℕ
-fills_in device = device.wear.fills
+-- from which number of commits and slot on wear is counted, and how often each slot was filled since
+abbrev pub wear_of : {N : Type 0} {g : Ghosts N} → Device N g → Wear
+wear_of d = wear_in d.node
 
--- what a call of this act answered and left in the device
-abbrev pub CallDoes : {N A : Type 0} {g : Ghosts N} → Act A → Device N g → Device N g → Result A DevFail → Type 0
-CallDoes act old new result = Does act (running old) (running new) result
+-- == a boot ==
 
--- what it left in the storage, where that tells its images
-abbrev pub CallTurn : {N A : Type 0} {g : Ghosts N} → Act A → Device N g → Device N g → Result A DevFail → Type 0
-CallTurn {g = g} act old new result =
-    let before = running old in
-    Turn (IsShown before.count before.state) (IsAfter before.count (commit_in before.count act)) (g.times (storage_of old)) (g.times (storage_of new)) (end_in before.count act result)
+-- what starts as device d: it shows what its storage shows
+pub record Starts {N : Type 0} {g : Ghosts N} (device : ℕ) (d : Device N g) : Type 0 where
+  pub works : torn_of d ≡ None
+  pub number : number_of d ≡ device
+  pub sound : IsSound device (seen_of d)
+  pub size : g.size (storage_of d) ≡ 3424
+  pub shows : g.tells → OnlyShows 209 16 1 (λ k. device_held (seen_of d).count (seen_of d).state) (g.times (storage_of d)) (g.content (storage_of d))
+  pub place : g.tells → StartsAt (wear_of d) (seen_of d) (g.content (storage_of d))
 
--- what it cost the storage
-abbrev pub CallSpent : {N A : Type 0} {g : Ghosts N} → Act A → Device N g → Device N g → Result A DevFail → Type 0
-CallSpent {g = g} act old new result = Spent 6 (g.meters (storage_of old)) (g.meters (storage_of new)) (end_in (running old).count act result)
+-- == a call ==
 
--- the record of its commit can be kept
-abbrev pub CallKeeps : {N A : Type 0} {g : Ghosts N} → Act A → Device N g → Type 0
-CallKeeps act old = IfSome (commit_in (running old).count act) (λ x. IsKept x.1)
+-- the images that show the commit too
+abbrev pub IsAfter : Option (Commit × Seen) → List ℕ → Type 0
+IsAfter None image = ⊥
+IsAfter (Some x) image = ShowsSeen x.1 image
 
--- it leaves the device and its storage as they were where it commits nothing
-abbrev pub CallRests : {N A : Type 0} {g : Ghosts N} → Act A → Device N g → Device N g → Type 0
-CallRests act old new = commit_in (running old).count act ≡ None → new ≡ old
+-- the record after the commit that was made
+abbrev pub seen_with : Option (Commit × Seen) → Seen → Seen
+seen_with None s = s
+seen_with (Some x) s = x.1
+
+-- the commit, if there is one, is the one that failed, and the record stays
+abbrev pub Tore : {N : Type 0} {g : Ghosts N} → Option (Commit × Seen) → Device N g → Device N g → Type 0
+Tore None old new = ⊥
+Tore (Some x) old new = (torn_of new ≡ Some x.0) × (seen_of new ≡ seen_of old)
+
+-- it answers what the act does, and has the record after its commit
+abbrev pub Did : {N A : Type 0} {g : Ghosts N} → Act State DevRefusal A → Device N g → Device N g → Result A (Fail DevRefusal) → Type 0
+Did act old new result = (result ≡ result_in counting (seen_of old) act) × (torn_of new ≡ None) × (seen_of new ≡ seen_with (commit_in counting (seen_of old) act) (seen_of old))
+
+-- what a call of this act answered and left in a device that had not failed
+abbrev pub Does : {N A : Type 0} {g : Ghosts N} → Act State DevRefusal A → Device N g → Device N g → Result A (Fail DevRefusal) → Type 0
+Does act old new (Err (Store Power)) = Tore (commit_in counting (seen_of old) act) old new
+Does act old new (Err (Store Fault)) = Tore (commit_in counting (seen_of old) act) old new
+Does act old new (Err (Store Worn)) = Did act old new (Err (Store Worn))
+Does act old new (Err (Store Failed)) = ⊥
+Does act old new (Err (Refused x)) = Did act old new (Err (Refused x))
+Does act old new (Ok a) = Did act old new (Ok a)
+
+-- What a call of this act did, answered and left. A device of which a commit failed answers `Failed` to each call and
+-- stays as it is; a call that commits nothing leaves the device and its storage as they were.
+pub record Performs {N A : Type 0} {g : Ghosts N} (act : Act State DevRefusal A) (old new : Device N g) (result : Result A (Fail DevRefusal)) : Type 0 where
+  pub failed : torn_of old ≢ None → (result ≡ Err (Store Failed)) × (new ≡ old)
+  pub does : torn_of old ≡ None → Does act old new result
+  pub turn : torn_of old ≡ None → g.tells
+      → Turn (ShowsSeen (seen_of old)) (IsAfter (commit_in counting (seen_of old) act)) (g.times (storage_of old)) (g.times (storage_of new))
+      (end_of_result result (commit_in counting (seen_of old) act))
+  pub spent : torn_of old ≡ None → Spent (cost act) (g.meters (storage_of old)) (g.meters (storage_of new)) (end_of_result result (commit_in counting (seen_of old) act))
+  pub next : torn_of old ≡ None → IfSome (commit_in counting (seen_of old) act) (λ x. IfSome x.1.state IsKept)
+  pub rests : commit_in counting (seen_of old) act ≡ None → new ≡ old
+  pub number : number_of new ≡ number_of old
+  pub kept : IfSome (seen_of new).state IsKept
+  pub size : g.size (storage_of new) ≡ 3424
+  pub wear : SameWear (wear_of old) (wear_of new)

@@ -1,5 +1,5 @@
--- What a running device that hasn't failed knows of its storage, and what holds of each.
-use Rattle.std.proofs.Common.{◌≡◌, ◌↔◌, ℕ, ◌<◌, ◌^◌, List, Option, Some, None, IfSome, false, refl, sym, ◌∙◌, subst, arith, inl, inr, ap}
+-- What a device that is on knows of its storage, and what holds of each.
+use Rattle.std.proofs.Common.{◌≡◌, ◌↔◌, ℕ, List, Option, Some, None, IfSome, true, refl, sym, ◌∙◌, subst, arith, inl, inr, ap}
 use Rattle.std.proofs.lemmas.Bool.{cases_eq}
 use Rattle.nv_model.specs.declared.nv.Nv.{Ghosts}
 use Rattle.nv_model.specs.Moments.{Image}
@@ -9,9 +9,9 @@ use Rattle.nv_store.specs.Knows.{holds_shows, none_held, some_held}
 use Rattle.psd_state.specs.State.{State}
 use Rattle.psd_state.specs.Payload.{bytes_of}
 use Rattle.psd_state.proofs.Parted.{one-payload}
-use Rattle.psd_device.specs.Shown.{IsShown, IsKept, device_held}
-use Rattle.psd_device.specs.DeviceView.{storage_of, running}
-use Rattle.psd_device.specs.declared.device.Device.{Device}
+use Rattle.psd_device.specs.Shown.{IsShown, IsKept, ShowsSeen, device_held}
+use Rattle.psd_device.specs.NodeView.{storage_in, seen_in, is_on}
+use Rattle.psd_device.specs.declared.node.DeviceNode.{DeviceNode}
 
 -- the same cell by another word
 pub shown_as : (a b : Option Held) (image : List ℕ) → a ≡ b → Shows 209 16 1 (λ k. a) image → Shows 209 16 1 (λ k. b) image
@@ -57,31 +57,25 @@ one_shown a b o p image kept kept' blank blank' shows shows' = by_record o p kep
         let pair : ◌≡◌ {A = Held} (a, bytes_of s) (b, bytes_of t) = cc in
         (ap (λ (h : Held). h.0) pair, ap (λ (x : State). Some x) (one-payload s t kept.holds kept'.holds kept.ranges kept'.ranges (ap (λ (h : Held). h.1) pair)))
 
-module _ {N : Type 0} {g : Ghosts N} (d : Device N g) where
+module _ {N : Type 0} {g : Ghosts N} (k : DeviceNode N g) where
   -- the only image is what a read gives, and it shows the device's commits and record
-  pub knows : g.tells → (running d).torn ≡ None → OnlyShows 209 16 1 (λ k. device_held (running d).count (running d).state) (g.times (storage_of d)) (g.content (storage_of d))
-  knows tells works =
-      let only = holds_shows (d.holds works tells) in
-      record { only = only.only; shows = shown_as (one_held d.head.count d.payload) (device_held d.head.count d.state) (g.content d.nv) d.written only.shows }
+  pub knows : g.tells → is_on k ≡ true → OnlyShows 209 16 1 (λ i. device_held (seen_in k).count (seen_in k).state) (g.times (storage_in k)) (g.content (storage_in k))
+  knows tells on =
+      let only = holds_shows (k.holds on tells) in
+      record { only = only.only; shows = shown_as (one_held k.head.count k.payload) (device_held k.head.count k.state) (g.content k.nv) k.written only.shows }
 
   -- each image shows them
-  pub shows : g.tells → (running d).torn ≡ None → (image : List ℕ) → Image (g.times (storage_of d)) image → IsShown (running d).count (running d).state image
-  shows tells works image now =
-      let only = knows tells works in
-      subst (λ (c : List ℕ). IsShown d.head.count d.state c) (sym (only.only image now)) only.shows
+  pub shows : g.tells → is_on k ≡ true → (image : List ℕ) → Image (g.times (storage_in k)) image → ShowsSeen (seen_in k) image
+  shows tells on image now =
+      let only = knows tells on in
+      subst (λ (c : List ℕ). IsShown k.head.count k.state c) (sym (only.only image now)) only.shows
 
-  pub powered : (running d).torn ≡ None → (g.meters (storage_of d)).lost ≡ false
-  powered works = d.powered works
+  pub size : is_on k ≡ true → g.size (storage_in k) ≡ 3424
+  size on = k.room on
 
-  pub size : g.size (storage_of d) ≡ 3424
-  size = d.room
-
-  pub kept : IfSome (running d).state IsKept
-  kept = if_some IsKept d.state d.kept
+  pub kept : IfSome (seen_in k).state IsKept
+  kept = if_some IsKept k.state k.kept
 
   -- a device has no commits exactly where it was never made
-  pub blank : ((running d).count ≡ 0) ↔ ((running d).state ≡ None)
-  blank = blank_held d.head.count d.payload d.state d.written
-
-  pub fits : (running d).count < 2 ^ 32
-  fits = d.fits
+  pub blank : ((seen_in k).count ≡ 0) ↔ ((seen_in k).state ≡ None)
+  blank = blank_held k.head.count k.payload k.state k.written

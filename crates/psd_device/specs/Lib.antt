@@ -1,8 +1,9 @@
-pub mod Running
 pub mod Shown
 pub mod Unique
-pub mod Acts
-pub mod Calls
-pub mod DeviceView
 pub mod Boots
+pub mod Sound
+pub mod NodeView
+pub mod DeviceView
 pub mod Knows
+pub mod Finds
+pub mod NodeLaws

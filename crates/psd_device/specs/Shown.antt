@@ -2,6 +2,7 @@
 use Rattle.std.specs.Prelude.{ℕ, List, Option, Some, None}
 use Rattle.psd_state.specs.State as state
 use Rattle.psd_state.specs.State.{State}
+use Rattle.psd_state.specs.Seen.{Seen}
 use Rattle.psd_state.specs.Payload.{bytes_of, Ranges}
 use Rattle.nv_store.specs.Slot.{Held}
 use Rattle.nv_store.specs.Store.{Shows}
@@ -14,6 +15,9 @@ device_held count (Some s) = Some (count, bytes_of s)
 -- an image that shows so many commits and this record
 abbrev pub IsShown : ℕ → Option State → List ℕ → Type 0
 IsShown count s image = Shows 209 16 1 (λ k. device_held count s) image
+
+abbrev pub ShowsSeen : Seen → List ℕ → Type 0
+ShowsSeen s image = IsShown s.count s.state image
 
 -- the record can be kept: it meets its conditions and its numbers fit their fields
 pub record IsKept (s : State) : Type 0 where

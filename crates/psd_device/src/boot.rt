@@ -1,17 +1,17 @@
 //! A device out of its storage.
-ghost use Rattle.std.specs.Prelude.{◌≡◌, ◌≢◌, ◌↔◌, List, IfOk, IfErr, IfSome, MatchResult, Some, None, Ok, false, replicate, ℕ};
+ghost use Rattle.std.specs.Prelude.{◌≡◌, ◌≢◌, List, OnOk, IfOk, IfErr, IfSome, IsErrOf, MatchResult, Ok, Err, false, is_ok, ℕ};
 ghost use Rattle.nv_model.specs.Moments.{Image};
-ghost use Rattle.nv_store.specs.Slot.{Held, slots_at};
-ghost use Rattle.nv_store.specs.Cells.{Top};
-ghost use Rattle.nv_store.specs.Store.{one_held, OnlyShows};
-ghost use Rattle.nv_store.specs.Mounts.{Mounts};
+ghost use Rattle.nv_store.specs.Store.{one_held};
 ghost use Rattle.nv_store.specs.Turns.{Spent, Kept};
+ghost use Rattle.node_seat.specs.Does.{Reads};
+ghost use Rattle.node_seat.specs.Ends.{end_of_boot};
 ghost use Rattle.psd_state.specs.State.{State};
 ghost use Rattle.psd_state.specs.Payload.{bytes_of};
-ghost use Rattle.psd_device.specs.Shown.{device_held, IsKept};
-ghost use Rattle.psd_device.specs.Boots.{IsOwn, ShowsOwn, IsDamaged, end_of_boot};
+ghost use Rattle.psd_device.specs.Shown.{device_held};
+ghost use Rattle.psd_device.specs.Boots.{IsOwn, ShowsOwn, IsDamaged};
 
 use crate::device::Device;
+use crate::node::DeviceNode;
 use bench_base::numbers::DevNo;
 use bench_base::refusals::BootFail;
 use nv_model::Nv;
@@ -36,8 +36,49 @@ fn record_in(device: DevNo, count: u32, payload: &[u8; 209]) -> Result<Option<De
     }
 }
 
+impl<N: Nv> DeviceNode<N> {
+    ghost use Rattle.psd_device.specs.NodeView.{storage_in, seen_in, number_in, is_on, wear_in};
+    ghost use Rattle.psd_device.specs.Sound.{IsSound, IsNewWear, StartsAt};
+
+    /// Switches a device that is off on, from what its storage shows, or leaves it off. Power is not lost. Nothing is
+    /// written.
+    pub(crate) fn boot_record(&mut self, device: DevNo) -> Result<(), BootFail>
+        requires off { is_on self.old ≡ false }
+        requires powered { (N.meters (storage_in self.old)).lost ≡ false }
+        ensures leaves { is_on self.new ≡ is_ok result }
+        ensures starts { OnOk result ((number_in self.new ≡ device) × IsSound device (seen_in self.new)) }
+        ensures reads { Reads N.Nv (storage_in self.old) (storage_in self.new) }
+        ensures size { N.size (storage_in self.old) ≢ 3424 → (result ≡ Err BootFail.Damaged) × (storage_in self.new ≡ storage_in self.old) }
+        ensures damaged { N.tells → IsErrOf result BootFail.Damaged
+            → IsDamaged device (N.size (storage_in self.new)) (N.times (storage_in self.new)) (N.content (storage_in self.new)) }
+        ensures spent { Spent 1 (N.meters (storage_in self.old)) (N.meters (storage_in self.new)) (end_of_boot result) }
+        ensures wear { OnOk result (IsNewWear (wear_in self.new) (seen_in self.new).count) }
+        ensures place { N.tells → OnOk result (StartsAt (wear_in self.new) (seen_in self.new) (N.content (storage_in self.new))) }
+    {
+        let mut payload = [0; 209];
+        let head = match mount_lent(&mut self.nv, 16, &mut payload) {
+            Ok(head) => head,
+            Err(MountCause::Power) => return Err(BootFail::Power),
+            Err(MountCause::Fault) => return Err(BootFail::Fault),
+            Err(MountCause::Size(_)) => return Err(BootFail::Damaged),
+            Err(MountCause::Mixed(_)) => return Err(BootFail::Damaged),
+        };
+        let Ok(state) = record_in(device, head.count, &payload) else {
+            return Err(BootFail::Damaged);
+        };
+        self.wear = Wear::new(&head);
+        self.head = head;
+        self.payload = payload;
+        self.device = device;
+        self.state = state;
+        self.on = true;
+        Ok(())
+    }
+}
+
 impl<N: Nv> Device<N> {
-    ghost use Rattle.psd_device.specs.DeviceView.{storage_of, running, first_of, start_of, fills_in};
+    ghost use Rattle.psd_device.specs.DeviceView.{storage_of, seen_of, wear_of, Starts};
+    ghost use Rattle.psd_device.specs.Sound.{IsNewWear};
 
     /// The device of this number in its storage, or why it does not start, with the storage. Power is not lost. Nothing is
     /// written.
@@ -47,53 +88,25 @@ impl<N: Nv> Device<N> {
     pub fn boot(device: DevNo, nv: N) -> Result<Device<N>, (N, BootFail)>
         requires powered { (N.meters nv).lost ≡ false }
 
-        ensures works { IfOk result (λ d. (running d).torn ≡ None) }
-        ensures number { IfOk result (λ d. (running d).device ≡ device) }
-        ensures own { IfOk result (λ d. IfSome (running d).state (IsOwn device)) }
-        ensures blank { IfOk result (λ d. ((running d).count ≡ 0) ↔ ((running d).state ≡ None)) }
-
-        // Nothing is written, and what starts is what the storage shows.
-        ensures mounts { N.tells → MatchResult result (λ d. Mounts (N.times nv) (N.times (storage_of d))) (λ e. Mounts (N.times nv) (N.times e.0)) }
-        ensures shows { N.tells → IfOk result (λ d. OnlyShows 209 16 1 (λ k. device_held (running d).count (running d).state)
-            (N.times (storage_of d)) (N.content (storage_of d))) }
-        ensures bytes { MatchResult result (λ d. N.size (storage_of d) ≡ N.size nv) (λ e. N.size e.0 ≡ N.size nv) }
-        ensures room { IfOk result (λ d. N.size (storage_of d) ≡ 3424) }
+        // What starts is what the storage shows, and nothing is written.
+        ensures starts { IfOk result (Starts device) }
+        ensures reads { MatchResult result (λ d. Reads N.Nv nv (storage_of d)) (λ e. Reads N.Nv nv e.0) }
 
         // Why it fails, and what it costs.
         ensures size { N.size nv ≢ 3424 → result ≡ Err (nv, BootFail.Damaged) }
-        ensures damaged { N.tells → IfErr result (λ e. e.1 ≡ BootFail.Damaged → IsDamaged device (N.size nv) (N.times e.0) (N.content e.0)) }
-        ensures undamaged { N.tells → IfOk result (λ d. IsDamaged device (N.size nv) (N.times (storage_of d)) (N.content (storage_of d)) → ⊥) }
+        ensures damaged { N.tells → MatchResult result (λ d. IsDamaged device (N.size nv) (N.times (storage_of d)) (N.content (storage_of d)) → ⊥)
+            (λ e. e.1 ≡ BootFail.Damaged → IsDamaged device (N.size nv) (N.times e.0) (N.content e.0)) }
         ensures sound { N.tells → N.size nv ≡ 3424 → ((c : List ℕ) → Image (N.times nv) c → ShowsOwn device c) → IfErr result (λ e. e.1 ≢ BootFail.Damaged) }
         ensures spent { MatchResult result (λ d. Spent 1 (N.meters nv) (N.meters (storage_of d)) Kept)
-            (λ e. Spent 1 (N.meters nv) (N.meters e.0) (end_of_boot e.1)) }
+            (λ e. Spent 1 (N.meters nv) (N.meters e.0) (end_of_boot (Err e.1))) }
 
         // Wear is counted from here on.
-        ensures first { IfOk result (λ d. first_of d ≡ (running d).count) }
-        ensures fills { IfOk result (λ d. fills_in d ≡ replicate 16 0) }
-        ensures start_blank { IfOk result (λ d. (running d).count ≡ 0 → start_of d ≡ 15) }
-        ensures start { N.tells → IfOk result (λ d. (held : Held) → device_held (running d).count (running d).state ≡ Some held
-            → Top 16 (slots_at 209 0 (N.content (storage_of d))) (start_of d) held) }
+        ensures wear { IfOk result (λ d. IsNewWear (wear_of d) (seen_of d).count) }
     {
-        let mut nv = nv;
-        let mut payload = [0; 209];
-        let head = match mount_lent(&mut nv, 16, &mut payload) {
-            Ok(head) => head,
-            Err(MountCause::Power) => return Err((nv, BootFail::Power)),
-            Err(MountCause::Fault) => return Err((nv, BootFail::Fault)),
-            Err(MountCause::Size(_)) => return Err((nv, BootFail::Damaged)),
-            Err(MountCause::Mixed(_)) => return Err((nv, BootFail::Damaged)),
-        };
-        match record_in(device, head.count, &payload) {
-            Err(()) => Err((nv, BootFail::Damaged)),
-            Ok(state) => Ok(Device {
-                nv,
-                head,
-                payload,
-                wear: Wear::new(&head),
-                device,
-                state,
-                torn: None,
-            }),
+        let mut node = DeviceNode::new(device, nv);
+        match node.boot_record(device) {
+            Ok(()) => Ok(Device { node, torn: None }),
+            Err(fail) => Err((node.into_storage(), fail)),
         }
     }
 }

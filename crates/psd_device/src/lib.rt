@@ -1,12 +1,14 @@
 //! A device on storage: each call that changes its record commits it before it answers.
 #![tactic(auto)]
 
-mod acts;
 mod boot;
 mod calls;
 mod device;
+mod kind;
+mod node;
 #[cfg(test)]
 mod tests;
 
-pub use acts::{Act, Franked, Taken, debit_commit};
 pub use device::Device;
+pub use node::DeviceNode;
+pub use psd_state::{Franked, Taken};

@@ -1,43 +1,57 @@
-use Rattle.std.proofs.Common.{inr, ⊎_elim}
-use Rattle.nv_store.specs.Slot.{slots_at}
-use Rattle.psd_device.specs.Boots.{ShowsOwn}
-use Rattle.psd_device.specs.Knows.{shown_as}
-use Rattle.psd_device.proofs.Starts.{image_before, not_mixed, shows_clear, foreign_at, own_not_foreign, ok_err}
+use Rattle.std.proofs.Common.{◌≡◌, ℕ, Err, refl, sym, ◌∙◌, ap, subst}
+use Rattle.bench_base.specs.declared.refusals.BootFail.{BootFail}
+use Rattle.bench_base.specs.declared.refusals.BootFail.TheVariants as boot
+use Rattle.nv_model.specs.Moments.{Image}
+use Rattle.psd_device.specs.Boots.{IsDamaged}
+use Rattle.psd_device.specs.Finds.{image_before}
+use Rattle.psd_device.specs.Knows as known
+use Rattle.psd_device.specs.NodeLaws.{not_damaged}
+use Rattle.psd_device.specs.NodeView.{seen_in}
+use Rattle.psd_device.proofs.device.Device.boot.Given.{Over}
 use Rattle.psd_device.proofs.device.Device.boot.Goals as goal
 
-pub returns-in-Err-Size-clause-sound : goal.returns-in-Err-Size-clause-sound
-returns-in-Err-Size-clause-sound g c tells size own is = c.in-Err-Size.ensures.of_size c.in-Err-Size.field-0-0 c.in-Err-Size.field-0-is size
+pub returns-in-Ok-clause-starts : goal.returns-in-Ok-clause-starts
+returns-in-Ok-clause-starts g c =
+    let k = c.boot_record.new.self in
+    let e = c.in-Ok.ensures in
+    record {
+      works = refl;
+      number = e.starts.0;
+      sound = e.starts.1;
+      size = known.size k e.leaves;
+      shows = λ tells. known.knows k tells e.leaves;
+      place = e.place;
+    }
 
-pub returns-in-Err-Mixed-clause-sound : goal.returns-in-Err-Mixed-clause-sound
-returns-in-Err-Mixed-clause-sound g c tells size own is =
+pub returns-in-Ok-clause-damaged : goal.returns-in-Ok-clause-damaged
+returns-in-Ok-clause-damaged g c tells damaged =
     let nv = g.N.Nv in
-    let new = c.mount_lent.new.nv in
-    let e = c.in-Err-Mixed.ensures in
-    let mixed = e.mixed tells c.in-Err-Mixed.field-0-0 c.in-Err-Mixed.field-0-is in
-    let image = image_before (nv.times c.args.nv) (nv.times new) (nv.content new) (e.mounts tells) (g.met.N.Nv.nested new tells) (g.met.N.Nv.content_is new tells) in
-    not_mixed 16 (slots_at 209 0 (nv.content new)) mixed.2 (shows_clear _ _ (own (nv.content new) image))
+    let k = c.boot_record.new.self in
+    let e = c.in-Ok.ensures in
+    let size : nv.size k.nv ≡ nv.size c.args.nv = e.reads.size ∙ ap nv.size c.new-node.ensures.storage in
+    not_damaged nv c.args.device k.nv (record { count = (seen_in k).count; state = (seen_in k).state; own = e.starts.1.own; shows = (known.knows k tells e.leaves).shows })
+    (known.size k e.leaves) (subst (λ (n : ℕ). IsDamaged c.args.device n (nv.times k.nv) (nv.content k.nv)) (sym size) damaged)
+
+-- what a boot that failed left is none of the device, of the size that it had
+left_damaged : (g : Over) (c : goal.After-into_storage g) → g.N.Nv.tells → c.in-Err.fail ≡ boot.Damaged
+    → IsDamaged c.args.device (g.N.Nv.size c.args.nv) (g.N.Nv.times c.boot_record.new.self.nv) (g.N.Nv.content c.boot_record.new.self.nv)
+left_damaged g c tells is =
+    let nv = g.N.Nv in
+    let k = c.boot_record.new.self in
+    let e = c.in-Err.ensures in
+    let size : nv.size k.nv ≡ nv.size c.args.nv = e.reads.size ∙ ap nv.size c.new-node.ensures.storage in
+    subst (λ (n : ℕ). IsDamaged c.args.device n (nv.times k.nv) (nv.content k.nv)) size (e.damaged tells (ap (λ (f : BootFail). Err f) is))
 
 pub returns-in-Err-clause-damaged : goal.returns-in-Err-clause-damaged
 returns-in-Err-clause-damaged g c tells is =
-    let only = c.in-Ok.ensures.shows tells in
-    inr (only.only, inr (foreign_at _ _ _ _ c.in-Err.ensures.filled only.shows c.in-Err.ensures.foreign))
+    let nv = g.N.Nv in
+    subst (λ (s : g.row.N.Denot). IsDamaged c.args.device (nv.size c.args.nv) (nv.times s) (nv.content s)) (sym c.into_storage.ensures) (left_damaged g c tells is)
 
 pub returns-in-Err-clause-sound : goal.returns-in-Err-clause-sound
 returns-in-Err-clause-sound g c tells size own is =
     let nv = g.N.Nv in
-    let new = c.mount_lent.new.nv in
-    let only = c.in-Ok.ensures.shows tells in
-    let image = image_before (nv.times c.args.nv) (nv.times new) (nv.content new) (c.in-Ok.ensures.mounts tells) (g.met.N.Nv.nested new tells) (g.met.N.Nv.content_is new tells) in
-    own_not_foreign _ _ (own (nv.content new) image) (foreign_at _ _ _ _ c.in-Err.ensures.filled only.shows c.in-Err.ensures.foreign)
-
-pub returns-in-Ok-record_in-clause-undamaged : goal.returns-in-Ok-record_in-clause-undamaged
-returns-in-Ok-record_in-clause-undamaged g c tells damaged =
-    let found = c.in-Ok-record_in.ensures in
-    let content = g.N.Nv.content c.mount_lent.new.nv in
-    let own : ShowsOwn c.args.device content = record {
-      count = c.in-Ok.head.count;
-      state = c.in-Ok-record_in.state;
-      own = found.own;
-      shows = shown_as _ _ content found.holds (c.in-Ok.ensures.shows tells).shows;
-    } in
-    ⊎_elim (λ other. ok_err (c.in-Ok.ensures.size other).0) (λ wrong. ⊎_elim (λ mixed. not_mixed 16 (slots_at 209 0 content) mixed (shows_clear _ content own)) (λ foreign. own_not_foreign _ content own foreign) wrong.1) damaged
+    let k = c.boot_record.new.self in
+    let e = c.in-Err.ensures in
+    let same : nv.size k.nv ≡ nv.size c.args.nv = e.reads.size ∙ ap nv.size c.new-node.ensures.storage in
+    let image = image_before (nv.times c.new-node.result.nv) (nv.times k.nv) (nv.content k.nv) (e.reads.mounts tells) (g.met.N.Nv.nested k.nv tells) (g.met.N.Nv.content_is k.nv tells) in
+    not_damaged nv c.args.device k.nv (own (nv.content k.nv) (subst (λ (s : g.row.N.Denot). Image (nv.times s) (nv.content k.nv)) c.new-node.ensures.storage image)) (same ∙ size) (subst (λ (n : ℕ). IsDamaged c.args.device n (nv.times k.nv) (nv.content k.nv)) (sym same) (left_damaged g c tells is))

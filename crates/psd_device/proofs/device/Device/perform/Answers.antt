@@ -1,20 +1,31 @@
-use Rattle.std.proofs.Common.{Ok, sym, subst}
-use Rattle.nv_store.specs.Turns.{Turn}
-use Rattle.psd_device.specs.Acts.{Act, IsAfter, commit_in, end_in}
-use Rattle.psd_device.specs.Shown.{IsShown}
-use Rattle.psd_device.specs.Knows.{shows}
-use Rattle.psd_device.proofs.Commits.{turn_none}
+use Rattle.std.proofs.Common.{Err, refl, sym, ap}
+use Rattle.bench_base.specs.declared.refusals.StoreFail.{StoreFail}
+use Rattle.psd_device.proofs.Performs.{none_torn, refuses, tells_only, worn, done, tore}
 use Rattle.psd_device.proofs.device.Device.perform.Goals as goal
 
-pub returns-then-self-clause-turn : goal.returns-then-self-clause-turn
-returns-then-self-clause-turn g c works tells = turn_none _ _ _ (λ i now. shows c.args.self.now tells works i now)
+pub returns-in-Refuse : goal.returns-in-Refuse
+returns-in-Refuse g c = refuses c.args.act c.args.self.now c.in-Refuse.refusal (none_torn _ (sym c.if-is_some.ensures)) c.in-Refuse.is
 
-pub returns-in-Refuse-clause-turn : goal.returns-in-Refuse-clause-turn
-returns-in-Refuse-clause-turn g c works tells = turn_none _ _ _ (λ i now. shows c.args.self.now tells works i now)
+pub returns-in-Tell : goal.returns-in-Tell
+returns-in-Tell g c = tells_only c.args.act c.args.self.now c.in-Tell.answer (none_torn _ (sym c.if-is_some.ensures)) c.in-Tell.is
 
-pub returns-in-Tell-clause-turn : goal.returns-in-Tell-clause-turn
-returns-in-Tell-clause-turn g c works tells =
-    let s = c.args.self.now in
-    let now = g.N.Nv.times s.nv in
-    subst (λ (act : Act g.row.A.Denot). Turn (IsShown s.head.count s.state) (IsAfter s.head.count (commit_in s.head.count act)) now now (end_in s.head.count act (Ok c.in-Tell.answer)))
-    (sym c.in-Tell.is) (turn_none _ _ _ (λ i is. shows s tells works i is))
+pub returns-then-is_worn : goal.returns-then-is_worn
+returns-then-is_worn g c =
+    let b = c.in-Commits in
+    worn c.args.act c.args.self.now b.commit b.next b.answer (none_torn _ (sym c.if-is_some.ensures)) b.is (sym c.if-is_worn.ensures)
+
+pub returns-in-Ok : goal.returns-in-Ok
+returns-in-Ok g c =
+    let b = c.in-Commits in
+    let e = c.in-Ok.ensures in
+    done c.args.act c.args.self.now b.commit b.next b.answer _ b.is (none_torn _ (sym c.if-is_some.ensures)) (sym c.if-is_worn.ensures)
+    e.number e.kept e.wear _ e.stores refl (none_torn _ (sym c.if-is_some.ensures)) e.answers.done
+
+pub returns-in-Err : goal.returns-in-Err
+returns-in-Err g c =
+    let b = c.in-Commits in
+    let e = c.in-Err.ensures in
+    tore c.args.act c.args.self.now b.commit b.next b.answer _ b.is (none_torn _ (sym c.if-is_some.ensures)) (sym c.if-is_worn.ensures)
+    e.number e.kept e.wear _ e.stores c.in-Err.fail
+    (λ is. cc (e.answers.worn.0 (ap (λ (f : StoreFail). Err f) is), c.if-is_worn.ensures))
+    (λ is. e.answers.not_failed (ap (λ (f : StoreFail). Err f) is)) refl refl e.stays

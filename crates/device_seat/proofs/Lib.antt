@@ -1,4 +1,0 @@
-pub mod Booted
-pub mod Called
-pub mod Owns
-pub mod Rests

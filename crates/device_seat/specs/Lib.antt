@@ -1,4 +1,0 @@
-pub mod Calls
-pub mod Seats
-pub mod Starts
-pub mod Views

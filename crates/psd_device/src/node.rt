@@ -1,0 +1,151 @@
+//! A device in its storage, on or off.
+ghost use Rattle.std.specs.Prelude.{◌≡◌, ◌==◌, ◌<◌, ◌^◌, ℕ, OnErr, IsErrOf, true, false};
+ghost use Rattle.std.specs.Option.{ForSome};
+ghost use Rattle.nv_model.specs.Meters.{Restarts};
+ghost use Rattle.nv_store.specs.Store.{one_held, Holds};
+ghost use Rattle.nv_ring.specs.Turns.{IsWearOf};
+ghost use Rattle.node_seat.specs.Does.{Reads, Commits, Stores};
+ghost use Rattle.node_seat.specs.Ends.{end_of_commit, leaves_running};
+ghost use Rattle.psd_state.specs.Seen.{counting};
+ghost use Rattle.psd_device.specs.Shown.{device_held, IsKept, ShowsSeen};
+ghost use Rattle.psd_device.specs.Unique.{each_kept-prop};
+
+use bench_base::numbers::DevNo;
+use bench_base::refusals::StoreFail;
+use nv_model::{Nv, NvFail};
+use nv_ring::Wear;
+use nv_store::{Head, commit_lent};
+use psd_state::DevRec;
+
+/// A device over storage of 3,424 bytes: one cell of sixteen slots, whose payload is the device's record. While it is
+/// off, what it knew of its storage counts for nothing.
+#[derive(Drop)]
+pub struct DeviceNode<N: Nv> {
+    pub(crate) nv: N,
+    pub(crate) head: Head,
+    pub(crate) payload: [u8; 209],
+    pub(crate) wear: Wear,
+    pub(crate) device: DevNo,
+    pub(crate) state: Option<DevRec>,
+    pub(crate) on: bool,
+    ghost room: { on ≡ true → N.size nv ≡ 3424 },
+    ghost powered: { on ≡ true → (N.meters nv).lost ≡ false },
+    ghost holds: { on ≡ true → N.tells → Holds 209 16 head payload (N.times nv) (N.content nv) },
+    ghost fits: { head.count < 2 ^ 32 },
+    ghost inside: { 0 < head.count → head.place < 16 },
+    ghost wears: { IsWearOf wear head },
+    ghost written: { one_held head.count payload ≡ device_held head.count state },
+    ghost kept: { ForSome state IsKept } by { each_kept-prop state },
+}
+
+impl<N: Nv> DeviceNode<N> {
+    ghost use Rattle.psd_device.specs.NodeView.{storage_in, seen_in, number_in, is_on, wear_in, SameWear};
+
+    /// A device that is off, in this storage. The number counts from its next boot on.
+    pub(crate) fn new(device: DevNo, nv: N) -> DeviceNode<N>
+        ensures off { is_on result ≡ false }
+        ensures storage { storage_in result ≡ nv }
+    {
+        let head = Head::blank();
+        DeviceNode {
+            nv,
+            head,
+            payload: [0; 209],
+            wear: Wear::new(&head),
+            device,
+            state: None,
+            on: false,
+        }
+    }
+
+    /// The number of the device.
+    pub fn number(&self) -> DevNo
+        ensures { result ≡ number_in self.now }
+    {
+        self.device
+    }
+
+    /// Its record, None where it was never made.
+    pub fn record(&self) -> &Option<DevRec>
+        ensures { result.now ≡ (seen_in self.now).state }
+    {
+        &self.state
+    }
+
+    /// The number of commits.
+    pub(crate) fn count(&self) -> u64
+        ensures value { result ≡ (seen_in self.now).count }
+        ensures fits { result < 2 ^ 32 }
+    {
+        u64::from(self.head.count)
+    }
+
+    /// Whether its cell has as many commits as can be counted.
+    pub(crate) fn is_worn(&self) -> bool
+        ensures { result ≡ ((seen_in self.now).count == 4294967295) }
+    {
+        self.head.count == u32::MAX
+    }
+
+    /// Restarts the storage of a device that is off.
+    pub(crate) fn restart_storage(&mut self) -> Result<(), NvFail>
+        requires off { is_on self.old ≡ false }
+        ensures off { is_on self.new ≡ false }
+        ensures reads { Reads N.Nv (storage_in self.old) (storage_in self.new) }
+        ensures answer { Restarts (N.meters (storage_in self.old)) (N.meters (storage_in self.new)) result }
+    {
+        self.nv.restart()
+    }
+
+    /// Commits a record, and keeps it once it is committed. After Power and Fault the device is off.
+    pub(crate) fn commit_record(&mut self, next: &DevRec) -> Result<(), StoreFail>
+        requires on { is_on self.old ≡ true }
+        ensures leaves { is_on self.new ≡ leaves_running result }
+        ensures number { number_in self.new ≡ number_in self.old }
+        ensures kept { IsKept next.now }
+        ensures rests { IsErrOf result StoreFail.Worn → self.new ≡ self.old }
+        ensures stays { OnErr result (seen_in self.new ≡ seen_in self.old) }
+        ensures answers { Commits counting (seen_in self.old) (seen_in self.new) next.now result }
+        ensures stores { Stores N.Nv (ShowsSeen (seen_in self.old)) (ShowsSeen (counting.after (seen_in self.old) next.now))
+            (storage_in self.old) (storage_in self.new) (end_of_commit result) }
+        ensures wear { SameWear (wear_in self.old) (wear_in self.new) }
+    {
+        let payload = next.write_payload();
+        if self.is_worn() {
+            return Err(StoreFail::Worn);
+        }
+        match commit_lent(
+            &mut self.nv,
+            16,
+            &mut self.head,
+            &mut self.payload,
+            &payload,
+        ) {
+            Ok(()) => {
+                self.wear.count(&self.head);
+                self.state = Some(*next);
+                Ok(())
+            }
+            Err(fail) => {
+                self.on = false;
+                Err(fail)
+            }
+        }
+    }
+
+    /// Gives the storage back.
+    pub(crate) fn into_storage(self) -> N
+        ensures { result ≡ storage_in self }
+    {
+        let DeviceNode {
+            nv,
+            head: _,
+            payload: _,
+            wear: _,
+            device: _,
+            state: _,
+            on: _,
+        } = self;
+        nv
+    }
+}
