@@ -1,5 +1,4 @@
 pub mod Benches
 pub mod Costs
-pub mod NodeTurns
+pub mod DeviceTurns
 pub mod Steps
-pub mod Turns

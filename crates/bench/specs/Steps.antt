@@ -32,39 +32,18 @@ use Rattle.bench_views.specs.declared.taken.DeviceCall.{DeviceCall}
 use Rattle.bench_views.specs.declared.taken.Taken.TheVariants as take
 use Rattle.node_acts.specs.Kinds.{Kind, node_plan, node_commit}
 use Rattle.bench_views.specs.Taken.{taken}
-use Rattle.bench.specs.declared.turn.Turn.{Turn}
+use Rattle.node_turns.specs.declared.turn.Turn.{Turn}
 use Rattle.bench.specs.Benches.{Bench, At, Stands, StoresStand, view_by}
-use Rattle.bench.specs.Turns.{in_order, turn_of}
-use Rattle.bench.specs.Costs.{Charged}
+use Rattle.node_turns.specs.Costs.{Charged}
+use Rattle.node_turns.specs.NodeTurns.{Switches, MovesView}
+use Rattle.node_turns.specs.Turns.{in_order, turn_of}
 
 -- == of one node ==
 
--- what an event of node m on a day answers by whether the node is on, and whether it is on afterwards
-pub record Switches (m : Node) (e : Event) (reply : Reply) (was is : Bool) : Type 0 where
-  pub off : needs_on e ≡ true → (reply ≡ r.OffNode m) ↔ (was ≡ false)
-  pub already : e ≡ ev.On m → (reply ≡ r.OnAlready m) ↔ (was ≡ true)
-  pub leaves : is ≡ on_after reply was
-
-module _ {K S N C R X : Type 0} (n : Ghosts K S N C R) (kind : Kind N n.Seen X) where
-  -- the plan of what node d is asked, by what is seen of it, and the commit of that plan
-  abbrev pub plan_by : N → ℤ → View n.Seen → Asked X → Plan
-  plan_by d today v asked = node_plan n.counting (kind.node d) (kind.plan d today v) v asked
-
-  abbrev pub commit_by : N → ℤ → View n.Seen → Asked X → Option (Commit × n.Seen)
-  commit_by d today v asked = node_commit (kind.commit d today v) asked
-
-  -- what an event of node d did on that day, by a view for which it stood
-  pub record MovesView (g : nv.Ghosts S) (d : N) (today : ℤ) (asked : Asked X) (turn : Turn) (v : View n.Seen) (s t : K) : Type 0 where
-    pub may : MayReply n.counting (kind.node d) v (plan_by d today v asked) turn.reply
-    pub entries : turn.entries ≡ in_order (after (plan_by d today v asked) turn.reply [])
-    pub stands : node.Stands n g d (view_after n.counting turn.reply (commit_by d today v asked) v) t
-    pub any_moment : (image : List ℕ) → (times_of n g t).since (times_of n g s).moment image
-        → Allowed n v image ⊎ IsAfter n (commit_by d today v asked) image
-
-  -- an image of node d that shows its counted commits and the commit of the event
-  abbrev pub ShowsCommit : Tariff → Ledger → Event → N → List ℕ → Type 0
-  ShowsCommit τ H e d image = (c : Commit) × ((plan τ todays_rules H e []).commit ≡ Some c) × (node_of c ≡ kind.node d)
-      × n.IsShown (kind.seen d (c ∷ counted H)) image
+-- an image of node d that shows its counted commits and the commit of the event
+abbrev pub ShowsCommit : {K S N C R X : Type 0} (n : Ghosts K S N C R) → Kind N n.Seen X → Tariff → Ledger → Event → N → List ℕ → Type 0
+ShowsCommit n kind τ H e d image = (c : Commit) × ((plan τ todays_rules H e []).commit ≡ Some c) × (node_of c ≡ kind.node d)
+    × n.IsShown (kind.seen d (c ∷ counted H)) image
 
 -- == a stop within a step ==
 

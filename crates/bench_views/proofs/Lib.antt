@@ -4,5 +4,5 @@ mod Frames
 mod Histories
 mod Plans
 pub mod Steps
-pub mod Taken
+pub mod Events
 mod Views
