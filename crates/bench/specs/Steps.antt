@@ -1,6 +1,7 @@
 -- What one event does to the bench.
 use Rattle.std.specs.Prelude.{◌≡◌, ◌⊎◌, ◌↔◌, ℕ, ℤ, List, [], ◌∷◌, Bool, true, false, Option, Some, None, IsSome, length, slice_get}
 use Rattle.bench_base.specs.declared.words.Node.{Node}
+use Rattle.bench_base.specs.declared.words.Node.TheVariants.{Device}
 use Rattle.bench_base.specs.declared.ledger.Commit.{Commit}
 use Rattle.bench_base.specs.declared.ledger.Entry.TheVariants as entry
 use Rattle.bench_base.specs.declared.events.Event.{Event}
@@ -33,16 +34,16 @@ use Rattle.bench_views.specs.declared.taken.Taken.TheVariants as take
 use Rattle.node_acts.specs.Kinds.{Kind, node_plan, node_commit}
 use Rattle.bench_views.specs.Taken.{taken}
 use Rattle.node_turns.specs.declared.turn.Turn.{Turn}
-use Rattle.bench.specs.Benches.{Bench, At, Stands, StoresStand, view_by}
+use Rattle.bench.specs.Benches.{Bench, At, Stands, StoresStand, ForEach, view_by}
 use Rattle.node_turns.specs.Costs.{Charged}
 use Rattle.node_turns.specs.NodeTurns.{Switches, MovesView}
 use Rattle.node_turns.specs.Turns.{in_order, turn_of}
 
 -- == of one node ==
 
--- an image of node d that shows its counted commits and the commit of the event
-abbrev pub ShowsCommit : {K S N C R X : Type 0} (n : Ghosts K S N C R) → Kind N n.Seen X → Tariff → Ledger → Event → N → List ℕ → Type 0
-ShowsCommit n kind τ H e d image = (c : Commit) × ((plan τ todays_rules H e []).commit ≡ Some c) × (node_of c ≡ kind.node d)
+-- an image of device d that shows its counted commits and the commit of the event
+abbrev pub ShowsCommit : {K S C R X : Type 0} (n : Ghosts K S ℕ C R) → Kind ℕ n.Seen X → Tariff → Ledger → Event → ℕ → List ℕ → Type 0
+ShowsCommit n kind τ H e d image = (c : Commit) × ((plan τ todays_rules H e []).commit ≡ Some c) × (node_of c ≡ Device d)
     × n.IsShown (kind.seen d (c ∷ counted H)) image
 
 -- == a stop within a step ==
@@ -82,7 +83,7 @@ module _ {K S C R : Type 0} (n : Ghosts K S ℕ C R) (g : nv.Ghosts S) where
   -- one that commits nothing writes nothing; and damage is told exactly where the storage that an `on` read is none of the node.
   pub record StepsByViews (kind : Kind ℕ n.Seen DeviceCall) (e : Event) (turn : Turn) (old new : Bench K) : Type 0 where
     pub views : (today : ℤ) (d : ℕ) (asked : Asked DeviceCall) → old.day ≡ Some today → taken e ≡ Some (take.Device d asked)
-        → At (λ i s t. (v : View n.Seen) → node.Stands n g i v s → MovesView n kind g i today asked turn v s t) old new (kind.node d)
+        → At (λ i s t. (v : View n.Seen) → node.Stands n g i v s → MovesView n kind g (Device i) i today asked turn v s t) old new (Device d)
     pub unwritten : may_commit e ≡ false → (m : Node) → At (λ d s t. Mounts (times_of n g s) (times_of n g t)) old new m
     pub damaged : (m : Node) → e ≡ ev.On m → has_read turn.reply ≡ true
         → At (λ d s t. (turn.reply ≡ r.Damaged m) ↔ HasDamage n d t) old new m
@@ -101,3 +102,9 @@ module _ {K S C R : Type 0} (n : Ghosts K S ℕ C R) (g : nv.Ghosts S) where
     pub charged : (m : Node) → At (λ d s t. Charged m e turn.reply (meters_of n g s) (meters_of n g t)) old new m
     pub armed : IsSome old.day → (m : Node) (calls keep byte : ℕ) → e ≡ ev.Cut m calls keep byte → At (λ d s t. IsArmed n f t calls keep byte) old new m
     pub others : (m : Node) → (node_for e ≡ Some m → ⊥) → At (λ d s t. t ≡ s) old new m
+
+  -- what one event does to the bench, in three parts
+  pub record Steps {N : Type 0} (f : fuse.Ghosts S) (h : nv.Ghosts N) (kind : Kind ℕ n.Seen DeviceCall) (e : Event) (turn : Turn) (old new : Bench K) : Type 0 where
+    pub history : ForEach n kind g old (λ τ H. StepsOn h kind τ H e turn old new)
+    pub shown : g.tells → StepsByViews kind e turn old new
+    pub always : StepsAlone f e turn old new

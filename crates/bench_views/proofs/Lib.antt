@@ -1,4 +1,5 @@
 mod Acts
+mod Commits
 mod Counts
 mod Frames
 mod Histories

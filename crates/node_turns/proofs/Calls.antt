@@ -206,49 +206,49 @@ module _ {F A : Type 0} (m : Node) (e : Event) (refusal : F → Reply) (reply : 
 
 -- == in its place ==
 
-module _ {K S N C R X F A : Type 0} (n : Ghosts K S N C R) (g : nv.Ghosts S) (f : fuse.Ghosts S) (kind : Kind N n.Seen X) (d : N) (today : ℤ) (e : Event) (call : X)
+module _ {K S N C R X F A : Type 0} (n : Ghosts K S N C R) (g : nv.Ghosts S) (f : fuse.Ghosts S) (kind : Kind N n.Seen X) (m : Node) (d : N) (today : ℤ) (e : Event) (call : X)
     (refusal : F → Reply) (reply : A → Reply) (tell : A → List Entry) (done : A → Ledger) (by : n.Seen → Act C F A)
-    (told : IsToldBy (kind.node d) e refusal reply)
-    (plan_is : (v : View n.Seen) → kind.plan d today v call ≡ when_on (kind.node d) v (done_plan n.counting (kind.node d) refusal reply tell v.state (by v.state)))
+    (told : IsToldBy m e refusal reply)
+    (plan_is : (v : View n.Seen) → kind.plan d today v call ≡ when_on m v (done_plan n.counting m refusal reply tell v.state (by v.state)))
     (commit_is : (v : View n.Seen) → kind.commit d today v call ≡ commit_of n.counting v (by v.state))
-    (fits : (s : n.Seen) → IsFitting n d s (by s)) (own : (s : n.Seen) → IsOfNode (kind.node d) (by s)) (agrees : (s : n.Seen) → Agrees tell done (by s))
+    (fits : (s : n.Seen) → IsFitting n d s (by s)) (own : (s : n.Seen) → IsOfNode m (by s)) (agrees : (s : n.Seen) → Agrees tell done (by s))
     (commits : (s : n.Seen) → CommitsSome (λ c. Unit {0}) (by s) → may_commit e ≡ true) (costs : (s : n.Seen) → cost (by s) ≤ calls_of e)
     (s t : K) where
-  pub turn_call : (x : Outcome F A) → CallDoes n g by s t x → NodeTurn n g f kind d today e (Call call) s t (call_turn (kind.node d) refusal reply done x)
+  pub turn_call : (x : Outcome F A) → CallDoes n g by s t x → NodeTurn n g f kind m d today e (Call call) s t (call_turn m refusal reply done x)
   turn_call x did = record {
     by_view = λ v st tells'.
-        let it : Tells n.counting (kind.node d) refusal reply tell told.refuses told.did (when_on (kind.node d) v (done_plan n.counting (kind.node d) refusal reply tell v.state (by v.state)))
+        let it : Tells n.counting m refusal reply tell told.refuses told.did (when_on m v (done_plan n.counting m refusal reply tell v.state (by v.state)))
             (by v.state) (commit_of n.counting v (by v.state)) x
-            = tells n.counting (kind.node d) refusal reply tell told.refuses told.did v (by v.state) (own v.state) x (did.comes d v st tells') in
+            = tells n.counting m refusal reply tell told.refuses told.did v (by v.state) (own v.state) x (did.comes d v st tells') in
         record {
           may = may_by v x it;
-          entries = ap in_order (added_is (kind.node d) tell done (by v.state) x (agrees v.state) (done_of n.counting v (by v.state) x (did.comes d v st tells')) ∙ it.entries_are)
-              ∙ ap (λ (p : Plan). in_order (after p (call_reply (kind.node d) refusal reply x) [])) (sym (plan_is v));
-          stands = subst (λ (made : Option (Commit × n.Seen)). Stands n g d (view_after n.counting (call_reply (kind.node d) refusal reply x) made v) t) (sym (commit_is v))
+          entries = ap in_order (added_is m tell done (by v.state) x (agrees v.state) (done_of n.counting v (by v.state) x (did.comes d v st tells')) ∙ it.entries_are)
+              ∙ ap (λ (p : Plan). in_order (after p (call_reply m refusal reply x) [])) (sym (plan_is v));
+          stands = subst (λ (made : Option (Commit × n.Seen)). Stands n g d (view_after n.counting (call_reply m refusal reply x) made v) t) (sym (commit_is v))
               (subst (λ (w : View n.Seen). Stands n g d w t) (sym (it.view v)) (did.stands d v st tells' (fits v.state)));
           any_moment = λ image is. subst (λ (made : Option (Commit × n.Seen)). Allowed n v image ⊎ IsAfter n made image) (sym (commit_is v)) ((did.turn d v st tells').any_moment image is);
         };
     keeps = λ v st tells'. subst (λ (made : Option (Commit × n.Seen)). IfSome made (λ y. IsNext n d v.state y.1)) (sym (commit_is v)) (did.keeps d v st tells' (fits v.state));
-    reply = call_gets (kind.node d) e refusal reply told (by (n.seen s)) (commits (n.seen s)) x did.came;
-    on_day = call_on_day (kind.node d) e refusal reply told x;
-    refused = call_refused (kind.node d) e refusal reply told done x (t ≡ s) did.refused;
-    silent = λ i is. absurd (call_undamaged (kind.node d) e refusal reply told x i is);
+    reply = call_gets m e refusal reply told (by (n.seen s)) (commits (n.seen s)) x did.came;
+    on_day = call_on_day m e refusal reply told x;
+    refused = call_refused m e refusal reply told done x (t ≡ s) did.refused;
+    silent = λ i is. absurd (call_undamaged m e refusal reply told x i is);
     unwritten = λ tells' none. subst (λ (k : K). Mounts (times_of n g s) (times_of n g k)) (sym (did.tells_only (λ some. no (sym none ∙ commits (n.seen s) some)))) (mounts_none (times_of n g s));
     found = λ tells' on. absurd (told.no_switch on);
-    charged = call_charged (kind.node d) e refusal reply told x (cost (by (n.seen s))) _ _ (costs (n.seen s)) did.spent;
+    charged = call_charged m e refusal reply told x (cost (by (n.seen s))) _ _ (costs (n.seen s)) did.spent;
     switches = record {
-      off = λ on. call_off (kind.node d) e refusal reply told x (n.is_on s) did.off;
+      off = λ on. call_off m e refusal reply told x (n.is_on s) did.off;
       already = λ on. absurd (told.no_switch on);
-      leaves = did.leaves ∙ call_leaves (kind.node d) e refusal reply told x (n.is_on s);
+      leaves = did.leaves ∙ call_leaves m e refusal reply told x (n.is_on s);
     };
     armed = λ calls keep byte is. absurd (told.no_cut calls keep byte is);
   }
     where
       may_by : (v : View n.Seen) (x : Outcome F A)
-          → Tells n.counting (kind.node d) refusal reply tell told.refuses told.did (when_on (kind.node d) v (done_plan n.counting (kind.node d) refusal reply tell v.state (by v.state)))
+          → Tells n.counting m refusal reply tell told.refuses told.did (when_on m v (done_plan n.counting m refusal reply tell v.state (by v.state)))
           (by v.state) (commit_of n.counting v (by v.state)) x
-          → MayReply n.counting (kind.node d) v (kind.plan d today v call) (call_reply (kind.node d) refusal reply x)
-      may_by v x it = subst (λ (p : Plan). MayReply n.counting (kind.node d) v p (call_reply (kind.node d) refusal reply x)) (sym (plan_is v)) (by_may it.may)
+          → MayReply n.counting m v (kind.plan d today v call) (call_reply m refusal reply x)
+      may_by v x it = subst (λ (p : Plan). MayReply n.counting m v p (call_reply m refusal reply x)) (sym (plan_is v)) (by_may it.may)
         where
           by_may : {P Q W : Type 0} → P ⊎ W → P ⊎ (Q ⊎ W)
           by_may (inl p) = inl p

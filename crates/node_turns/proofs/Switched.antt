@@ -187,29 +187,29 @@ module _ (m : Node) where
 
 -- == a node in its place ==
 
-module _ {K S N C R X : Type 0} (n : Ghosts K S N C R) (g : nv.Ghosts S) (f : fuse.Ghosts S) (kind : Kind N n.Seen X) (d : N) (today : ℤ) (s t : K) where
+module _ {K S N C R X : Type 0} (n : Ghosts K S N C R) (g : nv.Ghosts S) (f : fuse.Ghosts S) (kind : Kind N n.Seen X) (m : Node) (d : N) (today : ℤ) (s t : K) where
   -- where nothing was written, each image is one that the node had
   unwritten_shows : Mounts (times_of n g s) (times_of n g t) → (v : View n.Seen) → Stands n g d v s → g.tells → (image : List ℕ)
       → (times_of n g t).since (times_of n g s).moment image → Allowed n v image
   unwritten_shows mounts v st tells image is = st.store.shows tells image (mounts.images image is)
 
-  pub turn_on : (x : Started) → StartDoes n g d s t x → NodeTurn n g f kind d today (ev.On (kind.node d)) On s t (start_turn (kind.node d) x)
+  pub turn_on : (x : Started) → StartDoes n g d s t x → NodeTurn n g f kind m d today (ev.On m) On s t (start_turn m x)
   turn_on x did = record {
     by_view = λ v st tells. record {
-      may = start_may n.counting (kind.node d) v v.on x refl (did.comes v st tells);
-      entries = start_entries n.counting (kind.node d) v v.on x refl (did.comes v st tells);
-      stands = subst (λ (w : View n.Seen). Stands n g d w t) (start_view n.counting (kind.node d) x v) (did.stands v st tells);
+      may = start_may n.counting m v v.on x refl (did.comes v st tells);
+      entries = start_entries n.counting m v v.on x refl (did.comes v st tells);
+      stands = subst (λ (w : View n.Seen). Stands n g d w t) (start_view n.counting m x v) (did.stands v st tells);
       any_moment = λ image is. inl (unwritten_shows (did.mounts tells) v st tells image is);
     };
     keeps = λ v st tells. tt;
-    reply = start_gets (kind.node d) x;
-    on_day = start_on_day (kind.node d) x;
-    refused = start_refused (kind.node d) x (t ≡ s) did.refused;
-    silent = start_silent (kind.node d) x;
+    reply = start_gets m x;
+    on_day = start_on_day m x;
+    refused = start_refused m x (t ≡ s) did.refused;
+    silent = start_silent m x;
     unwritten = λ tells is. did.mounts tells;
-    found = λ tells is. start_found (kind.node d) x (HasDamage n d t) (did.damaged tells);
-    charged = start_charged (kind.node d) x _ _ did.spent;
-    switches = start_switches (kind.node d) x _ _ did.already did.leaves;
+    found = λ tells is. start_found m x (HasDamage n d t) (did.damaged tells);
+    charged = start_charged m x _ _ did.spent;
+    switches = start_switches m x _ _ did.already did.leaves;
     armed = λ calls keep byte is. cc;
   }
 
@@ -217,33 +217,33 @@ module _ {K S N C R X : Type 0} (n : Ghosts K S N C R) (g : nv.Ghosts S) (f : fu
   same_times same = subst (λ (i : S). Mounts (times_of n g s) (g.times i)) (sym same) (mounts_none (times_of n g s))
 
   stop_stands : (was : Bool) (v : View n.Seen) → (was ≡ false → t ≡ s) → Stands n g d v s → Stands n g d (stopped v) t
-      → Stands n g d (view_after n.counting (stop_turn (kind.node d) was).reply None v) t
+      → Stands n g d (view_after n.counting (stop_turn m was).reply None v) t
   stop_stands true v same st stopped = stopped
   stop_stands false v same st stopped = subst (λ (k : K). Stands n g d v k) (sym (same refl)) st
 
-  pub turn_off : (was : Bool) → StopDoes n g s t was → NodeTurn n g f kind d today (ev.Off (kind.node d)) Off s t (stop_turn (kind.node d) was)
+  pub turn_off : (was : Bool) → StopDoes n g s t was → NodeTurn n g f kind m d today (ev.Off m) Off s t (stop_turn m was)
   turn_off was did = record {
     by_view = λ v st tells.
         let on : was ≡ v.on = did.was_on ∙ st.on in
         record {
-          may = inl (stop_may n.counting (kind.node d) was ∙ ap (λ (b : Bool). (stop_plan n.counting (kind.node d) b).reply) on);
-          entries = stop_entries n.counting (kind.node d) was ∙ ap (λ (b : Bool). in_order (after (stop_plan n.counting (kind.node d) b) (stop_turn (kind.node d) was).reply [])) on;
+          may = inl (stop_may n.counting m was ∙ ap (λ (b : Bool). (stop_plan n.counting m b).reply) on);
+          entries = stop_entries n.counting m was ∙ ap (λ (b : Bool). in_order (after (stop_plan n.counting m b) (stop_turn m was).reply [])) on;
           stands = stop_stands was v did.refused st (did.stands d v st);
           any_moment = λ image is. inl (unwritten_shows (same_times did.storage) v st tells image is);
         };
     keeps = λ v st tells. tt;
-    reply = stop_gets (kind.node d) was;
-    on_day = stop_on_day (kind.node d) was;
-    refused = stop_refused (kind.node d) was (t ≡ s) did.refused;
-    silent = stop_silent (kind.node d) was;
+    reply = stop_gets m was;
+    on_day = stop_on_day m was;
+    refused = stop_refused m was (t ≡ s) did.refused;
+    silent = stop_silent m was;
     unwritten = λ tells is. same_times did.storage;
     found = λ tells is. cc;
-    charged = stop_charged (kind.node d) was _ _ (ap g.meters did.storage);
-    switches = subst (λ (b : Bool). Switches (kind.node d) (ev.Off (kind.node d)) (stop_turn (kind.node d) was).reply b (n.is_on t)) did.was_on (stop_switches (kind.node d) was (n.is_on t) did.off);
+    charged = stop_charged m was _ _ (ap g.meters did.storage);
+    switches = subst (λ (b : Bool). Switches m (ev.Off m) (stop_turn m was).reply b (n.is_on t)) did.was_on (stop_switches m was (n.is_on t) did.off);
     armed = λ calls keep byte is. cc;
   }
 
-  pub turn_cut : (calls keep byte : ℕ) → ArmDoes n g f calls keep byte s t → NodeTurn n g f kind d today (ev.Cut (kind.node d) calls keep byte) (Cut calls keep byte) s t (turn_of (r.CutSet (kind.node d)) [])
+  pub turn_cut : (calls keep byte : ℕ) → ArmDoes n g f calls keep byte s t → NodeTurn n g f kind m d today (ev.Cut m calls keep byte) (Cut calls keep byte) s t (turn_of (r.CutSet m) [])
   turn_cut calls keep byte did = record {
     by_view = λ v st tells. record {
       may = inl refl;
@@ -258,7 +258,7 @@ module _ {K S N C R X : Type 0} (n : Ghosts K S N C R) (g : nv.Ghosts S) (f : fu
     silent = λ i is. cc;
     unwritten = λ tells is. did.mounts tells;
     found = λ tells is. cc;
-    charged = cut_charged (kind.node d) calls keep byte calls _ _ did.meters;
+    charged = cut_charged m calls keep byte calls _ _ did.meters;
     switches = record { off = λ e. no e; already = λ e. cc; leaves = did.leaves };
     armed = λ calls' keep' byte' is.
         subst (λ (b : ℕ). IsArmed n f t calls' keep' b) (cc) (subst (λ (k : ℕ). IsArmed n f t calls' k byte) (cc) (subst (λ (c : ℕ). IsArmed n f t c keep byte) (cc) did.armed));
