@@ -1,6 +1,7 @@
 -- What a device that is on knows of its storage, and what holds of each.
 use Rattle.std.proofs.Common.{◌≡◌, ◌↔◌, ℕ, List, Option, Some, None, IfSome, true, refl, sym, ◌∙◌, subst, arith, inl, inr, ap}
 use Rattle.std.proofs.lemmas.Bool.{cases_eq}
+use Rattle.bench_base.specs.declared.sizes.TheConstants.{RECORD_BYTES, SLOTS, DEVICE_BYTES}
 use Rattle.nv_model.specs.declared.nv.Nv.{Ghosts}
 use Rattle.nv_model.specs.Moments.{Image}
 use Rattle.nv_store.specs.Slot.{Held}
@@ -14,7 +15,7 @@ use Rattle.psd_device.specs.NodeView.{storage_in, seen_in, is_on}
 use Rattle.psd_device.specs.declared.node.DeviceNode.{DeviceNode}
 
 -- the same cell by another word
-pub shown_as : (a b : Option Held) (image : List ℕ) → a ≡ b → Shows 209 16 1 (λ k. a) image → Shows 209 16 1 (λ k. b) image
+pub shown_as : (a b : Option Held) (image : List ℕ) → a ≡ b → Shows RECORD_BYTES SLOTS 1 (λ k. a) image → Shows RECORD_BYTES SLOTS 1 (λ k. b) image
 shown_as a b image is shows = record { each = λ k lt. shows.each k lt ∙ is; clear = shows.clear }
 
 -- blank is a device with no commits
@@ -59,7 +60,7 @@ one_shown a b o p image kept kept' blank blank' shows shows' = by_record o p kep
 
 module _ {N : Type 0} {g : Ghosts N} (k : DeviceNode N g) where
   -- the only image is what a read gives, and it shows the device's commits and record
-  pub knows : g.tells → is_on k ≡ true → OnlyShows 209 16 1 (λ i. device_held (seen_in k).count (seen_in k).state) (g.times (storage_in k)) (g.content (storage_in k))
+  pub knows : g.tells → is_on k ≡ true → OnlyShows RECORD_BYTES SLOTS 1 (λ i. device_held (seen_in k).count (seen_in k).state) (g.times (storage_in k)) (g.content (storage_in k))
   knows tells on =
       let only = holds_shows (k.holds on tells) in
       record { only = only.only; shows = shown_as (one_held k.head.count k.payload) (device_held k.head.count k.state) (g.content k.nv) k.written only.shows }
@@ -70,7 +71,7 @@ module _ {N : Type 0} {g : Ghosts N} (k : DeviceNode N g) where
       let only = knows tells on in
       subst (λ (c : List ℕ). IsShown k.head.count k.state c) (sym (only.only image now)) only.shows
 
-  pub size : is_on k ≡ true → g.size (storage_in k) ≡ 3424
+  pub size : is_on k ≡ true → g.size (storage_in k) ≡ DEVICE_BYTES
   size on = k.room on
 
   pub kept : IfSome (seen_in k).state IsKept

@@ -1,5 +1,6 @@
--- What the storage of a device shows: one cell of 16 slots, with payloads of 209 bytes.
+-- What the storage of a device shows: one cell of sixteen slots, with the spelling of its record.
 use Rattle.std.specs.Prelude.{ℕ, List, Option, Some, None}
+use Rattle.bench_base.specs.declared.sizes.TheConstants.{RECORD_BYTES, SLOTS}
 use Rattle.psd_state.specs.State as state
 use Rattle.psd_state.specs.State.{State}
 use Rattle.psd_state.specs.Seen.{Seen}
@@ -14,7 +15,7 @@ device_held count (Some s) = Some (count, bytes_of s)
 
 -- an image that shows so many commits and this record
 abbrev pub IsShown : ℕ → Option State → List ℕ → Type 0
-IsShown count s image = Shows 209 16 1 (λ k. device_held count s) image
+IsShown count s image = Shows RECORD_BYTES SLOTS 1 (λ k. device_held count s) image
 
 abbrev pub ShowsSeen : Seen → List ℕ → Type 0
 ShowsSeen s image = IsShown s.count s.state image
