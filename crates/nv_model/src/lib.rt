@@ -11,6 +11,7 @@ mod plan;
 mod step;
 mod tally;
 mod tear;
+mod whole;
 
 pub use file::{FileNv, StartFault};
 pub use fused::Fused;
