@@ -3,7 +3,7 @@ ghost use Rattle.std.specs.Prelude.{◌≡◌, ◌≢◌, ◌+◌, ◌*◌, ◌/
 ghost use Rattle.nv_model.specs.Moments.{Only};
 ghost use Rattle.nv_store.specs.Slot.{Held, slots_at};
 ghost use Rattle.nv_store.specs.Cells.{Top};
-ghost use Rattle.nv_store.specs.Store.{one_held, count_of, OnlyShows, Holds};
+ghost use Rattle.nv_store.specs.Store.{one_held, count_of, OnlyShows, Holds, next_is_open};
 ghost use Rattle.nv_store.specs.Mounts.{Mounts, MountCauses};
 ghost use Rattle.nv_store.specs.Scans.{IsMixed};
 ghost use Rattle.nv_ring.specs.Turns.{IsWearOf, fills_of, slot_after};
@@ -39,6 +39,8 @@ impl<N: Nv, const L: usize> Store<L> for Ring<N, L> {
     ghost held = { λ s k. one_held s.head.count s.payload };
 
     ghost failed = { λ s. s.failed };
+
+    ghost next_is_open = { λ s cell. next_is_open 16 s.head };
 
     ghost content = { λ s. N.content s.nv };
 

@@ -1,12 +1,12 @@
 //! The cells of a table over lent parts: committing to one, and reading all.
 ghost use Rattle.std.specs.Prelude.{◌≡◌, ◌≢◌, ◌+◌, ◌*◌, ◌≤◌, ◌<◌, ◌^◌, List, ℕ, length, OnOk, OnErr, IfOk, IfSome, IfNone, true, false};
-ghost use Rattle.nv_model.specs.Meters.{Went};
+ghost use Rattle.nv_model.specs.Meters.{Went, UsesExactly};
 ghost use Rattle.nv_model.specs.Moments.{Only, Elapses, Rests};
 ghost use Rattle.nv_store.specs.Slot.{slots_at, IsClear};
 ghost use Rattle.nv_store.specs.Scans.{IsMixed};
-ghost use Rattle.nv_store.specs.Store.{Between, count_of, after_commit};
+ghost use Rattle.nv_store.specs.Store.{Between, count_of, after_commit, commit_calls};
 ghost use Rattle.nv_store.specs.Mounts.{Mounts};
-ghost use Rattle.nv_store.specs.Tables.{TableKnown, PlacesInside, table_held};
+ghost use Rattle.nv_store.specs.Tables.{TableKnown, PlacesInside, table_held, cell_is_open};
 
 use crate::commit::commit_at;
 use crate::head::Head;
@@ -43,6 +43,7 @@ pub fn commit_cell<N: Nv, const L: usize>(
     ensures durable { N.tells → OnOk result (Only (N.times nv.new) (N.content nv.new)) }
     ensures time { N.tells → Elapses (N.times nv.old) (N.times nv.new) }
     ensures went { Went 6 (N.meters nv.old) (N.meters nv.new) result }
+    ensures calls { OnOk result (UsesExactly (commit_calls (cell_is_open heads.old.items cell)) (N.meters nv.old).fuse (N.meters nv.new).fuse) }
     ensures size { N.size nv.new ≡ N.size nv.old }
 {
     let at = cell * (2 * (5 + L as u32));

@@ -2,7 +2,7 @@
 ghost use Rattle.std.specs.Prelude.{◌≡◌, ◌≢◌, ◌+◌, ◌*◌, ◌≤◌, ◌<◌, ℕ, Option, IfOk, IfErr, MatchResult, Some, None, false};
 ghost use Rattle.nv_model.specs.Moments.{Only};
 ghost use Rattle.nv_store.specs.Slot.{slots_at};
-ghost use Rattle.nv_store.specs.Store.{one_held, OnlyShows, Holds};
+ghost use Rattle.nv_store.specs.Store.{one_held, OnlyShows, Holds, next_is_open};
 ghost use Rattle.nv_store.specs.Mounts.{Mounts, MountCauses};
 ghost use Rattle.nv_store.specs.Scans.{IsMixed};
 
@@ -37,6 +37,8 @@ impl<N: Nv, const L: usize> Store<L> for Cell<N, L> {
     ghost held = { λ s k. one_held s.head.count s.payload };
 
     ghost failed = { λ s. s.failed };
+
+    ghost next_is_open = { λ s cell. next_is_open 2 s.head };
 
     ghost content = { λ s. N.content s.nv };
 

@@ -5,7 +5,7 @@ ghost use Rattle.nv_store.specs.Slot.{slots_at, IsClear};
 ghost use Rattle.nv_store.specs.Scans.{IsMixed};
 ghost use Rattle.nv_store.specs.Store.{OnlyShows};
 ghost use Rattle.nv_store.specs.Mounts.{Mounts, MountCauses};
-ghost use Rattle.nv_store.specs.Tables.{TableHolds, PlacesInside, table_held};
+ghost use Rattle.nv_store.specs.Tables.{TableHolds, PlacesInside, table_held, cell_is_open};
 
 use crate::causes::{MountCause, store_fail};
 use crate::cells::{commit_cell, settle};
@@ -38,6 +38,8 @@ impl<N: Nv, const L: usize> Store<L> for Table<N, L> {
     ghost held = { λ s. table_held s.room.heads.items s.room.payloads.items };
 
     ghost failed = { λ s. s.failed };
+
+    ghost next_is_open = { λ s. cell_is_open s.room.heads.items };
 
     ghost content = { λ s. N.content s.nv };
 
