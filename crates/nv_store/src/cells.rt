@@ -8,6 +8,7 @@ ghost use Rattle.nv_store.specs.Store.{Between, count_of, after_commit, commit_c
 ghost use Rattle.nv_store.specs.Mounts.{Mounts};
 ghost use Rattle.nv_store.specs.Tables.{TableKnown, PlacesInside, table_held, cell_is_open};
 
+use crate::MOST_BYTES;
 use crate::commit::commit_at;
 use crate::head::Head;
 use crate::scan::find_cell;
@@ -21,7 +22,7 @@ pub fn commit_cell<N: Nv, const L: usize>(
     cell: u32,
     payload: &[u8; L],
 ) -> Result<(), NvFail>
-    requires small { L ≤ 2056 }
+    requires small { L ≤ MOST_BYTES }
     requires inside { cell < length heads.old.items }
     requires same { length payloads.old.items ≡ length heads.old.items }
     requires room { length heads.old.items * (2 * (5 + L)) ≤ N.size nv.old }
@@ -64,7 +65,7 @@ fn read_cell<N: Nv, const L: usize>(
     payloads: &mut Vec<[u8; L]>,
     cell: u32,
 ) -> Result<bool, NvFail>
-    requires small { L ≤ 2056 }
+    requires small { L ≤ MOST_BYTES }
     requires inside { cell < length heads.old.items }
     requires same { length payloads.old.items ≡ length heads.old.items }
     requires room { length heads.old.items * (2 * (5 + L)) ≤ N.size nv.old }
@@ -97,7 +98,7 @@ fn find_cells<N: Nv, const L: usize>(
     heads: &mut Vec<Head>,
     payloads: &mut Vec<[u8; L]>,
 ) -> Result<Option<u32>, NvFail>
-    requires small { L ≤ 2056 }
+    requires small { L ≤ MOST_BYTES }
     requires same { length payloads.old.items ≡ length heads.old.items }
     requires room { length heads.old.items * (2 * (5 + L)) ≤ N.size nv.old }
     requires fits { length heads.old.items * (2 * (5 + L)) < 2 ^ 32 }
@@ -127,7 +128,7 @@ pub fn settle<N: Nv, const L: usize>(
     heads: &mut Vec<Head>,
     payloads: &mut Vec<[u8; L]>,
 ) -> Result<Option<u32>, NvFail>
-    requires small { L ≤ 2056 }
+    requires small { L ≤ MOST_BYTES }
     requires same { length payloads.old.items ≡ length heads.old.items }
     requires room { length heads.old.items * (2 * (5 + L)) ≤ N.size nv.old }
     requires fits { length heads.old.items * (2 * (5 + L)) < 2 ^ 32 }

@@ -7,6 +7,7 @@ ghost use Rattle.nv_store.specs.Slot.{slots_at};
 ghost use Rattle.nv_store.specs.Cells.{Known, Commits, shown, next_of};
 ghost use Rattle.nv_store.specs.Store.{commit_calls, next_is_open};
 
+use crate::MOST_BYTES;
 use crate::head::Head;
 use crate::steps::fill_slot;
 use nv_model::{Nv, NvFail};
@@ -20,7 +21,7 @@ pub fn commit_at<N: Nv, const L: usize>(
     kept: &mut [u8; L],
     payload: &[u8; L],
 ) -> Result<(), NvFail>
-    requires small { L ≤ 2056 }
+    requires small { L ≤ MOST_BYTES }
     requires many { (2 ≤ slots) × (slots ≤ 16) }
     requires room { at + slots * (5 + L) ≤ N.size nv.old }
     requires fits { at + slots * (5 + L) < 2 ^ 32 }

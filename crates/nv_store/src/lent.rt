@@ -9,6 +9,7 @@ ghost use Rattle.nv_store.specs.Store.{one_held, OnlyShows, Between, Causes, Hol
 ghost use Rattle.nv_store.specs.Mounts.{Mounts, MountCauses};
 ghost use Rattle.nv_store.specs.Scans.{IsMixed};
 
+use crate::MOST_BYTES;
 use crate::causes::{MountCause, store_fail};
 use crate::commit::commit_at;
 use crate::head::Head;
@@ -26,7 +27,7 @@ pub fn commit_lent<N: Nv, const L: usize>(
     kept: &mut [u8; L],
     payload: &[u8; L],
 ) -> Result<(), StoreFail>
-    requires small { L ≤ 2056 }
+    requires small { L ≤ MOST_BYTES }
     requires many { (2 ≤ slots) × (slots ≤ 16) }
     requires room { slots * (5 + L) ≤ N.size nv.old }
     requires powered { (N.meters nv.old).lost ≡ false }
@@ -69,7 +70,7 @@ fn settle<N: Nv, const L: usize>(
     slots: u32,
     kept: &mut [u8; L],
 ) -> Result<Option<Head>, NvFail>
-    requires small { L ≤ 2056 }
+    requires small { L ≤ MOST_BYTES }
     requires many { (2 ≤ slots) × (slots ≤ 16) }
     requires room { slots * (5 + L) ≤ N.size nv.old }
     requires powered { (N.meters nv.old).lost ≡ false }
@@ -93,7 +94,7 @@ pub fn mount_lent<N: Nv, const L: usize>(
     slots: u32,
     kept: &mut [u8; L],
 ) -> Result<Head, MountCause>
-    requires small { L ≤ 2056 }
+    requires small { L ≤ MOST_BYTES }
     requires many { (2 ≤ slots) × (slots ≤ 16) }
     requires powered { (N.meters nv.old).lost ≡ false }
 

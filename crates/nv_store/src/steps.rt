@@ -8,6 +8,7 @@ ghost use Rattle.nv_store.specs.Slot.{slot_at};
 ghost use Rattle.nv_store.specs.Store.{commit_calls};
 ghost use Rattle.nv_store.specs.Steps.{Puts, Steps, IsShut, IsOrShut, IsOrHolds};
 
+use crate::MOST_BYTES;
 use nv_model::{Nv, NvFail};
 
 /// The gate of an open slot.
@@ -59,7 +60,7 @@ pub fn write_payload<N: Nv, const L: usize>(
     count: u32,
     payload: &[u8; L],
 ) -> Result<(), NvFail>
-    requires small { L ≤ 2056 }
+    requires small { L ≤ MOST_BYTES }
     requires room { at + 5 + L ≤ N.size nv.old }
     requires fits { at + 5 + L < 2 ^ 32 }
     requires powered { (N.meters nv.old).lost ≡ false }
@@ -71,7 +72,7 @@ pub fn write_payload<N: Nv, const L: usize>(
     ensures calls { OnOk result (UsesExactly 2 (N.meters nv.old).fuse (N.meters nv.new).fuse) }
     ensures size { N.size nv.new ≡ N.size nv.old }
 {
-    let mut buffer = [0; 2060];
+    let mut buffer = [0; 4 + MOST_BYTES];
     join(&mut buffer, count, payload);
     put(nv, at + 1, &buffer[..4 + L])
 }
@@ -124,7 +125,7 @@ pub fn fill_slot<N: Nv, const L: usize>(
     count: u32,
     payload: &[u8; L],
 ) -> Result<(), NvFail>
-    requires small { L ≤ 2056 }
+    requires small { L ≤ MOST_BYTES }
     requires room { at + 5 + L ≤ N.size nv.old }
     requires fits { at + 5 + L < 2 ^ 32 }
     requires powered { (N.meters nv.old).lost ≡ false }
