@@ -10,10 +10,10 @@ ghost use Rattle.bench.specs.Benches.{IsReady};
 use bench::{Bench, Stores};
 use bench_base::stream::{IoSink, IoSource};
 use nv_model::{FileNv, Fused, Nv};
+use read_ahead::ReadAhead;
 use script_replay::run::{is_replay, run};
 use script_replay::status::Status;
 use std::fs::File;
-use std::io::BufReader;
 use std::os::fd::AsRawFd;
 use std::process::ExitCode;
 use std::{env, io};
@@ -33,6 +33,9 @@ const DEVICE_FILES: [&str; 8] = [
     "device-7.nv",
     "device-8.nv",
 ];
+
+/// How much of the script is read ahead, in bytes.
+const AHEAD: usize = 8192;
 
 /// The number of standard error, the last of the standard streams.
 const LAST_STREAM: i32 = 2;
@@ -159,10 +162,10 @@ fn replay(rt: &HostRuntime) -> Result<Status, OpenFault> {
     }
     let _folder = hold_folder(rt)?;
     let mut bench = open_bench(rt)?;
-    let Ok(reader) = BufReader::new(rt.alloc(), rt.reader()) else {
+    let Ok(ahead) = vec![in rt.alloc(); 0; AHEAD] else {
         return Err(OpenFault::Memory);
     };
-    let mut script = IoSource::new(reader);
+    let mut script = ReadAhead::new(IoSource::new(rt.reader()), ahead);
     let mut report = IoSink::new(io::writer(rt));
     let status = run(rt.alloc(), &words, &mut script, &mut report, &mut bench);
     Ok(status)

@@ -1,5 +1,5 @@
 -- What was read ahead, in front of what is left.
-use Rattle.std.proofs.Common.{◌≡◌, ℕ, ◌+◌, ◌-◌, ◌≤◌, ◌<◌, min, List, [], ◌++◌, Option, Some, None, length, take, drop, refl, sym, ap, subst, ◌∙◌, arith, append_assoc, take-append-drop}
+use Rattle.std.proofs.Common.{◌≡◌, ℕ, ◌+◌, ◌-◌, ◌≤◌, ◌<◌, min, List, [], ◌++◌, Option, Some, None, length, take, drop, sym, ap, subst, ◌∙◌, arith, append_assoc, take-append-drop}
 use Rattle.std.proofs.lemmas.List.{drop-take, drop-drop, length-take, length-drop}
 use Rattle.std.specs.Io.KnownBytes.{Keeps, Consumes, IsAtEnd, prepend_known}
 use Rattle.std.proofs.KnownBytes.{Consumes-nil, Consumes-kept, Consumes-trans}
@@ -34,8 +34,7 @@ module _ (old known : Option (List ℕ)) (at end n : ℕ) (bytes buf : List ℕ)
       let within : n ≤ end - at = omega arith in
       let sums : end - at - n ≡ end - (at + n) = omega arith in
       let left : drop n front ≡ take (end - (at + n)) (drop (at + n) bytes) = front_left at n (end - at) bytes within ∙ ap (λ (k : ℕ). take k (drop (at + n) bytes)) sums in
-      let none : Consumes old (Left at) [] = Consumes-kept old old (Left at) [] (Consumes-nil old) kept in
-      (
+      let none : Consumes old (Left at) [] = Consumes-kept old old (Left at) [] (Consumes-nil old) kept in (
         subst (λ (bs : List ℕ). Consumes old (Left (at + n)) bs) (sym copied)
             (subst (λ (rest : List ℕ). Consumes old (prepend_known rest known) (take n front)) left
             (Consumes-trans old (Left at) (prepend_known (drop n front) known) [] (take n front) none (front_given n front known))),

@@ -5,6 +5,9 @@ ghost use Rattle.std.specs.Prelude.{◌≡◌, ◌-◌, ◌≤◌, ◌<◌, min,
 ghost use Rattle.std.specs.Io.KnownBytes.{prepend_known, Keeps, IsAtEnd};
 ghost use Rattle.bench_base.specs.Causes.{HasCause};
 
+#[cfg(test)]
+mod tests;
+
 use bench_base::stream::{ReadFail, Source};
 
 /// A source that takes from another as much as its buffer holds, and gives that in pieces of any size. What was read ahead is

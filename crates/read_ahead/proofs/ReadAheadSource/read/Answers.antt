@@ -9,7 +9,7 @@ returns-clause-bytes g c =
     let room = length c.copy_front-count.new.buf in
     let front = λ (bytes : List ℕ). take (s.end - s.at) (drop s.at bytes) in
     let counted : n ≡ min (length (front c.as_slice.result.now)) room =
-      c.copy_front-count.ensures.count ∙ ap (min (length (front c.as_slice.result.now))) (sym c.copy_front-count.ensures.long) in
+    c.copy_front-count.ensures.count ∙ ap (min (length (front c.as_slice.result.now))) (sym c.copy_front-count.ensures.long) in
     gives _ (g.S.Source.left s.inner) s.at s.end n s.buffer.items c.copy_front-count.new.buf s.ahead (search rules) c.refill.ensures.keeps (search rules)
-        (subst (λ (bytes : List ℕ). n ≡ min (length (front bytes)) room) c.as_slice.ensures.value counted)
-        (subst (λ (bytes : List ℕ). take n c.copy_front-count.new.buf ≡ take n (front bytes)) c.as_slice.ensures.value c.copy_front-count.ensures.copied)
+    (subst (λ (bytes : List ℕ). n ≡ min (length (front bytes)) room) c.as_slice.ensures.value counted)
+    (subst (λ (bytes : List ℕ). take n c.copy_front-count.new.buf ≡ take n (front bytes)) c.as_slice.ensures.value c.copy_front-count.ensures.copied)
