@@ -29,10 +29,10 @@ first_rules = record { total = 4294967295; version = 1; grace = 0; small = 0 }
 abbrev pub wide_rules : Rules
 wide_rules = record { total = 1000000000000; version = 2; grace = 0; small = 0 }
 
--- the edition in use
+-- small postage is franked for seven days past the deadline: the edition in use
 abbrev pub todays_rules : Rules
-todays_rules = first_rules
+todays_rules = record { total = 1000000000000; version = 2; grace = 7; small = 1000 }
 
 -- all editions, the newest first
 abbrev pub editions : List Rules
-editions = todays_rules ∷ []
+editions = todays_rules ∷ wide_rules ∷ first_rules ∷ []

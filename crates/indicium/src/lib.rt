@@ -9,7 +9,7 @@ mod writing;
 
 pub use reading::{read_indicium, verify_mark};
 pub use theorems::{one_spelling, round_trip};
-pub use writing::write_indicium;
+pub use writing::{code_of, write_coded, write_indicium};
 
 /// What an indicium says of a debit. Money is in mills, and a day counts from 1970-01-01.
 #[derive(Clone, Copy)]

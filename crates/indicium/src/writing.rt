@@ -1,5 +1,6 @@
 //! A mark as bytes.
-ghost use Rattle.std.specs.Prelude.{◌≡◌};
+ghost use Rattle.std.specs.Prelude.{◌≡◌, ◌++◌};
+ghost use Rattle.hmac_core.specs.Hmac.{hmac};
 ghost use Rattle.indicium.specs.Marks.{spell, body, IsWhole};
 
 use crate::Mark;
@@ -61,18 +62,34 @@ fn second_body(mark: &Mark) -> [u8; 32]
     bytes
 }
 
+/// The code of the mark's fields under the key. The mark is as for `write_indicium`.
+pub fn code_of(mark: &Mark, key: &Key) -> [u8; 32]
+    requires { IsWhole mark.now }
+    ensures { result ≡ hmac key.now (body mark.now) }
+{
+    hmac256(key, &body_of(mark))
+}
+
+/// The mark's fields and a code behind them, which was made or checked before. The mark is as for `write_indicium`.
+pub fn write_coded(mark: &Mark, code: &[u8; 32]) -> [u8; 64]
+    requires { IsWhole mark.now }
+    ensures { result ≡ body mark.now ++ code.now }
+{
+    let body = body_of(mark);
+    let mut bytes = [0; 64];
+    bytes[..32].copy_from_slice(&body);
+    bytes[32..].copy_from_slice(code);
+    bytes
+}
+
 /// The one spelling of the mark under the key: its fields, and the code of those 32 bytes.
 ///
 /// The mark's version is 1 or 2, and its numbers fit their fields: in version 1 the registers are below 2^32; in
 /// version 2 they are below 2^40, and the device is below 2^16.
+#[tactic(auto, unfolding(crate::specs::Marks::spell))]
 pub fn write_indicium(mark: &Mark, key: &Key) -> [u8; 64]
     requires { IsWhole mark.now }
     ensures { result ≡ spell mark.now key.now }
 {
-    let body = body_of(mark);
-    let code = hmac256(key, &body);
-    let mut bytes = [0; 64];
-    bytes[..32].copy_from_slice(&body);
-    bytes[32..].copy_from_slice(&code);
-    bytes
+    write_coded(mark, &code_of(mark, key))
 }

@@ -250,13 +250,17 @@ release_at-found bytes x v t l e =
 -- == whatever follows a body, it is read ==
 
 -- the version stands first
-request_version : (q : Request) (rest : List ℕ) → get_or (body (m.Request q) ++ rest) 0 0 ≡ q.version
+pub request_version : (q : Request) (rest : List ℕ) → get_or (body (m.Request q) ++ rest) 0 0 ≡ q.version
 unfolding body
 request_version q rest = first_cell q.version (drop 1 (request_table (sum_size q.version))) (drop 1 (request_values q)) rest
 
 reply_version : (r : ReplyMsg) (rest : List ℕ) → get_or (body (m.Reply r) ++ rest) 0 0 ≡ r.version
 unfolding body
 reply_version r rest = first_cell r.version (drop 1 (reply_table (sum_size r.version))) (drop 1 (reply_values r)) rest
+
+pub length-body_of : (q : Request) → IsWhole (m.Request q) → length (body (m.Request q)) ≡ request_room q.version
+unfolding body
+length-body_of q w = length-row (request_table (sum_size q.version)) (request_values q) w.1
 
 request_at-row : (q : Request) (rest : List ℕ) → IsWhole (m.Request q)
     → request_in (values 0 (request_table (sum_size q.version)) (row (request_table (sum_size q.version)) (request_values q) ++ rest)) ≡ Ok (m.Request q)
