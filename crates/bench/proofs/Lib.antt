@@ -1,10 +1,10 @@
-pub mod Acts
-pub mod Begun
-pub mod Blank
-pub mod Frames
-pub mod Making
-pub mod Over
-pub mod Quiet
-pub mod Seated
-pub mod Stops
-pub mod Told
+mod Acts
+mod Begun
+mod Blank
+mod Events
+mod Frames
+mod Making
+mod Over
+mod Quiet
+mod Sets
+mod Stops

@@ -1,8 +1,8 @@
--- The seats of a bench that is made, begins a run, and is taken apart.
+-- The places of devices on a bench that is made, begins a run, and is taken apart.
 use Rattle.std.proofs.Common.{◌≡◌, ℕ, zero, suc, ◌+◌, ◌<◌, List, [], ◌∷◌, ◌++◌, length, Some, refl, sym, ◌∙◌, ap, subst, arith, append_assoc, append-nil, length-append, reverse}
 use Rattle.std.specs.Prelude.{slice_get}
 use Rattle.std.proofs.lemmas.List.{reverse-append, length-reverse}
-use Rattle.bench.specs.Benches.{Pairs}
+use Rattle.bench.specs.Places.{Pairs}
 
 -- the element at a place within a list
 pub get_some : {X : Type 0} (xs : List X) (i : ℕ) → i < length xs → (x : X) × (slice_get xs i ≡ Some x)

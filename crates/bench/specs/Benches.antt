@@ -1,24 +1,36 @@
 -- What contracts see of a bench, and when it stands for a ledger. A kind of nodes is a field of `Bench`, a row of `At`, and what is
 -- said of it in `IsReady`, `Stands` and `StoresStand`; all else is said of a node by its name.
-use Rattle.std.specs.Prelude.{◌≡◌, ℕ, ℤ, ◌+◌, false, List, Option, None, length, replicate, slice_get}
+use Rattle.std.specs.Prelude.{◌≡◌, ℕ, ℤ, ◌+◌, false, List, Option, Some, None, length, replicate, slice_get}
 use Rattle.bench_base.specs.declared.words.Node.{Node}
 use Rattle.bench_base.specs.declared.words.Node.TheVariants.{Device, Centre, Host, Verifier}
 use Rattle.bench_base.specs.Rules.{editions}
 use Rattle.bench_base.specs.Ledger.{Ledger, day_in, rates_in, messages, is_on}
 use Rattle.nv_model.specs.declared.nv.Nv as nv
+use Rattle.nv_model.specs.declared.fuse.Fuse as fuse
+use Rattle.nv_model.specs.declared.fused.Fused.{Fused}
+use Rattle.nv_model.specs.Fuses.{state_of}
 use Rattle.nv_model.specs.Moments.{Image}
 use Rattle.node_acts.specs.Views.{View}
+use Rattle.node_acts.specs.Kinds.{Kind, view_in}
 use Rattle.node_seat.specs.declared.node.Node.{Ghosts}
 use Rattle.node_seat.specs.Stands as node
 use Rattle.node_seat.specs.Stands.{StoreStands}
+use Rattle.psd_device.specs.declared.node.DeviceNode.{DeviceNode}
 use Rattle.ledger_moves.specs.Tariffs.{Tariff}
 use Rattle.ledger_moves.specs.Histories.{History}
-use Rattle.node_acts.specs.Kinds.{Kind, view_in}
+use Rattle.bench.specs.declared.devices.BenchOver.{BenchOver}
 
 -- the day, and the devices, of which number i is device i + 1
 pub record Bench (K : Type 0) : Type 0 where
   pub day : Option ℤ
   pub devices : List K
+
+abbrev pub bench_of : {M N : Type 0} {g : nv.Ghosts M} → BenchOver M N g → Bench (DeviceNode M g)
+bench_of bench = record { day = bench.day; devices = bench.devices.items }
+
+-- the fuse of a storage that has one
+abbrev pub fuse_in : {N : Type 0} {h : nv.Ghosts N} → fuse.Ghosts (Fused N h)
+fuse_in = record { fuse_of = λ s. state_of s }
 
 -- P holds of this node, as it was and as it is
 abbrev pub At : {K : Type 0} → (ℕ → K → K → Type 0) → Bench K → Bench K → Node → Type 0
@@ -48,7 +60,7 @@ AreBlank {N} h stores = (i : ℕ) (store : N) → slice_get stores i ≡ Some st
 module _ {K S C R X : Type 0} (n : Ghosts K S ℕ C R) (kind : Kind ℕ n.Seen X) where
   -- what the ledger shows of device d
   abbrev pub view_by : ℕ → Ledger → View n.Seen
-  view_by d H = view_in (kind.node d) (kind.seen d) H
+  view_by d H = view_in (Device d) (kind.seen d) H
 
   -- the bench stands for the ledger: so does each node of it
   pub record Stands (g : nv.Ghosts S) (bench : Bench K) (H : Ledger) : Type 0 where
@@ -58,7 +70,7 @@ module _ {K S C R X : Type 0} (n : Ghosts K S ℕ C R) (kind : Kind ℕ n.Seen X
   -- the storages stand for the ledger: no node is on, and there is no day
   pub record StoresStand {N : Type 0} (h : nv.Ghosts N) (stores : List N) (H : Ledger) : Type 0 where
     pub day : HasDay None H
-    pub off : (i : ℕ) (store : N) → slice_get stores i ≡ Some store → is_on (kind.node (i + 1)) H ≡ false
+    pub off : (i : ℕ) (store : N) → slice_get stores i ≡ Some store → is_on (Device (i + 1)) H ≡ false
     pub devices : (i : ℕ) (store : N) → slice_get stores i ≡ Some store → StoreStands n h (i + 1) (view_by (i + 1) H) store
 
   -- P holds of each history for which the bench stands, whatever is read as rates, where its storages tell

@@ -1,23 +1,6 @@
--- What an event costs the storage of a node, and how often failures are answered, whatever the storage tells.
-use Rattle.std.specs.Prelude.{◌≡◌, ℕ, ◌+◌, ◌≤◌, ◌<◌, ◌-◌, ◌^◌, Bool, true, false, Option, Some, None}
-use Rattle.bench_base.specs.Causes.{Rose}
-use Rattle.bench_base.specs.declared.words.Node.{Node}
-use Rattle.bench_base.specs.declared.events.Event.{Event}
-use Rattle.bench_base.specs.declared.events.Reply.{Reply}
-use Rattle.bench_base.specs.Events.{calls_of}
-use Rattle.bench_base.specs.Replies.{tells_power, tells_fault, tells_cut}
-use Rattle.nv_model.specs.Meters.{Meters, WasCut, Uses}
-
--- What an event with this reply did to the counts and the fuse of node m: only a `cut` of this node arms the fuse, and
--- every other event uses at most the calls of its kind: six to commit, one to boot, and else none.
-pub record Charged (m : Node) (e : Event) (reply : Reply) (was is : Meters) : Type 0 where
-  pub cuts : was.cuts ≤ is.cuts
-  pub faults : was.faults ≤ is.faults
-  pub fuse : tells_cut m reply ≡ false → Uses (calls_of e) was.fuse is.fuse
-  pub power : tells_power m reply ≡ true → WasCut was is
-  pub fault : tells_fault m reply ≡ true → Rose was.faults is.faults
-
--- == over several events ==
+-- How often failures are answered over several events, whatever the storages tell.
+use Rattle.std.specs.Prelude.{ℕ, ◌+◌, ◌≤◌, ◌<◌, ◌-◌, ◌^◌, Bool, true, false, Option, Some, None}
+use Rattle.nv_model.specs.Meters.{Meters}
 
 abbrev pub one_if : Bool → ℕ
 one_if true = 1

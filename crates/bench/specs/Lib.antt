@@ -1,5 +1,5 @@
 pub mod Benches
 pub mod Costs
-pub mod NodeTurns
+pub mod DeviceTurns
+pub mod Places
 pub mod Steps
-pub mod Turns

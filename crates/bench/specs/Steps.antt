@@ -1,6 +1,7 @@
 -- What one event does to the bench.
 use Rattle.std.specs.Prelude.{◌≡◌, ◌⊎◌, ◌↔◌, ℕ, ℤ, List, [], ◌∷◌, Bool, true, false, Option, Some, None, IsSome, length, slice_get}
 use Rattle.bench_base.specs.declared.words.Node.{Node}
+use Rattle.bench_base.specs.declared.words.Node.TheVariants.{Device}
 use Rattle.bench_base.specs.declared.ledger.Commit.{Commit}
 use Rattle.bench_base.specs.declared.ledger.Entry.TheVariants as entry
 use Rattle.bench_base.specs.declared.events.Event.{Event}
@@ -24,7 +25,7 @@ use Rattle.node_seat.specs.Shown.{Allowed, IsAfter}
 use Rattle.node_seat.specs.Stands as node
 use Rattle.node_seat.specs.Stands.{times_of, meters_of, HasDamage, IsArmed}
 use Rattle.ledger_moves.specs.Tariffs.{Tariff}
-use Rattle.ledger_moves.specs.Moves as moves
+use Rattle.ledger_moves.specs.Moves as ledger
 use Rattle.ledger_moves.specs.Moves.{Moves, plan}
 use Rattle.ledger_moves.specs.Histories.{History}
 use Rattle.node_acts.specs.declared.asked.Asked.{Asked}
@@ -32,39 +33,18 @@ use Rattle.bench_views.specs.declared.taken.DeviceCall.{DeviceCall}
 use Rattle.bench_views.specs.declared.taken.Taken.TheVariants as take
 use Rattle.node_acts.specs.Kinds.{Kind, node_plan, node_commit}
 use Rattle.bench_views.specs.Taken.{taken}
-use Rattle.bench.specs.declared.turn.Turn.{Turn}
-use Rattle.bench.specs.Benches.{Bench, At, Stands, StoresStand, view_by}
-use Rattle.bench.specs.Turns.{in_order, turn_of}
-use Rattle.bench.specs.Costs.{Charged}
+use Rattle.node_turns.specs.declared.turn.Turn.{Turn}
+use Rattle.bench.specs.Benches.{Bench, At, Stands, StoresStand, ForEach, view_by}
+use Rattle.node_turns.specs.Costs.{Charged}
+use Rattle.node_turns.specs.NodeTurns.{Switches, MovesView}
+use Rattle.node_turns.specs.Turns.{in_order, turn_of}
 
 -- == of one node ==
 
--- what an event of node m on a day answers by whether the node is on, and whether it is on afterwards
-pub record Switches (m : Node) (e : Event) (reply : Reply) (was is : Bool) : Type 0 where
-  pub off : needs_on e ≡ true → (reply ≡ r.OffNode m) ↔ (was ≡ false)
-  pub already : e ≡ ev.On m → (reply ≡ r.OnAlready m) ↔ (was ≡ true)
-  pub leaves : is ≡ on_after reply was
-
-module _ {K S N C R X : Type 0} (n : Ghosts K S N C R) (kind : Kind N n.Seen X) where
-  -- the plan of what node d is asked, by what is seen of it, and the commit of that plan
-  abbrev pub plan_by : N → ℤ → View n.Seen → Asked X → Plan
-  plan_by d today v asked = node_plan n.counting (kind.node d) (kind.plan d today v) v asked
-
-  abbrev pub commit_by : N → ℤ → View n.Seen → Asked X → Option (Commit × n.Seen)
-  commit_by d today v asked = node_commit (kind.commit d today v) asked
-
-  -- what an event of node d did on that day, by a view for which it stood
-  pub record MovesView (g : nv.Ghosts S) (d : N) (today : ℤ) (asked : Asked X) (turn : Turn) (v : View n.Seen) (s t : K) : Type 0 where
-    pub may : MayReply n.counting (kind.node d) v (plan_by d today v asked) turn.reply
-    pub entries : turn.entries ≡ in_order (after (plan_by d today v asked) turn.reply [])
-    pub stands : node.Stands n g d (view_after n.counting turn.reply (commit_by d today v asked) v) t
-    pub any_moment : (image : List ℕ) → (times_of n g t).since (times_of n g s).moment image
-        → Allowed n v image ⊎ IsAfter n (commit_by d today v asked) image
-
-  -- an image of node d that shows its counted commits and the commit of the event
-  abbrev pub ShowsCommit : Tariff → Ledger → Event → N → List ℕ → Type 0
-  ShowsCommit τ H e d image = (c : Commit) × ((plan τ todays_rules H e []).commit ≡ Some c) × (node_of c ≡ kind.node d)
-      × n.IsShown (kind.seen d (c ∷ counted H)) image
+-- an image of device d that shows its counted commits and the commit of the event
+abbrev pub ShowsCommit : {K S C R X : Type 0} (n : Ghosts K S ℕ C R) → Kind ℕ n.Seen X → Tariff → Ledger → Event → ℕ → List ℕ → Type 0
+ShowsCommit n kind τ H e d image = (c : Commit) × ((plan τ todays_rules H e []).commit ≡ Some c) × (node_of c ≡ Device d)
+    × n.IsShown (kind.seen d (c ∷ counted H)) image
 
 -- == a stop within a step ==
 
@@ -94,7 +74,7 @@ module _ {K S C R : Type 0} (n : Ghosts K S ℕ C R) (g : nv.Ghosts S) where
   pub record StepsOn {N : Type 0} (h : nv.Ghosts N) (kind : Kind ℕ n.Seen DeviceCall) (τ : Tariff) (H : Ledger) (e : Event) (turn : Turn) (old new : Bench K) : Type 0 where
     pub moves : Moves τ todays_rules H e [] turn.reply
     pub entries : turn.entries ≡ in_order (after (plan τ todays_rules H e []) turn.reply [])
-    pub stands : Stands n kind g new (moves.entries τ todays_rules H e [] turn.reply)
+    pub stands : Stands n kind g new (ledger.entries τ todays_rules H e [] turn.reply)
     pub any_moment : (m : Node) → At (λ d s t. (image : List ℕ) → (times_of n g t).since (times_of n g s).moment image
         → Allowed n (view_by n kind d H) image ⊎ ShowsCommit n kind τ H e d image) old new m
     pub stopped : (stores : List N) → AreLeft h old new stores → History τ editions (after_stop τ H e) × StoresStand n kind h stores (after_stop τ H e)
@@ -103,7 +83,7 @@ module _ {K S C R : Type 0} (n : Ghosts K S ℕ C R) (g : nv.Ghosts S) where
   -- one that commits nothing writes nothing; and damage is told exactly where the storage that an `on` read is none of the node.
   pub record StepsByViews (kind : Kind ℕ n.Seen DeviceCall) (e : Event) (turn : Turn) (old new : Bench K) : Type 0 where
     pub views : (today : ℤ) (d : ℕ) (asked : Asked DeviceCall) → old.day ≡ Some today → taken e ≡ Some (take.Device d asked)
-        → At (λ i s t. (v : View n.Seen) → node.Stands n g i v s → MovesView n kind g i today asked turn v s t) old new (kind.node d)
+        → At (λ i s t. (v : View n.Seen) → node.Stands n g i v s → MovesView n kind g (Device i) i today asked turn v s t) old new (Device d)
     pub unwritten : may_commit e ≡ false → (m : Node) → At (λ d s t. Mounts (times_of n g s) (times_of n g t)) old new m
     pub damaged : (m : Node) → e ≡ ev.On m → has_read turn.reply ≡ true
         → At (λ d s t. (turn.reply ≡ r.Damaged m) ↔ HasDamage n d t) old new m
@@ -122,3 +102,9 @@ module _ {K S C R : Type 0} (n : Ghosts K S ℕ C R) (g : nv.Ghosts S) where
     pub charged : (m : Node) → At (λ d s t. Charged m e turn.reply (meters_of n g s) (meters_of n g t)) old new m
     pub armed : IsSome old.day → (m : Node) (calls keep byte : ℕ) → e ≡ ev.Cut m calls keep byte → At (λ d s t. IsArmed n f t calls keep byte) old new m
     pub others : (m : Node) → (node_for e ≡ Some m → ⊥) → At (λ d s t. t ≡ s) old new m
+
+  -- what one event does to the bench, in three parts
+  pub record Steps {N : Type 0} (f : fuse.Ghosts S) (h : nv.Ghosts N) (kind : Kind ℕ n.Seen DeviceCall) (e : Event) (turn : Turn) (old new : Bench K) : Type 0 where
+    pub history : ForEach n kind g old (λ τ H. StepsOn h kind τ H e turn old new)
+    pub shown : g.tells → StepsByViews kind e turn old new
+    pub always : StepsAlone f e turn old new

@@ -1,12 +1,11 @@
 //! The bench: eight devices on their storages, and the events that change them.
 #![tactic(auto)]
 
-mod answers;
-mod coming;
+mod call;
 mod devices;
 mod event;
-mod seats;
+mod places;
 
-pub use coming::Turn;
 pub use devices::{Bench, BenchOver, Stores};
-pub use event::{is_taken, step};
+pub use event::{is_taken, react, step};
+pub use node_turns::{Tell, Turn};

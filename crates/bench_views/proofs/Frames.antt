@@ -89,8 +89,8 @@ count-under : (i : ℕ) (x c : Commit) (C : List Commit) → IsOther i c → cou
 count-under i x c C h = ap (λ (k : ℕ). if same_node (node_of x) (Device i) then k + 1 else k) (count-frame i c C h)
 
 -- a commit of another device leaves what is seen of this one as it is, also under an open commit of its own
-pub apart : (d i : ℕ) → i ≢ d → Apart (Device d) (Device i) (seen_in i)
-apart d i ne = record {
+pub devices_apart : (d i : ℕ) → i ≢ d → Apart (Device d) (Device i) (seen_in i)
+devices_apart d i ne = record {
   frame = λ c C own. let other = other-is d i c ne own in λ k. record { count = count-frame i c C other k; state = record-frame i c C other k };
   under = λ x c C its own. let other = other-is d i c ne own in λ k. record { count = count-under i x c C other k; state = under i x c C (own-is i x its) other k };
 }

@@ -26,7 +26,7 @@ use Rattle.bench_views.proofs.Acts.{stepped}
 
 open-if : {A : Type 0} (f : Commit → A) (t : Option Commit) → IsSome (option_map f t) → IsSome t
 open-if f None h = h
-open-if f (Some c) h = tt
+open-if f (Some c) h = refl
 
 module _ (τ : Tariff) (H : Ledger) (e : Event) (d : ℕ) (today : ℤ) (asked : Asked DeviceCall) (day : day_in H ≡ Some today) (of : taken e ≡ Some (take.Device d asked))
     (le : count_of (Device d) (counted H) ≤ 4294967295) where

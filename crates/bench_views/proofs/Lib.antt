@@ -1,8 +1,9 @@
 mod Acts
+pub mod Commits
 mod Counts
 mod Frames
 mod Histories
 mod Plans
 pub mod Steps
-pub mod Taken
+pub mod Events
 mod Views

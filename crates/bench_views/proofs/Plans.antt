@@ -32,7 +32,7 @@ use Rattle.bench_views.specs.declared.taken.Taken.TheVariants as take
 use Rattle.bench_views.specs.Taken.{taken}
 use Rattle.bench_views.specs.Devices.{view_of, device_plan, act_plan, marked, released}
 use Rattle.bench_views.proofs.Counts.{worn-is}
-use Rattle.bench_views.proofs.Taken.{each_asked}
+use Rattle.bench_views.proofs.Events.{each_asked}
 
 module _ (H : Ledger) where
   abbrev pub IsCounted : ℕ → Type 0

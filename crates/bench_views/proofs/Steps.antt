@@ -18,7 +18,7 @@ use Rattle.node_acts.specs.Views.{Counting, View, committed, torn}
 use Rattle.node_acts.specs.Acts.{commit_in}
 use Rattle.node_acts.specs.Plans.{with_commit, after, after_told, Fails, FailsTold, MayFail, MayReply, IsOtherUp, done_plan, view_after, view_told}
 use Rattle.node_acts.specs.Kinds.{view_in}
-use Rattle.bench_views.proofs.Taken.{some-same, none-some}
+use Rattle.bench_views.proofs.Events.{some-same, none-some}
 
 -- entries that tell of what was done
 abbrev pub AreTold : List Entry → Type 0

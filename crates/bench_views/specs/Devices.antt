@@ -62,7 +62,7 @@ call_commit d today v (Debit piece postage class) = commit_of counting v (debit_
 call_commit d today v Status = None
 
 abbrev pub device_kind : Kind ℕ Seen DeviceCall
-device_kind = record { node = Device; seen = seen_in; plan = call_plan; commit = call_commit }
+device_kind = record { seen = seen_in; plan = call_plan; commit = call_commit }
 
 -- == its events ==
 

@@ -44,6 +44,29 @@ after_call _ _ v = v
 abbrev pub MayTear : {S : Type 0} → Commit → Option (Commit × S) → Type 0
 MayTear {S} c made = (s : S) × (made ≡ Some (c, s))
 
+-- == whatever the storage tells ==
+
+-- the act tells this, with a commit or without
+abbrev pub TellsOf : {X F A : Type 0} → A → Act X F A → Type 0
+TellsOf a (Refuse x) = ⊥
+TellsOf a (Tell b) = b ≡ a
+TellsOf a (Commits c x b) = b ≡ a
+
+-- the act commits something that P holds of
+abbrev pub CommitsSome : {X F A : Type 0} → (Commit → Type 0) → Act X F A → Type 0
+CommitsSome P (Refuse x) = ⊥
+CommitsSome P (Tell a) = ⊥
+CommitsSome P (Commits c x a) = P c
+
+-- what a call of this act may come to at all: an act that commits nothing never fails
+abbrev pub CameOf : {X F A : Type 0} → Act X F A → Outcome F A → Type 0
+CameOf act o.Off = Unit {0}
+CameOf act (o.Refused x) = act ≡ Refuse x
+CameOf act (o.Done a) = TellsOf a act
+CameOf act o.Worn = CommitsSome (λ c. Unit {0}) act
+CameOf act (o.Power c) = CommitsSome (λ made. made ≡ c) act
+CameOf act (o.Fault c) = CommitsSome (λ made. made ≡ c) act
+
 module _ {S X : Type 0} (n : Counting S X) {F A : Type 0} where
   -- it would commit to a cell that has all its commits
   abbrev pub is_full : S → Act X F A → Bool

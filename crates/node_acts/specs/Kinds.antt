@@ -19,10 +19,9 @@ view_in m seen H = record {
   on = is_on m H;
 }
 
--- What a kind of nodes brings, whose names are N, whose records S, and whose calls C: of each node which it is, what is seen of
--- it after some commits, and the plan and the commit of each call on a day.
+-- What a kind of nodes brings, whose names are N, whose records S, and whose calls C: what is seen of each after some commits,
+-- and the plan and the commit of each call on a day.
 pub record Kind (N S C : Type 0) : Type 0 where
-  pub node : N → Node
   pub seen : N → List Commit → S
   pub plan : N → ℤ → View S → C → Plan
   pub commit : N → ℤ → View S → C → Option (Commit × S)

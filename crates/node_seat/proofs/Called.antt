@@ -10,11 +10,11 @@ use Rattle.node_acts.specs.declared.act.Act.{Act}
 use Rattle.node_acts.specs.declared.act.Act.TheVariants.{Refuse, Tell, Commits}
 use Rattle.node_acts.specs.declared.act.Outcome.{Outcome}
 use Rattle.node_acts.specs.declared.act.Outcome.TheVariants as o
-use Rattle.node_acts.specs.Acts.{commit_in, commit_of, outcome_in, outcome_of, MayCome, after_call, cost, has_failed}
+use Rattle.node_acts.specs.Acts.{commit_in, commit_of, outcome_in, outcome_of, MayCome, TellsOf, CommitsSome, CameOf, after_call, cost, has_failed}
 use Rattle.node_acts.specs.Views.{View, torn}
 use Rattle.node_seat.specs.declared.node.Node.{Ghosts}
 use Rattle.node_seat.specs.Ends.{end_of_call, end_of}
-use Rattle.node_seat.specs.Shown.{Allowed, IsAfter, IsFitting}
+use Rattle.node_seat.specs.Shown.{Allowed, IsAfter, IsNext, IsFitting}
 use Rattle.node_seat.specs.Stands.{Stands}
 use Rattle.node_seat.specs.Calls.{CallDoes}
 use Rattle.node_seat.proofs.Rests.{spent_none, turn_none}
@@ -57,8 +57,10 @@ module _ {K S N C R : Type 0} (n : Ghosts K S N C R) (g : nv.Ghosts S) {F A : Ty
     turn = λ d v st tells.
         subst (λ (m : Option (Commit × n.Seen)). Turn (Allowed n v) (IsAfter n m) (g.times (n.storage k)) (g.times (n.storage k)) (end_of_call {F = F} {A = A} o.Off m)) (sym (none v (sym st.on ∙ off)))
         (turn_none _ _ _ (λ c is. st.store.shows tells c is));
-    keeps = λ d v st tells fit. subst (λ (m : Option (Commit × n.Seen)). IfSome m (λ x. n.IsSound d x.1)) (sym (none v (sym st.on ∙ off))) tt;
+    keeps = λ d v st tells fit. subst (λ (m : Option (Commit × n.Seen)). IfSome m (λ x. IsNext n d v.state x.1)) (sym (none v (sym st.on ∙ off))) tt;
+    came = tt;
     refused = λ is. refl;
+    tells_only = λ none. refl;
     spent = spent_none (cost (act (n.seen k))) (g.meters (n.storage k));
   }
     where
@@ -73,8 +75,8 @@ module _ {K S N C R : Type 0} (n : Ghosts K S N C R) (g : nv.Ghosts S) {F A : Ty
   quiet : (x : Outcome F A) (k k' : K) → k' ≡ k → n.is_on k ≡ true → (x ≡ o.Off → ⊥) → has_failed x ≡ false → end_of x ≡ Kept
       → ((v : View n.Seen) → after_call x None v ≡ v) → end_of_call {S = n.Seen} x None ≡ Kept
       → commit_in n.counting (n.seen k) (act (n.seen k)) ≡ None → ((v : View n.Seen) → v.on ≡ true → n.seen k ≡ v.state → MayCome n.counting v (act v.state) x)
-      → CallDoes n g act k k' x
-  quiet x k k' same on not_off fails ends after ended none may = subst (λ (j : K). CallDoes n g act k j x) (sym same) (record {
+      → CameOf (act (n.seen k)) x → CallDoes n g act k k' x
+  quiet x k k' same on not_off fails ends after ended none may came = subst (λ (j : K). CallDoes n g act k j x) (sym same) (record {
     off = (λ e. absurd (not_off e), λ e. absurd (true_not_false (n.is_on k) on e));
     leaves = leaves;
     comes = λ d v st tells. may v (sym st.on ∙ on) (seen_of d v k st on tells);
@@ -84,8 +86,10 @@ module _ {K S N C R : Type 0} (n : Ghosts K S N C R) (g : nv.Ghosts S) {F A : Ty
         subst (λ (m : Option (Commit × n.Seen)). Turn (Allowed n v) (IsAfter n m) (g.times (n.storage k)) (g.times (n.storage k)) (end_of_call x m)) (sym (none_of d v st tells))
         (subst (λ (e : End). Turn (Allowed n v) (IsAfter n None) (g.times (n.storage k)) (g.times (n.storage k)) e) (sym ended)
         (turn_none _ _ _ (λ c is. st.store.shows tells c is)));
-    keeps = λ d v st tells fit. subst (λ (m : Option (Commit × n.Seen)). IfSome m (λ y. n.IsSound d y.1)) (sym (none_of d v st tells)) tt;
+    keeps = λ d v st tells fit. subst (λ (m : Option (Commit × n.Seen)). IfSome m (λ y. IsNext n d v.state y.1)) (sym (none_of d v st tells)) tt;
+    came = came;
     refused = λ is. refl;
+    tells_only = λ none. refl;
     spent = subst (λ (e : End). Spent (cost (act (n.seen k))) (g.meters (n.storage k)) (g.meters (n.storage k)) e) (sym ends) (spent_none (cost (act (n.seen k))) (g.meters (n.storage k)));
   })
     where
@@ -102,11 +106,12 @@ module _ {K S N C R : Type 0} (n : Ghosts K S N C R) (g : nv.Ghosts S) {F A : Ty
 
   pub refuses : (x : F) (k : K) → act (n.seen k) ≡ Refuse x → n.is_on k ≡ true → CallDoes n g act k k (o.Refused x)
   refuses x k is on = quiet (o.Refused x) k k refl on (λ e. cc) refl refl (λ v. refl) refl
-      (ap (commit_in n.counting (n.seen k)) is) (λ v is_on seen. may_be (o.Refused x) k v is_on seen (sym (ap (outcome_in n.counting (n.seen k)) is)))
+      (ap (commit_in n.counting (n.seen k)) is) (λ v is_on seen. may_be (o.Refused x) k v is_on seen (sym (ap (outcome_in n.counting (n.seen k)) is))) is
 
   pub tells_only : (a : A) (k : K) → act (n.seen k) ≡ Tell a → n.is_on k ≡ true → CallDoes n g act k k (o.Done a)
   tells_only a k is on = quiet (o.Done a) k k refl on (λ e. cc) refl refl (λ v. refl) refl
       (ap (commit_in n.counting (n.seen k)) is) (λ v is_on seen. may_be (o.Done a) k v is_on seen (sym (ap (outcome_in n.counting (n.seen k)) is)))
+      (subst (λ (b : Act C F A). TellsOf a b) (sym is) refl)
 
   -- a commit
   module _ (c : Commit) (x : C) (a : A) (k k' : K) (is : act (n.seen k) ≡ Commits c x a) (on : n.is_on k ≡ true) where
@@ -114,6 +119,7 @@ module _ {K S N C R : Type 0} (n : Ghosts K S N C R) (g : nv.Ghosts S) {F A : Ty
     worn same full = quiet o.Worn k k' same on (λ e. cc) refl refl (λ v. refl) refl
         (ap (commit_in n.counting (n.seen k)) is ∙ if_true (n.counting.is_worn (n.seen k) x) None _ full)
         (λ v is_on seen. may_be o.Worn k v is_on seen (sym (ap (outcome_in n.counting (n.seen k)) is ∙ if_true (n.counting.is_worn (n.seen k) x) o.Worn (o.Done a) full)))
+        (subst (λ (b : Act C F A). CommitsSome (λ made. Unit {0}) b) (sym is) tt)
 
     module _ (nested : (s : S) → g.tells → Nested (g.times s))
         (keeps : (d : N) (s : n.Seen) (y : C) → n.IsSound d s → n.IsKept y → n.IsFrom d s y → n.counting.is_worn s y ≡ false → n.IsSound d (n.counting.after s y))
@@ -143,8 +149,11 @@ module _ {K S N C R : Type 0} (n : Ghosts K S N C R) (g : nv.Ghosts S) {F A : Ty
       sound_after : (d : N) (v : View n.Seen) → Stands n g d v k → g.tells → IsFitting n d v.state (act v.state) → n.IsSound d next
       sound_after d v st tells fit = keeps d (n.seen k) x (sound_now d v st tells) kept (from_act d v st tells fit) fresh
 
-      sound_kept : (d : N) (v : View n.Seen) → Stands n g d v k → g.tells → IsFitting n d v.state (act v.state) → IfSome (commit_of n.counting v (act v.state)) (λ y. n.IsSound d y.1)
-      sound_kept d v st tells fit = subst (λ (m : Option (Commit × n.Seen)). IfSome m (λ y. n.IsSound d y.1)) (sym (made_is d v st tells)) (sound_after d v st tells fit)
+      more_of : (d : N) (v : View n.Seen) → Stands n g d v k → g.tells → n.counting.count next ≡ n.counting.count v.state + 1
+      more_of d v st tells = counts d (n.seen k) x (sound_now d v st tells) kept ∙ ap (λ (s : n.Seen). n.counting.count s + 1) (seen_of d v k st on tells)
+
+      sound_kept : (d : N) (v : View n.Seen) → Stands n g d v k → g.tells → IsFitting n d v.state (act v.state) → IfSome (commit_of n.counting v (act v.state)) (λ y. IsNext n d v.state y.1)
+      sound_kept d v st tells fit = subst (λ (m : Option (Commit × n.Seen)). IfSome m (λ y. IsNext n d v.state y.1)) (sym (made_is d v st tells)) (sound_after d v st tells fit, more_of d v st tells)
 
       seen_any : (d : N) (v : View n.Seen) → Stands n g d v k → g.tells → (i : List ℕ) → (g.times (n.storage k')).since (g.times (n.storage k)).moment i → n.IsShown v.state i ⊎ n.IsShown next i
       seen_any d v st tells i now = ⊎_elim
@@ -198,7 +207,9 @@ module _ {K S N C R : Type 0} (n : Ghosts K S N C R) (g : nv.Ghosts S) {F A : Ty
             subst (λ (m : Option (Commit × n.Seen)). Turn (Allowed n v) (IsAfter n m) (g.times (n.storage k)) (g.times (n.storage k')) (end_of_call {F = F} (o.Done a) m)) (sym (made_is d v st tells))
             (turned Made (λ e. cc) d v st tells (λ e i now. subst (λ (s : n.Seen). n.IsShown s i) seen (knows tells i now)));
         keeps = sound_kept;
+        came = subst (λ (b : Act C F A). TellsOf a b) (sym is) refl;
         refused = λ e. cc;
+        tells_only = λ none. absurd (none (subst (λ (b : Act C F A). CommitsSome (λ made. Unit {0}) b) (sym is) tt));
         spent = cost_is 6 _ _ Kept (spent_kept 6 _ _ spent) (sym (ap cost is));
       }
 
@@ -211,7 +222,7 @@ module _ {K S N C R : Type 0} (n : Ghosts K S N C R) (g : nv.Ghosts S) {F A : Ty
           sound = λ t. record {
             state = (st.store.sound tells).state;
             next = sound_after d v st tells fit;
-            more = counts d (n.seen k) x (sound_now d v st tells) kept ∙ ap (λ (s : n.Seen). n.counting.count s + 1) (seen_of d v k st on tells);
+            more = more_of d v st tells;
           };
           shows = λ t i now.
               seen_any d v st tells i (nested (n.storage k') tells (g.times (n.storage k)).moment (g.times (n.storage k')).moment i (time tells).later now);
@@ -230,7 +241,9 @@ module _ {K S N C R : Type 0} (n : Ghosts K S N C R) (g : nv.Ghosts S) {F A : Ty
             subst (λ (m : Option (Commit × n.Seen)). Turn (Allowed n v) (IsAfter n m) (g.times (n.storage k)) (g.times (n.storage k')) Cut) (sym (made_is d v st tells))
             (turned Cut (λ e. cc) d v st tells (λ e. cc));
         keeps = sound_kept;
+        came = subst (λ (b : Act C F A). CommitsSome (λ made. made ≡ c) b) (sym is) refl;
         refused = λ e. cc;
+        tells_only = λ none. absurd (none (subst (λ (b : Act C F A). CommitsSome (λ made. Unit {0}) b) (sym is) tt));
         spent = cost_is 6 _ _ Cut spent (sym (ap cost is));
       }
 
@@ -245,6 +258,8 @@ module _ {K S N C R : Type 0} (n : Ghosts K S N C R) (g : nv.Ghosts S) {F A : Ty
             subst (λ (m : Option (Commit × n.Seen)). Turn (Allowed n v) (IsAfter n m) (g.times (n.storage k)) (g.times (n.storage k')) Faulted) (sym (made_is d v st tells))
             (turned Faulted (λ e. cc) d v st tells (λ e. cc));
         keeps = sound_kept;
+        came = subst (λ (b : Act C F A). CommitsSome (λ made. made ≡ c) b) (sym is) refl;
         refused = λ e. cc;
+        tells_only = λ none. absurd (none (subst (λ (b : Act C F A). CommitsSome (λ made. Unit {0}) b) (sym is) tt));
         spent = cost_is 6 _ _ Faulted spent (sym (ap cost is));
       }

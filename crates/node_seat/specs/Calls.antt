@@ -5,17 +5,17 @@ use Rattle.nv_store.specs.Turns.{Turn, Spent}
 use Rattle.node_acts.specs.declared.act.Act.{Act}
 use Rattle.node_acts.specs.declared.act.Outcome.{Outcome}
 use Rattle.node_acts.specs.declared.act.Outcome.TheVariants as o
-use Rattle.node_acts.specs.Acts.{commit_of, MayCome, after_call, cost, has_failed, is_refusal}
+use Rattle.node_acts.specs.Acts.{commit_of, MayCome, CommitsSome, CameOf, after_call, cost, has_failed, is_refusal}
 use Rattle.node_acts.specs.Views.{View}
 use Rattle.node_seat.specs.declared.node.Node.{Ghosts}
 use Rattle.node_seat.specs.Ends.{end_of_call, end_of}
-use Rattle.node_seat.specs.Shown.{Allowed, IsAfter, IsFitting}
+use Rattle.node_seat.specs.Shown.{Allowed, IsAfter, IsNext, IsFitting}
 use Rattle.node_seat.specs.Stands.{times_of, meters_of, Stands}
 
 module _ {K S N C R : Type 0} (n : Ghosts K S N C R) (g : nv.Ghosts S) where
   -- What a call came to and left, whose act is this one of the record. By each view for which the node stood: it came to
   -- what it may come to, the node stands for what follows, each image at every moment shows what the view allows or that
-  -- and the one commit, and the record of that is one of the node.
+  -- and the one commit, and the record of that is the node's next one.
   pub record CallDoes {F A : Type 0} (act : n.Seen → Act C F A) (s t : K) (result : Outcome F A) : Type 0 where
     pub off : (result ≡ o.Off) ↔ (n.is_on s ≡ false)
     pub leaves : n.is_on t ≡ (n.is_on s && not (has_failed result))
@@ -26,6 +26,8 @@ module _ {K S N C R : Type 0} (n : Ghosts K S N C R) (g : nv.Ghosts S) where
         → Turn (Allowed n v) (IsAfter n (commit_of n.counting v (act v.state))) (times_of n g s) (times_of n g t)
         (end_of_call result (commit_of n.counting v (act v.state)))
     pub keeps : (d : N) (v : View n.Seen) → Stands n g d v s → g.tells → IsFitting n d v.state (act v.state)
-        → IfSome (commit_of n.counting v (act v.state)) (λ x. n.IsSound d x.1)
+        → IfSome (commit_of n.counting v (act v.state)) (λ x. IsNext n d v.state x.1)
+    pub came : CameOf (act (n.seen s)) result
     pub refused : is_refusal result ≡ true → t ≡ s
+    pub tells_only : (CommitsSome (λ c. Unit {0}) (act (n.seen s)) → ⊥) → t ≡ s
     pub spent : Spent (cost (act (n.seen s))) (meters_of n g s) (meters_of n g t) (end_of result)

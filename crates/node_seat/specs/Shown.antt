@@ -27,6 +27,10 @@ module _ {K S N C R : Type 0} (n : Ghosts K S N C R) where
     pub next : IfSome v.next (n.IsSound d)
     pub more : IfSome v.next (λ s. n.counting.count s ≡ n.counting.count v.state + 1)
 
+  -- the record after a commit of node d with this record
+  abbrev pub IsNext : N → n.Seen → n.Seen → Type 0
+  IsNext d s next = n.IsSound d next × (n.counting.count next ≡ n.counting.count s + 1)
+
   -- a change of the act is one of node d and this record
   abbrev pub IsFitting : {F A : Type 0} → N → n.Seen → Act C F A → Type 0
   IsFitting d s (Refuse x) = Unit {0}

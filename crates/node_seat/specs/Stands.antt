@@ -24,6 +24,12 @@ module _ {K S N C R : Type 0} (n : Ghosts K S N C R) where
   abbrev pub IsArmed : fuse.Ghosts S → K → ℕ → ℕ → ℕ → Type 0
   IsArmed f k calls keep byte = HasFuse (f.fuse_of (n.storage k)) calls keep byte
 
+  -- a storage of node d: each image shows its commits that count, or these and the open one
+  pub record StoreStands {T : Type 0} (h : nv.Ghosts T) (d : N) (v : View n.Seen) (store : T) : Type 0 where
+    pub size : h.size store ≡ n.bytes
+    pub sound : h.tells → Sound n d v
+    pub shows : h.tells → (image : List ℕ) → Image (h.times store) image → Allowed n v image
+
   module _ (g : nv.Ghosts S) where
     -- the moment of its storage, and the images since each moment
     abbrev pub times_of : K → Times
@@ -33,12 +39,6 @@ module _ {K S N C R : Type 0} (n : Ghosts K S N C R) where
     abbrev pub meters_of : K → Meters
     meters_of k = g.meters (n.storage k)
 
-    -- a storage of node d: each image shows its commits that count, or these and the open one
-    pub record StoreStands (d : N) (v : View n.Seen) (store : S) : Type 0 where
-      pub size : g.size store ≡ n.bytes
-      pub sound : g.tells → Sound n d v
-      pub shows : g.tells → (image : List ℕ) → Image (g.times store) image → Allowed n v image
-
     -- a node that is on: it runs with its commits that count, which are all that its storage shows
     pub record Runs (d : N) (v : View n.Seen) (k : K) : Type 0 where
       pub closed : v.next ≡ None
@@ -47,5 +47,5 @@ module _ {K S N C R : Type 0} (n : Ghosts K S N C R) where
 
     pub record Stands (d : N) (v : View n.Seen) (k : K) : Type 0 where
       pub on : n.is_on k ≡ v.on
-      pub store : StoreStands d v (n.storage k)
+      pub store : StoreStands g d v (n.storage k)
       pub runs : v.on ≡ true → Runs d v k

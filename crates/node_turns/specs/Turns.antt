@@ -1,21 +1,17 @@
 -- What an event comes to: its reply and its entries.
-use Rattle.std.specs.Prelude.{ℕ, ℤ, List, [], ◌∷◌, Bool, true, false, Option, Some, None, if◌then◌else◌}
+use Rattle.std.specs.Prelude.{List, [], ◌∷◌, Bool, true, false, Option, Some, None}
 use Rattle.bench_base.specs.declared.words.Node.{Node}
 use Rattle.bench_base.specs.declared.ledger.Entry.{Entry}
 use Rattle.bench_base.specs.declared.ledger.Entry.TheVariants as entry
 use Rattle.bench_base.specs.declared.events.Reply.{Reply}
 use Rattle.bench_base.specs.declared.events.Reply.TheVariants as r
-use Rattle.bench_base.specs.Rules.{todays_rules}
 use Rattle.bench_base.specs.Ledger.{Ledger}
 use Rattle.node_acts.specs.declared.act.Outcome.{Outcome}
 use Rattle.node_acts.specs.declared.act.Outcome.TheVariants as o
 use Rattle.node_acts.specs.declared.act.Started.{Started}
 use Rattle.node_acts.specs.declared.act.Started.TheVariants as start
 use Rattle.node_acts.specs.Plans.{call_reply}
-use Rattle.psd_wire.specs.declared.message.DebitMsg.{DebitMsg}
-use Rattle.psd_state.specs.Acts.{debit_commit}
-use Rattle.psd_state.specs.declared.acts.Franked.{Franked}
-use Rattle.bench.specs.declared.turn.Turn.{Turn}
+use Rattle.node_turns.specs.declared.turn.Turn.{Turn}
 
 -- entries in the order in which they happened, from a list whose newest comes first
 abbrev pub in_order : Ledger → List (Option Entry)
@@ -39,13 +35,6 @@ added m done (o.Fault c) = entry.Torn m c ∷ []
 -- the turn of a call of node m, by how the node refuses, how it replies where the call is done, and what is added then
 abbrev pub call_turn : {F A : Type 0} → Node → (F → Reply) → (A → Reply) → (A → Ledger) → Outcome F A → Turn
 call_turn m refusal reply done outcome = turn_of (call_reply m refusal reply outcome) (added m done outcome)
-
--- a mark that is given again was debited before
-abbrev pub franked_entries : ℕ → DebitMsg → ℤ → Franked → Ledger
-franked_entries d q today f =
-    if f.again
-    then entry.Released d q.piece f.mark ∷ []
-    else entry.Released d q.piece f.mark ∷ entry.Commit (debit_commit todays_rules d q today) ∷ []
 
 abbrev pub start_turn : Node → Started → Turn
 start_turn m start.Already = turn_of (r.OnAlready m) []

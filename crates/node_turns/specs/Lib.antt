@@ -1,0 +1,4 @@
+pub mod Costs
+pub mod Done
+pub mod NodeTurns
+pub mod Turns

@@ -1,0 +1,10 @@
+//! What an event of a node comes to, whatever the kind of the node: its reply, and what it adds to the ledger.
+#![tactic(auto)]
+
+mod node;
+mod tell;
+mod turn;
+
+pub use node::{Undone, cut, done, start, stop};
+pub use tell::Tell;
+pub use turn::Turn;
