@@ -18,7 +18,7 @@ use Rattle.psd_wire.specs.declared.message.Request.{Request}
 use Rattle.ledger_terms.specs.Requests.{request_in}
 use Rattle.ledger_terms.specs.Sums.{adds, takes, ruled_sum, bought, returned}
 use Rattle.ledger_terms.specs.Centres.{registered, origin_in, key_in, enrolled, withdrawn, ruled, done, settled, opened, suspended, deposits, receipt, is_some_at, device_numbers, sum_over, device_share, customer_sum}
-use Rattle.ledger_terms.specs.Rulings.{Account, account_of, verdict, verdict_by, stored_reply, has_left, is_enrolled, out_of_balance, reply_to}
+use Rattle.ledger_terms.specs.Rulings.{Account, account_of, verdict, verdict_by, stored_reply, has_left, is_enrolled, out_of_balance, reply_to, written_amount}
 use Rattle.centre_ledger.specs.declared.rows.DeviceRow.{DeviceRow}
 use Rattle.centre_ledger.specs.Answers.{last_ruling, stored_note, settle_answer, deposit_answer}
 use Rattle.centre_ledger.specs.Order.{InOrder}
@@ -139,7 +139,7 @@ no-money c (Opened e ∷ C) o h = either e c
     (λ t y. absurd (true≢false (rw t at h)))
     (λ t. let n = no-money c C o.1 (rw t at h) in record { suspended = n.suspended; deposits = n.deposits; receipt = n.receipt })
 no-money c (Deposited e n a ∷ C) o h = either e c
-    (λ t y. absurd (true≢false (sym (subst (λ z. opened z C ≡ true) y o.0) ∙ h)))
+    (λ t y. absurd (true≢false (sym (subst (λ z. opened z C ≡ true) y o.0.0) ∙ h)))
     (λ t. let was = no-money c C o.1 h in record { suspended = was.suspended; deposits = rw t was.deposits; receipt = rw t was.receipt })
 no-money c (Flagged e s ∷ C) o h = either e c
     (λ t y. absurd (true≢false (sym (subst (λ z. opened z C ≡ true) y o.0) ∙ h)))
@@ -285,7 +285,7 @@ ruling-keeps r o left note C sound is device number pays v verdict_is =
       number = q.number;
       kind = q.kind;
       verdict = v_same i;
-      amount = amount_same i;
+      amount = written_amount q.version (amount_same i);
       deadline = cond (is_dated (v_same i) q.kind) (q.day +ℤ pos 92) (pos 0);
       origin = origin_in (known i);
     } in

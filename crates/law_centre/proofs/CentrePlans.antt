@@ -176,7 +176,7 @@ module _ (ρ : Rules) (H : Ledger) (i : Inv ρ H) (on : is_on Centre H ≡ true)
           room = ltb-false 1000000000000000 (sum + a) rows.1.1.0;
         };
         on = on;
-        range = (range, receipts, amounts);
+        range = (range, receipts, (omega arith, ltb-false 1000000000 a amount.1));
         sure = tt;
       })))
 

@@ -44,6 +44,10 @@ use Rattle.ledger_moves.specs.Devices.{Teller}
 use Rattle.registers.specs.Sums.{total}
 use Rattle.psd_state.specs.State.{State}
 use Rattle.psd_state.specs.Records.{state_of}
+use Rattle.node_acts.specs.declared.act.Act.TheVariants.{Refuse, Tell, Commits}
+use Rattle.psd_state.specs.Acts as acts
+use Rattle.psd_state.specs.Acts.{DeviceAct}
+use Rattle.psd_state.specs.declared.acts.Franked.{Franked}
 use Rattle.psd_state.specs.Answers as answers
 use Rattle.psd_state.specs.Answers.{request_made, mark_made, amount_for, customer_for, in_service, is_stray}
 use Rattle.psd_state.specs.declared.debiting.Debited.{Debited}
@@ -251,7 +255,7 @@ module _ (ρ : Rules) (carried : IsCarried ρ) (H : Ledger) (i : Inv ρ H) where
 
   asked-ok : (d : ℕ) (k : Kind) (who a : ℕ) (t : ℤ) (l : ℕ) (key : List ℕ) → is_on (Device d) H ≡ true → IsDevice d → IsAsk k who a → IsDay t → key_of d (counted H) ≡ Some key → pending d (counted H) ≡ None
       → AllFalse (answers.ask_rows ρ (state_of d key (counted H)) k a t)
-      → PlanOk ρ H (Devices.ask_act d (number d (counted H) + 1) l (Ok (answers.after_ask (state_of d key (counted H)) (request_made ρ (state_of d key (counted H)) k who a t), spell (m.Request (request_made ρ (state_of d key (counted H)) k who a t)) key)))
+      → PlanOk ρ H (Devices.asked_plan d (number d (counted H) + 1) l (acts.asked_act d (number d (counted H) + 1) (Ok (answers.after_ask (state_of d key (counted H)) (request_made ρ (state_of d key (counted H)) k who a t), spell (m.Request (request_made ρ (state_of d key (counted H)) k who a t)) key))))
   asked-ok d k who a t l key on device ask day has idle rows =
       let C = counted H in
       let q = request_made ρ (state_of d key C) k who a t in
@@ -276,7 +280,7 @@ module _ (ρ : Rules) (carried : IsCarried ρ) (H : Ledger) (i : Inv ρ H) where
   ask-ok d k who a t l on device ask day (Some key) has = by_pending (pending d (counted H)) refl
     where
       P : Result (State × List ℕ) DevRefusal → Type 0
-      P z = PlanOk ρ H (Devices.ask_act d (number d (counted H) + 1) l z)
+      P z = PlanOk ρ H (Devices.asked_plan d (number d (counted H) + 1) l (acts.asked_act d (number d (counted H) + 1) z))
 
       S : State
       S = state_of d key (counted H)
@@ -330,7 +334,7 @@ module _ (ρ : Rules) (carried : IsCarried ρ) (H : Ledger) (i : Inv ρ H) where
 
   franked-ok : (T : Teller) (d : ℕ) (q : DebitMsg) (t : ℤ) (key : List ℕ) → TellerOk ρ T d q.piece → is_on (Device d) H ≡ true → IsDevice d → (q.class < 2 ^ 16) → IsDay t → key_of d (counted H) ≡ Some key → frozen (pending d (counted H)) ≡ false
       → AllFalse (answers.piece_rows (state_of d key (counted H)) q) → AllFalse (answers.debit_rows ρ (state_of d key (counted H)) q t)
-      → PlanOk ρ H (Devices.debit_act ρ T d q t (Ok (New (answers.after_debit ρ (state_of d key (counted H)) q t) (marks.spell (mark_made ρ (state_of d key (counted H)) q t) key))))
+      → PlanOk ρ H (Devices.franked_plan T d (acts.franked_act ρ d q t (Ok (New (answers.after_debit ρ (state_of d key (counted H)) q t) (marks.spell (mark_made ρ (state_of d key (counted H)) q t) key)))))
   franked-ok T d q t key ok on device class day has free pieces_rows rows =
       let C = counted H in
       let x = marks.spell (mark_made ρ (state_of d key C) q t) key in
@@ -356,14 +360,14 @@ module _ (ρ : Rules) (carried : IsCarried ρ) (H : Ledger) (i : Inv ρ H) where
       }
 
   new-ok : (T : Teller) (d : ℕ) (q : DebitMsg) (t : ℤ) (key : List ℕ) → TellerOk ρ T d q.piece → is_on (Device d) H ≡ true → IsDevice d → (q.class < 2 ^ 16) → IsDay t → key_of d (counted H) ≡ Some key
-      → PlanOk ρ H (Devices.debit_act ρ T d q t (answers.new_answer ρ (state_of d key (counted H)) q t))
+      → PlanOk ρ H (Devices.franked_plan T d (acts.franked_act ρ d q t (answers.new_answer ρ (state_of d key (counted H)) q t)))
   new-ok T d q t key ok on device class day has =
       first P (answers.piece_rows S q) _
       (refuse-ok d (no.WrongPiece (pieces d (counted H))) tt, (refuse-ok d (no.Phase (phase d (counted H))) tt, tt))
       (λ pieces_rows. by_pending pieces_rows (pending d (counted H)) refl)
     where
       P : Result Debited DevRefusal → Type 0
-      P z = PlanOk ρ H (Devices.debit_act ρ T d q t z)
+      P z = PlanOk ρ H (Devices.franked_plan T d (acts.franked_act ρ d q t z))
 
       S : State
       S = state_of d key (counted H)
@@ -390,10 +394,10 @@ module _ (ρ : Rules) (carried : IsCarried ρ) (H : Ledger) (i : Inv ρ H) where
           (λ _. refuse-ok d (no.Frozen (request_in p.1).kind) tt)
           (λ free. free-ok pieces_rows (ap frozen h ∙ free))
 
-  again-ok : (T : Teller) (d : ℕ) (q : DebitMsg) (t : ℤ) (k : Mark) (key : List ℕ) → TellerOk ρ T d q.piece → marked d q.piece (counted H) ≡ Some (marks.spell k key) → PlanOk ρ H (Devices.debit_act ρ T d q t (answers.again q key k))
+  again-ok : (T : Teller) (d : ℕ) (q : DebitMsg) (t : ℤ) (k : Mark) (key : List ℕ) → TellerOk ρ T d q.piece → marked d q.piece (counted H) ≡ Some (marks.spell k key) → PlanOk ρ H (Devices.franked_plan T d (acts.franked_act ρ d q t (answers.again q key k)))
   again-ok T d q t k key ok there =
       let x = marks.spell k key in
-      chosen (λ (z : Result Debited DevRefusal). PlanOk ρ H (Devices.debit_act ρ T d q t z)) ((k.postage == q.postage) && (k.class == q.class)) (Ok (Again x)) (Err (no.Conflict k.postage k.class))
+      chosen (λ (z : Result Debited DevRefusal). PlanOk ρ H (Devices.franked_plan T d (acts.franked_act ρ d q t z))) ((k.postage == q.postage) && (k.class == q.class)) (Ok (Again x)) (Err (no.Conflict k.postage k.class))
       (λ _. record {
         sane = ok.sane true x;
         plain = ok.plain (told (T.reply true x) (T.tell x)) true x H;
@@ -420,7 +424,7 @@ module _ (ρ : Rules) (carried : IsCarried ρ) (H : Ledger) (i : Inv ρ H) where
       (λ _. refuse-ok d (no.WrongDevice q.device) tt)
     where
       P : Result Debited DevRefusal → Type 0
-      P z = PlanOk ρ H (Devices.debit_act ρ T d q t z)
+      P z = PlanOk ρ H (Devices.franked_plan T d (acts.franked_act ρ d q t z))
 
       by_mark : (o : Option Mark) → answers.repeated (kept d (counted H)) q.piece ≡ o → P (answers.unless_again o q key (answers.new_answer ρ (state_of d key (counted H)) q t))
       by_mark None h = new-ok T d q t key ok on device class day has
@@ -431,7 +435,7 @@ module _ (ρ : Rules) (carried : IsCarried ρ) (H : Ledger) (i : Inv ρ H) where
 
   -- == make, resend, ack, status ==
 
-  pub make-ok : (d : ℕ) (key : List ℕ) → is_on (Device d) H ≡ true → IsDevice d → IsKey key → (w : Option (List ℕ)) → key_of d (counted H) ≡ w → PlanOk ρ H (Devices.make_plan d key w)
+  pub make-ok : (d : ℕ) (key : List ℕ) → is_on (Device d) H ≡ true → IsDevice d → IsKey key → (w : Option (List ℕ)) → key_of d (counted H) ≡ w → PlanOk ρ H (Devices.make_plan d key (counted H) w)
   make-ok d key on device fits None has = ok-made ρ H (r.Made d) (c.Made d key) refl tt (λ n k h. absurd (cc)) (record { fits = has; on = on; range = (device, fits); sure = tt })
   make-ok d key on device fits (Some k) has = refuse-ok d no.Made tt
 
@@ -458,7 +462,7 @@ module _ (ρ : Rules) (carried : IsCarried ρ) (H : Ledger) (i : Inv ρ H) where
 
   pub ack-ok : (d k : ℕ) (w : Option (List ℕ)) → PlanOk ρ H (Devices.ack_plan d k (counted H) w)
   ack-ok d k None = refuse-ok d no.Blank tt
-  ack-ok d k (Some key) = chosen (λ (z : Result (List ℕ) DevRefusal). PlanOk ρ H (Devices.ack_act d n k z)) (n == 0) (Err no.NothingDone) (Ok note)
+  ack-ok d k (Some key) = chosen (λ (z : Result (List ℕ) DevRefusal). PlanOk ρ H (Devices.done_plan d n k (acts.told_act z))) (n == 0) (Err no.NothingDone) (Ok note)
       (λ _. refuse-ok d no.NothingDone tt)
       (λ t. record {
         sane = tt;
@@ -493,13 +497,13 @@ module _ (ρ : Rules) (carried : IsCarried ρ) (H : Ledger) (i : Inv ρ H) where
   -- == a Reply, a Debit ==
 
   -- a Reply that the device takes comes from a ruling on what is pending
-  apply-ok : (d : ℕ) (p : ReplyMsg) (s : State) → is_on (Device d) H ≡ true → p.device ≡ d → GenuineReply p (counted H) → (w : Option (ℕ × List ℕ)) → pending d (counted H) ≡ w → PlanOk ρ H (Devices.apply_act d p (answers.apply_answer s (waiting w) p))
-  apply-ok d p s on same from None has = refuse-ok d no.NothingPending tt
-  apply-ok d p s on same from (Some w) has =
+  apply-ok : (d k : ℕ) (p : ReplyMsg) (s : State) → is_on (Device d) H ≡ true → p.device ≡ d → GenuineReply p (counted H) → (w : Option (ℕ × List ℕ)) → pending d (counted H) ≡ w → PlanOk ρ H (Devices.taken_plan d k (acts.applied_act d p (answers.apply_answer s (waiting w) p)))
+  apply-ok d k p s on same from None has = refuse-ok d no.NothingPending tt
+  apply-ok d k p s on same from (Some w) has =
       let q = request_in w.1 in
       let pends = pending-asked ρ d w (counted H) i.good has in
       let was = note-reads ρ d w.0 w.1 (counted H) i.good pends in
-      let P = λ (z : Result State DevRefusal). PlanOk ρ H (Devices.apply_act d p z) in
+      let P = λ (z : Result State DevRefusal). PlanOk ρ H (Devices.taken_plan d k (acts.applied_act d p z)) in
       chosen P (not (p.number == q.number)) _ _
       (λ _. refuse-ok d (no.Stale q.number) tt)
       (λ row.
@@ -521,19 +525,27 @@ module _ (ρ : Rules) (carried : IsCarried ρ) (H : Ledger) (i : Inv ρ H) where
         sure = tt;
       })))
 
+  -- a debit that came as a message is told by its message
+  released-plan : (d k piece : ℕ) (act : DeviceAct Franked) → Devices.franked_plan (Devices.sent d piece k) d act ≡ Devices.taken_plan d k (acts.released piece act)
+  released-plan d k piece (Refuse x) = refl
+  released-plan d k piece (Tell f) = refl
+  released-plan d k piece (Commits c s f) = refl
+
   pub device-ok : (d k : ℕ) (t : ℤ) (bytes : List ℕ) → is_on (Device d) H ≡ true → IsDevice d → IsDay t → (x : Result Message Unread) → read bytes ≡ x → IsKnown bytes x (Device d) H
       → ((q : DebitMsg) → x ≡ Ok (m.Debit q) → q.class < 2 ^ 16) → PlanOk ρ H (Devices.device_take ρ k t d bytes x (counted H) (key_of d (counted H)))
   device-ok d k t bytes on device day (Ok (m.Reply p)) reads known fits = keyed (key_of d (counted H)) refl
     where
-      keyed : (w : Option (List ℕ)) → key_of d (counted H) ≡ w → PlanOk ρ H (Devices.reply_plan d bytes p (counted H) w)
+      keyed : (w : Option (List ℕ)) → key_of d (counted H) ≡ w → PlanOk ρ H (Devices.device_take ρ k t d bytes (Ok (m.Reply p)) (counted H) w)
       keyed None has = refuse-ok d no.Blank tt
-      keyed (Some key) has = first (PlanOk ρ H) (Devices.reply_rows d bytes p key) (Devices.apply_act d p (answers.apply_answer (state_of d key (counted H)) (state_of d key (counted H)).pending p))
+      keyed (Some key) has = first (λ act. PlanOk ρ H (Devices.taken_plan d k act)) (acts.reply_rows d bytes p key) (acts.applied_act d p (answers.apply_answer (state_of d key (counted H)) (state_of d key (counted H)).pending p))
           (refuse-ok d (no.WrongDevice p.device) tt, (refuse-ok d no.BadCode tt, tt))
           (λ rows.
           let same : p.device ≡ d = eqb-true p.device d (not-false (p.device == d) rows.0) in
           let sent = known same key has (not-false (has_code key bytes) rows.1.0) in
-          apply-ok d p (state_of d key (counted H)) on same (genuine-at bytes (m.Reply p) H (counted H) (i.sents bytes sent) reads) (pending d (counted H)) refl)
-  device-ok d k t bytes on device day (Ok (m.Debit q)) reads known fits = debit-ok (Devices.sent d q.piece k) d q t (ok-sent ρ carried d q.piece k) on device (fits q refl) day (key_of d (counted H)) refl
+          apply-ok d k p (state_of d key (counted H)) on same (genuine-at bytes (m.Reply p) H (counted H) (i.sents bytes sent) reads) (pending d (counted H)) refl)
+  device-ok d k t bytes on device day (Ok (m.Debit q)) reads known fits =
+      subst (PlanOk ρ H) (released-plan d k q.piece (acts.debit_act ρ d q t (Devices.record_in d (counted H))))
+      (debit-ok (Devices.sent d q.piece k) d q t (ok-sent ρ carried d q.piece k) on device (fits q refl) day (key_of d (counted H)) refl)
   device-ok d k t bytes on device day (Ok (m.Request q)) reads known fits = refuse-ok d (no.Unread unread.Tag) tt
   device-ok d k t bytes on device day (Ok (m.Done q)) reads known fits = refuse-ok d (no.Unread unread.Tag) tt
   device-ok d k t bytes on device day (Ok (m.Release x)) reads known fits = refuse-ok d (no.Unread unread.Tag) tt

@@ -16,7 +16,7 @@ use Rattle.bench_base.specs.declared.events.Event.TheVariants as ev
 use Rattle.bench_base.specs.declared.events.Reply.TheVariants as r
 use Rattle.bench_base.specs.Rules.{Rules}
 use Rattle.bench_base.specs.Plans.{Plan, told}
-use Rattle.bench_base.specs.Ranges.{IsDevice, IsDay, IsWord, IsWholeEvent, TakesBytes, IsGiven}
+use Rattle.bench_base.specs.Ranges.{IsDevice, IsDay, IsWord, IsWholeEvent, TakesBytes, IsGiven, IsPostage, IsScan}
 use Rattle.bench_base.specs.Table.{IsBytes}
 use Rattle.bench_base.specs.Ledger.{Ledger, day_in, rates_in, messages, message, IsSent, is_on, count_of, counted}
 use Rattle.bench_base.specs.Jobs.{job_of}
@@ -143,10 +143,10 @@ module _ (τ : Tariff) (ρ : Rules) (carried : IsCarried ρ) (H : Ledger) (i : I
       let is = long-release bytes g.what g.reads long in
       genuine-at bytes (m.Release (drop 2 bytes)) H (counted H) g (g.reads ∙ ap (λ (z : Message). Ok z) is)
 
-  scan-bytes : (n : ℕ) (today : ℤ) (bytes : List ℕ) → IsWord n → IsKnownMark bytes (read_mark bytes) H → PlanOk ρ H (Moves.scan_plan n today bytes H)
+  scan-bytes : (n : ℕ) (today : ℤ) (bytes : List ℕ) → IsScan n → IsKnownMark bytes (read_mark bytes) H → PlanOk ρ H (Moves.scan_plan n today bytes H)
   scan-bytes n today bytes word known = at-ok Verifier _ (λ on. scan-ok ρ carried H i n bytes today on word (read_mark bytes) refl known)
 
-  scan-sent-ok : (n k : ℕ) (today : ℤ) → IsWord n → (x : Option (List ℕ)) → message k H ≡ x → PlanOk ρ H (Moves.scan_sent n today k x H)
+  scan-sent-ok : (n k : ℕ) (today : ℤ) → IsScan n → (x : Option (List ℕ)) → message k H ≡ x → PlanOk ρ H (Moves.scan_sent n today k x H)
   scan-sent-ok n k today word None h = ok-refuse ρ H (r.NoMessage k) refl tt
   scan-sent-ok n k today word (Some bytes) h = scan-bytes n today (drop 2 bytes) word (behind-known bytes (message-sent k bytes H h) (read_mark (drop 2 bytes)) refl)
 
@@ -168,9 +168,9 @@ module _ (τ : Tariff) (ρ : Rules) (carried : IsCarried ρ) (H : Ledger) (i : I
   rates-ok : (text : List ℕ) → PlanOk ρ H (Moves.rates_plan τ text)
   rates-ok text = chosen (PlanOk ρ H) (nat_lt 65536 (length text)) _ _ (λ _. ok-refuse ρ H r.RatesLength refl tt) (λ _. reading-ok text (τ.reading text))
 
-  price-within : (class grams zone : ℕ) (o : Option (List ℕ)) (a : ℕ) → Moves.price_by τ class grams zone o ≡ Some (Ok a) → a ≤ 100000
+  price-within : (class grams zone : ℕ) (o : Option (List ℕ)) (a : ℕ) → Moves.price_by τ class grams zone o ≡ Some (Ok a) → IsPostage a
   price-within class grams zone None a h = none-some h
-  price-within class grams zone (Some text) a h = (τ.bounds text class grams zone a (some-same h)).1
+  price-within class grams zone (Some text) a h = τ.bounds text class grams zone a (some-same h)
 
   reconcile-all : (d : ℕ) (w : Option (List ℕ)) → is_on Centre H ≡ true → PlanOk ρ H (Moves.reconcile_plan d w (counted H))
   reconcile-all d None on = ok-refuse ρ H (r.DevRefused d no.Blank) refl tt
@@ -201,8 +201,8 @@ module _ (τ : Tariff) (ρ : Rules) (carried : IsCarried ρ) (H : Ledger) (i : I
   day-ok (ev.Print j) text today day w u = at-ok Host _ (λ on. print-ok ρ carried H i j on w (host.shown_state j (counted H)) refl)
   day-ok (ev.Close j) text today day w u = at-ok Host _ (λ on. close-ok ρ carried H i j on w (host.shown_state j (counted H)) refl)
   day-ok (ev.Trust d key) text today day w u = at-ok Verifier _ (λ on. trust-ok ρ carried H i d key on w.0 w.1 (trusted d (counted H)) refl)
-  day-ok (ev.ScanMsg n k) text today day w u = scan-sent-ok n k today w.1 (message k H) refl
-  day-ok (ev.ScanHex n bytes) text today day w u = scan-bytes n today bytes w.1 u
+  day-ok (ev.ScanMsg n k) text today day w u = scan-sent-ok n k today (w.0, w.1) (message k H) refl
+  day-ok (ev.ScanHex n bytes) text today day w u = scan-bytes n today bytes (w.0, w.1) u
   day-ok (ev.Reconcile d) text today day w u = at-ok (Device d) _ (λ _. at-ok Centre _ (λ on. reconcile-all d (key_of d (counted H)) on))
 
   dated-ok : (x : Event) (text : List ℕ) (day : Option ℤ) → day_in H ≡ day → IsWholeEvent x → Unforged x H → PlanOk ρ H (Moves.on_day (Moves.plan_on τ ρ H x text) day)
