@@ -25,7 +25,7 @@ use Rattle.node_seat.specs.Shown.{Allowed, IsAfter}
 use Rattle.node_seat.specs.Stands as node
 use Rattle.node_seat.specs.Stands.{times_of, meters_of, HasDamage, IsArmed}
 use Rattle.ledger_moves.specs.Tariffs.{Tariff}
-use Rattle.ledger_moves.specs.Moves as moves
+use Rattle.ledger_moves.specs.Moves as ledger
 use Rattle.ledger_moves.specs.Moves.{Moves, plan}
 use Rattle.ledger_moves.specs.Histories.{History}
 use Rattle.node_acts.specs.declared.asked.Asked.{Asked}
@@ -74,7 +74,7 @@ module _ {K S C R : Type 0} (n : Ghosts K S ℕ C R) (g : nv.Ghosts S) where
   pub record StepsOn {N : Type 0} (h : nv.Ghosts N) (kind : Kind ℕ n.Seen DeviceCall) (τ : Tariff) (H : Ledger) (e : Event) (turn : Turn) (old new : Bench K) : Type 0 where
     pub moves : Moves τ todays_rules H e [] turn.reply
     pub entries : turn.entries ≡ in_order (after (plan τ todays_rules H e []) turn.reply [])
-    pub stands : Stands n kind g new (moves.entries τ todays_rules H e [] turn.reply)
+    pub stands : Stands n kind g new (ledger.entries τ todays_rules H e [] turn.reply)
     pub any_moment : (m : Node) → At (λ d s t. (image : List ℕ) → (times_of n g t).since (times_of n g s).moment image
         → Allowed n (view_by n kind d H) image ⊎ ShowsCommit n kind τ H e d image) old new m
     pub stopped : (stores : List N) → AreLeft h old new stores → History τ editions (after_stop τ H e) × StoresStand n kind h stores (after_stop τ H e)

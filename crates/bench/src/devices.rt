@@ -6,8 +6,8 @@ ghost use Rattle.bench_base.specs.Ledger.{Ledger};
 ghost use Rattle.nv_model.specs.Meters.{Works};
 ghost use Rattle.bench_views.specs.Devices.{device_kind};
 
-use crate::places::{device_over, stop_at, storage_of};
-use bench_base::numbers::{DayNo, DevNo};
+use crate::places::{device_over, stop_all, storage_of};
+use bench_base::numbers::DayNo;
 use node_seat::Node;
 use nv_model::{Fused, Nv};
 use psd_device::DeviceNode;
@@ -57,15 +57,13 @@ impl<N: Nv + Drop> Bench<N> {
             Ok(devices) => devices,
             Err(_) => return Err(Stores { devices: spare }),
         };
-        for back in 0..8u32 {
-            match (DevNo::new(8 - back), spare.pop()) {
-                (Some(number), Some(nv)) => {
-                    match devices.push(device_over(number, Fused::new(nv))) {
-                        Ok(()) => {}
-                        Err(_) => unreachable!(),
-                    }
-                }
-                _ => unreachable!(),
+        for _ in 0..8usize {
+            match spare.pop() {
+                Some(nv) => match devices.push(device_over(nv)) {
+                    Ok(()) => {}
+                    Err(_) => unreachable!(),
+                },
+                None => unreachable!(),
             }
         }
         devices.reverse();
@@ -86,9 +84,7 @@ impl<N: Nv + Drop> Bench<N> {
         ensures begun { Begun ⟦<DeviceNode<Fused<N>> as Node>⟧ ⟦<Fused<N> as Nv>⟧ (bench_of self.old).devices (bench_of self.new).devices }
     {
         self.day = None;
-        for i in 0..8 {
-            stop_at(&mut self.devices, i);
-        }
+        stop_all(&mut self.devices);
     }
 
     /// The storages, without their fuses. A device that is on is switched off. They stand for what the bench stood for, with a
@@ -100,13 +96,15 @@ impl<N: Nv + Drop> Bench<N> {
             → StoresStand ⟦<DeviceNode<Fused<N>> as Node>⟧ device_kind N.Nv result.devices.items (Begin ∷ H) }
     {
         let BenchOver {
-            mut devices,
+            devices,
             day: _,
-            spare: mut stores,
+            spare,
         } = self;
+        let mut devices = devices;
+        let mut stores = spare;
         for _ in 0..8usize {
             match devices.pop() {
-                Some(device) => match stores.push(storage_of(device).into_inner()) {
+                Some(device) => match stores.push(storage_of(device)) {
                     Ok(()) => {}
                     Err(_) => unreachable!(),
                 },
