@@ -59,7 +59,7 @@ pub record FitsApplied (n : ℕ) (v : Verdict) (waiting : Option (ℕ × List �
   pub waits : waiting ≡ Some (n, note)
   pub ruled_as : ruling ≡ Some (v, note)
 
-pub record FitsDebited (ρ : Rules) (p a : ℕ) (t : ℤ) (v : ℕ) (key : Option (List ℕ)) (count left : ℕ) (waiting : Option (ℕ × List ℕ)) (phase : Phase) (last_day deadline : ℤ) : Type 0 where
+pub record FitsDebited (ρ : Rules) (p a : ℕ) (t : ℤ) (v : ℕ) (key : Option (List ℕ)) (count used left : ℕ) (waiting : Option (ℕ × List ℕ)) (phase : Phase) (last_day deadline : ℤ) : Type 0 where
   pub made : (k : List ℕ) × (key ≡ Some k)
   pub free : frozen waiting ≡ false
   pub next : p ≡ count + 1
@@ -70,9 +70,10 @@ pub record FitsDebited (ρ : Rules) (p a : ℕ) (t : ℤ) (v : ℕ) (key : Optio
   pub day : last_day ≤ℤ t
   pub due : t ≤ℤ (deadline +ℤ pos ρ.grace)
   pub small : deadline <ℤ t → a ≤ ρ.small
-  -- the one version that marks have today
-  pub version : v ≡ 1
+  pub from_1 : 1 ≤ v
   pub known : v ≤ ρ.version
+  -- a mark of that version holds the registers
+  pub bound : used + left ≤ buys_limit v
 
 pub record FitsRuled (n : ℕ) (v : Verdict) (r : List ℕ) (last : ℕ) (note : Option (List ℕ)) (registered : Option (ℕ × List ℕ)) (says : Verdict × ℕ) (reply : ReplyMsg) : Type 0 where
   pub next : n ≡ last + 1
@@ -118,7 +119,7 @@ abbrev pub Fits : Rules → Commit → List Commit → Type 0
 Fits ρ (Made d k) C = key_of d C ≡ None
 Fits ρ (Asked d n r) C = FitsAsked ρ d n r (key_of d C) (pending d C) (number d C) (loaded d C) (descending d C) (refunded d C) (ascending d C) (last_day d C) (phase d C) (customer d C)
 Fits ρ (Applied d n v) C = FitsApplied n v (pending d C) (ruling_of d n C)
-Fits ρ (Debited d p a k t v) C = FitsDebited ρ p a t v (key_of d C) (pieces d C) (descending d C) (pending d C) (phase d C) (last_day d C) (deadline d C)
+Fits ρ (Debited d p a k t v) C = FitsDebited ρ p a t v (key_of d C) (pieces d C) (ascending d C) (descending d C) (pending d C) (phase d C) (last_day d C) (deadline d C)
 Fits ρ (Registered d o k) C = registered d C ≡ None
 Fits ρ (Opened w) C = opened w C ≡ false
 Fits ρ (Deposited w n a) C = FitsDeposited n a (opened w C) (receipt w C) (deposits w C)

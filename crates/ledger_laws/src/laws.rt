@@ -1,14 +1,15 @@
 //! The laws of histories, each as a contract of a function that takes and answers nothing.
-ghost use Rattle.std.specs.Prelude.{◌≡◌, ℕ, List, Some};
+ghost use Rattle.std.specs.Prelude.{◌≡◌, ℕ, List, [], ◌∷◌, Some};
 ghost use Rattle.bench_base.specs.declared.words.Node.{Node};
 ghost use Rattle.bench_base.specs.declared.ledger.Commit.{Commit};
 ghost use Rattle.bench_base.specs.declared.events.Event.{Event};
-ghost use Rattle.bench_base.specs.Rules.{editions};
+ghost use Rattle.bench_base.specs.Rules.{first_rules, editions};
 ghost use Rattle.bench_base.specs.Ranges.{IsWholeEvent};
-ghost use Rattle.bench_base.specs.Ledger.{torn_of, counted};
+ghost use Rattle.bench_base.specs.Ledger.{Ledger, torn_of, counted};
 ghost use Rattle.ledger_lawful.specs.Editions.{Editions};
 ghost use Rattle.ledger_moves.specs.Moves.{plan};
-ghost use Rattle.ledger_moves.specs.Histories.{Unforged};
+ghost use Rattle.ledger_moves.specs.Histories.{Unforged, History};
+ghost use Rattle.ledger_moves.specs.Tariffs.{Tariff};
 ghost use Rattle.law_orders.specs.Nexts.{AreOrdered, IsNext, IsOpen};
 ghost use Rattle.ledger_laws.specs.Laws.{ForHistories, Holds};
 
@@ -29,6 +30,7 @@ ghost use Rattle.ledger_laws.specs.Laws.{ForHistories, Holds};
 /// - `either`: on a day, an `on` of a node with an open commit may show either count.
 pub fn histories()
     ensures today { Editions editions }
+    ensures earlier { (τ : Tariff) (H : Ledger) → History τ (first_rules ∷ []) H → History τ editions H }
     ensures holds { ForHistories Holds }
 {}
 
