@@ -1,4 +1,4 @@
--- What one commit does to the rows of the centre, and what the rows tell. The lists of commits have the newest first.
+-- What one commit does to the rows of the centre, and what they tell. The lists of commits have the newest first.
 use Rattle.std.specs.Prelude.{◌≡◌, ℕ, ◌+◌, ◌-◌, Bool, true, false, List, [], ◌∷◌, Option, Some, None, Ok, ◌==◌, is_some, sum_by}
 use Rattle.bench_base.specs.declared.words.Verdict.{Verdict}
 use Rattle.bench_base.specs.declared.words.Node.TheVariants.{Centre}
@@ -60,22 +60,27 @@ IsCustomerSlotOf (Some r) c C = (r.customer ≡ c) × IsSoundCustomer r × IsCus
 
 -- a device that is registered has the row of its Registered, whatever the others did before
 abbrev pub RegisteringStarts : Type 0
-RegisteringStarts = (d origin : ℕ) (key : List ℕ) (C : List Commit) → InOrder C → registered d C ≡ None → IsRowOf (registered_row d origin key) (Registered d origin key ∷ C)
+RegisteringStarts = (d origin : ℕ) (key : List ℕ) (C : List Commit) → InOrder C → registered d C ≡ None
+    → IsRowOf (registered_row d origin key) (Registered d origin key ∷ C)
 
 -- the row after a ruling is that of the commits and the Ruled
 abbrev pub RulingKeeps : Type 0
-RulingKeeps = (r : DeviceRow) (o : Option CustomerRow) (left : ℕ) (note : List ℕ) (C : List Commit) → IsSoundDevice r → IsRowOf r C → (request_in note).device ≡ r.device
-    → (request_in note).number ≡ r.ruled + 1 → PaysBy (request_in note) o left C → (v : Verdict) → v ≡ (verdict_by (account r o left) (request_in note)).0
+RulingKeeps = (r : DeviceRow) (o : Option CustomerRow) (left : ℕ) (note : List ℕ) (C : List Commit)
+    → IsSoundDevice r → IsRowOf r C → (request_in note).device ≡ r.device → (request_in note).number ≡ r.ruled + 1
+    → PaysBy (request_in note) o left C
+    → (v : Verdict) → v ≡ (verdict_by (account r o left) (request_in note)).0
     → IsRowOf (ruled_row r v left (request_in note) note) (Ruled r.device (request_in note).number v note ∷ C)
 
 -- where a Done settles a ruling, the new row is that of the commits and the Settled
 abbrev pub SettlingKeeps : Type 0
-SettlingKeeps = (r : DeviceRow) (C : List Commit) (number now : ℕ) → IsSoundDevice r → IsRowOf r C → settle_answer r.settled r.ruled number ≡ Ok (Some now)
+SettlingKeeps = (r : DeviceRow) (C : List Commit) (number now : ℕ) → IsSoundDevice r → IsRowOf r C
+    → settle_answer r.settled r.ruled number ≡ Ok (Some now)
     → IsRowOf (record r { settled = now }) (Settled r.device now ∷ C)
 
 -- a commit about another device, or of another node, leaves the row
 abbrev pub OtherDevicesKeep : Type 0
-OtherDevicesKeep = (r : DeviceRow) (C : List Commit) (c : Commit) → touches_device r.device c ≡ false → IsRowOf r C → IsRowOf r (c ∷ C)
+OtherDevicesKeep = (r : DeviceRow) (C : List Commit) (c : Commit) → touches_device r.device c ≡ false
+    → IsRowOf r C → IsRowOf r (c ∷ C)
 
 pub record DeviceRows : Type 0 where
   pub registered : RegisteringStarts
@@ -90,14 +95,18 @@ OpeningStarts = (c : ℕ) (C : List Commit) → InOrder C → opened c C ≡ fal
 
 -- where a deposit is new, the new row is that of the commits and the Deposited
 abbrev pub DepositingKeeps : Type 0
-DepositingKeeps = (r : CustomerRow) (C : List Commit) (receipt amount after : ℕ) → IsCustomerOf r C → deposit_answer (r.receipt, r.amount) r.deposits receipt amount ≡ Ok (Some after)
-    → IsCustomerOf (record r { deposits = after; receipt = receipt; amount = amount }) (Deposited r.customer receipt amount ∷ C)
+DepositingKeeps = (r : CustomerRow) (C : List Commit) (receipt amount after : ℕ) → IsCustomerOf r C
+    → deposit_answer (r.receipt, r.amount) r.deposits receipt amount ≡ Ok (Some after)
+    → IsCustomerOf (record r { deposits = after; receipt = receipt; amount = amount })
+    (Deposited r.customer receipt amount ∷ C)
 
 abbrev pub FlaggingKeeps : Type 0
-FlaggingKeeps = (r : CustomerRow) (C : List Commit) (flag : Bool) → IsCustomerOf r C → IsCustomerOf (record r { suspended = flag }) (Flagged r.customer flag ∷ C)
+FlaggingKeeps = (r : CustomerRow) (C : List Commit) (flag : Bool) → IsCustomerOf r C
+    → IsCustomerOf (record r { suspended = flag }) (Flagged r.customer flag ∷ C)
 
 abbrev pub OtherCustomersKeep : Type 0
-OtherCustomersKeep = (r : CustomerRow) (C : List Commit) (c : Commit) → touches_customer r.customer c ≡ false → IsCustomerOf r C → IsCustomerOf r (c ∷ C)
+OtherCustomersKeep = (r : CustomerRow) (C : List Commit) (c : Commit) → touches_customer r.customer c ≡ false
+    → IsCustomerOf r C → IsCustomerOf r (c ∷ C)
 
 pub record CustomerRows : Type 0 where
   pub opened : OpeningStarts
@@ -113,21 +122,29 @@ pub record SlotLaws : Type 0 where
   pub no_customer : (c : ℕ) → IsCustomerSlotOf None c []
   -- there is a row of a device exactly where it is registered, and of a customer exactly where it is open
   pub device_there : (o : Option DeviceRow) (d : ℕ) (C : List Commit) → IsSlotOf o d C → is_some o ≡ is_some (registered d C)
-  pub customer_there : (o : Option CustomerRow) (c : ℕ) (C : List Commit) → IsCustomerSlotOf o c C → is_some o ≡ opened c C
+  pub customer_there : (o : Option CustomerRow) (c : ℕ) (C : List Commit) → IsCustomerSlotOf o c C
+      → is_some o ≡ opened c C
   -- and so it stays, after a commit about another or of another node
-  pub other_devices : (o : Option DeviceRow) (d : ℕ) (C : List Commit) (c : Commit) → touches_device d c ≡ false → IsSlotOf o d C → IsSlotOf o d (c ∷ C)
-  pub other_customers : (o : Option CustomerRow) (w : ℕ) (C : List Commit) (c : Commit) → touches_customer w c ≡ false → IsCustomerSlotOf o w C → IsCustomerSlotOf o w (c ∷ C)
+  pub other_devices : (o : Option DeviceRow) (d : ℕ) (C : List Commit) (c : Commit) → touches_device d c ≡ false
+      → IsSlotOf o d C → IsSlotOf o d (c ∷ C)
+  pub other_customers : (o : Option CustomerRow) (w : ℕ) (C : List Commit) (c : Commit) → touches_customer w c ≡ false
+      → IsCustomerSlotOf o w C → IsCustomerSlotOf o w (c ∷ C)
 
 -- == the commit of each call comes in order, from what the call's refusals leave ==
 
 pub record OrderLaws : Type 0 where
-  pub registered : (d origin : ℕ) (key : List ℕ) (C : List Commit) → InOrder C → IsSlotOf None d C → InOrder (Registered d origin key ∷ C)
+  pub registered : (d origin : ℕ) (key : List ℕ) (C : List Commit) → InOrder C → IsSlotOf None d C
+      → InOrder (Registered d origin key ∷ C)
   pub opened : (c : ℕ) (C : List Commit) → InOrder C → IsCustomerSlotOf None c C → InOrder (Opened c ∷ C)
   pub deposited : (r : CustomerRow) (C : List Commit) (receipt amount after : ℕ) → InOrder C → IsCustomerOf r C
-      → deposit_answer (r.receipt, r.amount) r.deposits receipt amount ≡ Ok (Some after) → InOrder (Deposited r.customer receipt amount ∷ C)
-  pub flagged : (r : CustomerRow) (C : List Commit) (flag : Bool) → InOrder C → IsCustomerOf r C → InOrder (Flagged r.customer flag ∷ C)
-  pub ruled : (r : DeviceRow) (o : Option CustomerRow) (left : ℕ) (note : List ℕ) (C : List Commit) (v : Verdict) → InOrder C → IsRowOf r C → IsNext r note
-      → PaysBy (request_in note) o left C → v ≡ (verdict_by (account r o left) (request_in note)).0 → InOrder (Ruled r.device (request_in note).number v note ∷ C)
+      → deposit_answer (r.receipt, r.amount) r.deposits receipt amount ≡ Ok (Some after)
+      → InOrder (Deposited r.customer receipt amount ∷ C)
+  pub flagged : (r : CustomerRow) (C : List Commit) (flag : Bool) → InOrder C → IsCustomerOf r C
+      → InOrder (Flagged r.customer flag ∷ C)
+  pub ruled : (r : DeviceRow) (o : Option CustomerRow) (left : ℕ) (note : List ℕ) (C : List Commit) (v : Verdict)
+      → InOrder C → IsRowOf r C → IsNext r note → PaysBy (request_in note) o left C
+      → v ≡ (verdict_by (account r o left) (request_in note)).0
+      → InOrder (Ruled r.device (request_in note).number v note ∷ C)
   pub settled : (r : DeviceRow) (C : List Commit) (number now : ℕ) → InOrder C → IsRowOf r C
       → settle_answer r.settled r.ruled number ≡ Ok (Some now) → InOrder (Settled r.device now ∷ C)
   -- the other nodes' commits leave the order
@@ -137,11 +154,14 @@ pub record OrderLaws : Type 0 where
 
 pub record SoundLaws : Type 0 where
   pub registered : (d origin : ℕ) (key : List ℕ) → IsSoundDevice (registered_row d origin key)
-  pub ruled : (r : DeviceRow) (balance : ℕ) (note : List ℕ) (v : Verdict) → IsSoundDevice r → IsWord r.origin → IsBytes note → IsNext r note
-      → IsVerdict r balance (request_in note) v → IsSoundDevice (ruled_row r v balance (request_in note) note)
-  pub settled : (r : DeviceRow) (number now : ℕ) → IsSoundDevice r → settle_answer r.settled r.ruled number ≡ Ok (Some now) → IsSoundDevice (record r { settled = now })
+  pub ruled : (r : DeviceRow) (balance : ℕ) (note : List ℕ) (v : Verdict) → IsSoundDevice r → IsWord r.origin → IsBytes note
+      → IsNext r note → IsVerdict r balance (request_in note) v
+      → IsSoundDevice (ruled_row r v balance (request_in note) note)
+  pub settled : (r : DeviceRow) (number now : ℕ) → IsSoundDevice r → settle_answer r.settled r.ruled number ≡ Ok (Some now)
+      → IsSoundDevice (record r { settled = now })
   pub opened : (c : ℕ) → IsSoundCustomer (opened_row c)
-  pub deposited : (r : CustomerRow) (receipt amount after : ℕ) → IsSoundCustomer r → deposit_answer (r.receipt, r.amount) r.deposits receipt amount ≡ Ok (Some after)
+  pub deposited : (r : CustomerRow) (receipt amount after : ℕ) → IsSoundCustomer r
+      → deposit_answer (r.receipt, r.amount) r.deposits receipt amount ≡ Ok (Some after)
       → IsSoundCustomer (record r { deposits = after; receipt = receipt; amount = amount })
   pub flagged : (r : CustomerRow) (flag : Bool) → IsSoundCustomer r → IsSoundCustomer (record r { suspended = flag })
 
@@ -149,12 +169,13 @@ pub record SoundLaws : Type 0 where
 
 -- the verdict by the rows is the one that follows from the commits
 abbrev pub RulingByRows : Type 0
-RulingByRows = (r : DeviceRow) (o : Option CustomerRow) (left : ℕ) (q : Request) (C : List Commit) → IsRowOf r C → q.device ≡ r.device → PaysBy q o left C
-    → verdict_by (account r o left) q ≡ verdict C q
+RulingByRows = (r : DeviceRow) (o : Option CustomerRow) (left : ℕ) (q : Request) (C : List Commit) → IsRowOf r C
+    → q.device ≡ r.device → PaysBy q o left C → verdict_by (account r o left) q ≡ verdict C q
 
 -- the sums over the rows of all devices are those of the commits
 abbrev pub BalancingByRows : Type 0
-BalancingByRows = (os : List (Option DeviceRow)) (c : ℕ) (C : List Commit) → InOrder C → IsCustomer c → AreSlots os device_numbers C
+BalancingByRows = (os : List (Option DeviceRow)) (c : ℕ) (C : List Commit) → InOrder C → IsCustomer c
+    → AreSlots os device_numbers C
     → (sum_by (buys_in c) os ≡ customer_bought c C) × (sum_by (returns_in c) os ≡ customer_returned c C)
 
 -- the row of a device tells of the commits what is acknowledged, what is in flight, and what is answered again
@@ -163,10 +184,12 @@ pub record Stands (r : DeviceRow) (C : List Commit) : Type 0 where
   pub in_flight : in_flight r.device C ≡ flight_in r
   pub resets : acknowledged_resets r.device C ≡ resets_in r
   pub refunds : acknowledged_refunds r.device C ≡ refunds_in r
-  pub reconciled : (total : ℕ) → reconcile_plan r.device total (registered r.device C) C ≡ told (answer.Reconciled r.device total (resets_in r - refunds_in r) (flight_shown (flight_in r))) []
+  pub reconciled : (total : ℕ) → reconcile_plan r.device total (registered r.device C) C
+      ≡ told (answer.Reconciled r.device total (resets_in r - refunds_in r) (flight_shown (flight_in r))) []
   -- the verdict of a repeat is that of the Reply that is kept and sent again
   pub repeated : (k : ℕ) (p : ReplyMsg) → read r.reply ≡ Ok (m.Reply p)
-      → repeat_plan r.device r.ruled k (last_ruling r.device C) (stored_reply r.device C) ≡ told (answer.Ruled r.device r.ruled p.verdict true k) (e.Sent r.reply ∷ [])
+      → repeat_plan r.device r.ruled k (last_ruling r.device C) (stored_reply r.device C)
+      ≡ told (answer.Ruled r.device r.ruled p.verdict true k) (e.Sent r.reply ∷ [])
 
 abbrev pub StandingByRows : Type 0
 StandingByRows = (r : DeviceRow) (C : List Commit) → InOrder C → IsSoundDevice r → IsRowOf r C → Stands r C

@@ -1,4 +1,4 @@
--- What the row of a device tells of its last ruling, of the ruling in flight, and of what is acknowledged. Amounts are in mills.
+-- What a device's row tells of its last ruling, of the one in flight, and of what is acknowledged. Amounts are in mills.
 use Rattle.std.specs.Prelude.{ℕ, ◌-◌, List, Option, Some, None, Result, Ok, nat_lt, if◌then◌else◌}
 use Rattle.bench_base.specs.declared.words.Verdict.{Verdict}
 use Rattle.bench_base.specs.declared.refusals.Unread.{Unread}
