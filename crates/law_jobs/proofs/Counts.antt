@@ -1,10 +1,10 @@
 -- The counts of a node's cells add up to its commits.
-use Rattle.std.proofs.Common.{◌≡◌, ℕ, ◌+◌, ◌-◌, ◌<◌, ◌≤◌, Bool, true, false, List, [], ◌∷◌, ◌++◌, zero, suc, cond, refl, sym, ap, subst, ◌∙◌, true≢false, ⊎_elim, arith}
-use Rattle.std.specs.Prelude.{◌==◌, All, Contains, count_by, map}
+use Rattle.std.proofs.Common.{◌≡◌, ℕ, ◌+◌, ◌-◌, ◌<◌, ◌≤◌, Bool, true, false, List, [], ◌∷◌, ◌++◌, length, Option, Some, None, zero, suc, cond, refl, sym, ap, subst, ◌∙◌, true≢false, ⊎_elim, arith}
+use Rattle.std.specs.Prelude.{◌==◌, ◌&&◌, All, Contains, count_by, map}
 use Rattle.std.specs.List.{range_with_len}
-use Rattle.std.proofs.lemmas.Bool.{cases_Bool, eqb-true, eqb-false, eq-eqb, ne_eqb}
+use Rattle.std.proofs.lemmas.Bool.{cases_Bool, eqb-true, eqb-false, eq-eqb, ne_eqb, and_parts}
 use Rattle.std.proofs.lemmas.List.Sums.{sum_by-cons, sum_by-append}
-use Rattle.std.proofs.lemmas.List.Elements.{All-head, All-tail, All-cons, All-append, All-map, All-weaker, All-contains, Contains-append_left, Contains-append_right}
+use Rattle.std.proofs.lemmas.List.Elements.{All-head, All-tail, All-cons, All-append, All-map, All-weaker, All-contains, Contains-append_left, Contains-append_right, Contains-append_cases}
 use Rattle.std.proofs.lemmas.List.FromFn.{length-range_with_len, get_or-range_with_len, length-map-range_with_len, get_or-map-range_with_len}
 use Rattle.std.proofs.Math.Nat.{mod-lt}
 use Rattle.bench_base.specs.declared.words.Node.{Node}
@@ -14,10 +14,11 @@ use Rattle.bench_base.specs.declared.ledger.Commit.TheVariants.{Made, Asked, App
 use Rattle.bench_base.specs.Nodes.{node_of, same_node}
 use Rattle.bench_base.specs.Cells.{Place, OfDevice, OfRow, OfCustomer, OfJob, OfTrust, OfBlock, same_place, place_of, commits_at}
 use Rattle.bench_base.specs.Jobs.{cell_of}
+use Rattle.bench_base.specs.Scans.{block_of, block_place, with_block, blocks}
 use Rattle.bench_base.specs.Ranges.{InRange}
 use Rattle.bench_base.specs.Rules.{Rules}
 use Rattle.law_good.proofs.Good.{Good}
-use Rattle.law_jobs.specs.Places.{node_at, commits_in, Hold, PlacesAddUp, device_places, centre_places, host_places, CellsAddUp}
+use Rattle.law_jobs.specs.Places.{node_at, commits_in, Hold, PlacesAddUp, device_places, centre_places, host_places, block_cell, verifier_places, CellsAddUp}
 
 -- == places and nodes ==
 
@@ -255,11 +256,145 @@ centre-holds C ranges = record {
   each = All-weaker InRange (λ c. node_of c ≡ Centre → Contains centre_places (place_of c)) centre-each C ranges;
 }
 
+-- == the verifier's blocks ==
+
+-- how often a block stands in a list
+times : ℕ → ℕ → List (ℕ × ℕ) → ℕ
+times d b xs = count_by (same_place (OfBlock d b)) (map block_cell xs)
+
+times-none : (d b : ℕ) → times d b [] ≡ 0
+unfolding times
+times-none d b = refl
+
+times-cons : (d b : ℕ) (x : ℕ × ℕ) (xs : List (ℕ × ℕ)) → times d b (x ∷ xs) ≡ cond ((d == x.0) && (b == x.1)) 1 0 + times d b xs
+unfolding times
+times-cons d b x xs = sum_by-cons (λ (place : Place). cond (same_place (OfBlock d b) place) 1 0) (block_cell x) (map block_cell xs)
+
+-- the tests of one block in either order
+turned : (d b e k : ℕ) → ((e == d) && (k == b)) ≡ false → ((d == e) && (b == k)) ≡ false
+turned d b e k h = ⊎_elim
+    (λ (t : ((d == e) && (b == k)) ≡ true).
+    let parts = and_parts (d == e) (b == k) t in
+    let one = eq-eqb e d (sym (eqb-true d e parts.0)) in
+    let two = eq-eqb k b (sym (eqb-true b k parts.1)) in
+    absurd (true≢false (sym (ap (λ x. x && (k == b)) one ∙ two) ∙ h)))
+    (λ (t : ((d == e) && (b == k)) ≡ false). t)
+    (cases_Bool ((d == e) && (b == k)))
+
+unplaced : (d b : ℕ) (xs : List (ℕ × ℕ)) → block_place d b xs ≡ None → times d b xs ≡ 0
+unplaced d b [] h = times-none d b
+unplaced d b (x ∷ xs) h = ⊎_elim
+    (λ (t : ((x.0 == d) && (x.1 == b)) ≡ true). let no : Some (length xs) ≡ None = rw t at h in absurd (cc))
+    (λ (t : ((x.0 == d) && (x.1 == b)) ≡ false).
+    let rest = unplaced d b xs (rw t at h) in
+    let here = ap {B = ℕ} (λ p. cond p 1 0) (turned d b x.0 x.1 t) in
+    omega (arith, times-cons d b x xs, rest, here))
+    (cases_Bool ((x.0 == d) && (x.1 == b)))
+
+placed : (d b k : ℕ) (xs : List (ℕ × ℕ)) → block_place d b xs ≡ Some k → Contains (map block_cell xs) (OfBlock d b)
+placed d b k [] h = let no : None ≡ Some k = h in absurd (cc)
+placed d b k (x ∷ xs) h = ⊎_elim
+    (λ (t : ((x.0 == d) && (x.1 == b)) ≡ true).
+    let parts = and_parts (x.0 == d) (x.1 == b) t in
+    let d_is = eqb-true x.0 d parts.0 in
+    let b_is = eqb-true x.1 b parts.1 in
+    Contains-append_left (block_cell x ∷ []) (map block_cell xs) (OfBlock d b) (0, omega arith, λ i. OfBlock (d_is i) (b_is i)))
+    (λ (t : ((x.0 == d) && (x.1 == b)) ≡ false). Contains-append_right (block_cell x ∷ []) (map block_cell xs) (OfBlock d b) (placed d b k xs (rw t at h)))
+    (cases_Bool ((x.0 == d) && (x.1 == b)))
+
+abbrev Once : List (ℕ × ℕ) → Type 0
+Once xs = All (λ x. times x.0 x.1 xs ≡ 1) xs
+
+-- a block that is there once is none that isn't there
+other-block : (d b : ℕ) (x : ℕ × ℕ) (xs : List (ℕ × ℕ)) → times d b xs ≡ 0 → times x.0 x.1 xs ≡ 1 → times x.0 x.1 ((d, b) ∷ xs) ≡ 1
+other-block d b x xs none one = ⊎_elim
+    (λ (t : ((x.0 == d) && (x.1 == b)) ≡ true).
+    let parts = and_parts (x.0 == d) (x.1 == b) t in
+    let d_is = eqb-true x.0 d parts.0 in
+    let b_is = eqb-true x.1 b parts.1 in
+    let same : times x.0 x.1 xs ≡ times d b xs = λ i. times (d_is i) (b_is i) xs in
+    absurd (omega (arith, same, none, one)))
+    (λ (t : ((x.0 == d) && (x.1 == b)) ≡ false). let here = ap {B = ℕ} (λ p. cond p 1 0) t in omega (arith, times-cons x.0 x.1 (d, b) xs, here, one))
+    (cases_Bool ((x.0 == d) && (x.1 == b)))
+
+grown-once : (d b : ℕ) (xs : List (ℕ × ℕ)) (o : Option ℕ) → block_place d b xs ≡ o → Once xs → Once (with_block d b xs o)
+grown-once d b xs (Some k) h once = once
+grown-once d b xs None h once =
+    let none = unplaced d b xs h in
+    let here = ap {B = ℕ} (λ p. cond (p && (b == b)) 1 0) (eq-eqb d d refl) ∙ ap {B = ℕ} (λ p. cond p 1 0) (eq-eqb b b refl) in
+    All-cons (λ x. times x.0 x.1 ((d, b) ∷ xs) ≡ 1) (d, b) xs
+    (omega (arith, times-cons d b (d, b) xs, none, here))
+    (All-weaker (λ x. times x.0 x.1 xs ≡ 1) (λ x. times x.0 x.1 ((d, b) ∷ xs) ≡ 1) (λ x one. other-block d b x xs none one) xs once)
+
+blocks-once : (C : List Commit) → Once (blocks C)
+blocks-once [] = λ k x lt. absurd (omega arith)
+blocks-once (Accepted d p scan ∷ C) = grown-once d (block_of p) (blocks C) (block_place d (block_of p) (blocks C)) refl (blocks-once C)
+blocks-once (_ ∷ C) = blocks-once C
+
+grown-keeps : (d b : ℕ) (xs : List (ℕ × ℕ)) (o : Option ℕ) (x : Place) → Contains (map block_cell xs) x → Contains (map block_cell (with_block d b xs o)) x
+grown-keeps d b xs (Some k) x h = h
+grown-keeps d b xs None x h = Contains-append_right (OfBlock d b ∷ []) (map block_cell xs) x h
+
+grown-has : (d b : ℕ) (xs : List (ℕ × ℕ)) (o : Option ℕ) → block_place d b xs ≡ o → Contains (map block_cell (with_block d b xs o)) (OfBlock d b)
+grown-has d b xs (Some k) h = placed d b k xs h
+grown-has d b xs None h = Contains-append_left (OfBlock d b ∷ []) (map block_cell xs) (OfBlock d b) (0, omega arith, refl)
+
+-- a further commit leaves the blocks that are there
+blocks-keep : (c : Commit) (C : List Commit) (x : Place) → Contains (map block_cell (blocks C)) x → Contains (map block_cell (blocks (c ∷ C))) x
+blocks-keep (Accepted d p scan) C x h = grown-keeps d (block_of p) (blocks C) (block_place d (block_of p) (blocks C)) x h
+blocks-keep _ C x h = h
+
+trust-run : IsRun Verifier OfTrust
+trust-run = record { own = λ i. refl; apart = λ i j. refl }
+
+-- where the commit is the verifier's, it lies in a cell of a device or of a block
+abbrev Lies : List Place → Commit → Type 0
+Lies cells c = node_of c ≡ Verifier → Contains (map OfTrust (range_with_len 1 8) ++ cells) (place_of c)
+
+lies-more : (c : Commit) (C : List Commit) (x : Commit) → Lies (map block_cell (blocks C)) x → Lies (map block_cell (blocks (c ∷ C))) x
+lies-more c C x h is = ⊎_elim
+    (λ (t : Contains (map OfTrust (range_with_len 1 8)) (place_of x)). Contains-append_left (map OfTrust (range_with_len 1 8)) (map block_cell (blocks (c ∷ C))) (place_of x) t)
+    (λ (t : Contains (map block_cell (blocks C)) (place_of x)). Contains-append_right (map OfTrust (range_with_len 1 8)) (map block_cell (blocks (c ∷ C))) (place_of x) (blocks-keep c C (place_of x) t))
+    (Contains-append_cases (map OfTrust (range_with_len 1 8)) (map block_cell (blocks C)) (place_of x) (h is))
+
+lies-first : (c : Commit) (C : List Commit) → InRange c → Lies (map block_cell (blocks (c ∷ C))) c
+lies-first (Trusted d key) C r is = Contains-append_left (map OfTrust (range_with_len 1 8)) (map block_cell (blocks C)) (OfTrust d) (run-has Verifier OfTrust trust-run d 1 8 r.0.0 (let high = r.0.1 in omega arith))
+lies-first (Accepted d p scan) C r is = Contains-append_right (map OfTrust (range_with_len 1 8)) _ (OfBlock d (block_of p)) (grown-has d (block_of p) (blocks C) (block_place d (block_of p) (blocks C)) refl)
+lies-first _ C r is = absurd (cc)
+
+lie-there : (C : List Commit) → All InRange C → All (Lies (map block_cell (blocks C))) C
+lie-there [] ranges = λ k x lt. absurd (omega arith)
+lie-there (c ∷ C) ranges = All-cons (Lies (map block_cell (blocks (c ∷ C)))) c C (lies-first c C (All-head InRange c C ranges))
+    (All-weaker (Lies (map block_cell (blocks C))) (Lies (map block_cell (blocks (c ∷ C)))) (lies-more c C) C (lie-there C (All-tail InRange c C ranges)))
+
+apart-blocks : (d : ℕ) (xs : List (ℕ × ℕ)) → count_by (same_place (OfTrust d)) (map block_cell xs) ≡ 0
+apart-blocks d [] = refl
+apart-blocks d (x ∷ xs) = let here = sum_by-cons (λ (place : Place). cond (same_place (OfTrust d) place) 1 0) (block_cell x) (map block_cell xs) in omega (arith, here, apart-blocks d xs)
+
+verifier-once : (C : List Commit) → All (λ place. count_by (same_place place) (verifier_places C) ≡ 1) (verifier_places C)
+unfolding verifier_places times
+verifier-once C = All-append (λ place. count_by (same_place place) (verifier_places C) ≡ 1) (map OfTrust (range_with_len 1 8)) (map block_cell (blocks C))
+    (run-all Verifier OfTrust trust-run (λ place. count_by (same_place place) (verifier_places C) ≡ 1) 1 8
+    (λ i le lt. count-split (OfTrust i) (map OfTrust (range_with_len 1 8)) (map block_cell (blocks C)) 1 0 (count-once Verifier OfTrust trust-run i 1 8 le lt) (apart-blocks i (blocks C))))
+    (All-map (λ place. count_by (same_place place) (verifier_places C) ≡ 1) block_cell (blocks C)
+    (All-weaker (λ x. times x.0 x.1 (blocks C) ≡ 1) (λ x. count_by (same_place (block_cell x)) (verifier_places C) ≡ 1)
+    (λ x one. count-split (block_cell x) (map OfTrust (range_with_len 1 8)) (map block_cell (blocks C)) 0 1 (apart-run (block_cell x) OfTrust 1 8 (λ j. refl)) one) (blocks C) (blocks-once C)))
+
+verifier-holds : (C : List Commit) → All InRange C → Hold Verifier (verifier_places C) C
+unfolding verifier_places
+verifier-holds C ranges = record {
+  own = All-append (λ place. node_at place ≡ Verifier) (map OfTrust (range_with_len 1 8)) (map block_cell (blocks C)) (run-own Verifier OfTrust trust-run 1 8)
+      (All-map (λ place. node_at place ≡ Verifier) block_cell (blocks C) (λ k x lt. refl));
+  once = verifier-once C;
+  each = lie-there C ranges;
+}
+
 pub cells-add_up : (C : List Commit) → All InRange C → CellsAddUp C
 cells-add_up C ranges = record {
   devices = λ d. places-add_up (Device d) (device_places d) C (device-holds d C);
   centre = places-add_up Centre centre_places C (centre-holds C ranges);
   host = places-add_up Host host_places C (host-holds C);
+  verifier = places-add_up Verifier (verifier_places C) C (verifier-holds C ranges);
 }
 
 -- each commit of a good list fits its fields

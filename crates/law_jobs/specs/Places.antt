@@ -7,6 +7,7 @@ use Rattle.bench_base.specs.declared.ledger.Commit.{Commit}
 use Rattle.bench_base.specs.Nodes.{node_of}
 use Rattle.bench_base.specs.Cells.{Place, OfDevice, OfRow, OfCustomer, OfJob, OfTrust, OfBlock, same_place, place_of, commits_at}
 use Rattle.bench_base.specs.Ledger.{count_of}
+use Rattle.bench_base.specs.Scans.{blocks}
 
 -- in whose storage a place lies
 abbrev pub node_at : Place → Node
@@ -43,8 +44,16 @@ centre_places = map OfRow (range_with_len 1 8) ++ map OfCustomer (range_with_len
 unfoldable pub host_places : List Place
 host_places = map OfJob (range_with_len 0 1024)
 
+abbrev pub block_cell : ℕ × ℕ → Place
+block_cell block = OfBlock block.0 block.1
+
+-- the verifier's cells of devices 1 to 8, and those of the blocks in use
+unfoldable pub verifier_places : List Commit → List Place
+verifier_places C = map OfTrust (range_with_len 1 8) ++ map block_cell (blocks C)
+
 -- the counts of a node's cells add up to its commits
 pub record CellsAddUp (C : List Commit) : Type 0 where
   pub devices : (d : ℕ) → commits_in (device_places d) C ≡ count_of (Device d) C
   pub centre : commits_in centre_places C ≡ count_of Centre C
   pub host : commits_in host_places C ≡ count_of Host C
+  pub verifier : commits_in (verifier_places C) C ≡ count_of Verifier C
