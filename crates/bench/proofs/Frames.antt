@@ -1,5 +1,5 @@
 -- An event of one device leaves the others as they were, and the bench stands for the ledger that it makes.
-use Rattle.std.proofs.Common.{◌≡◌, ◌≢◌, ◌⊎◌, inl, inr, ⊎_elim, ℕ, ℤ, ◌+◌, ◌<◌, ◌≤◌, List, [], ◌∷◌, length, Option, Some, None, Bool, true, false, ◌↔◌, refl, sym, ◌∙◌, ap, subst, arith}
+use Rattle.std.proofs.Common.{◌≡◌, ◌≢◌, ◌⊎◌, inl, inr, ⊎_elim, ℕ, ℤ, ◌+◌, ◌<◌, ◌≤◌, List, [], ◌∷◌, length, Option, Some, None, Bool, true, false, ◌↔◌, refl, sym, ◌∙◌, ap, subst, true≢false, ◌==◌, if◌then◌else◌, arith}
 use Rattle.std.specs.Prelude.{slice_get, slice_set, option_map, IfSome, IsSome}
 use Rattle.std.proofs.lemmas.Option.{slice_get_within}
 use Rattle.std.proofs.lemmas.List.{length-set}
@@ -13,7 +13,7 @@ use Rattle.bench_base.specs.declared.events.Event.{Event}
 use Rattle.bench_base.specs.declared.events.Event.TheVariants as ev
 use Rattle.bench_base.specs.declared.events.Reply.TheVariants as r
 use Rattle.bench_base.specs.Events.{node_for, may_commit}
-use Rattle.bench_base.specs.Replies.{is_refusal}
+use Rattle.bench_base.specs.Replies.{Told, Did, Refused, Armed, CameOn, WentOff, LostPower, Faulted, WasDamaged, PrinterFailed, RatesFailed, told_by, is_refusal}
 use Rattle.bench_base.specs.Plans.{Plan}
 use Rattle.bench_base.specs.Nodes.{node_of}
 use Rattle.bench_base.specs.Rules.{todays_rules, editions}
@@ -24,8 +24,8 @@ use Rattle.nv_model.specs.declared.fuse.Fuse as fuse
 use Rattle.nv_store.specs.Mounts.{Mounts}
 use Rattle.node_acts.specs.declared.asked.Asked.{Asked}
 use Rattle.node_acts.specs.Kinds.{Kind}
-use Rattle.node_acts.specs.Plans.{after, MayReply, view_after, with_torn}
-use Rattle.node_acts.specs.Views.{View, torn, stopped}
+use Rattle.node_acts.specs.Plans.{after, MayReply, view_after, view_told, with_torn}
+use Rattle.node_acts.specs.Views.{Counting, View, torn, stopped, started, up_with}
 use Rattle.node_seat.specs.declared.node.Node.{Ghosts}
 use Rattle.node_seat.specs.Shown.{Allowed, ShowsNext, IsAfter, IsNext, Sound}
 use Rattle.node_seat.specs.Stands as node
@@ -45,7 +45,7 @@ use Rattle.bench_views.specs.Follows.{ForDeviceEvents, Follows, Replied, plan_by
 use Rattle.bench_views.proofs.Events.{some-same, none-some}
 use Rattle.bench.specs.Benches.{Bench, At, IsReady, HasDay, Stands, StoresStand, view_by}
 use Rattle.bench.specs.DeviceTurns.{DeviceTurn, event_of}
-use Rattle.bench.specs.Steps.{Steps, StepsOn, StepsByViews, StepsAlone, ShowsCommit, AreLeft, with_open, after_stop}
+use Rattle.bench.specs.Steps.{Steps, StepsOn, StepsByViews, StepsAlone, ShowsCommit, AreLeft, with_open, after_stop, is_failure, tells_failure}
 use Rattle.bench.proofs.Events.{IsOfDevice, of_device, node_is, same_device, untold}
 use Rattle.bench.proofs.Making.{get_some}
 use Rattle.bench.proofs.Sets.{get_set_same, get_set_other, set_there, same_some}
@@ -55,6 +55,34 @@ use Rattle.bench.proofs.Quiet.{rests_charged}
 
 own_torn : (d : ℕ) (c : Commit) (H : Ledger) → torn_of (Device d) (entry.Torn (Device d) c ∷ H) ≡ Some c
 own_torn d c H = grind (arith, nat_tests)
+
+none_mapped : {X Y : Type 0} (f : X → Y) (o : Option X) → option_map f o ≡ None → o ≡ None
+none_mapped f None is = refl
+none_mapped f (Some x) is = cc
+
+-- what comes on has no open commit
+next_up : {S X : Type 0} (n : Counting S X) (o : Option S) (k : ℕ) (v : View S) → (up_with n o k v).next ≡ None
+next_up n None k v = refl
+next_up {S} n (Some s) k v = by (k == n.count v.state + 1)
+  where
+    by : (counts : Bool) → (if counts then started s else started v.state).next ≡ None
+    by true = refl
+    by false = refl
+
+-- a reply that tells of no failure leaves no commit open
+next_told : {S X : Type 0} (n : Counting S X) (t : Told) (made : Option (Commit × S)) (v : View S) → is_failure t ≡ false → v.next ≡ None → (view_told n t made v).next ≡ None
+next_told n Did None v fine none = none
+next_told n Did (Some x) v fine none = none
+next_told n Refused made v fine none = none
+next_told n (Armed m) made v fine none = none
+next_told n (CameOn m k) made v fine none = next_up n v.next k v
+next_told n (WentOff m) made v fine none = none
+next_told n (LostPower m) made v fine none = absurd (true≢false fine)
+next_told n (Faulted m) made v fine none = absurd (true≢false fine)
+next_told n (WasDamaged m) made v fine none = none
+next_told n (PrinterFailed j) None v fine none = none
+next_told n (PrinterFailed j) (Some x) v fine none = none
+next_told n RatesFailed made v fine none = none
 
 same_taken : (d k : ℕ) (a b : Asked DeviceCall) → Some (take.Device d a) ≡ Some (take.Device k b) → (d ≡ k) × (a ≡ b)
 same_taken d k a b is = (cc, cc)
@@ -336,11 +364,23 @@ module _ {K S C R : Type 0} (n : Ghosts K S ℕ C R) (g : nv.Ghosts S) (f : fuse
         devices = λ i store is. by_made i store is made refl;
       }
 
+    closed_at : tells_failure turn.reply ≡ false → (k : ℕ) → torn_of (Device k) H ≡ None → torn_of (Device k) L ≡ None
+    closed_at fine k none = none_mapped (λ c. kind.seen k (c ∷ counted L)) (torn_of (Device k) L) (next_by (cases_eq k d))
+      where
+        was_none : (j : ℕ) → k ≡ j → (view_by n kind j H).next ≡ None
+        was_none j same = ap (λ (o : Option Commit). option_map (λ c. kind.seen j (c ∷ counted H)) o) (subst (λ (i : ℕ). torn_of (Device i) H ≡ None) same none)
+
+        next_by : (k ≡ d) ⊎ (k ≢ d) → (view_by n kind k L).next ≡ None
+        next_by (inl same) = subst (λ (j : ℕ). (view_by n kind j L).next ≡ None) (sym same)
+            (ap (λ (w : View n.Seen). w.next) done.here ∙ next_told n.counting (told_by turn.reply) made v fine (was_none d same))
+        next_by (inr differs) = ap (λ (w : View n.Seen). w.next) (done.others k differs) ∙ was_none k refl
+
     pub at_on : {N : Type 0} (h : nv.Ghosts N) → IsTaken e → StepsOn n g h kind τ H e turn old new
     at_on h of_it = record {
       moves = done.moves;
       entries = at_entries;
       stands = at_stands;
+      closed = closed_at;
       any_moment = at_any_moment;
       stopped = λ stores left. (stop_history τ H e history whole of_it, at_left h stores left);
     }

@@ -14,7 +14,7 @@ use Rattle.bench_base.specs.Replies.{tells_power, tells_fault, has_read, is_refu
 use Rattle.bench_base.specs.Plans.{Plan, refuse, told}
 use Rattle.bench_base.specs.Rules.{todays_rules, editions}
 use Rattle.bench_base.specs.Ranges.{IsWholeEvent}
-use Rattle.bench_base.specs.Ledger.{Ledger, day_in, is_on}
+use Rattle.bench_base.specs.Ledger.{Ledger, day_in, is_on, torn_of}
 use Rattle.nv_model.specs.declared.nv.Nv as nv
 use Rattle.nv_model.specs.declared.fuse.Fuse as fuse
 use Rattle.nv_model.specs.Meters.{Meters}
@@ -62,6 +62,7 @@ pub record IsPlanned (e : Event) (p : Plan) (today : Option ℤ) : Type 0 where
   pub not_read : has_read p.reply ≡ false
   pub undamaged : (i : Node) → p.reply ≢ r.Damaged i
   pub gets : MayGet e p.reply
+  pub still : (d : ℕ) (H : Ledger) → torn_of (Device d) (p.after ++ H) ≡ torn_of (Device d) H
 
 plan_day : (τ : Tariff) (H : Ledger) (t : ℤ) → plan τ todays_rules H (ev.Day t) [] ≡ told (r.Day t) (entry.Day t ∷ [])
 unfolding plan
@@ -76,13 +77,13 @@ unfolding plan
 plan_none τ H e needs none = rw (sym none, needs) refl
 
 pub planned_day : (t : ℤ) (today : Option ℤ) → IsPlanned (ev.Day t) (told (r.Day t) (entry.Day t ∷ [])) today
-planned_day t today = record { plan_is = λ τ H day. plan_day τ H t; adds = λ H. refl; power = λ i. refl; fault = λ i. refl; silent = refl; not_read = refl; undamaged = λ i is. cc; gets = refl }
+planned_day t today = record { plan_is = λ τ H day. plan_day τ H t; adds = λ H. refl; power = λ i. refl; fault = λ i. refl; silent = refl; not_read = refl; undamaged = λ i is. cc; gets = refl; still = λ d H. refl }
 
 pub planned_end : (today : Option ℤ) → IsPlanned ev.End (refuse r.End) today
-planned_end today = record { plan_is = λ τ H day. plan_end τ H; adds = λ H. refl; power = λ i. refl; fault = λ i. refl; silent = refl; not_read = refl; undamaged = λ i is. cc; gets = refl }
+planned_end today = record { plan_is = λ τ H day. plan_end τ H; adds = λ H. refl; power = λ i. refl; fault = λ i. refl; silent = refl; not_read = refl; undamaged = λ i is. cc; gets = refl; still = λ d H. refl }
 
 pub planned_none : (e : Event) → needs_day e ≡ true → IsPlanned e (refuse r.NoDay) None
-planned_none e needs = record { plan_is = λ τ H none. plan_none τ H e needs none; adds = λ H. refl; power = λ i. refl; fault = λ i. refl; silent = refl; not_read = refl; undamaged = λ i is. cc; gets = needs }
+planned_none e needs = record { plan_is = λ τ H none. plan_none τ H e needs none; adds = λ H. refl; power = λ i. refl; fault = λ i. refl; silent = refl; not_read = refl; undamaged = λ i is. cc; gets = needs; still = λ d H. refl }
 
 module _ {K : Type 0} where
   -- what holds of each device that is as it was, holds at each node
@@ -116,6 +117,7 @@ module _ {K S C R N : Type 0} (n : Ghosts K S ℕ C R) (g : nv.Ghosts S) (f : fu
       moves = quiet_on τ H stands tells;
       entries = quiet_entries τ H stands;
       stands = subst (λ (L : Ledger). Stands n kind g new L) (sym (quiet_ledger τ H stands)) (stands_new H stands);
+      closed = λ fine d none. ap (λ (L : Ledger). torn_of (Device d) L) (quiet_ledger τ H stands) ∙ planned.still d H ∙ none;
       any_moment = moments;
       stopped = λ stores left. (
         stop_history τ H e history whole of,
