@@ -139,7 +139,7 @@ no-money c (Opened e ∷ C) o h = either e c
     (λ t y. absurd (true≢false (rw t at h)))
     (λ t. let n = no-money c C o.1 (rw t at h) in record { suspended = n.suspended; deposits = n.deposits; receipt = n.receipt })
 no-money c (Deposited e n a ∷ C) o h = either e c
-    (λ t y. absurd (true≢false (sym (subst (λ z. opened z C ≡ true) y o.0) ∙ h)))
+    (λ t y. absurd (true≢false (sym (subst (λ z. opened z C ≡ true) y o.0.0) ∙ h)))
     (λ t. let was = no-money c C o.1 h in record { suspended = was.suspended; deposits = rw t was.deposits; receipt = rw t was.receipt })
 no-money c (Flagged e s ∷ C) o h = either e c
     (λ t y. absurd (true≢false (sym (subst (λ z. opened z C ≡ true) y o.0) ∙ h)))

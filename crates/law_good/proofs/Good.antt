@@ -20,6 +20,7 @@ use Rattle.bench_base.specs.Kinds.{same_kind, empties, is_allowed}
 use Rattle.bench_base.specs.Jobs.{Job, last_job, job_of, state_of, open_job, top}
 use Rattle.bench_base.specs.Scans.{trusted, accepted, blocks}
 use Rattle.host_jobs.specs.Answers.{is_open}
+use Rattle.host_jobs.specs.Order.{IsMarkOf}
 use Rattle.verifier.specs.Answers.{is_full}
 use Rattle.psd_wire.specs.declared.message.Message.TheVariants as m
 use Rattle.psd_wire.specs.declared.message.ReplyMsg.{ReplyMsg}
@@ -102,11 +103,12 @@ pub record FitsOrdered (j p last : ℕ) (waiting : Option ℕ) (most : ℕ) (old
   -- the job in the cell is closed
   pub room : (nat_le 1024 last && is_open oldest) ≡ false
 
--- the job's device has this job open
-pub record FitsHeld (j : ℕ) (C : List Commit) (job : Option Job) : Type 0 where
+-- the job's device has this job open, and the bytes are a mark of the job
+pub record FitsHeld (j : ℕ) (bytes : List ℕ) (C : List Commit) (job : Option Job) : Type 0 where
   pub at : Job
   pub job_is : job ≡ Some at
   pub open_is : open_job at.device C ≡ Some j
+  pub mark : IsMarkOf at bytes
 
 pub record FitsAccepted (d p : ℕ) (before : Option ℕ) (key : Option (List ℕ)) (blocks : List (ℕ × ℕ)) : Type 0 where
   pub new : before ≡ None
@@ -125,7 +127,7 @@ Fits ρ (Flagged w s) C = opened w C ≡ true
 Fits ρ (Ruled d n v r) C = FitsRuled n v r (ruled d C) (note_of d n C) (registered d C) (verdict C (request_in r)) (reply_to C (request_in r))
 Fits ρ (Settled d n) C = FitsSettled n (settled d C) (ruled d C) (applied_of d n C)
 Fits ρ (Ordered j d p a k) C = FitsOrdered j p (last_job C) (open_job d C) (top d C) (state_of (last_job C - 1023) C)
-Fits ρ (Held j x) C = FitsHeld j C (job_of j C)
+Fits ρ (Held j x) C = FitsHeld j x C (job_of j C)
 Fits ρ (Began j) C = state_of j C ≡ Some HeldJob
 Fits ρ (Closed j) C = (s : JobState) × (state_of j C ≡ Some s) × (is_open (Some s) ≡ true)
 Fits ρ (Trusted d k) C = trusted d C ≡ None

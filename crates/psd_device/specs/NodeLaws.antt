@@ -11,7 +11,8 @@ use Rattle.psd_device.specs.Shown.{IsShown, IsKept}
 use Rattle.psd_device.specs.Boots.{IsOwn, IsDamaged, ShowsOwn}
 use Rattle.psd_device.specs.Knows as knows
 use Rattle.psd_device.specs.Sound.{IsSound}
-use Rattle.psd_device.specs.Finds.{not_mixed, shows_clear, own_not_foreign}
+use Rattle.nv_store.specs.CellLaws.{not_mixed}
+use Rattle.psd_device.specs.Finds.{shows_clear, own_not_foreign}
 
 kept_of : (d : ℕ) (o : Option State) → IfSome o (IsOwn d) → IfSome o IsKept
 kept_of d None own = tt
