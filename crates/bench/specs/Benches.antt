@@ -1,11 +1,14 @@
 -- What contracts see of a bench, and when it stands for a ledger. A kind of nodes is a field of `Bench`, a row of `At`, and what is
 -- said of it in `IsReady`, `Stands` and `StoresStand`; all else is said of a node by its name.
-use Rattle.std.specs.Prelude.{◌≡◌, ℕ, ℤ, ◌+◌, false, List, Option, None, length, replicate, slice_get}
+use Rattle.std.specs.Prelude.{◌≡◌, ℕ, ℤ, ◌+◌, false, List, Option, Some, None, length, replicate, slice_get}
 use Rattle.bench_base.specs.declared.words.Node.{Node}
 use Rattle.bench_base.specs.declared.words.Node.TheVariants.{Device, Centre, Host, Verifier}
 use Rattle.bench_base.specs.Rules.{editions}
 use Rattle.bench_base.specs.Ledger.{Ledger, day_in, rates_in, messages, is_on}
 use Rattle.nv_model.specs.declared.nv.Nv as nv
+use Rattle.nv_model.specs.declared.fuse.Fuse as fuse
+use Rattle.nv_model.specs.declared.fused.Fused.{Fused}
+use Rattle.nv_model.specs.Fuses.{state_of}
 use Rattle.nv_model.specs.Moments.{Image}
 use Rattle.node_acts.specs.Views.{View}
 use Rattle.node_acts.specs.Kinds.{Kind, view_in}
@@ -24,6 +27,10 @@ pub record Bench (K : Type 0) : Type 0 where
 
 abbrev pub bench_of : {M N : Type 0} {g : nv.Ghosts M} → BenchOver M N g → Bench (DeviceNode M g)
 bench_of bench = record { day = bench.day; devices = bench.devices.items }
+
+-- the fuse of a storage that has one
+abbrev pub fuse_in : {N : Type 0} {h : nv.Ghosts N} → fuse.Ghosts (Fused N h)
+fuse_in = record { fuse_of = λ s. state_of s }
 
 -- P holds of this node, as it was and as it is
 abbrev pub At : {K : Type 0} → (ℕ → K → K → Type 0) → Bench K → Bench K → Node → Type 0

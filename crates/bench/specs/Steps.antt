@@ -12,8 +12,8 @@ use Rattle.bench_base.specs.Rules.{todays_rules, editions}
 use Rattle.bench_base.specs.Plans.{Plan}
 use Rattle.bench_base.specs.Nodes.{node_of}
 use Rattle.bench_base.specs.Events.{node_for, needs_day, needs_on, may_commit, day_after}
-use Rattle.bench_base.specs.Replies.{is_refusal, has_read, on_after, MayGet}
-use Rattle.bench_base.specs.Ledger.{Ledger, counted}
+use Rattle.bench_base.specs.Replies.{Told, Did, Refused, Armed, CameOn, WentOff, LostPower, Faulted, WasDamaged, PrinterFailed, RatesFailed, told_by, is_refusal, has_read, MayGet}
+use Rattle.bench_base.specs.Ledger.{Ledger, torn_of, counted}
 use Rattle.nv_model.specs.declared.nv.Nv as nv
 use Rattle.nv_model.specs.declared.fuse.Fuse as fuse
 use Rattle.nv_model.specs.Moments.{Image}
@@ -25,7 +25,7 @@ use Rattle.node_seat.specs.Shown.{Allowed, IsAfter}
 use Rattle.node_seat.specs.Stands as node
 use Rattle.node_seat.specs.Stands.{times_of, meters_of, HasDamage, IsArmed}
 use Rattle.ledger_moves.specs.Tariffs.{Tariff}
-use Rattle.ledger_moves.specs.Moves as moves
+use Rattle.ledger_moves.specs.Moves as ledger
 use Rattle.ledger_moves.specs.Moves.{Moves, plan}
 use Rattle.ledger_moves.specs.Histories.{History}
 use Rattle.node_acts.specs.declared.asked.Asked.{Asked}
@@ -45,6 +45,24 @@ use Rattle.node_turns.specs.Turns.{in_order, turn_of}
 abbrev pub ShowsCommit : {K S C R X : Type 0} (n : Ghosts K S ℕ C R) → Kind ℕ n.Seen X → Tariff → Ledger → Event → ℕ → List ℕ → Type 0
 ShowsCommit n kind τ H e d image = (c : Commit) × ((plan τ todays_rules H e []).commit ≡ Some c) × (node_of c ≡ Device d)
     × n.IsShown (kind.seen d (c ∷ counted H)) image
+
+-- == failures ==
+
+abbrev pub is_failure : Told → Bool
+is_failure Did = false
+is_failure Refused = false
+is_failure (Armed n) = false
+is_failure (CameOn n k) = false
+is_failure (WentOff n) = false
+is_failure (LostPower n) = true
+is_failure (Faulted n) = true
+is_failure (WasDamaged n) = false
+is_failure (PrinterFailed j) = false
+is_failure RatesFailed = false
+
+-- the reply tells that power was cut at a node, or that its storage failed
+abbrev pub tells_failure : Reply → Bool
+tells_failure reply = is_failure (told_by reply)
 
 -- == a stop within a step ==
 
@@ -69,12 +87,14 @@ module _ {K S C R : Type 0} (n : Ghosts K S ℕ C R) (g : nv.Ghosts S) where
         → slice_get stores i ≡ Some store → (image : List ℕ) → Image (h.times store) image → (times_of n g t).since (times_of n g s).moment image
 
   -- By a history for which the bench stood: the reply is one that the event may get there, the entries are those of the event
-  -- and the reply, and the bench stands for the history with them. At every moment meanwhile the storages show the ledger, or
-  -- the ledger and the one commit of the event; so where the process is stopped they stand for it.
+  -- and the reply, the bench stands for the history with them, and only a failure leaves a commit open. At every moment meanwhile
+  -- the storages show the ledger, or the ledger and the one commit of the event; so where the process is stopped they stand for it.
   pub record StepsOn {N : Type 0} (h : nv.Ghosts N) (kind : Kind ℕ n.Seen DeviceCall) (τ : Tariff) (H : Ledger) (e : Event) (turn : Turn) (old new : Bench K) : Type 0 where
     pub moves : Moves τ todays_rules H e [] turn.reply
     pub entries : turn.entries ≡ in_order (after (plan τ todays_rules H e []) turn.reply [])
-    pub stands : Stands n kind g new (moves.entries τ todays_rules H e [] turn.reply)
+    pub stands : Stands n kind g new (ledger.entries τ todays_rules H e [] turn.reply)
+    pub closed : tells_failure turn.reply ≡ false → (d : ℕ) → torn_of (Device d) H ≡ None
+        → torn_of (Device d) (ledger.entries τ todays_rules H e [] turn.reply) ≡ None
     pub any_moment : (m : Node) → At (λ d s t. (image : List ℕ) → (times_of n g t).since (times_of n g s).moment image
         → Allowed n (view_by n kind d H) image ⊎ ShowsCommit n kind τ H e d image) old new m
     pub stopped : (stores : List N) → AreLeft h old new stores → History τ editions (after_stop τ H e) × StoresStand n kind h stores (after_stop τ H e)

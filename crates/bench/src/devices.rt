@@ -6,10 +6,10 @@ ghost use Rattle.bench_base.specs.Ledger.{Ledger};
 ghost use Rattle.nv_model.specs.Meters.{Works};
 ghost use Rattle.bench_views.specs.Devices.{device_kind};
 
-use crate::places::{device_over, stop_at, storage_of};
-use bench_base::numbers::{DayNo, DevNo};
+use crate::places::{device_over, stop_all, storage_of};
+use bench_base::numbers::DayNo;
 use node_seat::Node;
-use nv_model::{Fused, Nv};
+use nv_model::{Fuse, Fused, Nv};
 use psd_device::DeviceNode;
 use std::alloc::Global;
 
@@ -33,9 +33,27 @@ pub struct BenchOver<M: Nv, N> {
 /// Eight devices over storages of type N, each with a fuse.
 pub type Bench<N> = BenchOver<Fused<N>, N>;
 
+impl<M: Fuse + Drop, N> BenchOver<M, N> {
+    ghost use Rattle.bench.specs.Benches.{IsReady, Stands, bench_of};
+    ghost use Rattle.bench.specs.Places.{Begun};
+
+    /// Begins a run: each device is switched off, and the day is forgotten. The fuses stay.
+    pub fn begin(&mut self)
+        requires ready { IsReady (bench_of self.old) }
+        ensures ready { IsReady (bench_of self.new) }
+        ensures no_day { (bench_of self.new).day ≡ None }
+        ensures stands { (H : Ledger) → Stands ⟦<DeviceNode<M> as Node>⟧ device_kind M.Nv (bench_of self.old) H
+            → Stands ⟦<DeviceNode<M> as Node>⟧ device_kind M.Nv (bench_of self.new) (Begin ∷ H) }
+        ensures begun { Begun ⟦<DeviceNode<M> as Node>⟧ M.Nv (bench_of self.old).devices (bench_of self.new).devices }
+    {
+        self.day = None;
+        stop_all(&mut self.devices);
+    }
+}
+
 impl<N: Nv + Drop> Bench<N> {
     ghost use Rattle.bench.specs.Benches.{IsReady, Stands, StoresStand, AreBlank, bench_of};
-    ghost use Rattle.bench.specs.Places.{Begun, Pairs, IsOver, IsInside};
+    ghost use Rattle.bench.specs.Places.{Pairs, IsOver, IsInside};
 
     /// A bench over these eight storages, which have power and no fuse: all devices are off, and there is no day. It stands for
     /// what the storages stand for, and for the empty ledger where they are blank. Where there is no memory, the storages come
@@ -57,15 +75,13 @@ impl<N: Nv + Drop> Bench<N> {
             Ok(devices) => devices,
             Err(_) => return Err(Stores { devices: spare }),
         };
-        for back in 0..8u32 {
-            match (DevNo::new(8 - back), spare.pop()) {
-                (Some(number), Some(nv)) => {
-                    match devices.push(device_over(number, Fused::new(nv))) {
-                        Ok(()) => {}
-                        Err(_) => unreachable!(),
-                    }
-                }
-                _ => unreachable!(),
+        for _ in 0..8usize {
+            match spare.pop() {
+                Some(nv) => match devices.push(device_over(nv)) {
+                    Ok(()) => {}
+                    Err(_) => unreachable!(),
+                },
+                None => unreachable!(),
             }
         }
         devices.reverse();
@@ -74,21 +90,6 @@ impl<N: Nv + Drop> Bench<N> {
             day: None,
             spare,
         })
-    }
-
-    /// Begins a run: each device is switched off, and the day is forgotten. The fuses stay.
-    pub fn begin(&mut self)
-        requires ready { IsReady (bench_of self.old) }
-        ensures ready { IsReady (bench_of self.new) }
-        ensures no_day { (bench_of self.new).day ≡ None }
-        ensures stands { (H : Ledger) → Stands ⟦<DeviceNode<Fused<N>> as Node>⟧ device_kind ⟦<Fused<N> as Nv>⟧ (bench_of self.old) H
-            → Stands ⟦<DeviceNode<Fused<N>> as Node>⟧ device_kind ⟦<Fused<N> as Nv>⟧ (bench_of self.new) (Begin ∷ H) }
-        ensures begun { Begun ⟦<DeviceNode<Fused<N>> as Node>⟧ ⟦<Fused<N> as Nv>⟧ (bench_of self.old).devices (bench_of self.new).devices }
-    {
-        self.day = None;
-        for i in 0..8 {
-            stop_at(&mut self.devices, i);
-        }
     }
 
     /// The storages, without their fuses. A device that is on is switched off. They stand for what the bench stood for, with a
@@ -100,13 +101,15 @@ impl<N: Nv + Drop> Bench<N> {
             → StoresStand ⟦<DeviceNode<Fused<N>> as Node>⟧ device_kind N.Nv result.devices.items (Begin ∷ H) }
     {
         let BenchOver {
-            mut devices,
+            devices,
             day: _,
-            spare: mut stores,
+            spare,
         } = self;
+        let mut devices = devices;
+        let mut stores = spare;
         for _ in 0..8usize {
             match devices.pop() {
-                Some(device) => match stores.push(storage_of(device).into_inner()) {
+                Some(device) => match stores.push(storage_of(device)) {
                     Ok(()) => {}
                     Err(_) => unreachable!(),
                 },

@@ -6,7 +6,7 @@ ghost use Rattle.node_turns.specs.declared.turn.Turn.{Turn};
 ghost use Rattle.node_turns.specs.NodeTurns.{NodeTurn};
 ghost use Rattle.bench_views.specs.Devices.{device_kind};
 ghost use Rattle.bench_views.specs.Taken.{IsTaken};
-ghost use Rattle.bench.specs.Benches.{IsReady, ForEach, bench_of};
+ghost use Rattle.bench.specs.Benches.{IsReady, ForEach, bench_of, fuse_in};
 ghost use Rattle.bench.specs.DeviceTurns.{DeviceTurn, event_of};
 ghost use Rattle.bench.specs.Steps.{Steps, StepsOn, StepsByViews, StepsAlone};
 
@@ -111,17 +111,19 @@ pub fn react<T: Tell, M: Fuse + Drop, N: Nv>(bench: &mut BenchOver<M, N>, event:
 {
     // What the bench sees of its devices follows from the ledger.
     devices_follow();
-    match take(event) {
-        Some(Taken::Day(day)) => {
-            bench.day = Some(day);
-            T::one(Reply::Day(day), Entry::Day(day))
+    let Some(taken) = take(event) else {
+        unreachable!();
+    };
+    match &taken {
+        Taken::Day(day) => {
+            bench.day = Some(*day);
+            T::one(Reply::Day(*day), Entry::Day(*day))
         }
-        Some(Taken::End) => T::silent(Reply::End),
-        Some(Taken::Device(device, asked)) => match bench.day {
+        Taken::End => T::silent(Reply::End),
+        Taken::Device(device, asked) => match bench.day {
             None => T::silent(Reply::NoDay),
-            Some(day) => device_turn(&mut bench.devices, device, day, &asked),
+            Some(day) => device_turn(&mut bench.devices, *device, day, asked),
         },
-        None => unreachable!(),
     }
 }
 
@@ -150,7 +152,7 @@ pub fn step<N: Nv + Drop>(
     ensures shown { N.tells → IfOk result (λ turn.
         StepsByViews ⟦<DeviceNode<Fused<N>> as Node>⟧ ⟦<Fused<N> as Nv>⟧ device_kind event.now turn (bench_of bench.old) (bench_of bench.new)) }
     ensures always { IfOk result (λ turn.
-        StepsAlone ⟦<DeviceNode<Fused<N>> as Node>⟧ ⟦<Fused<N> as Nv>⟧ ⟦<Fused<N> as Fuse>⟧ event.now turn (bench_of bench.old) (bench_of bench.new)) }
+        StepsAlone ⟦<DeviceNode<Fused<N>> as Node>⟧ ⟦<Fused<N> as Nv>⟧ fuse_in event.now turn (bench_of bench.old) (bench_of bench.new)) }
 {
     Ok(react(bench, event))
 }

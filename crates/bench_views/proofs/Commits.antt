@@ -36,7 +36,7 @@ off_silent : (on : Bool) (d : ℕ) → (if on then told (r.Down (Device d)) (ent
 off_silent true d = refl
 off_silent false d = refl
 
-status_none : (on : Bool) (s : Seen) (today : ℤ) (o : Option State) → (if on then commit_in counting s (status_act today o) else None) ≡ None
+pub status_none : (on : Bool) (s : Seen) (today : ℤ) (o : Option State) → (if on then commit_in counting s (status_act today o) else None) ≡ None
 status_none true s today None = refl
 status_none true s today (Some t) = refl
 status_none false s today o = refl

@@ -1,5 +1,5 @@
 mod Acts
-mod Commits
+pub mod Commits
 mod Counts
 mod Frames
 mod Histories

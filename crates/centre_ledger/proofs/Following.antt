@@ -34,7 +34,7 @@ some-is : {A : Type 0} (o : Option A) → IsSome o → o ≡ None → ⊥
 some-is None s n = true≢false (sym s)
 some-is (Some a) s n = some-none n
 
-either : (e d : ℕ) {P : Type 0} → ((e == d) ≡ true → e ≡ d → P) → ((e == d) ≡ false → P) → P
+pub either : (e d : ℕ) {P : Type 0} → ((e == d) ≡ true → e ≡ d → P) → ((e == d) ≡ false → P) → P
 either e d same other = ⊎_elim (λ (h : (e == d) ≡ true). same h (eqb-true e d h)) other (cases_Bool (e == d))
 
 -- == devices ==
@@ -94,7 +94,7 @@ registering d origin key C o h =
     }
 
 -- what is settled now is the number that was ruled last
-settles : (settled ruled n now : ℕ) → settle_answer settled ruled n ≡ Ok (Some now) → now ≡ ruled
+pub settles : (settled ruled n now : ℕ) → settle_answer settled ruled n ≡ Ok (Some now) → now ≡ ruled
 settles settled ruled n now h = go (nat_le n settled) (n == ruled) refl h
   where
     go : (t u : Bool) → (n == ruled) ≡ u → cond t (Ok None) (cond u (Ok (Some n)) (Err (no.Ahead ruled))) ≡ Ok (Some now) → now ≡ ruled

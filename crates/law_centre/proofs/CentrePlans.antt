@@ -196,7 +196,7 @@ module _ (ρ : Rules) (H : Ledger) (i : Inv ρ H) (on : is_on Centre H ≡ true)
           room = ltb-false 1000000000000000 (sum + a) rows.1.1.0;
         };
         on = on;
-        range = (range, receipts, (omega arith, ltb-false 1000000000 a amount.1));
+        range = (range, (omega (arith, eqb-true n (last.0 + 1) (not-false (n == last.0 + 1) rows.0)), receipts), (omega arith, ltb-false 1000000000 a amount.1));
         sure = tt;
       })))
 

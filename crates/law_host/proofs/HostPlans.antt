@@ -22,7 +22,7 @@ use Rattle.bench_base.specs.declared.ledger.Entry.TheVariants as e
 use Rattle.bench_base.specs.declared.events.Reply.TheVariants as r
 use Rattle.bench_base.specs.Rules.{Rules}
 use Rattle.bench_base.specs.Plans.{made, told}
-use Rattle.bench_base.specs.Ranges.{IsDevice, IsWord, IsKey, IsPostage, IsScan}
+use Rattle.bench_base.specs.Ranges.{IsDevice, IsWord, IsCount, IsPostage, IsKey}
 use Rattle.bench_base.specs.Ledger.{Ledger, counted, is_on, torn_of, at_up, count_of, IsReleased, IsReleasedAs}
 use Rattle.bench_base.specs.Jobs.{Job, last_job, job_of, state_of, held_of, open_job, top, begun, in_cells}
 use Rattle.bench_base.specs.Scans.{trusted, accepted, blocks}
@@ -67,14 +67,14 @@ good-before ρ _ H g = g
 -- what the numbers of a job are
 pub record JobRange (b : Job) : Type 0 where
   pub device : IsDevice b.device
-  pub piece : IsWord b.piece
-  pub postage : IsWord b.postage
+  pub piece : IsCount b.piece
+  pub postage : IsPostage b.postage
   pub class : b.class < 2 ^ 16
 
 pub job-range : (ρ : Rules) (j : ℕ) (b : Job) (C : List Commit) → Good ρ C → job_of j C ≡ Some b → JobRange b
 job-range ρ j b [] g h = none-some h
 job-range ρ j b (c.Ordered i d p a k ∷ C) g h = ⊎_elim
-    (λ (t : ((i == j) ≡ true) × (record { device = d; piece = p; postage = a; class = k } ≡ b)). let postage = g.2.4 in subst JobRange t.1 (record { device = g.2.1; piece = g.2.3; postage = omega arith; class = g.2.5 }))
+    (λ (t : ((i == j) ≡ true) × (record { device = d; piece = p; postage = a; class = k } ≡ b)). subst JobRange t.1 (record { device = g.2.1; piece = g.2.2; postage = g.2.3; class = g.2.4 }))
     (λ (o : job_of j C ≡ Some b). job-range ρ j b C g.1 o)
     (found (i == j) (job_of j C) (record { device = d; piece = p; postage = a; class = k }) b h)
 job-range ρ j b (_ ∷ C) g h = job-range ρ j b C g.1 h
@@ -83,7 +83,7 @@ job-range ρ j b (_ ∷ C) g h = job-range ρ j b C g.1 h
 job-word : (ρ : Rules) (j : ℕ) (b : Job) (C : List Commit) → Good ρ C → job_of j C ≡ Some b → IsWord j
 job-word ρ j b [] g h = none-some h
 job-word ρ j b (c.Ordered i d p a k ∷ C) g h = ⊎_elim
-    (λ (t : ((i == j) ≡ true) × (record { device = d; piece = p; postage = a; class = k } ≡ b)). subst IsWord (eqb-true i j t.0) g.2.0)
+    (λ (t : ((i == j) ≡ true) × (record { device = d; piece = p; postage = a; class = k } ≡ b)). subst IsWord (eqb-true i j t.0) g.2.0.1)
     (λ (o : job_of j C ≡ Some b). job-word ρ j b C g.1 o)
     (found (i == j) (job_of j C) (record { device = d; piece = p; postage = a; class = k }) b h)
 job-word ρ j b (_ ∷ C) g h = job-word ρ j b C g.1 h
@@ -132,7 +132,7 @@ module _ (ρ : Rules) (carried : IsCarried ρ) (H : Ledger) (i : Inv ρ H) where
       ok-made ρ H (r.Ordered (last_job C + 1) a) (c.Ordered (last_job C + 1) d p a k) refl tt (λ n l x. absurd (cc)) (record {
         fits = record { next = refl; idle = has; fresh = leb-false p (top d C) rows.0; room = rows.1.1.0 };
         on = on;
-        range = (omega arith, device, omega (arith, leb-false p (top d C) rows.0), piece, postage, class);
+        range = ((omega arith, omega arith), device, (omega (arith, leb-false p (top d C) rows.0), piece), postage, class);
         sure = tt;
       }))
 
@@ -152,8 +152,8 @@ module _ (ρ : Rules) (carried : IsCarried ρ) (H : Ledger) (i : Inv ρ H) where
         fit = λ x h. none-some h;
         keeps = λ k. inv-sent ρ H (spell (m.Debit q) []) (record {
           what = m.Debit q;
-          reads = read-spell (m.Debit q) [] (whole-debit q (device-word b.device it.device) it.piece it.postage it.class);
-          vouched = (it.device, (it.piece, it.class));
+          reads = read-spell (m.Debit q) [] (whole-debit q (device-word b.device it.device) it.piece.1 (omega (arith, it.postage.1)) it.class);
+          vouched = (it.device, (it.piece.1, it.class));
         }) k;
       }
   send-ok l j (Some state.Ordered) None at = no-host no.NoJob
@@ -259,7 +259,7 @@ module _ (ρ : Rules) (carried : IsCarried ρ) (H : Ledger) (i : Inv ρ H) where
   trust-ok d key on device fits (Some k) has = no-scan not_v.Known
   trust-ok d key on device fits None has = ok-made ρ H (r.Trusted d) (c.Trusted d key) refl tt (λ n l h. absurd (cc)) (record { fits = has; on = on; range = (device, fits); sure = tt })
 
-  accept-ok : (n : ℕ) (k : Mark) (today : ℤ) → is_on Verifier H ≡ true → IsDevice k.device → IsWord k.piece → IsScan n → IsReleasedAs k.device k.piece H → (key : List ℕ) → trusted k.device (counted H) ≡ Some key → (w : Option ℕ) → accepted k.device k.piece (counted H) ≡ w
+  accept-ok : (n : ℕ) (k : Mark) (today : ℤ) → is_on Verifier H ≡ true → IsDevice k.device → IsWord k.piece → IsCount n → IsReleasedAs k.device k.piece H → (key : List ℕ) → trusted k.device (counted H) ≡ Some key → (w : Option ℕ) → accepted k.device k.piece (counted H) ≡ w
       → PlanOk ρ H (scans.scan_act n k (scans.scan_answer n k.day today (scans.is_full k.device k.piece (blocks (counted H))) w))
   accept-ok n k today on device piece scan sure key trust (Some s) has = chosen (λ (z : Result Bool ScanRefusal). PlanOk ρ H (scans.scan_act n k z)) (s == n) _ _
       (λ _. record { sane = tt; plain = refl; no_up = λ l j h. refl; fit = λ y h. none-some h; keeps = λ j. j })
@@ -268,7 +268,7 @@ module _ (ρ : Rules) (carried : IsCarried ρ) (H : Ledger) (i : Inv ρ H) where
       (no-scan (not_v.Future k.day), (no-scan (not_v.TooOld k.day), (no-scan not_v.BlocksFull, tt)))
       (λ rows. ok-made ρ H (r.Accepted k.device k.piece n false) (c.Accepted k.device k.piece n) refl tt (λ l j h. absurd (cc)) (record { fits = record { new = has; known = (key, trust); room = rows.1.1.0 }; on = on; range = (device, piece, scan); sure = sure }))
 
-  pub scan-ok : (n : ℕ) (bytes : List ℕ) (today : ℤ) → is_on Verifier H ≡ true → IsScan n → (o : Result (Mark × List ℕ) MarkFault) → read_mark bytes ≡ o → IsKnownMark bytes o H → PlanOk ρ H (scans.scan_plan n bytes today o (counted H))
+  pub scan-ok : (n : ℕ) (bytes : List ℕ) (today : ℤ) → is_on Verifier H ≡ true → IsCount n → (o : Result (Mark × List ℕ) MarkFault) → read_mark bytes ≡ o → IsKnownMark bytes o H → PlanOk ρ H (scans.scan_plan n bytes today o (counted H))
   scan-ok n bytes today on scan (Err fault) reads known = no-scan (not_v.Unread fault)
   scan-ok n bytes today on scan (Ok k) reads known = keyed (trusted k.0.device (counted H)) refl
     where

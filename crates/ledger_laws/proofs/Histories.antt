@@ -16,7 +16,7 @@ use Rattle.bench_base.specs.declared.events.Event.TheVariants as ev
 use Rattle.bench_base.specs.declared.events.Reply.TheVariants as r
 use Rattle.bench_base.specs.Rules.{Rules}
 use Rattle.bench_base.specs.Plans.{Plan, told}
-use Rattle.bench_base.specs.Ranges.{IsDevice, IsDay, IsWord, IsWholeEvent, TakesBytes, IsGiven, IsPostage, IsScan}
+use Rattle.bench_base.specs.Ranges.{IsDevice, IsDay, IsCount, IsPostage, IsWholeEvent, TakesBytes, IsGiven}
 use Rattle.bench_base.specs.Table.{IsBytes}
 use Rattle.bench_base.specs.Ledger.{Ledger, day_in, rates_in, messages, message, IsSent, is_on, count_of, counted}
 use Rattle.bench_base.specs.Jobs.{job_of}
@@ -143,10 +143,10 @@ module _ (τ : Tariff) (ρ : Rules) (carried : IsCarried ρ) (H : Ledger) (i : I
       let is = long-release bytes g.what g.reads long in
       genuine-at bytes (m.Release (drop 2 bytes)) H (counted H) g (g.reads ∙ ap (λ (z : Message). Ok z) is)
 
-  scan-bytes : (n : ℕ) (today : ℤ) (bytes : List ℕ) → IsScan n → IsKnownMark bytes (read_mark bytes) H → PlanOk ρ H (Moves.scan_plan n today bytes H)
+  scan-bytes : (n : ℕ) (today : ℤ) (bytes : List ℕ) → IsCount n → IsKnownMark bytes (read_mark bytes) H → PlanOk ρ H (Moves.scan_plan n today bytes H)
   scan-bytes n today bytes word known = at-ok Verifier _ (λ on. scan-ok ρ carried H i n bytes today on word (read_mark bytes) refl known)
 
-  scan-sent-ok : (n k : ℕ) (today : ℤ) → IsScan n → (x : Option (List ℕ)) → message k H ≡ x → PlanOk ρ H (Moves.scan_sent n today k x H)
+  scan-sent-ok : (n k : ℕ) (today : ℤ) → IsCount n → (x : Option (List ℕ)) → message k H ≡ x → PlanOk ρ H (Moves.scan_sent n today k x H)
   scan-sent-ok n k today word None h = ok-refuse ρ H (r.NoMessage k) refl tt
   scan-sent-ok n k today word (Some bytes) h = scan-bytes n today (drop 2 bytes) word (behind-known bytes (message-sent k bytes H h) (read_mark (drop 2 bytes)) refl)
 

@@ -155,18 +155,16 @@ worn_is n cell held lt is = sym (ap (λ (o : Option Held). count_of o) (first_at
 pub is_worn_at : (n cell : ℕ) (held : ℕ → Option Held) → cell < n → count_of (held cell) ≡ MOST_COMMITS → is_worn (first n held) cell ≡ true
 is_worn_at n cell held lt is = is_test (count_of (cell_in (first n held) cell)) (ap (λ (o : Option Held). count_of o) (first_at n held cell lt) ∙ is)
 
-held_at : (o : Option Held) → is_some o ≡ true → (a : Held) × (o ≡ Some a)
-held_at None is = cc
-held_at (Some a) is = (a, refl)
+open_slot : (o : Option Held) → is_some o ≡ true → (a : Held) × (o ≡ Some a)
+open_slot None is = cc is
+open_slot (Some a) is = (a, refl)
 
 -- a cell that is clear is not mixed
 pub not_mixed : (n : ℕ) (slots : ℕ → Option Held) → IsMixed n slots → IsClear n slots → ⊥
-not_mixed n slots (inl (i, is)) clear =
-    let a = held_at (slots i) is.is_open in
-    let none : a.0.0 ≡ 0 = sym (ap (λ (o : Option Held). count_of o) a.1) ∙ is.none in
-    let some : 0 < a.0.0 = clear.counted i a.0 is.inside a.1 in
-    omega arith
-not_mixed n slots (inr (i, (j, is))) clear =
-    let a = held_at (slots i) is.open_first in
-    let b = held_at (slots j) is.open_second in
-    is.differs (clear.distinct i j a.0 b.0 is.first is.second a.1 b.1 (sym (ap (λ (o : Option Held). count_of o) a.1) ∙ is.same ∙ ap (λ (o : Option Held). count_of o) b.1))
+not_mixed n slots (inl (i, empty)) clear =
+    let held = open_slot (slots i) empty.is_open in
+    omega (arith, clear.counted i held.0 empty.inside held.1, ap count_of held.1, empty.none)
+not_mixed n slots (inr (i, (j, repeat))) clear =
+    let first = open_slot (slots i) repeat.open_first in
+    let second = open_slot (slots j) repeat.open_second in
+    repeat.differs (clear.distinct i j first.0 second.0 repeat.first repeat.second first.1 second.1 (sym (ap count_of first.1) ∙ repeat.same ∙ ap count_of second.1))

@@ -5,10 +5,9 @@ use Rattle.bench_base.specs.declared.refusals.DevRefusal.{DevRefusal}
 use Rattle.bench_base.specs.declared.refusals.Fail.{Fail}
 use Rattle.bench_base.specs.declared.refusals.Fail.TheVariants.{Refused, Store}
 use Rattle.bench_base.specs.declared.refusals.StoreFail.TheVariants.{Power, Fault, Worn, Failed}
-use Rattle.bench_base.specs.declared.sizes.TheConstants.{RECORD_BYTES, SLOTS, DEVICE_BYTES}
+use Rattle.bench_base.specs.declared.sizes.TheConstants.{DEVICE_BYTES}
 use Rattle.nv_model.specs.declared.nv.Nv.{Ghosts}
 use Rattle.nv_ring.specs.declared.wear.Wear.{Wear}
-use Rattle.nv_store.specs.Store.{OnlyShows}
 use Rattle.nv_store.specs.Turns.{Turn, Spent}
 use Rattle.node_acts.specs.declared.act.Act.{Act}
 use Rattle.node_acts.specs.Acts.{commit_in, cost}
@@ -16,8 +15,8 @@ use Rattle.node_acts.specs.Results.{result_in}
 use Rattle.node_seat.specs.Ends.{end_of_result}
 use Rattle.psd_state.specs.State.{State}
 use Rattle.psd_state.specs.Seen.{Seen, counting}
-use Rattle.psd_device.specs.Shown.{device_held, ShowsSeen, IsKept}
-use Rattle.psd_device.specs.Sound.{IsSound, StartsAt}
+use Rattle.psd_device.specs.Shown.{ShowsSeen, OnlyShown, IsKept}
+use Rattle.psd_device.specs.Sound.{IsSound, IsCurrent}
 use Rattle.psd_device.specs.NodeView.{storage_in, seen_in, number_in, wear_in, SameWear}
 use Rattle.psd_device.specs.declared.device.Device.{Device}
 
@@ -48,8 +47,8 @@ pub record Starts {N : Type 0} {g : Ghosts N} (device : ℕ) (d : Device N g) : 
   pub number : number_of d ≡ device
   pub sound : IsSound device (seen_of d)
   pub size : g.size (storage_of d) ≡ DEVICE_BYTES
-  pub shows : g.tells → OnlyShows RECORD_BYTES SLOTS 1 (λ k. device_held (seen_of d).count (seen_of d).state) (g.times (storage_of d)) (g.content (storage_of d))
-  pub place : g.tells → StartsAt (wear_of d) (seen_of d) (g.content (storage_of d))
+  pub shows : g.tells → OnlyShown (seen_of d) (g.times (storage_of d)) (g.content (storage_of d))
+  pub place : g.tells → IsCurrent (wear_of d).start (g.content (storage_of d))
 
 -- == a call ==
 

@@ -14,10 +14,6 @@ use Rattle.psd_device.specs.Sound.{IsSound}
 use Rattle.nv_store.specs.CellLaws.{not_mixed}
 use Rattle.psd_device.specs.Finds.{shows_clear, own_not_foreign}
 
-kept_of : (d : ℕ) (o : Option State) → IfSome o (IsOwn d) → IfSome o IsKept
-kept_of d None own = tt
-kept_of d (Some s) own = own.kept
-
 seen_same : (a b : Seen) → a.count ≡ b.count → a.state ≡ b.state → a ≡ b
 seen_same a b is is' = ap (λ (k : ℕ). with_both k a.state) is ∙ ap (λ (o : Option State). with_both b.count o) is'
   where
@@ -26,7 +22,7 @@ seen_same a b is is' = ap (λ (k : ℕ). with_both k a.state) is ∙ ap (λ (o :
 
 pub one_shown : (d : ℕ) (a b : Seen) (c : List ℕ) → IsSound d a → IsSound d b → IsShown a.count a.state c → IsShown b.count b.state c → a ≡ b
 one_shown d a b c own own' shown shown' =
-    let same = knows.one_shown a.count b.count a.state b.state c (kept_of d a.state own.own) (kept_of d b.state own'.own) own.blank own'.blank shown shown' in
+    let same = knows.one_shown a.count b.count a.state b.state c own.blank own'.blank shown shown' in
     seen_same a b same.0 same.1
 
 few_more : (count : ℕ) → count ≤ MOST_COMMITS → (count == MOST_COMMITS) ≡ false → count + 1 ≤ MOST_COMMITS

@@ -5,7 +5,7 @@ use Rattle.nv_ring.specs.declared.wear.Wear.{Wear}
 use Rattle.nv_store.specs.Slot.{Held, slots_at}
 use Rattle.nv_store.specs.Cells.{Top}
 use Rattle.psd_state.specs.Seen.{Seen}
-use Rattle.psd_device.specs.Shown.{device_held}
+use Rattle.nv_store.specs.Store.{cell_shown}
 use Rattle.psd_device.specs.Boots.{IsOwn}
 
 -- a record of device d that its storage can show: it has no commits exactly where it was never made
@@ -20,6 +20,6 @@ pub record IsNewWear (wear : Wear) (count : ℕ) : Type 0 where
   pub fills : wear.fills ≡ replicate SLOTS 0
   pub blank : count ≡ 0 → wear.start ≡ 15
 
--- the slot from which wear is counted is the current one
-abbrev pub StartsAt : Wear → Seen → List ℕ → Type 0
-StartsAt wear s content = (held : Held) → device_held s.count s.state ≡ Some held → Top SLOTS (slots_at RECORD_BYTES 0 content) wear.start held
+-- this slot is the current one, where there is one
+abbrev pub IsCurrent : ℕ → List ℕ → Type 0
+IsCurrent slot content = (held : Held) → cell_shown RECORD_BYTES SLOTS content 0 ≡ Some held → Top SLOTS (slots_at RECORD_BYTES 0 content) slot held

@@ -6,8 +6,8 @@ ghost use Rattle.nv_store.specs.Turns.{Spent, Kept};
 ghost use Rattle.node_seat.specs.Does.{Reads};
 ghost use Rattle.node_seat.specs.Ends.{end_of_boot};
 ghost use Rattle.psd_state.specs.State.{State};
-ghost use Rattle.psd_state.specs.Payload.{bytes_of};
-ghost use Rattle.psd_device.specs.Shown.{device_held};
+ghost use Rattle.psd_state.specs.Payload.{ReadsAs};
+ghost use Rattle.psd_device.specs.Shown.{IsHeld};
 ghost use Rattle.psd_device.specs.Boots.{IsOwn, ShowsOwn, IsDamaged};
 
 use crate::device::Device;
@@ -20,13 +20,13 @@ use nv_ring::Wear;
 use nv_store::{MountCause, mount_lent};
 use psd_state::DevRec;
 
-// The record that a cell with so many commits holds: None where it is blank, and Err where the payload is the spelling
-// of no record of this device.
+// The record that a cell with so many commits holds: None where it is blank, and Err where the payload reads as no record
+// of this device.
 fn record_in(device: DevNo, count: u32, payload: &[u8; RECORD_BYTES]) -> Result<Option<DevRec>, ()>
-    ensures holds { IfOk result (λ state. one_held count payload.now ≡ device_held count state) }
+    ensures holds { IfOk result (λ state. IsHeld count state (one_held count payload.now)) }
     ensures own { IfOk result (λ state. IfSome state (IsOwn device)) }
     ensures filled { IfErr result (λ x. count ≢ 0) }
-    ensures foreign { IfErr result (λ x. (s : State) → IsOwn device s → bytes_of s ≢ payload.now) }
+    ensures foreign { IfErr result (λ x. (s : State) → s.device ≡ device → ReadsAs payload.now s → ⊥) }
 {
     if count == 0 {
         return Ok(None);
@@ -39,7 +39,7 @@ fn record_in(device: DevNo, count: u32, payload: &[u8; RECORD_BYTES]) -> Result<
 
 impl<N: Nv> DeviceNode<N> {
     ghost use Rattle.psd_device.specs.NodeView.{storage_in, seen_in, number_in, is_on, wear_in};
-    ghost use Rattle.psd_device.specs.Sound.{IsSound, IsNewWear, StartsAt};
+    ghost use Rattle.psd_device.specs.Sound.{IsSound, IsNewWear, IsCurrent};
 
     /// Switches a device that is off on, from what its storage shows, or leaves it off. Power is not lost. Nothing is
     /// written.
@@ -54,7 +54,7 @@ impl<N: Nv> DeviceNode<N> {
             → IsDamaged device (N.size (storage_in self.new)) (N.times (storage_in self.new)) (N.content (storage_in self.new)) }
         ensures spent { Spent 1 (N.meters (storage_in self.old)) (N.meters (storage_in self.new)) (end_of_boot result) }
         ensures wear { OnOk result (IsNewWear (wear_in self.new) (seen_in self.new).count) }
-        ensures place { N.tells → OnOk result (StartsAt (wear_in self.new) (seen_in self.new) (N.content (storage_in self.new))) }
+        ensures place { N.tells → OnOk result (IsCurrent (wear_in self.new).start (N.content (storage_in self.new))) }
     {
         let mut payload = [0; RECORD_BYTES];
         let head = match mount_lent(&mut self.nv, SLOTS, &mut payload) {
@@ -85,7 +85,7 @@ impl<N: Nv> Device<N> {
     /// written.
     ///
     /// `Damaged` where the storage has not 3,424 bytes, an open slot has count 0, two open slots have equal counts, or the
-    /// current payload is the spelling of no record of this device. Blank storage is a device that was not made yet.
+    /// current payload reads as no record of this device, in version 1 or 2. Blank storage is a device that was not made yet.
     pub fn boot(device: DevNo, nv: N) -> Result<Device<N>, (N, BootFail)>
         requires powered { (N.meters nv).lost ≡ false }
 

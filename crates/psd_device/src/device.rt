@@ -1,10 +1,9 @@
 //! A running device: its record in its storage, and the commit that failed.
 ghost use Rattle.std.specs.Prelude.{◌≡◌, ◌+◌, ◌/◌, ◌≤◌, ◌<◌, ◌^◌, Some, None, not, is_some, sum, slice_index};
 ghost use Rattle.bench_base.specs.declared.sizes.TheConstants.{DEVICE_BYTES};
-ghost use Rattle.nv_store.specs.Slot.{Held, slots_at};
-ghost use Rattle.nv_store.specs.Cells.{Top};
 ghost use Rattle.nv_ring.specs.Turns.{fills_of, slot_after};
-ghost use Rattle.psd_device.specs.Shown.{device_held};
+ghost use Rattle.psd_device.specs.Shown.{ShowsSeen};
+ghost use Rattle.psd_device.specs.Sound.{IsCurrent};
 ghost use Rattle.psd_device.specs.NodeView.{storage_in, is_on};
 
 use crate::node::DeviceNode;
@@ -79,10 +78,9 @@ impl<N: Nv> Device<N> {
         ensures turn { result ≡ fills_of (wear_of self.now).start (sum (wear_of self.now).fills) slot }
         ensures share { result ≤ sum (wear_of self.now).fills / SLOTS + 1 }
 
-        // The slot of the last commit is the current one.
-        ensures current { N.tells → torn_of self.now ≡ None → (held : Held)
-            → device_held (seen_of self.now).count (seen_of self.now).state ≡ Some held
-            → Top SLOTS (slots_at RECORD_BYTES 0 (N.content (storage_of self.now))) (slot_after (wear_of self.now).start (sum (wear_of self.now).fills)) held }
+        // The slot of the last commit is the current one, and what it holds reads as the record.
+        ensures current { N.tells → torn_of self.now ≡ None → ShowsSeen (seen_of self.now) (N.content (storage_of self.now))
+            × IsCurrent (slot_after (wear_of self.now).start (sum (wear_of self.now).fills)) (N.content (storage_of self.now)) }
     {
         self.node.wear.fills[slot as usize]
     }

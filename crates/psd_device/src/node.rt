@@ -8,8 +8,8 @@ ghost use Rattle.nv_ring.specs.Turns.{IsWearOf};
 ghost use Rattle.node_seat.specs.Does.{Reads, Commits, Stores};
 ghost use Rattle.node_seat.specs.Ends.{end_of_commit, leaves_running};
 ghost use Rattle.psd_state.specs.Seen.{counting};
-ghost use Rattle.psd_device.specs.Shown.{device_held, IsKept, ShowsSeen};
-ghost use Rattle.psd_device.specs.Unique.{each_kept-prop};
+ghost use Rattle.psd_device.specs.Shown.{IsHeld, IsKept, ShowsSeen};
+ghost use Rattle.psd_device.specs.Unique.{each_kept-prop, IsHeld-prop};
 
 use bench_base::numbers::DevNo;
 use bench_base::refusals::StoreFail;
@@ -36,7 +36,7 @@ pub struct DeviceNode<N: Nv> {
     ghost fits: { head.count < 2 ^ 32 },
     ghost inside: { 0 < head.count → head.place < SLOTS },
     ghost wears: { IsWearOf wear head },
-    ghost written: { one_held head.count payload ≡ device_held head.count state },
+    ghost written: { IsHeld head.count state (one_held head.count payload) } by { IsHeld-prop head.count state (one_held head.count payload) },
     ghost kept: { ForSome state IsKept } by { each_kept-prop state },
 }
 

@@ -1,0 +1,68 @@
+-- The begin of a run: one device after another is switched off.
+use Rattle.std.proofs.Common.{◌≡◌, ◌≢◌, inl, inr, ℕ, ℤ, suc, ◌+◌, ◌<◌, ◌≤◌, List, [], ◌∷◌, length, Option, Some, None, refl, sym, ◌∙◌, ap, subst, arith}
+use Rattle.std.specs.Prelude.{slice_get}
+use Rattle.std.proofs.lemmas.Bool.{cases_eq}
+use Rattle.std.proofs.lemmas.List.{length-set}
+use Rattle.std.proofs.lemmas.Option.{slice_get_within}
+use Rattle.bench_base.specs.Ledger.{Ledger}
+use Rattle.bench_base.specs.declared.ledger.Entry.TheVariants.{Begin}
+use Rattle.nv_model.specs.declared.nv.Nv as nv
+use Rattle.node_acts.specs.Kinds.{Kind}
+use Rattle.node_seat.specs.declared.node.Node.{Ghosts}
+use Rattle.bench.specs.Benches.{Bench, HasDay, Stands, view_by}
+use Rattle.bench.specs.Places.{Pairs, IsStopped, Begun, StopsAt}
+use Rattle.bench.proofs.Making.{get_some, pairs_at, pairs_length}
+use Rattle.bench.proofs.Sets.{get_set_same, get_set_other, same_some}
+use Rattle.bench.proofs.Over.{none_day}
+
+-- the first so many devices were switched off, and the others are as they were
+pub record Stopping {K S N C R : Type 0} (n : Ghosts K S N C R) (g : nv.Ghosts S) (k : ℕ) (old new : List K) : Type 0 where
+  pub size : length new ≡ length old
+  pub stopped : (i : ℕ) (s t : K) → i < k → slice_get old i ≡ Some s → slice_get new i ≡ Some t → IsStopped n g s t
+  pub others : (i : ℕ) → k ≤ i → slice_get new i ≡ slice_get old i
+
+-- what holds of each two elements at one place
+pairs_of : {X Y : Type 0} (P : X → Y → Type 0) (xs : List X) (ys : List Y) → length ys ≡ length xs
+    → ((i : ℕ) (x : X) (y : Y) → i < length xs → slice_get xs i ≡ Some x → slice_get ys i ≡ Some y → P x y) → Pairs P xs ys
+pairs_of P [] [] same each = tt
+pairs_of P [] (y ∷ ys) same each = absurd (omega arith)
+pairs_of P (x ∷ xs) [] same each = absurd (omega arith)
+pairs_of P (x ∷ xs) (y ∷ ys) same each = (each 0 x y (omega arith) refl refl, pairs_of P xs ys (omega arith) (λ i a b lt here there. each (suc i) a b (omega arith) here there))
+
+module _ {K S N C R : Type 0} (n : Ghosts K S N C R) (g : nv.Ghosts S) where
+  pub stopping_none : (devices : List K) → Stopping n g 0 devices devices
+  stopping_none devices = record { size = refl; stopped = λ i s t lt was is. absurd (omega arith); others = λ i le. refl }
+
+  pub stopping_more : (k : ℕ) (old mid new : List K) → k < length old → Stopping n g k old mid → StopsAt n g k mid new → Stopping n g (k + 1) old new
+  stopping_more k old mid new few stopping at = record {
+    size = ap length at.set ∙ length-set mid k at.now ∙ stopping.size;
+    stopped = λ i s t lt was is. elim (cases_eq i k) [
+      | inl same ↦
+          let before : at.before ≡ s = same_some s at.before (slice_get old i) (slice_get mid k) (ap (λ (j : ℕ). slice_get old j) same ∙ sym (stopping.others k (omega arith))) was at.was in
+          subst (λ (u : K). IsStopped n g u t) before (subst (λ (u : K). IsStopped n g at.before u) (now_is i t same is) at.stops)
+      | inr differs ↦ stopping.stopped i s t (omega (arith, differs)) was (sym (other i differs) ∙ is)
+    ];
+    others = λ i le. let differs : i ≢ k = λ same. omega arith in other i differs ∙ stopping.others i (omega arith);
+  }
+    where
+      other : (i : ℕ) → i ≢ k → slice_get new i ≡ slice_get mid i
+      other i differs = ap (λ (l : List K). slice_get l i) at.set ∙ get_set_other mid k at.now i differs
+
+      here : slice_get new k ≡ Some at.now
+      here = ap (λ (l : List K). slice_get l k) at.set ∙ get_set_same mid k at.now (omega (arith, stopping.size))
+
+      now_is : (i : ℕ) (t : K) → i ≡ k → slice_get new i ≡ Some t → at.now ≡ t
+      now_is i t same is = same_some t at.now (slice_get new i) (slice_get new k) (ap (λ (j : ℕ). slice_get new j) same) is here
+
+  pub all_stopped : (k : ℕ) (old new : List K) → k ≡ length old → Stopping n g k old new → Pairs (IsStopped n g) old new
+  all_stopped k old new all stopping = pairs_of (IsStopped n g) old new stopping.size (λ i s t lt was is. stopping.stopped i s t (omega arith) was is)
+
+pub begun_stands : {K S C R X : Type 0} (n : Ghosts K S ℕ C R) (g : nv.Ghosts S) (kind : Kind ℕ n.Seen X) (old new : Bench K) (H : Ledger)
+    → new.day ≡ None → Begun n g old.devices new.devices → Stands n kind g old H → Stands n kind g new (Begin ∷ H)
+begun_stands n g kind old new H no_day begun stands = record {
+  day = subst (λ o. HasDay o (Begin ∷ H)) (sym no_day) (none_day H);
+  devices = λ i t is.
+      let lt : i < length new.devices = slice_get_within new.devices i t is in
+      let s = get_some old.devices i (omega (arith, pairs_length (IsStopped n g) old.devices new.devices begun)) in
+      (pairs_at (IsStopped n g) old.devices new.devices begun i s.0 t s.1 is).stands (i + 1) (view_by n kind (i + 1) H) (stands.devices i s.0 s.1);
+}

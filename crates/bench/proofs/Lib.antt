@@ -1,0 +1,10 @@
+mod Acts
+mod Begun
+mod Blank
+mod Events
+mod Frames
+mod Making
+mod Over
+mod Quiet
+mod Sets
+mod Stops
