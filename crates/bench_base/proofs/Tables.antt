@@ -1,9 +1,10 @@
 -- A row that is written is read again, and what is read is written so.
-use Rattle.std.proofs.Common.{◌≡◌, ℕ, [], ◌∷◌, ◌+◌, ◌≤◌, List, ◌++◌, length, get_or, take, drop, sym, ap, ap₂, ◌∙◌, refl, arith, inl, inr, length-append, append_assoc}
+use Rattle.std.specs.Int.{w32, from_be_bytes, to_be_bytes}
+use Rattle.std.proofs.Common.{◌≡◌, ℕ, zero, suc, [], ◌∷◌, ◌+◌, ◌*◌, ◌/◌, ◌%◌, ◌^◌, ◌<◌, ◌≤◌, List, ◌++◌, length, get_or, take, drop, replicate, sym, ap, ap₂, ◌∙◌, refl, arith, inl, inr, length-append, append_assoc}
 use Rattle.std.proofs.lemmas.Bool.{cases_lt}
 use Rattle.std.proofs.lemmas.List.{length-take, length-drop, get_or-drop, get_or-take, get_or_past, take-append-drop, drop-take, take-take, take_at, drop_at, drop-drop}
 use Rattle.std.proofs.lemmas.Nat.{be_bytes_2, be_bytes_4, be_bytes_8, from_be_bytes-to_be_bytes_2, from_be_bytes-to_be_bytes_4, from_be_bytes-to_be_bytes_8}
-use Rattle.bench_base.specs.Table.{Size, One, Two, Four, Eight, bytes_in, spelled, number, IsNumber, room, row, values, Fit, IsBytes}
+use Rattle.bench_base.specs.Table.{Size, One, Two, Four, Five, Eight, bytes_in, spelled, number, IsNumber, room, row, values, Fit, IsBytes}
 
 pub IsBytes-drop : (n : ℕ) (bytes : List ℕ) → IsBytes bytes → IsBytes (drop n bytes)
 IsBytes-drop n bytes h i = rw get_or-drop (h (n + i))
@@ -15,6 +16,16 @@ IsBytes-take n bytes h i =
       | inr le ↦ rw (get_or_past (take n bytes) i 0 (omega (arith, length-take n bytes))) (omega arith)
     ]
 
+pub IsBytes-append : (a b : List ℕ) → IsBytes a → IsBytes b → IsBytes (a ++ b)
+IsBytes-append [] b h k i = k i
+IsBytes-append (x ∷ a) b h k zero = h 0
+IsBytes-append (x ∷ a) b h k (suc i) = IsBytes-append a b (λ j. h (suc j)) k i
+
+pub IsBytes-zeros : (n : ℕ) → IsBytes (replicate n 0)
+IsBytes-zeros zero i = omega arith
+IsBytes-zeros (suc n) zero = omega arith
+IsBytes-zeros (suc n) (suc i) = IsBytes-zeros n i
+
 long_part : (at n : ℕ) (bytes : List ℕ) → at + n ≤ length bytes → length (take n (drop at bytes)) ≡ n
 long_part at n bytes h = omega (arith, length-take n (drop at bytes), length-drop at bytes)
 
@@ -23,12 +34,24 @@ one_cell [] h = absurd (omega (arith, h))
 one_cell (x ∷ []) h = refl
 one_cell (x ∷ y ∷ rest) h = absurd (omega (arith, h))
 
+-- five bytes are a byte and a number of four
+five_bytes : (x : ℕ) (rest : List ℕ) → length rest ≡ 4 → IsBytes (x ∷ rest) → spelled Five (number Five (x ∷ rest)) ≡ x ∷ rest
+unfolding spelled number
+five_bytes x rest l h =
+    let low : ℕ = from_be_bytes w32 rest in
+    let under : low < 2 ^ 32 = omega (arith, h 1, h 2, h 3, h 4) in
+    let high : (x * 2 ^ 32 + low) / 2 ^ 32 ≡ x = omega (arith, under) in
+    let same : (x * 2 ^ 32 + low) % 2 ^ 32 ≡ low = omega (arith, under) in
+    ap₂ (λ a b. a ∷ b) high (ap (to_be_bytes w32) same ∙ be_bytes_4 rest low l (λ i. h (suc i)) refl)
+
 -- the bytes of the number of these bytes
 spelled-number : (s : Size) (bytes : List ℕ) → length bytes ≡ bytes_in s → IsBytes bytes → spelled s (number s bytes) ≡ bytes
 unfolding spelled number
 spelled-number One bytes l h = one_cell bytes l
 spelled-number Two bytes l h = be_bytes_2 bytes _ l h refl
 spelled-number Four bytes l h = be_bytes_4 bytes _ l h refl
+spelled-number Five [] l h = absurd (omega (arith, l))
+spelled-number Five (x ∷ rest) l h = five_bytes x rest (omega (arith, l)) h
 spelled-number Eight bytes l h = be_bytes_8 bytes _ l h refl
 
 -- the number of the bytes of a number
@@ -37,6 +60,8 @@ unfolding spelled number
 number-spelled One n h = refl
 number-spelled Two n h = from_be_bytes-to_be_bytes_2 n h
 number-spelled Four n h = from_be_bytes-to_be_bytes_4 n h
+number-spelled Five n h =
+    ap (λ r. n / 2 ^ 32 * 2 ^ 32 + r) (from_be_bytes-to_be_bytes_4 (n % 2 ^ 32) (omega arith)) ∙ omega arith
 number-spelled Eight n h = from_be_bytes-to_be_bytes_8 n h
 
 length-spelled : (s : Size) (n : ℕ) → length (spelled s n) ≡ bytes_in s
@@ -44,6 +69,7 @@ unfolding spelled
 length-spelled One n = refl
 length-spelled Two n = refl
 length-spelled Four n = refl
+length-spelled Five n = refl
 length-spelled Eight n = refl
 
 number-fits : (s : Size) (bytes : List ℕ) → IsBytes bytes → IsNumber s (number s bytes)
@@ -51,6 +77,9 @@ unfolding number
 number-fits One bytes h = h 0
 number-fits Two bytes h = omega (arith, h 0, h 1)
 number-fits Four bytes h = omega (arith, h 0, h 1, h 2, h 3)
+number-fits Five bytes h =
+    let rest : IsBytes (drop 1 bytes) = IsBytes-drop 1 bytes h in
+    omega (arith, h 0, rest 0, rest 1, rest 2, rest 3)
 number-fits Eight bytes h = omega (arith, h 0, h 1, h 2, h 3, h 4, h 5, h 6, h 7)
 
 pub length-row : (ss : List Size) (vs : List ℕ) → Fit ss vs → length (row ss vs) ≡ room ss

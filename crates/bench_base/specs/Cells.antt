@@ -2,6 +2,7 @@
 use Rattle.std.specs.Prelude.{ℕ, ◌+◌, Bool, false, ◌&&◌, List, [], ◌∷◌, ◌==◌, nat_le, if◌then◌else◌}
 use Rattle.bench_base.specs.declared.ledger.Commit.{Commit}
 use Rattle.bench_base.specs.declared.ledger.Commit.TheVariants.{Made, Asked, Applied, Debited, Registered, Opened, Deposited, Flagged, Ruled, Settled, Ordered, Held, Began, Closed, Trusted, Accepted}
+use Rattle.bench_base.specs.declared.sizes.TheConstants.{MOST_COMMITS}
 use Rattle.bench_base.specs.Jobs.{cell_of}
 use Rattle.bench_base.specs.Scans.{block_of}
 
@@ -51,4 +52,4 @@ commits_at place (c ∷ C) = if same_place (place_of c) place then commits_at pl
 
 -- the cell of the commit has as many commits as its count can tell
 unfoldable pub is_worn : Commit → List Commit → Bool
-is_worn c C = nat_le 4294967295 (commits_at (place_of c) C)
+is_worn c C = nat_le MOST_COMMITS (commits_at (place_of c) C)

@@ -24,6 +24,18 @@ IsDay z = (pos 10957 ≤ℤ z) × (z ≤ℤ pos 84005)
 abbrev pub IsWord : ℕ → Type 0
 IsWord n = n < 2 ^ 32
 
+-- a number of 32 bits that is counted from 1
+abbrev pub IsCount : ℕ → Type 0
+IsCount n = (1 ≤ n) × IsWord n
+
+-- what a piece may be franked with, in mills
+abbrev pub IsPostage : ℕ → Type 0
+IsPostage a = (1 ≤ a) × (a ≤ 100000)
+
+-- what may be deposited at once, in mills
+abbrev pub IsDeposit : ℕ → Type 0
+IsDeposit a = (1 ≤ a) × (a ≤ 1000000000)
+
 abbrev pub IsKey : List ℕ → Type 0
 IsKey key = (length key ≡ 32) × IsBytes key
 
@@ -33,7 +45,7 @@ IsNode Centre = Unit {0}
 IsNode Host = Unit {0}
 IsNode Verifier = Unit {0}
 
--- each number of the commit fits its field; a note is left to what it reads as
+-- each number of the commit is one that an event makes; a note and a mark are left to what they read as
 abbrev pub InRange : Commit → Type 0
 InRange (Made d key) = IsDevice d × IsKey key
 InRange (Asked d n note) = IsDevice d × IsWord n
@@ -41,16 +53,16 @@ InRange (Applied d n v) = IsDevice d × IsWord n
 InRange (Debited d piece postage class day version) = IsDevice d × IsWord piece × IsWord postage × (class < 2 ^ 16) × IsDay day × (version < 2 ^ 8)
 InRange (Registered d origin key) = IsDevice d × IsWord origin × IsKey key
 InRange (Opened c) = IsCustomer c
-InRange (Deposited c receipt amount) = IsCustomer c × IsWord receipt × IsWord amount
+InRange (Deposited c receipt amount) = IsCustomer c × IsCount receipt × IsDeposit amount
 InRange (Flagged c suspended) = IsCustomer c
 InRange (Ruled d n v note) = IsDevice d × IsWord n
 InRange (Settled d n) = IsDevice d × IsWord n
-InRange (Ordered j d piece postage class) = IsWord j × IsDevice d × IsWord piece × IsWord postage × (class < 2 ^ 16)
+InRange (Ordered j d piece postage class) = IsCount j × IsDevice d × IsCount piece × IsPostage postage × (class < 2 ^ 16)
 InRange (Held j mark) = IsWord j × (length mark ≡ 64)
 InRange (Began j) = IsWord j
 InRange (Closed j) = IsWord j
 InRange (Trusted d key) = IsDevice d × IsKey key
-InRange (Accepted d piece scan) = IsDevice d × IsWord piece × IsWord scan
+InRange (Accepted d piece scan) = IsDevice d × IsWord piece × IsCount scan
 
 -- == events ==
 

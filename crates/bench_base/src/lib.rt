@@ -8,5 +8,6 @@ pub mod ledger;
 pub mod memory;
 pub mod numbers;
 pub mod refusals;
+pub mod sizes;
 pub mod stream;
 pub mod words;

@@ -1,5 +1,6 @@
-//! Numbers in a range: devices, customers and days.
+//! Numbers in a range: devices, customers, days and versions.
 ghost use Rattle.std.specs.Prelude.{◌≡◌, ℕ, pos, ◌≤◌, ◌≤ℤ◌, ◌↔◌, IsSome, IfSome};
+ghost use Rattle.bench_base.specs.Rules.{is_version};
 
 use std::marker::Model;
 
@@ -108,4 +109,11 @@ impl DayNo {
     {
         self.0
     }
+}
+
+/// Whether marks, requests and replies are read in this version: it is 1 or 2.
+pub fn is_known_version(version: u8) -> bool
+    ensures { result ≡ is_version version }
+{
+    version == 1 || version == 2
 }

@@ -163,6 +163,9 @@ pub enum Fail<F> {
 }
 
 pub type DevFail = Fail<DevRefusal>;
+
 pub type CentreFail = Fail<CentreRefusal>;
+
 pub type HostFail = Fail<HostRefusal>;
+
 pub type ScanFail = Fail<ScanRefusal>;

@@ -1,6 +1,6 @@
 -- What a device is asked goes in one of the steps.
-use Rattle.std.proofs.Common.{◌≡◌, ℕ, ℤ, Bool, true, false, List, [], ◌∷◌, Option, Some, None, Result, Ok, Err, cond, refl, sym, ap, subst}
-use Rattle.std.specs.Prelude.{◌==◌, option_map, ◌+◌}
+use Rattle.std.proofs.Common.{◌≡◌, ℕ, ℤ, Bool, true, false, List, [], ◌∷◌, Option, Some, None, Result, Ok, Err, cond, refl, sym, subst}
+use Rattle.std.specs.Prelude.{option_map, ◌+◌}
 use Rattle.std.proofs.lemmas.Bool.{eq-eqb}
 use Rattle.bench_base.specs.declared.words.Node.TheVariants.{Device}
 use Rattle.bench_base.specs.declared.refusals.DevRefusal.{DevRefusal}
@@ -28,7 +28,8 @@ use Rattle.node_acts.specs.declared.asked.Asked.{Asked}
 use Rattle.node_acts.specs.declared.asked.Asked.TheVariants.{On, Off, Cut, Call}
 use Rattle.bench_views.specs.declared.taken.DeviceCall.{DeviceCall}
 use Rattle.bench_views.specs.declared.taken.DeviceCall.TheVariants.{Make, Debit, Status}
-use Rattle.bench_views.specs.Devices.{record_in, seen_in, view_of, marked, released, device_plan, commit_by, MayReply}
+use Rattle.ledger_moves.specs.Devices.{record_in}
+use Rattle.bench_views.specs.Devices.{seen_in, view_of, marked, released, device_plan, commit_by, MayReply}
 use Rattle.bench_views.proofs.Steps.{Step, IsQuiet, IsRight, acts, turns-on, turns-off, cuts}
 
 module _ (H : Ledger) (ordered : AreOrdered (counted H)) (making : MakingStarts) (debiting : DebitingKeeps) where

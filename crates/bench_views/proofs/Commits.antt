@@ -1,5 +1,5 @@
 -- The commit of what a device is asked is that of its plan, and the device's, which is on.
-use Rattle.std.proofs.Common.{◌≡◌, ℕ, ℤ, List, [], ◌∷◌, Option, Some, None, Bool, true, false, option_map, refl, sym, ◌∙◌, ap}
+use Rattle.std.proofs.Common.{◌≡◌, ℕ, ℤ, List, [], ◌∷◌, Option, Some, None, Bool, true, false, option_map, refl, ◌∙◌, ap}
 use Rattle.std.specs.Prelude.{if◌then◌else◌}
 use Rattle.bench_base.specs.declared.words.Node.TheVariants.{Device}
 use Rattle.bench_base.specs.declared.refusals.DevRefusal.{DevRefusal}
@@ -12,7 +12,7 @@ use Rattle.bench_base.specs.Plans.{refuse, told}
 use Rattle.node_acts.specs.declared.asked.Asked.{Asked}
 use Rattle.node_acts.specs.declared.asked.Asked.TheVariants.{On, Off, Cut, Call}
 use Rattle.node_acts.specs.Views.{View}
-use Rattle.node_acts.specs.Acts.{commit_in, commit_of}
+use Rattle.node_acts.specs.Acts.{commit_in}
 use Rattle.node_acts.specs.Plans.{IsOfNode}
 use Rattle.node_acts.proofs.Told as told_of
 use Rattle.psd_wire.specs.declared.message.DebitMsg.{DebitMsg}

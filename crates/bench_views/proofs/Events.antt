@@ -1,6 +1,5 @@
 -- The events that the bench takes, one after the other.
-use Rattle.std.proofs.Common.{◌≡◌, ℕ, ℤ, List, Option, Some, None, subst}
-use Rattle.bench_base.specs.declared.words.Node.{Node}
+use Rattle.std.proofs.Common.{◌≡◌, ℕ, ℤ, List, Some, None, subst}
 use Rattle.bench_base.specs.declared.words.Node.TheVariants.{Device}
 use Rattle.bench_base.specs.declared.events.Event.{Event}
 use Rattle.bench_base.specs.declared.events.Event.TheVariants as ev

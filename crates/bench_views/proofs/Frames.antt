@@ -1,5 +1,5 @@
 -- A commit of one device leaves the record of another as it is, also the record that follows from an open commit of its own.
-use Rattle.std.proofs.Common.{◌≡◌, ℕ, true, false, List, ◌∷◌, Option, Some, None, refl, sym, ◌∙◌, ap, ◌+◌}
+use Rattle.std.proofs.Common.{◌≡◌, ℕ, true, false, List, ◌∷◌, refl, sym, ◌∙◌, ap, ◌+◌}
 use Rattle.std.specs.Prelude.{◌==◌, ◌≢◌, if◌then◌else◌}
 use Rattle.std.proofs.lemmas.Bool.{ne_eqb, eq-eqb}
 use Rattle.bench_base.specs.declared.words.Node.TheVariants.{Device}
@@ -8,7 +8,8 @@ use Rattle.bench_base.specs.declared.ledger.Commit.TheVariants.{Made, Asked, App
 use Rattle.bench_base.specs.Nodes.{same_node, node_of}
 use Rattle.bench_base.specs.Ledger.{count_of}
 use Rattle.ledger_terms.specs.Franking.{mark_after}
-use Rattle.bench_views.specs.Devices.{record_in, seen_in}
+use Rattle.ledger_moves.specs.Devices.{record_in}
+use Rattle.bench_views.specs.Devices.{seen_in}
 use Rattle.bench_views.proofs.Views.{Apart}
 
 -- a commit of device i, and one of another device

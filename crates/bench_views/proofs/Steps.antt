@@ -16,7 +16,7 @@ use Rattle.node_acts.specs.declared.act.Act.{Act}
 use Rattle.node_acts.specs.declared.act.Act.TheVariants.{Refuse, Tell, Commits}
 use Rattle.node_acts.specs.Views.{Counting, View, committed, torn}
 use Rattle.node_acts.specs.Acts.{commit_in}
-use Rattle.node_acts.specs.Plans.{with_commit, after, after_told, Fails, FailsTold, MayFail, MayReply, IsOtherUp, done_plan, view_after, view_told}
+use Rattle.node_acts.specs.Plans.{with_commit, after, after_told, Fails, FailsTold, MayFail, MayReply, done_plan, view_after, view_told}
 use Rattle.node_acts.specs.Kinds.{view_in}
 use Rattle.bench_views.proofs.Events.{some-same, none-some}
 

@@ -1,5 +1,5 @@
 -- A device, as the ledger shows it to the bench, and what an event of it does by that alone.
-use Rattle.std.specs.Prelude.{ℕ, ℤ, List, [], ◌∷◌, Option, None, option_map}
+use Rattle.std.specs.Prelude.{ℕ, ℤ, List, [], ◌∷◌, Option, None}
 use Rattle.bench_base.specs.declared.words.Node.TheVariants.{Device}
 use Rattle.bench_base.specs.declared.refusals.DevRefusal.{DevRefusal}
 use Rattle.bench_base.specs.declared.ledger.Commit.{Commit}
@@ -15,21 +15,16 @@ use Rattle.node_acts.specs.Views.{View}
 use Rattle.node_acts.specs.Acts.{commit_of}
 use Rattle.node_acts.specs.Plans as node
 use Rattle.node_acts.specs.Plans.{done_plan, when_on}
-use Rattle.ledger_terms.specs.Devices.{key_of}
 use Rattle.psd_state.specs.State.{State}
-use Rattle.psd_state.specs.Records.{state_of}
 use Rattle.psd_state.specs.Seen.{Seen, counting}
 use Rattle.psd_state.specs.Acts.{make_act, debit_act, status_act}
 use Rattle.psd_state.specs.declared.acts.Franked.{Franked}
+use Rattle.ledger_moves.specs.Devices.{record_in}
 use Rattle.ledger_moves.specs.Moves.{debit_by}
 use Rattle.node_acts.specs.declared.asked.Asked.{Asked}
 use Rattle.bench_views.specs.declared.taken.DeviceCall.{DeviceCall}
 use Rattle.bench_views.specs.declared.taken.DeviceCall.TheVariants.{Make, Debit, Status}
 use Rattle.node_acts.specs.Kinds.{Kind, view_in, node_plan, node_commit}
-
--- the record of device d after these commits, if it was made
-abbrev pub record_in : ℕ → List Commit → Option State
-record_in d C = option_map (λ key. state_of d key C) (key_of d C)
 
 abbrev pub seen_in : ℕ → List Commit → Seen
 seen_in d C = record { count = count_of (Device d) C; state = record_in d C }

@@ -4,7 +4,7 @@ ghost use Rattle.std.specs.Prelude.{◌+◌, ◌≤◌, ◌<◌, false};
 use anyhow::{Context, Result, ensure};
 use nv_model::MemNv;
 use nv_ring::Ring;
-use nv_store::Store;
+use nv_store::{MOST_BYTES, Store};
 use std::time::Instant;
 
 /// The lengths of the payloads of host, centre, device and verifier.
@@ -12,12 +12,12 @@ pub fn measure(rt: &HostRuntime, commits: u32) -> Result<()> {
     measure_length::<115>(rt, commits)?;
     measure_length::<192>(rt, commits)?;
     measure_length::<209>(rt, commits)?;
-    measure_length::<2056>(rt, commits)
+    measure_length::<MOST_BYTES>(rt, commits)
 }
 
 /// Commits a payload of L bytes so many times, at most 100,000 times.
 fn measure_length<const L: usize>(rt: &HostRuntime, commits: u32) -> Result<()>
-    requires { L ≤ 2056 }
+    requires { L ≤ MOST_BYTES }
 {
     let commits = commits.min(100_000);
     let content = vec![in rt.alloc(); 0; 16 * (5 + L)]?;
@@ -43,7 +43,7 @@ fn measure_length<const L: usize>(rt: &HostRuntime, commits: u32) -> Result<()>
 
 /// Commits so many payloads; false where one fails.
 fn commit_all<const L: usize>(ring: &mut Ring<MemNv, L>, commits: u32) -> bool
-    requires { L ≤ 2056 }
+    requires { L ≤ MOST_BYTES }
 {
     let payload = [7; L];
     for _made in 0..commits {

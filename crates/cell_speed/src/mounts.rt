@@ -4,14 +4,14 @@ ghost use Rattle.nv_model.specs.Memories.{memory_of};
 
 use anyhow::{Context, Result, ensure};
 use nv_model::{MemNv, Nv};
-use nv_store::{Room, Table};
+use nv_store::{MOST_BYTES, Room, Table};
 use std::time::Instant;
 
 /// The cells of a verifier.
 const CELLS: u32 = 1032;
 
 /// The bytes of a slot: gate, count and payload.
-const SLOT: usize = 5 + 2056;
+const SLOT: usize = 5 + MOST_BYTES;
 
 /// The bytes of the table.
 const SIZE: usize = 4_253_904;
@@ -35,7 +35,7 @@ pub fn measure(rt: &HostRuntime, mounts: u32) -> Result<()> {
 /// The microseconds of one read of all bytes and of one mount.
 fn measure_one(rt: &HostRuntime) -> Result<(u32, u32)> {
     let mut nv = full_table(rt)?;
-    let room = Room::<2056>::new(rt.alloc(), CELLS)?;
+    let room = Room::<MOST_BYTES>::new(rt.alloc(), CELLS)?;
     let mut bytes = vec![in rt.alloc(); 0; SIZE]?;
     ensure!(read_all(&mut nv, &mut bytes), "the read failed");
     let start = Instant::now(rt)?;

@@ -18,7 +18,7 @@ use Rattle.psd_wire.specs.declared.message.Request.{Request}
 use Rattle.ledger_terms.specs.Requests.{request_in}
 use Rattle.ledger_terms.specs.Sums.{adds, takes, ruled_sum, bought, returned}
 use Rattle.ledger_terms.specs.Centres.{registered, origin_in, key_in, enrolled, withdrawn, ruled, done, settled, opened, suspended, deposits, receipt, is_some_at, device_numbers, sum_over, device_share, customer_sum}
-use Rattle.ledger_terms.specs.Rulings.{Account, account_of, verdict, verdict_by, stored_reply, has_left, is_enrolled, out_of_balance, reply_to}
+use Rattle.ledger_terms.specs.Rulings.{Account, account_of, verdict, verdict_by, stored_reply, has_left, is_enrolled, out_of_balance, reply_to, written_amount}
 use Rattle.centre_ledger.specs.declared.rows.DeviceRow.{DeviceRow}
 use Rattle.centre_ledger.specs.Answers.{last_ruling, stored_note, settle_answer, deposit_answer}
 use Rattle.centre_ledger.specs.Order.{InOrder}
@@ -34,7 +34,7 @@ some-is : {A : Type 0} (o : Option A) → IsSome o → o ≡ None → ⊥
 some-is None s n = true≢false (sym s)
 some-is (Some a) s n = some-none n
 
-either : (e d : ℕ) {P : Type 0} → ((e == d) ≡ true → e ≡ d → P) → ((e == d) ≡ false → P) → P
+pub either : (e d : ℕ) {P : Type 0} → ((e == d) ≡ true → e ≡ d → P) → ((e == d) ≡ false → P) → P
 either e d same other = ⊎_elim (λ (h : (e == d) ≡ true). same h (eqb-true e d h)) other (cases_Bool (e == d))
 
 -- == devices ==
@@ -94,7 +94,7 @@ registering d origin key C o h =
     }
 
 -- what is settled now is the number that was ruled last
-settles : (settled ruled n now : ℕ) → settle_answer settled ruled n ≡ Ok (Some now) → now ≡ ruled
+pub settles : (settled ruled n now : ℕ) → settle_answer settled ruled n ≡ Ok (Some now) → now ≡ ruled
 settles settled ruled n now h = go (nat_le n settled) (n == ruled) refl h
   where
     go : (t u : Bool) → (n == ruled) ≡ u → cond t (Ok None) (cond u (Ok (Some n)) (Err (no.Ahead ruled))) ≡ Ok (Some now) → now ≡ ruled
@@ -128,18 +128,18 @@ other-devices r C _ h is = record { registered = is.registered; enrolled = is.en
 
 -- == customers ==
 
-record NoMoney (c : ℕ) (C : List Commit) : Type 0 where
-  suspended : suspended c C ≡ false
-  deposits : deposits c C ≡ 0
-  receipt : receipt c C ≡ (0, 0)
+pub record NoMoney (c : ℕ) (C : List Commit) : Type 0 where
+  pub suspended : suspended c C ≡ false
+  pub deposits : deposits c C ≡ 0
+  pub receipt : receipt c C ≡ (0, 0)
 
-no-money : (c : ℕ) (C : List Commit) → InOrder C → opened c C ≡ false → NoMoney c C
+pub no-money : (c : ℕ) (C : List Commit) → InOrder C → opened c C ≡ false → NoMoney c C
 no-money c [] o h = record { suspended = refl; deposits = refl; receipt = refl }
 no-money c (Opened e ∷ C) o h = either e c
     (λ t y. absurd (true≢false (rw t at h)))
     (λ t. let n = no-money c C o.1 (rw t at h) in record { suspended = n.suspended; deposits = n.deposits; receipt = n.receipt })
 no-money c (Deposited e n a ∷ C) o h = either e c
-    (λ t y. absurd (true≢false (sym (subst (λ z. opened z C ≡ true) y o.0) ∙ h)))
+    (λ t y. absurd (true≢false (sym (subst (λ z. opened z C ≡ true) y o.0.0) ∙ h)))
     (λ t. let was = no-money c C o.1 h in record { suspended = was.suspended; deposits = rw t was.deposits; receipt = rw t was.receipt })
 no-money c (Flagged e s ∷ C) o h = either e c
     (λ t y. absurd (true≢false (sym (subst (λ z. opened z C ≡ true) y o.0) ∙ h)))
@@ -285,7 +285,7 @@ ruling-keeps r o left note C sound is device number pays v verdict_is =
       number = q.number;
       kind = q.kind;
       verdict = v_same i;
-      amount = amount_same i;
+      amount = written_amount q.version (amount_same i);
       deadline = cond (is_dated (v_same i) q.kind) (q.day +ℤ pos 92) (pos 0);
       origin = origin_in (known i);
     } in

@@ -1,7 +1,8 @@
 -- The row with a ruling is sound where the row before it was.
 use Rattle.std.proofs.Common.{◌≡◌, ℕ, ℤ, pos, ◌+ℤ◌, ◌+◌, ◌^◌, ◌<◌, ◌≤◌, Bool, true, false, List, [], ◌∷◌, ◌++◌, Option, Some, None, cond, refl, sym, ap, subst, ◌∙◌, true≢false, ⊎_elim, arith, FitsSigned, Fits as Fits32, lit<}
-use Rattle.std.specs.Prelude.{◌==◌, ◌&&◌, ◌||◌, not, nat_lt, is_some}
+use Rattle.std.specs.Prelude.{min, ◌==◌, ◌&&◌, ◌||◌, not, nat_lt, is_some}
 use Rattle.std.specs.Int.{w32, cast_unsigned}
+use Rattle.std.proofs.Math.Nat.{min-le_left, min-le_right}
 use Rattle.std.proofs.lemmas.Int.{ints}
 use Rattle.std.proofs.Math.Facts.{Fits-of_z}
 use Rattle.std.proofs.lemmas.Bool.{cases_Bool, eqb-true, eqb-false, ltb-true, ltb-false, not-false, eq-eqb, and_parts}
@@ -15,9 +16,10 @@ use Rattle.bench_base.specs.Ranges.{IsWord, IsDay, IsCustomer}
 use Rattle.bench_base.specs.Rows.{first_holding, any_true}
 use Rattle.psd_wire.specs.declared.message.Request.{Request}
 use Rattle.psd_wire.specs.declared.message.Message.TheVariants as m
-use Rattle.psd_wire.specs.Grammar.{IsWhole, HasCode, ReadsAs, body, spell, kind_code, verdict_code}
+use Rattle.psd_wire.specs.Grammar.{IsWhole, HasCode, ReadsAs, body, spell, kind_code, verdict_code, sum_size}
+use Rattle.bench_base.specs.Table.{Four, Eight, IsNumber}
 use Rattle.ledger_terms.specs.Sums.{adds, takes}
-use Rattle.ledger_terms.specs.Rulings.{Account, verdict_by, own_customer, has_left, is_enrolled, out_of_balance, is_past_limits, buys_limit}
+use Rattle.ledger_terms.specs.Rulings.{Account, verdict_by, own_customer, has_left, is_enrolled, out_of_balance, is_past_limits, buys_limit, written_amount}
 use Rattle.psd_wire.proofs.Readings.{cut}
 use Rattle.centre_ledger.specs.declared.rows.DeviceRow.{DeviceRow}
 use Rattle.centre_ledger.specs.declared.rows.CustomerRow.{CustomerRow}
@@ -84,14 +86,37 @@ verdict_byte Suspended = lit< tt
 verdict_byte NoFunds = lit< tt
 verdict_byte Imbalance = lit< tt
 
-amount-word : (v : Verdict) (asked bought balance : ℕ) → IsWord asked → bought ≤ 4294967295 → (v ≡ NoFunds → balance < asked) → IsWord (amount_shown v asked bought balance)
-amount-word Granted asked bought balance w b f = w
-amount-word Imbalance asked bought balance w b f = omega arith
-amount-word NoFunds asked bought balance w b f = let less = f refl in omega arith
-amount-word NotEnrolled asked bought balance w b f = omega arith
-amount-word EnrolledAlready asked bought balance w b f = omega arith
-amount-word NoCustomer asked bought balance w b f = omega arith
-amount-word Suspended asked bought balance w b f = omega arith
+amount-long : (v : Verdict) (asked bought balance : ℕ) → asked < 2 ^ 64 → bought < 2 ^ 64 → (v ≡ NoFunds → balance < asked) → amount_shown v asked bought balance < 2 ^ 64
+amount-long Granted asked bought balance w b f = w
+amount-long Imbalance asked bought balance w b f = b
+amount-long NoFunds asked bought balance w b f = let less = f refl in omega arith
+amount-long NotEnrolled asked bought balance w b f = omega arith
+amount-long EnrolledAlready asked bought balance w b f = omega arith
+amount-long NoCustomer asked bought balance w b f = omega arith
+amount-long Suspended asked bought balance w b f = omega arith
+
+-- what is written of an amount fits the version's field
+amount-fits : (version amount : ℕ) → amount < 2 ^ 64 → IsNumber (sum_size version) (written_amount version amount)
+amount-fits version amount w = go (version == 1)
+  where
+    go : (b : Bool) → IsNumber (cond b Four Eight) (cond b (min amount 4294967295) amount)
+    go true = omega (arith, min-le_right amount 4294967295)
+    go false = w
+
+written-le : (version amount : ℕ) → written_amount version amount ≤ amount
+written-le version amount = go (version == 1)
+  where
+    go : (b : Bool) → cond b (min amount 4294967295) amount ≤ amount
+    go true = min-le_left amount 4294967295
+    go false = omega arith
+
+-- what is asked has eight bytes at most
+asked-long : (version amount : ℕ) → IsNumber (sum_size version) amount → amount < 2 ^ 64
+asked-long version amount h = go (version == 1) h
+  where
+    go : (b : Bool) → IsNumber (cond b Four Eight) amount → amount < 2 ^ 64
+    go true k = omega (arith, k)
+    go false k = k
 
 amount-granted : (v : Verdict) (asked bought balance : ℕ) → is_granted v ≡ true → amount_shown v asked bought balance ≡ asked
 amount-granted Granted asked bought balance h = refl
@@ -108,11 +133,11 @@ deadline-fits false z h = search (arith, ints)
 
 pub reply-whole : (r : DeviceRow) (v : Verdict) (balance : ℕ) (q : Request) → IsSoundDevice r → IsWord r.origin → IsWhole (m.Request q) → IsVerdict r balance q v → IsWhole (m.Reply (reply_by r v balance q))
 reply-whole r v balance q sound origin w (o, paid, says) =
-    let first = w.0 in
     let signed : FitsSigned w32 (deadline_after v q) = deadline-fits (is_dated v q.kind) q.day w.2 in
     let small : Fits32 w32 (cast_unsigned w32 (deadline_after v q)) = Fits-of_z signed in
-    let amount = amount-word v q.amount r.buys balance w.1.1.1.1.1.1.1.0 sound.limit (λ e. short-of (account r o balance) q (sym says ∙ e)) in
-    (w.0, (omega arith, (lit< tt, (w.1.1.1.0, (w.1.1.1.1.0, (kind_byte q.kind, (verdict_byte v, (amount, (omega (arith, small), (origin, tt))))))))), signed)
+    let asked = asked-long q.version q.amount w.1.1.1.1.1.1.1.0 in
+    let amount = amount-fits q.version _ (amount-long v q.amount r.buys balance asked sound.limit (λ e. short-of (account r o balance) q (sym says ∙ e))) in
+    (w.0, (omega (arith, w.0.1), (lit< tt, (w.1.1.1.0, (w.1.1.1.1.0, (kind_byte q.kind, (verdict_byte v, (amount, (omega (arith, small), (origin, tt))))))))), signed)
 
 -- == the sums ==
 
@@ -150,11 +175,18 @@ agrees q b t h =
       limited = λ e. and-then (same_kind q.kind Reset) (is_past_limits q.version b q.amount) e all.3;
     }
 
-within : (version bought amount : ℕ) → version ≡ 1 → is_past_limits version bought amount ≡ false → bought + amount ≤ 4294967295
-within version bought amount first h =
+limit-long : (version : ℕ) → buys_limit version < 2 ^ 64
+limit-long version = go (version == 1) (version == 2)
+  where
+    go : (a b : Bool) → cond a 4294967295 (cond b 1000000000000 0) < 2 ^ 64
+    go true b = omega arith
+    go false true = omega arith
+    go false false = omega arith
+
+within : (version bought amount : ℕ) → is_past_limits version bought amount ≡ false → bought + amount < 2 ^ 64
+within version bought amount h =
     let last = none-of-3 (amount == 0) (nat_lt 10000000 amount) (nat_lt (buys_limit version) (bought + amount)) h in
-    let most : bought + amount ≤ buys_limit version = ltb-false (buys_limit version) (bought + amount) last in
-    subst (λ n. bought + amount ≤ buys_limit n) first most
+    omega (arith, ltb-false (buys_limit version) (bought + amount) last, limit-long version)
 
 -- a reset empties nothing
 reset-fills : (k : Kind) → same_kind k Reset ≡ true → empties k ≡ false
@@ -165,15 +197,15 @@ reset-fills Audit h = refl
 reset-fills Refund h = absurd (true≢false (sym h))
 reset-fills Withdraw h = absurd (true≢false (sym h))
 
-record Sums (r : DeviceRow) (v : Verdict) (q : Request) : Type 0 where
-  returns_le : r.returns + takes v q ≤ r.buys + adds v q
-  limit : r.buys + adds v q ≤ 4294967295
-  filled : is_granted v ≡ true → same_kind q.kind Reset ≡ true → (adds v q ≡ q.amount) × (takes v q ≡ 0)
-  emptied : is_granted v ≡ true → empties q.kind ≡ true → takes v q ≡ q.amount
+pub record Sums (r : DeviceRow) (v : Verdict) (q : Request) : Type 0 where
+  pub returns_le : r.returns + takes v q ≤ r.buys + adds v q
+  pub limit : r.buys + adds v q < 2 ^ 64
+  pub filled : is_granted v ≡ true → same_kind q.kind Reset ≡ true → (adds v q ≡ q.amount) × (takes v q ≡ 0)
+  pub emptied : is_granted v ≡ true → empties q.kind ≡ true → takes v q ≡ q.amount
 
-sums-after : (r : DeviceRow) (v : Verdict) (balance : ℕ) (q : Request) → IsSoundDevice r → q.version ≡ 1 → IsVerdict r balance q v → Sums r v q
+pub sums-after : (r : DeviceRow) (v : Verdict) (balance : ℕ) (q : Request) → IsSoundDevice r → IsVerdict r balance q v → Sums r v q
 unfolding adds takes
-sums-after r v balance q sound first (o, paid, says) =
+sums-after r v balance q sound (o, paid, says) =
     let was = λ (h : is_granted v ≡ true). agrees q r.buys r.returns (granted (account r o balance) q (sym (ap is_granted says) ∙ h)).sums in
     let le = sound.returns_le in
     let limit = sound.limit in
@@ -191,7 +223,7 @@ sums-after r v balance q sound first (o, paid, says) =
       limit = ⊎_elim
           (λ (t : (is_granted v && same_kind q.kind Reset) ≡ true).
           let parts = and_parts (is_granted v) (same_kind q.kind Reset) t in
-          let most = within q.version r.buys q.amount first ((was parts.0).limited parts.1) in
+          let most = within q.version r.buys q.amount ((was parts.0).limited parts.1) in
           rw t most)
           (λ (t : (is_granted v && same_kind q.kind Reset) ≡ false). rw t (omega arith))
           (cases_Bool (is_granted v && same_kind q.kind Reset));
@@ -243,7 +275,7 @@ standing r v balance q sound (o, paid, says) =
 
 pub ruled-sound : (r : DeviceRow) (v : Verdict) (balance : ℕ) (q : Request) (note : List ℕ) → IsSoundDevice r → IsWord r.origin → IsWhole (m.Request q) → spell (m.Request q) r.key ≡ note → q.device ≡ r.device → q.number ≡ r.ruled + 1 → IsVerdict r balance q v → IsSoundDevice (ruled_row r v balance q note)
 ruled-sound r v balance q note sound origin whole spelled device n is =
-    let sums = sums-after r v balance q sound whole.0 is in
+    let sums = sums-after r v balance q sound is in
     let stands = standing r v balance q sound is in
     record {
       state = stands.state;
@@ -267,8 +299,11 @@ ruled-sound r v balance q note sound origin whole spelled device n is =
           reply_device = device;
           reply_number = refl;
           kind = refl;
-          buys = λ _ g k. let x = sums.filled g k in let a = x.0 in let t = x.1 in let le = sound.returns_le in let shown = amount-granted v q.amount r.buys balance g in omega arith;
-          returns = λ _ g k. let t = sums.emptied g k in let shown = amount-granted v q.amount r.buys balance g in omega arith;
+          version = refl;
+          buys = λ _ g k. let x = sums.filled g k in let a = x.0 in let t = x.1 in let le = sound.returns_le in let shown = amount-granted v q.amount r.buys balance g in
+              omega (arith, written-le q.version (amount_shown v q.amount r.buys balance));
+          returns = λ _ g k. let t = sums.emptied g k in let shown = amount-granted v q.amount r.buys balance g in
+              omega (arith, written-le q.version (amount_shown v q.amount r.buys balance));
         },
       );
     }

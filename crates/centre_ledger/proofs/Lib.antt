@@ -1,2 +1,4 @@
 pub mod Following
 pub mod Keeping
+pub mod Slots
+pub mod Standings

@@ -1,9 +1,9 @@
 -- The order in which the centre's commits come, the newest first.
-use Rattle.std.specs.Prelude.{◌≡◌, ◌<◌, true, false, List, [], ◌∷◌, None, IsSome}
+use Rattle.std.specs.Prelude.{◌≡◌, ◌+◌, ◌<◌, ◌≤◌, true, false, List, [], ◌∷◌, None, IsSome}
 use Rattle.bench_base.specs.declared.ledger.Commit.{Commit}
 use Rattle.bench_base.specs.declared.ledger.Commit.TheVariants.{Registered, Opened, Deposited, Flagged, Ruled, Settled}
 use Rattle.ledger_terms.specs.Requests.{request_in}
-use Rattle.ledger_terms.specs.Centres.{registered, opened, ruled}
+use Rattle.ledger_terms.specs.Centres.{registered, opened, deposits, ruled}
 use Rattle.ledger_terms.specs.Rulings.{verdict}
 
 -- a device is registered once, and a customer opened once, before the centre's other commits of them; a Ruled has a greater
@@ -11,7 +11,7 @@ use Rattle.ledger_terms.specs.Rulings.{verdict}
 abbrev pub Follows : Commit → List Commit → Type 0
 Follows (Registered d origin key) C = registered d C ≡ None
 Follows (Opened c) C = opened c C ≡ false
-Follows (Deposited c receipt amount) C = opened c C ≡ true
+Follows (Deposited c receipt amount) C = (opened c C ≡ true) × (deposits c C + amount ≤ 1000000000000000)
 Follows (Flagged c flag) C = opened c C ≡ true
 Follows (Ruled d n v note) C = IsSome (registered d C) × (ruled d C < n) × (v ≡ (verdict C (request_in note)).0)
 Follows (Settled d n) C = IsSome (registered d C)

@@ -11,7 +11,7 @@ use Rattle.psd_wire.specs.declared.message.Message.TheVariants as m
 use Rattle.psd_wire.specs.Grammar.{spell}
 use Rattle.ledger_terms.specs.Sums.{adds, takes}
 use Rattle.bench_base.specs.declared.refusals.CentreRefusal.{CentreRefusal}
-use Rattle.ledger_terms.specs.Rulings.{Account}
+use Rattle.ledger_terms.specs.Rulings.{Account, written_amount}
 use Rattle.centre_ledger.specs.declared.rows.DeviceRow.{DeviceRow}
 use Rattle.centre_ledger.specs.declared.rows.CustomerRow.{CustomerRow}
 
@@ -37,7 +37,7 @@ account r c balance = record {
   balance = balance;
 }
 
--- the amount in the Reply, by the verdict: of what was asked, what the device bought before, and the balance
+-- the amount by the verdict: of what was asked, what the device bought before, and the balance
 abbrev pub amount_shown : Verdict → ℕ → ℕ → ℕ → ℕ
 amount_shown Granted asked bought balance = asked
 amount_shown Imbalance asked bought balance = bought
@@ -55,7 +55,7 @@ reply_by r v balance q = record {
   number = q.number;
   kind = q.kind;
   verdict = v;
-  amount = amount_shown v q.amount r.buys balance;
+  amount = written_amount q.version (amount_shown v q.amount r.buys balance);
   deadline = deadline_after v q;
   origin = r.origin;
 }

@@ -1,5 +1,5 @@
 -- What holds of each row that the centre keeps. Amounts are in mills.
-use Rattle.std.specs.Prelude.{◌≡◌, ℕ, ◌+◌, ◌≤◌, ◌↔◌, true, List, [], Option, Some, None, Ok}
+use Rattle.std.specs.Prelude.{◌≡◌, ℕ, ◌+◌, ◌^◌, ◌<◌, ◌≤◌, ◌↔◌, true, List, [], Option, Some, None, Ok}
 use Rattle.bench_base.specs.declared.words.Kind.TheVariants.{Reset}
 use Rattle.bench_base.specs.declared.words.Verdict.{Verdict}
 use Rattle.bench_base.specs.Kinds.{same_kind, empties, is_granted}
@@ -25,6 +25,7 @@ pub record IsRuling (r : DeviceRow) (q : Request) (p : ReplyMsg) : Type 0 where
   pub reply_device : p.device ≡ r.device
   pub reply_number : p.number ≡ r.ruled
   pub kind : q.kind ≡ p.kind
+  pub version : q.version ≡ p.version
   -- without the ruling in flight, what is acknowledged is not below 0
   pub buys : r.ruled ≡ r.settled + 1 → is_granted p.verdict ≡ true → same_kind p.kind Reset ≡ true → r.returns + p.amount ≤ r.buys
   pub returns : r.ruled ≡ r.settled + 1 → is_granted p.verdict ≡ true → empties p.kind ≡ true → p.amount ≤ r.returns
@@ -38,7 +39,7 @@ pub record IsSoundDevice (r : DeviceRow) : Type 0 where
   pub settled_le : r.settled ≤ r.ruled
   pub ruled_le : r.ruled ≤ r.settled + 1
   pub returns_le : r.returns ≤ r.buys
-  pub limit : r.buys ≤ 4294967295
+  pub limit : r.buys < 2 ^ 64
   pub unruled : r.ruled ≡ 0 → (r.request ≡ []) × (r.reply ≡ [])
   pub ruling : 1 ≤ r.ruled → (q : Request) × (p : ReplyMsg) × IsRuling r q p
 

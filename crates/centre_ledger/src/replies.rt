@@ -5,6 +5,7 @@ ghost use Rattle.psd_wire.specs.declared.message.Message.TheVariants as m;
 ghost use Rattle.psd_wire.specs.Grammar.{IsWhole, spell};
 ghost use Rattle.ledger_terms.specs.Requests.{request_in};
 ghost use Rattle.ledger_terms.specs.Sums as sums;
+ghost use Rattle.ledger_terms.specs.Rulings as rulings;
 ghost use Rattle.centre_ledger.specs.Rows as rows;
 ghost use Rattle.centre_ledger.specs.Rows.{ruled_row};
 ghost use Rattle.centre_ledger.specs.Soundness.{IsSoundDevice, IsNext, IsVerdict};
@@ -45,7 +46,18 @@ fn amount_shown(verdict: Verdict, asked: u64, bought: u64, balance: u64) -> u64
     }
 }
 
-// The reply with this verdict.
+// A reply of version 1 names an amount of four bytes.
+fn written_amount(version: u8, amount: u64) -> u64
+    ensures { result ≡ rulings.written_amount version amount }
+{
+    if version == 1 {
+        amount.min(4_294_967_295)
+    } else {
+        amount
+    }
+}
+
+// The reply with this verdict, in the request's version.
 fn reply_by(row: &DeviceRow, verdict: Verdict, balance: u64, request: &Request) -> ReplyMsg
     ensures { result ≡ rows.reply_by row.now verdict balance request.now }
 {
@@ -55,7 +67,10 @@ fn reply_by(row: &DeviceRow, verdict: Verdict, balance: u64, request: &Request) 
         number: request.number,
         kind: request.kind,
         verdict,
-        amount: amount_shown(verdict, request.amount, row.buys, balance),
+        amount: written_amount(
+            request.version,
+            amount_shown(verdict, request.amount, row.buys, balance),
+        ),
         deadline: deadline_after(verdict, request),
         origin: row.origin,
     }
@@ -143,7 +158,8 @@ fn ruled_on(
 /// The row with the ruling on the bytes of a request.
 ///
 /// The bytes are the device's next request under its key, and the verdict is the one that `verdict` answers, with the
-/// balance, in mills, of the device's own customer. The reply is kept beside the request.
+/// balance, in mills, of the device's own customer. The reply has the request's version, and is kept beside it; one of version 1
+/// names no amount above 4,294,967,295.
 pub fn ruled(row: &DeviceRow, request: &Note, verdict: Verdict, balance: u64) -> DeviceRow
     requires sound { IsSoundDevice row.now }
     requires next { IsNext row.now request.now }

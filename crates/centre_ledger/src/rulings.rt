@@ -1,5 +1,5 @@
 //! How the centre rules on a request.
-ghost use Rattle.std.specs.Prelude.{◌≡◌, ◌≤◌, ◌<◌, ◌^◌, IsSome, IfSome};
+ghost use Rattle.std.specs.Prelude.{◌≡◌, ◌+◌};
 ghost use Rattle.bench_base.specs.declared.words.Kind.TheVariants.{Enrol, Reset};
 ghost use Rattle.bench_base.specs.Kinds as kinds;
 ghost use Rattle.psd_wire.specs.declared.message.Message.TheVariants as m;
@@ -18,8 +18,16 @@ use psd_wire::Request;
 /// The most that one reset may be of, in mills.
 const RESET_LIMIT: u64 = 10_000_000;
 
-/// The most that the buys of a device may come to, in mills.
-const BUYS_LIMIT: u64 = 4_294_967_295;
+// The most that the buys of a device may come to by a request of this version, in mills.
+fn buys_limit(version: u8) -> u64
+    ensures { result ≡ rulings.buys_limit version }
+{
+    match version {
+        1 => 4_294_967_295,
+        2 => 1_000_000_000_000,
+        _ => 0,
+    }
+}
 
 #[tactic(auto, unfolding(bench_base::specs::Kinds::same_kind))]
 fn is_enrol(kind: Kind) -> bool
@@ -37,24 +45,26 @@ fn is_reset(kind: Kind) -> bool
 
 // A reset of nothing, of more than the limit, or past the limit of all buys.
 fn is_past_limits(version: u8, bought: u64, amount: u64) -> bool
-    requires first { version ≡ 1 }
-    requires bought { bought ≤ 4294967295 }
-    requires amount { amount < 2 ^ 32 }
     ensures { result ≡ rulings.is_past_limits version bought amount }
 {
-    amount == 0 || amount > RESET_LIMIT || bought + amount > BUYS_LIMIT
+    let all = u128::from(bought) + u128::from(amount);
+    amount == 0 || amount > RESET_LIMIT || all > u128::from(buys_limit(version))
+}
+
+// Three sums from outside, each of which may be any number of eight bytes.
+fn sum_of(ascending: u64, descending: u64, refunded: u64) -> u128
+    ensures { result ≡ ascending + descending + refunded }
+{
+    u128::from(ascending) + u128::from(descending) + u128::from(refunded)
 }
 
 // Whether the request disagrees with what was granted before.
 #[tactic(auto, unfolding(bench_base::specs::Kinds::same_kind))]
 fn is_out_of_balance(request: &Request, bought: u64, returned: u64) -> bool
-    requires whole { IsWhole (m.Request request.now) }
-    requires bought { bought ≤ 4294967295 }
     ensures { result ≡ rulings.out_of_balance request.now bought returned }
 {
-    if request.ascending + request.descending + request.refunded != bought
-        || request.refunded != returned
-    {
+    let total = sum_of(request.ascending, request.descending, request.refunded);
+    if total != u128::from(bought) || request.refunded != returned {
         return true;
     }
     match request.kind {

@@ -1,17 +1,20 @@
 //! What holds of all lists of commits and all rows, as contracts of functions that do nothing.
-ghost use Rattle.centre_ledger.specs.Laws.{RegisteringStarts, SettlingKeeps, OtherDevicesKeep, OpeningStarts, DepositingKeeps, FlaggingKeeps, OtherCustomersKeep, RulingByRows, RulingKeeps, BalancingByRows};
+ghost use Rattle.centre_ledger.specs.Laws.{DeviceRows, CustomerRows, SlotLaws, OrderLaws, SoundLaws, Rulings, StandingByRows};
 
-/// The rows of the centre follow from the commits: after each commit they are those of the commits and that one; and what
-/// they say of a ruling and of a balance is what follows from the commits.
+/// The rows of the centre follow from the commits:
+///
+/// - `devices` and `customers`: after each commit they are those of the commits and that one;
+/// - `slots`: there is a row of a device exactly where it is registered, and of a customer exactly where it is open;
+/// - `order`: the commit that a call's refusals leave comes in order;
+/// - `sound`: each new row meets the conditions of a row;
+/// - `rulings`: what the rows say of a verdict, of the customer who pays and of a balance is what follows from the commits;
+/// - `standing`: so is what they say of what is acknowledged and in flight, and of a reply that is sent again.
 pub fn rows_follow_the_commits()
-    ensures registered { RegisteringStarts }
-    ensures settled { SettlingKeeps }
-    ensures other_devices { OtherDevicesKeep }
-    ensures opened { OpeningStarts }
-    ensures deposited { DepositingKeeps }
-    ensures flagged { FlaggingKeeps }
-    ensures other_customers { OtherCustomersKeep }
-    ensures ruled { RulingByRows }
-    ensures after_ruling { RulingKeeps }
-    ensures balanced { BalancingByRows }
+    ensures devices { DeviceRows }
+    ensures customers { CustomerRows }
+    ensures slots { SlotLaws }
+    ensures order { OrderLaws }
+    ensures sound { SoundLaws }
+    ensures rulings { Rulings }
+    ensures standing { StandingByRows }
 {}

@@ -1,36 +1,59 @@
 -- A mark that is spelled is read, and what is read is a mark that is spelled so.
-use Rattle.std.proofs.Common.{◌≡◌, ℕ, ℤ, [], ◌∷◌, ◌+◌, ◌^◌, ◌<◌, List, ◌++◌, length, get_or, take, drop, sym, ap, ap₂, ◌∙◌, refl, arith, subst, Result, Ok, Err, Bool, true, false, length-append, ◌↔◌, ◌≢◌, IfOk, IsErrOf, slice_index, eqb-true, length-drop, if◌then◌else◌, FitsSigned}
+use Rattle.std.proofs.Common.{◌≡◌, ◌==◌, ℕ, ℤ, [], ◌∷◌, ◌+◌, ◌^◌, ◌<◌, List, ◌++◌, length, get_or, take, drop, sym, ap, ap₂, ◌∙◌, refl, arith, subst, Result, Ok, Err, Bool, true, false, length-append, ◌↔◌, ◌≢◌, IfOk, IsErrOf, slice_index, eqb-true, length-drop, if◌then◌else◌, FitsSigned}
 use Rattle.std.specs.Int.{w32}
 use Rattle.std.proofs.lemmas.Int.{of_z-to_z, to_z-of_z}
 use Rattle.std.proofs.lemmas.List.{take_at, drop_at, take-append-drop}
 use borrow.Author.Gap.{read_sfits}
-use Rattle.bench_base.specs.Table.{One, row, values, Fit, IsBytes, number, spelled}
-use Rattle.bench_base.proofs.Tables.{row-values, values-row, values-fit, length-row}
+use Rattle.bench_base.specs.Table.{Size, One, room, row, values, Fit, IsBytes, spelled}
+use Rattle.bench_base.specs.Rules.{is_version, IsVersion}
+use Rattle.bench_base.proofs.Tables.{row-values, values-row, values-fit, length-row, first_number, second_number, first_cell}
 use Rattle.hmac_core.specs.Hmac.{hmac}
 use Rattle.hmac_core.proofs.Codes.{length-hmac}
 use Rattle.indicium.specs.declared.Mark.{Mark}
 use Rattle.bench_base.specs.declared.refusals.MarkFault.{MarkFault}
 use Rattle.bench_base.specs.declared.refusals.MarkFault.TheVariants.{Length, Version, Algorithm}
-use Rattle.indicium.specs.Marks.{mark_table, mark_values, mark_from, body, spell, IsWhole, mark_at, read_mark, ReadsAs, IsSpelled}
+use Rattle.indicium.specs.Marks.{mark_fields, mark_table, mark_values, mark_from, body, spell, IsWhole, mark_at, read_mark, ReadsAs, IsSpelled}
+
+-- a fact of each of the two tables
+by_flag : (P : List Size → Type 0) (b : Bool) (first second : List Size) → P first → P second → P (if b then first else second)
+by_flag P true first second one two = one
+by_flag P false first second one two = two
+
+either_table : (P : List Size → Type 0) (v : ℕ) → P (mark_fields 1) → P (mark_fields 2) → P (mark_fields v)
+either_table P v one two = by_flag P (v == 1) (mark_fields 1) (mark_fields 2) one two
+
+room-table : (v : ℕ) → room (mark_table v) ≡ 32
+room-table v = either_table (λ fields. room (One ∷ One ∷ fields) ≡ 32) v refl refl
 
 from-values : (m : Mark) → FitsSigned w32 m.day → mark_from (mark_values m) ≡ m
 from-values m h = ap (λ (d : ℤ). record m { day = d }) (to_z-of_z w32 m.day h)
 
 pub length-body : (m : Mark) → IsWhole m → length (body m) ≡ 32
 unfolding body
-length-body m w = length-row mark_table (mark_values m) w.fit
+length-body m w = length-row (mark_table m.version) (mark_values m) w.fit ∙ room-table m.version
+
+-- the version stands first
+version_of : (m : Mark) (rest : List ℕ) → get_or (body m ++ rest) 0 0 ≡ m.version
+unfolding body
+version_of m rest = first_cell m.version (One ∷ mark_fields m.version) (drop 1 (mark_values m)) rest
+
+values-body : (m : Mark) (rest : List ℕ) → IsWhole m → values 0 (mark_table m.version) (body m ++ rest) ≡ mark_values m
+unfolding body
+values-body m rest w = values-row (mark_table m.version) (mark_values m) [] rest 0 refl w.fit
 
 -- a whole mark's bytes, whatever follows them, read as it
 pub mark_at-body : (m : Mark) (rest : List ℕ) → IsWhole m → mark_at (body m ++ rest) ≡ m
-unfolding body mark_at
-mark_at-body m rest w = ap mark_from (values-row mark_table (mark_values m) [] rest 0 refl w.fit) ∙ from-values m w.day
+unfolding mark_at
+mark_at-body m rest w =
+    ap (λ v. mark_from (values 0 (mark_table v) (body m ++ rest))) (version_of m rest)
+    ∙ ap mark_from (values-body m rest w) ∙ from-values m w.day
 
 -- a test that lets through
 pub let_through : {A F : Type 0} (b : Bool) (r : Result A F) (e : F) (y : A) → (if b then r else Err e) ≡ Ok y → (b ≡ true) × (r ≡ Ok y)
 let_through true r e y h = (refl, h)
 let_through false r e y h = absurd (cc)
 
-pub read_mark-ok : (bytes : List ℕ) → length bytes ≡ 64 → get_or bytes 0 0 ≡ 1 → get_or bytes 1 0 ≡ 1 → read_mark bytes ≡ Ok (mark_at bytes, drop 32 bytes)
+pub read_mark-ok : (bytes : List ℕ) → length bytes ≡ 64 → is_version (get_or bytes 0 0) ≡ true → get_or bytes 1 0 ≡ 1 → read_mark bytes ≡ Ok (mark_at bytes, drop 32 bytes)
 unfolding read_mark
 read_mark-ok bytes l v a = rw (l, v, a) refl
 
@@ -39,28 +62,38 @@ values-again : (v a d p m x y t o k : ℕ) → a ≡ 1 → t < 2 ^ 32 → mark_v
 values-again v a d p m x y t o k one fits =
     ap₂ (λ b s. v ∷ b ∷ d ∷ p ∷ m ∷ x ∷ y ∷ s ∷ o ∷ k ∷ []) (sym one) (of_z-to_z w32 t fits)
 
-first_number : (bytes : List ℕ) → number One (take 1 bytes) ≡ get_or bytes 0 0
-unfolding number
-first_number [] = refl
-first_number (x ∷ bytes) = refl
+values-from : (v : ℕ) (bytes : List ℕ) → get_or bytes 1 0 ≡ 1 → IsBytes bytes
+    → mark_values (mark_from (values 0 (mark_table v) bytes)) ≡ values 0 (mark_table v) bytes
+values-from v bytes a h =
+    either_table (λ fields. Fit (One ∷ One ∷ fields) (values 0 (One ∷ One ∷ fields) bytes)
+    → mark_values (mark_from (values 0 (One ∷ One ∷ fields) bytes)) ≡ values 0 (One ∷ One ∷ fields) bytes) v
+    (λ fit. values-again _ _ _ _ _ _ _ _ _ _ (second_number bytes ∙ a) fit.1.1.1.1.1.1.1.0)
+    (λ fit. values-again _ _ _ _ _ _ _ _ _ _ (second_number bytes ∙ a) fit.1.1.1.1.1.1.1.0)
+    (values-fit (mark_table v) 0 bytes h)
 
-second_number : (bytes : List ℕ) → number One (take 1 (drop 1 bytes)) ≡ get_or bytes 1 0
-second_number [] = first_number []
-second_number (x ∷ bytes) = first_number bytes
+known : (v : ℕ) → is_version v ≡ true → IsVersion v
+known v h = grind arith
 
-values-from : (bytes : List ℕ) → get_or bytes 1 0 ≡ 1 → IsBytes bytes → mark_values (mark_from (values 0 mark_table bytes)) ≡ values 0 mark_table bytes
-values-from bytes a h =
-    let fit : Fit mark_table (values 0 mark_table bytes) = values-fit mark_table 0 bytes h in
-    values-again _ _ _ _ _ _ _ _ _ _ (second_number bytes ∙ a) fit.1.1.1.1.1.1.1.0
+known_is : (v : ℕ) → IsVersion v → is_version v ≡ true
+known_is v h = grind arith
 
-pub body-mark_at : (bytes : List ℕ) → length bytes ≡ 64 → get_or bytes 0 0 ≡ 1 → get_or bytes 1 0 ≡ 1 → IsBytes bytes
+pub body-mark_at : (bytes : List ℕ) → length bytes ≡ 64 → is_version (get_or bytes 0 0) ≡ true → get_or bytes 1 0 ≡ 1 → IsBytes bytes
     → IsWhole (mark_at bytes) × (body (mark_at bytes) ≡ take 32 bytes)
 unfolding mark_at body
 body-mark_at bytes l v a h =
-    let same = values-from bytes a h in
-    let fit : Fit mark_table (values 0 mark_table bytes) = values-fit mark_table 0 bytes h in (
-      record { version = first_number bytes ∙ v; fit = subst (Fit mark_table) (sym same) fit; day = read_sfits w32 _ },
-      ap (row mark_table) same ∙ row-values mark_table 0 bytes (omega (arith, l)) h,
+    let version : ℕ = get_or bytes 0 0 in
+    let table : List Size = mark_table version in
+    let same = values-from version bytes a h in
+    let stands : (mark_at bytes).version ≡ version = first_number bytes in
+    let fit : Fit table (values 0 table bytes) = values-fit table 0 bytes h in
+    let long : room table ≡ 32 = room-table version in (
+      record {
+        version = subst IsVersion (sym stands) (known version v);
+        fit = subst (λ n. Fit (mark_table n) (mark_values (mark_at bytes))) (sym stands) (subst (Fit table) (sym same) fit);
+        day = read_sfits w32 _;
+      },
+      ap (λ n. row (mark_table n) (mark_values (mark_at bytes))) stands ∙ ap (row table) same
+          ∙ row-values table 0 bytes (omega (arith, l, long)) h ∙ ap (λ n. take n bytes) long,
     )
 
 -- what is read is spelled so
@@ -71,7 +104,7 @@ read_mark-found bytes x h e =
     let v = let_through _ _ _ _ l.1 in
     let a = let_through _ _ _ _ v.1 in
     let long : length bytes ≡ 64 = eqb-true _ _ l.0 in
-    let found = body-mark_at bytes long (eqb-true _ _ v.0) (eqb-true _ _ a.0) h in
+    let found = body-mark_at bytes long v.0 (eqb-true _ _ a.0) h in
     let same : (mark_at bytes, drop 32 bytes) ≡ x = cc in
     let mark : mark_at bytes ≡ x.0 = ap (λ (y : Mark × List ℕ). y.0) same in
     let code : drop 32 bytes ≡ x.1 = ap (λ (y : Mark × List ℕ). y.1) same in (
@@ -79,10 +112,6 @@ read_mark-found bytes x h e =
       sym (take-append-drop 32 bytes) ∙ ap₂ (λ s t. s ++ t) (sym found.1 ∙ ap body mark) code,
       ap length (sym code) ∙ omega (arith, long, length-drop 32 bytes),
     )
-
-version_of : (m : Mark) (code : List ℕ) → IsWhole m → get_or (body m ++ code) 0 0 ≡ 1
-unfolding body spelled
-version_of m code w = w.version
 
 algorithm_of : (m : Mark) (code : List ℕ) → get_or (body m ++ code) 1 0 ≡ 1
 unfolding body spelled
@@ -92,7 +121,7 @@ algorithm_of m code = refl
 pub read_mark-spell : (m : Mark) (code : List ℕ) → IsWhole m → length code ≡ 32 → read_mark (body m ++ code) ≡ Ok (m, code)
 read_mark-spell m code w long =
     let size : length (body m ++ code) ≡ 64 = omega (arith, length-append (body m) code, length-body m w, long) in
-    read_mark-ok (body m ++ code) size (version_of m code w) (algorithm_of m code)
+    read_mark-ok (body m ++ code) size (ap is_version (version_of m code) ∙ known_is m.version w.version) (algorithm_of m code)
     ∙ ap₂ (λ a b. Ok (a, b)) (mark_at-body m code w) (drop_at (body m) code 32 (length-body m w))
 
 pub length-spell : (m : Mark) (key : List ℕ) → IsWhole m → length (spell m key) ≡ 64
@@ -133,11 +162,13 @@ pub length-fault : (bytes : List ℕ) → IsErrOf (read_mark bytes) (Length (len
 unfolding read_mark
 length-fault bytes = grind arith
 
-pub version-fault : (bytes : List ℕ) → IsErrOf (read_mark bytes) (Version (slice_index bytes 0)) ↔ ((length bytes ≡ 64) × (slice_index bytes 0 ≢ 1))
+pub version-fault : (bytes : List ℕ) → IsErrOf (read_mark bytes) (Version (slice_index bytes 0))
+    ↔ ((length bytes ≡ 64) × (slice_index bytes 0 ≢ 1) × (slice_index bytes 0 ≢ 2))
 unfolding read_mark
 version-fault bytes = grind arith
 
-pub algorithm-fault : (bytes : List ℕ) → IsErrOf (read_mark bytes) (Algorithm (slice_index bytes 1)) ↔ ((length bytes ≡ 64) × (slice_index bytes 0 ≡ 1) × (slice_index bytes 1 ≢ 1))
+pub algorithm-fault : (bytes : List ℕ) → IsErrOf (read_mark bytes) (Algorithm (slice_index bytes 1))
+    ↔ ((length bytes ≡ 64) × IsVersion (slice_index bytes 0) × (slice_index bytes 1 ≢ 1))
 unfolding read_mark
 algorithm-fault bytes = grind arith
 

@@ -1,11 +1,13 @@
 //! Marks out of bytes, and whether a mark is genuine.
 ghost use Rattle.std.specs.Prelude.{◌≡◌, ◌≢◌, ◌≤◌, ◌↔◌, ◌++◌, ℕ, List, length, slice_index, IfOk, IsErrOf, IsTrue, Ok};
 ghost use Rattle.bench_base.specs.declared.refusals.MarkFault.TheVariants.{Length, Version, Algorithm};
+ghost use Rattle.bench_base.specs.Rules.{IsVersion};
 ghost use Rattle.indicium.specs.Marks.{body, mark_at, read_mark, IsWhole, IsSpelled, ReadsAs};
 ghost use Rattle.indicium.specs.declared.Mark.{Mark as TheMark};
 
 use crate::Mark;
-use bench_base::fields::{i32_at, u16_at, u32_at};
+use bench_base::fields::{i32_at, u16_at, u32_at, u40_at};
+use bench_base::numbers::is_known_version;
 use bench_base::refusals::MarkFault;
 use bench_base::words::Key;
 use hmac_core::matches;
@@ -15,8 +17,8 @@ const LENGTH: usize = 64;
 
 /// The mark that the bytes spell and the code behind it, which is not checked.
 ///
-/// The first fault is answered: `Length` where there are not 64 bytes, `Version` where byte 0 is not 1,
-/// `Algorithm` where byte 1 is not 1.
+/// The first fault is answered: `Length` where there are not 64 bytes, `Version` where byte 0 is
+/// neither 1 nor 2, `Algorithm` where byte 1 is not 1.
 pub fn read_indicium(bytes: &[u8]) -> Result<(Mark, [u8; 32]), MarkFault>
     ensures exact { result ≡ read_mark bytes.now }
     ensures found { IfOk result (λ (mark, code). ReadsAs bytes.now mark code) }
@@ -24,9 +26,9 @@ pub fn read_indicium(bytes: &[u8]) -> Result<(Mark, [u8; 32]), MarkFault>
     ensures only { (mark : TheMark) (code : List ℕ) → ReadsAs bytes.now mark code → result ≡ Ok (mark, code) }
     ensures length { IsErrOf result (Length (length bytes.now)) ↔ (length bytes.now ≢ 64) }
     ensures version { IsErrOf result (Version (slice_index bytes.now 0))
-        ↔ ((length bytes.now ≡ 64) × (slice_index bytes.now 0 ≢ 1)) }
+        ↔ ((length bytes.now ≡ 64) × (slice_index bytes.now 0 ≢ 1) × (slice_index bytes.now 0 ≢ 2)) }
     ensures algorithm { IsErrOf result (Algorithm (slice_index bytes.now 1))
-        ↔ ((length bytes.now ≡ 64) × (slice_index bytes.now 0 ≡ 1) × (slice_index bytes.now 1 ≢ 1)) }
+        ↔ ((length bytes.now ≡ 64) × IsVersion (slice_index bytes.now 0) × (slice_index bytes.now 1 ≢ 1)) }
 {
     fields_and_code(bytes)
 }
@@ -38,7 +40,7 @@ fn fields_and_code(bytes: &[u8]) -> Result<(Mark, [u8; 32]), MarkFault>
     if bytes.len() != LENGTH {
         return Err(MarkFault::Length(bytes.len()));
     }
-    if bytes[0] != 1 {
+    if !is_known_version(bytes[0]) {
         return Err(MarkFault::Version(bytes[0]));
     }
     if bytes[1] != 1 {
@@ -51,9 +53,23 @@ fn fields_and_code(bytes: &[u8]) -> Result<(Mark, [u8; 32]), MarkFault>
 }
 
 // The fields of a mark, whose bytes come first.
-#[tactic(auto, unfolding(crate::specs::Marks::mark_at, bench_base::specs::Table::number))]
 fn mark_of(bytes: &[u8]) -> Mark
     requires long { 32 ≤ length bytes.now }
+    requires version { IsVersion (slice_index bytes.now 0) }
+    ensures { result ≡ mark_at bytes.now }
+{
+    if bytes[0] == 1 {
+        first_mark(bytes)
+    } else {
+        second_mark(bytes)
+    }
+}
+
+// The fields in version 1.
+#[tactic(auto, unfolding(crate::specs::Marks::mark_at, bench_base::specs::Table::number))]
+fn first_mark(bytes: &[u8]) -> Mark
+    requires long { 32 ≤ length bytes.now }
+    requires version { slice_index bytes.now 0 ≡ 1 }
     ensures { result ≡ mark_at bytes.now }
 {
     Mark {
@@ -63,6 +79,26 @@ fn mark_of(bytes: &[u8]) -> Mark
         postage: u32_at(bytes, 10),
         ascending: u64::from(u32_at(bytes, 14)),
         descending: u64::from(u32_at(bytes, 18)),
+        day: i32_at(bytes, 22),
+        origin: u32_at(bytes, 26),
+        class: u16_at(bytes, 30),
+    }
+}
+
+// The fields in version 2.
+#[tactic(auto, unfolding(crate::specs::Marks::mark_at, bench_base::specs::Table::number))]
+fn second_mark(bytes: &[u8]) -> Mark
+    requires long { 32 ≤ length bytes.now }
+    requires version { slice_index bytes.now 0 ≡ 2 }
+    ensures { result ≡ mark_at bytes.now }
+{
+    Mark {
+        version: bytes[0],
+        device: u32::from(u16_at(bytes, 2)),
+        piece: u32_at(bytes, 4),
+        postage: u32_at(bytes, 8),
+        ascending: u40_at(bytes, 12),
+        descending: u40_at(bytes, 17),
         day: i32_at(bytes, 22),
         origin: u32_at(bytes, 26),
         class: u16_at(bytes, 30),

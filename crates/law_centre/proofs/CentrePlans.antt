@@ -41,6 +41,11 @@ use Rattle.centre_ledger.specs.Answers.{last_ruling}
 use Rattle.ledger_moves.specs.Histories.{IsKnown}
 use Rattle.ledger_lawful.specs.Sane.{IsSaneCentre, is_imbalance}
 use Rattle.law_good.proofs.Basics.{some-same, some-none, or_false, chosen, first, first-that, none-holds, either}
+use Rattle.std.specs.Prelude.{min}
+use Rattle.std.proofs.Math.Nat.{min-le_right, min-eq_left}
+use Rattle.bench_base.specs.Table.{Four, Eight, IsNumber}
+use Rattle.psd_wire.specs.Grammar.{sum_size}
+use Rattle.ledger_terms.specs.Rulings.{written_amount}
 use Rattle.law_plans.proofs.Whole.{whole-reply, deadline_signed, no_deadline}
 use Rattle.law_good.proofs.Good.{Good}
 use Rattle.law_money.proofs.Links.{link, note-le, applied-le}
@@ -67,11 +72,26 @@ granted-amount : (rows : List (Bool × (Verdict × ℕ))) (a : ℕ) → AllRefus
 granted-amount rows a each h = ap (λ (z : Verdict × ℕ). z.1) (none-holds rows (Granted, a) (granted-rows rows a each h))
 
 -- an amount in a Reply is 0, the Request's, or a balance below it; but for a disagreement of the sums
-amount-word : (a : Account) (q : Request) → IsWord q.amount → is_imbalance (verdict_by a q).0 ≡ false → IsWord (verdict_by a q).1
+amount-le : (a : Account) (q : Request) → is_imbalance (verdict_by a q).0 ≡ false → (verdict_by a q).1 ≤ q.amount
 unfolding verdict_by
-amount-word a q fits = first-that (λ (x : Verdict × ℕ). is_imbalance x.0 ≡ false → IsWord x.1) (verdict_rows a q) (Granted, q.amount)
+amount-le a q = first-that (λ (x : Verdict × ℕ). is_imbalance x.0 ≡ false → x.1 ≤ q.amount) (verdict_rows a q) (Granted, q.amount)
     ((λ _ _. omega arith), ((λ _ _. omega arith), ((λ _ t. absurd (true≢false t)), ((λ _ _. omega arith), ((λ _ _. omega arith), ((λ t _. let less = ltb-true a.balance q.amount (and_parts (same_kind q.kind Reset) (nat_lt a.balance q.amount) t).1 in omega arith), tt))))))
-    (λ _ _. fits)
+    (λ _ _. omega arith)
+
+-- what is written of an amount that is no more than what was asked fits its field, and is all of what was asked
+written-fits : (v asked amount : ℕ) → IsNumber (sum_size v) asked → amount ≤ asked → IsNumber (sum_size v) (written_amount v amount)
+written-fits v asked amount h le = go (v == 1) h
+  where
+    go : (b : Bool) → IsNumber (cond b Four Eight) asked → IsNumber (cond b Four Eight) (cond b (min amount 4294967295) amount)
+    go true k = omega (arith, min-le_right amount 4294967295)
+    go false k = omega (arith, k, le)
+
+written-same : (v asked : ℕ) → IsNumber (sum_size v) asked → written_amount v asked ≡ asked
+written-same v asked h = go (v == 1) h
+  where
+    go : (b : Bool) → IsNumber (cond b Four Eight) asked → cond b (min asked 4294967295) asked ≡ asked
+    go true k = min-eq_left (omega (arith, k))
+    go false k = refl
 
 dated-signed : (t : Bool) (q : Request) → IsDay q.day → FitsSigned w32 (cond t (q.day +ℤ pos 92) (pos 0))
 dated-signed true q h = deadline_signed q.day h
@@ -91,20 +111,20 @@ module _ (ρ : Rules) where
   pub reply-whole : (q : Request) (C : List Commit) → Good ρ C → IsWhole (m.Request q) → Shown q (bought q.device C) (returned q.device C) → IsWhole (m.Reply (reply_to C q))
   unfolding reply_to verdict
   reply-whole q C g w shown =
-      whole-reply _ w.0 w.1.1.1.0 w.1.1.1.1.0 (amount-word (account_of C q) q w.1.1.1.1.1.1.1.0 (never-imbalance ρ C q shown))
+      whole-reply _ w.0 w.1.1.1.0 w.1.1.1.1.0 (written-fits q.version q.amount _ w.1.1.1.1.1.1.1.0 (amount-le (account_of C q) q (never-imbalance ρ C q shown)))
       (dated-signed (is_dated (verdict C q).0 q.kind) q w.2) (registered-word ρ q.device C g)
 
   -- and says what the ruling says
-  reply-vouched : (d n : ℕ) (v : Verdict) (note : List ℕ) (q : Request) (C : List Commit) → request_in note ≡ q → q.device ≡ d → q.number ≡ n → v ≡ (verdict C q).0 → ruled d C < n → GenuineReply (reply_to C q) (c.Ruled d n v note ∷ C)
+  reply-vouched : (d n : ℕ) (v : Verdict) (note : List ℕ) (q : Request) (C : List Commit) → request_in note ≡ q → IsWhole (m.Request q) → q.device ≡ d → q.number ≡ n → v ≡ (verdict C q).0 → ruled d C < n → GenuineReply (reply_to C q) (c.Ruled d n v note ∷ C)
   unfolding reply_to verdict verdict_by AllRefuse
-  reply-vouched d n v note q C is_note same number says above =
+  reply-vouched d n v note q C is_note fits same number says above =
       let at = added ρ d d n v note C (eq-eqb d d refl) above in
       let there : ruling_of q.device q.number (c.Ruled d n v note ∷ C) ≡ Some (v, note) = subst (λ (z : ℕ × ℕ). ruling_of z.0 z.1 (c.Ruled d n v note ∷ C) ≡ Some (v, note)) (λ j. (sym same j, sym number j)) at in
       record {
         note = note;
         ruled_as = there ∙ ap (λ (z : Verdict). Some (z, note)) says;
         kind = ap (λ (z : Request). z.kind) (sym is_note);
-        amount = λ h. granted-amount (verdict_rows (account_of C q) q) q.amount (refl, (refl, (refl, (refl, (refl, (refl, tt)))))) h ∙ ap (λ (z : Request). z.amount) (sym is_note);
+        amount = λ h. ap (written_amount q.version) (granted-amount (verdict_rows (account_of C q) q) q.amount (refl, (refl, (refl, (refl, (refl, (refl, tt)))))) h) ∙ written-same q.version q.amount fits.1.1.1.1.1.1.1.0 ∙ ap (λ (z : Request). z.amount) (sym is_note);
         whole = subst (λ (z : ℕ × ℕ). ruled_reply z.0 z.1 (c.Ruled d n v note ∷ C) ≡ Some (reply_to C q)) (λ j. (sym same j, sym number j))
             (reply-added ρ d d n v note C (eq-eqb d d refl) above ∙ ap (λ (z : Request). Some (reply_to C z)) is_note);
       }
@@ -126,7 +146,7 @@ module _ (ρ : Rules) where
       record {
         reply = reply_to C q;
         reads = ap read (sym is) ∙ read-spell (m.Reply (reply_to C q)) (key_in (registered q.device C)) g.0.whole;
-        vouched = reply-vouched f n v note q C refl it.device it.number g.0.verdict (omega arith);
+        vouched = reply-vouched f n v note q C refl it.whole it.device it.number g.0.verdict (omega arith);
       })
       (λ t. let was = stored-vouched d x C g.1 (rw t at h) in record { reply = was.reply; reads = was.reads; vouched = reply-kept was.reply (c.Ruled f n v note) C was.vouched })
   stored-vouched d x (k ∷ C) g h = let was = stored-vouched d x C g.1 h in record { reply = was.reply; reads = was.reads; vouched = reply-kept was.reply k C was.vouched }
@@ -176,7 +196,7 @@ module _ (ρ : Rules) (H : Ledger) (i : Inv ρ H) (on : is_on Centre H ≡ true)
           room = ltb-false 1000000000000000 (sum + a) rows.1.1.0;
         };
         on = on;
-        range = (range, receipts, amounts);
+        range = (range, (omega (arith, eqb-true n (last.0 + 1) (not-false (n == last.0 + 1) rows.0)), receipts), (omega arith, ltb-false 1000000000 a amount.1));
         sure = tt;
       })))
 
@@ -240,7 +260,7 @@ module _ (ρ : Rules) (H : Ledger) (i : Inv ρ H) (on : is_on Centre H ≡ true)
         keeps = λ j. inv-sent ρ (e.Commit (c.Ruled d n (verdict C q).0 bytes) ∷ H) (reply_note C q) (record {
           what = m.Reply (reply_to C q);
           reads = read-spell (m.Reply (reply_to C q)) (key_in (registered d C)) reply;
-          vouched = reply-vouched ρ d n (verdict C q).0 bytes q C is refl refl refl (omega arith);
+          vouched = reply-vouched ρ d n (verdict C q).0 bytes q C is whole refl refl refl (omega arith);
         }) j;
       }
 

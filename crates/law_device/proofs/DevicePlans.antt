@@ -44,6 +44,10 @@ use Rattle.ledger_moves.specs.Devices.{Teller}
 use Rattle.registers.specs.Sums.{total}
 use Rattle.psd_state.specs.State.{State}
 use Rattle.psd_state.specs.Records.{state_of}
+use Rattle.node_acts.specs.declared.act.Act.TheVariants.{Refuse, Tell, Commits}
+use Rattle.psd_state.specs.Acts as acts
+use Rattle.psd_state.specs.Acts.{DeviceAct}
+use Rattle.psd_state.specs.declared.acts.Franked.{Franked}
 use Rattle.psd_state.specs.Answers as answers
 use Rattle.psd_state.specs.Answers.{request_made, mark_made, amount_for, customer_for, in_service, is_stray}
 use Rattle.psd_state.specs.declared.debiting.Debited.{Debited}
@@ -54,14 +58,16 @@ use Rattle.node_acts.specs.Plans.{with_commit, after}
 use Rattle.ledger_lawful.specs.Sane.{IsSane, IsSaneDevice}
 use Rattle.law_good.proofs.Basics.{some-same, or_false, and_false, chosen, first, AllFalse}
 use Rattle.law_device.proofs.Dates.{not_before, before}
-use Rattle.law_plans.proofs.Whole.{whole-request, whole-done}
+use Rattle.bench_base.specs.Table.{IsNumber}
+use Rattle.law_plans.proofs.Whole.{sum-fits, word-fits, whole-request, whole-done}
 use Rattle.law_good.proofs.Good.{Fits}
 use Rattle.law_money.proofs.Links.{waits, waits-none, note-le}
 use Rattle.law_money.proofs.Money.{funds, applied-some, ruling-asked}
 use Rattle.law_money.proofs.Asked.{note-new, pending-asked, note-reads, applied-asked}
-use Rattle.law_plans.proofs.Franked.{total-word, device-word, pieces-le, customer-word, marked-reads, marked-new, kept-marked}
+use Rattle.law_plans.proofs.Franked.{device-word, pieces-word, marked-made, customer-word, marked-reads, marked-new, kept-marked}
 use Rattle.law_money.proofs.Requests.{ruling-sane}
-use Rattle.law_good.proofs.Grown.{Inv, Genuine, GenuineReply, genuine-at, inv-sent, inv-released}
+use Rattle.psd_wire.specs.Grammar.{sum_size}
+use Rattle.law_good.proofs.Grown.{IsCommand, Inv, Genuine, GenuineReply, genuine-at, inv-sent, inv-released}
 use Rattle.law_plans.proofs.Plans.{PlanOk, IsFit, ok-refuse, ok-made}
 
 none-some : {A : Type 0} {a : A} {P : Type 0} → None ≡ Some a → P
@@ -117,12 +123,12 @@ no-amount Audit a left h = refl
 no-amount Refund a left h = absurd (true≢false (sym h))
 no-amount Withdraw a left h = absurd (true≢false (sym h))
 
-amount-word : (k : Kind) (who a left : ℕ) → IsAsk k who a → IsWord left → IsWord (amount_for k a left)
-amount-word Enrol who a left h l = omega arith
-amount-word Reset who a left h l = h.1
-amount-word Audit who a left h l = omega arith
-amount-word Refund who a left h l = l
-amount-word Withdraw who a left h l = l
+amount-fits : (v : ℕ) (k : Kind) (who a left : ℕ) → IsAsk k who a → IsNumber (sum_size v) left → IsNumber (sum_size v) (amount_for k a left)
+amount-fits v Enrol who a left h l = word-fits v 0 (omega arith)
+amount-fits v Reset who a left h l = word-fits v a h.1
+amount-fits v Audit who a left h l = word-fits v 0 (omega arith)
+amount-fits v Refund who a left h l = l
+amount-fits v Withdraw who a left h l = l
 
 customer-for-word : (k : Kind) (who a own : ℕ) → IsAsk k who a → IsWord own → IsWord (customer_for k who own)
 customer-for-word Enrol who a own h o = h.0
@@ -162,7 +168,7 @@ pub record TellerOk (ρ : Rules) (T : Teller) (d piece : ℕ) : Type 0 where
 
 module _ (ρ : Rules) (carried : IsCarried ρ) where
   pub ok-shown : (d piece : ℕ) → TellerOk ρ (Devices.shown d piece) d piece
-  ok-shown d piece = record { sane = λ again x. tt; plain = λ p again x H. refl; no_up = λ again x n k h. absurd (cc); keeps = λ x H there i. inv-released ρ H d piece x there i }
+  ok-shown d piece = record { sane = λ again x. tt; plain = λ p again x H. refl; no_up = λ again x n k h. absurd (cc); keeps = λ x H there i. inv-released ρ H d piece x (marked-made ρ d piece x (counted H) i.good there) there i }
 
   pub ok-sent : (d piece k : ℕ) → TellerOk ρ (Devices.sent d piece k) d piece
   ok-sent d piece k = record {
@@ -173,7 +179,7 @@ module _ (ρ : Rules) (carried : IsCarried ρ) where
         let it = marked-reads ρ carried d piece x (counted H) i.good there in
         inv-sent ρ (e.Released d piece x ∷ H) (spell (m.Release x) [])
         (record { what = m.Release x; reads = read-spell (m.Release x) [] ((it.mark_is, it.code), it.reads); vouched = inl refl })
-        (inv-released ρ H d piece x there i);
+        (inv-released ρ H d piece x (marked-made ρ d piece x (counted H) i.good there) there i);
   }
 
 module _ (ρ : Rules) (carried : IsCarried ρ) (H : Ledger) (i : Inv ρ H) where
@@ -188,12 +194,11 @@ module _ (ρ : Rules) (carried : IsCarried ρ) (H : Ledger) (i : Inv ρ H) where
       let f = funds ρ d C i.good in
       let covered = f.covered in
       let within = f.within in
-      let top = total-word ρ carried in
+      let top = carried.total in
       let below : number d C < 4294967295 = leb-false 4294967295 (number d C) row in
-      let count = pieces-le ρ d C i.good in
-      let left : descending d C < 2 ^ 32 = omega arith in
-      whole-request _ carried.version (device-word d device) (omega arith) (customer-for-word k who a (customer d C) ask (customer-word ρ d C i.good)) (amount-word k who a (descending d C) ask left)
-      (omega arith) left (omega arith) (omega arith) day
+      let left = sum-fits ρ.version (descending d C) (omega arith) in
+      whole-request _ carried.version (device-word d device) (omega arith) (customer-for-word k who a (customer d C) ask (customer-word ρ d C i.good)) (amount-fits ρ.version k who a (descending d C) ask left)
+      (sum-fits ρ.version (ascending d C) (omega arith)) left (sum-fits ρ.version (refunded d C) (omega arith)) (pieces-word ρ d C i.good) day
 
   ask-fits : (d : ℕ) (k : Kind) (who a : ℕ) (t : ℤ) (key : List ℕ) → IsDevice d → IsAsk k who a → IsDay t → key_of d (counted H) ≡ Some key → pending d (counted H) ≡ None → AllFalse (answers.ask_rows ρ (state_of d key (counted H)) k a t)
       → Fits ρ (c.Asked d (number d (counted H) + 1) (spell (m.Request (request_made ρ (state_of d key (counted H)) k who a t)) key)) (counted H)
@@ -202,19 +207,19 @@ module _ (ρ : Rules) (carried : IsCarried ρ) (H : Ledger) (i : Inv ρ H) where
       let C = counted H in
       let q = request_made ρ (state_of d key C) k who a t in
       let note = spell (m.Request q) key in
-      let whole = request-whole d key k who a t device ask day rows.1.1.1.1.0 in
+      let whole = request-whole d key k who a t device ask day rows.1.1.1.1.1.0 in
       let is : request_in note ≡ q = request_in-spell q key whole in
       let f = funds ρ d C i.good in
       let covered = f.covered in
       let within = f.within in
       let sum : ℕ = ascending d C + descending d C + refunded d C in
       let size : same_kind k Reset ≡ true → (1 ≤ amount_for k a (descending d C)) × (amount_for k a (descending d C) ≤ 10000000) = λ h.
-      let amount = or_false (a == 0) (nat_lt 10000000 a) (and_false (same_kind k Reset) _ rows.1.1.0 h) in
+      let amount = or_false (a == 0) (nat_lt 10000000 a) (and_false (same_kind k Reset) _ rows.1.1.1.0 h) in
       let some : a ≡ 0 → ⊥ = eqb-false a 0 amount.0 in
       let most = ltb-false 10000000 a amount.1 in
       let it = size-amount k a (descending d C) h in
       (omega arith, omega arith) in
-      let in_total : loaded d C + adds Granted q ≤ ρ.total = reset-amount k a (descending d C) (loaded d C) ρ.total within (λ h. let le = ltb-false ρ.total (sum + a) (and_false (same_kind k Reset) (nat_lt ρ.total (sum + a)) rows.1.1.1.0 h) in omega arith) in
+      let in_total : loaded d C + adds Granted q ≤ ρ.total = reset-amount k a (descending d C) (loaded d C) ρ.total within (λ h. let le = ltb-false ρ.total (sum + a) (and_false (same_kind k Reset) (nat_lt ρ.total (sum + a)) rows.1.1.1.1.0 h) in omega arith) in
       let limit = carried.total in
       let in_version : loaded d C + adds Granted q ≤ buys_limit ρ.version = omega arith in
       record {
@@ -251,20 +256,20 @@ module _ (ρ : Rules) (carried : IsCarried ρ) (H : Ledger) (i : Inv ρ H) where
 
   asked-ok : (d : ℕ) (k : Kind) (who a : ℕ) (t : ℤ) (l : ℕ) (key : List ℕ) → is_on (Device d) H ≡ true → IsDevice d → IsAsk k who a → IsDay t → key_of d (counted H) ≡ Some key → pending d (counted H) ≡ None
       → AllFalse (answers.ask_rows ρ (state_of d key (counted H)) k a t)
-      → PlanOk ρ H (Devices.ask_act d (number d (counted H) + 1) l (Ok (answers.after_ask (state_of d key (counted H)) (request_made ρ (state_of d key (counted H)) k who a t), spell (m.Request (request_made ρ (state_of d key (counted H)) k who a t)) key)))
+      → PlanOk ρ H (Devices.asked_plan d (number d (counted H) + 1) l (acts.asked_act d (number d (counted H) + 1) (Ok (answers.after_ask (state_of d key (counted H)) (request_made ρ (state_of d key (counted H)) k who a t), spell (m.Request (request_made ρ (state_of d key (counted H)) k who a t)) key))))
   asked-ok d k who a t l key on device ask day has idle rows =
       let C = counted H in
       let q = request_made ρ (state_of d key C) k who a t in
       let note = spell (m.Request q) key in
       let f = ask-fits d k who a t key device ask day has idle rows in
-      let below : number d C < 4294967295 = leb-false 4294967295 (number d C) rows.1.1.1.1.0 in
+      let below : number d C < 4294967295 = leb-false 4294967295 (number d C) rows.1.1.1.1.1.0 in
       record {
         sane = tt;
         plain = refl;
         no_up = λ n j h. absurd (cc);
         fit = λ x h. subst (IsFit ρ H) (some-same h) (record { fits = f; on = on; range = (device, omega arith); sure = tt });
         keeps = λ j. inv-sent ρ (e.Commit (c.Asked d (number d C + 1) note) ∷ H) note
-            (asked-sent d (number d C + 1) key q (request-whole d key k who a t device ask day rows.1.1.1.1.0) refl refl (λ x s.
+            (asked-sent d (number d C + 1) key q (request-whole d key k who a t device ask day rows.1.1.1.1.1.0) refl refl (λ x s.
             let le = note-le ρ d (number d C + 1) x C i.good s in
             let none = waits-none ρ (pending d C) (asked d C) (number d C) idle (waits ρ d C i.good) in
             omega arith)) j;
@@ -276,7 +281,7 @@ module _ (ρ : Rules) (carried : IsCarried ρ) (H : Ledger) (i : Inv ρ H) where
   ask-ok d k who a t l on device ask day (Some key) has = by_pending (pending d (counted H)) refl
     where
       P : Result (State × List ℕ) DevRefusal → Type 0
-      P z = PlanOk ρ H (Devices.ask_act d (number d (counted H) + 1) l z)
+      P z = PlanOk ρ H (Devices.asked_plan d (number d (counted H) + 1) l (acts.asked_act d (number d (counted H) + 1) z))
 
       S : State
       S = state_of d key (counted H)
@@ -289,10 +294,13 @@ module _ (ρ : Rules) (carried : IsCarried ρ) (H : Ledger) (i : Inv ρ H) where
         (
           refuse-ok d (no.ClockBack (last_day d (counted H))) tt,
           (
-            refuse-ok d (no.BadAmount a) tt,
+            refuse-ok d (no.Due (deadline d (counted H))) tt,
             (
-              refuse-ok d (no.TotalFull (total S.registers)) tt,
-              (refuse-ok d no.NumberFull tt, tt),
+              refuse-ok d (no.BadAmount a) tt,
+              (
+                refuse-ok d (no.TotalFull (total S.registers)) tt,
+                (refuse-ok d no.NumberFull tt, tt),
+              ),
             ),
           ),
         ),
@@ -308,6 +316,7 @@ module _ (ρ : Rules) (carried : IsCarried ρ) (H : Ledger) (i : Inv ρ H) where
       let amount = or_false (q.postage == 0) (nat_lt 100000 q.postage) rows.1.1.0 in
       let over = or_false (lt_z (deadline d C +ℤ pos ρ.grace) t) (lt_z (deadline d C) t && nat_lt ρ.small q.postage) rows.1.0 in
       let some : q.postage ≡ 0 → ⊥ = eqb-false q.postage 0 amount.0 in
+      let sums = funds ρ d C i.good in
       record {
         made = (key, has);
         free = free;
@@ -319,8 +328,9 @@ module _ (ρ : Rules) (carried : IsCarried ρ) (H : Ledger) (i : Inv ρ H) where
         day = not_before t (last_day d C) rows.0;
         due = not_before (deadline d C +ℤ pos ρ.grace) t over.0;
         small = λ h. ltb-false ρ.small q.postage (and_false (lt_z (deadline d C) t) (nat_lt ρ.small q.postage) over.1 (before (deadline d C) t h));
-        version = carried.version;
+        from_1 = carried.version.0;
         known = omega arith;
+        bound = omega (arith, carried.total, sums.within);
       }
 
   -- the mark that is told is the one of the debit
@@ -328,9 +338,9 @@ module _ (ρ : Rules) (carried : IsCarried ρ) (H : Ledger) (i : Inv ρ H) where
   unfolding indicium_after mark_after
   same-mark d q t key has = ap (λ o. marks.spell (mark_after d q.piece q.postage q.class t ρ.version (counted H)) (key_or_none o)) has
 
-  franked-ok : (T : Teller) (d : ℕ) (q : DebitMsg) (t : ℤ) (key : List ℕ) → TellerOk ρ T d q.piece → is_on (Device d) H ≡ true → IsDevice d → (q.class < 2 ^ 16) → IsDay t → key_of d (counted H) ≡ Some key → frozen (pending d (counted H)) ≡ false
+  franked-ok : (T : Teller) (d : ℕ) (q : DebitMsg) (t : ℤ) (key : List ℕ) → TellerOk ρ T d q.piece → is_on (Device d) H ≡ true → IsDevice d → IsCommand q → IsDay t → key_of d (counted H) ≡ Some key → frozen (pending d (counted H)) ≡ false
       → AllFalse (answers.piece_rows (state_of d key (counted H)) q) → AllFalse (answers.debit_rows ρ (state_of d key (counted H)) q t)
-      → PlanOk ρ H (Devices.debit_act ρ T d q t (Ok (New (answers.after_debit ρ (state_of d key (counted H)) q t) (marks.spell (mark_made ρ (state_of d key (counted H)) q t) key))))
+      → PlanOk ρ H (Devices.franked_plan T d (acts.franked_act ρ d q t (Ok (New (answers.after_debit ρ (state_of d key (counted H)) q t) (marks.spell (mark_made ρ (state_of d key (counted H)) q t) key)))))
   franked-ok T d q t key ok on device class day has free pieces_rows rows =
       let C = counted H in
       let x = marks.spell (mark_made ρ (state_of d key C) q t) key in
@@ -342,10 +352,7 @@ module _ (ρ : Rules) (carried : IsCarried ρ) (H : Ledger) (i : Inv ρ H) where
       let sums = funds ρ d C i.good in
       let covered = sums.covered in
       let within = sums.within in
-      let count = pieces-le ρ d C i.good in
-      let top = total-word ρ carried in
-      let version = carried.version in
-      let range : InRange (c.Debited d q.piece q.postage q.class t ρ.version) = (device, omega arith, omega arith, class, day, omega arith) in
+      let range : InRange (c.Debited d q.piece q.postage q.class t ρ.version) = (device, class.0, omega arith, class.1, day, omega (arith, carried.version.1)) in
       record {
         sane = ok.sane false x;
         plain = ok.plain (made (T.reply false x) (c.Debited d q.piece q.postage q.class t ρ.version) (T.tell x)) false x H;
@@ -355,15 +362,15 @@ module _ (ρ : Rules) (carried : IsCarried ρ) (H : Ledger) (i : Inv ρ H) where
             (marked-new ρ d q.piece q.postage q.class t ρ.version C (f, i.good, range) ∙ ap (λ (z : List ℕ). Some z) (same-mark d q t key has)) j;
       }
 
-  new-ok : (T : Teller) (d : ℕ) (q : DebitMsg) (t : ℤ) (key : List ℕ) → TellerOk ρ T d q.piece → is_on (Device d) H ≡ true → IsDevice d → (q.class < 2 ^ 16) → IsDay t → key_of d (counted H) ≡ Some key
-      → PlanOk ρ H (Devices.debit_act ρ T d q t (answers.new_answer ρ (state_of d key (counted H)) q t))
+  new-ok : (T : Teller) (d : ℕ) (q : DebitMsg) (t : ℤ) (key : List ℕ) → TellerOk ρ T d q.piece → is_on (Device d) H ≡ true → IsDevice d → IsCommand q → IsDay t → key_of d (counted H) ≡ Some key
+      → PlanOk ρ H (Devices.franked_plan T d (acts.franked_act ρ d q t (answers.new_answer ρ (state_of d key (counted H)) q t)))
   new-ok T d q t key ok on device class day has =
       first P (answers.piece_rows S q) _
       (refuse-ok d (no.WrongPiece (pieces d (counted H))) tt, (refuse-ok d (no.Phase (phase d (counted H))) tt, tt))
       (λ pieces_rows. by_pending pieces_rows (pending d (counted H)) refl)
     where
       P : Result Debited DevRefusal → Type 0
-      P z = PlanOk ρ H (Devices.debit_act ρ T d q t z)
+      P z = PlanOk ρ H (Devices.franked_plan T d (acts.franked_act ρ d q t z))
 
       S : State
       S = state_of d key (counted H)
@@ -390,10 +397,10 @@ module _ (ρ : Rules) (carried : IsCarried ρ) (H : Ledger) (i : Inv ρ H) where
           (λ _. refuse-ok d (no.Frozen (request_in p.1).kind) tt)
           (λ free. free-ok pieces_rows (ap frozen h ∙ free))
 
-  again-ok : (T : Teller) (d : ℕ) (q : DebitMsg) (t : ℤ) (k : Mark) (key : List ℕ) → TellerOk ρ T d q.piece → marked d q.piece (counted H) ≡ Some (marks.spell k key) → PlanOk ρ H (Devices.debit_act ρ T d q t (answers.again q key k))
+  again-ok : (T : Teller) (d : ℕ) (q : DebitMsg) (t : ℤ) (k : Mark) (key : List ℕ) → TellerOk ρ T d q.piece → marked d q.piece (counted H) ≡ Some (marks.spell k key) → PlanOk ρ H (Devices.franked_plan T d (acts.franked_act ρ d q t (answers.again q key k)))
   again-ok T d q t k key ok there =
       let x = marks.spell k key in
-      chosen (λ (z : Result Debited DevRefusal). PlanOk ρ H (Devices.debit_act ρ T d q t z)) ((k.postage == q.postage) && (k.class == q.class)) (Ok (Again x)) (Err (no.Conflict k.postage k.class))
+      chosen (λ (z : Result Debited DevRefusal). PlanOk ρ H (Devices.franked_plan T d (acts.franked_act ρ d q t z))) ((k.postage == q.postage) && (k.class == q.class)) (Ok (Again x)) (Err (no.Conflict k.postage k.class))
       (λ _. record {
         sane = ok.sane true x;
         plain = ok.plain (told (T.reply true x) (T.tell x)) true x H;
@@ -412,7 +419,7 @@ module _ (ρ : Rules) (carried : IsCarried ρ) (H : Ledger) (i : Inv ρ H) where
       (λ (t : (j.piece == piece) ≡ false). none-some (rw t at h))
       (cases_Bool (j.piece == piece))
 
-  pub debit-ok : (T : Teller) (d : ℕ) (q : DebitMsg) (t : ℤ) → TellerOk ρ T d q.piece → is_on (Device d) H ≡ true → IsDevice d → (q.class < 2 ^ 16) → IsDay t → (w : Option (List ℕ)) → key_of d (counted H) ≡ w
+  pub debit-ok : (T : Teller) (d : ℕ) (q : DebitMsg) (t : ℤ) → TellerOk ρ T d q.piece → is_on (Device d) H ≡ true → IsDevice d → IsCommand q → IsDay t → (w : Option (List ℕ)) → key_of d (counted H) ≡ w
       → PlanOk ρ H (Devices.debit_plan ρ T d q t (counted H) w)
   debit-ok T d q t ok on device class day None has = refuse-ok d no.Blank tt
   debit-ok T d q t ok on device class day (Some key) has = chosen P (q.device == d) _ _
@@ -420,7 +427,7 @@ module _ (ρ : Rules) (carried : IsCarried ρ) (H : Ledger) (i : Inv ρ H) where
       (λ _. refuse-ok d (no.WrongDevice q.device) tt)
     where
       P : Result Debited DevRefusal → Type 0
-      P z = PlanOk ρ H (Devices.debit_act ρ T d q t z)
+      P z = PlanOk ρ H (Devices.franked_plan T d (acts.franked_act ρ d q t z))
 
       by_mark : (o : Option Mark) → answers.repeated (kept d (counted H)) q.piece ≡ o → P (answers.unless_again o q key (answers.new_answer ρ (state_of d key (counted H)) q t))
       by_mark None h = new-ok T d q t key ok on device class day has
@@ -431,7 +438,7 @@ module _ (ρ : Rules) (carried : IsCarried ρ) (H : Ledger) (i : Inv ρ H) where
 
   -- == make, resend, ack, status ==
 
-  pub make-ok : (d : ℕ) (key : List ℕ) → is_on (Device d) H ≡ true → IsDevice d → IsKey key → (w : Option (List ℕ)) → key_of d (counted H) ≡ w → PlanOk ρ H (Devices.make_plan d key w)
+  pub make-ok : (d : ℕ) (key : List ℕ) → is_on (Device d) H ≡ true → IsDevice d → IsKey key → (w : Option (List ℕ)) → key_of d (counted H) ≡ w → PlanOk ρ H (Devices.make_plan d key (counted H) w)
   make-ok d key on device fits None has = ok-made ρ H (r.Made d) (c.Made d key) refl tt (λ n k h. absurd (cc)) (record { fits = has; on = on; range = (device, fits); sure = tt })
   make-ok d key on device fits (Some k) has = refuse-ok d no.Made tt
 
@@ -458,7 +465,7 @@ module _ (ρ : Rules) (carried : IsCarried ρ) (H : Ledger) (i : Inv ρ H) where
 
   pub ack-ok : (d k : ℕ) (w : Option (List ℕ)) → PlanOk ρ H (Devices.ack_plan d k (counted H) w)
   ack-ok d k None = refuse-ok d no.Blank tt
-  ack-ok d k (Some key) = chosen (λ (z : Result (List ℕ) DevRefusal). PlanOk ρ H (Devices.ack_act d n k z)) (n == 0) (Err no.NothingDone) (Ok note)
+  ack-ok d k (Some key) = chosen (λ (z : Result (List ℕ) DevRefusal). PlanOk ρ H (Devices.done_plan d n k (acts.told_act z))) (n == 0) (Err no.NothingDone) (Ok note)
       (λ _. refuse-ok d no.NothingDone tt)
       (λ t. record {
         sane = tt;
@@ -493,13 +500,13 @@ module _ (ρ : Rules) (carried : IsCarried ρ) (H : Ledger) (i : Inv ρ H) where
   -- == a Reply, a Debit ==
 
   -- a Reply that the device takes comes from a ruling on what is pending
-  apply-ok : (d : ℕ) (p : ReplyMsg) (s : State) → is_on (Device d) H ≡ true → p.device ≡ d → GenuineReply p (counted H) → (w : Option (ℕ × List ℕ)) → pending d (counted H) ≡ w → PlanOk ρ H (Devices.apply_act d p (answers.apply_answer s (waiting w) p))
-  apply-ok d p s on same from None has = refuse-ok d no.NothingPending tt
-  apply-ok d p s on same from (Some w) has =
+  apply-ok : (d k : ℕ) (p : ReplyMsg) (s : State) → is_on (Device d) H ≡ true → p.device ≡ d → GenuineReply p (counted H) → (w : Option (ℕ × List ℕ)) → pending d (counted H) ≡ w → PlanOk ρ H (Devices.taken_plan d k (acts.applied_act d p (answers.apply_answer s (waiting w) p)))
+  apply-ok d k p s on same from None has = refuse-ok d no.NothingPending tt
+  apply-ok d k p s on same from (Some w) has =
       let q = request_in w.1 in
       let pends = pending-asked ρ d w (counted H) i.good has in
       let was = note-reads ρ d w.0 w.1 (counted H) i.good pends in
-      let P = λ (z : Result State DevRefusal). PlanOk ρ H (Devices.apply_act d p z) in
+      let P = λ (z : Result State DevRefusal). PlanOk ρ H (Devices.taken_plan d k (acts.applied_act d p z)) in
       chosen P (not (p.number == q.number)) _ _
       (λ _. refuse-ok d (no.Stale q.number) tt)
       (λ row.
@@ -521,19 +528,27 @@ module _ (ρ : Rules) (carried : IsCarried ρ) (H : Ledger) (i : Inv ρ H) where
         sure = tt;
       })))
 
+  -- a debit that came as a message is told by its message
+  released-plan : (d k piece : ℕ) (act : DeviceAct Franked) → Devices.franked_plan (Devices.sent d piece k) d act ≡ Devices.taken_plan d k (acts.released piece act)
+  released-plan d k piece (Refuse x) = refl
+  released-plan d k piece (Tell f) = refl
+  released-plan d k piece (Commits c s f) = refl
+
   pub device-ok : (d k : ℕ) (t : ℤ) (bytes : List ℕ) → is_on (Device d) H ≡ true → IsDevice d → IsDay t → (x : Result Message Unread) → read bytes ≡ x → IsKnown bytes x (Device d) H
-      → ((q : DebitMsg) → x ≡ Ok (m.Debit q) → q.class < 2 ^ 16) → PlanOk ρ H (Devices.device_take ρ k t d bytes x (counted H) (key_of d (counted H)))
+      → ((q : DebitMsg) → x ≡ Ok (m.Debit q) → IsCommand q) → PlanOk ρ H (Devices.device_take ρ k t d bytes x (counted H) (key_of d (counted H)))
   device-ok d k t bytes on device day (Ok (m.Reply p)) reads known fits = keyed (key_of d (counted H)) refl
     where
-      keyed : (w : Option (List ℕ)) → key_of d (counted H) ≡ w → PlanOk ρ H (Devices.reply_plan d bytes p (counted H) w)
+      keyed : (w : Option (List ℕ)) → key_of d (counted H) ≡ w → PlanOk ρ H (Devices.device_take ρ k t d bytes (Ok (m.Reply p)) (counted H) w)
       keyed None has = refuse-ok d no.Blank tt
-      keyed (Some key) has = first (PlanOk ρ H) (Devices.reply_rows d bytes p key) (Devices.apply_act d p (answers.apply_answer (state_of d key (counted H)) (state_of d key (counted H)).pending p))
+      keyed (Some key) has = first (λ act. PlanOk ρ H (Devices.taken_plan d k act)) (acts.reply_rows d bytes p key) (acts.applied_act d p (answers.apply_answer (state_of d key (counted H)) (state_of d key (counted H)).pending p))
           (refuse-ok d (no.WrongDevice p.device) tt, (refuse-ok d no.BadCode tt, tt))
           (λ rows.
           let same : p.device ≡ d = eqb-true p.device d (not-false (p.device == d) rows.0) in
           let sent = known same key has (not-false (has_code key bytes) rows.1.0) in
-          apply-ok d p (state_of d key (counted H)) on same (genuine-at bytes (m.Reply p) H (counted H) (i.sents bytes sent) reads) (pending d (counted H)) refl)
-  device-ok d k t bytes on device day (Ok (m.Debit q)) reads known fits = debit-ok (Devices.sent d q.piece k) d q t (ok-sent ρ carried d q.piece k) on device (fits q refl) day (key_of d (counted H)) refl
+          apply-ok d k p (state_of d key (counted H)) on same (genuine-at bytes (m.Reply p) H (counted H) (i.sents bytes sent) reads) (pending d (counted H)) refl)
+  device-ok d k t bytes on device day (Ok (m.Debit q)) reads known fits =
+      subst (PlanOk ρ H) (released-plan d k q.piece (acts.debit_act ρ d q t (Devices.record_in d (counted H))))
+      (debit-ok (Devices.sent d q.piece k) d q t (ok-sent ρ carried d q.piece k) on device (fits q refl) day (key_of d (counted H)) refl)
   device-ok d k t bytes on device day (Ok (m.Request q)) reads known fits = refuse-ok d (no.Unread unread.Tag) tt
   device-ok d k t bytes on device day (Ok (m.Done q)) reads known fits = refuse-ok d (no.Unread unread.Tag) tt
   device-ok d k t bytes on device day (Ok (m.Release x)) reads known fits = refuse-ok d (no.Unread unread.Tag) tt

@@ -163,7 +163,7 @@ frame ρ (Ordered j d p a k) c C h f = record {
   fresh = subst (λ x. x < p) (sym (top-frame d c C h)) f.fresh;
   room = subst (λ (x : ℕ × Option JobState). (nat_le 1024 x.0 && is_open x.1) ≡ false) (λ i. (sym (last_job-frame c C h) i, sym (oldest-frame c C h) i)) f.room;
 }
-frame ρ (Held j x) c C h f = record { at = f.at; job_is = job_of-frame j c C h ∙ f.job_is; open_is = open_job-frame f.at.device c C h ∙ f.open_is }
+frame ρ (Held j x) c C h f = record { at = f.at; job_is = job_of-frame j c C h ∙ f.job_is; open_is = open_job-frame f.at.device c C h ∙ f.open_is; mark = f.mark }
 frame ρ (Began j) c C h f = state_of-frame j c C h ∙ f
 frame ρ (Closed j) c C h f = (f.0, state_of-frame j c C h ∙ f.1, f.2)
 frame ρ (Trusted d k) c C h f = trusted-frame d c C h ∙ f

@@ -20,6 +20,7 @@ use Rattle.bench_base.specs.Kinds.{same_kind, empties, is_allowed}
 use Rattle.bench_base.specs.Jobs.{Job, last_job, job_of, state_of, open_job, top}
 use Rattle.bench_base.specs.Scans.{trusted, accepted, blocks}
 use Rattle.host_jobs.specs.Answers.{is_open}
+use Rattle.host_jobs.specs.Order.{IsMarkOf}
 use Rattle.verifier.specs.Answers.{is_full}
 use Rattle.psd_wire.specs.declared.message.Message.TheVariants as m
 use Rattle.psd_wire.specs.declared.message.ReplyMsg.{ReplyMsg}
@@ -58,7 +59,7 @@ pub record FitsApplied (n : ℕ) (v : Verdict) (waiting : Option (ℕ × List �
   pub waits : waiting ≡ Some (n, note)
   pub ruled_as : ruling ≡ Some (v, note)
 
-pub record FitsDebited (ρ : Rules) (p a : ℕ) (t : ℤ) (v : ℕ) (key : Option (List ℕ)) (count left : ℕ) (waiting : Option (ℕ × List ℕ)) (phase : Phase) (last_day deadline : ℤ) : Type 0 where
+pub record FitsDebited (ρ : Rules) (p a : ℕ) (t : ℤ) (v : ℕ) (key : Option (List ℕ)) (count used left : ℕ) (waiting : Option (ℕ × List ℕ)) (phase : Phase) (last_day deadline : ℤ) : Type 0 where
   pub made : (k : List ℕ) × (key ≡ Some k)
   pub free : frozen waiting ≡ false
   pub next : p ≡ count + 1
@@ -69,9 +70,10 @@ pub record FitsDebited (ρ : Rules) (p a : ℕ) (t : ℤ) (v : ℕ) (key : Optio
   pub day : last_day ≤ℤ t
   pub due : t ≤ℤ (deadline +ℤ pos ρ.grace)
   pub small : deadline <ℤ t → a ≤ ρ.small
-  -- the one version that marks have today
-  pub version : v ≡ 1
+  pub from_1 : 1 ≤ v
   pub known : v ≤ ρ.version
+  -- a mark of that version holds the registers
+  pub bound : used + left ≤ buys_limit v
 
 pub record FitsRuled (n : ℕ) (v : Verdict) (r : List ℕ) (last : ℕ) (note : Option (List ℕ)) (registered : Option (ℕ × List ℕ)) (says : Verdict × ℕ) (reply : ReplyMsg) : Type 0 where
   pub next : n ≡ last + 1
@@ -101,11 +103,12 @@ pub record FitsOrdered (j p last : ℕ) (waiting : Option ℕ) (most : ℕ) (old
   -- the job in the cell is closed
   pub room : (nat_le 1024 last && is_open oldest) ≡ false
 
--- the job's device has this job open
-pub record FitsHeld (j : ℕ) (C : List Commit) (job : Option Job) : Type 0 where
+-- the job's device has this job open, and the bytes are a mark of the job
+pub record FitsHeld (j : ℕ) (bytes : List ℕ) (C : List Commit) (job : Option Job) : Type 0 where
   pub at : Job
   pub job_is : job ≡ Some at
   pub open_is : open_job at.device C ≡ Some j
+  pub mark : IsMarkOf at bytes
 
 pub record FitsAccepted (d p : ℕ) (before : Option ℕ) (key : Option (List ℕ)) (blocks : List (ℕ × ℕ)) : Type 0 where
   pub new : before ≡ None
@@ -116,7 +119,7 @@ abbrev pub Fits : Rules → Commit → List Commit → Type 0
 Fits ρ (Made d k) C = key_of d C ≡ None
 Fits ρ (Asked d n r) C = FitsAsked ρ d n r (key_of d C) (pending d C) (number d C) (loaded d C) (descending d C) (refunded d C) (ascending d C) (last_day d C) (phase d C) (customer d C)
 Fits ρ (Applied d n v) C = FitsApplied n v (pending d C) (ruling_of d n C)
-Fits ρ (Debited d p a k t v) C = FitsDebited ρ p a t v (key_of d C) (pieces d C) (descending d C) (pending d C) (phase d C) (last_day d C) (deadline d C)
+Fits ρ (Debited d p a k t v) C = FitsDebited ρ p a t v (key_of d C) (pieces d C) (ascending d C) (descending d C) (pending d C) (phase d C) (last_day d C) (deadline d C)
 Fits ρ (Registered d o k) C = registered d C ≡ None
 Fits ρ (Opened w) C = opened w C ≡ false
 Fits ρ (Deposited w n a) C = FitsDeposited n a (opened w C) (receipt w C) (deposits w C)
@@ -124,7 +127,7 @@ Fits ρ (Flagged w s) C = opened w C ≡ true
 Fits ρ (Ruled d n v r) C = FitsRuled n v r (ruled d C) (note_of d n C) (registered d C) (verdict C (request_in r)) (reply_to C (request_in r))
 Fits ρ (Settled d n) C = FitsSettled n (settled d C) (ruled d C) (applied_of d n C)
 Fits ρ (Ordered j d p a k) C = FitsOrdered j p (last_job C) (open_job d C) (top d C) (state_of (last_job C - 1023) C)
-Fits ρ (Held j x) C = FitsHeld j C (job_of j C)
+Fits ρ (Held j x) C = FitsHeld j x C (job_of j C)
 Fits ρ (Began j) C = state_of j C ≡ Some HeldJob
 Fits ρ (Closed j) C = (s : JobState) × (state_of j C ≡ Some s) × (is_open (Some s) ≡ true)
 Fits ρ (Trusted d k) C = trusted d C ≡ None

@@ -3,7 +3,7 @@
 -- that tell of a mark, a print or an acceptance have what they rest on. At an Up the open commit counts or not: either way the
 -- list stays good, and what other nodes' open commits rest on stays too.
 use Rattle.std.proofs.Common.{◌≡◌, ℕ, ℤ, ◌+◌, ◌<◌, ◌^◌, Bool, true, false, List, [], ◌∷◌, Option, Some, None, Ok, cond, refl, sym, ap, subst, ◌∙◌, true≢false, ◌⊎◌, inl, inr, ⊎_elim}
-use Rattle.std.specs.Prelude.{◌==◌}
+use Rattle.std.specs.Prelude.{◌==◌, IsSome}
 use Rattle.std.proofs.lemmas.Bool.{eqb-true, cases_Bool}
 use Rattle.bench_base.specs.declared.words.Node.{Node}
 use Rattle.bench_base.specs.declared.words.Node.TheVariants.{Device, Centre, Host, Verifier}
@@ -14,7 +14,8 @@ use Rattle.bench_base.specs.declared.ledger.Entry.{Entry}
 use Rattle.bench_base.specs.declared.ledger.Entry.TheVariants as e
 use Rattle.bench_base.specs.Rules.{Rules}
 use Rattle.bench_base.specs.Nodes.{same_node, node_of}
-use Rattle.bench_base.specs.Ranges.{IsDay, IsDevice, InRange}
+use Rattle.bench_base.specs.Ranges.{IsDay, IsDevice, IsWord, InRange}
+use Rattle.psd_wire.specs.declared.message.DebitMsg.{DebitMsg}
 use Rattle.bench_base.specs.Kinds.{is_granted}
 use Rattle.bench_base.specs.Ledger.{Ledger, day_in, IsSent, IsReleased, IsReleasedAs, IsPrinted, is_on, count_of, torn_of, at_up, counted}
 use Rattle.bench_base.specs.Jobs.{held_of, begun}
@@ -23,7 +24,7 @@ use Rattle.psd_wire.specs.declared.message.Message.{Message}
 use Rattle.psd_wire.specs.declared.message.Message.TheVariants as m
 use Rattle.psd_wire.specs.Grammar.{read}
 use Rattle.ledger_terms.specs.Requests.{request_in, note_of}
-use Rattle.ledger_terms.specs.Devices.{applied_of}
+use Rattle.ledger_terms.specs.Devices.{key_of, applied_of}
 use Rattle.ledger_terms.specs.InFlight.{ruling_of}
 use Rattle.ledger_terms.specs.Rulings.{ruled_reply}
 use Rattle.ledger_terms.specs.Franking.{marked}
@@ -62,12 +63,16 @@ pub record GenuineReply (p : ReplyMsg) (C : List Commit) : Type 0 where
   -- and it is, whole, the Reply of that ruling
   pub whole : ruled_reply p.device p.number C ≡ Some p
 
--- a Request was asked so, a Reply was ruled so, a Done was applied, a Debit is for one of the devices and a class of 16 bits, and a Release carries a mark that was released
+-- piece and class of a Debit fit their fields
+abbrev pub IsCommand : DebitMsg → Type 0
+IsCommand q = IsWord q.piece × (q.class < 2 ^ 16)
+
+-- a Request was asked so, a Reply was ruled so, a Done was applied, a Debit is for one of the devices and fits its fields, and a Release carries a mark that was released
 abbrev pub GenuineAs : List ℕ → Message → Ledger → List Commit → Type 0
 GenuineAs bytes (m.Request q) H C = note_of q.device q.number C ≡ Some bytes
 GenuineAs bytes (m.Reply p) H C = GenuineReply p C
 GenuineAs bytes (m.Done q) H C = (v : Verdict) × (applied_of q.device q.number C ≡ Some v)
-GenuineAs bytes (m.Debit q) H C = IsDevice q.device × (q.class < 2 ^ 16)
+GenuineAs bytes (m.Debit q) H C = IsDevice q.device × IsCommand q
 GenuineAs bytes (m.Release x) H C = IsReleased x H
 
 pub record Genuine (bytes : List ℕ) (H : Ledger) (C : List Commit) : Type 0 where
@@ -205,12 +210,12 @@ module _ (ρ : Rules) where
     dated = i.dated;
   }
 
-  pub inv-released : (H : Ledger) (d p : ℕ) (x : List ℕ) → marked d p (counted H) ≡ Some x → Inv ρ H → Inv ρ (e.Released d p x ∷ H)
-  inv-released H d p x mark i = record {
+  pub inv-released : (H : Ledger) (d p : ℕ) (x : List ℕ) → IsSome (key_of d (counted H)) → marked d p (counted H) ≡ Some x → Inv ρ H → Inv ρ (e.Released d p x ∷ H)
+  inv-released H d p x made mark i = record {
     good = i.good;
     opens = λ n c h. open-kept (e.Released d p x) H n c (is_on n H) (i.opens n c h);
     sents = λ y h. genuine-entry y (e.Released d p x) H (counted H) (i.sents y h);
-    told = (record { releases = mark; prints = tt; sure = sure-of (e.Released d p x) H i }, i.told);
+    told = (record { releases = (made, mark); prints = tt; sure = sure-of (e.Released d p x) H i }, i.told);
     printed = i.printed;
     dated = i.dated;
   }

@@ -2,7 +2,7 @@
 -- and what the host sends fits its fields.
 use Rattle.std.proofs.Common.{◌≡◌, ℕ, ℤ, ◌+◌, ◌-◌, ◌<◌, ◌≤◌, ◌^◌, Bool, true, false, List, [], ◌∷◌, Option, Some, None, Result, Ok, Err, cond, refl, sym, ap, subst, ◌∙◌, inl, inr, ⊎_elim, arith}
 use Rattle.std.specs.Prelude.{◌==◌}
-use Rattle.std.proofs.lemmas.Bool.{eqb-true, leb-false, eq-eqb}
+use Rattle.std.proofs.lemmas.Bool.{eqb-true, leb-false, eq-eqb, not-false}
 use Rattle.bench_base.specs.declared.words.Node.{Node}
 use Rattle.bench_base.specs.declared.words.Node.TheVariants.{Host, Verifier}
 use Rattle.bench_base.specs.declared.words.JobState.{JobState}
@@ -22,7 +22,7 @@ use Rattle.bench_base.specs.declared.ledger.Entry.TheVariants as e
 use Rattle.bench_base.specs.declared.events.Reply.TheVariants as r
 use Rattle.bench_base.specs.Rules.{Rules}
 use Rattle.bench_base.specs.Plans.{made, told}
-use Rattle.bench_base.specs.Ranges.{IsDevice, IsWord, IsKey}
+use Rattle.bench_base.specs.Ranges.{IsDevice, IsWord, IsCount, IsPostage, IsKey}
 use Rattle.bench_base.specs.Ledger.{Ledger, counted, is_on, torn_of, at_up, count_of, IsReleased, IsReleasedAs}
 use Rattle.bench_base.specs.Jobs.{Job, last_job, job_of, state_of, held_of, open_job, top, begun, in_cells}
 use Rattle.bench_base.specs.Scans.{trusted, accepted, blocks}
@@ -67,8 +67,8 @@ good-before ρ _ H g = g
 -- what the numbers of a job are
 pub record JobRange (b : Job) : Type 0 where
   pub device : IsDevice b.device
-  pub piece : IsWord b.piece
-  pub postage : IsWord b.postage
+  pub piece : IsCount b.piece
+  pub postage : IsPostage b.postage
   pub class : b.class < 2 ^ 16
 
 pub job-range : (ρ : Rules) (j : ℕ) (b : Job) (C : List Commit) → Good ρ C → job_of j C ≡ Some b → JobRange b
@@ -83,7 +83,7 @@ job-range ρ j b (_ ∷ C) g h = job-range ρ j b C g.1 h
 job-word : (ρ : Rules) (j : ℕ) (b : Job) (C : List Commit) → Good ρ C → job_of j C ≡ Some b → IsWord j
 job-word ρ j b [] g h = none-some h
 job-word ρ j b (c.Ordered i d p a k ∷ C) g h = ⊎_elim
-    (λ (t : ((i == j) ≡ true) × (record { device = d; piece = p; postage = a; class = k } ≡ b)). subst IsWord (eqb-true i j t.0) g.2.0)
+    (λ (t : ((i == j) ≡ true) × (record { device = d; piece = p; postage = a; class = k } ≡ b)). subst IsWord (eqb-true i j t.0) g.2.0.1)
     (λ (o : job_of j C ≡ Some b). job-word ρ j b C g.1 o)
     (found (i == j) (job_of j C) (record { device = d; piece = p; postage = a; class = k }) b h)
 job-word ρ j b (_ ∷ C) g h = job-word ρ j b C g.1 h
@@ -100,7 +100,7 @@ released-as : (ρ : Rules) → IsCarried ρ → (x : List ℕ) (k : Mark × List
 released-as ρ carried x k [] g told h reads = absurd h
 released-as ρ carried x k (e.Released d p y ∷ I) g told h reads = ⊎_elim
     (λ (s : y ≡ x).
-    let it : MarkOf d p y = marked-reads ρ carried d p y (counted I) g told.0.releases in
+    let it : MarkOf d p y = marked-reads ρ carried d p y (counted I) g told.0.releases.1 in
     let same : (it.mark_is, it.code) ≡ k = ok-same (sym it.reads ∙ (ap read_mark s ∙ reads)) in
     let piece : p ≡ k.0.piece = sym it.piece ∙ ap (λ (z : Mark × List ℕ). z.0.piece) same in
     (inl (sym it.device ∙ ap (λ (z : Mark × List ℕ). z.0.device) same, piece), subst IsWord piece it.range.1))
@@ -119,7 +119,7 @@ module _ (ρ : Rules) (carried : IsCarried ρ) (H : Ledger) (i : Inv ρ H) where
 
   -- == the host ==
 
-  priced-ok : (d p a k : ℕ) → is_on Host H ≡ true → IsDevice d → IsWord p → IsWord a → (k < 2 ^ 16) → (w : Option ℕ) → open_job d (counted H) ≡ w
+  priced-ok : (d p a k : ℕ) → is_on Host H ≡ true → IsDevice d → IsWord p → IsPostage a → (k < 2 ^ 16) → (w : Option ℕ) → open_job d (counted H) ≡ w
       → PlanOk ρ H (host.order_act d p k a (host.order_answer p (host.shelf_of d (counted H)) w))
   priced-ok d p a k on device piece postage class (Some j) has = no-host (no.OpenJob j)
   priced-ok d p a k on device piece postage class None has =
@@ -132,14 +132,14 @@ module _ (ρ : Rules) (carried : IsCarried ρ) (H : Ledger) (i : Inv ρ H) where
       ok-made ρ H (r.Ordered (last_job C + 1) a) (c.Ordered (last_job C + 1) d p a k) refl tt (λ n l x. absurd (cc)) (record {
         fits = record { next = refl; idle = has; fresh = leb-false p (top d C) rows.0; room = rows.1.1.0 };
         on = on;
-        range = (omega arith, device, piece, postage, class);
+        range = ((omega arith, omega arith), device, (omega (arith, leb-false p (top d C) rows.0), piece), postage, class);
         sure = tt;
       }))
 
-  pub order-ok : (d p k : ℕ) → is_on Host H ≡ true → IsDevice d → IsWord p → (k < 2 ^ 16) → (o : Option (Result ℕ RateRefusal)) → ((a : ℕ) → o ≡ Some (Ok a) → a ≤ 100000) → PlanOk ρ H (host.order_plan d p k (host.shelf_of d (counted H)) o)
+  pub order-ok : (d p k : ℕ) → is_on Host H ≡ true → IsDevice d → IsWord p → (k < 2 ^ 16) → (o : Option (Result ℕ RateRefusal)) → ((a : ℕ) → o ≡ Some (Ok a) → IsPostage a) → PlanOk ρ H (host.order_plan d p k (host.shelf_of d (counted H)) o)
   order-ok d p k on device piece class None price = no-host no.NoRates
   order-ok d p k on device piece class (Some (Err x)) price = no-host (no.Rate x)
-  order-ok d p k on device piece class (Some (Ok a)) price = let low = price a refl in priced-ok d p a k on device piece (omega arith) class (open_job d (counted H)) refl
+  order-ok d p k on device piece class (Some (Ok a)) price = priced-ok d p a k on device piece (price a refl) class (open_job d (counted H)) refl
 
   pub send-ok : (l j : ℕ) (s : Option JobState) (b : Option Job) → job_of j (counted H) ≡ b → PlanOk ρ H (host.send_plan l j s b)
   send-ok l j (Some state.Ordered) (Some b) at =
@@ -152,8 +152,8 @@ module _ (ρ : Rules) (carried : IsCarried ρ) (H : Ledger) (i : Inv ρ H) where
         fit = λ x h. none-some h;
         keeps = λ k. inv-sent ρ H (spell (m.Debit q) []) (record {
           what = m.Debit q;
-          reads = read-spell (m.Debit q) [] (whole-debit q (device-word b.device it.device) it.piece it.postage it.class);
-          vouched = (it.device, it.class);
+          reads = read-spell (m.Debit q) [] (whole-debit q (device-word b.device it.device) it.piece.1 (omega (arith, it.postage.1)) it.class);
+          vouched = (it.device, (it.piece.1, it.class));
         }) k;
       }
   send-ok l j (Some state.Ordered) None at = no-host no.NoJob
@@ -175,7 +175,20 @@ module _ (ρ : Rules) (carried : IsCarried ρ) (H : Ledger) (i : Inv ρ H) where
           first (λ (z : Option HostRefusal). PlanOk ρ H (host.hold_act x j z)) (host.hold_rows k.0 b.piece b.postage b.class) None
           (no-host (no.OtherPiece b.piece), (no-host (no.OtherPostage b.postage), (no-host (no.OtherClass b.class), tt)))
           (λ rows. ok-made ρ H (r.Held j) (c.Held j x) refl tt (λ n l h. absurd (cc)) (record {
-            fits = record { at = b; job_is = at; open_is = subst (λ z. open_job z (counted H) ≡ Some j) device has };
+            fits = record {
+              at = b;
+              job_is = at;
+              open_is = subst (λ z. open_job z (counted H) ≡ Some j) device has;
+              mark = record {
+                mark = k.0;
+                code = k.1;
+                reads = reads;
+                device = device;
+                piece = eqb-true k.0.piece b.piece (not-false (k.0.piece == b.piece) rows.0);
+                postage = eqb-true k.0.postage b.postage (not-false (k.0.postage == b.postage) rows.1.0);
+                class = eqb-true k.0.class b.class (not-false (k.0.class == b.class) rows.1.1.0);
+              };
+            };
             on = on;
             range = (job-word ρ j b (counted H) i.good at, mark-long x k reads);
             sure = sure;
@@ -246,7 +259,7 @@ module _ (ρ : Rules) (carried : IsCarried ρ) (H : Ledger) (i : Inv ρ H) where
   trust-ok d key on device fits (Some k) has = no-scan not_v.Known
   trust-ok d key on device fits None has = ok-made ρ H (r.Trusted d) (c.Trusted d key) refl tt (λ n l h. absurd (cc)) (record { fits = has; on = on; range = (device, fits); sure = tt })
 
-  accept-ok : (n : ℕ) (k : Mark) (today : ℤ) → is_on Verifier H ≡ true → IsDevice k.device → IsWord k.piece → IsWord n → IsReleasedAs k.device k.piece H → (key : List ℕ) → trusted k.device (counted H) ≡ Some key → (w : Option ℕ) → accepted k.device k.piece (counted H) ≡ w
+  accept-ok : (n : ℕ) (k : Mark) (today : ℤ) → is_on Verifier H ≡ true → IsDevice k.device → IsWord k.piece → IsCount n → IsReleasedAs k.device k.piece H → (key : List ℕ) → trusted k.device (counted H) ≡ Some key → (w : Option ℕ) → accepted k.device k.piece (counted H) ≡ w
       → PlanOk ρ H (scans.scan_act n k (scans.scan_answer n k.day today (scans.is_full k.device k.piece (blocks (counted H))) w))
   accept-ok n k today on device piece scan sure key trust (Some s) has = chosen (λ (z : Result Bool ScanRefusal). PlanOk ρ H (scans.scan_act n k z)) (s == n) _ _
       (λ _. record { sane = tt; plain = refl; no_up = λ l j h. refl; fit = λ y h. none-some h; keeps = λ j. j })
@@ -255,7 +268,7 @@ module _ (ρ : Rules) (carried : IsCarried ρ) (H : Ledger) (i : Inv ρ H) where
       (no-scan (not_v.Future k.day), (no-scan (not_v.TooOld k.day), (no-scan not_v.BlocksFull, tt)))
       (λ rows. ok-made ρ H (r.Accepted k.device k.piece n false) (c.Accepted k.device k.piece n) refl tt (λ l j h. absurd (cc)) (record { fits = record { new = has; known = (key, trust); room = rows.1.1.0 }; on = on; range = (device, piece, scan); sure = sure }))
 
-  pub scan-ok : (n : ℕ) (bytes : List ℕ) (today : ℤ) → is_on Verifier H ≡ true → IsWord n → (o : Result (Mark × List ℕ) MarkFault) → read_mark bytes ≡ o → IsKnownMark bytes o H → PlanOk ρ H (scans.scan_plan n bytes today o (counted H))
+  pub scan-ok : (n : ℕ) (bytes : List ℕ) (today : ℤ) → is_on Verifier H ≡ true → IsCount n → (o : Result (Mark × List ℕ) MarkFault) → read_mark bytes ≡ o → IsKnownMark bytes o H → PlanOk ρ H (scans.scan_plan n bytes today o (counted H))
   scan-ok n bytes today on scan (Err fault) reads known = no-scan (not_v.Unread fault)
   scan-ok n bytes today on scan (Ok k) reads known = keyed (trusted k.0.device (counted H)) refl
     where

@@ -1,2 +1,4 @@
-//! Jobs, cells and scans in a good list.
+//! Jobs, cells and scans: laws over lists of commits, without code.
 #![tactic(auto)]
+
+pub mod laws;

@@ -155,7 +155,7 @@ module _ (ρ : Rules) where
   centre-follows : (c : Commit) (C : List Commit) → Fits ρ c C → Good ρ C → centre.Follows c C
   centre-follows (Registered d o key) C f g = f
   centre-follows (Opened w) C f g = f
-  centre-follows (Deposited w n a) C f g = f.known
+  centre-follows (Deposited w n a) C f g = (f.known, f.room)
   centre-follows (Flagged w s) C f g = f
   centre-follows (Ruled d n v r) C f g = let next = f.next in (ap is_some f.known.1, omega arith, f.verdict)
   centre-follows (Settled d n) C f g =
@@ -174,7 +174,7 @@ module _ (ρ : Rules) where
       (f.next, λ le. let s = has-state ρ (last_job C - 1023) C g (omega arith) (omega arith) in s.1 ∙ ap (λ (z : JobState). Some z) (oldest-closed ρ C g f.room le s.0 s.1))
   host-follows (Held j x) C f g =
       let it = (jobs ρ C g).open_is f.at.device j f.open_is in
-      (in-cells j C (in-cell ρ j OrderedJob C g it.state ordered-closed), unheld ρ j C g it.state)
+      (in-cells j C (in-cell ρ j OrderedJob C g it.state ordered-closed), unheld ρ j C g it.state, f.at, f.job_is, f.mark)
     where
       ordered-closed : OrderedJob ≡ ClosedJob → ⊥
       ordered-closed e = cc

@@ -1,6 +1,6 @@
 -- The marks of debits: each fits its fields and reads as a mark of its device and piece; a piece has one mark; and the kept
 -- mark is that of the last piece.
-use Rattle.std.proofs.Common.{◌≡◌, ℕ, ℤ, ◌<◌, ◌≤◌, ◌^◌, Bool, true, false, List, [], ◌∷◌, Option, Some, None, Ok, refl, sym, ap, subst, ◌∙◌, ⊎_elim, arith}
+use Rattle.std.proofs.Common.{◌+◌, IsSome, ◌≡◌, ℕ, ℤ, ◌<◌, ◌≤◌, ◌^◌, Bool, true, false, List, [], ◌∷◌, Option, Some, None, Ok, refl, sym, ap, subst, ◌∙◌, ⊎_elim, arith}
 use Rattle.std.specs.Prelude.{◌==◌, ◌&&◌, if◌then◌else◌}
 use Rattle.std.proofs.lemmas.Bool.{eqb-true, cases_Bool, eq-eqb, and_parts}
 use Rattle.bench_base.specs.declared.words.Kind.TheVariants.{Enrol}
@@ -26,12 +26,6 @@ use Rattle.law_money.proofs.Money.{funds}
 use Rattle.law_money.proofs.Asked.{note-reads}
 use Rattle.law_plans.proofs.Whole.{whole-mark}
 
--- today's rules keep each sum within a field of 32 bits
-pub total-word : (ρ : Rules) → IsCarried ρ → ρ.total < 2 ^ 32
-total-word ρ c =
-    let le : ρ.total ≤ buys_limit 1 = subst (λ v. ρ.total ≤ buys_limit v) c.version c.total in
-    omega arith
-
 pub device-word : (d : ℕ) → IsDevice d → IsWord d
 device-word d h = omega arith
 
@@ -54,6 +48,14 @@ module _ (ρ : Rules) where
       (λ s y. let fits = subst (λ z. Fits ρ (Debited z p a k t v) C) y g.0 in let low = fits.low in rw s (omega arith))
       (λ s. rw s le)
   pieces-le d (_ ∷ C) g = pieces-le d C g.1
+
+  -- the number of a piece is one of 32 bits, and so is their count
+  pub pieces-word : (d : ℕ) (C : List Commit) → Good ρ C → IsWord (pieces d C)
+  pieces-word d [] g = omega arith
+  pieces-word d (Debited e p a k t v ∷ C) g = either e d
+      (λ s y. let next = subst (λ z. p ≡ pieces z C + 1) y g.0.next in rw s (omega (arith, next, g.2.1)))
+      (λ s. rw s (pieces-word d C g.1))
+  pieces-word d (_ ∷ C) g = pieces-word d C g.1
 
   origin-registered : (d : ℕ) (x : ℕ × List ℕ) (C : List Commit) → Good ρ C → registered d C ≡ Some x → IsWord x.0
   origin-registered d x [] g h = absurd (some-none (sym h))
@@ -98,12 +100,23 @@ module _ (ρ : Rules) where
   pub mark-fits : IsCarried ρ → (d p a k : ℕ) (t : ℤ) (v : ℕ) (C : List Commit) → Good ρ (Debited d p a k t v ∷ C) → marks.IsWhole (mark_after d p a k t v C)
   unfolding mark_after
   mark-fits carried d p a k t v C g =
-      let f = funds ρ d C g.1 in
-      let covered = f.covered in
-      let within = f.within in
       let funded = g.0.funded in
-      let top = total-word ρ carried in
-      whole-mark _ g.0.version (device-word d g.2.0) g.2.1 g.2.2 (omega arith) (omega arith) g.2.4 (origin-word d C g.1) g.2.3
+      let bound = g.0.bound in
+      let known = g.0.known in
+      whole-mark _ (g.0.from_1, omega (arith, known, carried.version.1)) g.2.0 g.2.1 g.2.2 (omega arith) (omega arith) g.2.4 (origin-word d C g.1) g.2.3
+
+  -- a device that marked a piece was made
+  pub marked-made : (d p : ℕ) (x : List ℕ) (C : List Commit) → Good ρ C → marked d p C ≡ Some x → IsSome (key_of d C)
+  marked-made d p x [] g h = absurd (some-none (sym h))
+  marked-made d p x (Made e key ∷ C) g h = either e d (λ t y. rw t refl) (λ t. rw t (marked-made d p x C g.1 h))
+  marked-made d p x (Debited f q a k t v ∷ C) g h = ⊎_elim
+      (λ (s : ((f == d) && (q == p)) ≡ true).
+      let made = g.0.made in
+      let is : f ≡ d = eqb-true f d (and_parts (f == d) (q == p) s).0 in
+      subst (λ o. IsSome o) (sym (subst (λ z. key_of z C ≡ Some made.0) is made.1)) refl)
+      (λ (s : ((f == d) && (q == p)) ≡ false). marked-made d p x C g.1 (rw s at h))
+      (cases_Bool ((f == d) && (q == p)))
+  marked-made d p x (_ ∷ C) g h = marked-made d p x C g.1 h
 
   pub marked-le : (d p : ℕ) (x : List ℕ) (C : List Commit) → Good ρ C → marked d p C ≡ Some x → p ≤ pieces d C
   marked-le d p x [] g h = absurd (some-none (sym h))

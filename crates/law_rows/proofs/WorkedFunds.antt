@@ -128,7 +128,7 @@ refund-step_4 r = row-step sample _ _ refund_2 refund_5 refund_ledger tt (lit< t
 
 refund-step_5 : IsRow sample (drop 6 refund_steps) refund_6 refund_ledger → IsRow sample (drop 5 refund_steps) refund_5 refund_ledger
 unfolding plan read spell body number spelled request_at reply_at done_at debit_at release_at kind_of verdict_of size_of day_of marks.body marks.spell marks.mark_at marks.read_mark has_code hmac first_words schedule rounds compress hash_after digest_bytes sha256 request_in adds takes verdict verdict_by reply_to mark_after customer_sum same_kind is_worn
-refund-step_5 r = row-step sample _ _ refund_5 refund_6 refund_ledger tt (tt, inr (inl (refl, refl, c.Ruled 1 4 Granted refund_4, refl))) refl r
+refund-step_5 r = row-step sample _ _ refund_5 refund_6 refund_ledger tt (tt, inr (inl (record { node = Centre; count = _; answer_is = refl; more = refl; torn = refl }))) refl r
 
 refund-step_6 : IsRow sample (drop 7 refund_steps) refund_7 refund_ledger → IsRow sample (drop 6 refund_steps) refund_6 refund_ledger
 unfolding plan read spell body number spelled request_at reply_at done_at debit_at release_at kind_of verdict_of size_of day_of marks.body marks.spell marks.mark_at marks.read_mark has_code hmac first_words schedule rounds compress hash_after digest_bytes sha256 request_in adds takes verdict verdict_by reply_to mark_after customer_sum same_kind is_worn

@@ -89,7 +89,7 @@ refusals-step_13 r = row-step sample _ _ refusals_ledger refusals_ledger refusal
 
 refusals-step_14 : IsRow sample (drop 15 refusals_steps) refusals_ledger refusals_ledger → IsRow sample (drop 14 refusals_steps) refusals_ledger refusals_ledger
 unfolding plan read spell body number spelled request_at reply_at done_at debit_at release_at kind_of verdict_of size_of day_of marks.body marks.spell marks.mark_at marks.read_mark has_code hmac first_words schedule rounds compress hash_after digest_bytes sha256 request_in adds takes verdict verdict_by reply_to mark_after customer_sum same_kind is_worn
-refusals-step_14 r = row-step sample _ _ refusals_ledger refusals_ledger refusals_ledger tt ((tt, (lit≤ tt, bytes-below (2 ∷ 1 ∷ []) refl)), inl refl) refl r
+refusals-step_14 r = row-step sample _ _ refusals_ledger refusals_ledger refusals_ledger tt ((tt, (lit≤ tt, bytes-below (3 ∷ 1 ∷ []) refl)), inl refl) refl r
 
 refusals-step_15 : IsRow sample (drop 16 refusals_steps) refusals_ledger refusals_ledger → IsRow sample (drop 15 refusals_steps) refusals_ledger refusals_ledger
 unfolding plan read spell body number spelled request_at reply_at done_at debit_at release_at kind_of verdict_of size_of day_of marks.body marks.spell marks.mark_at marks.read_mark has_code hmac first_words schedule rounds compress hash_after digest_bytes sha256 request_in adds takes verdict verdict_by reply_to mark_after customer_sum same_kind is_worn

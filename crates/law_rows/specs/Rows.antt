@@ -396,7 +396,7 @@ refusals_steps =
     ∷ record { event = ev.Order 1 2 1 25 1; text = []; reply = r.HostRefused (not_h.OpenJob 1) }
     ∷ record { event = ev.Give Host (1 ∷ 17 ∷ []); text = []; reply = r.HostRefused (not_h.Unread unread.Length) }
     ∷ record { event = ev.Give Centre []; text = []; reply = r.CentreRefused (not_c.Unread unread.Length) }
-    ∷ record { event = ev.Give Centre (2 ∷ 1 ∷ []); text = []; reply = r.CentreRefused (not_c.Unread unread.Version) }
+    ∷ record { event = ev.Give Centre (3 ∷ 1 ∷ []); text = []; reply = r.CentreRefused (not_c.Unread unread.Version) }
     ∷ record { event = ev.Give Centre (1 ∷ 99 ∷ []); text = []; reply = r.CentreRefused (not_c.Unread unread.Tag) }
     ∷ record { event = ev.Give (Device 1) debit_other; text = []; reply = r.DevRefused 1 (no.WrongDevice 2) }
     ∷ record { event = ev.Give (Device 1) debit_2; text = []; reply = r.DevRefused 1 (no.WrongPiece 0) }

@@ -1,13 +1,17 @@
--- The amount of a Request that was read fits 32 bits.
-use Rattle.std.proofs.Common.{◌≡◌, ℕ, ◌<◌, ◌^◌, List, Ok}
-use Rattle.bench_base.specs.Table.{IsBytes}
+-- The amount of a Request that was read fits 64 bits.
+use Rattle.std.proofs.Common.{◌≡◌, ℕ, ◌<◌, ◌^◌, ◌==◌, Bool, true, false, cond, arith, List, Ok}
+use Rattle.bench_base.specs.Table.{Four, Eight, IsNumber, IsBytes}
 use Rattle.psd_wire.specs.declared.message.Request.{Request}
 use Rattle.psd_wire.specs.declared.message.Message.TheVariants as m
 use Rattle.psd_wire.specs.Grammar.{read, IsWhole}
 use Rattle.psd_wire.proofs.Readings.{read-found}
 
-whole-amount : (q : Request) → IsWhole (m.Request q) → q.amount < 2 ^ 32
-whole-amount q h = h.1.1.1.1.1.1.1.0
+whole-amount : (q : Request) → IsWhole (m.Request q) → q.amount < 2 ^ 64
+whole-amount q h = go (q.version == 1) h.1.1.1.1.1.1.1.0
+  where
+    go : (b : Bool) → IsNumber (cond b Four Eight) q.amount → q.amount < 2 ^ 64
+    go true k = omega (arith, k)
+    go false k = k
 
-pub read-amount : (bytes : List ℕ) (q : Request) → IsBytes bytes → read bytes ≡ Ok (m.Request q) → q.amount < 2 ^ 32
+pub read-amount : (bytes : List ℕ) (q : Request) → IsBytes bytes → read bytes ≡ Ok (m.Request q) → q.amount < 2 ^ 64
 read-amount bytes q h e = let found = read-found bytes (m.Request q) h e in whole-amount q found.1.whole

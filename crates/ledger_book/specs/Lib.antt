@@ -1,3 +1,4 @@
+pub mod Carried
 pub mod Growth
 pub mod Named
 pub mod Sides

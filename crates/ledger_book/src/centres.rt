@@ -144,7 +144,7 @@ fn device_share(commits: &[Commit], customer: Customer, side: Side, number: u32)
     requires low { 1 ≤ number }
     requires high { number ≤ 8 }
     ensures value { result ≡ device_share (amount_of side) customer (reverse commits.now) number }
-    ensures small { result ≤ length commits.now * 2 ^ 32 }
+    ensures small { result ≤ length commits.now * 2 ^ 64 }
 {
     let device = device_at(number);
     match enrolled(commits, device) {
@@ -157,7 +157,7 @@ fn device_share(commits: &[Commit], customer: Customer, side: Side, number: u32)
 #[tactic(auto, unfolding(ledger_terms::specs::Centres::customer_sum))]
 pub(crate) fn customer_sum(commits: &[Commit], customer: Customer, side: Side) -> u128
     ensures value { result ≡ customer_sum (amount_of side) customer (reverse commits.now) }
-    ensures small { result ≤ length commits.now * 2 ^ 35 }
+    ensures small { result ≤ length commits.now * 2 ^ 67 }
 {
     device_share(commits, customer, side, 1)
         + device_share(commits, customer, side, 2)

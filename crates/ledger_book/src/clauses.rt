@@ -1,7 +1,7 @@
 //! The clauses of a lawful ledger that speak of its commits alone, each for the newest commit after those before it.
-ghost use Rattle.std.specs.Prelude.{◌≡◌, ◌↔◌, ◌+◌, ◌-◌, ◌≤◌, ◌<◌, ◌*◌, ◌^◌, ◌⊎◌, List, ℕ, true, false, Some, None, [], ◌∷◌, length, reverse, IsTrue, IsSome};
+ghost use Rattle.std.specs.Prelude.{◌≡◌, ◌↔◌, ◌+◌, ◌+ℤ◌, ◌≤ℤ◌, ◌<ℤ◌, pos, ◌-◌, ◌≤◌, ◌<◌, ◌*◌, ◌^◌, ◌⊎◌, List, ℕ, true, false, Some, None, [], ◌∷◌, length, reverse, IsTrue, IsSome};
 ghost use Rattle.bench_base.specs.declared.ledger.Commit.{Commit as ACommit};
-ghost use Rattle.bench_base.specs.Rules.{first_rules};
+ghost use Rattle.bench_base.specs.Rules.{todays_rules};
 ghost use Rattle.bench_base.specs.Kinds.{empties, is_granted};
 ghost use Rattle.ledger_terms.specs.Requests.{request_in, note_of, request_of};
 ghost use Rattle.ledger_terms.specs.Sums.{pieces, descending};
@@ -17,15 +17,19 @@ use crate::totals::{Side, applied_sum, ascending, descending, pieces};
 use crate::words::{empties, is_granted};
 use bench_base::bytes::Note;
 use bench_base::ledger::Commit;
-use bench_base::numbers::{Customer, DevNo};
+use bench_base::numbers::{Customer, DayNo, DevNo};
 use bench_base::words::{Phase, Verdict};
 
 /// The greatest sum of a device's registers, in mills.
-const TOTAL: u128 = 4294967295;
+const TOTAL: u128 = 1000000000000;
 /// The greatest postage of a debit, in mills.
 const POSTAGE: u32 = 100000;
-/// The version of the marks that are written.
-const VERSION: u8 = 1;
+/// The version of the marks that are written; those of version 1 were.
+const VERSION: u8 = 2;
+/// For how many days past the deadline a device franks small postage, and the most that is small, in mills.
+const GRACE: i64 = 7;
+
+const SMALL: u32 = 1000;
 /// The greatest sum of a customer's deposits, in mills.
 const DEPOSITS: u128 = 1000000000000000;
 
@@ -105,7 +109,7 @@ pub(crate) fn numbering(commits: &[Commit]) -> bool
 }
 
 fn is_next_debit(newest: &Commit, before: &[Commit]) -> bool
-    ensures { IsTrue result ↔ NextDebit first_rules (newest.now ∷ reverse before.now) }
+    ensures { IsTrue result ↔ NextDebit todays_rules (newest.now ∷ reverse before.now) }
 {
     match *newest {
         Commit::Debited(d, piece, postage, _, _, version) => {
@@ -113,7 +117,8 @@ fn is_next_debit(newest: &Commit, before: &[Commit]) -> bool
                 && 1 <= postage
                 && postage <= POSTAGE
                 && u128::from(postage) <= descending(before, d)
-                && version == VERSION
+                && 1 <= version
+                && version <= VERSION
         }
         _ => true,
     }
@@ -121,7 +126,7 @@ fn is_next_debit(newest: &Commit, before: &[Commit]) -> bool
 
 #[tactic(auto, using(crate::proofs::Newest::reverse_last))]
 fn next_debit(commits: &[Commit]) -> bool
-    ensures { IsTrue result ↔ NextDebit first_rules (reverse commits.now) }
+    ensures { IsTrue result ↔ NextDebit todays_rules (reverse commits.now) }
 {
     match commits.split_last() {
         Some((newest, before)) => is_next_debit(newest, before),
@@ -130,7 +135,7 @@ fn next_debit(commits: &[Commit]) -> bool
 }
 
 fn is_within(commits: &[Commit], device: DevNo) -> bool
-    ensures { IsTrue result ↔ Totals first_rules (reverse commits.now) device }
+    ensures { IsTrue result ↔ Totals todays_rules (reverse commits.now) device }
 {
     let spent = ascending(commits, device);
     let refunded = applied_sum(commits, device, Side::Returns);
@@ -139,7 +144,7 @@ fn is_within(commits: &[Commit], device: DevNo) -> bool
 }
 
 fn totals(commits: &[Commit]) -> bool
-    ensures { IsTrue result ↔ AllDevices (Totals first_rules (reverse commits.now)) }
+    ensures { IsTrue result ↔ AllDevices (Totals todays_rules (reverse commits.now)) }
 {
     for number in 1..9 {
         if !is_within(commits, device_at(number)) {
@@ -151,7 +156,7 @@ fn totals(commits: &[Commit]) -> bool
 
 /// Debits: the next piece, funded, and registers within their limit.
 pub(crate) fn debits(commits: &[Commit]) -> bool
-    ensures { IsTrue result ↔ Debits first_rules (reverse commits.now) }
+    ensures { IsTrue result ↔ Debits todays_rules (reverse commits.now) }
 {
     next_debit(commits) && totals(commits)
 }
@@ -307,13 +312,21 @@ pub(crate) fn balances(commits: &[Commit]) -> bool
     true
 }
 
+// Not past the deadline, or in the days of grace with small postage.
+fn is_franked_on(day: DayNo, deadline: i32, postage: u32) -> bool
+    ensures { IsTrue result ↔ ((day ≤ℤ (deadline +ℤ pos 7)) × (deadline <ℤ day → postage ≤ 1000)) }
+{
+    i64::from(day.get()) <= i64::from(deadline) + GRACE
+        && (day.get() <= deadline || postage <= SMALL)
+}
+
 fn is_in_time(newest: &Commit, before: &[Commit]) -> bool
-    ensures { IsTrue result ↔ Days first_rules (newest.now ∷ reverse before.now) }
+    ensures { IsTrue result ↔ Days todays_rules (newest.now ∷ reverse before.now) }
 {
     match *newest {
-        Commit::Debited(d, _, _, _, day, _) => {
+        Commit::Debited(d, _, postage, _, day, _) => {
             last_day(before, d) <= day.get()
-                && day.get() <= deadline(before, d)
+                && is_franked_on(day, deadline(before, d), postage)
                 && phase(before, d) == Phase::InService
                 && !is_frozen(before, d)
         }
@@ -324,7 +337,7 @@ fn is_in_time(newest: &Commit, before: &[Commit]) -> bool
 /// Days: each debit is in time, in service and while no refund or withdrawal is pending.
 #[tactic(auto, using(crate::proofs::Newest::reverse_last))]
 pub(crate) fn days(commits: &[Commit]) -> bool
-    ensures { IsTrue result ↔ Days first_rules (reverse commits.now) }
+    ensures { IsTrue result ↔ Days todays_rules (reverse commits.now) }
 {
     match commits.split_last() {
         Some((newest, before)) => is_in_time(newest, before),

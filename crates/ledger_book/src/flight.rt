@@ -37,7 +37,7 @@ pub(crate) fn ruling_of(commits: &[Commit], device: DevNo, number: u64) -> Optio
 
 fn acknowledged_in(commit: &Commit, device: DevNo, side: Side, limit: u32) -> u64
     ensures value { result ≡ ruled_sum_to (amount_of side) device limit (commit.now ∷ []) }
-    ensures small { result < 2 ^ 32 }
+    ensures small { result < 2 ^ 64 }
 {
     match *commit {
         Commit::Ruled(d, n, verdict, note) if d == device && n <= limit => amount_of(
@@ -52,7 +52,7 @@ fn acknowledged_in(commit: &Commit, device: DevNo, side: Side, limit: u32) -> u6
 /// The sum of that side over the rulings on the device whose number is at most the limit.
 pub(crate) fn ruled_sum_to(commits: &[Commit], device: DevNo, side: Side, limit: u32) -> u128
     ensures value { result ≡ ruled_sum_to (amount_of side) device limit (reverse commits.now) }
-    ensures small { result ≤ length commits.now * 2 ^ 32 }
+    ensures small { result ≤ length commits.now * 2 ^ 64 }
 {
     let mut sum = 0;
     for commit in commits {
@@ -64,7 +64,7 @@ pub(crate) fn ruled_sum_to(commits: &[Commit], device: DevNo, side: Side, limit:
 /// What the ruling in flight adds to that side, where it is applied.
 pub(crate) fn flight(commits: &[Commit], device: DevNo, side: Side) -> u64
     ensures value { result ≡ flight (amount_of side) device (reverse commits.now) }
-    ensures small { result < 2 ^ 32 }
+    ensures small { result < 2 ^ 64 }
 {
     let next = u64::from(settled(commits, device)) + 1;
     match (

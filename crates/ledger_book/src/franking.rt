@@ -1,13 +1,14 @@
 //! The mark of each debit.
 ghost use Rattle.bench_base.specs.Rows.{first_of};
 ghost use Rattle.std.specs.Prelude.{◌≡◌, ◌+◌, ◌≤◌, ◌<◌, ◌^◌, [], ◌∷◌, length, reverse};
-ghost use Rattle.bench_base.specs.Rules.{first_rules};
+ghost use Rattle.bench_base.specs.Rules.{todays_rules};
 ghost use Rattle.ledger_terms.specs.Sums.{ascending, descending};
 ghost use Rattle.ledger_terms.specs.Devices.{origin};
 ghost use Rattle.ledger_terms.specs.Franking.{marked, mark_after, key_or_none};
 ghost use Rattle.bench_base.specs.declared.ledger.Commit.TheVariants.{Debited};
 ghost use Rattle.indicium.specs.Marks.{IsWhole, spell};
 ghost use Rattle.ledger_lawful.specs.Lawful.{Always, Debits};
+ghost use Rattle.ledger_book.specs.Carried.{carried, carried_sum};
 
 use crate::centres::registered;
 use crate::devices::{applied_kind, key_of};
@@ -42,7 +43,18 @@ fn spelled(mark: &Mark, key: Option<Key>) -> [u8; 64]
     }
 }
 
-// The mark of a debit after these commits, which keeps the registers within their limit.
+// What the field of a sum holds of it: its last four bytes in version 1, and all of it in version 2.
+fn carried_sum(version: u8, sum: u64) -> u64
+    ensures { result ≡ carried_sum version sum }
+{
+    if version == 1 {
+        sum % 4_294_967_296
+    } else {
+        sum
+    }
+}
+
+// The mark, as its fields hold it, of a debit after these commits, which keeps the registers within their limit.
 #[tactic(auto, unfolding(ledger_terms::specs::Franking::mark_after))]
 fn mark_after(
     before: &[Commit],
@@ -53,8 +65,8 @@ fn mark_after(
     day: DayNo,
     version: u8,
 ) -> Mark
-    requires { Debits first_rules (Debited device piece postage class day version ∷ reverse before.now) }
-    ensures value { result ≡ mark_after device piece postage class day version (reverse before.now) }
+    requires { Debits todays_rules (Debited device piece postage class day version ∷ reverse before.now) }
+    ensures value { result ≡ carried (mark_after device piece postage class day version (reverse before.now)) }
     ensures whole { IsWhole result }
 {
     let number = device.get();
@@ -63,8 +75,14 @@ fn mark_after(
         device: number,
         piece,
         postage,
-        ascending: ascending(before, device) as u64 + u64::from(postage),
-        descending: (descending(before, device) as u64).saturating_sub(u64::from(postage)),
+        ascending: carried_sum(
+            version,
+            ascending(before, device) as u64 + u64::from(postage),
+        ),
+        descending: carried_sum(
+            version,
+            (descending(before, device) as u64).saturating_sub(u64::from(postage)),
+        ),
         day: day.get(),
         origin: origin(before, device),
         class,
@@ -72,9 +90,9 @@ fn mark_after(
 }
 
 // The spelling of the mark of this commit after those before it, where it is the debit of the piece.
-#[tactic(auto, unfolding(ledger_terms::specs::Franking::indicium_after))]
+#[tactic(auto, unfolding(ledger_terms::specs::Franking::indicium_after), using(crate::proofs::Marks::spell_carried))]
 fn marked_in(commit: &Commit, before: &[Commit], device: DevNo, piece: u32) -> Option<[u8; 64]>
-    requires { Debits first_rules (commit.now ∷ reverse before.now) }
+    requires { Debits todays_rules (commit.now ∷ reverse before.now) }
     ensures { marked device piece (commit.now ∷ reverse before.now) ≡ first_of (marked device piece (reverse before.now)) result }
 {
     match *commit {
@@ -88,7 +106,7 @@ fn marked_in(commit: &Commit, before: &[Commit], device: DevNo, piece: u32) -> O
 
 /// The spelling of the mark of the first Debited of the piece. The registers have to be within their limit throughout, so that each mark has a spelling.
 pub(crate) fn marked(commits: &[Commit], device: DevNo, piece: u32) -> Option<[u8; 64]>
-    requires { Always (Debits first_rules) (reverse commits.now) }
+    requires { Always (Debits todays_rules) (reverse commits.now) }
     ensures { result ≡ marked device piece (reverse commits.now) }
 {
     let mut found = None;

@@ -1,18 +1,20 @@
 //! The clauses of a lawful ledger that speak of its entries: releases, acceptances and prints.
-ghost use Rattle.std.specs.Prelude.{◌≡◌, ◌↔◌, ◌⊎◌, true, false, Some, None, [], ◌∷◌, reverse, IsTrue};
-ghost use Rattle.bench_base.specs.Rules.{first_rules};
+ghost use Rattle.std.specs.Prelude.{◌≡◌, ◌↔◌, ◌⊎◌, true, false, Some, None, [], ◌∷◌, reverse, IsSome, IsTrue};
+ghost use Rattle.bench_base.specs.Rules.{todays_rules};
 ghost use Rattle.bench_base.specs.Ledger.{Ledger, counted, IsReleased, IsReleasedAs, IsPrinted};
 ghost use Rattle.bench_base.specs.Jobs.{Job, job_of, held_of};
+ghost use Rattle.ledger_terms.specs.Devices.{key_of};
 ghost use Rattle.ledger_terms.specs.Franking.{marked};
 ghost use Rattle.ledger_lawful.specs.Lawful.{held_piece, Always, Debits, Releases, AcceptedOnce, PrintedOnce, HeldOnce};
 
+use crate::devices::key_of;
 use crate::franking::marked;
 use crate::jobs::{accepted, held_of, held_piece, is_begun, named};
 use bench_base::ledger::{Commit, Entry};
 use bench_base::numbers::DevNo;
 
 fn is_marked(before: &[Commit], device: DevNo, piece: u32, mark: &[u8; 64]) -> bool
-    requires { Always (Debits first_rules) (reverse before.now) }
+    requires { Always (Debits todays_rules) (reverse before.now) }
     ensures { IsTrue result ↔ (marked device piece (reverse before.now) ≡ Some mark.now) }
 {
     match marked(before, device, piece) {
@@ -21,13 +23,21 @@ fn is_marked(before: &[Commit], device: DevNo, piece: u32, mark: &[u8; 64]) -> b
     }
 }
 
-/// Releases: a mark is released after its debit counts, with the bytes that the debit gives it.
+fn is_made(before: &[Commit], device: DevNo) -> bool
+    ensures { IsTrue result ↔ IsSome (key_of device (reverse before.now)) }
+{
+    key_of(before, device).is_some()
+}
+
+/// Releases: the device was made, and a mark is released after its debit counts, with the bytes that the debit gives it.
 pub(crate) fn releases(entry: &Entry, before: &[Commit]) -> bool
-    requires { Always (Debits first_rules) (reverse before.now) }
+    requires { Always (Debits todays_rules) (reverse before.now) }
     ensures { (H : Ledger) → reverse before.now ≡ counted H → (IsTrue result ↔ Releases (entry.now ∷ H)) }
 {
     match *entry {
-        Entry::Released(device, piece, mark) => is_marked(before, device, piece, &mark),
+        Entry::Released(device, piece, mark) => {
+            is_made(before, device) && is_marked(before, device, piece, &mark)
+        }
         _ => true,
     }
 }

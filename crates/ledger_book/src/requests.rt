@@ -33,7 +33,7 @@ fn no_request() -> Request
 #[tactic(auto, unfolding(ledger_terms::specs::Requests::request_in))]
 fn request_from(bytes: &[u8]) -> Request
     ensures value { result ≡ request_in bytes.now }
-    ensures small { result.amount < 2 ^ 32 }
+    ensures small { result.amount < 2 ^ 64 }
 {
     match read_message(bytes) {
         Ok(Message::Request(request)) => request,
@@ -44,7 +44,7 @@ fn request_from(bytes: &[u8]) -> Request
 /// The Request that a note reads as.
 pub(crate) fn request_in(note: &Note) -> Request
     ensures value { result ≡ request_in note.now }
-    ensures small { result.amount < 2 ^ 32 }
+    ensures small { result.amount < 2 ^ 64 }
 {
     request_from(note.as_slice())
 }
@@ -73,7 +73,7 @@ pub(crate) fn note_of(commits: &[Commit], device: DevNo, number: u32) -> Option<
 /// The Request of this number: the one in the first Asked of it.
 pub(crate) fn request_of(commits: &[Commit], device: DevNo, number: u32) -> Request
     ensures value { result ≡ request_of device number (reverse commits.now) }
-    ensures small { result.amount < 2 ^ 32 }
+    ensures small { result.amount < 2 ^ 64 }
 {
     match note_of(commits, device, number) {
         Some(note) => request_in(&note),

@@ -83,7 +83,7 @@ pub(crate) fn ascending(commits: &[Commit], device: DevNo) -> u128
 // What a commit after those before it adds to the sum of that side over what was applied.
 fn applied_in(commit: &Commit, before: &[Commit], device: DevNo, side: Side) -> u64
     ensures value { applied_sum (amount_of side) device (commit.now ∷ reverse before.now) ≡ applied_sum (amount_of side) device (reverse before.now) + result }
-    ensures small { result < 2 ^ 32 }
+    ensures small { result < 2 ^ 64 }
 {
     match *commit {
         Commit::Applied(d, n, verdict) if d == device => {
@@ -96,7 +96,7 @@ fn applied_in(commit: &Commit, before: &[Commit], device: DevNo, side: Side) -> 
 /// The sum of that side over the transactions that the device applied.
 pub(crate) fn applied_sum(commits: &[Commit], device: DevNo, side: Side) -> u128
     ensures value { result ≡ applied_sum (amount_of side) device (reverse commits.now) }
-    ensures small { result ≤ length commits.now * 2 ^ 32 }
+    ensures small { result ≤ length commits.now * 2 ^ 64 }
 {
     let mut sum = 0;
     for (i, commit) in commits.iter().enumerate() {
@@ -107,7 +107,7 @@ pub(crate) fn applied_sum(commits: &[Commit], device: DevNo, side: Side) -> u128
 
 fn ruled_in(commit: &Commit, device: DevNo, side: Side) -> u64
     ensures value { result ≡ ruled_sum (amount_of side) device (commit.now ∷ []) }
-    ensures small { result < 2 ^ 32 }
+    ensures small { result < 2 ^ 64 }
 {
     match *commit {
         Commit::Ruled(d, _, verdict, note) if d == device => amount_of(
@@ -122,7 +122,7 @@ fn ruled_in(commit: &Commit, device: DevNo, side: Side) -> u64
 /// The sum of that side over the centre's rulings on the device.
 pub(crate) fn ruled_sum(commits: &[Commit], device: DevNo, side: Side) -> u128
     ensures value { result ≡ ruled_sum (amount_of side) device (reverse commits.now) }
-    ensures small { result ≤ length commits.now * 2 ^ 32 }
+    ensures small { result ≤ length commits.now * 2 ^ 64 }
 {
     let mut sum = 0;
     for commit in commits {
@@ -134,7 +134,7 @@ pub(crate) fn ruled_sum(commits: &[Commit], device: DevNo, side: Side) -> u128
 /// What is left to spend, and 0 where more was spent and refunded than loaded.
 pub(crate) fn descending(commits: &[Commit], device: DevNo) -> u128
     ensures value { result ≡ descending device (reverse commits.now) }
-    ensures small { result ≤ length commits.now * 2 ^ 32 }
+    ensures small { result ≤ length commits.now * 2 ^ 64 }
 {
     let gone = ascending(commits, device) + applied_sum(commits, device, Side::Returns);
     applied_sum(commits, device, Side::Buys).saturating_sub(gone)

@@ -1,11 +1,11 @@
 -- Editions of the rules: each allows what the one before it does.
-use Rattle.std.specs.Prelude.{◌≡◌, ◌≤◌, List, [], ◌∷◌}
-use Rattle.bench_base.specs.Rules.{Rules}
+use Rattle.std.specs.Prelude.{◌≤◌, List, [], ◌∷◌}
+use Rattle.bench_base.specs.Rules.{Rules, IsVersion}
 use Rattle.ledger_terms.specs.Rulings.{buys_limit}
 
 -- the rules are ones that today's marks and messages can carry
 pub record IsCarried (ρ : Rules) : Type 0 where
-  pub version : ρ.version ≡ 1
+  pub version : IsVersion ρ.version
   pub total : ρ.total ≤ buys_limit ρ.version
 
 -- the second allows what the first does

@@ -11,7 +11,7 @@ use Rattle.bench_base.specs.Jobs.{Job, job_of, held_of, begun}
 use Rattle.bench_base.specs.Scans.{accepted}
 use Rattle.ledger_terms.specs.Requests.{request_in, note_of, request_of}
 use Rattle.ledger_terms.specs.Sums.{adds, takes, loaded, refunded, ascending, descending, pieces}
-use Rattle.ledger_terms.specs.Devices.{applied_of, pending, frozen, phase, deadline, last_day}
+use Rattle.ledger_terms.specs.Devices.{key_of, applied_of, pending, frozen, phase, deadline, last_day}
 use Rattle.ledger_terms.specs.Centres.{ruled, settled, deposits, customer_bought, customer_returned}
 use Rattle.ledger_terms.specs.Franking.{marked}
 use Rattle.ledger_terms.specs.InFlight.{ruling_of, acknowledged_resets, acknowledged_refunds, flight}
@@ -75,9 +75,9 @@ Debits ρ C = NextDebit ρ C × AllDevices (Totals ρ C)
 
 -- == releases ==
 
--- a released mark is the spelling of the mark of a Debited of that device and piece that counts before it
+-- a released mark is the spelling of the mark of a Debited of that device and piece that counts before it; the device was made
 abbrev pub Releases : Ledger → Type 0
-Releases (Released d piece mark ∷ H) = marked d piece (counted H) ≡ Some mark
+Releases (Released d piece mark ∷ H) = IsSome (key_of d (counted H)) × (marked d piece (counted H) ≡ Some mark)
 Releases H = Unit {0}
 
 -- == refunds ==

@@ -16,7 +16,7 @@ use Rattle.bench_base.specs.declared.events.Event.TheVariants as ev
 use Rattle.bench_base.specs.declared.events.Reply.TheVariants as r
 use Rattle.bench_base.specs.Rules.{Rules}
 use Rattle.bench_base.specs.Plans.{Plan, told}
-use Rattle.bench_base.specs.Ranges.{IsDevice, IsDay, IsWord, IsWholeEvent, TakesBytes, IsGiven}
+use Rattle.bench_base.specs.Ranges.{IsDevice, IsDay, IsCount, IsPostage, IsWholeEvent, TakesBytes, IsGiven}
 use Rattle.bench_base.specs.Table.{IsBytes}
 use Rattle.bench_base.specs.Ledger.{Ledger, day_in, rates_in, messages, message, IsSent, is_on, count_of, counted}
 use Rattle.bench_base.specs.Jobs.{job_of}
@@ -43,7 +43,7 @@ use Rattle.law_good.proofs.Good.{Fits, Good}
 use Rattle.law_money.proofs.Money.{ruling-asked}
 use Rattle.law_money.proofs.Asked.{note-reads}
 use Rattle.law_plans.proofs.Lengths.{mark-long, mark-behind, long-release}
-use Rattle.law_good.proofs.Grown.{Inv, GenuineAs, genuine-at, inv-none, inv-begin, inv-day, inv-rates, inv-down, inv-up}
+use Rattle.law_good.proofs.Grown.{Inv, IsCommand, GenuineAs, genuine-at, inv-none, inv-begin, inv-day, inv-rates, inv-down, inv-up}
 use Rattle.law_plans.proofs.Plans.{PlanOk, ok-refuse, ok-at, moved}
 use Rattle.law_device.proofs.DevicePlans.{ask-ok, debit-ok, ok-shown, make-ok, resend-ok, ack-ok, status-ok, device-ok}
 use Rattle.law_centre.proofs.CentrePlans.{register-ok, open-ok, flag-ok, balance-ok, deposit-ok, centre-ok, reconcile-ok}
@@ -90,7 +90,7 @@ module _ (τ : Tariff) (ρ : Rules) (carried : IsCarried ρ) (H : Ledger) (i : I
 
   -- == bytes that are handed to a node ==
 
-  sent-device : (bytes : List ℕ) (today : ℤ) (d : ℕ) (x : Message) → IsDay today → IsDevice d → ((q : DebitMsg) → x ≡ m.Debit q → q.class < 2 ^ 16) → read bytes ≡ Ok x → IsKnown bytes (Ok x) (Device d) H → PlanOk ρ H (Moves.device_plan ρ today d bytes H)
+  sent-device : (bytes : List ℕ) (today : ℤ) (d : ℕ) (x : Message) → IsDay today → IsDevice d → ((q : DebitMsg) → x ≡ m.Debit q → IsCommand q) → read bytes ≡ Ok x → IsKnown bytes (Ok x) (Device d) H → PlanOk ρ H (Moves.device_plan ρ today d bytes H)
   sent-device bytes today d x day device class reads known = at-ok (Device d) _ (λ on.
       subst (λ z. PlanOk ρ H (Devices.device_take ρ (messages H) today d bytes z (counted H) (key_of d (counted H)))) (sym reads)
       (device-ok ρ carried H i d (messages H) today bytes on device day (Ok x) reads known (λ q h. class q (ok-same h))))
@@ -107,7 +107,7 @@ module _ (τ : Tariff) (ρ : Rules) (carried : IsCarried ρ) (H : Ledger) (i : I
       let asked = ruling-asked ρ p.device p.number (p.verdict, g.note) (counted H) i.good g.ruled_as in
       let it = note-reads ρ p.device p.number g.note (counted H) i.good asked in
       sent-device bytes today p.device (m.Reply p) day it.range.0 (λ q h. absurd (cc)) reads (known-sent bytes (Device p.device) H (counted H) (m.Reply p) g s)
-  by_tag bytes today (m.Debit q) day reads g s = sent-device bytes today q.device (m.Debit q) day g.0 (λ z h. subst (λ (y : DebitMsg). y.class < 2 ^ 16) (debit-same h) g.1) reads tt
+  by_tag bytes today (m.Debit q) day reads g s = sent-device bytes today q.device (m.Debit q) day g.0 (λ z h. subst IsCommand (debit-same h) g.1) reads tt
     where
       debit-same : {a b : DebitMsg} → m.Debit a ≡ m.Debit b → a ≡ b
       debit-same h = cc
@@ -122,12 +122,12 @@ module _ (τ : Tariff) (ρ : Rules) (carried : IsCarried ρ) (H : Ledger) (i : I
       let g = i.sents bytes s in
       subst (λ z. PlanOk ρ H (Moves.deliver_to ρ today bytes z H)) (sym g.reads) (by_tag bytes today g.what day g.reads g.vouched s)
 
-  -- a Debit that bytes read as has a class of 16 bits
-  debit-class : (bytes : List ℕ) → IsBytes bytes → (q : DebitMsg) → read bytes ≡ Ok (m.Debit q) → q.class < 2 ^ 16
-  debit-class bytes h q e = (read-found bytes (m.Debit q) h e).1.whole.1.1.1.1.1.0
+  -- a Debit that bytes read as fits its fields
+  debit-fits : (bytes : List ℕ) → IsBytes bytes → (q : DebitMsg) → read bytes ≡ Ok (m.Debit q) → IsCommand q
+  debit-fits bytes h q e = let whole = (read-found bytes (m.Debit q) h e).1.whole in (whole.1.1.1.0, whole.1.1.1.1.1.0)
 
   give-ok : (today : ℤ) (n : Node) (bytes : List ℕ) → IsDay today → TakesBytes n → IsGiven bytes → IsKnown bytes (read bytes) n H → PlanOk ρ H (Moves.give_plan ρ today n bytes H)
-  give-ok today (Device d) bytes day takes fits known = at-ok (Device d) _ (λ on. device-ok ρ carried H i d (messages H) today bytes on takes day (read bytes) refl known (debit-class bytes fits.1))
+  give-ok today (Device d) bytes day takes fits known = at-ok (Device d) _ (λ on. device-ok ρ carried H i d (messages H) today bytes on takes day (read bytes) refl known (debit-fits bytes fits.1))
   give-ok today Centre bytes day takes fits known = at-ok Centre _ (λ on. centre-ok ρ H i on (messages H) bytes (read bytes) refl known)
   give-ok today Host bytes day takes fits known = at-ok Host _ (λ on. host-ok ρ carried H i bytes (read bytes) on known)
   give-ok today Verifier bytes day takes fits known = absurd takes
@@ -143,10 +143,10 @@ module _ (τ : Tariff) (ρ : Rules) (carried : IsCarried ρ) (H : Ledger) (i : I
       let is = long-release bytes g.what g.reads long in
       genuine-at bytes (m.Release (drop 2 bytes)) H (counted H) g (g.reads ∙ ap (λ (z : Message). Ok z) is)
 
-  scan-bytes : (n : ℕ) (today : ℤ) (bytes : List ℕ) → IsWord n → IsKnownMark bytes (read_mark bytes) H → PlanOk ρ H (Moves.scan_plan n today bytes H)
+  scan-bytes : (n : ℕ) (today : ℤ) (bytes : List ℕ) → IsCount n → IsKnownMark bytes (read_mark bytes) H → PlanOk ρ H (Moves.scan_plan n today bytes H)
   scan-bytes n today bytes word known = at-ok Verifier _ (λ on. scan-ok ρ carried H i n bytes today on word (read_mark bytes) refl known)
 
-  scan-sent-ok : (n k : ℕ) (today : ℤ) → IsWord n → (x : Option (List ℕ)) → message k H ≡ x → PlanOk ρ H (Moves.scan_sent n today k x H)
+  scan-sent-ok : (n k : ℕ) (today : ℤ) → IsCount n → (x : Option (List ℕ)) → message k H ≡ x → PlanOk ρ H (Moves.scan_sent n today k x H)
   scan-sent-ok n k today word None h = ok-refuse ρ H (r.NoMessage k) refl tt
   scan-sent-ok n k today word (Some bytes) h = scan-bytes n today (drop 2 bytes) word (behind-known bytes (message-sent k bytes H h) (read_mark (drop 2 bytes)) refl)
 
@@ -168,9 +168,9 @@ module _ (τ : Tariff) (ρ : Rules) (carried : IsCarried ρ) (H : Ledger) (i : I
   rates-ok : (text : List ℕ) → PlanOk ρ H (Moves.rates_plan τ text)
   rates-ok text = chosen (PlanOk ρ H) (nat_lt 65536 (length text)) _ _ (λ _. ok-refuse ρ H r.RatesLength refl tt) (λ _. reading-ok text (τ.reading text))
 
-  price-within : (class grams zone : ℕ) (o : Option (List ℕ)) (a : ℕ) → Moves.price_by τ class grams zone o ≡ Some (Ok a) → a ≤ 100000
+  price-within : (class grams zone : ℕ) (o : Option (List ℕ)) (a : ℕ) → Moves.price_by τ class grams zone o ≡ Some (Ok a) → IsPostage a
   price-within class grams zone None a h = none-some h
-  price-within class grams zone (Some text) a h = (τ.bounds text class grams zone a (some-same h)).1
+  price-within class grams zone (Some text) a h = τ.bounds text class grams zone a (some-same h)
 
   reconcile-all : (d : ℕ) (w : Option (List ℕ)) → is_on Centre H ≡ true → PlanOk ρ H (Moves.reconcile_plan d w (counted H))
   reconcile-all d None on = ok-refuse ρ H (r.DevRefused d no.Blank) refl tt
@@ -184,7 +184,7 @@ module _ (τ : Tariff) (ρ : Rules) (carried : IsCarried ρ) (H : Ledger) (i : I
   day-ok (ev.Off n) text today day w u = at-ok n _ (λ _. off-ok n)
   day-ok (ev.Cut n calls keep byte) text today day w u = ok-refuse ρ H (r.CutSet n) refl tt
   day-ok (ev.Make d key) text today day w u = at-ok (Device d) _ (λ on. make-ok ρ carried H i d key on w.0 w.1 (key_of d (counted H)) refl)
-  day-ok (ev.Debit d p a k) text today day w u = at-ok (Device d) _ (λ on. debit-ok ρ carried H i (Devices.shown d p) d (Moves.debit_by d p a k) today (ok-shown ρ carried d p) on w.0 w.3 day (key_of d (counted H)) refl)
+  day-ok (ev.Debit d p a k) text today day w u = at-ok (Device d) _ (λ on. debit-ok ρ carried H i (Devices.shown d p) d (Moves.debit_by d p a k) today (ok-shown ρ carried d p) on w.0 (w.1, w.3) day (key_of d (counted H)) refl)
   day-ok (ev.Ask d kind who a) text today day w u = at-ok (Device d) _ (λ on. ask-ok ρ carried H i d kind who a today (messages H) on w.0 w.1 day (key_of d (counted H)) refl)
   day-ok (ev.Resend d) text today day w u = at-ok (Device d) _ (λ _. resend-ok ρ carried H i d (messages H) (key_of d (counted H)) (pending d (counted H)) refl)
   day-ok (ev.Ack d) text today day w u = at-ok (Device d) _ (λ _. ack-ok ρ carried H i d (messages H) (key_of d (counted H)))
@@ -201,8 +201,8 @@ module _ (τ : Tariff) (ρ : Rules) (carried : IsCarried ρ) (H : Ledger) (i : I
   day-ok (ev.Print j) text today day w u = at-ok Host _ (λ on. print-ok ρ carried H i j on w (host.shown_state j (counted H)) refl)
   day-ok (ev.Close j) text today day w u = at-ok Host _ (λ on. close-ok ρ carried H i j on w (host.shown_state j (counted H)) refl)
   day-ok (ev.Trust d key) text today day w u = at-ok Verifier _ (λ on. trust-ok ρ carried H i d key on w.0 w.1 (trusted d (counted H)) refl)
-  day-ok (ev.ScanMsg n k) text today day w u = scan-sent-ok n k today w.1 (message k H) refl
-  day-ok (ev.ScanHex n bytes) text today day w u = scan-bytes n today bytes w.1 u
+  day-ok (ev.ScanMsg n k) text today day w u = scan-sent-ok n k today (w.0, w.1) (message k H) refl
+  day-ok (ev.ScanHex n bytes) text today day w u = scan-bytes n today bytes (w.0, w.1) u
   day-ok (ev.Reconcile d) text today day w u = at-ok (Device d) _ (λ _. at-ok Centre _ (λ on. reconcile-all d (key_of d (counted H)) on))
 
   dated-ok : (x : Event) (text : List ℕ) (day : Option ℤ) → day_in H ≡ day → IsWholeEvent x → Unforged x H → PlanOk ρ H (Moves.on_day (Moves.plan_on τ ρ H x text) day)
@@ -236,7 +236,7 @@ fits-more ρ σ a (c.Debited d p b k t v) C f =
     let small = a.small in
     let version = a.version in
     let known = f.known in
-    record { made = f.made; free = f.free; next = f.next; low = f.low; high = f.high; funded = f.funded; serves = f.serves; day = f.day; due = due-more t _ ρ.grace σ.grace a.grace f.due; small = λ h. let le = f.small h in omega arith; version = f.version; known = omega arith }
+    record { made = f.made; free = f.free; next = f.next; low = f.low; high = f.high; funded = f.funded; serves = f.serves; day = f.day; due = due-more t _ ρ.grace σ.grace a.grace f.due; small = λ h. let le = f.small h in omega arith; from_1 = f.from_1; known = omega arith; bound = f.bound }
 fits-more ρ σ a _ C f = f
 
 good-more : (ρ σ : Rules) → Allows ρ σ → (C : List Commit) → Good ρ C → Good σ C

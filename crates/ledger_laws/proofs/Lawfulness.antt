@@ -81,7 +81,7 @@ module _ (ρ : Rules) where
 
   next-debit : (C : List Commit) → Good ρ C → NextDebit ρ C
   next-debit [] g = tt
-  next-debit (Debited d p a k t v ∷ C) g = let version = g.0.version in record { next = g.0.next; low = g.0.low; high = g.0.high; funded = g.0.funded; from_1 = omega arith; known = g.0.known }
+  next-debit (Debited d p a k t v ∷ C) g = record { next = g.0.next; low = g.0.low; high = g.0.high; funded = g.0.funded; from_1 = g.0.from_1; known = g.0.known }
   next-debit (_ ∷ C) g = tt
 
   totals : (C : List Commit) → Good ρ C → (d : ℕ) → Totals ρ C d

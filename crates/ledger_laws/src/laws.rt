@@ -1,14 +1,16 @@
 //! The laws of histories, each as a contract of a function that takes and answers nothing.
-ghost use Rattle.std.specs.Prelude.{◌≡◌, ℕ, List, Some};
+ghost use Rattle.std.specs.Prelude.{◌≡◌, ℕ, List, [], ◌∷◌, Some};
 ghost use Rattle.bench_base.specs.declared.words.Node.{Node};
 ghost use Rattle.bench_base.specs.declared.ledger.Commit.{Commit};
 ghost use Rattle.bench_base.specs.declared.events.Event.{Event};
-ghost use Rattle.bench_base.specs.Rules.{editions};
+ghost use Rattle.bench_base.specs.Rules.{first_rules, editions};
 ghost use Rattle.bench_base.specs.Ranges.{IsWholeEvent};
-ghost use Rattle.bench_base.specs.Ledger.{torn_of, counted};
+ghost use Rattle.bench_base.specs.Ledger.{Ledger, torn_of, counted};
 ghost use Rattle.ledger_lawful.specs.Editions.{Editions};
 ghost use Rattle.ledger_moves.specs.Moves.{plan};
-ghost use Rattle.ledger_moves.specs.Histories.{Unforged};
+ghost use Rattle.ledger_moves.specs.Histories.{Unforged, History};
+ghost use Rattle.ledger_moves.specs.Tariffs.{Tariff};
+ghost use Rattle.law_jobs.specs.Places.{CellsAddUp};
 ghost use Rattle.law_orders.specs.Nexts.{AreOrdered, IsNext, IsOpen};
 ghost use Rattle.ledger_laws.specs.Laws.{ForHistories, Holds};
 
@@ -29,6 +31,7 @@ ghost use Rattle.ledger_laws.specs.Laws.{ForHistories, Holds};
 /// - `either`: on a day, an `on` of a node with an open commit may show either count.
 pub fn histories()
     ensures today { Editions editions }
+    ensures earlier { (τ : Tariff) (H : Ledger) → History τ (first_rules ∷ []) H → History τ editions H }
     ensures holds { ForHistories Holds }
 {}
 
@@ -42,4 +45,10 @@ pub fn orders()
     ensures next { ForHistories (λ τ ρ ρs H. (x : Event) (text : List ℕ) → IsWholeEvent x → Unforged x H
         → (c : Commit) → (plan τ ρ H x text).commit ≡ Some c → IsNext c H) }
     ensures torn { ForHistories (λ τ ρ ρs H. (n : Node) (c : Commit) → torn_of n H ≡ Some c → IsOpen n c H) }
+{}
+
+/// After every history what lies in the cells of a node adds up to its commits: of each device, of the centre, of the host
+/// and of the verifier.
+pub fn counts()
+    ensures cells { ForHistories (λ τ ρ ρs H. CellsAddUp (counted H)) }
 {}

@@ -118,7 +118,7 @@ plan_on τ ρ H ev.Rates text today = rates_plan τ text
 plan_on τ ρ H (ev.On n) text today = on_plan n H
 plan_on τ ρ H (ev.Off n) text today = at_node n H (told (r.Down n) (e.Down n ∷ []))
 plan_on τ ρ H (ev.Cut n calls keep byte) text today = refuse (r.CutSet n)
-plan_on τ ρ H (ev.Make d key) text today = at_node (Device d) H (device.make_plan d key (key_of d (counted H)))
+plan_on τ ρ H (ev.Make d key) text today = at_node (Device d) H (device.make_plan d key (counted H) (key_of d (counted H)))
 plan_on τ ρ H (ev.Debit d piece postage class) text today =
     at_node (Device d) H (device.debit_plan ρ (device.shown d piece) d (debit_by d piece postage class) today (counted H) (key_of d (counted H)))
 plan_on τ ρ H (ev.Ask d kind who a) text today = at_node (Device d) H (device.ask_plan ρ d kind who a today (messages H) (counted H) (key_of d (counted H)))

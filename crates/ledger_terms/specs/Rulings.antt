@@ -1,5 +1,5 @@
 -- How the centre rules on a Request, over the commits before it. Amounts are in mills.
-use Rattle.std.specs.Prelude.{ℕ, pos, ◌+◌, ◌+ℤ◌, Bool, true, false, not, ◌&&◌, ◌||◌, List, [], ◌∷◌, Option, Some, None, ◌==◌, nat_lt, if◌then◌else◌}
+use Rattle.std.specs.Prelude.{ℕ, pos, min, ◌+◌, ◌+ℤ◌, Bool, true, false, not, ◌&&◌, ◌||◌, List, [], ◌∷◌, Option, Some, None, ◌==◌, nat_lt, if◌then◌else◌}
 use Rattle.bench_base.specs.declared.words.Kind.TheVariants.{Enrol, Reset, Audit}
 use Rattle.bench_base.specs.declared.words.Verdict.{Verdict}
 use Rattle.bench_base.specs.declared.words.Verdict.TheVariants.{Granted, NotEnrolled, EnrolledAlready, NoCustomer, Suspended, NoFunds, Imbalance}
@@ -17,7 +17,11 @@ use Rattle.ledger_terms.specs.Centres.{registered, origin_in, key_in, enrolled, 
 
 -- the greatest sum of buys that a Request of this version may bring about; no other version is read
 abbrev pub buys_limit : ℕ → ℕ
-buys_limit version = if version == 1 then 4294967295 else 0
+buys_limit version = if version == 1 then 4294967295 else if version == 2 then 1000000000000 else 0
+
+-- the amount as a Reply of this version names it: version 1 has four bytes for it
+abbrev pub written_amount : ℕ → ℕ → ℕ
+written_amount version amount = if version == 1 then min amount 4294967295 else amount
 
 -- a reset of nothing, or past a limit: of one reset, or of all buys
 abbrev pub is_past_limits : ℕ → ℕ → ℕ → Bool
@@ -105,7 +109,7 @@ reply_to C q = record {
   number = q.number;
   kind = q.kind;
   verdict = (verdict C q).0;
-  amount = (verdict C q).1;
+  amount = written_amount q.version (verdict C q).1;
   deadline = if is_dated (verdict C q).0 q.kind then q.day +ℤ pos 92 else pos 0;
   origin = origin_in (registered q.device C);
 }

@@ -10,9 +10,11 @@ ghost use Rattle.bench.specs.Benches.{IsReady, bench_of};
 use bench::{Bench, Stores};
 use bench_base::stream::{IoSink, IoSource};
 use nv_model::{FileNv, Fused, Nv};
+use read_ahead::ReadAhead;
 use script_replay::run::{is_replay, run};
 use script_replay::status::Status;
-use std::io::BufReader;
+use std::fs::File;
+use std::os::fd::AsRawFd;
 use std::process::ExitCode;
 use std::{env, io};
 use thiserror::Error;
@@ -31,6 +33,12 @@ const DEVICE_FILES: [&str; 8] = [
     "device-7.nv",
     "device-8.nv",
 ];
+
+/// How much of the script is read ahead, in bytes.
+const AHEAD: usize = 8192;
+
+/// The number of standard error, the last of the standard streams.
+const LAST_STREAM: i32 = 2;
 
 /// Why there is no bench: the line that it prints on standard error.
 #[derive(Clone, Copy, Debug, Drop, Error)]
@@ -77,21 +85,44 @@ fn fault_of(status: Status) -> Option<RunFault> {
 }
 
 // The words behind the program's name. Where one of them is no UTF-8 there are none, and none are bad words.
-fn words_of(rt: &HostRuntime) -> io::Result<Vec<String>> {
+fn words_of(rt: &HostRuntime) -> Result<Vec<String>, OpenFault> {
     let mut words = Vec::new(rt.alloc());
     let given = match env::args(rt) {
         Ok(given) => given,
-        Err(fault) => {
-            if fault.kind() == io::ErrorKind::InvalidData {
-                return Ok(words);
-            }
-            return Err(fault);
-        }
+        Err(fault) if fault.kind() == io::ErrorKind::InvalidData => return Ok(words),
+        Err(_) => return Err(OpenFault::Memory),
     };
     for word in given.skip(1) {
-        words.push(word)?;
+        let Ok(()) = words.push(word) else {
+            return Err(OpenFault::Memory);
+        };
     }
     Ok(words)
+}
+
+// Opens the current folder, once for each standard stream that is closed and once more, and locks it. While these handles
+// are held no file that is opened is taken for a standard stream, and no other program uses the folder.
+fn hold_folder(rt: &HostRuntime) -> Result<Vec<File>, OpenFault> {
+    let Ok(mut held) = Vec::with_capacity(rt.alloc(), 4) else {
+        return Err(OpenFault::Memory);
+    };
+    let fault = OpenFault::File(DEVICE_FILES[0]);
+    for _ in 0..=3 {
+        let Ok(folder) = File::open(rt, ".") else {
+            return Err(fault);
+        };
+        let is_stream = folder.as_raw_fd() <= LAST_STREAM;
+        if !is_stream && folder.try_lock().is_err() {
+            return Err(fault);
+        }
+        let Ok(()) = held.push(folder) else {
+            return Err(OpenFault::Memory);
+        };
+        if !is_stream {
+            return Ok(held);
+        }
+    }
+    Err(fault)
 }
 
 // The storages of the devices.
@@ -122,31 +153,38 @@ fn open_bench(rt: &HostRuntime) -> Result<Bench<FileNv>, OpenFault>
     }
 }
 
-// Ends the program with the run's status.
-fn finish(rt: &HostRuntime, status: Status) -> io::Result<ExitCode> {
-    if let Some(fault) = fault_of(status) {
-        eprintln!(rt; "{fault}")?;
-    }
-    Ok(ExitCode::from(status.code()))
-}
-
-fn main(rt: HostRuntime) -> io::Result<ExitCode> {
-    let words = words_of(&rt)?;
+// Runs the script of standard input over the storages of the current folder.
+fn replay(rt: &HostRuntime) -> Result<Status, OpenFault> {
+    let words = words_of(rt)?;
     // Bad words touch no file.
     if !is_replay(&words) {
-        return finish(&rt, Status::Words);
+        return Ok(Status::Words);
     }
-    let mut bench = match open_bench(&rt) {
-        Ok(bench) => bench,
-        Err(fault) => {
-            eprintln!(rt; "{fault}")?;
-            return Ok(ExitCode::from(fault.code()));
-        }
+    let _folder = hold_folder(rt)?;
+    let mut bench = open_bench(rt)?;
+    let Ok(ahead) = vec![in rt.alloc(); 0; AHEAD] else {
+        return Err(OpenFault::Memory);
     };
-    let mut script = IoSource::new(BufReader::new(rt.alloc(), rt.reader())?);
-    let mut report = IoSink::new(io::writer(&rt));
+    let mut script = ReadAhead::new(IoSource::new(rt.reader()), ahead);
+    let mut report = IoSink::new(io::writer(rt));
     let status = run(rt.alloc(), &words, &mut script, &mut report, &mut bench);
-    finish(&rt, status)
+    Ok(status)
+}
+
+// Standard error may take no line. The exit status tells the same.
+fn main(rt: HostRuntime) -> ExitCode {
+    match replay(&rt) {
+        Ok(status) => {
+            if let Some(fault) = fault_of(status) {
+                let _ = eprintln!(rt; "{fault}");
+            }
+            ExitCode::from(status.code())
+        }
+        Err(fault) => {
+            let _ = eprintln!(rt; "{fault}");
+            ExitCode::from(fault.code())
+        }
+    }
 }
 
 #[cfg(test)]

@@ -3,13 +3,17 @@ use Rattle.std.proofs.Common.{◌≡◌, ◌⊎◌, inl, inr, ℕ, ◌+◌, ◌=
 use Rattle.std.specs.Prelude.{IfSome, IsSome}
 use Rattle.std.proofs.lemmas.Bool.Decides.{nat_tests}
 use Rattle.nv_model.specs.declared.nv.Nv as nv
-use Rattle.nv_model.specs.Moments.{Image}
+use Rattle.nv_model.specs.Moments.{Image, Nested}
+use Rattle.nv_store.specs.Turns.{Kept, Cut, Faulted, Spent}
 use Rattle.node_acts.specs.declared.act.Started.TheVariants as start
 use Rattle.node_acts.specs.Starts.{MayStart}
 use Rattle.node_acts.specs.Views.{View, up, up_with, started}
 use Rattle.node_seat.specs.declared.node.Node.{Ghosts}
+use Rattle.node_seat.specs.Does.{Reads}
 use Rattle.node_seat.specs.Shown.{Allowed, ShowsNext, Sound}
 use Rattle.node_seat.specs.Stands.{StoreStands, Stands}
+use Rattle.node_seat.specs.Starts.{StartDoes}
+use Rattle.node_seat.proofs.Rests.{store_stays}
 
 pub if_is : {A : Type 0} (P : A → Type 0) (o : Option A) (x : A) → o ≡ Some x → IfSome o P → P x
 if_is P o x is held = subst (λ (p : Option _). IfSome p P) is held
@@ -95,3 +99,73 @@ module _ {K S N C R : Type 0} (n : Ghosts K S N C R) where
         };
         runs = λ o. record { closed = ups.closed; name = name; seen = λ t. ups.state_is };
       })
+
+module _ {K S N C R : Type 0} (n : Ghosts K S N C R) (g : nv.Ghosts S) (d : N) (s t : K) (off : n.is_on s ≡ false)
+    (nested : (i : S) → g.tells → Nested (g.times i)) (reads : Reads g (n.storage s) (n.storage t)) where
+  pub store_left : (v : View n.Seen) → Stands n g d v s → StoreStands n g d v (n.storage t)
+  store_left v st = store_stays n g nested d v (n.storage s) (n.storage t) st.store reads.size reads.mounts
+
+  -- a node that was to be switched on, and is off
+  stays_off : n.is_on t ≡ false → (v : View n.Seen) → Stands n g d v s → Stands n g d v t
+  stays_off goes v st = record { on = goes ∙ sym off ∙ st.on; store = store_left v st; runs = λ on. absurd (cc (on, st.on, off)) }
+
+  -- power was cut, or the storage failed
+  pub cut : n.is_on t ≡ false → Spent 1 (g.meters (n.storage s)) (g.meters (n.storage t)) Cut → StartDoes n g d s t start.Power
+  cut goes spent = record {
+    already = (λ e. cc, λ on. cc (on, off));
+    leaves = goes;
+    comes = λ v st tells. sym st.on ∙ off;
+    stands = λ v st tells. stays_off goes v st;
+    mounts = reads.mounts;
+    damaged = λ tells read. absurd read;
+    refused = λ e. cc;
+    spent = spent;
+  }
+
+  pub faulted : n.is_on t ≡ false → Spent 1 (g.meters (n.storage s)) (g.meters (n.storage t)) Faulted → StartDoes n g d s t start.Fault
+  faulted goes spent = record {
+    already = (λ e. cc, λ on. cc (on, off));
+    leaves = goes;
+    comes = λ v st tells. sym st.on ∙ off;
+    stands = λ v st tells. stays_off goes v st;
+    mounts = reads.mounts;
+    damaged = λ tells read. absurd read;
+    refused = λ e. cc;
+    spent = spent;
+  }
+
+  -- what the storage holds is read
+  module _ (intact : (e : N) (r : n.Seen) (nv : S) → n.IsSound e r → n.IsShown r (g.content nv) → g.size nv ≡ n.bytes → n.IsDamaged e nv → ⊥)
+      (content_is : (i : S) → g.tells → Image (g.times i) (g.content i)) (spent : Spent 1 (g.meters (n.storage s)) (g.meters (n.storage t)) Kept) where
+    pub is_foreign : n.is_on t ≡ false → (g.tells → n.IsDamaged d (n.storage t)) → StartDoes n g d s t start.Damaged
+    is_foreign goes damage = record {
+      already = (λ e. cc, λ on. cc (on, off));
+      leaves = goes;
+      comes = λ v st tells. undamaged n g intact d v (n.storage t) (store_left v st) tells (content_is (n.storage t) tells) (damage tells);
+      stands = λ v st tells. stays_off goes v st;
+      mounts = reads.mounts;
+      damaged = λ tells read. (λ e. damage tells, λ e. refl);
+      refused = λ e. cc;
+      spent = spent;
+    }
+
+    pub comes_on : (one : (e : N) (a b : n.Seen) (c : List ℕ) → n.IsSound e a → n.IsSound e b → n.IsShown a c → n.IsShown b c → a ≡ b)
+        → (sized : n.is_on t ≡ true → g.size (n.storage t) ≡ n.bytes) → n.is_on t ≡ true → n.name t ≡ d → n.IsSound d (n.seen t)
+        → (knows : g.tells → (c : List ℕ) → Image (g.times (n.storage t)) c → n.IsShown (n.seen t) c) → (k : ℕ) → k ≡ count n (n.seen t) → StartDoes n g d s t (start.Up k)
+    comes_on one sized on name own knows k is = record {
+      already = (λ e. cc, λ was. cc (was, off));
+      leaves = on;
+      comes = λ v st tells. may_start n d v (n.seen t) k (sym st.on ∙ off) (st.store.sound tells) (found v st tells) is;
+      stands = λ v st tells. came_on n g d v t k on name (sized on) is knows (st.store.sound tells) (found v st tells);
+      mounts = reads.mounts;
+      damaged = λ tells read. (λ e. cc, λ damage. absurd (intact d (n.seen t) (n.storage t) own (shown tells) (sized on) damage));
+      refused = λ e. cc;
+      spent = spent;
+    }
+      where
+        shown : g.tells → n.IsShown (n.seen t) (g.content (n.storage t))
+        shown tells = knows tells (g.content (n.storage t)) (content_is (n.storage t) tells)
+
+        found : (v : View n.Seen) → Stands n g d v s → g.tells → (n.seen t ≡ v.state) ⊎ (v.next ≡ Some (n.seen t))
+        found v st tells = booted n one d v (n.seen t) (g.content (n.storage t)) (st.store.sound tells) own (shown tells)
+            ((store_left v st).shows tells (g.content (n.storage t)) (content_is (n.storage t) tells))

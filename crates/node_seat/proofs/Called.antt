@@ -22,11 +22,11 @@ use Rattle.node_seat.proofs.Rests.{spent_none, turn_none}
 spent_kept : (calls : ℕ) (m m' : Meters) → Spent calls m m' Made → Spent calls m m' Kept
 spent_kept calls m m' s = record { cuts = s.cuts; faults = s.faults; fuse = s.fuse; power = λ e. cc; fault = λ e. cc }
 
-if_true : {X : Type 0} (b : Bool) (x y : X) → b ≡ true → (if b then x else y) ≡ x
+pub if_true : {X : Type 0} (b : Bool) (x y : X) → b ≡ true → (if b then x else y) ≡ x
 if_true true x y is = refl
 if_true false x y is = cc
 
-if_false : {X : Type 0} (b : Bool) (x y : X) → b ≡ false → (if b then x else y) ≡ y
+pub if_false : {X : Type 0} (b : Bool) (x y : X) → b ≡ false → (if b then x else y) ≡ y
 if_false true x y is = cc
 if_false false x y is = refl
 

@@ -174,10 +174,6 @@ module _ (bytes more : List ℕ) (steps : List Step) (at : ℕ) (start : List �
   or_intro a true is = refl
   or_intro a false is = is
 
-  or_none : (a b : Bool) → a ≡ false → (b || a) ≡ b
-  or_none a true is = refl
-  or_none a false is = is
-
   or_either : (a b c : Bool) → (a || b) ≡ true → (a || b || c) ≡ true
   or_either true b c is = refl
   or_either false true c is = refl

@@ -42,9 +42,6 @@ stays_twice old mid new nested first second stays stays' c now = stays c (stays_
 pub elapses_none : (s : Times) → Elapses s s
 elapses_none s = record { later = omega arith; nothing_else = λ t c le now. inl now; keeps = λ t c le now. now }
 
-pub rests_none : (content : List ℕ) (s : Times) → Rests content content s s
-rests_none content s = record { same = refl; images = λ c now. now; time = elapses_none s }
-
 pub rests_twice : {a b c : List ℕ} {old mid new : Times} → Nested mid → Nested new → Rests a b old mid → Rests b c mid new → Rests a c old new
 rests_twice {a} {b} {c} {old} {mid} {new} nested nested' first second = record {
   same = second.same ∙ first.same;
@@ -67,9 +64,6 @@ tears_twice at n old mid new nested first second tears tears' c now = ⊎_elim
     let from = tears half.0 (nested old.moment mid.moment half.0 first.later half.1) in
     (from.0, from.1, outside_twice at n from.0 half.0 c from.2 half.2))
     (since_twice old mid new c first second now)
-
-pub tears_none : (at n : ℕ) (s : Times) → Tears at n s s
-tears_none at n s c now = (c, now, outside_none at n c)
 
 -- a change of a smaller range
 pub tears_wider : (at n o m : ℕ) (old new : Times) → at ≤ o → o + m ≤ at + n → Tears o m old new → Tears at n old new

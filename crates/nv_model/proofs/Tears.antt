@@ -1,6 +1,6 @@
 -- A torn write is the write, and then a fill of its rest.
-use Rattle.std.proofs.Common.{◌≡◌, inl, inr, ⊎_elim, true, Result, Ok, Err, OnOk, ℕ, ◌+◌, ◌-◌, ◌≤◌, min, List, [], ◌++◌, length, take, drop, replicate, sym, ◌∙◌, ap, subst, arith, refl, append_assoc, length-append}
-use Rattle.std.proofs.lemmas.List.{take-append-le, length-take-le, length-take, length-replicate, take_all, drop-drop, append-nil, take-append-drop, replicate-append-replicate}
+use Rattle.std.proofs.Common.{◌≡◌, inl, inr, ⊎_elim, true, Result, Ok, Err, OnOk, ℕ, ◌+◌, ◌-◌, ◌≤◌, min, List, ◌++◌, length, take, drop, replicate, sym, ◌∙◌, ap, subst, arith, refl, append_assoc, length-append}
+use Rattle.std.proofs.lemmas.List.{take-append-le, length-take-le, length-take, length-replicate, take_all, drop-drop, replicate-append-replicate}
 use Rattle.std.proofs.lemmas.Bool.{cases_lt}
 use Rattle.std.proofs.Math.Seq.{take-append-add, take-append_seam, drop-append-add, drop-append_seam}
 use Rattle.std.specs.Prelude.{is_ok}
@@ -61,9 +61,6 @@ laid_next old at a b room =
     ap (λ (l : List ℕ). l ++ b ++ drop (at + length a + length b) x) first
     ∙ ap (λ (l : List ℕ). front ++ a ++ b ++ l) last
     ∙ ap (λ (l : List ℕ). l ++ drop (at + length (a ++ b)) old) (append_assoc front a b)
-
-pub laid_none : (old : List ℕ) (at : ℕ) → laid old at [] ≡ old
-laid_none old at = ap (λ (m : ℕ). take at old ++ [] ++ drop m old) (omega arith) ∙ ap (λ (l : List ℕ). l ++ drop at old) (append-nil (take at old)) ∙ take-append-drop at old
 
 -- a run, and then more of it
 pub run_next : (old : List ℕ) (at m n byte : ℕ) → at + m + n ≤ length old → laid (laid old at (replicate m byte)) (at + m) (replicate n byte) ≡ laid old at (replicate (m + n) byte)

@@ -3,7 +3,7 @@ use Rattle.std.proofs.Common.{◌≡◌, ◌⊎◌, inl, inr, ⊎_elim, ℕ, ◌
 use Rattle.std.proofs.lemmas.Bool.{cases_lt}
 use Rattle.std.proofs.lemmas.List.{append-nil, take-append-le, take_all}
 use Rattle.nv_model.specs.Bytes.{laid}
-use Rattle.nv_model.specs.Moments.{Times, Elapses, Tears, IsImage, Writes}
+use Rattle.nv_model.specs.Moments.{Times, Tears, IsImage, Writes}
 use Rattle.nv_model.specs.Replay.{Stand, after_step, replay, at_first, stood, marked, Stands, SinceMoment, fits_all}
 use Rattle.nv_model.specs.declared.step.Step.{Step}
 use Rattle.nv_model.specs.declared.step.Step.TheVariants.{Written, Torn, Synced}
@@ -86,15 +86,6 @@ module _ (bytes : List ℕ) (steps : List Step) (start : List ℕ) where
   abbrev stand : Stand
   stand = replay bytes steps (at_first start)
 
-  marks_more : (old new : List Bool) (at n : ℕ) → Writes at n (λ i. get_or old i false) (λ i. get_or new i false) → (i : ℕ) → get_or new i false ≡ false → get_or old i false ≡ false
-  marks_more old new at n writes i not = elim (cases_lt i at) [
-    | inl lt ↦ sym (writes.outside i (inl lt)) ∙ not
-    | inr ge ↦ elim (cases_lt i (at + n)) [
-      | inl lt ↦ absurd (cc (writes.inside i ge lt, not))
-      | inr past ↦ sym (writes.outside i (inr past)) ∙ not
-    ]
-  ]
-
   or_right : (a b : Bool) → b ≡ true → (a || b) ≡ true
   or_right true b is = refl
   or_right false b is = is
@@ -111,21 +102,6 @@ module _ (bytes : List ℕ) (steps : List Step) (start : List ℕ) where
 
   abbrev times : List Bool → Times
   times marks = record { moment = length steps; since = λ t c. SinceMoment bytes steps start marks t c }
-
-  marks_image : (old new : List Bool) (at n : ℕ) (c : List ℕ) → Writes at n (λ i. get_or old i false) (λ i. get_or new i false) → IsImage stand.base (marked stand.written old) c → IsImage stand.base (marked stand.written new) c
-  marks_image old new at n c writes image = record {
-    size = image.size;
-    same = λ i not.
-        let both = parts (stand.written i) (get_or new i false) not in
-        image.same i (ap (λ (b : Bool). b || get_or old i false) both.0 ∙ marks_more old new at n writes i both.1);
-  }
-
-  pub marks_time : (old new : List Bool) (at n : ℕ) → Writes at n (λ i. get_or old i false) (λ i. get_or new i false) → Elapses (times old) (times new)
-  marks_time old new at n writes = record {
-    later = omega arith;
-    nothing_else = λ t c le now. ⊎_elim (λ passed. inl (inl passed)) (λ stands. inr (inr (record { from = omega arith; image = stands.image }))) now;
-    keeps = λ t c le was. ⊎_elim (λ passed. inl passed) (λ stands. inr (record { from = stands.from; image = marks_image old new at n c writes stands.image })) was;
-  }
 
   pub marks_tears : (old new : List Bool) (at n : ℕ) → at + n ≤ length stand.base → Writes at n (λ i. get_or old i false) (λ i. get_or new i false) → Tears at n (times old) (times new)
   marks_tears old new at n room writes c now = ⊎_elim

@@ -9,3 +9,5 @@ pub mod Memories
 pub mod Laws
 pub mod Tallies
 pub mod Fuses
+pub mod Ranges
+pub mod Files

@@ -46,6 +46,12 @@ Uses calls None now = now ≡ None
 Uses calls (Some left) None = left < calls
 Uses calls (Some left) (Some rest) = (rest ≤ left) × (left ≤ rest + calls)
 
+-- of an armed fuse, calls that went well used exactly so many
+abbrev pub UsesExactly : ℕ → Option ℕ → Option ℕ → Type 0
+UsesExactly calls None now = now ≡ None
+UsesExactly calls (Some left) None = ⊥
+UsesExactly calls (Some left) (Some rest) = left ≡ rest + calls
+
 -- power was cut: the count rose, or the fuse burnt
 abbrev pub WasCut : Meters → Meters → Type 0
 WasCut before now = Rose before.cuts now.cuts ⊎ (IsSome before.fuse × IsNone now.fuse)

@@ -1,5 +1,5 @@
 //! Storage that cuts power after a stated number of calls.
-ghost use Rattle.std.specs.Prelude.{◌≡◌, ◌+◌, ◌≤◌, ◌<◌, ◌^◌, ℕ, Option, Some, None, length, true, false};
+ghost use Rattle.std.specs.Prelude.{◌≡◌, ◌+◌, ◌≤◌, ◌<◌, ◌^◌, ℕ, Option, Some, None, true, false};
 ghost use Rattle.nv_model.specs.Meters.{fuse_after, burns};
 ghost use Rattle.nv_model.specs.Moments.{RangeWritten};
 

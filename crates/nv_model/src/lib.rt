@@ -12,6 +12,7 @@ mod plan;
 mod step;
 mod tally;
 mod tear;
+mod whole;
 
 pub use file::{FileNv, StartFault};
 pub use fuse::Fuse;

@@ -1,7 +1,7 @@
 //! What storage promises: the trait Nv.
 ghost use Rattle.std.specs.Prelude.{◌≡◌, ◌+◌, ◌≤◌, List, ℕ, Bool, true, false, length, Result, OnOk, IsErrOf};
 ghost use Rattle.nv_model.specs.Bytes.{SameOutside, laid, range};
-ghost use Rattle.nv_model.specs.Meters.{Meters, Answers, Restarts, after_call};
+ghost use Rattle.nv_model.specs.Meters.{Meters, Answers, Restarts, after_call, burns};
 ghost use Rattle.nv_model.specs.Moments.{Times, Image, Nested, Only, Elapses, Tears, Stays, IsImage, Writes, Unwritten, SamePlaces};
 
 /// How a call of a storage fails. `Power`: power was cut, and every call but a restart fails so until one succeeds.
@@ -78,7 +78,8 @@ pub trait Nv {
         ensures time { tells → Elapses (times self.old) (times self.new) }
         ensures size { size self.new ≡ size self.old }
         ensures answer { Answers (meters self.old) (meters self.new) result }
-        ensures fuse { (meters self.new).fuse ≡ after_call (meters self.old) };
+        ensures fuse { (meters self.new).fuse ≡ after_call (meters self.old) }
+        ensures burnt { (meters self.old).lost ≡ false → burns (meters self.old).fuse ≡ true → IsErrOf result NvFail.Power };
 
     /// Makes sure of what was written: where it succeeds, a cut of power leaves what a read gives now. After a Fault what
     /// was written may still be lost.
@@ -92,7 +93,8 @@ pub trait Nv {
         ensures time { tells → Elapses (times self.old) (times self.new) }
         ensures size { size self.new ≡ size self.old }
         ensures answer { Answers (meters self.old) (meters self.new) result }
-        ensures fuse { (meters self.new).fuse ≡ after_call (meters self.old) };
+        ensures fuse { (meters self.new).fuse ≡ after_call (meters self.old) }
+        ensures burnt { (meters self.old).lost ≡ false → burns (meters self.old).fuse ≡ true → IsErrOf result NvFail.Power };
 
     /// Begins again, also after a cut of power. The content is then one of the images of this moment, and the only one.
     fn restart(&mut self) -> Result<(), NvFail>

@@ -5,6 +5,7 @@ ghost use Rattle.nv_model.specs.Meters.{Works};
 use crate::{Failure, FileNv, Fused, MemNv, Nv, NvFail};
 use std::alloc::{AllocError, Global};
 use std::fs;
+use std::os::unix::fs::{MetadataExt, symlink};
 use std::test::Fail;
 
 #[derive(Clone, Copy)]
@@ -136,6 +137,7 @@ fn keeps_a_file(rt: HostRuntime) -> Result<(), Fail> {
     fs::write(&rt, part, b"cut".as_slice())?;
     let mut nv = FileNv::start(&rt, path, 8).expect(&rt, "start");
     assert!(rt; fs::metadata(&rt, part).is_err());
+    assert_eq!(rt; fs::metadata(&rt, path)?.mode() & 0o777, 0o600);
     assert_eq!(rt; keeps(&mut nv), Ok(*b"\0\0abc\0\0\0"));
     drop(nv);
     assert_eq!(rt; fs::metadata(&rt, path)?.len(), 8);
@@ -153,20 +155,20 @@ fn keeps_a_file(rt: HostRuntime) -> Result<(), Fail> {
 
 #[test]
 fn refuses_what_is_no_storage(rt: HostRuntime) -> Result<(), Fail> {
-    assert!(rt; FileNv::start(&rt, "no/such/folder.nv", 8).is_err());
     let path = "too_long.nv";
     let file = fs::create(&rt, path)?;
     file.set_len(u64::from(u32::MAX) + 1)?;
-    assert!(rt; FileNv::start(&rt, path, 8).is_err());
-    file.set_len(u64::from(u32::MAX))?;
-    assert_eq!(rt;
-        FileNv::start(&rt, path, 8).expect(&rt, "start").size(),
-        u32::MAX
-    );
     drop(file);
-    fs::remove_file(&rt, path)?;
-    // A device that can't be synced shows that a sync asks the system.
-    let mut nv = FileNv::start(&rt, "/dev/null", 8).expect(&rt, "start with a device");
-    assert_eq!(rt; nv.sync(), Err(NvFail::Fault));
+    let link = "link.nv";
+    symlink(&rt, path, link)?;
+    let nowhere = "link_to_nowhere.nv";
+    symlink(&rt, "no_such_file.nv", nowhere)?;
+    for name in ["no/such/folder.nv", path, link, nowhere, ".", "/dev/null"] {
+        assert!(rt; FileNv::start(&rt, name, 8).is_err(), "{name}");
+    }
+    assert!(rt; fs::symlink_metadata(&rt, "no_such_file.nv").is_err());
+    for name in [path, link, nowhere] {
+        fs::remove_file(&rt, name)?;
+    }
     Ok(())
 }

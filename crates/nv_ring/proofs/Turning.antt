@@ -1,12 +1,12 @@
 -- Commits fill the slots of a ring in turn.
-use Rattle.std.proofs.Common.{◌≡◌, ◌≢◌, inl, inr, ℕ, zero, suc, ◌+◌, ◌-◌, ◌*◌, ◌/◌, ◌%◌, ◌<◌, ◌≤◌, List, length, set, get_or, replicate, sum, sym, ◌∙◌, ap, subst, arith}
+use Rattle.std.proofs.Common.{◌≡◌, ◌≢◌, inl, inr, ℕ, zero, suc, ◌+◌, ◌-◌, ◌*◌, ◌/◌, ◌%◌, ◌<◌, ◌≤◌, List, length, set, get_or, sum, sym, ◌∙◌, ap, subst, arith}
 use Rattle.std.proofs.lemmas.Bool.{cases_eq, cases_order}
 use Rattle.std.proofs.lemmas.Bool.Decides.{nat_tests}
-use Rattle.std.proofs.lemmas.List.{get_or-set_same, get_or-set_other, get_or-replicate}
+use Rattle.std.proofs.lemmas.List.{get_or-set_same, get_or-set_other}
 use Rattle.nv_store.specs.Cells.{next_of}
 use Rattle.nv_store.specs.declared.head.Head.{Head}
 use Rattle.nv_ring.specs.declared.wear.Wear.{Wear}
-use Rattle.nv_ring.specs.Turns.{slot_after, fills_of, start_of, IsWearOf}
+use Rattle.nv_ring.specs.Turns.{slot_after, fills_of, IsWearOf}
 
 -- slot i was filled f times by n commits: the commits since it was last filled, and those before it was first filled, are the rest of rounds
 Turn : ℕ → ℕ → ℕ → ℕ → Type 0
@@ -68,18 +68,6 @@ next_turn start n count place turn blank = elim (cases_eq count 0) [
   where
     picked : 0 < count → next_of count place 16 ≡ (place + 1) % 16
     picked some = grind (arith, nat_tests)
-
-pub wear_none : (head : Head) → (0 < head.count → head.place < 16) → IsWearOf (record { first = head.count; start = start_of head; fills = replicate 16 0 }) head
-wear_none head inside = record {
-  start = elim (cases_eq head.count 0) [
-    | inl none ↦ grind (arith, nat_tests)
-    | inr some ↦ let lt = inside (omega arith) in grind (arith, nat_tests)
-  ];
-  count = omega arith;
-  fills = λ i lt. get_or-replicate 16 i 0 0 lt;
-  place = λ some. let lt = inside some in grind (arith, nat_tests);
-  blank = λ none. grind (arith, nat_tests);
-}
 
 module _ (wear : Wear) (before head : Head) (is : IsWearOf wear before) (next : head.count ≡ before.count + 1) (goes : head.place ≡ next_of before.count before.place 16) (long : length wear.fills ≡ 16) (inside : head.place < 16)
     (fills : List ℕ) (set_is : fills ≡ set wear.fills head.place (get_or wear.fills head.place 0 + 1)) (total : sum fills ≡ sum wear.fills + 1) where

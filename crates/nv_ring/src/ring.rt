@@ -1,9 +1,10 @@
 //! One cell of sixteen slots.
 ghost use Rattle.std.specs.Prelude.{◌≡◌, ◌≢◌, ◌+◌, ◌*◌, ◌/◌, ◌≤◌, ◌<◌, ℕ, Option, IfOk, IfErr, MatchResult, Some, None, false, sum, slice_index, replicate};
 ghost use Rattle.nv_model.specs.Moments.{Only};
+ghost use Rattle.nv_store.specs.declared.TheConstants.{MOST_BYTES};
 ghost use Rattle.nv_store.specs.Slot.{Held, slots_at};
 ghost use Rattle.nv_store.specs.Cells.{Top};
-ghost use Rattle.nv_store.specs.Store.{one_held, count_of, OnlyShows, Holds};
+ghost use Rattle.nv_store.specs.Store.{one_held, count_of, OnlyShows, Holds, next_is_open};
 ghost use Rattle.nv_store.specs.Mounts.{Mounts, MountCauses};
 ghost use Rattle.nv_store.specs.Scans.{IsMixed};
 ghost use Rattle.nv_ring.specs.Turns.{IsWearOf, fills_of, slot_after};
@@ -21,7 +22,7 @@ pub struct Ring<N: Nv, const L: usize> {
     payload: [u8; L],
     wear: Wear,
     failed: bool,
-    ghost small: { L ≤ 2056 },
+    ghost small: { L ≤ MOST_BYTES },
     ghost room: { 16 * (5 + L) ≤ N.size nv },
     ghost inside: { 0 < head.count → head.place < 16 },
     ghost wears: { IsWearOf wear head },
@@ -39,6 +40,8 @@ impl<N: Nv, const L: usize> Store<L> for Ring<N, L> {
     ghost held = { λ s k. one_held s.head.count s.payload };
 
     ghost failed = { λ s. s.failed };
+
+    ghost next_is_open = { λ s cell. next_is_open 16 s.head };
 
     ghost content = { λ s. N.content s.nv };
 
@@ -90,7 +93,7 @@ impl<N: Nv, const L: usize> Ring<N, L> {
 
     /// Mounts the ring in storage of `16·(5+L)` bytes; a failed mount gives the storage back.
     pub fn mount(nv: N) -> Result<Ring<N, L>, (N, MountCause)>
-        requires small { L ≤ 2056 }
+        requires small { L ≤ MOST_BYTES }
         requires powered { (N.meters nv).lost ≡ false }
 
         ensures size { N.size nv ≢ 16 * (5 + L) → result ≡ Err (nv, MountCause.Size (N.size nv)) }

@@ -6,7 +6,7 @@ use Rattle.std.proofs.lemmas.Bool.Decides.{nat_tests}
 use Rattle.std.proofs.lemmas.Nat.{from_be_bytes-to_be_bytes_4}
 use Rattle.std.proofs.lemmas.List.{length-take-le, get_or_at}
 use Rattle.nv_model.specs.Bytes.{SameOutside, laid, range}
-use Rattle.nv_model.proofs.Ranges.{range_before, range_behind, range_first, outside_wider, laid_outside, laid_range}
+use Rattle.nv_model.proofs.Ranges.{range_before, range_behind, range_first, outside_wider, laid_outside}
 use Rattle.nv_store.specs.Slot.{Held, slot, slot_at}
 use Rattle.nv_store.specs.Steps.{Slotted, IsShut, IsOrShut, IsOrHolds}
 
@@ -92,9 +92,6 @@ module _ (size at : ℕ) (old : List ℕ) (room : at + 5 + size ≤ length old) 
 
   pub payload_done : (c bytes : List ℕ) → length bytes ≡ 4 + size → IsShut (slot_at size at old) → c ≡ laid old (at + 1) bytes → Slotted size at IsShut old c
   payload_done c bytes long none is = payload_torn c none (subst (λ (n : ℕ). SameOutside (at + 1) n old c) long (subst (λ (l : List ℕ). SameOutside (at + 1) (length bytes) old l) (sym is) (laid_outside old (at + 1) bytes (omega arith))))
-
-  pub payload_written : (c bytes : List ℕ) → length bytes ≡ 4 + size → c ≡ laid old (at + 1) bytes → range c (at + 1) (4 + size) ≡ bytes
-  payload_written c bytes long is = ap (λ (l : List ℕ). range l (at + 1) (4 + size)) is ∙ ap (λ (n : ℕ). range (laid old (at + 1) bytes) (at + 1) n) (sym long) ∙ laid_range old (at + 1) bytes (omega arith)
 
   module _ (count : ℕ) (payload : List ℕ) (fits : count < 2 ^ 32) (behind : range old (at + 1) (4 + size) ≡ to_be_bytes w32 count ++ payload) where
     with_gate : (c : List ℕ) → SameOutside at 1 old c → slot_at size at c ≡ slot (get_or c at 0 ∷ (to_be_bytes w32 count ++ payload))

@@ -8,4 +8,3 @@ pub mod Fronts
 pub mod ScanMore
 pub mod Find
 pub mod TableStep
-pub mod Mixed

@@ -13,14 +13,6 @@ slotted_weaker size at P Q old new weaker is = record { others = is.others; slot
 pub slotted_behind : (size at : ℕ) (P Q : Option Held → Type 0) (old mid new : List ℕ) → Slotted size at P old mid → Slotted size at Q mid new → Slotted size at Q old new
 slotted_behind size at P Q old mid new first second = record { others = outside_twice at (5 + size) old mid new first.others second.others; slot = second.slot }
 
-pub steps_weaker : {E : Type 0} {size at : ℕ} {P Q : Option Held → Type 0} {old new : List ℕ} {before now : Times} {result : Result (Unit {0}) E} (R : Option Held → Type 0) → ((s : Option Held) → P s → R s) → Steps size at P Q old new before now result → Steps size at R Q old new before now result
-steps_weaker {E} {size} {at} {P} {Q} {old} {new} {before} {now} {result} R weaker steps = record {
-  any_moment = λ c is. slotted_weaker size at P R old c weaker (steps.any_moment c is);
-  done = steps.done;
-  durable = steps.durable;
-  time = steps.time;
-}
-
 -- steps that were done, and then others
 pub steps_then : {E : Type 0} {size at : ℕ} {P Q P' Q' : Option Held → Type 0} {old mid new : List ℕ} {before half now : Times} {first result : Result (Unit {0}) E} (R : Option Held → Type 0) → Nested now → first ≡ Ok tt
     → ((s : Option Held) → P s → R s) → ((s : Option Held) → P' s → R s)

@@ -10,6 +10,8 @@ pub mod Current
 pub mod Knows
 pub mod TableKnows
 pub mod OneView
+pub mod CellList
+pub mod CellLaws
 pub mod RoomView
 pub mod Rooms
 pub mod TableView

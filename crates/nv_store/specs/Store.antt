@@ -1,12 +1,12 @@
 -- A store of cells over a storage: what an image shows, what a commit may leave, and why it answers so.
-use Rattle.std.specs.Prelude.{◌≡◌, ◌≢◌, ◌⊎◌, ◌↔◌, ℕ, zero, suc, ◌+◌, ◌-◌, ◌*◌, ◌<◌, ◌≤◌, ◌^◌, List, Bool, true, false, Option, Some, None, Result, IsOk, IsErrOf, if◌then◌else◌, ◌==◌}
+use Rattle.std.specs.Prelude.{◌≡◌, ◌≢◌, ◌⊎◌, ◌↔◌, ℕ, zero, suc, ◌+◌, ◌-◌, ◌*◌, ◌<◌, ◌≤◌, ◌^◌, List, Bool, true, false, Option, Some, None, Result, IsOk, IsErrOf, if◌then◌else◌, ◌==◌, get_or}
 use Rattle.bench_base.specs.declared.refusals.StoreFail.{StoreFail}
 use Rattle.bench_base.specs.declared.refusals.StoreFail.TheVariants.{Power, Fault, Worn, Failed}
 use Rattle.bench_base.specs.Causes.{Rose}
 use Rattle.nv_model.specs.Meters.{Meters, WasCut, Uses}
 use Rattle.nv_model.specs.Moments.{Times, Only}
 use Rattle.nv_store.specs.Slot.{Held, slots_at, IsClear}
-use Rattle.nv_store.specs.Cells.{Known, shown}
+use Rattle.nv_store.specs.Cells.{Known, shown, next_of}
 use Rattle.nv_store.specs.declared.head.Head.{Head}
 
 -- cells of n slots lie one after the other: what the image shows in cell k, its count and its payload
@@ -59,6 +59,15 @@ pub record Causes (before now : Meters) (had_failed : Bool) (count : ℕ) (resul
   pub failed : IsErrOf result Failed ↔ (had_failed ≡ true)
   pub worn : IsErrOf result Worn ↔ ((had_failed ≡ false) × (count ≡ 2 ^ 32 - 1))
   pub powered : IsOk result → now.lost ≡ false
+
+-- how often a commit calls the storage to write or sync: twice more where the slot that it fills is open
+abbrev pub commit_calls : Bool → ℕ
+commit_calls true = 6
+commit_calls false = 4
+
+-- whether the slot that the next commit fills is open
+abbrev pub next_is_open : ℕ → Head → Bool
+next_is_open n head = get_or head.gates (next_of head.count head.place n) false
 
 -- what a cell with so many commits holds
 abbrev pub one_held : ℕ → List ℕ → Option Held

@@ -1,9 +1,9 @@
 -- The cells of a table: what is known of each, and its payload.
-use Rattle.std.specs.Prelude.{◌≡◌, ℕ, ◌+◌, ◌*◌, ◌<◌, List, slice_get, Option, Some, None}
+use Rattle.std.specs.Prelude.{◌≡◌, ℕ, ◌+◌, ◌*◌, ◌<◌, List, Bool, false, slice_get, Option, Some, None}
 use Rattle.nv_model.specs.Moments.{Times, Only}
 use Rattle.nv_store.specs.Slot.{Held, slots_at}
 use Rattle.nv_store.specs.Cells.{Known}
-use Rattle.nv_store.specs.Store.{one_held}
+use Rattle.nv_store.specs.Store.{one_held, next_is_open}
 use Rattle.nv_store.specs.declared.head.Head.{Head}
 
 -- what a cell of this head and payload holds
@@ -13,6 +13,14 @@ row_held _ _ = None
 
 abbrev pub table_held : List Head → List (List ℕ) → ℕ → Option Held
 table_held heads payloads k = row_held (slice_get heads k) (slice_get payloads k)
+
+-- whether the slot that the next commit to a cell fills is open
+abbrev pub row_is_open : Option Head → Bool
+row_is_open (Some head) = next_is_open 2 head
+row_is_open None = false
+
+abbrev pub cell_is_open : List Head → ℕ → Bool
+cell_is_open heads k = row_is_open (slice_get heads k)
 
 -- of each of the first cells its head and its payload are known
 pub record TableKnown (size n cells : ℕ) (image : List ℕ) (heads : List Head) (payloads : List (List ℕ)) : Type 0 where

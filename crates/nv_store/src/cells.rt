@@ -1,13 +1,14 @@
 //! The cells of a table over lent parts: committing to one, and reading all.
 ghost use Rattle.std.specs.Prelude.{◌≡◌, ◌≢◌, ◌+◌, ◌*◌, ◌≤◌, ◌<◌, ◌^◌, List, ℕ, length, OnOk, OnErr, IfOk, IfSome, IfNone, true, false};
-ghost use Rattle.nv_model.specs.Meters.{Went};
+ghost use Rattle.nv_model.specs.Meters.{Went, UsesExactly};
 ghost use Rattle.nv_model.specs.Moments.{Only, Elapses, Rests};
 ghost use Rattle.nv_store.specs.Slot.{slots_at, IsClear};
 ghost use Rattle.nv_store.specs.Scans.{IsMixed};
-ghost use Rattle.nv_store.specs.Store.{Between, count_of, after_commit};
+ghost use Rattle.nv_store.specs.Store.{Between, count_of, after_commit, commit_calls};
 ghost use Rattle.nv_store.specs.Mounts.{Mounts};
-ghost use Rattle.nv_store.specs.Tables.{TableKnown, PlacesInside, table_held};
+ghost use Rattle.nv_store.specs.Tables.{TableKnown, PlacesInside, table_held, cell_is_open};
 
+use crate::MOST_BYTES;
 use crate::commit::commit_at;
 use crate::head::Head;
 use crate::scan::find_cell;
@@ -21,7 +22,7 @@ pub fn commit_cell<N: Nv, const L: usize>(
     cell: u32,
     payload: &[u8; L],
 ) -> Result<(), NvFail>
-    requires small { L ≤ 2056 }
+    requires small { L ≤ MOST_BYTES }
     requires inside { cell < length heads.old.items }
     requires same { length payloads.old.items ≡ length heads.old.items }
     requires room { length heads.old.items * (2 * (5 + L)) ≤ N.size nv.old }
@@ -43,6 +44,7 @@ pub fn commit_cell<N: Nv, const L: usize>(
     ensures durable { N.tells → OnOk result (Only (N.times nv.new) (N.content nv.new)) }
     ensures time { N.tells → Elapses (N.times nv.old) (N.times nv.new) }
     ensures went { Went 6 (N.meters nv.old) (N.meters nv.new) result }
+    ensures calls { OnOk result (UsesExactly (commit_calls (cell_is_open heads.old.items cell)) (N.meters nv.old).fuse (N.meters nv.new).fuse) }
     ensures size { N.size nv.new ≡ N.size nv.old }
 {
     let at = cell * (2 * (5 + L as u32));
@@ -63,7 +65,7 @@ fn read_cell<N: Nv, const L: usize>(
     payloads: &mut Vec<[u8; L]>,
     cell: u32,
 ) -> Result<bool, NvFail>
-    requires small { L ≤ 2056 }
+    requires small { L ≤ MOST_BYTES }
     requires inside { cell < length heads.old.items }
     requires same { length payloads.old.items ≡ length heads.old.items }
     requires room { length heads.old.items * (2 * (5 + L)) ≤ N.size nv.old }
@@ -96,7 +98,7 @@ fn find_cells<N: Nv, const L: usize>(
     heads: &mut Vec<Head>,
     payloads: &mut Vec<[u8; L]>,
 ) -> Result<Option<u32>, NvFail>
-    requires small { L ≤ 2056 }
+    requires small { L ≤ MOST_BYTES }
     requires same { length payloads.old.items ≡ length heads.old.items }
     requires room { length heads.old.items * (2 * (5 + L)) ≤ N.size nv.old }
     requires fits { length heads.old.items * (2 * (5 + L)) < 2 ^ 32 }
@@ -126,7 +128,7 @@ pub fn settle<N: Nv, const L: usize>(
     heads: &mut Vec<Head>,
     payloads: &mut Vec<[u8; L]>,
 ) -> Result<Option<u32>, NvFail>
-    requires small { L ≤ 2056 }
+    requires small { L ≤ MOST_BYTES }
     requires same { length payloads.old.items ≡ length heads.old.items }
     requires room { length heads.old.items * (2 * (5 + L)) ≤ N.size nv.old }
     requires fits { length heads.old.items * (2 * (5 + L)) < 2 ^ 32 }

@@ -1,11 +1,13 @@
 //! A commit to the cell that begins at a place of the storage.
 ghost use Rattle.std.specs.Prelude.{◌≡◌, ◌+◌, ◌*◌, ◌≤◌, ◌<◌, ◌^◌, List, ℕ, OnOk, OnErr, Some, false};
 ghost use Rattle.nv_model.specs.Bytes.{SameOutside};
-ghost use Rattle.nv_model.specs.Meters.{Went};
+ghost use Rattle.nv_model.specs.Meters.{Went, UsesExactly};
 ghost use Rattle.nv_model.specs.Moments.{Only, Elapses};
 ghost use Rattle.nv_store.specs.Slot.{slots_at};
 ghost use Rattle.nv_store.specs.Cells.{Known, Commits, shown, next_of};
+ghost use Rattle.nv_store.specs.Store.{commit_calls, next_is_open};
 
+use crate::MOST_BYTES;
 use crate::head::Head;
 use crate::steps::fill_slot;
 use nv_model::{Nv, NvFail};
@@ -19,7 +21,7 @@ pub fn commit_at<N: Nv, const L: usize>(
     kept: &mut [u8; L],
     payload: &[u8; L],
 ) -> Result<(), NvFail>
-    requires small { L ≤ 2056 }
+    requires small { L ≤ MOST_BYTES }
     requires many { (2 ≤ slots) × (slots ≤ 16) }
     requires room { at + slots * (5 + L) ≤ N.size nv.old }
     requires fits { at + slots * (5 + L) < 2 ^ 32 }
@@ -43,6 +45,7 @@ pub fn commit_at<N: Nv, const L: usize>(
     ensures place { OnOk result (head.new.place ≡ next_of head.old.count head.old.place slots) }
     ensures same { OnErr result ((head.new ≡ head.old) × (kept.new ≡ kept.old)) }
     ensures went { Went 6 (N.meters nv.old) (N.meters nv.new) result }
+    ensures calls { OnOk result (UsesExactly (commit_calls (next_is_open slots head.old)) (N.meters nv.old).fuse (N.meters nv.new).fuse) }
     ensures size { N.size nv.new ≡ N.size nv.old }
 {
     let place = head.next_place(slots);

@@ -1,14 +1,15 @@
 //! Committing and mounting over lent parts: storage, head and payload side by side, as a node keeps them.
 ghost use Rattle.std.specs.Prelude.{◌≡◌, ◌≢◌, ◌+◌, ◌*◌, ◌≤◌, ◌<◌, ◌^◌, List, ℕ, Option, OnOk, OnErr, IfOk, IfErr, IfSome, IfNone, MatchResult, IsErrOf, Some, None, false};
-ghost use Rattle.nv_model.specs.Meters.{Went};
+ghost use Rattle.nv_model.specs.Meters.{Went, UsesExactly};
 ghost use Rattle.nv_model.specs.Moments.{Only, Elapses};
 ghost use Rattle.nv_store.specs.Slot.{slots_at};
 ghost use Rattle.nv_store.specs.Cells.{Known, next_of};
 ghost use Rattle.nv_store.specs.Fails.{ends_failed};
-ghost use Rattle.nv_store.specs.Store.{one_held, OnlyShows, Between, Causes, Holds};
+ghost use Rattle.nv_store.specs.Store.{one_held, OnlyShows, Between, Causes, Holds, commit_calls, next_is_open};
 ghost use Rattle.nv_store.specs.Mounts.{Mounts, MountCauses};
 ghost use Rattle.nv_store.specs.Scans.{IsMixed};
 
+use crate::MOST_BYTES;
 use crate::causes::{MountCause, store_fail};
 use crate::commit::commit_at;
 use crate::head::Head;
@@ -26,7 +27,7 @@ pub fn commit_lent<N: Nv, const L: usize>(
     kept: &mut [u8; L],
     payload: &[u8; L],
 ) -> Result<(), StoreFail>
-    requires small { L ≤ 2056 }
+    requires small { L ≤ MOST_BYTES }
     requires many { (2 ≤ slots) × (slots ≤ 16) }
     requires room { slots * (5 + L) ≤ N.size nv.old }
     requires powered { (N.meters nv.old).lost ≡ false }
@@ -50,6 +51,7 @@ pub fn commit_lent<N: Nv, const L: usize>(
     ensures holds { N.tells → ends_failed result ≡ false → Holds L slots head.new kept.new (N.times nv.new) (N.content nv.new) }
 
     ensures causes { Causes (N.meters nv.old) (N.meters nv.new) false head.old.count result }
+    ensures calls { OnOk result (UsesExactly (commit_calls (next_is_open slots head.old)) (N.meters nv.old).fuse (N.meters nv.new).fuse) }
     ensures worn { IsErrOf result StoreFail.Worn → nv.new ≡ nv.old }
     ensures size { N.size nv.new ≡ N.size nv.old }
 {
@@ -68,7 +70,7 @@ fn settle<N: Nv, const L: usize>(
     slots: u32,
     kept: &mut [u8; L],
 ) -> Result<Option<Head>, NvFail>
-    requires small { L ≤ 2056 }
+    requires small { L ≤ MOST_BYTES }
     requires many { (2 ≤ slots) × (slots ≤ 16) }
     requires room { slots * (5 + L) ≤ N.size nv.old }
     requires powered { (N.meters nv.old).lost ≡ false }
@@ -92,7 +94,7 @@ pub fn mount_lent<N: Nv, const L: usize>(
     slots: u32,
     kept: &mut [u8; L],
 ) -> Result<Head, MountCause>
-    requires small { L ≤ 2056 }
+    requires small { L ≤ MOST_BYTES }
     requires many { (2 ≤ slots) × (slots ≤ 16) }
     requires powered { (N.meters nv.old).lost ≡ false }
 

@@ -14,6 +14,9 @@ mod steps;
 mod store;
 mod table;
 
+/// The most bytes of a payload, so that it fits a fixed buffer with its count and both are written in one call.
+pub const MOST_BYTES: usize = 2056;
+
 pub use causes::MountCause;
 pub use head::Head;
 pub use lent::{commit_lent, mount_lent};

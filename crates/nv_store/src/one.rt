@@ -1,8 +1,9 @@
 //! One cell of two slots.
 ghost use Rattle.std.specs.Prelude.{◌≡◌, ◌≢◌, ◌+◌, ◌*◌, ◌≤◌, ◌<◌, ℕ, Option, IfOk, IfErr, MatchResult, Some, None, false};
 ghost use Rattle.nv_model.specs.Moments.{Only};
+ghost use Rattle.nv_store.specs.declared.TheConstants.{MOST_BYTES};
 ghost use Rattle.nv_store.specs.Slot.{slots_at};
-ghost use Rattle.nv_store.specs.Store.{one_held, OnlyShows, Holds};
+ghost use Rattle.nv_store.specs.Store.{one_held, OnlyShows, Holds, next_is_open};
 ghost use Rattle.nv_store.specs.Mounts.{Mounts, MountCauses};
 ghost use Rattle.nv_store.specs.Scans.{IsMixed};
 
@@ -20,7 +21,7 @@ pub struct Cell<N: Nv, const L: usize> {
     head: Head,
     payload: [u8; L],
     failed: bool,
-    ghost small: { L ≤ 2056 },
+    ghost small: { L ≤ MOST_BYTES },
     ghost room: { 2 * (5 + L) ≤ N.size nv },
     ghost inside: { 0 < head.count → head.place < 2 },
     ghost powered: { failed ≡ false → (N.meters nv).lost ≡ false },
@@ -37,6 +38,8 @@ impl<N: Nv, const L: usize> Store<L> for Cell<N, L> {
     ghost held = { λ s k. one_held s.head.count s.payload };
 
     ghost failed = { λ s. s.failed };
+
+    ghost next_is_open = { λ s cell. next_is_open 2 s.head };
 
     ghost content = { λ s. N.content s.nv };
 
@@ -81,7 +84,7 @@ impl<N: Nv, const L: usize> Cell<N, L> {
 
     /// Mounts the cell in storage of `16·(5+L)` bytes; a failed mount gives the storage back.
     pub fn mount(nv: N) -> Result<Cell<N, L>, (N, MountCause)>
-        requires small { L ≤ 2056 }
+        requires small { L ≤ MOST_BYTES }
         requires powered { (N.meters nv).lost ≡ false }
 
         ensures size { N.size nv ≢ 16 * (5 + L) → result ≡ Err (nv, MountCause.Size (N.size nv)) }

@@ -1,9 +1,10 @@
 //! Memory for the cells of a table.
-ghost use Rattle.std.specs.Prelude.{◌≡◌, ◌+◌, ◌<◌, ◌^◌, length, option_map, IfOk, true, false};
+ghost use Rattle.std.specs.Prelude.{◌≡◌, ◌+◌, ◌<◌, ◌≤◌, ◌^◌, length, option_map, IfOk, true, false};
 ghost use Rattle.nv_store.specs.Store.{count_of, count_sum, payload_of};
 ghost use Rattle.nv_store.specs.Tables.{table_held};
 
 use crate::head::Head;
+use bench_base::sizes::MOST_COMMITS;
 use std::alloc::{AllocError, Global};
 
 /// Memory for the heads and the payloads of a number of cells.
@@ -35,10 +36,10 @@ impl<const L: usize> Room<L> {
 /// Whether the cell has as many commits as can be counted.
 pub fn is_worn<const L: usize>(room: &Room<L>, cell: u32) -> bool
     requires { cell < length room.now.heads.items }
-    ensures worn { result ≡ true → count_of (table_held room.now.heads.items room.now.payloads.items cell) ≡ 4294967295 }
-    ensures less { result ≡ false → count_of (table_held room.now.heads.items room.now.payloads.items cell) < 4294967295 }
+    ensures worn { result ≡ true → count_of (table_held room.now.heads.items room.now.payloads.items cell) ≡ MOST_COMMITS }
+    ensures less { result ≡ false → count_of (table_held room.now.heads.items room.now.payloads.items cell) < MOST_COMMITS }
 {
-    room.heads[cell as usize].count == u32::MAX
+    room.heads[cell as usize].count == MOST_COMMITS
 }
 
 /// The sum of the counts.
@@ -54,8 +55,9 @@ pub fn sum_counts<const L: usize>(room: &Room<L>) -> u64
 
 /// The payload of a cell, None where it is blank.
 pub fn payload_at<const L: usize>(room: &Room<L>, cell: u32) -> Option<&[u8; L]>
-    requires { cell < length room.now.heads.items }
-    ensures { option_map (λ x. x.now) result ≡ payload_of (table_held room.now.heads.items room.now.payloads.items cell) }
+    requires inside { cell < length room.now.heads.items }
+    ensures payload { option_map (λ x. x.now) result ≡ payload_of (table_held room.now.heads.items room.now.payloads.items cell) }
+    ensures few { count_of (table_held room.now.heads.items room.now.payloads.items cell) ≤ MOST_COMMITS }
 {
     if room.heads[cell as usize].count == 0 {
         None

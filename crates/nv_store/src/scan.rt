@@ -7,6 +7,7 @@ ghost use Rattle.nv_store.specs.Slot.{Held, slot_at, slots_at, IsClear};
 ghost use Rattle.nv_store.specs.Cells.{Known};
 ghost use Rattle.nv_store.specs.Scans.{Scanned, IsMixed, Reads, front_count, open_count};
 
+use crate::MOST_BYTES;
 use crate::head::Head;
 use crate::steps::OPEN;
 use nv_model::{Nv, NvFail};
@@ -90,7 +91,7 @@ fn read_slot<N: Nv, const L: usize>(
 
 /// Reads the gates and counts of the cell that begins at a place.
 fn scan_slots<N: Nv, const L: usize>(nv: &mut N, at: u32, slots: u32) -> Result<Scan, NvFail>
-    requires small { L ≤ 2056 }
+    requires small { L ≤ MOST_BYTES }
     requires many { slots ≤ 16 }
     requires room { at + slots * (5 + L) ≤ N.size nv.old }
     requires fits { at + slots * (5 + L) < 2 ^ 32 }
@@ -148,7 +149,7 @@ fn read_payload<N: Nv, const L: usize>(
     head: &Head,
     kept: &mut [u8; L],
 ) -> Result<(), NvFail>
-    requires small { L ≤ 2056 }
+    requires small { L ≤ MOST_BYTES }
     requires many { slots ≤ 16 }
     requires inside { 0 < head.now.count → head.now.place < slots }
     requires room { at + slots * (5 + L) ≤ N.size nv.old }
@@ -173,7 +174,7 @@ pub fn find_cell<N: Nv, const L: usize>(
     slots: u32,
     kept: &mut [u8; L],
 ) -> Result<Option<Head>, NvFail>
-    requires small { L ≤ 2056 }
+    requires small { L ≤ MOST_BYTES }
     requires many { (2 ≤ slots) × (slots ≤ 16) }
     requires room { at + slots * (5 + L) ≤ N.size nv.old }
     requires fits { at + slots * (5 + L) < 2 ^ 32 }

@@ -1,12 +1,14 @@
 //! The writes of a commit: closing a slot's gate, writing behind it, and opening it.
-ghost use Rattle.std.specs.Prelude.{◌≡◌, ◌+◌, ◌≤◌, ◌<◌, ◌^◌, ◌++◌, length, take, OnOk, Some, None, IsSome, false, is_some};
+ghost use Rattle.std.specs.Prelude.{◌≡◌, ◌+◌, ◌≤◌, ◌<◌, ◌^◌, ◌++◌, length, take, OnOk, Some, None, IsSome, false, is_some, if◌then◌else◌};
 ghost use Rattle.std.specs.Int.{to_be_bytes, w32};
 ghost use Rattle.nv_model.specs.Bytes.{range};
-ghost use Rattle.nv_model.specs.Meters.{Went};
+ghost use Rattle.nv_model.specs.Meters.{Went, UsesExactly};
 ghost use Rattle.nv_model.specs.Moments.{Only};
 ghost use Rattle.nv_store.specs.Slot.{slot_at};
+ghost use Rattle.nv_store.specs.Store.{commit_calls};
 ghost use Rattle.nv_store.specs.Steps.{Puts, Steps, IsShut, IsOrShut, IsOrHolds};
 
+use crate::MOST_BYTES;
 use nv_model::{Nv, NvFail};
 
 /// The gate of an open slot.
@@ -20,6 +22,7 @@ fn put<N: Nv>(nv: &mut N, at: u32, bytes: &[u8]) -> Result<(), NvFail>
     ensures puts { N.tells → Puts at bytes.now (N.content nv.old) (N.content nv.new) (N.times nv.old) (N.times nv.new) result }
     ensures durable { N.tells → OnOk result (Only (N.times nv.new) (N.content nv.new)) }
     ensures went { Went 2 (N.meters nv.old) (N.meters nv.new) result }
+    ensures calls { OnOk result (UsesExactly 2 (N.meters nv.old).fuse (N.meters nv.new).fuse) }
     ensures size { N.size nv.new ≡ N.size nv.old }
 {
     nv.write(at, bytes)?;
@@ -35,6 +38,7 @@ pub fn close_gate<N: Nv, const L: usize>(nv: &mut N, at: u32) -> Result<(), NvFa
     requires is_open { N.tells → IsSome (slot_at L at (N.content nv.old)) }
     ensures steps { N.tells → Steps L at (IsOrShut (slot_at L at (N.content nv.old))) IsShut (N.content nv.old) (N.content nv.new) (N.times nv.old) (N.times nv.new) result }
     ensures went { Went 2 (N.meters nv.old) (N.meters nv.new) result }
+    ensures calls { OnOk result (UsesExactly 2 (N.meters nv.old).fuse (N.meters nv.new).fuse) }
     ensures size { N.size nv.new ≡ N.size nv.old }
 {
     put(nv, at, &[0])
@@ -56,7 +60,7 @@ pub fn write_payload<N: Nv, const L: usize>(
     count: u32,
     payload: &[u8; L],
 ) -> Result<(), NvFail>
-    requires small { L ≤ 2056 }
+    requires small { L ≤ MOST_BYTES }
     requires room { at + 5 + L ≤ N.size nv.old }
     requires fits { at + 5 + L < 2 ^ 32 }
     requires powered { (N.meters nv.old).lost ≡ false }
@@ -65,9 +69,10 @@ pub fn write_payload<N: Nv, const L: usize>(
     ensures steps { N.tells → Steps L at IsShut IsShut (N.content nv.old) (N.content nv.new) (N.times nv.old) (N.times nv.new) result }
     ensures written { N.tells → OnOk result (range (N.content nv.new) (at + 1) (4 + L) ≡ to_be_bytes w32 count ++ payload.now) }
     ensures went { Went 2 (N.meters nv.old) (N.meters nv.new) result }
+    ensures calls { OnOk result (UsesExactly 2 (N.meters nv.old).fuse (N.meters nv.new).fuse) }
     ensures size { N.size nv.new ≡ N.size nv.old }
 {
-    let mut buffer = [0; 2060];
+    let mut buffer = [0; 4 + MOST_BYTES];
     join(&mut buffer, count, payload);
     put(nv, at + 1, &buffer[..4 + L])
 }
@@ -87,6 +92,7 @@ pub fn open_gate<N: Nv, const L: usize>(
     requires written { N.tells → range (N.content nv.old) (at + 1) (4 + L) ≡ to_be_bytes w32 count ++ payload.now }
     ensures steps { N.tells → Steps L at (IsOrHolds None (count, payload.now)) (λ s. s ≡ Some (count, payload.now)) (N.content nv.old) (N.content nv.new) (N.times nv.old) (N.times nv.new) result }
     ensures went { Went 2 (N.meters nv.old) (N.meters nv.new) result }
+    ensures calls { OnOk result (UsesExactly 2 (N.meters nv.old).fuse (N.meters nv.new).fuse) }
     ensures size { N.size nv.new ≡ N.size nv.old }
 {
     put(nv, at, &[OPEN])
@@ -101,6 +107,7 @@ fn shut<N: Nv, const L: usize>(nv: &mut N, at: u32, is_open: bool) -> Result<(),
     requires gate { N.tells → is_some (slot_at L at (N.content nv.old)) ≡ is_open }
     ensures steps { N.tells → Steps L at (IsOrShut (slot_at L at (N.content nv.old))) IsShut (N.content nv.old) (N.content nv.new) (N.times nv.old) (N.times nv.new) result }
     ensures went { Went 2 (N.meters nv.old) (N.meters nv.new) result }
+    ensures calls { OnOk result (UsesExactly (if is_open then 2 else 0) (N.meters nv.old).fuse (N.meters nv.new).fuse) }
     ensures size { N.size nv.new ≡ N.size nv.old }
 {
     if is_open {
@@ -118,7 +125,7 @@ pub fn fill_slot<N: Nv, const L: usize>(
     count: u32,
     payload: &[u8; L],
 ) -> Result<(), NvFail>
-    requires small { L ≤ 2056 }
+    requires small { L ≤ MOST_BYTES }
     requires room { at + 5 + L ≤ N.size nv.old }
     requires fits { at + 5 + L < 2 ^ 32 }
     requires powered { (N.meters nv.old).lost ≡ false }
@@ -126,6 +133,7 @@ pub fn fill_slot<N: Nv, const L: usize>(
     requires gate { N.tells → is_some (slot_at L at (N.content nv.old)) ≡ is_open }
     ensures steps { N.tells → Steps L at (IsOrHolds (slot_at L at (N.content nv.old)) (count, payload.now)) (λ s. s ≡ Some (count, payload.now)) (N.content nv.old) (N.content nv.new) (N.times nv.old) (N.times nv.new) result }
     ensures went { Went 6 (N.meters nv.old) (N.meters nv.new) result }
+    ensures calls { OnOk result (UsesExactly (commit_calls is_open) (N.meters nv.old).fuse (N.meters nv.new).fuse) }
     ensures size { N.size nv.new ≡ N.size nv.old }
 {
     shut::<N, L>(nv, at, is_open)?;

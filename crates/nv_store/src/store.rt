@@ -1,10 +1,10 @@
 //! What a store of cells promises.
 ghost use Rattle.std.specs.Prelude.{◌≡◌, ◌≢◌, ◌⊎◌, ◌<◌, ◌||◌, List, Bool, Option, ℕ, option_map, OnOk, OnErr, IsErrOf, false};
-ghost use Rattle.nv_model.specs.Meters.{Meters};
+ghost use Rattle.nv_model.specs.Meters.{Meters, UsesExactly};
 ghost use Rattle.nv_model.specs.Moments.{Times, Elapses, Rests};
 ghost use Rattle.nv_store.specs.Fails.{ends_failed};
 ghost use Rattle.nv_store.specs.Slot.{Held};
-ghost use Rattle.nv_store.specs.Store.{Between, OnlyShows, Causes, count_of, count_sum, after_commit, payload_of};
+ghost use Rattle.nv_store.specs.Store.{Between, OnlyShows, Causes, count_of, count_sum, after_commit, payload_of, commit_calls};
 
 use bench_base::refusals::StoreFail;
 
@@ -24,6 +24,9 @@ pub trait Store<const L: usize> {
 
     /// Whether an earlier commit answered Power or Fault.
     ghost failed: { Self → Bool };
+
+    /// Whether the slot that the next commit to a cell fills is open.
+    ghost next_is_open: { Self → ℕ → Bool };
 
     /// What a read of the storage gives.
     ghost content: { Self → List ℕ };
@@ -71,6 +74,9 @@ pub trait Store<const L: usize> {
         ensures shows { tells → OnOk result (OnlyShows L slots (cell_count self.new) (held self.new) (times self.new) (content self.new)) }
 
         ensures causes { Causes (meters self.old) (meters self.new) (failed self.old) (count_of (held self.old cell)) result }
+
+        // Of an armed fuse a commit that succeeds uses six calls, four where the slot that it fills was closed.
+        ensures calls { OnOk result (UsesExactly (commit_calls (next_is_open self.old cell)) (meters self.old).fuse (meters self.new).fuse) }
         ensures failed { failed self.new ≡ (failed self.old || ends_failed result) }
 
         // Worn and Failed leave the storage alone.

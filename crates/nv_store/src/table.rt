@@ -1,11 +1,12 @@
 //! Cells of two slots, one after the other.
 ghost use Rattle.std.specs.Prelude.{◌≡◌, ◌≢◌, ◌+◌, ◌*◌, ◌≤◌, ◌<◌, ◌^◌, ℕ, Option, length, IsErrAnd, IfOk, IfErr, MatchResult, Some, None, false};
 ghost use Rattle.nv_model.specs.Moments.{Only};
+ghost use Rattle.nv_store.specs.declared.TheConstants.{MOST_BYTES};
 ghost use Rattle.nv_store.specs.Slot.{slots_at, IsClear};
 ghost use Rattle.nv_store.specs.Scans.{IsMixed};
 ghost use Rattle.nv_store.specs.Store.{OnlyShows};
 ghost use Rattle.nv_store.specs.Mounts.{Mounts, MountCauses};
-ghost use Rattle.nv_store.specs.Tables.{TableHolds, PlacesInside, table_held};
+ghost use Rattle.nv_store.specs.Tables.{TableHolds, PlacesInside, table_held, cell_is_open};
 
 use crate::causes::{MountCause, store_fail};
 use crate::cells::{commit_cell, settle};
@@ -20,7 +21,7 @@ pub struct Table<N: Nv, const L: usize> {
     nv: N,
     room: Room<L>,
     failed: bool,
-    ghost small: { L ≤ 2056 },
+    ghost small: { L ≤ MOST_BYTES },
     ghost fits: { length room.heads.items * (2 * (5 + L)) < 2 ^ 32 },
     ghost size: { length room.heads.items * (2 * (5 + L)) ≤ N.size nv },
     ghost places: { PlacesInside 2 (length room.heads.items) room.heads.items },
@@ -38,6 +39,8 @@ impl<N: Nv, const L: usize> Store<L> for Table<N, L> {
     ghost held = { λ s. table_held s.room.heads.items s.room.payloads.items };
 
     ghost failed = { λ s. s.failed };
+
+    ghost next_is_open = { λ s. cell_is_open s.room.heads.items };
 
     ghost content = { λ s. N.content s.nv };
 
@@ -101,7 +104,7 @@ impl<N: Nv, const L: usize> Table<N, L> {
 
     /// Mounts as many cells as the room is for, in storage of `2·(5+L)` bytes a cell.
     pub fn mount(nv: N, room: Room<L>) -> Result<Table<N, L>, MountFail<N, L>>
-        requires small { L ≤ 2056 }
+        requires small { L ≤ MOST_BYTES }
         requires powered { (N.meters nv).lost ≡ false }
 
         ensures size { N.size nv ≢ cells_of room.entry * (2 * (5 + L)) → IsErrAnd result (λ e. (e.nv ≡ nv) × (e.cause ≡ MountCause.Size (N.size nv))) }

@@ -1,5 +1,5 @@
 -- What a call of a device did, by how its commit ended.
-use Rattle.std.proofs.Common.{◌≡◌, ◌≢◌, Option, Some, None, Ok, Err, Result, Bool, true, false, if◌then◌else◌, not, is_some, refl, sym, ◌∙◌, ap, subst}
+use Rattle.std.proofs.Common.{◌≡◌, ◌≢◌, Option, Some, None, Ok, Err, Result, true, false, not, is_some, refl, sym, ◌∙◌, ap, subst}
 use Rattle.std.specs.Prelude.{IfSome}
 use Rattle.bench_base.specs.declared.ledger.Commit.{Commit}
 use Rattle.bench_base.specs.declared.refusals.DevRefusal.{DevRefusal}
@@ -15,6 +15,7 @@ use Rattle.node_acts.specs.Acts.{commit_in, cost}
 use Rattle.node_acts.specs.Results.{result_in}
 use Rattle.node_seat.specs.Does.{Stores}
 use Rattle.node_seat.specs.Ends.{end_of_commit, end_of_result}
+use Rattle.node_seat.proofs.Called.{if_true, if_false}
 use Rattle.node_seat.proofs.Rests.{turn_none, spent_none}
 use Rattle.psd_state.specs.State.{State}
 use Rattle.psd_state.specs.Seen.{Seen, counting}
@@ -28,14 +29,6 @@ pub none_torn : (o : Option Commit) → is_some o ≡ false → o ≡ None
 none_torn None is = refl
 none_torn (Some c) is = cc
 
-if_true : {X : Type 0} (b : Bool) (x y : X) → b ≡ true → (if b then x else y) ≡ x
-if_true true x y is = refl
-if_true false x y is = cc
-
-if_false : {X : Type 0} (b : Bool) (x y : X) → b ≡ false → (if b then x else y) ≡ y
-if_false true x y is = cc
-if_false false x y is = refl
-
 same_wear : {N : Type 0} {g : Ghosts N} (d : Device N g) → SameWear (wear_of d) (wear_of d)
 same_wear d = record { first = refl; start = refl }
 
@@ -43,21 +36,6 @@ module _ {N A : Type 0} {g : Ghosts N} (act : Act State DevRefusal A) (d : Devic
   -- what the act commits
   abbrev commits : Option (Commit × Seen)
   commits = commit_in counting (seen_of d) act
-
-  -- a device of which a commit failed does nothing
-  pub does_nothing : torn_of d ≢ None → Performs act d d (Err (Store Failed))
-  does_nothing torn = record {
-    failed = λ t. (refl, refl);
-    does = λ none. absurd (torn none);
-    turn = λ none. absurd (torn none);
-    spent = λ none. absurd (torn none);
-    next = λ none. absurd (torn none);
-    rests = λ none. refl;
-    number = refl;
-    kept = kept d.node;
-    size = d.room;
-    wear = same_wear d;
-  }
 
   -- one that works knows its storage
   pub runs : torn_of d ≡ None → is_on d.node ≡ true

@@ -1,11 +1,12 @@
 -- What a boot finds.
 use Rattle.std.specs.Prelude.{◌≡◌, ◌≢◌, ◌⊎◌, ℕ, List, Option, Some, IfSome}
+use Rattle.bench_base.specs.declared.sizes.TheConstants.{RECORD_BYTES, SLOTS, DEVICE_BYTES}
 use Rattle.nv_model.specs.Moments.{Times, Only}
 use Rattle.nv_store.specs.Slot.{Held, slots_at}
 use Rattle.nv_store.specs.Scans.{IsMixed}
 use Rattle.nv_store.specs.Store.{cell_shown}
 use Rattle.psd_state.specs.State.{State}
-use Rattle.psd_state.specs.Payload.{bytes_of}
+use Rattle.psd_state.specs.Payload.{ReadsAs}
 use Rattle.psd_device.specs.Shown.{IsShown, IsKept}
 
 -- a record of this device that can be kept
@@ -20,12 +21,12 @@ pub record ShowsOwn (device : ℕ) (image : List ℕ) : Type 0 where
   pub own : IfSome state (IsOwn device)
   pub shows : IsShown count state image
 
--- the payload that an image shows is the spelling of no record of this device
+-- the payload that an image shows reads as no record of this device
 pub record IsForeign (device : ℕ) (image : List ℕ) : Type 0 where
   pub held : Held
-  pub shown : cell_shown 209 16 image 0 ≡ Some held
-  pub spells_none : (s : State) → IsOwn device s → bytes_of s ≢ held.1
+  pub shown : cell_shown RECORD_BYTES SLOTS image 0 ≡ Some held
+  pub reads_none : (s : State) → s.device ≡ device → ReadsAs held.1 s → ⊥
 
 -- why a boot answers Damaged: the size is another, or what the storage is sure to hold is mixed or no record of this device
 abbrev pub IsDamaged : ℕ → ℕ → Times → List ℕ → Type 0
-IsDamaged device size now content = (size ≢ 3424) ⊎ (Only now content × (IsMixed 16 (slots_at 209 0 content) ⊎ IsForeign device content))
+IsDamaged device size now content = (size ≢ DEVICE_BYTES) ⊎ (Only now content × (IsMixed SLOTS (slots_at RECORD_BYTES 0 content) ⊎ IsForeign device content))

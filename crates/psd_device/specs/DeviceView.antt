@@ -5,9 +5,9 @@ use Rattle.bench_base.specs.declared.refusals.DevRefusal.{DevRefusal}
 use Rattle.bench_base.specs.declared.refusals.Fail.{Fail}
 use Rattle.bench_base.specs.declared.refusals.Fail.TheVariants.{Refused, Store}
 use Rattle.bench_base.specs.declared.refusals.StoreFail.TheVariants.{Power, Fault, Worn, Failed}
+use Rattle.bench_base.specs.declared.sizes.TheConstants.{DEVICE_BYTES}
 use Rattle.nv_model.specs.declared.nv.Nv.{Ghosts}
 use Rattle.nv_ring.specs.declared.wear.Wear.{Wear}
-use Rattle.nv_store.specs.Store.{OnlyShows}
 use Rattle.nv_store.specs.Turns.{Turn, Spent}
 use Rattle.node_acts.specs.declared.act.Act.{Act}
 use Rattle.node_acts.specs.Acts.{commit_in, cost}
@@ -15,8 +15,8 @@ use Rattle.node_acts.specs.Results.{result_in}
 use Rattle.node_seat.specs.Ends.{end_of_result}
 use Rattle.psd_state.specs.State.{State}
 use Rattle.psd_state.specs.Seen.{Seen, counting}
-use Rattle.psd_device.specs.Shown.{device_held, ShowsSeen, IsKept}
-use Rattle.psd_device.specs.Sound.{IsSound, StartsAt}
+use Rattle.psd_device.specs.Shown.{ShowsSeen, OnlyShown, IsKept}
+use Rattle.psd_device.specs.Sound.{IsSound, IsCurrent}
 use Rattle.psd_device.specs.NodeView.{storage_in, seen_in, number_in, wear_in, SameWear}
 use Rattle.psd_device.specs.declared.device.Device.{Device}
 
@@ -46,9 +46,9 @@ pub record Starts {N : Type 0} {g : Ghosts N} (device : ℕ) (d : Device N g) : 
   pub works : torn_of d ≡ None
   pub number : number_of d ≡ device
   pub sound : IsSound device (seen_of d)
-  pub size : g.size (storage_of d) ≡ 3424
-  pub shows : g.tells → OnlyShows 209 16 1 (λ k. device_held (seen_of d).count (seen_of d).state) (g.times (storage_of d)) (g.content (storage_of d))
-  pub place : g.tells → StartsAt (wear_of d) (seen_of d) (g.content (storage_of d))
+  pub size : g.size (storage_of d) ≡ DEVICE_BYTES
+  pub shows : g.tells → OnlyShown (seen_of d) (g.times (storage_of d)) (g.content (storage_of d))
+  pub place : g.tells → IsCurrent (wear_of d).start (g.content (storage_of d))
 
 -- == a call ==
 
@@ -93,5 +93,5 @@ pub record Performs {N A : Type 0} {g : Ghosts N} (act : Act State DevRefusal A)
   pub rests : commit_in counting (seen_of old) act ≡ None → new ≡ old
   pub number : number_of new ≡ number_of old
   pub kept : IfSome (seen_of new).state IsKept
-  pub size : g.size (storage_of new) ≡ 3424
+  pub size : g.size (storage_of new) ≡ DEVICE_BYTES
   pub wear : SameWear (wear_of old) (wear_of new)

@@ -1,37 +1,47 @@
 -- What a device that is on knows of its storage, and what holds of each.
-use Rattle.std.proofs.Common.{◌≡◌, ◌↔◌, ℕ, List, Option, Some, None, IfSome, true, refl, sym, ◌∙◌, subst, arith, inl, inr, ap}
-use Rattle.std.proofs.lemmas.Bool.{cases_eq}
+use Rattle.std.proofs.Common.{◌≡◌, ◌↔◌, ◌<◌, ℕ, List, Option, Some, None, IfSome, sum, true, refl, sym, ◌∙◌, subst, arith, inl, inr, ap}
+use Rattle.std.proofs.lemmas.Bool.{cases_eq, ne_eqb}
+use Rattle.bench_base.specs.declared.sizes.TheConstants.{RECORD_BYTES, SLOTS, DEVICE_BYTES}
 use Rattle.nv_model.specs.declared.nv.Nv.{Ghosts}
 use Rattle.nv_model.specs.Moments.{Image}
-use Rattle.nv_store.specs.Slot.{Held}
-use Rattle.nv_store.specs.Store.{one_held, Shows, OnlyShows}
+use Rattle.nv_store.specs.Slot.{Held, slots_at}
+use Rattle.nv_store.specs.Cells.{Top}
+use Rattle.nv_store.specs.declared.head.Head.{Head}
+use Rattle.nv_store.specs.Store.{one_held, cell_shown, Shows}
 use Rattle.nv_store.specs.Knows.{holds_shows, none_held, some_held}
 use Rattle.psd_state.specs.State.{State}
-use Rattle.psd_state.specs.Payload.{bytes_of}
-use Rattle.psd_state.proofs.Parted.{one-payload}
-use Rattle.psd_device.specs.Shown.{IsShown, IsKept, ShowsSeen, device_held}
+use Rattle.psd_state.specs.Payload.{ReadsAs}
+use Rattle.psd_state.proofs.Parted.{one-reading}
+use Rattle.psd_device.specs.Shown.{IsHeld, IsShown, IsKept, ShowsSeen, OnlyShown}
+use Rattle.psd_device.specs.Sound.{IsCurrent}
+use Rattle.nv_ring.specs.Turns.{slot_after, start_of}
 use Rattle.psd_device.specs.NodeView.{storage_in, seen_in, is_on}
 use Rattle.psd_device.specs.declared.node.DeviceNode.{DeviceNode}
 
--- the same cell by another word
-pub shown_as : (a b : Option Held) (image : List ℕ) → a ≡ b → Shows 209 16 1 (λ k. a) image → Shows 209 16 1 (λ k. b) image
-shown_as a b image is shows = record { each = λ k lt. shows.each k lt ∙ is; clear = shows.clear }
+-- the cell, by what it holds
+pub shown_as : (count : ℕ) (s : Option State) (held : Option Held) (image : List ℕ) → IsHeld count s held → Shows RECORD_BYTES SLOTS 1 (λ k. held) image → IsShown count s image
+shown_as count s held image is shows = record { held = subst (IsHeld count s) (sym (shows.each 0 (omega arith))) is; clear = shows.clear 0 (omega arith) }
+
+-- no commits hold no record
+pub held_none : (payload : List ℕ) → IsHeld 0 None (one_held 0 payload)
+held_none payload = refl
+
+-- commits hold the record that their payload reads as
+pub held_some : (count : ℕ) (payload : List ℕ) (s : State) → 0 < count → ReadsAs payload s → IsHeld count (Some s) (one_held count payload)
+held_some count payload s some reads = subst (IsHeld count (Some s)) (sym (some_held count payload some)) (refl, reads)
 
 -- blank is a device with no commits
-pub blank_held : (count : ℕ) (payload : List ℕ) (o : Option State) → one_held count payload ≡ device_held count o → (count ≡ 0) ↔ (o ≡ None)
-blank_held count payload None is = let both : (count ≡ 0 → ◌≡◌ {A = Option State} None None) × (◌≡◌ {A = Option State} None None → count ≡ 0) = (λ none. refl, λ none. no_count count payload is) in both
+pub blank_held : (count : ℕ) (payload : List ℕ) (o : Option State) → IsHeld count o (one_held count payload) → (count ≡ 0) ↔ (o ≡ None)
+blank_held count payload None is = let both : (count ≡ 0 → ◌≡◌ {A = Option State} None None) × (◌≡◌ {A = Option State} None None → count ≡ 0) = (λ none. refl, λ none. no_count) in both
   where
-    no_count : (count : ℕ) (payload : List ℕ) → one_held count payload ≡ None → count ≡ 0
-    no_count count payload is = elim (cases_eq count 0) [
+    no_count : count ≡ 0
+    no_count = elim (cases_eq count 0) [
       | inl none ↦ none
-      | inr some ↦ absurd (differs (sym (some_held count payload (omega arith)) ∙ is))
+      | inr some ↦ absurd (subst (IsHeld count None) (some_held count payload (omega arith)) is)
     ]
-      where
-        differs : ◌≡◌ {A = Option Held} (Some (count, payload)) None → ⊥
-        differs e = cc
-blank_held count payload (Some s) is = let both : (count ≡ 0 → ◌≡◌ {A = Option State} (Some s) None) × (◌≡◌ {A = Option State} (Some s) None → count ≡ 0) = (λ none. absurd (differs (sym (none_held count payload none) ∙ is)), λ none. cc) in both
+blank_held count payload (Some s) is = let both : (count ≡ 0 → ◌≡◌ {A = Option State} (Some s) None) × (◌≡◌ {A = Option State} (Some s) None → count ≡ 0) = (λ none. absurd (differs (subst (IsHeld count (Some s)) (none_held count payload none) is)), λ none. cc) in both
   where
-    differs : None ≡ device_held count (Some s) → ⊥
+    differs : ◌≡◌ {A = Option State} (Some s) None → ⊥
     differs e = cc
 
 -- of each record, if there is one
@@ -39,30 +49,48 @@ if_some : {A : Type 0} (P : A → Type 0) (o : Option A) → ((x : A) → o ≡ 
 if_some P None each = tt
 if_some P (Some x) each = each x refl
 
--- an image shows one number of commits and one record
-pub one_shown : (a b : ℕ) (o p : Option State) (image : List ℕ) → IfSome o IsKept → IfSome p IsKept → (a ≡ 0) ↔ (o ≡ None) → (b ≡ 0) ↔ (p ≡ None) → IsShown a o image → IsShown b p image → (a ≡ b) × (o ≡ p)
-one_shown a b o p image kept kept' blank blank' shows shows' = by_record o p kept kept' blank blank' (sym (shows.each 0 (omega arith)) ∙ shows'.each 0 (omega arith))
+-- the slot of the newest commit is the current one
+pub current_at : (slot count : ℕ) (payload content : List ℕ) → Shows RECORD_BYTES SLOTS 1 (λ k. one_held count payload) content
+    → (0 < count → Top SLOTS (slots_at RECORD_BYTES 0 content) slot (count, payload)) → IsCurrent slot content
+current_at slot count payload content shows top held is =
+    let shown : one_held count payload ≡ Some held = sym (shows.each 0 (omega arith)) ∙ is in
+    elim (cases_eq count 0) [
+      | inl none ↦ absurd (differs held (sym (none_held count payload none) ∙ shown))
+      | inr some ↦ subst (λ (h : Held). Top SLOTS (slots_at RECORD_BYTES 0 content) slot h) (same held (sym (some_held count payload (omega arith)) ∙ shown)) (top (omega arith))
+    ]
   where
-    by_record : (o p : Option State) → IfSome o IsKept → IfSome p IsKept → (a ≡ 0) ↔ (o ≡ None) → (b ≡ 0) ↔ (p ≡ None) → device_held a o ≡ device_held b p → (a ≡ b) × (o ≡ p)
-    by_record None None kept kept' blank blank' same = (blank.1 refl ∙ sym (blank'.1 refl), refl)
-    by_record None (Some t) kept kept' blank blank' same = absurd (differs same)
-      where
-        differs : ◌≡◌ {A = Option Held} None (Some (b, bytes_of t)) → ⊥
-        differs e = cc
-    by_record (Some s) None kept kept' blank blank' same = absurd (differs same)
-      where
-        differs : ◌≡◌ {A = Option Held} (Some (a, bytes_of s)) None → ⊥
-        differs e = cc
-    by_record (Some s) (Some t) kept kept' blank blank' same =
-        let pair : ◌≡◌ {A = Held} (a, bytes_of s) (b, bytes_of t) = cc in
-        (ap (λ (h : Held). h.0) pair, ap (λ (x : State). Some x) (one-payload s t kept.holds kept'.holds kept.ranges kept'.ranges (ap (λ (h : Held). h.1) pair)))
+    differs : (h : Held) → None ≡ Some h → ⊥
+    differs h e = cc
+
+    same : (h : Held) → ◌≡◌ {A = Option Held} (Some (count, payload)) (Some h) → ◌≡◌ {A = Held} (count, payload) h
+    same h e = cc
+
+-- and the one from which a boot counts wear
+pub booted_at : (head : Head) (payload content : List ℕ) → Shows RECORD_BYTES SLOTS 1 (λ k. one_held head.count payload) content
+    → (0 < head.count → Top SLOTS (slots_at RECORD_BYTES 0 content) head.place (head.count, payload)) → IsCurrent (start_of head) content
+booted_at head payload content shows top = current_at (start_of head) head.count payload content shows
+    (λ some. subst (λ (p : ℕ). Top SLOTS (slots_at RECORD_BYTES 0 content) p (head.count, payload)) (sym (start some)) (top some))
+  where
+    start : 0 < head.count → start_of head ≡ head.place
+    start some = rw (ne_eqb head.count 0 (λ (none : head.count ≡ 0). omega arith)) refl
+
+-- an image shows one number of commits and one record
+pub one_shown : (a b : ℕ) (o p : Option State) (image : List ℕ) → (a ≡ 0) ↔ (o ≡ None) → (b ≡ 0) ↔ (p ≡ None) → IsShown a o image → IsShown b p image → (a ≡ b) × (o ≡ p)
+one_shown a b o p image blank blank' shows shows' = by_held (cell_shown RECORD_BYTES SLOTS image 0) o p blank blank' shows.held shows'.held
+  where
+    by_held : (h : Option Held) (o p : Option State) → (a ≡ 0) ↔ (o ≡ None) → (b ≡ 0) ↔ (p ≡ None) → IsHeld a o h → IsHeld b p h → (a ≡ b) × (o ≡ p)
+    by_held None o p blank blank' none none' = (blank.1 none ∙ sym (blank'.1 none'), none ∙ sym none')
+    by_held (Some h) None p blank blank' held held' = absurd held
+    by_held (Some h) (Some s) None blank blank' held held' = absurd held'
+    by_held (Some h) (Some s) (Some t) blank blank' held held' =
+        (sym held.0 ∙ held'.0, ap (λ (x : State). Some x) (one-reading h.1 s t held.1 held'.1))
 
 module _ {N : Type 0} {g : Ghosts N} (k : DeviceNode N g) where
   -- the only image is what a read gives, and it shows the device's commits and record
-  pub knows : g.tells → is_on k ≡ true → OnlyShows 209 16 1 (λ i. device_held (seen_in k).count (seen_in k).state) (g.times (storage_in k)) (g.content (storage_in k))
+  pub knows : g.tells → is_on k ≡ true → OnlyShown (seen_in k) (g.times (storage_in k)) (g.content (storage_in k))
   knows tells on =
       let only = holds_shows (k.holds on tells) in
-      record { only = only.only; shows = shown_as (one_held k.head.count k.payload) (device_held k.head.count k.state) (g.content k.nv) k.written only.shows }
+      record { only = only.only; shows = shown_as k.head.count k.state (one_held k.head.count k.payload) (g.content k.nv) k.written only.shows }
 
   -- each image shows them
   pub shows : g.tells → is_on k ≡ true → (image : List ℕ) → Image (g.times (storage_in k)) image → ShowsSeen (seen_in k) image
@@ -70,7 +98,14 @@ module _ {N : Type 0} {g : Ghosts N} (k : DeviceNode N g) where
       let only = knows tells on in
       subst (λ (c : List ℕ). IsShown k.head.count k.state c) (sym (only.only image now)) only.shows
 
-  pub size : is_on k ≡ true → g.size (storage_in k) ≡ 3424
+  -- the slot where the wear since the boot ends is the current one
+  pub current : g.tells → is_on k ≡ true → IsCurrent (slot_after k.wear.start (sum k.wear.fills)) (g.content (storage_in k))
+  current tells on =
+      let holds = k.holds on tells in
+      current_at (slot_after k.wear.start (sum k.wear.fills)) k.head.count k.payload (g.content k.nv) (holds_shows holds).shows
+      (λ some. subst (λ (p : ℕ). Top SLOTS (slots_at RECORD_BYTES 0 (g.content k.nv)) p (k.head.count, k.payload)) (k.wears.place some) (holds.known.top some))
+
+  pub size : is_on k ≡ true → g.size (storage_in k) ≡ DEVICE_BYTES
   size on = k.room on
 
   pub kept : IfSome (seen_in k).state IsKept

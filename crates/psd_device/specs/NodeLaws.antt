@@ -2,6 +2,7 @@
 use Rattle.std.proofs.Common.{◌≡◌, ⊎_elim, ℕ, ◌+◌, ◌≤◌, List, Option, Some, None, false, ◌==◌, ◌∙◌, ap, arith}
 use Rattle.std.specs.Prelude.{IfSome}
 use Rattle.std.proofs.lemmas.Bool.Decides.{nat_tests}
+use Rattle.bench_base.specs.declared.sizes.TheConstants.{MOST_COMMITS, RECORD_BYTES, SLOTS, DEVICE_BYTES}
 use Rattle.nv_model.specs.declared.nv.Nv.{Ghosts}
 use Rattle.nv_store.specs.Slot.{slots_at}
 use Rattle.psd_state.specs.State.{State}
@@ -10,11 +11,8 @@ use Rattle.psd_device.specs.Shown.{IsShown, IsKept}
 use Rattle.psd_device.specs.Boots.{IsOwn, IsDamaged, ShowsOwn}
 use Rattle.psd_device.specs.Knows as knows
 use Rattle.psd_device.specs.Sound.{IsSound}
-use Rattle.psd_device.specs.Finds.{not_mixed, shows_clear, own_not_foreign}
-
-kept_of : (d : ℕ) (o : Option State) → IfSome o (IsOwn d) → IfSome o IsKept
-kept_of d None own = tt
-kept_of d (Some s) own = own.kept
+use Rattle.nv_store.specs.CellLaws.{not_mixed}
+use Rattle.psd_device.specs.Finds.{shows_clear, own_not_foreign}
 
 seen_same : (a b : Seen) → a.count ≡ b.count → a.state ≡ b.state → a ≡ b
 seen_same a b is is' = ap (λ (k : ℕ). with_both k a.state) is ∙ ap (λ (o : Option State). with_both b.count o) is'
@@ -24,10 +22,10 @@ seen_same a b is is' = ap (λ (k : ℕ). with_both k a.state) is ∙ ap (λ (o :
 
 pub one_shown : (d : ℕ) (a b : Seen) (c : List ℕ) → IsSound d a → IsSound d b → IsShown a.count a.state c → IsShown b.count b.state c → a ≡ b
 one_shown d a b c own own' shown shown' =
-    let same = knows.one_shown a.count b.count a.state b.state c (kept_of d a.state own.own) (kept_of d b.state own'.own) own.blank own'.blank shown shown' in
+    let same = knows.one_shown a.count b.count a.state b.state c own.blank own'.blank shown shown' in
     seen_same a b same.0 same.1
 
-few_more : (count : ℕ) → count ≤ 4294967295 → (count == 4294967295) ≡ false → count + 1 ≤ 4294967295
+few_more : (count : ℕ) → count ≤ MOST_COMMITS → (count == MOST_COMMITS) ≡ false → count + 1 ≤ MOST_COMMITS
 few_more count few fresh = grind (arith, nat_tests)
 
 pub keeps : (d : ℕ) (s : Seen) (x : State) → IsSound d s → IsKept x → x.device ≡ d → counting.is_worn s x ≡ false → IsSound d (counting.after s x)
@@ -41,13 +39,13 @@ keeps d s x sound kept number fresh = record {
     no_next k is = omega arith
 
 -- storage that is sure to show a record of the device is not damaged
-pub not_damaged : {N : Type 0} (g : Ghosts N) (d : ℕ) (nv : N) → ShowsOwn d (g.content nv) → g.size nv ≡ 3424 → IsDamaged d (g.size nv) (g.times nv) (g.content nv) → ⊥
+pub not_damaged : {N : Type 0} (g : Ghosts N) (d : ℕ) (nv : N) → ShowsOwn d (g.content nv) → g.size nv ≡ DEVICE_BYTES → IsDamaged d (g.size nv) (g.times nv) (g.content nv) → ⊥
 not_damaged g d nv own size damaged =
     ⊎_elim (λ other. other size)
-    (λ wrong. ⊎_elim (λ mixed. not_mixed 16 (slots_at 209 0 (g.content nv)) mixed (shows_clear d (g.content nv) own)) (λ foreign. own_not_foreign d (g.content nv) own foreign) wrong.1)
+    (λ wrong. ⊎_elim (λ mixed. not_mixed SLOTS (slots_at RECORD_BYTES 0 (g.content nv)) mixed (shows_clear d (g.content nv) own)) (λ foreign. own_not_foreign d (g.content nv) own foreign) wrong.1)
     damaged
 
-pub intact : {N : Type 0} (g : Ghosts N) (d : ℕ) (s : Seen) (nv : N) → IsSound d s → IsShown s.count s.state (g.content nv) → g.size nv ≡ 3424
+pub intact : {N : Type 0} (g : Ghosts N) (d : ℕ) (s : Seen) (nv : N) → IsSound d s → IsShown s.count s.state (g.content nv) → g.size nv ≡ DEVICE_BYTES
     → IsDamaged d (g.size nv) (g.times nv) (g.content nv) → ⊥
 intact g d s nv sound shown size damaged =
     not_damaged g d nv (record { count = s.count; state = s.state; own = sound.own; shows = shown }) size damaged

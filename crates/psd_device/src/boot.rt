@@ -6,26 +6,27 @@ ghost use Rattle.nv_store.specs.Turns.{Spent, Kept};
 ghost use Rattle.node_seat.specs.Does.{Reads};
 ghost use Rattle.node_seat.specs.Ends.{end_of_boot};
 ghost use Rattle.psd_state.specs.State.{State};
-ghost use Rattle.psd_state.specs.Payload.{bytes_of};
-ghost use Rattle.psd_device.specs.Shown.{device_held};
+ghost use Rattle.psd_state.specs.Payload.{ReadsAs};
+ghost use Rattle.psd_device.specs.Shown.{IsHeld};
 ghost use Rattle.psd_device.specs.Boots.{IsOwn, ShowsOwn, IsDamaged};
 
 use crate::device::Device;
 use crate::node::DeviceNode;
 use bench_base::numbers::DevNo;
 use bench_base::refusals::BootFail;
+use bench_base::sizes::{DEVICE_BYTES, RECORD_BYTES, SLOTS};
 use nv_model::Nv;
 use nv_ring::Wear;
 use nv_store::{MountCause, mount_lent};
 use psd_state::DevRec;
 
-// The record that a cell with so many commits holds: None where it is blank, and Err where the payload is the spelling
-// of no record of this device.
-fn record_in(device: DevNo, count: u32, payload: &[u8; 209]) -> Result<Option<DevRec>, ()>
-    ensures holds { IfOk result (λ state. one_held count payload.now ≡ device_held count state) }
+// The record that a cell with so many commits holds: None where it is blank, and Err where the payload reads as no record
+// of this device.
+fn record_in(device: DevNo, count: u32, payload: &[u8; RECORD_BYTES]) -> Result<Option<DevRec>, ()>
+    ensures holds { IfOk result (λ state. IsHeld count state (one_held count payload.now)) }
     ensures own { IfOk result (λ state. IfSome state (IsOwn device)) }
     ensures filled { IfErr result (λ x. count ≢ 0) }
-    ensures foreign { IfErr result (λ x. (s : State) → IsOwn device s → bytes_of s ≢ payload.now) }
+    ensures foreign { IfErr result (λ x. (s : State) → s.device ≡ device → ReadsAs payload.now s → ⊥) }
 {
     if count == 0 {
         return Ok(None);
@@ -38,7 +39,7 @@ fn record_in(device: DevNo, count: u32, payload: &[u8; 209]) -> Result<Option<De
 
 impl<N: Nv> DeviceNode<N> {
     ghost use Rattle.psd_device.specs.NodeView.{storage_in, seen_in, number_in, is_on, wear_in};
-    ghost use Rattle.psd_device.specs.Sound.{IsSound, IsNewWear, StartsAt};
+    ghost use Rattle.psd_device.specs.Sound.{IsSound, IsNewWear, IsCurrent};
 
     /// Switches a device that is off on, from what its storage shows, or leaves it off. Power is not lost. Nothing is
     /// written.
@@ -48,15 +49,15 @@ impl<N: Nv> DeviceNode<N> {
         ensures leaves { is_on self.new ≡ is_ok result }
         ensures starts { OnOk result ((number_in self.new ≡ device) × IsSound device (seen_in self.new)) }
         ensures reads { Reads N.Nv (storage_in self.old) (storage_in self.new) }
-        ensures size { N.size (storage_in self.old) ≢ 3424 → (result ≡ Err BootFail.Damaged) × (storage_in self.new ≡ storage_in self.old) }
+        ensures size { N.size (storage_in self.old) ≢ DEVICE_BYTES → (result ≡ Err BootFail.Damaged) × (storage_in self.new ≡ storage_in self.old) }
         ensures damaged { N.tells → IsErrOf result BootFail.Damaged
             → IsDamaged device (N.size (storage_in self.new)) (N.times (storage_in self.new)) (N.content (storage_in self.new)) }
         ensures spent { Spent 1 (N.meters (storage_in self.old)) (N.meters (storage_in self.new)) (end_of_boot result) }
         ensures wear { OnOk result (IsNewWear (wear_in self.new) (seen_in self.new).count) }
-        ensures place { N.tells → OnOk result (StartsAt (wear_in self.new) (seen_in self.new) (N.content (storage_in self.new))) }
+        ensures place { N.tells → OnOk result (IsCurrent (wear_in self.new).start (N.content (storage_in self.new))) }
     {
-        let mut payload = [0; 209];
-        let head = match mount_lent(&mut self.nv, 16, &mut payload) {
+        let mut payload = [0; RECORD_BYTES];
+        let head = match mount_lent(&mut self.nv, SLOTS, &mut payload) {
             Ok(head) => head,
             Err(MountCause::Power) => return Err(BootFail::Power),
             Err(MountCause::Fault) => return Err(BootFail::Fault),
@@ -84,7 +85,7 @@ impl<N: Nv> Device<N> {
     /// written.
     ///
     /// `Damaged` where the storage has not 3,424 bytes, an open slot has count 0, two open slots have equal counts, or the
-    /// current payload is the spelling of no record of this device. Blank storage is a device that was not made yet.
+    /// current payload reads as no record of this device, in version 1 or 2. Blank storage is a device that was not made yet.
     pub fn boot(device: DevNo, nv: N) -> Result<Device<N>, (N, BootFail)>
         requires powered { (N.meters nv).lost ≡ false }
 
@@ -93,10 +94,10 @@ impl<N: Nv> Device<N> {
         ensures reads { MatchResult result (λ d. Reads N.Nv nv (storage_of d)) (λ e. Reads N.Nv nv e.0) }
 
         // Why it fails, and what it costs.
-        ensures size { N.size nv ≢ 3424 → result ≡ Err (nv, BootFail.Damaged) }
+        ensures size { N.size nv ≢ DEVICE_BYTES → result ≡ Err (nv, BootFail.Damaged) }
         ensures damaged { N.tells → MatchResult result (λ d. IsDamaged device (N.size nv) (N.times (storage_of d)) (N.content (storage_of d)) → ⊥)
             (λ e. e.1 ≡ BootFail.Damaged → IsDamaged device (N.size nv) (N.times e.0) (N.content e.0)) }
-        ensures sound { N.tells → N.size nv ≡ 3424 → ((c : List ℕ) → Image (N.times nv) c → ShowsOwn device c) → IfErr result (λ e. e.1 ≢ BootFail.Damaged) }
+        ensures sound { N.tells → N.size nv ≡ DEVICE_BYTES → ((c : List ℕ) → Image (N.times nv) c → ShowsOwn device c) → IfErr result (λ e. e.1 ≢ BootFail.Damaged) }
         ensures spent { MatchResult result (λ d. Spent 1 (N.meters nv) (N.meters (storage_of d)) Kept)
             (λ e. Spent 1 (N.meters nv) (N.meters e.0) (end_of_boot (Err e.1))) }
 

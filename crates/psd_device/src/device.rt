@@ -1,14 +1,15 @@
 //! A running device: its record in its storage, and the commit that failed.
 ghost use Rattle.std.specs.Prelude.{◌≡◌, ◌+◌, ◌/◌, ◌≤◌, ◌<◌, ◌^◌, Some, None, not, is_some, sum, slice_index};
-ghost use Rattle.nv_store.specs.Slot.{Held, slots_at};
-ghost use Rattle.nv_store.specs.Cells.{Top};
+ghost use Rattle.bench_base.specs.declared.sizes.TheConstants.{DEVICE_BYTES};
 ghost use Rattle.nv_ring.specs.Turns.{fills_of, slot_after};
-ghost use Rattle.psd_device.specs.Shown.{device_held};
+ghost use Rattle.psd_device.specs.Shown.{ShowsSeen};
+ghost use Rattle.psd_device.specs.Sound.{IsCurrent};
 ghost use Rattle.psd_device.specs.NodeView.{storage_in, is_on};
 
 use crate::node::DeviceNode;
 use bench_base::ledger::Commit;
 use bench_base::refusals::{DevFail, Fail, StoreFail};
+use bench_base::sizes::{RECORD_BYTES, SLOTS};
 use node_acts::Act;
 use nv_model::{Fused, Nv};
 use psd_state::DeviceAct;
@@ -20,7 +21,7 @@ pub struct Device<N: Nv> {
     /// The commit that failed, after which no other is tried.
     pub(crate) torn: Option<Commit>,
     ghost runs: { is_on node ≡ not (is_some torn) },
-    ghost room: { N.size (storage_in node) ≡ 3424 },
+    ghost room: { N.size (storage_in node) ≡ DEVICE_BYTES },
 }
 
 impl<N: Nv> Device<N> {
@@ -69,18 +70,17 @@ impl<N: Nv> Device<N> {
 
     /// How many commits of this value filled a slot.
     pub fn fills(&self, slot: u32) -> u32
-        requires { slot < 16 }
+        requires { slot < SLOTS }
         ensures fills { result ≡ slice_index (wear_of self.now).fills slot }
 
         // Commits fill the slots in turn, so each gets its share of them.
         ensures count { (wear_of self.now).first + sum (wear_of self.now).fills ≡ (seen_of self.now).count }
         ensures turn { result ≡ fills_of (wear_of self.now).start (sum (wear_of self.now).fills) slot }
-        ensures share { result ≤ sum (wear_of self.now).fills / 16 + 1 }
+        ensures share { result ≤ sum (wear_of self.now).fills / SLOTS + 1 }
 
-        // The slot of the last commit is the current one.
-        ensures current { N.tells → torn_of self.now ≡ None → (held : Held)
-            → device_held (seen_of self.now).count (seen_of self.now).state ≡ Some held
-            → Top 16 (slots_at 209 0 (N.content (storage_of self.now))) (slot_after (wear_of self.now).start (sum (wear_of self.now).fills)) held }
+        // The slot of the last commit is the current one, and what it holds reads as the record.
+        ensures current { N.tells → torn_of self.now ≡ None → ShowsSeen (seen_of self.now) (N.content (storage_of self.now))
+            × IsCurrent (slot_after (wear_of self.now).start (sum (wear_of self.now).fills)) (N.content (storage_of self.now)) }
     {
         self.node.wear.fills[slot as usize]
     }

@@ -1,5 +1,6 @@
 //! A device as a node of the bench.
 ghost use Rattle.std.specs.Prelude.{◌≡◌, refl};
+ghost use Rattle.bench_base.specs.declared.sizes.TheConstants.{DEVICE_BYTES};
 ghost use Rattle.psd_state.specs.Seen as seen_by;
 ghost use Rattle.psd_device.specs.Shown.{IsKept, ShowsSeen};
 ghost use Rattle.psd_device.specs.Boots.{IsDamaged};
@@ -26,7 +27,7 @@ impl<M: Fuse + Drop> Node for DeviceNode<M> {
 
     ghost Seen = { seen_by.Seen };
 
-    ghost bytes = { 3424 };
+    ghost bytes = { DEVICE_BYTES };
 
     ghost counting = { seen_by.counting };
 

@@ -2,16 +2,18 @@
 ghost use Rattle.std.specs.Prelude.{◌≡◌, ◌==◌, ◌<◌, ◌^◌, ℕ, OnErr, IsErrOf, true, false};
 ghost use Rattle.std.specs.Option.{ForSome};
 ghost use Rattle.nv_model.specs.Meters.{Restarts};
+ghost use Rattle.bench_base.specs.declared.sizes.TheConstants.{RECORD_BYTES, SLOTS, DEVICE_BYTES};
 ghost use Rattle.nv_store.specs.Store.{one_held, Holds};
 ghost use Rattle.nv_ring.specs.Turns.{IsWearOf};
 ghost use Rattle.node_seat.specs.Does.{Reads, Commits, Stores};
 ghost use Rattle.node_seat.specs.Ends.{end_of_commit, leaves_running};
 ghost use Rattle.psd_state.specs.Seen.{counting};
-ghost use Rattle.psd_device.specs.Shown.{device_held, IsKept, ShowsSeen};
-ghost use Rattle.psd_device.specs.Unique.{each_kept-prop};
+ghost use Rattle.psd_device.specs.Shown.{IsHeld, IsKept, ShowsSeen};
+ghost use Rattle.psd_device.specs.Unique.{each_kept-prop, IsHeld-prop};
 
 use bench_base::numbers::DevNo;
 use bench_base::refusals::StoreFail;
+use bench_base::sizes::{DEVICE_BYTES, MOST_COMMITS, RECORD_BYTES, SLOTS};
 use nv_model::{Nv, NvFail};
 use nv_ring::Wear;
 use nv_store::{Head, commit_lent};
@@ -23,18 +25,18 @@ use psd_state::DevRec;
 pub struct DeviceNode<N: Nv> {
     pub(crate) nv: N,
     pub(crate) head: Head,
-    pub(crate) payload: [u8; 209],
+    pub(crate) payload: [u8; RECORD_BYTES],
     pub(crate) wear: Wear,
     pub(crate) device: DevNo,
     pub(crate) state: Option<DevRec>,
     pub(crate) on: bool,
-    ghost room: { on ≡ true → N.size nv ≡ 3424 },
+    ghost room: { on ≡ true → N.size nv ≡ DEVICE_BYTES },
     ghost powered: { on ≡ true → (N.meters nv).lost ≡ false },
-    ghost holds: { on ≡ true → N.tells → Holds 209 16 head payload (N.times nv) (N.content nv) },
+    ghost holds: { on ≡ true → N.tells → Holds RECORD_BYTES SLOTS head payload (N.times nv) (N.content nv) },
     ghost fits: { head.count < 2 ^ 32 },
-    ghost inside: { 0 < head.count → head.place < 16 },
+    ghost inside: { 0 < head.count → head.place < SLOTS },
     ghost wears: { IsWearOf wear head },
-    ghost written: { one_held head.count payload ≡ device_held head.count state },
+    ghost written: { IsHeld head.count state (one_held head.count payload) } by { IsHeld-prop head.count state (one_held head.count payload) },
     ghost kept: { ForSome state IsKept } by { each_kept-prop state },
 }
 
@@ -50,7 +52,7 @@ impl<N: Nv> DeviceNode<N> {
         DeviceNode {
             nv,
             head,
-            payload: [0; 209],
+            payload: [0; RECORD_BYTES],
             wear: Wear::new(&head),
             device,
             state: None,
@@ -82,9 +84,9 @@ impl<N: Nv> DeviceNode<N> {
 
     /// Whether its cell has as many commits as can be counted.
     pub(crate) fn is_worn(&self) -> bool
-        ensures { result ≡ ((seen_in self.now).count == 4294967295) }
+        ensures { result ≡ ((seen_in self.now).count == MOST_COMMITS) }
     {
-        self.head.count == u32::MAX
+        self.head.count == MOST_COMMITS
     }
 
     /// Restarts the storage of a device that is off.
@@ -116,7 +118,7 @@ impl<N: Nv> DeviceNode<N> {
         }
         match commit_lent(
             &mut self.nv,
-            16,
+            SLOTS,
             &mut self.head,
             &mut self.payload,
             &payload,

@@ -16,8 +16,8 @@ use Rattle.psd_state.proofs.Keeping.{passes, unless-passes}
 pub asks-below : (ρ : Rules) (s : State) (k : Kind) (who a : ℕ) (today : ℤ) (x : State × List ℕ) → ask_answer ρ s k who a today ≡ Ok x → s.number < 4294967295
 asks-below ρ s k who a today x e =
     let idle = unless-passes (waiting_kind s.pending) no.Busy _ x e in
-    let rows = passes (ask_rows ρ s k a today) _ x (refl, (refl, (refl, (refl, (refl, tt))))) idle.1 in
-    leb-false 4294967295 s.number rows.0.1.1.1.1.0
+    let rows = passes (ask_rows ρ s k a today) _ x (refl, (refl, (refl, (refl, (refl, (refl, tt)))))) idle.1 in
+    leb-false 4294967295 s.number rows.0.1.1.1.1.1.0
 
 -- the test of a code
 pub code-is : (key bytes : List ℕ) (b : Bool) → (IsTrue b ↔ HasCode bytes key) → b ≡ has_code key bytes

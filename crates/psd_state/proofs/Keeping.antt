@@ -111,7 +111,7 @@ pub asking-keeps : AskingKeeps
 asking-keeps ρ d C s after kind who amount today note order of e holds =
     let q : Request = request_made ρ s kind who amount today in
     let idle = unless-passes (waiting_kind s.pending) no.Busy _ (after, note) e in
-    let through = passes (ask_rows ρ s kind amount today) _ (after, note) (refl, (refl, (refl, (refl, (refl, tt))))) idle.1 in
+    let through = passes (ask_rows ρ s kind amount today) _ (after, note) (refl, (refl, (refl, (refl, (refl, (refl, tt)))))) idle.1 in
     let same : (after_ask s q, note_for s q) ≡ (after, note) = ok_same through.1 in
     let is : after_ask s q ≡ after = pair_first same in
     let text : note_for s q ≡ note = pair_second same in
@@ -172,19 +172,19 @@ debiting-keeps ρ d C s after c today mark order of e =
 
 -- == apply ==
 
-taken : (g : Bool) (k : Kind) (a : ℕ) (r : Sums) → IsAmount k a r → (if g && empties k then a else 0) ≤ r.descending
+taken : (g : Bool) (k : Kind) (version a : ℕ) (r : Sums) → IsAmount k version a r → (if g && empties k then a else 0) ≤ r.descending
 unfolding same_kind
-taken false k a r h = omega arith
-taken true Enrol a r h = omega arith
-taken true Reset a r h = omega arith
-taken true Audit a r h = omega arith
-taken true Refund a r h = omega (arith, h)
-taken true Withdraw a r h = omega (arith, h)
+taken false k version a r h = omega arith
+taken true Enrol version a r h = omega arith
+taken true Reset version a r h = omega arith
+taken true Audit version a r h = omega arith
+taken true Refund version a r h = omega (arith, h)
+taken true Withdraw version a r h = omega (arith, h)
 
 -- a refund or withdrawal takes off no more than is left
-takes-left : (v : Verdict) (q : Request) (r : Sums) → IsAmount q.kind q.amount r → takes v q ≤ r.descending
+takes-left : (v : Verdict) (q : Request) (r : Sums) → IsAmount q.kind q.version q.amount r → takes v q ≤ r.descending
 unfolding takes
-takes-left v q r h = taken (is_granted v) q.kind q.amount r h
+takes-left v q r h = taken (is_granted v) q.kind q.version q.amount r h
 
 pub applying-keeps : ApplyingKeeps
 applying-keeps d C s after q r order of holds pends ruling reply e =
@@ -203,7 +203,7 @@ applying-keeps d C s after q r order of holds pends ruling reply e =
     let funds = funds-of d s C of.descending in
     let same : state_of d s.key C ≡ s = sym of.state in
     let allowed : is_allowed q.kind (phase d C) ≡ true = subst (λ (x : State). is_allowed q.kind x.phase ≡ true) of.state held.kind in
-    let amount : IsAmount q.kind q.amount (state_of d s.key C).registers = subst (λ (x : State). IsAmount q.kind q.amount x.registers) of.state held.amount in
+    let amount : IsAmount q.kind q.version q.amount (state_of d s.key C).registers = subst (λ (x : State). IsAmount q.kind q.version q.amount x.registers) of.state held.amount in
     let next : List Commit = Applied d n r.verdict ∷ C in
     let answer : apply_answer s (Some q) r ≡ Ok after = ap (λ o. apply_answer s o r) (sym pends) ∙ e in
     let through = passes (apply_rows r q) _ after (refl, (refl, tt)) answer in

@@ -1,5 +1,5 @@
 -- What a debit keeps of a record.
-use Rattle.std.proofs.Common.{◌≡◌, ℕ, ℤ, ◌+◌, ◌^◌, ◌<◌, ◌≤◌, refl, arith, Option, Some, None, Bool, true, false, FitsSigned, Fits as Fits32, true≢false, lit<, if◌then◌else◌, Result, Ok, Err, nat_lt, ltb-false, ap, sym, ◌∙◌}
+use Rattle.std.proofs.Common.{◌≡◌, ℕ, ℤ, ◌+◌, ◌^◌, ◌<◌, ◌≤◌, refl, arith, Option, Some, None, Bool, true, false, FitsSigned, Fits as Fits32, true≢false, lit<, if◌then◌else◌, Result, Ok, Err, nat_lt, ltb-false, ap, ap₂, sym, ◌∙◌, List, ◌++◌, ◌==◌, ◌&&◌, eq-eqb}
 use Rattle.std.specs.Int.{w32, cast_unsigned}
 use Rattle.std.proofs.Math.Facts.{Fits-of_z}
 use Rattle.bench_base.specs.declared.words.Kind.{Kind}
@@ -9,17 +9,21 @@ use Rattle.indicium.specs.declared.Mark.{Mark}
 use Rattle.indicium.specs.Marks as marks
 use Rattle.psd_wire.specs.declared.message.Request.{Request}
 use Rattle.registers.specs.Sums.{Sums, Sound, debited, debit_answer}
-use Rattle.psd_state.specs.State.{State, Holds, IsAmount, PendingOk, MarkOk}
+use Rattle.psd_state.specs.State.{State, Holds, IsAmount, PendingOk, MarkOk, kept_code}
 use Rattle.bench_base.specs.Kinds.{same_kind, empties}
-use Rattle.psd_state.specs.Answers.{frozen_kind}
+use Rattle.hmac_core.specs.Hmac.{hmac}
+use Rattle.bench_base.specs.declared.refusals.DevRefusal.TheVariants as no
+use Rattle.psd_wire.specs.declared.message.DebitMsg.{DebitMsg}
+use Rattle.psd_state.specs.declared.debiting.Debited.TheVariants.{Again}
+use Rattle.psd_state.specs.Answers.{frozen_kind, again}
 
-amount-kept : (k : Kind) (n : ℕ) (s : Sums) (a : ℕ) → IsAmount k n s → empties k ≡ false → a ≤ s.descending → IsAmount k n (debited s a)
+amount-kept : (k : Kind) (version n : ℕ) (s : Sums) (a : ℕ) → IsAmount k version n s → empties k ≡ false → a ≤ s.descending → IsAmount k version n (debited s a)
 unfolding same_kind
-amount-kept Enrol n s a h f l = h
-amount-kept Reset n s a h f l = (h.0, h.1, omega (arith, h.2, l))
-amount-kept Audit n s a h f l = h
-amount-kept Refund n s a h f l = absurd (true≢false f)
-amount-kept Withdraw n s a h f l = absurd (true≢false f)
+amount-kept Enrol version n s a h f l = h
+amount-kept Reset version n s a h f l = (h.0, h.1, omega (arith, h.2, l))
+amount-kept Audit version n s a h f l = h
+amount-kept Refund version n s a h f l = absurd (true≢false f)
+amount-kept Withdraw version n s a h f l = absurd (true≢false f)
 
 some_none : {A : Type 0} {x : A} → Some x ≡ None → ⊥
 some_none h = cc
@@ -33,14 +37,14 @@ thawed q h = not_when (empties q.kind) _ h
 
 pub pending-debited : (d n : ℕ) (p : Phase) (s : Sums) (o : Option Request) (a : ℕ) → PendingOk d n p s o → frozen_kind o ≡ None → a ≤ s.descending → PendingOk d n p (debited s a) o
 pending-debited d n p s None a h f l = tt
-pending-debited d n p s (Some q) a h f l = record { whole = h.whole; device = h.device; number = h.number; kind = h.kind; amount = amount-kept q.kind q.amount s a h.amount (thawed q f) l }
+pending-debited d n p s (Some q) a h f l = record { whole = h.whole; device = h.device; number = h.number; kind = h.kind; amount = amount-kept q.kind q.version q.amount s a h.amount (thawed q f) l }
 
-pub whole-mark : (d p a x y : ℕ) (t : ℤ) (o k : ℕ) → d < 2 ^ 32 → p < 2 ^ 32 → a < 2 ^ 32 → x < 2 ^ 32 → y < 2 ^ 32 → FitsSigned w32 t → o < 2 ^ 32 → k < 2 ^ 16
-    → marks.IsWhole (record { version = 1; device = d; piece = p; postage = a; ascending = x; descending = y; day = t; origin = o; class = k })
+pub whole-mark : (d p a x y : ℕ) (t : ℤ) (o k : ℕ) → d < 2 ^ 16 → p < 2 ^ 32 → a < 2 ^ 32 → x < 2 ^ 40 → y < 2 ^ 40 → FitsSigned w32 t → o < 2 ^ 32 → k < 2 ^ 16
+    → marks.IsWhole (record { version = 2; device = d; piece = p; postage = a; ascending = x; descending = y; day = t; origin = o; class = k })
 whole-mark d p a x y t o k hd hp ha hx hy ht ho hk =
     let small : Fits32 w32 (cast_unsigned w32 t) = Fits-of_z ht in
     record {
-      version = refl;
+      version = (omega arith, omega arith);
       fit = (lit< tt, (lit< tt, (hd, (hp, (ha, (hx, (hy, (omega (arith, small), (ho, (hk, tt))))))))));
       day = ht;
     }
@@ -72,3 +76,17 @@ debit-holds s x a k h free moved sound device number phase pending mark whole kd
       pending = rw (device, number, phase, pending, r.0) (pending-debited s.device s.number s.phase s.registers s.pending a h.pending free r.1);
       mark = rw (device, mark) (mark-debited s.device s.registers.pieces a s.registers x.registers k whole r.0 kd kp ka);
     }
+
+-- == what is given again ==
+
+-- the kept mark with its code is its spelling
+pub kept-again : (s : State) (code : List ℕ) (k : Mark) (bytes : List ℕ) → s.mark ≡ Some k → kept_code s.key s.mark ≡ code → bytes ≡ marks.body k ++ code → bytes ≡ marks.spell k s.key
+unfolding marks.spell
+kept-again s code k bytes is same made =
+    let sign : hmac s.key (marks.body k) ≡ code = sym (ap (kept_code s.key) is) ∙ same in
+    made ∙ ap (λ x. marks.body k ++ x) (sym sign)
+
+pub given-again : (c : DebitMsg) (key : List ℕ) (k : Mark) (bytes : List ℕ) → k.postage ≡ c.postage → k.class ≡ c.class → bytes ≡ marks.spell k key → Ok (Again bytes) ≡ again c key k
+given-again c key k bytes p l e =
+    let yes : ((k.postage == c.postage) && (k.class == c.class)) ≡ true = ap₂ (λ a b. a && b) (eq-eqb k.postage c.postage p) (eq-eqb k.class c.class l) in
+    ap (λ b. Ok (Again b)) e ∙ ap (λ b. if b then Ok (Again (marks.spell k key)) else Err (no.Conflict k.postage k.class)) (sym yes)

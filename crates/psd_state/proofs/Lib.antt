@@ -3,5 +3,6 @@ pub mod Kept
 pub mod Ordered
 pub mod Parted
 pub mod Steps
+pub mod Read
 pub mod Under
 mod Decisions

@@ -1,110 +1,142 @@
--- A record's bytes fall into its parts, and the parts make its bytes.
-use Rattle.std.proofs.Common.{◌≡◌, ℕ, ℤ, [], ◌∷◌, ◌+◌, ◌^◌, ◌<◌, List, ◌++◌, length, take, drop, get_or, sym, ap, ap₂, ◌∙◌, refl, arith, subst, Option, Some, None, length-append, append_assoc, append-nil, FitsSigned, Fits as Fits32, true, true≢false, Result, Ok}
+-- A record's bytes fall into its parts, and the parts make its bytes, in each version.
+use Rattle.std.proofs.Common.{◌≡◌, ℕ, ℤ, [], ◌∷◌, ◌+◌, ◌-◌, ◌^◌, ◌<◌, ◌≤◌, ◌==◌, if◌then◌else◌, Bool, true, false, replicate, List, ◌++◌, length, take, drop, get_or, sym, ap, ap₂, ◌∙◌, refl, arith, subst, Option, Some, None, length-append, append_assoc, FitsSigned, Fits as Fits32, true≢false, Result, Ok}
 use Rattle.std.specs.Int.{w32, cast_signed, cast_unsigned}
 use Rattle.std.proofs.lemmas.Int.{of_z-to_z, to_z-of_z}
-use Rattle.std.proofs.lemmas.List.{take_at, drop_at, drop-drop, take_all}
+use Rattle.std.proofs.lemmas.List.{take_at, drop_at, drop-drop, take-append-drop, length-replicate}
 use Rattle.std.proofs.Math.Facts.{Fits-of_z}
 use borrow.Author.Gap.{read_sfits}
-use Rattle.bench_base.specs.Table.{row, values, Fit, IsBytes}
-use Rattle.bench_base.proofs.Tables.{row-values, values-row, values-fit, length-row, joined}
+use Rattle.bench_base.specs.Table.{Size, One, room, number, row, values, Fit, IsBytes}
+use Rattle.bench_base.proofs.Tables.{row-values, values-row, values-fit, length-row}
 use Rattle.indicium.specs.declared.Mark.{Mark}
 use Rattle.indicium.specs.Marks as marks
 use Rattle.indicium.proofs.Readings.{length-spell, read-spell}
-use Rattle.psd_wire.proofs.Readings.{length-request, one-spelling}
+use Rattle.psd_wire.specs.Grammar.{sum_size, body}
+use Rattle.psd_wire.proofs.Readings.{length-request, one-spelling, request_room, request_room-le, length-body_of, one-body, request_version}
 use Rattle.registers.specs.Sums.{Sums}
 use Rattle.bench_base.specs.declared.words.Phase.{Phase}
 use Rattle.bench_base.specs.declared.words.Phase.TheVariants.{Blank, Manufactured, Authorised, InService, Locked, Withdrawn}
 use Rattle.psd_wire.specs.declared.message.Request.{Request}
 use Rattle.psd_wire.specs.declared.message.Message.TheVariants as m
+use Rattle.psd_wire.specs.Grammar as grammar
+use Rattle.std.specs.Prelude.{◌⊎◌, IfSome}
+use Rattle.std.proofs.Common.{inl, inr}
+use Rattle.std.proofs.lemmas.Bool.{eqb-true}
+use Rattle.psd_wire.proofs.Readings.{byte_of}
 use Rattle.psd_state.specs.State.{State, Holds, PendingOk, MarkOk, is_stored}
 use Rattle.psd_state.specs.declared.parts.Fields.{Fields}
-use Rattle.psd_state.specs.Payload.{phase_code, flag_of, head_table, head, middle_table, middle, pending_part, mark_part, head_part, middle_part, bytes_of, Ranges, fields_from, fields_at, fields_of, Parts, PendingWhole, MarkWhole, IsKeptAt, sums_of}
+use Rattle.psd_state.specs.Payload.{phase_code, phase_byte, flag_of, head_table, head, middle_table, middle, filled, pending_room, pending_part, mark_part, end_part, head_part, middle_part, spelled, bytes_of, RangesIn, Ranges, IsOld, ReadsAs, fields_from, fields_at, fields_of, pending_place, mark_place, Parts, PendingWhole, MarkWhole, IsKeptAt, sums_of}
 
-length-head : (s : State) → Ranges s → length (head_part s) ≡ 5
+length-head : (v : ℕ) (s : State) → RangesIn v s → length (head_part v s) ≡ 5
 unfolding head_part
-length-head s r = length-row head_table (head s) r.head
+length-head v s r = length-row head_table (head v s) r.head
 
-length-middle : (s : State) → Ranges s → length (middle_part s) ≡ 37
+length-middle : (v : ℕ) (s : State) → RangesIn v s → length (middle_part v s) ≡ room (middle_table v)
 unfolding middle_part
-length-middle s r = length-row middle_table (middle s) r.middle
+length-middle v s r = length-row (middle_table v) (middle s) r.middle
 
 -- a part is taken off the front of what is left
 falls_apart : (x y rest bytes : List ℕ) (n k at : ℕ) → length x ≡ n → length y ≡ k → drop at bytes ≡ x ++ (y ++ rest) → (drop (at + n) bytes ≡ y ++ rest) × (take n (drop at bytes) ≡ x)
 falls_apart x y rest bytes n k at lx ly e =
     (sym (drop-drop n at bytes) ∙ ap (drop n) e ∙ drop_at x (y ++ rest) n lx, ap (take n) e ∙ take_at x (y ++ rest) n lx)
 
-fields-again : (s : State) → Ranges s → fields_from (head s) s.key (middle s) ≡ fields_of s
-fields-again s r =
-    ap₂ (λ (x y : ℤ). record (fields_of s) { deadline = x; last_day = y }) (to_z-of_z w32 s.deadline r.deadline) (to_z-of_z w32 s.last_day r.last_day)
+fields-again : (v : ℕ) (s : State) → RangesIn v s → fields_from (head v s) s.key (middle s) ≡ fields_of v s
+fields-again v s r =
+    ap₂ (λ (x y : ℤ). record (fields_of v s) { deadline = x; last_day = y }) (to_z-of_z w32 s.deadline r.deadline) (to_z-of_z w32 s.last_day r.last_day)
 
-head_values : (s : State) (rest : List ℕ) → Ranges s → values 0 head_table (head_part s ++ rest) ≡ head s
+head_values : (v : ℕ) (s : State) (rest : List ℕ) → RangesIn v s → values 0 head_table (head_part v s ++ rest) ≡ head v s
 unfolding head_part
-head_values s rest r = values-row head_table (head s) [] rest 0 refl r.head
+head_values v s rest r = values-row head_table (head v s) [] rest 0 refl r.head
 
-middle_values : (s : State) (front rest : List ℕ) → Ranges s → length front ≡ 37 → values 37 middle_table (front ++ (middle_part s ++ rest)) ≡ middle s
+middle_values : (v : ℕ) (s : State) (front rest : List ℕ) → RangesIn v s → length front ≡ 37 → values 37 (middle_table v) (front ++ (middle_part v s ++ rest)) ≡ middle s
 unfolding middle_part
-middle_values s front rest r l = values-row middle_table (middle s) front rest 37 l r.middle
+middle_values v s front rest r l = values-row (middle_table v) (middle s) front rest 37 l r.middle
 
 -- WHAT IS SPELLED SO FALLS INTO THESE PARTS
-pub parts : (s : State) (bytes : List ℕ) → Ranges s → length (pending_part s.key s.pending) ≡ 71 → length (mark_part s.key s.mark) ≡ 64 → bytes_of s ≡ bytes → Parts s bytes
-unfolding bytes_of fields_at
-parts s bytes r lp lm e =
-    let p : List ℕ = pending_part s.key s.pending in
+pub parts : (v : ℕ) (s : State) (bytes : List ℕ) → RangesIn v s → length (pending_part v s.key s.pending) ≡ pending_room v → length (mark_part s.key s.mark) ≡ 64
+    → spelled v s ≡ bytes → Parts v s bytes
+unfolding spelled fields_at
+parts v s bytes r lp lm e =
+    let p : List ℕ = pending_part v s.key s.pending in
     let k : List ℕ = mark_part s.key s.mark in
-    let lh = length-head s r in
-    let lc = length-middle s r in
-    let all : drop 0 bytes ≡ head_part s ++ (s.key ++ (middle_part s ++ (p ++ k))) = sym e in
-    let s1 = falls_apart (head_part s) s.key (middle_part s ++ (p ++ k)) bytes 5 32 0 lh r.key all in
-    let s2 = falls_apart s.key (middle_part s) (p ++ k) bytes 32 37 5 r.key lc s1.0 in
-    let s3 = falls_apart (middle_part s) p k bytes 37 71 37 lc lp s2.0 in
-    let s4 = falls_apart p k [] bytes 71 64 74 lp lm (s3.0 ∙ ap (λ x. p ++ x) (sym (append-nil k))) in
-    let hs : values 0 head_table bytes ≡ head s = ap (values 0 head_table) (sym e) ∙ head_values s (s.key ++ (middle_part s ++ (p ++ k))) r in
-    let vs : values 37 middle_table bytes ≡ middle s =
-    ap (values 37 middle_table) (sym e ∙ sym (append_assoc (head_part s) s.key (middle_part s ++ (p ++ k)))) ∙ middle_values s (head_part s ++ s.key) (p ++ k) r (length-append (head_part s) s.key ∙ ap₂ (λ x y. x + y) lh r.key) in
+    let z : List ℕ = end_part v in
+    let lh = length-head v s r in
+    let lc = length-middle v s r in
+    let all : drop 0 bytes ≡ head_part v s ++ (s.key ++ (middle_part v s ++ (p ++ (k ++ z)))) = sym e in
+    let s1 = falls_apart (head_part v s) s.key (middle_part v s ++ (p ++ (k ++ z))) bytes 5 32 0 lh r.key all in
+    let s2 = falls_apart s.key (middle_part v s) (p ++ (k ++ z)) bytes 32 (room (middle_table v)) 5 r.key lc s1.0 in
+    let s3 = falls_apart (middle_part v s) p (k ++ z) bytes (room (middle_table v)) (pending_room v) 37 lc lp s2.0 in
+    let s4 = falls_apart p k z bytes (pending_room v) 64 (pending_place v) lp lm s3.0 in
+    let hs : values 0 head_table bytes ≡ head v s = ap (values 0 head_table) (sym e) ∙ head_values v s (s.key ++ (middle_part v s ++ (p ++ (k ++ z)))) r in
+    let vs : values 37 (middle_table v) bytes ≡ middle s =
+    ap (values 37 (middle_table v)) (sym e ∙ sym (append_assoc (head_part v s) s.key (middle_part v s ++ (p ++ (k ++ z)))))
+    ∙ middle_values v s (head_part v s ++ s.key) (p ++ (k ++ z)) r (length-append (head_part v s) s.key ∙ ap₂ (λ x y. x + y) lh r.key) in
     record {
-      fields = ap₂ (λ h v. fields_from h (take 32 (drop 5 bytes)) v) hs vs ∙ ap (λ x. fields_from (head s) x (middle s)) s2.1 ∙ fields-again s r;
+      fields = ap₂ (λ h w. fields_from h (take 32 (drop 5 bytes)) w) hs vs ∙ ap (λ x. fields_from (head v s) x (middle s)) s2.1 ∙ fields-again v s r;
       pending = s4.1;
-      mark = ap (take 64) (s4.0 ∙ append-nil k) ∙ take_all 64 k (omega (arith, lm));
+      mark = ap (take 64) s4.0 ∙ take_at k z 64 lm;
+      end = sym (drop-drop 64 (mark_place v) bytes) ∙ ap (drop 64) s4.0 ∙ drop_at k z 64 lm;
     }
 
 abbrev number_list : Fields → ℕ → ℕ → List ℕ
 number_list f x y = f.ascending ∷ f.descending ∷ f.refunded ∷ f.pieces ∷ f.number ∷ x ∷ y ∷ f.customer ∷ f.origin ∷ f.pending ∷ []
 
-middle-row : (bytes : List ℕ) (s : State) → IsBytes bytes → fields_at bytes ≡ fields_of s → values 37 middle_table bytes ≡ middle s
+middle-row : (v : ℕ) (bytes : List ℕ) (s : State) → IsBytes bytes → fields_at v bytes ≡ fields_of v s → values 37 (middle_table v) bytes ≡ middle s
 unfolding fields_at
-middle-row bytes s h e =
-    let fit : Fit middle_table (values 37 middle_table bytes) = values-fit middle_table 37 bytes h in
-    let d = of_z-to_z w32 (get_or (values 37 middle_table bytes) 5 0) fit.1.1.1.1.1.0 in
-    let t = of_z-to_z w32 (get_or (values 37 middle_table bytes) 6 0) fit.1.1.1.1.1.1.0 in
-    ap₂ (λ x y. number_list (fields_from (values 0 head_table bytes) (take 32 (drop 5 bytes)) (values 37 middle_table bytes)) x y) (sym d) (sym t)
+middle-row v bytes s h e =
+    let table : List Size = middle_table v in
+    let fit : Fit table (values 37 table bytes) = values-fit table 37 bytes h in
+    let d = of_z-to_z w32 (get_or (values 37 table bytes) 5 0) fit.1.1.1.1.1.0 in
+    let t = of_z-to_z w32 (get_or (values 37 table bytes) 6 0) fit.1.1.1.1.1.1.0 in
+    ap₂ (λ x y. number_list (fields_from (values 0 head_table bytes) (take 32 (drop 5 bytes)) (values 37 table bytes)) x y) (sym d) (sym t)
     ∙ ap (λ (f : Fields). number_list f (cast_unsigned w32 f.deadline) (cast_unsigned w32 f.last_day)) e
 
-head-row : (bytes : List ℕ) (s : State) → fields_at bytes ≡ fields_of s → values 0 head_table bytes ≡ head s
+head-row : (v : ℕ) (bytes : List ℕ) (s : State) → fields_at v bytes ≡ fields_of v s → values 0 head_table bytes ≡ head v s
 unfolding fields_at
-head-row bytes s e = ap (λ (f : Fields). f.device ∷ f.phase ∷ []) e
+head-row v bytes s e = ap (λ (f : Fields). f.device ∷ f.phase ∷ []) e
 
-key-part : (bytes : List ℕ) (s : State) → fields_at bytes ≡ fields_of s → take 32 (drop 5 bytes) ≡ s.key
+key-part : (v : ℕ) (bytes : List ℕ) (s : State) → fields_at v bytes ≡ fields_of v s → take 32 (drop 5 bytes) ≡ s.key
 unfolding fields_at
-key-part bytes s e = ap (λ (f : Fields). f.key) e
+key-part v bytes s e = ap (λ (f : Fields). f.key) e
+
+-- a part and what is behind it
+behind : (at n : ℕ) (bytes : List ℕ) → take n (drop at bytes) ++ drop (at + n) bytes ≡ drop at bytes
+behind at n bytes = ap (λ r. take n (drop at bytes) ++ r) (sym (drop-drop n at bytes)) ∙ take-append-drop n (drop at bytes)
 
 -- THE PARTS MAKE THE BYTES
-pub assembled : (s : State) (bytes : List ℕ) → length bytes ≡ 209 → IsBytes bytes → Parts s bytes → bytes_of s ≡ bytes
-unfolding bytes_of head_part middle_part
-assembled s bytes l h p =
-    let a : row head_table (head s) ≡ take 5 (drop 0 bytes) = ap (row head_table) (sym (head-row bytes s p.fields)) ∙ row-values head_table 0 bytes (omega (arith, l)) h in
-    let b : s.key ≡ take 32 (drop 5 bytes) = sym (key-part bytes s p.fields) in
-    let c : row middle_table (middle s) ≡ take 37 (drop 37 bytes) = ap (row middle_table) (sym (middle-row bytes s h p.fields)) ∙ row-values middle_table 37 bytes (omega (arith, l)) h in
-    let de : pending_part s.key s.pending ++ mark_part s.key s.mark ≡ take 135 (drop 74 bytes) = ap₂ (λ x y. x ++ y) (sym p.pending) (sym p.mark) ∙ joined 74 71 64 bytes in
-    let cde = ap₂ (λ x y. x ++ y) c de ∙ joined 37 37 135 bytes in
-    let bcde = ap₂ (λ x y. x ++ y) b cde ∙ joined 5 32 172 bytes in
-    ap₂ (λ x y. x ++ y) a bcde ∙ joined 0 5 204 bytes ∙ take_all 209 bytes (omega (arith, l))
+pub assembled : (v : ℕ) (s : State) (bytes : List ℕ) → 37 + room (middle_table v) ≤ length bytes → IsBytes bytes → Parts v s bytes → spelled v s ≡ bytes
+unfolding spelled head_part middle_part
+assembled v s bytes l h p =
+    let table : List Size = middle_table v in
+    let a : row head_table (head v s) ≡ take 5 (drop 0 bytes) =
+    ap (row head_table) (sym (head-row v bytes s p.fields)) ∙ row-values head_table 0 bytes (omega (arith, l)) h in
+    let b : s.key ≡ take 32 (drop 5 bytes) = sym (key-part v bytes s p.fields) in
+    let c : row table (middle s) ≡ take (room table) (drop 37 bytes) = ap (row table) (sym (middle-row v bytes s h p.fields)) ∙ row-values table 37 bytes l h in
+    let from_mark = ap₂ (λ x y. x ++ y) (sym p.mark) (sym p.end) ∙ behind (mark_place v) 64 bytes in
+    let from_pending = ap₂ (λ x y. x ++ y) (sym p.pending) from_mark ∙ behind (pending_place v) (pending_room v) bytes in
+    let from_middle = ap₂ (λ x y. x ++ y) c from_pending ∙ behind 37 (room table) bytes in
+    let from_key = ap₂ (λ x y. x ++ y) b from_middle ∙ behind 5 32 bytes in
+    ap₂ (λ x y. x ++ y) a from_key ∙ behind 0 5 bytes
 
 -- == what a record that holds gives ==
 
-pub length-pending : (key : List ℕ) (o : Option Request) → PendingWhole o → length (pending_part key o) ≡ 71
+-- a request without its code fits its room
+room-filled : (q : Request) → PendingWhole (Some q) → length (filled q) ≡ 55
+unfolding filled
+room-filled q w =
+    let front = length-body_of q w in
+    let rest = length-replicate {A = ℕ} (55 - length (body (m.Request q))) 0 in
+    let fits : length (body (m.Request q)) ≤ 55 = rw front (request_room-le q.version) in
+    length-append (body (m.Request q)) (replicate (55 - length (body (m.Request q))) 0) ∙ omega (arith, fits, rest)
+
+pub length-pending : (v : ℕ) (key : List ℕ) (o : Option Request) → PendingWhole o → (v ≡ 1 → (q : Request) → o ≡ Some q → q.version ≡ 1)
+    → length (pending_part v key o) ≡ pending_room v
 unfolding pending_part
-length-pending key None w = refl
-length-pending key (Some q) w = length-request q key w
+length-pending v key None w old = length-replicate {A = ℕ} (pending_room v) 0
+length-pending v key (Some q) w old = go (v == 1) (λ e. old (eqb-true v 1 e) q refl)
+  where
+    go : (b : Bool) → (b ≡ true → q.version ≡ 1) → length (if b then grammar.spell (m.Request q) key else filled q) ≡ (if b then 71 else 55)
+    go true first = length-request q key w ∙ ap (λ n. request_room n + 32) (first refl)
+    go false first = room-filled q w
 
 pub length-mark : (key : List ℕ) (o : Option Mark) → MarkWhole o → length (mark_part key o) ≡ 64
 unfolding mark_part
@@ -123,9 +155,21 @@ pub kept-at : (d : ℕ) (s : Sums) (o : Option Mark) → MarkOk d s o → IsKept
 kept-at d s None h = h
 kept-at d s (Some k) h = h.0
 
-pub parts-of : (s : State) (bytes : List ℕ) → Holds s → Ranges s → bytes_of s ≡ bytes → Parts s bytes
-parts-of s bytes h r e =
-    parts s bytes r (length-pending s.key s.pending (pending-whole s.device s.number s.phase s.registers s.pending h.pending)) (length-mark s.key s.mark (mark-whole s.device s.registers s.mark h.mark)) e
+old-pending : (o : Option Request) → IfSome o (λ q. q.version ≡ 1) → (q : Request) → o ≡ Some q → q.version ≡ 1
+old-pending None h q e = absurd (cc)
+old-pending (Some r) h q e = let same : r ≡ q = cc in ap (λ (x : Request). x.version) (sym same) ∙ h
+
+-- what is needed of a record to be spelled in a version
+pub record Spells (v : ℕ) (s : State) : Type 0 where
+  pub holds : Holds s
+  pub fits : RangesIn v s
+  pub old : v ≡ 1 → IsOld s
+
+pub parts-of : (v : ℕ) (s : State) (bytes : List ℕ) → Spells v s → spelled v s ≡ bytes → Parts v s bytes
+parts-of v s bytes h e =
+    parts v s bytes h.fits
+    (length-pending v s.key s.pending (pending-whole s.device s.number s.phase s.registers s.pending h.holds.pending) (λ one. old-pending s.pending (h.old one).pending))
+    (length-mark s.key s.mark (mark-whole s.device s.registers s.mark h.holds.mark)) e
 
 -- == each part has one spelling ==
 
@@ -151,15 +195,36 @@ same-phase Withdrawn Manufactured a b e = absurd (omega (arith, e))
 same-phase Withdrawn Authorised a b e = absurd (omega (arith, e))
 same-phase Withdrawn InService a b e = absurd (omega (arith, e))
 
+pub same-byte : (v : ℕ) (p q : Phase) → is_stored p ≡ true → is_stored q ≡ true → phase_byte v p ≡ phase_byte v q → p ≡ q
+same-byte v p q a b e = same-phase p q a b (go (v == 1) e)
+  where
+    go : (f : Bool) → (if f then phase_code p else phase_code p + 16) ≡ (if f then phase_code q else phase_code q + 16) → phase_code p ≡ phase_code q
+    go true h = h
+    go false h = omega (arith, h)
+
 request_same : {x y : Request} → m.Request x ≡ m.Request y → x ≡ y
 request_same h = cc
 
-pub same-pending : (key : List ℕ) (o p : Option Request) → PendingWhole o → PendingWhole p → flag_of o ≡ flag_of p → pending_part key o ≡ pending_part key p → o ≡ p
+-- bytes without their code, filled with zeros, are of one request
+same-filled : (q r : Request) → PendingWhole (Some q) → PendingWhole (Some r) → filled q ≡ filled r → q ≡ r
+unfolding filled
+same-filled q r v w e =
+    let version : q.version ≡ r.version = sym (request_version q _) ∙ ap (λ b. get_or b 0 0) e ∙ request_version r _ in
+    let long : length (body (m.Request q)) ≡ length (body (m.Request r)) = length-body_of q v ∙ ap request_room version ∙ sym (length-body_of r w) in
+    let bodies : body (m.Request q) ≡ body (m.Request r) =
+    sym (take_at (body (m.Request q)) _ (length (body (m.Request q))) refl) ∙ ap₂ (λ n b. take n b) long e ∙ take_at (body (m.Request r)) _ (length (body (m.Request r))) refl in
+    request_same (one-body (m.Request q) (m.Request r) refl refl v w bodies)
+
+pub same-pending : (v : ℕ) (key : List ℕ) (o p : Option Request) → PendingWhole o → PendingWhole p → flag_of o ≡ flag_of p → pending_part v key o ≡ pending_part v key p → o ≡ p
 unfolding pending_part
-same-pending key None None v w f e = refl
-same-pending key None (Some q) v w f e = absurd (omega (arith, f))
-same-pending key (Some q) None v w f e = absurd (omega (arith, f))
-same-pending key (Some q) (Some r) v w f e = ap (λ x. Some x) (request_same (one-spelling (m.Request q) (m.Request r) key v w e))
+same-pending n key None None v w f e = refl
+same-pending n key None (Some q) v w f e = absurd (omega (arith, f))
+same-pending n key (Some q) None v w f e = absurd (omega (arith, f))
+same-pending n key (Some q) (Some r) v w f e = ap (λ x. Some x) (go (n == 1) e)
+  where
+    go : (b : Bool) → (if b then grammar.spell (m.Request q) key else filled q) ≡ (if b then grammar.spell (m.Request r) key else filled r) → q ≡ r
+    go true h = request_same (one-spelling (m.Request q) (m.Request r) key v w h)
+    go false h = same-filled q r v w h
 
 ok_same : {A F : Type 0} {a b : A} → ◌≡◌ {A = Result A F} (Ok a) (Ok b) → a ≡ b
 ok_same h = cc
@@ -173,38 +238,9 @@ same-mark key n (Some q) (Some r) v w f g e =
     let pairs = ok_same (sym (read-spell q key v) ∙ ap marks.read_mark e ∙ read-spell r key w) in
     ap (λ (x : Mark × List ℕ). Some x.0) pairs
 
--- A record whose parts were read one by one, against one that spells the same bytes
-pub right-pending : (s : State) (bytes : List ℕ) (f : Fields) (p : Phase) (r : Sums) (o : Option Request) → Holds s → Ranges s → bytes_of s ≡ bytes → f ≡ fields_at bytes
-    → is_stored p ≡ true → phase_code p ≡ f.phase → r ≡ sums_of f → PendingWhole o → flag_of o ≡ f.pending → pending_part f.key o ≡ take 71 (drop 74 bytes)
-    → PendingOk f.device f.number p r o
-right-pending s bytes f p r o h g e i stored code sums whole flag part =
-    let ps = parts-of s bytes h g e in
-    let same : f ≡ fields_of s = i ∙ ps.fields in
-    let w = pending-whole s.device s.number s.phase s.registers s.pending h.pending in
-    let key : f.key ≡ s.key = ap (λ (x : Fields). x.key) same in
-    let is : o ≡ s.pending = same-pending s.key o s.pending whole w (flag ∙ ap (λ (x : Fields). x.pending) same) (ap (λ k. pending_part k o) (sym key) ∙ part ∙ ps.pending) in
-    let phase : p ≡ s.phase = same-phase p s.phase stored h.phase (code ∙ ap (λ (x : Fields). x.phase) same) in
-    let registers : r ≡ s.registers = sums ∙ ap sums_of same in
-    let device : f.device ≡ s.device = ap (λ (x : Fields). x.device) same in
-    let number : f.number ≡ s.number = ap (λ (x : Fields). x.number) same in
-    rw (is, phase, registers, device, number) h.pending
-
-pub right-mark : (s : State) (bytes : List ℕ) (f : Fields) (r : Sums) (o : Option Mark) → Holds s → Ranges s → bytes_of s ≡ bytes → f ≡ fields_at bytes
-    → r ≡ sums_of f → MarkWhole o → IsKeptAt f.pieces o → mark_part f.key o ≡ take 64 (drop 145 bytes) → MarkOk f.device r o
-right-mark s bytes f r o h g e i sums whole at part =
-    let ps = parts-of s bytes h g e in
-    let same : f ≡ fields_of s = i ∙ ps.fields in
-    let w = mark-whole s.device s.registers s.mark h.mark in
-    let key : f.key ≡ s.key = ap (λ (x : Fields). x.key) same in
-    let pieces : f.pieces ≡ s.registers.pieces = ap (λ (x : Fields). x.pieces) same in
-    let is : o ≡ s.mark = same-mark s.key f.pieces o s.mark whole w at (subst (λ n. IsKeptAt n s.mark) (sym pieces) (kept-at s.device s.registers s.mark h.mark)) (ap (λ k. mark_part k o) (sym key) ∙ part ∙ ps.mark) in
-    let registers : r ≡ s.registers = sums ∙ ap sums_of same in
-    let device : f.device ≡ s.device = ap (λ (x : Fields). x.device) same in
-    rw (is, registers, device) h.mark
-
-pub signed-again : (f : Fields) (bytes : List ℕ) → f ≡ fields_at bytes → (cast_signed w32 (cast_unsigned w32 f.deadline) ≡ f.deadline) × (cast_signed w32 (cast_unsigned w32 f.last_day) ≡ f.last_day)
+pub signed-again : (v : ℕ) (f : Fields) (bytes : List ℕ) → f ≡ fields_at v bytes → (cast_signed w32 (cast_unsigned w32 f.deadline) ≡ f.deadline) × (cast_signed w32 (cast_unsigned w32 f.last_day) ≡ f.last_day)
 unfolding fields_at
-signed-again f bytes e = (
+signed-again v f bytes e = (
   to_z-of_z w32 f.deadline (subst (λ (x : Fields). FitsSigned w32 x.deadline) (sym e) (read_sfits w32 _)),
   to_z-of_z w32 f.last_day (subst (λ (x : Fields). FitsSigned w32 x.last_day) (sym e) (read_sfits w32 _)),
 )
@@ -212,21 +248,21 @@ signed-again f bytes e = (
 abbrev fields : ℕ → ℕ → List ℕ → ℕ → ℕ → ℕ → ℕ → ℕ → ℤ → ℤ → ℕ → ℕ → ℕ → Fields
 fields d p key x y z n i t u c o f = record { device = d; phase = p; key = key; ascending = x; descending = y; refunded = z; pieces = n; number = i; deadline = t; last_day = u; customer = c; origin = o; pending = f }
 
-pub fields-made : (f : Fields) (d : ℕ) (p : Phase) (r : Sums) (t u : ℤ) (o : Option Request) (k : Option Mark)
-    → f.device ≡ d → phase_code p ≡ f.phase → r ≡ sums_of f → t ≡ f.deadline → u ≡ f.last_day → flag_of o ≡ f.pending
-    → f ≡ fields_of (record { device = d; phase = p; key = f.key; registers = r; number = f.number; deadline = t; last_day = u; customer = f.customer; origin = f.origin; pending = o; mark = k })
-fields-made f d p r t u o k hd hp hr ht hu ho =
+pub fields-made : (v : ℕ) (f : Fields) (d : ℕ) (p : Phase) (r : Sums) (t u : ℤ) (o : Option Request) (k : Option Mark)
+    → f.device ≡ d → phase_byte v p ≡ f.phase → r ≡ sums_of f → t ≡ f.deadline → u ≡ f.last_day → flag_of o ≡ f.pending
+    → f ≡ fields_of v (record { device = d; phase = p; key = f.key; registers = r; number = f.number; deadline = t; last_day = u; customer = f.customer; origin = f.origin; pending = o; mark = k })
+fields-made v f d p r t u o k hd hp hr ht hu ho =
     let a : f.ascending ≡ r.ascending = ap (λ (x : Sums). x.ascending) (sym hr) in
     let b : f.descending ≡ r.descending = ap (λ (x : Sums). x.descending) (sym hr) in
     let c : f.refunded ≡ r.refunded = ap (λ (x : Sums). x.refunded) (sym hr) in
     let n : f.pieces ≡ r.pieces = ap (λ (x : Sums). x.pieces) (sym hr) in
     let whole : fields f.device f.phase f.key f.ascending f.descending f.refunded f.pieces f.number f.deadline f.last_day f.customer f.origin f.pending
-    ≡ fields d (phase_code p) f.key r.ascending r.descending r.refunded r.pieces f.number t u f.customer f.origin (flag_of o) = cc in
+    ≡ fields d (phase_byte v p) f.key r.ascending r.descending r.refunded r.pieces f.number t u f.customer f.origin (flag_of o) = cc in
     whole
 
 -- the numbers of a record fit where those that were written do, whatever stands for the days
-pub fits-of : (s : State) (flag x y : ℕ) → Fit head_table (head s) → length s.key ≡ 32 → flag ≡ flag_of s.pending
-    → Fit middle_table (s.registers.ascending ∷ s.registers.descending ∷ s.registers.refunded ∷ s.registers.pieces ∷ s.number ∷ x ∷ y ∷ s.customer ∷ s.origin ∷ flag ∷ [])
+pub fits-of : (s : State) (flag x y : ℕ) → Fit head_table (head 2 s) → length s.key ≡ 32 → flag ≡ flag_of s.pending
+    → Fit (middle_table 2) (s.registers.ascending ∷ s.registers.descending ∷ s.registers.refunded ∷ s.registers.pieces ∷ s.number ∷ x ∷ y ∷ s.customer ∷ s.origin ∷ flag ∷ [])
     → FitsSigned w32 s.deadline → FitsSigned w32 s.last_day → Ranges s
 fits-of s flag x y head key is f ft fu =
     let deadline : Fits32 w32 (cast_unsigned w32 s.deadline) = Fits-of_z ft in
@@ -281,18 +317,20 @@ state d p key x y z k n t u c o q m = record {
   mark = m;
 }
 
--- no two records have one spelling
-pub one-payload : (s t : State) → Holds s → Holds t → Ranges s → Ranges t → bytes_of s ≡ bytes_of t → s ≡ t
-one-payload s t hs ht rs rt e =
-    let ps = parts-of s (bytes_of t) hs rs e in
-    let pt = parts-of t (bytes_of t) ht rt refl in
-    let f : fields_of s ≡ fields_of t = sym ps.fields ∙ pt.fields in
+-- no two records have one spelling in a version
+pub one-spelled : (v : ℕ) (s t : State) → Spells v s → Spells v t → spelled v s ≡ spelled v t → s ≡ t
+one-spelled v s t gs gt e =
+    let hs = gs.holds in
+    let ht = gt.holds in
+    let ps = parts-of v s (spelled v t) gs e in
+    let pt = parts-of v t (spelled v t) gt refl in
+    let f : fields_of v s ≡ fields_of v t = sym ps.fields ∙ pt.fields in
     let key : s.key ≡ t.key = ap (λ (x : Fields). x.key) f in
     let pieces : s.registers.pieces ≡ t.registers.pieces = ap (λ (x : Fields). x.pieces) f in
-    let phase : s.phase ≡ t.phase = same-phase s.phase t.phase hs.phase ht.phase (ap (λ (x : Fields). x.phase) f) in
+    let phase : s.phase ≡ t.phase = same-byte v s.phase t.phase hs.phase ht.phase (ap (λ (x : Fields). x.phase) f) in
     let pending : s.pending ≡ t.pending =
-    same-pending s.key s.pending t.pending (pending-whole s.device s.number s.phase s.registers s.pending hs.pending) (pending-whole t.device t.number t.phase t.registers t.pending ht.pending)
-    (ap (λ (x : Fields). x.pending) f) (sym ps.pending ∙ pt.pending ∙ ap (λ k. pending_part k t.pending) (sym key)) in
+    same-pending v s.key s.pending t.pending (pending-whole s.device s.number s.phase s.registers s.pending hs.pending) (pending-whole t.device t.number t.phase t.registers t.pending ht.pending)
+    (ap (λ (x : Fields). x.pending) f) (sym ps.pending ∙ pt.pending ∙ ap (λ k. pending_part v k t.pending) (sym key)) in
     let mark : s.mark ≡ t.mark =
     same-mark s.key s.registers.pieces s.mark t.mark (mark-whole s.device s.registers s.mark hs.mark) (mark-whole t.device t.registers t.mark ht.mark)
     (kept-at s.device s.registers s.mark hs.mark) (subst (λ n. IsKeptAt n t.mark) (sym pieces) (kept-at t.device t.registers t.mark ht.mark))
@@ -309,3 +347,103 @@ one-payload s t hs ht rs rt e =
     let whole : state s.device s.phase s.key s.registers.ascending s.registers.descending s.registers.refunded s.registers.pieces s.number s.deadline s.last_day s.customer s.origin s.pending s.mark
     ≡ state t.device t.phase t.key t.registers.ascending t.registers.descending t.registers.refunded t.registers.pieces t.number t.deadline t.last_day t.customer t.origin t.pending t.mark = cc in
     whole
+
+-- == both versions ==
+
+-- the byte of the phase
+byte_of_phase : (v : ℕ) (s : State) (bytes : List ℕ) → Parts v s bytes → get_or bytes 4 0 ≡ phase_byte v s.phase
+unfolding fields_at
+byte_of_phase v s bytes p = sym (byte_of 4 bytes) ∙ ap (λ (f : Fields). f.phase) p.fields
+
+pub stored-code : (p : Phase) → is_stored p ≡ true → (1 ≤ phase_code p) × (phase_code p ≤ 4)
+stored-code Manufactured h = (omega arith, omega arith)
+stored-code Authorised h = (omega arith, omega arith)
+stored-code InService h = (omega arith, omega arith)
+stored-code Withdrawn h = (omega arith, omega arith)
+stored-code Blank h = absurd (true≢false (sym h))
+stored-code Locked h = absurd (true≢false (sym h))
+
+-- what version 1 can spell fits its fields
+pub old-fits : (s : State) → Holds s → Ranges s → IsOld s → RangesIn 1 s
+old-fits s h r old =
+    let within = old.total in
+    let code = stored-code s.phase h.phase in
+    let f = r.middle in
+    record {
+      head = (r.head.0, (omega (arith, code.1), tt));
+      key = r.key;
+      middle = (omega (arith, within), (omega (arith, within), (omega (arith, within), f.1.1.1)));
+      deadline = r.deadline;
+      last_day = r.last_day;
+    }
+
+pub spells-old : (s : State) → Holds s → Ranges s → IsOld s → Spells 1 s
+spells-old s h r old = record { holds = h; fits = old-fits s h r old; old = λ _. old }
+
+pub spells-new : (s : State) → Holds s → Ranges s → Spells 2 s
+spells-new s h r = record { holds = h; fits = r; old = λ e. absurd (omega (arith, e)) }
+
+-- the byte of the phase tells the version
+pub byte-old : (s : State) (bytes : List ℕ) → Spells 1 s → spelled 1 s ≡ bytes → get_or bytes 4 0 < 16
+byte-old s bytes g e =
+    let code = stored-code s.phase g.holds.phase in
+    omega (arith, byte_of_phase 1 s bytes (parts-of 1 s bytes g e), code.1)
+
+pub byte-new : (s : State) (bytes : List ℕ) → Spells 2 s → spelled 2 s ≡ bytes → 16 ≤ get_or bytes 4 0
+byte-new s bytes g e = omega (arith, byte_of_phase 2 s bytes (parts-of 2 s bytes g e))
+
+-- a low byte stands in no payload of version 2, and a high one in none of version 1
+pub not-second : (payload : List ℕ) (s : State) → get_or payload 4 0 < 16 → ReadsAs payload s → (IsOld s → spelled 1 s ≡ payload → ⊥) → ⊥
+not-second payload s low r none = go r.reads
+  where
+    go : (bytes_of s ≡ payload) ⊎ (IsOld s × (spelled 1 s ≡ payload)) → ⊥
+    go (inl e) = absurd (omega (arith, low, byte-new s payload (spells-new s r.holds r.fits) e))
+    go (inr e) = none e.0 e.1
+
+pub not-first : (payload : List ℕ) (s : State) → 16 ≤ get_or payload 4 0 → ReadsAs payload s → (bytes_of s ≡ payload → ⊥) → ⊥
+not-first payload s high r none = go r.reads
+  where
+    go : (bytes_of s ≡ payload) ⊎ (IsOld s × (spelled 1 s ≡ payload)) → ⊥
+    go (inl e) = none e
+    go (inr e) = absurd (omega (arith, high, byte-old s payload (spells-old s r.holds r.fits e.0) e.1))
+
+-- A PAYLOAD READS AS ONE RECORD
+pub one-reading : (payload : List ℕ) (s t : State) → ReadsAs payload s → ReadsAs payload t → s ≡ t
+one-reading payload s t a b = go a.reads b.reads
+  where
+    new : (x : State) → ReadsAs payload x → Spells 2 x
+    new x r = spells-new x r.holds r.fits
+
+    old : (x : State) → ReadsAs payload x → IsOld x → Spells 1 x
+    old x r o = spells-old x r.holds r.fits o
+
+    go : (bytes_of s ≡ payload) ⊎ (IsOld s × (spelled 1 s ≡ payload)) → (bytes_of t ≡ payload) ⊎ (IsOld t × (spelled 1 t ≡ payload)) → s ≡ t
+    go (inl x) (inl y) = one-spelled 2 s t (new s a) (new t b) (x ∙ sym y)
+    go (inl x) (inr y) = absurd (omega (arith, byte-new s payload (new s a) x, byte-old t payload (old t b y.0) y.1))
+    go (inr x) (inl y) = absurd (omega (arith, byte-new t payload (new t b) y, byte-old s payload (old s a x.0) x.1))
+    go (inr x) (inr y) = one-spelled 1 s t (old s a x.0) (old t b y.0) (x.1 ∙ sym y.1)
+
+pub one-payload : (s t : State) → Holds s → Holds t → Ranges s → Ranges t
+    → (bytes_of s ≡ bytes_of t → s ≡ t) × (IsOld s → IsOld t → spelled 1 s ≡ spelled 1 t → s ≡ t)
+one-payload s t hs ht rs rt = (
+  λ e. one-spelled 2 s t (spells-new s hs rs) (spells-new t ht rt) e,
+  λ a b e. one-spelled 1 s t (spells-old s hs rs a) (spells-old t ht rt b) e,
+)
+
+-- == the fields, as they are read one by one ==
+
+pub byte-number : (n : ℕ) (bytes : List ℕ) → get_or bytes n 0 ≡ number One (take 1 (drop n bytes))
+byte-number n bytes = sym (byte_of n bytes)
+
+pub signed-number : (r : ℤ) (n : ℕ) → r ≡ cast_signed w32 n → cast_signed w32 (cast_unsigned w32 r) ≡ cast_signed w32 n
+signed-number r n e = to_z-of_z w32 r (subst (FitsSigned w32) (sym e) (read_sfits w32 n)) ∙ e
+
+pub fields-read : (v : ℕ) (bytes key : List ℕ) (d p x y z k n c o f : ℕ) (t u : ℤ)
+    → d ≡ get_or (values 0 head_table bytes) 0 0 → p ≡ get_or (values 0 head_table bytes) 1 0 → key ≡ take 32 (drop 5 bytes)
+    → x ≡ get_or (values 37 (middle_table v) bytes) 0 0 → y ≡ get_or (values 37 (middle_table v) bytes) 1 0 → z ≡ get_or (values 37 (middle_table v) bytes) 2 0
+    → k ≡ get_or (values 37 (middle_table v) bytes) 3 0 → n ≡ get_or (values 37 (middle_table v) bytes) 4 0
+    → t ≡ cast_signed w32 (get_or (values 37 (middle_table v) bytes) 5 0) → u ≡ cast_signed w32 (get_or (values 37 (middle_table v) bytes) 6 0)
+    → c ≡ get_or (values 37 (middle_table v) bytes) 7 0 → o ≡ get_or (values 37 (middle_table v) bytes) 8 0 → f ≡ get_or (values 37 (middle_table v) bytes) 9 0
+    → ◌≡◌ {A = Fields} (record { device = d; phase = p; key = key; ascending = x; descending = y; refunded = z; pieces = k; number = n; deadline = t; last_day = u; customer = c; origin = o; pending = f }) (fields_at v bytes)
+unfolding fields_at
+fields-read v bytes key d p x y z k n c o f t u hd hp hk hx hy hz hn hm ht hu hc ho hf = cc

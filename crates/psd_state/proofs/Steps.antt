@@ -57,7 +57,7 @@ pub record Ends (d n : ℕ) (v : Verdict) (q : Request) (r : ReplyMsg) (C : List
   pub origin : r.origin ≡ origin_in (registered d C)
   -- what the record keeps of what is outstanding
   pub allowed : is_allowed q.kind (phase d C) ≡ true
-  pub amount : IsAmount q.kind q.amount (state_of d [] C).registers
+  pub amount : IsAmount q.kind q.version q.amount (state_of d [] C).registers
   -- nothing is cut off
   pub funds : ascending d C + refunded d C ≤ loaded d C
 
@@ -97,7 +97,7 @@ phase-enrol false false false h = refl
 
 by_kind : (d n : ℕ) (key : List ℕ) (C : List Commit) (g : Bool) (k : Kind) (q : Request) (r : ReplyMsg) → q.number ≡ n
     → ((g && (same_kind k Reset || same_kind k Audit)) ≡ true → r.deadline ≡ q.day +ℤ pos 92) → r.origin ≡ origin_in (registered d C)
-    → is_allowed k (phase d C) ≡ true → IsAmount k q.amount (state_of d [] C).registers → ascending d C + refunded d C ≤ loaded d C
+    → is_allowed k (phase d C) ≡ true → IsAmount k q.version q.amount (state_of d [] C).registers → ascending d C + refunded d C ≤ loaded d C
     → applied_to d key C n g k q None ≡ ended_to g k (state_of d key C) q r
 unfolding same_kind
 by_kind d n key C false k q r i t o a x f =

@@ -118,11 +118,16 @@ HoldsAfter (Again x) = Unit {0}
 
 -- == ask ==
 
+-- past the deadline no reset is asked for: it is the other side of the days of grace
+abbrev pub is_late : Rules → ℤ → ℤ → Bool
+is_late ρ today deadline = nat_lt 0 ρ.grace && lt_z deadline today
+
 -- in which cases a transaction is not asked for, where none is outstanding
 abbrev pub ask_rows : Rules → State → Kind → ℕ → ℤ → List (Bool × Result (State × List ℕ) DevRefusal)
 ask_rows ρ s k a today =
     (not (is_allowed k s.phase), Err (no.Phase s.phase))
     ∷ (lt_z today s.last_day, Err (no.ClockBack s.last_day))
+    ∷ (same_kind k Reset && is_late ρ today s.deadline, Err (no.Due s.deadline))
     ∷ (same_kind k Reset && ((a == 0) || nat_lt 10000000 a), Err (no.BadAmount a))
     ∷ (same_kind k Reset && nat_lt ρ.total (total s.registers + a), Err (no.TotalFull (total s.registers)))
     ∷ (nat_le 4294967295 s.number, Err no.NumberFull)

@@ -12,7 +12,7 @@ use Rattle.psd_wire.specs.declared.message.DebitMsg.{DebitMsg}
 use Rattle.ledger_terms.specs.Devices.{key_of, pending}
 use Rattle.psd_state.specs.State.{State, Holds}
 use Rattle.psd_state.specs.Answers.{made_state, ask_answer, debit_answer, apply_answer, resend_answer}
-use Rattle.psd_state.specs.Payload.{bytes_of, Ranges}
+use Rattle.psd_state.specs.Payload.{bytes_of, spelled, Ranges, IsOld, ReadsAs}
 use Rattle.psd_state.specs.declared.debiting.Debited.TheVariants.{New}
 use Rattle.psd_state.specs.Records.{IsRecordOf, IsRuled, InOrder, ruled_reply}
 
@@ -46,9 +46,14 @@ abbrev pub OthersKeep : Type 0
 OthersKeep = (d : ℕ) (C : List Commit) (s : State) (c : Commit) → same_node (node_of c) (Device d) ≡ false → InOrder d (c ∷ C) → IsRecordOf s d C
     → IsRecordOf s d (c ∷ C)
 
--- records of one spelling are one record
+-- a payload reads as one record at most, whatever its version
+abbrev pub OneReading : Type 0
+OneReading = (payload : List ℕ) (s t : State) → ReadsAs payload s → ReadsAs payload t → s ≡ t
+
+-- records of one spelling are one record, in each version
 abbrev pub OnePayload : Type 0
-OnePayload = (s t : State) → Holds s → Holds t → Ranges s → Ranges t → bytes_of s ≡ bytes_of t → s ≡ t
+OnePayload = (s t : State) → Holds s → Holds t → Ranges s → Ranges t
+    → (bytes_of s ≡ bytes_of t → s ≡ t) × (IsOld s → IsOld t → spelled 1 s ≡ spelled 1 t → s ≡ t)
 
 -- what is sent again is the note of the last Asked, byte for byte
 abbrev pub ResendingRepeats : Type 0

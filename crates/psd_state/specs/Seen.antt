@@ -1,5 +1,6 @@
 -- The record of a device as the bench sees it, with the count of its one cell.
 use Rattle.std.specs.Prelude.{ℕ, ◌+◌, Option, Some, ◌==◌}
+use Rattle.bench_base.specs.declared.sizes.TheConstants.{MOST_COMMITS}
 use Rattle.node_acts.specs.Views.{Counting}
 use Rattle.psd_state.specs.State.{State}
 
@@ -13,6 +14,6 @@ pub record Seen : Type 0 where
 abbrev pub counting : Counting Seen State
 counting = record {
   count = λ s. s.count;
-  is_worn = λ s x. s.count == 4294967295;
+  is_worn = λ s x. s.count == MOST_COMMITS;
   after = λ s x. record { count = s.count + 1; state = Some x };
 }

@@ -1,16 +1,18 @@
 -- A device's record, as its callers see it, and what holds of each. Money is in mills, days are since 1970-01-01.
-use Rattle.std.specs.Prelude.{◌≡◌, ℕ, ℤ, ◌+◌, ◌≤◌, ◌<◌, Bool, true, false, List, Option, Some, None}
+use Rattle.std.specs.Prelude.{◌≡◌, ℕ, ℤ, ◌+◌, ◌≤◌, ◌<◌, Bool, true, false, List, replicate, Option, Some, None}
 use Rattle.bench_base.specs.declared.words.Kind.{Kind}
 use Rattle.bench_base.specs.declared.words.Kind.TheVariants.{Enrol, Reset, Audit, Refund, Withdraw}
 use Rattle.bench_base.specs.Kinds.{is_allowed}
 use Rattle.bench_base.specs.declared.words.Phase.{Phase}
 use Rattle.bench_base.specs.declared.words.Phase.TheVariants.{Manufactured, Authorised, InService, Withdrawn}
+use Rattle.hmac_core.specs.Hmac.{hmac}
 use Rattle.indicium.specs.declared.Mark.{Mark}
 use Rattle.indicium.specs.Marks as marks
 use Rattle.psd_wire.specs.declared.message.Request.{Request}
 use Rattle.psd_wire.specs.declared.message.Message.TheVariants as m
 use Rattle.psd_wire.specs.Grammar as grammar
-use Rattle.registers.specs.Sums.{Sums, Sound, total, limit}
+use Rattle.ledger_terms.specs.Rulings.{buys_limit}
+use Rattle.registers.specs.Sums.{Sums, Sound, total}
 
 pub record State : Type 0 where
   pub device : ℕ
@@ -39,13 +41,13 @@ is_stored InService = true
 is_stored Withdrawn = true
 is_stored _ = false
 
--- the amount that may be asked for
-abbrev pub IsAmount : Kind → ℕ → Sums → Type 0
-IsAmount Reset a s = (1 ≤ a) × (a ≤ 10000000) × (total s + a ≤ limit)
-IsAmount Refund a s = a ≡ s.descending
-IsAmount Withdraw a s = a ≡ s.descending
-IsAmount Enrol a s = a ≡ 0
-IsAmount Audit a s = a ≡ 0
+-- the amount that a request of this version may ask for
+abbrev pub IsAmount : Kind → ℕ → ℕ → Sums → Type 0
+IsAmount Reset version a s = (1 ≤ a) × (a ≤ 10000000) × (total s + a ≤ buys_limit version)
+IsAmount Refund version a s = a ≡ s.descending
+IsAmount Withdraw version a s = a ≡ s.descending
+IsAmount Enrol version a s = a ≡ 0
+IsAmount Audit version a s = a ≡ 0
 
 -- a request that may be outstanding on the device d, whose last transaction is n, in this phase and with these registers
 pub record IsPending (d n : ℕ) (p : Phase) (s : Sums) (q : Request) : Type 0 where
@@ -53,7 +55,7 @@ pub record IsPending (d n : ℕ) (p : Phase) (s : Sums) (q : Request) : Type 0 w
   pub device : q.device ≡ d
   pub number : q.number ≡ n + 1
   pub kind : is_allowed q.kind p ≡ true
-  pub amount : IsAmount q.kind q.amount s
+  pub amount : IsAmount q.kind q.version q.amount s
 
 -- a mark of the device's last piece
 pub record IsKept (d : ℕ) (s : Sums) (k : Mark) : Type 0 where
@@ -78,3 +80,8 @@ pub record Holds (s : State) : Type 0 where
   pub registers : Sound s.registers
   pub pending : PendingOk s.device s.number s.phase s.registers s.pending
   pub mark : MarkOk s.device s.registers s.mark
+
+-- the code of the kept mark, and zeros where there is none
+abbrev pub kept_code : List ℕ → Option Mark → List ℕ
+kept_code key None = replicate 32 0
+kept_code key (Some k) = hmac key (marks.body k)

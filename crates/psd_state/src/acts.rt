@@ -7,6 +7,7 @@ ghost use Rattle.psd_state.specs.Acts as act_of;
 
 use crate::debiting::Debited;
 use crate::record::DevRec;
+use crate::words::VERSION;
 use bench_base::bytes::Note;
 use bench_base::events::DevView as DevStatus;
 use bench_base::ledger::Commit;
@@ -52,7 +53,7 @@ pub fn debit_commit(device: DevNo, command: &DebitMsg, day: DayNo) -> Commit
         command.postage,
         command.class,
         day,
-        1,
+        VERSION,
     )
 }
 

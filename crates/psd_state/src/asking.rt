@@ -1,6 +1,6 @@
 //! Transactions: what a device asks its centre for, once and again, and what it tells of the last one.
 ghost use Rattle.std.specs.Prelude.{◌≡◌, IfOk};
-ghost use Rattle.bench_base.specs.Rules.{first_rules};
+ghost use Rattle.bench_base.specs.Rules.{todays_rules};
 ghost use Rattle.psd_wire.specs.declared.message.Message.TheVariants as m;
 ghost use Rattle.psd_wire.specs.Grammar.{IsWhole, spell};
 ghost use Rattle.psd_state.specs.State.{Holds};
@@ -8,12 +8,12 @@ ghost use Rattle.psd_state.specs.Answers as answers;
 ghost use Rattle.psd_state.specs.Answers.{ask_answer, resend_answer, done_answer};
 
 use crate::record::DevRec;
-use crate::words::{is_allowed, is_reset};
+use crate::words::{VERSION, is_allowed, is_reset};
 use bench_base::bytes::Note;
 use bench_base::numbers::DayNo;
 use bench_base::refusals::DevRefusal;
 use bench_base::words::{Key, Kind};
-use psd_audit::clock_back;
+use psd_audit::{clock_back, is_due};
 use psd_wire::{DoneMsg, Message, Request, write_message};
 use registers::TOTAL_LIMIT;
 
@@ -25,8 +25,8 @@ impl DevRec {
     ///
     /// The customer counts for an enrolment only, and the amount, in mills, for a reset only. The first refusal that
     /// holds: `Busy` where a transaction is outstanding, `Phase` where the kind may not be asked for in the stored
-    /// phase, `ClockBack` where the day is before the last one, `BadAmount` where a reset is of 0 or above 10,000,000,
-    /// `TotalFull` where it would take the sum of all registers above its limit, `NumberFull` where the last number
+    /// phase, `ClockBack` where the day is before the last one, `Due` where a reset is asked for after the deadline,
+    /// `BadAmount` where a reset is of 0 or above 10,000,000, `TotalFull` where it would take the sum of all registers above its limit, `NumberFull` where the last number
     /// was 4,294,967,295.
     #[tactic(auto, unfolding(bench_base::specs::Kinds::same_kind))]
     pub fn ask(
@@ -36,7 +36,7 @@ impl DevRec {
         amount: u32,
         day: DayNo,
     ) -> Result<(DevRec, Note), DevRefusal>
-        ensures exact { result ≡ ask_answer first_rules self.now kind customer amount day }
+        ensures exact { result ≡ ask_answer todays_rules self.now kind customer amount day }
         ensures sound { IfOk result (λ x. Holds x.0) }
     {
         if let Some(request) = self.pending {
@@ -49,6 +49,9 @@ impl DevRec {
             return Err(DevRefusal::ClockBack(self.last_day));
         }
         let reset = is_reset(kind);
+        if reset && is_due(day, self.deadline) {
+            return Err(DevRefusal::Due(self.deadline));
+        }
         if reset && (amount == 0 || amount > RESET_LIMIT) {
             return Err(DevRefusal::BadAmount(amount));
         }
@@ -60,7 +63,7 @@ impl DevRec {
             return Err(DevRefusal::NumberFull);
         }
         let request = Request {
-            version: 1,
+            version: VERSION,
             device: self.device.get(),
             number: self.number + 1,
             kind,
@@ -81,7 +84,7 @@ impl DevRec {
         Ok((asked, note))
     }
 
-    /// The request that is outstanding, byte for byte as it was sent. `NothingPending` where there is none.
+    /// The request that is outstanding, byte for byte as it was sent, in its own version. `NothingPending` where there is none.
     pub fn resend(&self) -> Result<Note, DevRefusal>
         ensures exact { result ≡ resend_answer self.now self.now.pending }
     {

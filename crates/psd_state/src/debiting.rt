@@ -1,17 +1,17 @@
 //! Debits: the mark of a piece, once and again.
-ghost use Rattle.std.specs.Prelude.{◌≡◌, IfOk};
-ghost use Rattle.bench_base.specs.Rules.{first_rules};
+ghost use Rattle.std.specs.Prelude.{◌≡◌, Some, IfOk};
+ghost use Rattle.bench_base.specs.Rules.{todays_rules};
 ghost use Rattle.indicium.specs.Marks as marks;
 ghost use Rattle.psd_state.specs.Answers as answers;
 ghost use Rattle.psd_state.specs.Answers.{debit_answer, new_answer, HoldsAfter};
 
 use crate::record::DevRec;
-use crate::words::{empties, is_in_service};
+use crate::words::{VERSION, empties, is_in_service};
 use bench_base::numbers::{DayNo, DevNo};
 use bench_base::refusals::DevRefusal;
-use bench_base::words::{Key, Kind};
-use indicium::{Mark, write_indicium};
-use psd_audit::{clock_back, is_due};
+use bench_base::words::Kind;
+use indicium::{Mark, code_of, write_coded};
+use psd_audit::{clock_back, is_overdue};
 use psd_wire::{DebitMsg, Request};
 use registers::Registers;
 
@@ -31,24 +31,38 @@ impl DevRec {
     /// The first refusal that holds: `WrongDevice` where another device is named; `Conflict` where the piece is the
     /// last one, with another postage or class; `WrongPiece` where it is not the next; `Phase` where the stored phase
     /// is not in service; `Frozen` where a refund or withdrawal is outstanding; `ClockBack` where the day is before
-    /// the last one; `Due` where it is after the deadline; `BadAmount` where the postage is 0 or above 100,000 mills;
+    /// the last one; `Due` where it is more than seven days after the deadline, or after it and the postage is above
+    /// 1,000 mills; `BadAmount` where the postage is 0 or above 100,000 mills;
     /// `NoFunds` where it is more than the descending register.
     pub fn debit(&self, command: &DebitMsg, day: DayNo) -> Result<Debited, DevRefusal>
-        ensures exact { result ≡ debit_answer first_rules self.now command.now day }
+        ensures exact { result ≡ debit_answer todays_rules self.now command.now day }
         ensures sound { IfOk result HoldsAfter }
     {
         if command.device != self.device.get() {
             return Err(DevRefusal::WrongDevice(command.device));
         }
         match repeated(&self.mark, command.piece) {
-            Some(mark) => again(command, &mark, &self.key),
+            Some(mark) => self.again(command, &mark),
             None => self.debit_new(command, day),
         }
     }
 
+    // A debit of the piece that was marked last, whose code was kept.
+    fn again(&self, command: &DebitMsg, mark: &Mark) -> Result<Debited, DevRefusal>
+        requires { self.now.mark ≡ Some mark.now }
+        ensures { result ≡ answers.again command.now self.now.key mark.now }
+    {
+        if mark.postage == command.postage && mark.class == command.class {
+            Ok(Debited::Again(write_coded(mark, &self.code)))
+        } else {
+            Err(DevRefusal::Conflict(mark.postage, mark.class))
+        }
+    }
+
     // Marks a piece that was not marked before.
+    #[tactic(auto, unfolding(indicium::specs::Marks::spell))]
     fn debit_new(&self, command: &DebitMsg, day: DayNo) -> Result<Debited, DevRefusal>
-        ensures exact { result ≡ new_answer first_rules self.now command.now day }
+        ensures exact { result ≡ new_answer todays_rules self.now command.now day }
         ensures sound { IfOk result HoldsAfter }
     {
         let pieces = self.registers.pieces();
@@ -65,7 +79,7 @@ impl DevRec {
         if clock_back(day, self.last_day) {
             return Err(DevRefusal::ClockBack(self.last_day));
         }
-        if is_due(day, self.deadline) {
+        if is_overdue(day, self.deadline, command.postage) {
             return Err(DevRefusal::Due(self.deadline));
         }
         if command.postage == 0 || command.postage > POSTAGE_LIMIT {
@@ -76,26 +90,16 @@ impl DevRec {
             Err(left) => return Err(DevRefusal::NoFunds(left)),
         };
         let mark = mark_for(self.device, self.origin, *command, &registers, day);
-        let bytes = write_indicium(&mark, &self.key);
+        let code = code_of(&mark, &self.key);
+        let bytes = write_coded(&mark, &code);
         let franked = DevRec {
             registers,
             last_day: day.get(),
             mark: Some(mark),
+            code,
             ..*self
         };
         Ok(Debited::New(franked, bytes))
-    }
-}
-
-// A debit of the piece that was marked last.
-fn again(command: &DebitMsg, mark: &Mark, key: &Key) -> Result<Debited, DevRefusal>
-    requires { marks.IsWhole mark.now }
-    ensures { result ≡ answers.again command.now key.now mark.now }
-{
-    if mark.postage == command.postage && mark.class == command.class {
-        Ok(Debited::Again(write_indicium(mark, key)))
-    } else {
-        Err(DevRefusal::Conflict(mark.postage, mark.class))
     }
 }
 
@@ -127,11 +131,11 @@ fn mark_for(
     registers: &Registers,
     day: DayNo,
 ) -> Mark
-    ensures value { result ≡ answers.mark_of first_rules device origin command registers.now day }
+    ensures value { result ≡ answers.mark_of todays_rules device origin command registers.now day }
     ensures whole { marks.IsWhole result }
 {
     Mark {
-        version: 1,
+        version: VERSION,
         device: device.get(),
         piece: command.piece,
         postage: command.postage,

@@ -1,14 +1,16 @@
 //! The record as the 209 bytes that are kept in storage.
-ghost use Rattle.std.specs.Prelude.{◌≡◌, ◌++◌, ◌↔◌, IfSome, IfNone, IsSome, IsTrue, length, FitsSigned};
+ghost use Rattle.std.specs.Prelude.{◌≡◌, ◌≤◌, ◌+◌, ◌++◌, ◌↔◌, IfSome, IfNone, IsSome, IsTrue, length, replicate, FitsSigned};
 ghost use Rattle.std.specs.Int.{w32};
-ghost use Rattle.registers.specs.Sums.{Sound};
-ghost use Rattle.psd_state.specs.State.{State, Holds, PendingOk, MarkOk, IsAmount};
-ghost use Rattle.psd_state.specs.Payload.{bytes_of, Ranges, PendingWhole, MarkWhole, sums_of};
+ghost use Rattle.bench_base.specs.Rules.{IsVersion};
+ghost use Rattle.registers.specs.Sums.{Sound, total};
+ghost use Rattle.psd_state.specs.State.{State, Holds, PendingOk, MarkOk, IsAmount, kept_code};
+ghost use Rattle.psd_state.specs.Payload.{bytes_of, spelled, pending_part, mark_part, fields_of as fields_in, Ranges, IsOld, ReadsAs, PendingWhole, MarkWhole, IsKeptAt, flag_of, sums_of};
+ghost use Rattle.ledger_terms.specs.Rulings.{buys_limit as limit_of};
 
 use crate::page::Page;
 use crate::parts::{
-    Fields, code_of_pending, fields_of, head_bytes, mark_bytes, middle_bytes, pending_bytes,
-    phase_from, read_kept, read_pending,
+    Fields, Kept, code_of_pending, first_fields, head_bytes, is_zero, mark_bytes, middle_bytes,
+    pending_bytes, phase_from, read_first_pending, read_kept, read_second_pending, second_fields,
 };
 use crate::record::DevRec;
 use crate::words::is_allowed;
@@ -16,11 +18,11 @@ use bench_base::numbers::DevNo;
 use bench_base::words::{Key, Kind, Phase};
 use indicium::Mark;
 use psd_wire::Request;
-use registers::{Registers, TOTAL_LIMIT};
+use registers::Registers;
 
 impl DevRec {
-    /// The record's one spelling.
-    #[tactic(auto, unfolding(crate::specs::Payload::bytes_of, crate::specs::Payload::head_part, crate::specs::Payload::middle_part))]
+    /// The record's one spelling in version 2, whatever version it was read from. No code is made.
+    #[tactic(auto, unfolding(crate::specs::Payload::spelled, crate::specs::Payload::head_part, crate::specs::Payload::middle_part))]
     pub fn write_payload(&self) -> [u8; 209]
         ensures value { result ≡ bytes_of self.now }
         ensures sound { Holds self.now }
@@ -37,9 +39,23 @@ impl DevRec {
             self.origin,
             code_of_pending(&self.pending),
         );
-        let pending = pending_bytes(&self.pending, &self.key);
-        let mark = mark_bytes(&self.mark, &self.key);
-        joined(&head, &self.key, &middle, pending.as_slice(), &mark)
+        let pending = self.pending_bytes();
+        let mark = self.mark_bytes();
+        joined(&head, &self.key, &middle, &pending, &mark)
+    }
+
+    // What is outstanding, without its code.
+    fn pending_bytes(&self) -> [u8; 55]
+        ensures { result ≡ pending_part 2 self.now.key self.now.pending }
+    {
+        pending_bytes(&self.pending)
+    }
+
+    // The kept mark, with the code that was kept.
+    fn mark_bytes(&self) -> [u8; 64]
+        ensures { result ≡ mark_part self.now.key self.now.mark }
+    {
+        mark_bytes(&self.mark, &self.code)
     }
 
     // The deadline and the last day, which fit their fields.
@@ -50,63 +66,128 @@ impl DevRec {
         (self.deadline, self.last_day)
     }
 
-    /// The record of this device whose spelling the bytes are; None exactly where they are that of none.
+    /// The record of this device that the bytes read as, in version 1 or 2; None exactly where they read as none.
     pub fn read_payload(device: DevNo, payload: &[u8; 209]) -> Option<DevRec>
-        ensures found { IfSome result (λ s. (s.device ≡ device) × (bytes_of s ≡ payload.now)) }
-        ensures sound { IfSome result Holds }
-        ensures fits { IfSome result Ranges }
-        ensures none { IfNone result ((s : State) → Holds s → Ranges s → s.device ≡ device → bytes_of s ≡ payload.now → ⊥) }
+        ensures found { IfSome result (λ s. (s.device ≡ device) × ReadsAs payload.now s) }
+        ensures none { IfNone result ((s : State) → s.device ≡ device → ReadsAs payload.now s → ⊥) }
     {
-        DevRec::from_bytes(device, payload)
+        if payload[4] < 16 {
+            read_first(device, payload)
+        } else {
+            read_second(device, payload)
+        }
     }
+}
 
-    fn from_bytes(device: DevNo, payload: &[u8]) -> Option<DevRec>
-        requires { length payload.now ≡ 209 }
-        ensures found { IfSome result (λ s. (s.device ≡ device) × (bytes_of s ≡ payload.now)) }
-        ensures sound { IfSome result Holds }
-        ensures fits { IfSome result Ranges }
-        ensures none { IfNone result ((s : State) → Holds s → Ranges s → s.device ≡ device → bytes_of s ≡ payload.now → ⊥) }
-    {
-        let fields = fields_of(payload);
-        if fields.device != device.get() {
-            return None;
-        }
-        let phase = match phase_from(fields.phase) {
-            Some(phase) => phase,
-            None => return None,
-        };
-        let registers = match registers_of(&fields) {
-            Some(registers) => registers,
-            None => return None,
-        };
-        let pending = match read_pending(fields.pending, &payload[74..145], &fields.key) {
-            Some(pending) => pending,
-            None => return None,
-        };
-        let mark = match read_kept(fields.pieces, &payload[145..209], &fields.key) {
-            Some(mark) => mark,
-            None => return None,
-        };
-        if !is_pending_right(&pending, fields.device, fields.number, phase, &registers) {
-            return None;
-        }
-        if !is_mark_right(&mark, fields.device, &registers) {
-            return None;
-        }
-        Some(DevRec {
-            device,
-            phase,
-            key: fields.key,
-            registers,
-            number: fields.number,
-            deadline: fields.deadline,
-            last_day: fields.last_day,
-            customer: fields.customer,
-            origin: fields.origin,
-            pending,
-            mark,
-        })
+// A payload of version 1, whose sums, request and mark are of that version too.
+fn read_first(device: DevNo, payload: &[u8]) -> Option<DevRec>
+    requires { length payload.now ≡ 209 }
+    ensures found { IfSome result (λ s. (s.device ≡ device) × IsOld s × (spelled 1 s ≡ payload.now)) }
+    ensures sound { IfSome result Holds }
+    ensures fits { IfSome result Ranges }
+    ensures none { IfNone result ((s : State) → Holds s → Ranges s → IsOld s → s.device ≡ device → spelled 1 s ≡ payload.now → ⊥) }
+{
+    let fields = first_fields(payload);
+    let Some(pending) = read_first_pending(fields.pending, &payload[74..145], &fields.key) else {
+        return None;
+    };
+    let Some(kept) = read_kept(fields.pieces, &payload[145..209], &fields.key) else {
+        return None;
+    };
+    if !is_old(&fields, &kept.mark) {
+        return None;
     }
+    record_of(device, 1, fields, pending, kept)
+}
+
+// A payload of version 2.
+fn read_second(device: DevNo, payload: &[u8]) -> Option<DevRec>
+    requires { length payload.now ≡ 209 }
+    ensures found { IfSome result (λ s. (s.device ≡ device) × (spelled 2 s ≡ payload.now)) }
+    ensures sound { IfSome result Holds }
+    ensures fits { IfSome result Ranges }
+    ensures none { IfNone result ((s : State) → Holds s → Ranges s → s.device ≡ device → spelled 2 s ≡ payload.now → ⊥) }
+{
+    let fields = second_fields(payload);
+    let Some(pending) = read_second_pending(fields.pending, &payload[86..141]) else {
+        return None;
+    };
+    let Some(kept) = read_kept(fields.pieces, &payload[141..205], &fields.key) else {
+        return None;
+    };
+    if !is_zero(&payload[205..209]) {
+        return None;
+    }
+    record_of(device, 2, fields, pending, kept)
+}
+
+// Whether sums and mark are ones that version 1 spells.
+fn is_old(fields: &Fields, mark: &Option<Mark>) -> bool
+    ensures { IsTrue result ↔ ((total (sums_of fields.now) ≤ 4294967295) × IfSome mark.now (λ k. k.version ≡ 1)) }
+{
+    let total = sum_of(fields.ascending, fields.descending, fields.refunded);
+    let first = match mark {
+        Some(mark) => mark.version == 1,
+        None => true,
+    };
+    total <= 4_294_967_295 && first
+}
+
+// Three sums that may be any numbers of eight bytes.
+fn sum_of(ascending: u64, descending: u64, refunded: u64) -> u128
+    ensures { result ≡ ascending + descending + refunded }
+{
+    u128::from(ascending) + u128::from(descending) + u128::from(refunded)
+}
+
+// The record of these parts, where it is one of the device.
+fn record_of(
+    device: DevNo,
+    version: u8,
+    fields: Fields,
+    pending: Option<Request>,
+    kept: Kept,
+) -> Option<DevRec>
+    requires version { IsVersion version }
+    requires pending { PendingWhole pending × (flag_of pending ≡ fields.pending) }
+    requires mark { MarkWhole kept.mark }
+    requires code { kept_code fields.key kept.mark ≡ kept.code }
+    ensures found { IfSome result (λ s. (s.device ≡ device) × (fields ≡ fields_in version s) × (s.pending ≡ pending) × (s.mark ≡ kept.mark)) }
+    ensures sound { IfSome result Holds }
+    ensures fits { IfSome result Ranges }
+    ensures none { IfNone result ((s : State) → Holds s → s.device ≡ device → fields ≡ fields_in version s → s.pending ≡ pending → s.mark ≡ kept.mark → ⊥) }
+{
+    if fields.device != device.get() {
+        return None;
+    }
+    let Some(phase) = phase_from(version, fields.phase) else {
+        return None;
+    };
+    let Some(registers) = registers_of(&fields) else {
+        return None;
+    };
+    if !is_pending_right(&pending, fields.device, fields.number, phase, &registers) {
+        return None;
+    }
+    if !is_mark_right(&kept.mark, fields.device, &registers) {
+        return None;
+    }
+    let key = fields.key;
+    let code = kept.code;
+    Some(DevRec {
+        device,
+        phase,
+        key,
+        registers,
+        number: fields.number,
+        deadline: fields.deadline,
+        last_day: fields.last_day,
+        customer: fields.customer,
+        origin: fields.origin,
+        pending,
+        mark: kept.mark,
+        code,
+    })
 }
 
 // The registers of the fields, where they are sound.
@@ -115,23 +196,22 @@ fn registers_of(fields: &Fields) -> Option<Registers>
     ensures value { IfSome result (λ r. r ≡ sums_of fields.now) }
 {
     Registers::of(
-        u64::from(fields.ascending),
-        u64::from(fields.descending),
-        u64::from(fields.refunded),
+        fields.ascending,
+        fields.descending,
+        fields.refunded,
         fields.pieces,
     )
 }
 
-// Five parts, one after the other.
+// Five parts, one after the other, and four zeros.
 fn joined(
     head: &[u8; 5],
     key: &Key,
-    middle: &[u8; 37],
-    pending: &[u8],
+    middle: &[u8; 49],
+    pending: &[u8; 55],
     mark: &[u8; 64],
 ) -> [u8; 209]
-    requires { length pending.now ≡ 71 }
-    ensures value { result ≡ head.now ++ (key.now ++ (middle.now ++ (pending.now ++ mark.now))) }
+    ensures value { result ≡ head.now ++ (key.now ++ (middle.now ++ (pending.now ++ (mark.now ++ replicate 4 0)))) }
     ensures key { length key.now ≡ 32 }
 {
     let mut page = Page::new();
@@ -140,6 +220,7 @@ fn joined(
     page.push(middle);
     page.push(pending);
     page.push(mark);
+    page.push(&[0; 4]);
     page.whole()
 }
 
@@ -159,19 +240,31 @@ fn is_pending_right(
             request.device == device
                 && u64::from(request.number) == u64::from(number) + 1
                 && is_allowed(request.kind, phase)
-                && is_amount(request.kind, request.amount, registers)
+                && is_amount(request.kind, request.version, request.amount, registers)
         }
         None => true,
     }
 }
 
-fn is_amount(kind: Kind, amount: u64, registers: &Registers) -> bool
-    ensures { IsTrue result ↔ IsAmount kind amount registers.now }
+// The most that the registers may come to by a reset of this version.
+fn limit_of_version(version: u8) -> u64
+    ensures value { result ≡ limit_of version }
+    ensures most { result ≤ 1000000000000 }
+{
+    match version {
+        1 => 4_294_967_295,
+        2 => 1_000_000_000_000,
+        _ => 0,
+    }
+}
+
+fn is_amount(kind: Kind, version: u8, amount: u64, registers: &Registers) -> bool
+    ensures { IsTrue result ↔ IsAmount kind version amount registers.now }
 {
     match kind {
         Kind::Reset => 1 <= amount
             && amount <= 10_000_000
-            && registers.total() + amount <= TOTAL_LIMIT,
+            && registers.total() + amount <= limit_of_version(version),
         Kind::Refund | Kind::Withdraw => amount == registers.descending(),
         Kind::Enrol | Kind::Audit => amount == 0,
     }

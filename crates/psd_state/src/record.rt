@@ -16,8 +16,8 @@ use std::marker::Model;
 
 /// All that a device keeps. Money is in mills, and a day counts from 1970-01-01.
 ///
-/// What is outstanding and the mark of the last debit are kept as values; their bytes are spelled again, and are the
-/// same each time.
+/// What is outstanding and the mark of the last debit are kept as values, each with its own version, and the mark's
+/// code beside it, so that neither giving it again nor keeping it makes a code.
 #[derive(Clone, Copy)]
 pub struct DevRec {
     pub(crate) device: DevNo,
@@ -31,18 +31,23 @@ pub struct DevRec {
     pub(crate) origin: u32,
     pub(crate) pending: Option<Request>,
     pub(crate) mark: Option<Mark>,
+    /// The code of the mark's fields under the key, and zeros where there is no mark.
+    pub(crate) code: [u8; 32],
 }
 
 impl Model for DevRec {
-    ghost use Rattle.psd_state.specs.State.{State, Holds};
+    ghost use Rattle.std.specs.Prelude.{◌≡◌};
+    ghost use Rattle.psd_state.specs.State.{State, Holds, kept_code};
 
     ghost Value = { State };
 
     ghost view = { λ r. record { device = r.device; phase = r.phase; key = r.key; registers = r.registers; number = r.number; deadline = r.deadline; last_day = r.last_day; customer = r.customer; origin = r.origin; pending = r.pending; mark = r.mark } };
 
-    ghost invariant = { λ r. Holds (record { device = r.device; phase = r.phase; key = r.key; registers = r.registers; number = r.number; deadline = r.deadline; last_day = r.last_day; customer = r.customer; origin = r.origin; pending = r.pending; mark = r.mark }) };
+    ghost invariant = { λ r. Holds (record { device = r.device; phase = r.phase; key = r.key; registers = r.registers; number = r.number; deadline = r.deadline; last_day = r.last_day; customer = r.customer; origin = r.origin; pending = r.pending; mark = r.mark }) × (kept_code r.key r.mark ≡ r.code) };
 
-    ghost inverse = { λ r. record { device = r.device; phase = r.phase; key = r.key; registers = r.registers; number = r.number; deadline = r.deadline; last_day = r.last_day; customer = r.customer; origin = r.origin; pending = r.pending; mark = r.mark } };
+    ghost inverse = { λ r. record { device = r.device; phase = r.phase; key = r.key; registers = r.registers; number = r.number; deadline = r.deadline; last_day = r.last_day; customer = r.customer; origin = r.origin; pending = r.pending; mark = r.mark; code = kept_code r.key r.mark } };
+
+    ghost inverse_ok = { λ r h. λ i. record r { code = h.1 i } };
 }
 
 impl DevRec {
@@ -63,6 +68,7 @@ impl DevRec {
             origin: 0,
             pending: None,
             mark: None,
+            code: [0; 32],
         }
     }
 

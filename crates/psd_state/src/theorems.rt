@@ -1,5 +1,5 @@
 //! What holds of all lists of commits and all records, as contracts of functions that do nothing.
-ghost use Rattle.psd_state.specs.Laws.{MakingStarts, AskingKeeps, DebitingKeeps, ApplyingKeeps, OthersKeep, ResendingRepeats, OnePayload};
+ghost use Rattle.psd_state.specs.Laws.{MakingStarts, AskingKeeps, DebitingKeeps, ApplyingKeeps, OthersKeep, ResendingRepeats, OnePayload, OneReading};
 
 /// The record of a device follows from the commits: after each commit of its own it is the record of the commits and
 /// that one, which come in order; and the commits of others leave it.
@@ -12,7 +12,9 @@ pub fn record_follows_the_commits()
     ensures resent { ResendingRepeats }
 {}
 
-/// No two records have one spelling: what is written and read back is the same record.
+/// No two records have one spelling in a version, and no payload reads as two records, whatever its version: what is
+/// written and read back is the same record.
 pub fn one_payload()
-    ensures { OnePayload }
+    ensures one_spelling { OnePayload }
+    ensures one_reading { OneReading }
 {}

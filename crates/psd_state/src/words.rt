@@ -6,6 +6,9 @@ ghost use Rattle.psd_state.specs.Answers as answers;
 
 use bench_base::words::{Kind, Phase, Verdict};
 
+/// The version of the marks and requests that are written.
+pub const VERSION: u8 = 2;
+
 pub fn is_allowed(kind: Kind, phase: Phase) -> bool
     ensures { result ≡ kinds.is_allowed kind phase }
 {

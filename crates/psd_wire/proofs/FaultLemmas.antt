@@ -1,20 +1,17 @@
 -- A fault is answered exactly where it is the first that holds.
-use Rattle.std.proofs.Common.{◌≡◌, ◌≢◌, ◌↔◌, ℕ, ◌<◌, ◌≤◌, List, length, get_or, take, drop, sym, ap, ◌∙◌, refl, arith, subst, Result, Ok, Err, Option, Some, None, IsSome, IsErr, Bool, true, false, inl, inr, eqb-true, eq-eqb, ne_eqb, ◌==◌, if◌then◌else◌, nat_lt}
-use Rattle.std.proofs.lemmas.List.{get_or-take, get_or-drop}
+use Rattle.std.proofs.Common.{◌≡◌, ◌≢◌, ◌↔◌, ℕ, ◌+◌, ◌<◌, ◌≤◌, List, length, get_or, take, drop, sym, ap, ◌∙◌, refl, arith, subst, Result, Ok, Err, Option, Some, None, IsSome, IsErr, Bool, true, false, inl, inr, eqb-true, eq-eqb, ne_eqb, ◌==◌, if◌then◌else◌, nat_lt}
 use Rattle.std.specs.Int.{w32, cast_signed}
-use Rattle.bench_base.specs.Table.{One, Four, number}
+use Rattle.bench_base.specs.Table.{One, Four, Eight, bytes_in, number}
 use Rattle.bench_base.specs.declared.refusals.Unread.{Unread}
 use Rattle.bench_base.specs.declared.refusals.Unread.TheVariants as unread
+use Rattle.bench_base.specs.Rules.{is_version, IsVersion}
 use Rattle.indicium.specs.Marks.{read_mark}
 use Rattle.psd_wire.specs.declared.message.Message.{Message}
-use Rattle.psd_wire.specs.Grammar.{kind_of, verdict_of, day_of, size_of, given, request_at, reply_at, release_at, if_mark, by_tag, read}
-use Rattle.psd_wire.specs.Faults.{IsTagged, IsFramed, kind_at, verdict_at, day_at, HasFault}
+use Rattle.psd_wire.specs.Grammar.{kind_of, verdict_of, day_of, sum_size, size_of, given, request_at, reply_at, release_at, if_mark, by_tag, read}
+use Rattle.psd_wire.specs.Faults.{IsTagged, IsFramed, kind_at, verdict_at, day_place, day_at, HasFault}
+use Rattle.psd_wire.proofs.Readings.{byte_of, last_tag}
 
 -- == the fields as the reader sees them ==
-
-byte_of : (at : ℕ) (bytes : List ℕ) → number One (take 1 (drop at bytes)) ≡ get_or bytes at 0
-unfolding number
-byte_of at bytes = get_or-take 1 (drop at bytes) 0 0 (omega arith) ∙ get_or-drop at bytes 0 0 ∙ ap (λ i. get_or bytes i 0) (omega arith)
 
 kind_is : (bytes : List ℕ) → kind_of (number One (take 1 (drop 10 bytes))) ≡ kind_at bytes
 kind_is bytes = ap kind_of (byte_of 10 bytes)
@@ -22,9 +19,20 @@ kind_is bytes = ap kind_of (byte_of 10 bytes)
 verdict_is : (bytes : List ℕ) → verdict_of (number One (take 1 (drop 11 bytes))) ≡ verdict_at bytes
 verdict_is bytes = ap verdict_of (byte_of 11 bytes)
 
-day_is : (bytes : List ℕ) → day_of (cast_signed w32 (number Four (take 4 (drop 35 bytes)))) ≡ day_at bytes
+-- the day stands behind device, number, kind, customer, four sums and pieces
+abbrev day_behind : ℕ → ℕ
+day_behind sum = 15 + sum + sum + sum + sum + 4
+
+by_flag : (P : Bool → Type 0) (b : Bool) → P true → P false → P b
+by_flag P true one two = one
+by_flag P false one two = two
+
+place_is : (v : ℕ) → day_behind (bytes_in (sum_size v)) ≡ day_place v
+place_is v = by_flag (λ b. day_behind (bytes_in (if b then Four else Eight)) ≡ (if b then 35 else 51)) (v == 1) refl refl
+
+day_is : (bytes : List ℕ) → day_of (cast_signed w32 (number Four (take 4 (drop (day_behind (bytes_in (sum_size (get_or bytes 0 0)))) bytes)))) ≡ day_at bytes
 unfolding number
-day_is bytes = refl
+day_is bytes = ap (λ n. day_of (cast_signed w32 (number Four (take 4 (drop n bytes))))) (place_is (get_or bytes 0 0))
 
 -- == what is answered ==
 
@@ -79,11 +87,6 @@ release_fault bytes e framed h =
 unlike : (a b : ℕ) → (a == b) ≡ false → a ≢ b
 unlike a b h = grind arith
 
--- the last tag that there is
-last_tag : (t n : ℕ) → t ≢ 1 → t ≢ 2 → t ≢ 3 → t ≢ 16 → size_of t ≡ Some n → t ≡ 17
-unfolding size_of
-last_tag t n a b c d h = grind arith
-
 by_tag_fault : (bytes : List ℕ) (t : ℕ) (e : Unread) → IsFramed bytes t → by_tag t bytes ≡ Err e → HasFault e bytes
 by_tag_fault bytes t e framed h =
     ways (t == 1) _ _ _ (λ is r. request_fault bytes e (subst (IsFramed bytes) (eqb-true t 1 is) framed) r)
@@ -91,8 +94,8 @@ by_tag_fault bytes t e framed h =
     (λ not2 r. ways (t == 3) _ _ _ (λ is r. absurd (cc))
     (λ not3 r. ways (t == 16) _ _ _ (λ is r. absurd (cc))
     (λ not16 r.
-    let last = last_tag t (length bytes) (unlike t 1 not1) (unlike t 2 not2) (unlike t 3 not3) (unlike t 16 not16) framed.size in
-    release_fault bytes e (subst (IsFramed bytes) last framed) r) r) r) r) h
+    let last = last_tag (get_or bytes 0 0) t (length bytes) (unlike t 1 not1) (unlike t 2 not2) (unlike t 3 not3) (unlike t 16 not16) framed.size in
+    release_fault bytes e (subst (IsFramed bytes) last.0 framed) r) r) r) r) h
 
 long : (n m : ℕ) → nat_lt n m ≡ false → m ≤ n
 long n m h = grind arith
@@ -100,21 +103,34 @@ long n m h = grind arith
 short : (n m : ℕ) → nat_lt n m ≡ true → n < m
 short n m h = grind arith
 
+known : (v : ℕ) → is_version v ≡ true → IsVersion v
+known v h = grind arith
+
+known_is : (v : ℕ) → IsVersion v → is_version v ≡ true
+known_is v h = grind arith
+
+unknown : (v : ℕ) → is_version v ≡ false → (v ≢ 1) × (v ≢ 2)
+unknown v h = grind arith
+
+unknown_is : (v : ℕ) → v ≢ 1 → v ≢ 2 → is_version v ≡ false
+unknown_is v a b = grind arith
+
 -- what is answered holds
 pub fault-found : (bytes : List ℕ) (e : Unread) → read bytes ≡ Err e → HasFault e bytes
 unfolding read
 fault-found bytes e h =
+    let v : ℕ = get_or bytes 0 0 in
     let t : ℕ = get_or bytes 1 0 in
     ways (nat_lt (length bytes) 2) _ _ _ (λ few r. told bytes unread.Length e (inl (short _ _ few)) r)
-    (λ two r. ways (get_or bytes 0 0 == 1) _ _ _
-    (λ one r. missing unread.Tag (size_of t) _ _
-    (λ none r. told bytes unread.Tag e (long _ _ two, eqb-true _ _ one, none) r)
+    (λ two r. ways (is_version v) _ _ _
+    (λ one r. missing unread.Tag (size_of v t) _ _
+    (λ none r. told bytes unread.Tag e (long _ _ two, known v one, none) r)
     (λ n size r.
-    let tagged : IsTagged bytes t n = record { two = long _ _ two; version = eqb-true _ _ one; tag = refl; size = size } in
+    let tagged : IsTagged bytes t n = record { two = long _ _ two; version = known v one; tag = refl; size = size } in
     ways (length bytes == n) _ _ _
     (λ is r. by_tag_fault bytes t e (subst (IsTagged bytes t) (sym (eqb-true _ _ is)) tagged) r)
     (λ other r. told bytes unread.Length e (inr (t, n, tagged, unlike _ _ other)) r) r) r)
-    (λ other r. told bytes unread.Version e (long _ _ two, unlike _ _ other) r) r) h
+    (λ other r. let un = unknown v other in told bytes unread.Version e (long _ _ two, un.0, un.1) r) r) h
 
 -- == what holds is answered ==
 
@@ -122,13 +138,13 @@ framed-read : (bytes : List ℕ) (t : ℕ) → IsFramed bytes t → read bytes �
 unfolding read
 framed-read bytes t f =
     let two : nat_lt (length bytes) 2 ≡ false = grind (arith, f.two) in
-    rw (two, f.version, f.tag, f.size, eq-eqb (length bytes) (length bytes) refl) refl
+    rw (two, known_is (get_or bytes 0 0) f.version, f.tag, f.size, eq-eqb (length bytes) (length bytes) refl) refl
 
 other_length : (bytes : List ℕ) (t n : ℕ) → IsTagged bytes t n → length bytes ≢ n → read bytes ≡ Err unread.Length
 unfolding read
 other_length bytes t n f other =
     let two : nat_lt (length bytes) 2 ≡ false = grind (arith, f.two) in
-    rw (two, f.version, f.tag, f.size, ne_eqb (length bytes) n other) refl
+    rw (two, known_is (get_or bytes 0 0) f.version, f.tag, f.size, ne_eqb (length bytes) n other) refl
 
 kindless_request : (bytes : List ℕ) → kind_at bytes ≡ None → request_at bytes ≡ Err unread.Kind
 unfolding request_at
@@ -162,10 +178,10 @@ pub fault-read : (bytes : List ℕ) (e : Unread) → HasFault e bytes → read b
 unfolding read
 fault-read bytes unread.Length (inl few) = let is : nat_lt (length bytes) 2 ≡ true = grind (arith, few) in rw is refl
 fault-read bytes unread.Length (inr (t, n, tagged, other)) = other_length bytes t n tagged other
-fault-read bytes unread.Version (two, other) =
-    let is : nat_lt (length bytes) 2 ≡ false = grind (arith, two) in rw (is, ne_eqb (get_or bytes 0 0) 1 other) refl
+fault-read bytes unread.Version (two, one, other) =
+    let is : nat_lt (length bytes) 2 ≡ false = grind (arith, two) in rw (is, unknown_is (get_or bytes 0 0) one other) refl
 fault-read bytes unread.Tag (two, one, none) =
-    let is : nat_lt (length bytes) 2 ≡ false = grind (arith, two) in rw (is, one, none) refl
+    let is : nat_lt (length bytes) 2 ≡ false = grind (arith, two) in rw (is, known_is (get_or bytes 0 0) one, none) refl
 fault-read bytes unread.Kind (inl framed, none) = framed-read bytes 1 framed ∙ kindless_request bytes none
 fault-read bytes unread.Kind (inr framed, none) = framed-read bytes 2 framed ∙ kindless_reply bytes none
 fault-read bytes unread.Verdict (framed, kind, none) = framed-read bytes 2 framed ∙ verdictless bytes kind none

@@ -1,12 +1,13 @@
 -- A message that is spelled is read, and what is read is a message that is spelled so.
-use Rattle.std.proofs.Common.{◌≡◌, ℕ, ℤ, [], ◌∷◌, ◌+◌, ◌-◌, ◌^◌, ◌<◌, ◌≤◌, List, ◌++◌, length, get_or, take, drop, sym, ap, ap₂, ◌∙◌, refl, arith, subst, Result, Ok, Err, Option, Some, None, Bool, true, false, cond, length-append, append-nil, eqb-true, eq-eqb, ne_eqb, inl, inr, length-drop, ◌==◌, if◌then◌else◌, nat_lt, FitsSigned, IfOk, IfSome, IfNone, ◌≢◌}
-use Rattle.std.specs.Int.{w32, cast_signed, cast_unsigned}
+use Rattle.std.proofs.Common.{◌≡◌, ℕ, ℤ, [], ◌∷◌, ◌+◌, ◌-◌, ◌^◌, ◌<◌, ◌≤◌, List, ◌++◌, length, get_or, take, drop, replicate, sym, ap, ap₂, ◌∙◌, refl, arith, subst, Result, Ok, Err, Option, Some, None, Bool, true, false, cond, length-append, append-nil, eqb-true, eq-eqb, ne_eqb, inl, inr, length-drop, ◌==◌, if◌then◌else◌, nat_lt, FitsSigned, IfOk, IfSome, IfNone, ◌≢◌}
+use Rattle.std.specs.Int.{w32, w64, from_be_bytes, cast_signed, cast_unsigned}
 use Rattle.std.proofs.lemmas.Int.{of_z-to_z, to_z-of_z, ints}
 use Rattle.std.proofs.lemmas.Bool.{cases_eq}
-use Rattle.std.proofs.lemmas.List.{take_at, drop_at, take-append-drop}
+use Rattle.std.proofs.lemmas.List.{take_at, drop_at, take-append-drop, get_or-take, get_or-drop, drop-replicate, take-replicate}
 use borrow.Author.Gap.{read_sfits}
-use Rattle.bench_base.specs.Table.{Size, One, Four, row, values, Fit, IsBytes, room}
-use Rattle.bench_base.proofs.Tables.{row-values, values-row, values-fit, length-row, first_number, second_number, first_cell, second_cell}
+use Rattle.bench_base.specs.Table.{Size, One, Four, Eight, number, row, values, Fit, IsBytes, room}
+use Rattle.bench_base.specs.Rules.{is_version, IsVersion}
+use Rattle.bench_base.proofs.Tables.{row-values, values-row, values-fit, length-row, joined, first_number, second_number, first_cell, second_cell}
 use Rattle.bench_base.specs.declared.words.Kind.{Kind}
 use Rattle.bench_base.specs.declared.words.Kind.TheVariants.{Enrol, Reset, Audit, Refund, Withdraw}
 use Rattle.bench_base.specs.declared.words.Verdict.{Verdict}
@@ -23,7 +24,7 @@ use Rattle.psd_wire.specs.declared.message.DoneMsg.{DoneMsg}
 use Rattle.psd_wire.specs.declared.message.DebitMsg.{DebitMsg}
 use Rattle.psd_wire.specs.declared.message.Message.{Message}
 use Rattle.psd_wire.specs.declared.message.Message.TheVariants as m
-use Rattle.psd_wire.specs.Grammar.{kind_code, kind_of, verdict_code, verdict_of, request_table, request_values, reply_table, reply_values, done_table, done_values, debit_table, debit_values, body, spell, is_coded, IsDay, IsWhole, size_of, given, day_of, request_from, request_in, request_at, reply_from, reply_in, reply_at, done_from, done_at, debit_from, debit_at, release_at, if_mark, by_tag, read, HasCode, IsReading, IsCoded, coded_in}
+use Rattle.psd_wire.specs.Grammar.{kind_code, kind_of, verdict_code, verdict_of, sum_size, request_table, request_values, reply_table, reply_values, done_table, done_values, debit_table, debit_values, body, spell, is_coded, IsDay, IsWhole, size_of, given, day_of, request_from, request_in, request_at, reply_from, reply_in, reply_at, done_from, done_at, debit_from, debit_at, release_at, if_mark, by_tag, read, HasCode, IsReading, IsCoded, coded_in}
 pub use Rattle.psd_wire.specs.Grammar.{ReadsAs, code_room}
 
 -- == codes of words ==
@@ -81,16 +82,65 @@ there : {A B : Type 0} (e : Unread) (o : Option A) (f : A → Result B Unread) (
 there e None f y h = absurd (cc)
 there e (Some a) f y h = (a, refl, h)
 
-day_of-found : (z t : ℤ) → day_of z ≡ Some t → (z ≡ t) × IsDay t
+pub day_of-found : (z t : ℤ) → day_of z ≡ Some t → (z ≡ t) × IsDay t
 unfolding day_of
 day_of-found z t h = grind (arith, ints)
 
-day_of-day : (z : ℤ) → IsDay z → day_of z ≡ Some z
+pub day_of-day : (z : ℤ) → IsDay z → day_of z ≡ Some z
 unfolding day_of
 day_of-day z h = grind (arith, ints)
 
 day_fits : (z : ℤ) → IsDay z → FitsSigned w32 z
 day_fits z h = search (arith, ints, h.0, h.1)
+
+-- == the fields of bytes ==
+
+pub byte_of : (at : ℕ) (bytes : List ℕ) → number One (take 1 (drop at bytes)) ≡ get_or bytes at 0
+unfolding number
+byte_of at bytes = get_or-take 1 (drop at bytes) 0 0 (omega arith) ∙ get_or-drop at bytes 0 0 ∙ ap (λ i. get_or bytes i 0) (omega arith)
+
+pub four_of : (bytes : List ℕ) → number Four bytes ≡ from_be_bytes w32 bytes
+unfolding number
+four_of bytes = refl
+
+pub eight_of : (bytes : List ℕ) → number Eight bytes ≡ from_be_bytes w64 bytes
+unfolding number
+eight_of bytes = refl
+
+-- == versions ==
+
+known : (v : ℕ) → is_version v ≡ true → IsVersion v
+known v h = grind arith
+
+known_is : (v : ℕ) → IsVersion v → is_version v ≡ true
+known_is v h = grind arith
+
+-- a fact of each of the two sizes of sums
+by_flag : (P : Bool → Type 0) (b : Bool) → P true → P false → P b
+by_flag P true one two = one
+by_flag P false one two = two
+
+-- how many bytes stand before the code
+abbrev pub request_room : ℕ → ℕ
+request_room v = room (request_table (sum_size v))
+
+abbrev pub reply_room : ℕ → ℕ
+reply_room v = room (reply_table (sum_size v))
+
+size_request : (v : ℕ) → size_of v 1 ≡ Some (request_room v + 32)
+unfolding size_of
+size_request v = by_flag (λ b. (if b then Some 71 else Some 87) ≡ Some (room (request_table (if b then Four else Eight)) + 32)) (v == 1) refl refl
+
+size_reply : (v : ℕ) → size_of v 2 ≡ Some (reply_room v + 32)
+unfolding size_of
+size_reply v = by_flag (λ b. (if b then Some 56 else Some 60) ≡ Some (room (reply_table (if b then Four else Eight)) + 32)) (v == 1) refl refl
+
+-- at most 55 bytes stand before the code
+pub request_room-le : (v : ℕ) → request_room v ≤ 55
+request_room-le v = by_flag (λ b. room (request_table (if b then Four else Eight)) ≤ 55) (v == 1) (omega arith) (omega arith)
+
+pub reply_room-le : (v : ℕ) → reply_room v ≤ 55
+reply_room-le v = by_flag (λ b. room (reply_table (if b then Four else Eight)) ≤ 55) (v == 1) (omega arith) (omega arith)
 
 -- == a Request ==
 
@@ -101,12 +151,13 @@ request-again v t d n k c a x y z p s kind day one code is fits =
     let one' : 1 ≡ t = sym one in
     cc
 
-pub request_at-found : (bytes : List ℕ) (x : Message) → get_or bytes 0 0 ≡ 1 → get_or bytes 1 0 ≡ 1 → 39 ≤ length bytes → IsBytes bytes → request_at bytes ≡ Ok x
-    → IsWhole x × (body x ≡ take 39 bytes) × (code_room x ≡ 32)
+pub request_at-found : (bytes : List ℕ) (x : Message) → IsVersion (get_or bytes 0 0) → get_or bytes 1 0 ≡ 1 → request_room (get_or bytes 0 0) ≤ length bytes
+    → IsBytes bytes → request_at bytes ≡ Ok x → IsWhole x × (body x ≡ take (request_room (get_or bytes 0 0)) bytes) × (code_room x ≡ 32)
 unfolding request_at body
 request_at-found bytes x v t l h e =
-    let vs : List ℕ = values 0 (request_table Four) bytes in
-    let fit : Fit (request_table Four) vs = values-fit (request_table Four) 0 bytes h in
+    let table : List Size = request_table (sum_size (get_or bytes 0 0)) in
+    let vs : List ℕ = values 0 table bytes in
+    let fit : Fit table vs = values-fit table 0 bytes h in
     let kind = there _ _ _ _ e in
     let day = there _ _ _ _ kind.2 in
     let today = day_of-found _ _ day.1 in
@@ -114,9 +165,10 @@ request_at-found bytes x v t l h e =
     let is : m.Request q ≡ x = right day.2 in
     let same : request_values q ≡ vs =
     request-again _ _ _ _ _ _ _ _ _ _ _ _ kind.0 day.0 (second_number bytes ∙ t) (kind_code-of _ _ kind.1) today.0 fit.1.1.1.1.1.1.1.1.1.1.1.0 in
-    subst (λ y. IsWhole y × (body y ≡ take 39 bytes) × (code_room y ≡ 32)) is (
-      (first_number bytes ∙ v, subst (Fit (request_table Four)) (sym same) fit, today.1),
-      ap (row (request_table Four)) same ∙ row-values (request_table Four) 0 bytes l h,
+    let version : q.version ≡ get_or bytes 0 0 = first_number bytes in
+    subst (λ y. IsWhole y × (body y ≡ take (room table) bytes) × (code_room y ≡ 32)) is (
+      (subst IsVersion (sym version) v, subst (λ n. Fit (request_table (sum_size n)) (request_values q)) (sym version) (subst (Fit table) (sym same) fit), today.1),
+      ap (λ n. row (request_table (sum_size n)) (request_values q)) version ∙ ap (row table) same ∙ row-values table 0 bytes (omega (arith, l)) h,
       refl,
     )
 
@@ -129,21 +181,23 @@ reply-again v t d n k w a s o kind verdict two code word fits =
     let two' : 2 ≡ t = sym two in
     cc
 
-pub reply_at-found : (bytes : List ℕ) (x : Message) → get_or bytes 0 0 ≡ 1 → get_or bytes 1 0 ≡ 2 → 24 ≤ length bytes → IsBytes bytes → reply_at bytes ≡ Ok x
-    → IsWhole x × (body x ≡ take 24 bytes) × (code_room x ≡ 32)
+pub reply_at-found : (bytes : List ℕ) (x : Message) → IsVersion (get_or bytes 0 0) → get_or bytes 1 0 ≡ 2 → reply_room (get_or bytes 0 0) ≤ length bytes
+    → IsBytes bytes → reply_at bytes ≡ Ok x → IsWhole x × (body x ≡ take (reply_room (get_or bytes 0 0)) bytes) × (code_room x ≡ 32)
 unfolding reply_at body
 reply_at-found bytes x v t l h e =
-    let vs : List ℕ = values 0 (reply_table Four) bytes in
-    let fit : Fit (reply_table Four) vs = values-fit (reply_table Four) 0 bytes h in
+    let table : List Size = reply_table (sum_size (get_or bytes 0 0)) in
+    let vs : List ℕ = values 0 table bytes in
+    let fit : Fit table vs = values-fit table 0 bytes h in
     let kind = there _ _ _ _ e in
     let verdict = there _ _ _ _ kind.2 in
     let r : ReplyMsg = reply_from vs kind.0 verdict.0 in
     let is : m.Reply r ≡ x = right verdict.2 in
     let same : reply_values r ≡ vs =
     reply-again _ _ _ _ _ _ _ _ _ kind.0 verdict.0 (second_number bytes ∙ t) (kind_code-of _ _ kind.1) (verdict_code-of _ _ verdict.1) fit.1.1.1.1.1.1.1.0 in
-    subst (λ y. IsWhole y × (body y ≡ take 24 bytes) × (code_room y ≡ 32)) is (
-      (first_number bytes ∙ v, subst (Fit (reply_table Four)) (sym same) fit, read_sfits w32 _),
-      ap (row (reply_table Four)) same ∙ row-values (reply_table Four) 0 bytes l h,
+    let version : r.version ≡ get_or bytes 0 0 = first_number bytes in
+    subst (λ y. IsWhole y × (body y ≡ take (room table) bytes) × (code_room y ≡ 32)) is (
+      (subst IsVersion (sym version) v, subst (λ n. Fit (reply_table (sum_size n)) (reply_values r)) (sym version) (subst (Fit table) (sym same) fit), read_sfits w32 _),
+      ap (λ n. row (reply_table (sum_size n)) (reply_values r)) version ∙ ap (row table) same ∙ row-values table 0 bytes (omega (arith, l)) h,
       refl,
     )
 
@@ -195,21 +249,44 @@ release_at-found bytes x v t l e =
 
 -- == whatever follows a body, it is read ==
 
+-- the version stands first
+pub request_version : (q : Request) (rest : List ℕ) → get_or (body (m.Request q) ++ rest) 0 0 ≡ q.version
+unfolding body
+request_version q rest = first_cell q.version (drop 1 (request_table (sum_size q.version))) (drop 1 (request_values q)) rest
+
+reply_version : (r : ReplyMsg) (rest : List ℕ) → get_or (body (m.Reply r) ++ rest) 0 0 ≡ r.version
+unfolding body
+reply_version r rest = first_cell r.version (drop 1 (reply_table (sum_size r.version))) (drop 1 (reply_values r)) rest
+
+pub length-body_of : (q : Request) → IsWhole (m.Request q) → length (body (m.Request q)) ≡ request_room q.version
+unfolding body
+length-body_of q w = length-row (request_table (sum_size q.version)) (request_values q) w.1
+
+request_at-row : (q : Request) (rest : List ℕ) → IsWhole (m.Request q)
+    → request_in (values 0 (request_table (sum_size q.version)) (row (request_table (sum_size q.version)) (request_values q) ++ rest)) ≡ Ok (m.Request q)
+request_at-row q rest w =
+    let day : cast_signed w32 (cast_unsigned w32 q.day) ≡ q.day = to_z-of_z w32 q.day (day_fits q.day w.2) in
+    ap request_in (values-row (request_table (sum_size q.version)) (request_values q) [] rest 0 refl w.1)
+    ∙ ap (λ k. given unread.Kind k (λ kind. given unread.Day (day_of (cast_signed w32 (cast_unsigned w32 q.day))) (λ day. Ok (m.Request (request_from (request_values q) kind day))))) (kind_of-code q.kind)
+    ∙ ap (λ d. given unread.Day d (λ day. Ok (m.Request (request_from (request_values q) q.kind day)))) (ap day_of day ∙ day_of-day q.day w.2)
+
 pub request_at-body : (q : Request) (rest : List ℕ) → IsWhole (m.Request q) → request_at (body (m.Request q) ++ rest) ≡ Ok (m.Request q)
 unfolding request_at body
 request_at-body q rest w =
-    let day : cast_signed w32 (cast_unsigned w32 q.day) ≡ q.day = to_z-of_z w32 q.day (day_fits q.day w.2) in
-    ap request_in (values-row (request_table Four) (request_values q) [] rest 0 refl w.1)
-    ∙ ap (λ k. given unread.Kind k (λ kind. given unread.Day (day_of (cast_signed w32 (cast_unsigned w32 q.day))) (λ day. Ok (m.Request (request_from (request_values q) kind day))))) (kind_of-code q.kind)
-    ∙ ap (λ d. given unread.Day d (λ day. Ok (m.Request (request_from (request_values q) q.kind day)))) (ap day_of day ∙ day_of-day q.day w.2)
+    ap (λ v. request_in (values 0 (request_table (sum_size v)) (body (m.Request q) ++ rest))) (request_version q rest) ∙ request_at-row q rest w
+
+reply_at-row : (r : ReplyMsg) (rest : List ℕ) → IsWhole (m.Reply r)
+    → reply_in (values 0 (reply_table (sum_size r.version)) (row (reply_table (sum_size r.version)) (reply_values r) ++ rest)) ≡ Ok (m.Reply r)
+reply_at-row r rest w =
+    ap reply_in (values-row (reply_table (sum_size r.version)) (reply_values r) [] rest 0 refl w.1)
+    ∙ ap (λ k. given unread.Kind k (λ kind. given unread.Verdict (verdict_of (verdict_code r.verdict)) (λ verdict. Ok (m.Reply (reply_from (reply_values r) kind verdict))))) (kind_of-code r.kind)
+    ∙ ap (λ v. given unread.Verdict v (λ verdict. Ok (m.Reply (reply_from (reply_values r) r.kind verdict)))) (verdict_of-code r.verdict)
+    ∙ ap (λ (z : ℤ). Ok (m.Reply (record r { deadline = z }))) (to_z-of_z w32 r.deadline w.2)
 
 pub reply_at-body : (r : ReplyMsg) (rest : List ℕ) → IsWhole (m.Reply r) → reply_at (body (m.Reply r) ++ rest) ≡ Ok (m.Reply r)
 unfolding reply_at body
 reply_at-body r rest w =
-    ap reply_in (values-row (reply_table Four) (reply_values r) [] rest 0 refl w.1)
-    ∙ ap (λ k. given unread.Kind k (λ kind. given unread.Verdict (verdict_of (verdict_code r.verdict)) (λ verdict. Ok (m.Reply (reply_from (reply_values r) kind verdict))))) (kind_of-code r.kind)
-    ∙ ap (λ v. given unread.Verdict v (λ verdict. Ok (m.Reply (reply_from (reply_values r) r.kind verdict)))) (verdict_of-code r.verdict)
-    ∙ ap (λ (z : ℤ). Ok (m.Reply (record r { deadline = z }))) (to_z-of_z w32 r.deadline w.2)
+    ap (λ v. reply_in (values 0 (reply_table (sum_size v)) (body (m.Reply r) ++ rest))) (reply_version r rest) ∙ reply_at-row r rest w
 
 pub done_at-body : (r : DoneMsg) (rest : List ℕ) → IsWhole (m.Done r) → done_at (body (m.Done r) ++ rest) ≡ m.Done r
 unfolding done_at body
@@ -249,74 +326,80 @@ reads bytes x n k found l =
 none_is : {A : Type 0} {a : A} → None ≡ Some a → ⊥
 none_is h = cc
 
-size_1 : size_of 1 ≡ Some 71
+-- a message of another tag has version 1, and its size
+first_alone : (v t n m : ℕ) → (t ≡ 1 → ⊥) → (t ≡ 2 → ⊥) → size_of 1 t ≡ Some m → size_of v t ≡ Some n → (v ≡ 1) × (n ≡ m)
 unfolding size_of
-size_1 = refl
+first_alone v t n m a b one h =
+    branch v 1 _ _ _ (λ e h. (e, some (sym h ∙ one)))
+    (λ _ h. branch t 1 _ _ _ (λ e _. absurd (a e)) (λ _ h. branch t 2 _ _ _ (λ e _. absurd (b e)) (λ _ h. absurd (none_is h)) h) h) h
 
-size_2 : size_of 2 ≡ Some 56
-unfolding size_of
-size_2 = refl
-
-size_3 : size_of 3 ≡ Some 42
+size_3 : size_of 1 3 ≡ Some 42
 unfolding size_of
 size_3 = refl
 
-size_16 : size_of 16 ≡ Some 16
+size_16 : size_of 1 16 ≡ Some 16
 unfolding size_of
 size_16 = refl
 
-size_17 : size_of 17 ≡ Some 66
+size_17 : size_of 1 17 ≡ Some 66
 unfolding size_of
 size_17 = refl
 
-size_is : (t c n k : ℕ) → size_of c ≡ Some k → size_of t ≡ Some n → t ≡ c → n ≡ k
-size_is t c n k f h e = some (sym h ∙ ap size_of e ∙ f)
-
-last_size : (t n : ℕ) → (t ≡ 1 → ⊥) → (t ≡ 2 → ⊥) → (t ≡ 3 → ⊥) → (t ≡ 16 → ⊥) → size_of t ≡ Some n → (t ≡ 17) × (n ≡ 66)
+pub last_tag : (v t n : ℕ) → (t ≡ 1 → ⊥) → (t ≡ 2 → ⊥) → (t ≡ 3 → ⊥) → (t ≡ 16 → ⊥) → size_of v t ≡ Some n → (t ≡ 17) × (v ≡ 1) × (n ≡ 66)
 unfolding size_of
-last_size t n a b c d h =
-    branch t 1 _ _ _ (λ e _. absurd (a e)) (λ _ h. branch t 2 _ _ _ (λ e _. absurd (b e)) (λ _ h. branch t 3 _ _ _ (λ e _. absurd (c e))
-    (λ _ h. branch t 16 _ _ _ (λ e _. absurd (d e)) (λ _ h. branch t 17 _ _ _ (λ e h. (e, sym (some h))) (λ _ h. absurd (none_is h)) h) h) h) h) h
+last_tag v t n a b c d h =
+    branch v 1 _ _ _
+    (λ one h. branch t 1 _ _ _ (λ e _. absurd (a e)) (λ _ h. branch t 2 _ _ _ (λ e _. absurd (b e)) (λ _ h. branch t 3 _ _ _ (λ e _. absurd (c e))
+    (λ _ h. branch t 16 _ _ _ (λ e _. absurd (d e)) (λ _ h. branch t 17 _ _ _ (λ e h. (e, one, sym (some h))) (λ _ h. absurd (none_is h)) h) h) h) h) h)
+    (λ _ h. branch t 1 _ _ _ (λ e _. absurd (a e)) (λ _ h. branch t 2 _ _ _ (λ e _. absurd (b e)) (λ _ h. absurd (none_is h)) h) h) h
+
+-- a message that has version 1 alone
+first_found : (bytes : List ℕ) (x y : Message) (t n k : ℕ) → get_or bytes 1 0 ≡ t → (t ≡ 1 → ⊥) → (t ≡ 2 → ⊥) → size_of 1 t ≡ Some (n + k)
+    → size_of (get_or bytes 0 0) t ≡ Some (length bytes) → (get_or bytes 0 0 ≡ 1 → n ≤ length bytes → IsWhole y × (body y ≡ take n bytes) × (code_room y ≡ k))
+    → y ≡ x → (code : List ℕ) × ReadsAs bytes x code
+first_found bytes x y t n k tag a b one size found is =
+    let alone = first_alone (get_or bytes 0 0) t (length bytes) (n + k) a b one size in
+    reads bytes x n k (subst (λ z. IsWhole z × (body z ≡ take n bytes) × (code_room z ≡ k)) is (found alone.0 (omega (arith, alone.1)))) alone.1
+
+by_tag-found : (bytes : List ℕ) (x : Message) → IsBytes bytes → IsVersion (get_or bytes 0 0) → size_of (get_or bytes 0 0) (get_or bytes 1 0) ≡ Some (length bytes)
+    → by_tag (get_or bytes 1 0) bytes ≡ Ok x → (code : List ℕ) × ReadsAs bytes x code
+by_tag-found bytes x h version size r =
+    let v : ℕ = get_or bytes 0 0 in
+    let t : ℕ = get_or bytes 1 0 in
+    let at : (n : ℕ) → t ≡ n → size_of v n ≡ Some (length bytes) = λ n is. ap (size_of v) (sym is) ∙ size in
+    branch t 1 _ _ _
+    (λ is r.
+    let n : length bytes ≡ request_room v + 32 = some (sym (at 1 is) ∙ size_request v) in
+    reads bytes x (request_room v) 32 (request_at-found bytes x version is (omega (arith, n)) h r) n)
+    (λ not1 r. branch t 2 _ _ _
+    (λ is r.
+    let n : length bytes ≡ reply_room v + 32 = some (sym (at 2 is) ∙ size_reply v) in
+    reads bytes x (reply_room v) 32 (reply_at-found bytes x version is (omega (arith, n)) h r) n)
+    (λ not2 r. branch t 3 _ _ _
+    (λ is r. first_found bytes x (done_at bytes) t 10 32 refl not1 not2 (ap (size_of 1) is ∙ size_3) size (λ one l. done_at-found bytes one is l h) (right r))
+    (λ not3 r. branch t 16 _ _ _
+    (λ is r. first_found bytes x (debit_at bytes) t 16 0 refl not1 not2 (ap (size_of 1) is ∙ size_16) size (λ one l. debit_at-found bytes one is l h) (right r))
+    (λ not16 r.
+    let last = last_tag v t (length bytes) not1 not2 not3 not16 size in
+    let found = release_at-found bytes x last.1 last.0 (omega (arith, last.2)) r in
+    ([], record { whole = found.0; spelled = sym found.1 ∙ sym (append-nil (body x)); long = sym found.2 })) r) r) r) r
 
 -- WHAT IS READ IS SPELLED SO, each number in its range
 pub read-found : (bytes : List ℕ) (x : Message) → IsBytes bytes → read bytes ≡ Ok x → (code : List ℕ) × ReadsAs bytes x code
 unfolding read
 read-found bytes x h e =
     let long = held_back (nat_lt (length bytes) 2) _ unread.Length x e in
-    let version = let_through (get_or bytes 0 0 == 1) _ unread.Version x long.1 in
-    let tag = there unread.Tag (size_of (get_or bytes 1 0)) (λ n. if length bytes == n then by_tag (get_or bytes 1 0) bytes else Err unread.Length) x version.1 in
+    let version = let_through (is_version (get_or bytes 0 0)) _ unread.Version x long.1 in
+    let tag = there unread.Tag (size_of (get_or bytes 0 0) (get_or bytes 1 0)) (λ n. if length bytes == n then by_tag (get_or bytes 1 0) bytes else Err unread.Length) x version.1 in
     let size = let_through (length bytes == tag.0) (by_tag (get_or bytes 1 0) bytes) unread.Length x tag.2 in
-    let one : get_or bytes 0 0 ≡ 1 = eqb-true _ _ version.0 in
     let count : length bytes ≡ tag.0 = eqb-true _ _ size.0 in
-    let t : ℕ = get_or bytes 1 0 in
-    branch t 1 _ _ _
-    (λ is r.
-    let n : length bytes ≡ 39 + 32 = count ∙ size_is t 1 tag.0 71 size_1 tag.1 is in
-    let found = request_at-found bytes x one is (omega (arith, n)) h r in
-    reads bytes x 39 32 found n)
-    (λ not1 r. branch t 2 _ _ _
-    (λ is r.
-    let n : length bytes ≡ 24 + 32 = count ∙ size_is t 2 tag.0 56 size_2 tag.1 is in
-    let found = reply_at-found bytes x one is (omega (arith, n)) h r in
-    reads bytes x 24 32 found n)
-    (λ not2 r. branch t 3 _ _ _
-    (λ is r.
-    let n : length bytes ≡ 10 + 32 = count ∙ size_is t 3 tag.0 42 size_3 tag.1 is in
-    let found = done_at-found bytes one is (omega (arith, n)) h in
-    reads bytes x 10 32 (subst (λ y. IsWhole y × (body y ≡ take 10 bytes) × (code_room y ≡ 32)) (right r) found) n)
-    (λ not3 r. branch t 16 _ _ _
-    (λ is r.
-    let n : length bytes ≡ 16 + 0 = count ∙ size_is t 16 tag.0 16 size_16 tag.1 is in
-    let found = debit_at-found bytes one is (omega (arith, n)) h in
-    reads bytes x 16 0 (subst (λ y. IsWhole y × (body y ≡ take 16 bytes) × (code_room y ≡ 0)) (right r) found) n)
-    (λ not16 r.
-    let last = last_size t tag.0 not1 not2 not3 not16 tag.1 in
-    let found = release_at-found bytes x one last.0 (omega (arith, count, last.1)) r in
-    ([], record { whole = found.0; spelled = sym found.1 ∙ sym (append-nil (body x)); long = sym found.2 })) r) r) r) size.1
+    by_tag-found bytes x h (known _ version.0) (tag.1 ∙ ap (λ n. Some n) (sym count)) size.1
 
-read-through : (bytes : List ℕ) (t n : ℕ) → get_or bytes 0 0 ≡ 1 → get_or bytes 1 0 ≡ t → size_of t ≡ Some n → length bytes ≡ n → nat_lt n 2 ≡ false → read bytes ≡ by_tag t bytes
+read-through : (bytes : List ℕ) (v t n : ℕ) → get_or bytes 0 0 ≡ v → IsVersion v → get_or bytes 1 0 ≡ t → size_of v t ≡ Some n → length bytes ≡ n → 2 ≤ n → read bytes ≡ by_tag t bytes
 unfolding read
-read-through bytes t n v a s l two = rw (l, two, v, a, s, eq-eqb n n refl) refl
+read-through bytes v t n version known tag s l two =
+    let long : nat_lt n 2 ≡ false = grind (arith, two) in
+    rw (l, long, version, known_is v known, tag, s, eq-eqb n n refl) refl
 
 cells : (v t : ℕ) (ss : List Size) (vs code : List ℕ) (b : List ℕ) → b ≡ row (One ∷ One ∷ ss) (v ∷ t ∷ vs) → (get_or (b ++ code) 0 0 ≡ v) × (get_or (b ++ code) 1 0 ≡ t)
 cells v t ss vs code b e =
@@ -341,26 +424,26 @@ mark_long x found e = let l = let_through _ _ _ _ e in eqb-true _ _ l.0
 pub read-body : (x : Message) (code : List ℕ) → IsWhole x → length code ≡ code_room x → read (body x ++ code) ≡ Ok x
 unfolding body
 read-body (m.Request q) code w l =
-    let c = cells q.version 1 (drop 2 (request_table Four)) (drop 2 (request_values q)) code (body (m.Request q)) refl in
-    read-through (body (m.Request q) ++ code) 1 71 (c.0 ∙ w.0) c.1 size_1 (long_body (request_table Four) (request_values q) code _ 39 32 w.1 refl refl l) refl
-    ∙ request_at-body q code w
+    let c = cells q.version 1 (drop 2 (request_table (sum_size q.version))) (drop 2 (request_values q)) code (body (m.Request q)) refl in
+    let long = long_body (request_table (sum_size q.version)) (request_values q) code (body (m.Request q)) _ 32 w.1 refl refl l in
+    read-through (body (m.Request q) ++ code) q.version 1 _ c.0 w.0 c.1 (size_request q.version) long (omega arith) ∙ request_at-body q code w
 read-body (m.Reply r) code w l =
-    let c = cells r.version 2 (drop 2 (reply_table Four)) (drop 2 (reply_values r)) code (body (m.Reply r)) refl in
-    read-through (body (m.Reply r) ++ code) 2 56 (c.0 ∙ w.0) c.1 size_2 (long_body (reply_table Four) (reply_values r) code _ 24 32 w.1 refl refl l) refl
-    ∙ reply_at-body r code w
+    let c = cells r.version 2 (drop 2 (reply_table (sum_size r.version))) (drop 2 (reply_values r)) code (body (m.Reply r)) refl in
+    let long = long_body (reply_table (sum_size r.version)) (reply_values r) code (body (m.Reply r)) _ 32 w.1 refl refl l in
+    read-through (body (m.Reply r) ++ code) r.version 2 _ c.0 w.0 c.1 (size_reply r.version) long (omega arith) ∙ reply_at-body r code w
 read-body (m.Done r) code w l =
     let c = cells 1 3 (drop 2 done_table) (drop 2 (done_values r)) code (body (m.Done r)) refl in
-    read-through (body (m.Done r) ++ code) 3 42 c.0 c.1 size_3 (long_body done_table (done_values r) code _ 10 32 w refl refl l) refl
+    read-through (body (m.Done r) ++ code) 1 3 42 c.0 (omega arith, omega arith) c.1 size_3 (long_body done_table (done_values r) code _ 10 32 w refl refl l) (omega arith)
     ∙ ap (λ y. Ok y) (done_at-body r code w)
 read-body (m.Debit r) code w l =
     let c = cells 1 16 (drop 2 debit_table) (drop 2 (debit_values r)) code (body (m.Debit r)) refl in
-    read-through (body (m.Debit r) ++ code) 16 16 c.0 c.1 size_16 (long_body debit_table (debit_values r) code _ 16 0 w refl refl l) refl
+    read-through (body (m.Debit r) ++ code) 1 16 16 c.0 (omega arith, omega arith) c.1 size_16 (long_body debit_table (debit_values r) code _ 16 0 w refl refl l) (omega arith)
     ∙ ap (λ y. Ok y) (debit_at-body r code w)
 read-body (m.Release x) code w l =
     let none : code ≡ [] = no_cells code l in
     let long : length x ≡ 64 = mark_long x w.0 w.1 in
     ap (λ k. read (1 ∷ 17 ∷ x ++ k)) none ∙ ap read (append-nil (1 ∷ 17 ∷ x))
-    ∙ read-through (1 ∷ 17 ∷ x) 17 66 refl refl size_17 (omega (arith, long)) refl ∙ release_at-body x w.0 w.1
+    ∙ read-through (1 ∷ 17 ∷ x) 1 17 66 refl (omega arith, omega arith) refl size_17 (omega (arith, long)) (omega arith) ∙ release_at-body x w.0 w.1
 
 pub read-spell : (x : Message) (key : List ℕ) → IsWhole x → read (spell x key) ≡ Ok x
 unfolding spell
@@ -408,9 +491,9 @@ spell-back x key bytes c h e w =
 pub length-spell : (x : Message) (key : List ℕ) → is_coded x ≡ true → length (spell x key) ≡ length (body x) + 32
 length-spell x key c = ap length (spell-coded x key c) ∙ length-append (body x) (hmac key (body x)) ∙ ap (λ k. length (body x) + k) (length-hmac key (body x))
 
-pub length-request : (q : Request) (key : List ℕ) → IsWhole (m.Request q) → length (spell (m.Request q) key) ≡ 71
+pub length-request : (q : Request) (key : List ℕ) → IsWhole (m.Request q) → length (spell (m.Request q) key) ≡ request_room q.version + 32
 unfolding body
-length-request q key w = length-spell (m.Request q) key refl ∙ ap (λ n. n + 32) (length-row (request_table Four) (request_values q) w.1)
+length-request q key w = length-spell (m.Request q) key refl ∙ ap (λ n. n + 32) (length-row (request_table (sum_size q.version)) (request_values q) w.1)
 
 -- a message without a code is its body
 pub spell-uncoded : (x : Message) (key bytes : List ℕ) → is_coded x ≡ false → IsBytes bytes → read bytes ≡ Ok x → spell x key ≡ bytes
@@ -421,9 +504,9 @@ spell-uncoded x key bytes c h e =
     let none : found.0 ≡ [] = no_cells found.0 (r.long ∙ ap (λ b. cond b 32 0) c) in
     ap (λ b. cond b (body x ++ hmac key (body x)) (body x)) c ∙ sym (append-nil (body x)) ∙ ap (λ k. body x ++ k) (sym none) ∙ sym r.spelled
 
-pub length-reply : (r : ReplyMsg) (key : List ℕ) → IsWhole (m.Reply r) → length (spell (m.Reply r) key) ≡ 56
+pub length-reply : (r : ReplyMsg) (key : List ℕ) → IsWhole (m.Reply r) → length (spell (m.Reply r) key) ≡ reply_room r.version + 32
 unfolding body
-length-reply r key w = length-spell (m.Reply r) key refl ∙ ap (λ n. n + 32) (length-row (reply_table Four) (reply_values r) w.1)
+length-reply r key w = length-spell (m.Reply r) key refl ∙ ap (λ n. n + 32) (length-row (reply_table (sum_size r.version)) (reply_values r) w.1)
 
 pub length-done : (r : DoneMsg) (key : List ℕ) → IsWhole (m.Done r) → length (spell (m.Done r) key) ≡ 42
 unfolding body
@@ -478,3 +561,53 @@ pub under-none : (bytes key : List ℕ) → IfNone (coded_in (read bytes)) ((x :
 under-none bytes key = if_none (coded_in (read bytes)) _
     (λ none x c w e. let is : coded_in (read bytes) ≡ Some x = ap (λ b. coded_in (read b)) (sym e) ∙ ap coded_in (read-spell x key w) ∙ coded-some x c in
     absurd (none_is (sym none ∙ is)))
+
+-- == a body without its code ==
+
+-- a body with its code under a key reads as the message
+pub reads-body : (x : Message) (key : List ℕ) → is_coded x ≡ true → IsWhole x → read (body x ++ hmac key (body x)) ≡ Ok x
+reads-body x key coded w = ap read (sym (spell-coded x key coded)) ∙ read-spell x key w
+
+room_coded : (x : Message) → is_coded x ≡ true → code_room x ≡ 32
+room_coded x c = ap (λ b. cond b 32 0) c
+
+-- messages of one body are one message
+pub one-body : (x y : Message) → is_coded x ≡ true → is_coded y ≡ true → IsWhole x → IsWhole y → body x ≡ body y → x ≡ y
+one-body x y c d v w e =
+    let zeros : List ℕ = replicate 32 0 in
+    right (sym (read-body x zeros v (sym (room_coded x c))) ∙ ap (λ b. read (b ++ zeros)) e ∙ read-body y zeros w (sym (room_coded y d)))
+
+pub length-coded_body : (x : Message) → is_coded x ≡ true → IsWhole x → length (body x) ≤ 55
+unfolding body
+length-coded_body (m.Request q) c w = let long = length-row (request_table (sum_size q.version)) (request_values q) w.1 in rw long (request_room-le q.version)
+length-coded_body (m.Reply r) c w = let long = length-row (reply_table (sum_size r.version)) (reply_values r) w.1 in rw long (reply_room-le r.version)
+length-coded_body (m.Done r) c w = omega (arith, length-row done_table (done_values r) w)
+length-coded_body (m.Debit r) c w = absurd (cc)
+length-coded_body (m.Release x) c w = absurd (cc)
+
+-- bytes laid into zeros, and the 32 zeros behind them
+pub filled : (bytes new : List ℕ) → length bytes ≤ 55 → new ≡ bytes → take (length bytes + 32) (new ++ drop (length bytes) (replicate 87 0)) ≡ bytes ++ replicate 32 0
+filled bytes new short same =
+    let rest : List ℕ = drop (length bytes) (replicate 87 0) in
+    ap (λ f. take (length bytes + 32) (f ++ rest)) same
+    ∙ sym (joined 0 (length bytes) 32 (bytes ++ rest))
+    ∙ ap₂ (λ a b. a ++ b) (take_at bytes rest (length bytes) refl)
+    (ap (take 32) (drop_at bytes rest (0 + length bytes) (omega arith) ∙ drop-replicate (length bytes) 87 0) ∙ take-replicate 32 (87 - length bytes) 0 (omega (arith, short)))
+
+-- bytes with 32 zeros behind them read as a message exactly where they are its body
+pub body-found : (bytes : List ℕ) → IsBytes (bytes ++ replicate 32 0)
+    → IfSome (coded_in (read (bytes ++ replicate 32 0))) (λ x. IsCoded x × IsWhole x × (body x ≡ bytes))
+body-found bytes h = if_some (coded_in (read (bytes ++ replicate 32 0))) _
+    (λ x e.
+    let is = coded-found (read (bytes ++ replicate 32 0)) x e in
+    let found = read-found (bytes ++ replicate 32 0) x h is.0 in
+    let parts = cut bytes (replicate 32 0) (bytes ++ replicate 32 0) refl refl in
+    let front = cut (body x) found.0 (bytes ++ replicate 32 0) (found.1.long ∙ room_coded x is.1) found.1.spelled in
+    (is.1, found.1.whole, sym front.0 ∙ parts.0))
+
+pub body-none : (bytes : List ℕ) → IfNone (coded_in (read (bytes ++ replicate 32 0))) ((x : Message) → IsCoded x → IsWhole x → body x ≢ bytes)
+body-none bytes = if_none (coded_in (read (bytes ++ replicate 32 0))) _
+    (λ none x c w e.
+    let reads : coded_in (read (bytes ++ replicate 32 0)) ≡ Some x =
+    ap (λ b. coded_in (read (b ++ replicate 32 0))) (sym e) ∙ ap coded_in (read-body x (replicate 32 0) w (sym (room_coded x c))) ∙ coded-some x c in
+    absurd (none_is (sym none ∙ reads)))

@@ -1,19 +1,20 @@
 -- Why bytes are no message. Each fault holds only where those before it do not.
-use Rattle.std.specs.Prelude.{◌≡◌, ◌≢◌, ℕ, ℤ, ◌<◌, ◌≤◌, ◌⊎◌, List, length, take, drop, slice_index, Option, Some, None, IsSome, IsErr}
+use Rattle.std.specs.Prelude.{◌≡◌, ◌≢◌, ◌==◌, if◌then◌else◌, ℕ, ℤ, ◌<◌, ◌≤◌, ◌⊎◌, List, length, take, drop, slice_index, Option, Some, None, IsSome, IsErr}
 use Rattle.std.specs.Int.{w32, from_be_bytes, cast_signed}
 use Rattle.bench_base.specs.declared.words.Kind.{Kind}
 use Rattle.bench_base.specs.declared.words.Verdict.{Verdict}
 use Rattle.bench_base.specs.declared.refusals.Unread.{Unread}
 use Rattle.bench_base.specs.declared.refusals.Unread.TheVariants as unread
+use Rattle.bench_base.specs.Rules.{IsVersion}
 use Rattle.indicium.specs.Marks.{read_mark}
 use Rattle.psd_wire.specs.Grammar.{kind_of, verdict_of, day_of, size_of}
 
--- the version is 1, and the tag is one of the five, with messages of n bytes
+-- the version is 1 or 2, and the tag is one of that version, with messages of n bytes
 pub record IsTagged (bytes : List ℕ) (t n : ℕ) : Type 0 where
   pub two : 2 ≤ length bytes
-  pub version : slice_index bytes 0 ≡ 1
+  pub version : IsVersion (slice_index bytes 0)
   pub tag : slice_index bytes 1 ≡ t
-  pub size : size_of t ≡ Some n
+  pub size : size_of (slice_index bytes 0) t ≡ Some n
 
 -- a message of the tag, as far as its length goes
 abbrev pub IsFramed : List ℕ → ℕ → Type 0
@@ -26,13 +27,17 @@ kind_at bytes = kind_of (slice_index bytes 10)
 abbrev pub verdict_at : List ℕ → Option Verdict
 verdict_at bytes = verdict_of (slice_index bytes 11)
 
+-- the day is the last field
+abbrev pub day_place : ℕ → ℕ
+day_place version = if version == 1 then 35 else 51
+
 abbrev pub day_at : List ℕ → Option ℤ
-day_at bytes = day_of (cast_signed w32 (from_be_bytes w32 (take 4 (drop 35 bytes))))
+day_at bytes = day_of (cast_signed w32 (from_be_bytes w32 (take 4 (drop (day_place (slice_index bytes 0)) bytes))))
 
 abbrev pub HasFault : Unread → List ℕ → Type 0
 HasFault unread.Length bytes = (length bytes < 2) ⊎ ((tag : ℕ) × (n : ℕ) × IsTagged bytes tag n × (length bytes ≢ n))
-HasFault unread.Version bytes = (2 ≤ length bytes) × (slice_index bytes 0 ≢ 1)
-HasFault unread.Tag bytes = (2 ≤ length bytes) × (slice_index bytes 0 ≡ 1) × (size_of (slice_index bytes 1) ≡ None)
+HasFault unread.Version bytes = (2 ≤ length bytes) × (slice_index bytes 0 ≢ 1) × (slice_index bytes 0 ≢ 2)
+HasFault unread.Tag bytes = (2 ≤ length bytes) × IsVersion (slice_index bytes 0) × (size_of (slice_index bytes 0) (slice_index bytes 1) ≡ None)
 HasFault unread.Kind bytes = (IsFramed bytes 1 ⊎ IsFramed bytes 2) × (kind_at bytes ≡ None)
 HasFault unread.Verdict bytes = IsFramed bytes 2 × IsSome (kind_at bytes) × (verdict_at bytes ≡ None)
 HasFault unread.Day bytes = IsFramed bytes 1 × IsSome (kind_at bytes) × (day_at bytes ≡ None)

@@ -1,9 +1,10 @@
--- The messages, version 1. Each layout is a table of sizes, and a row of numbers.
+-- The messages, of which a Request and a Reply have two versions. Each layout is a table of sizes, and a row of numbers.
 use Rattle.std.specs.Prelude.{◌≡◌, ℕ, ◌≤◌, ◌-◌, ℤ, pos, Bool, true, false, ◌≤ℤ◌, List, [], ◌∷◌, ◌++◌, length, take, drop, get_or, Option, Some, None, Result, Ok, Err, ◌==◌, ◌&&◌, nat_lt, if◌then◌else◌, FitsSigned}
 use lib.Signed.{le_z}
 use Rattle.std.specs.Int.{w32, cast_unsigned, cast_signed}
 use Rattle.hmac_core.specs.Hmac.{hmac}
-use Rattle.bench_base.specs.Table.{Size, One, Two, Four, row, values, Fit}
+use Rattle.bench_base.specs.Table.{Size, One, Two, Four, Eight, row, values, Fit}
+use Rattle.bench_base.specs.Rules.{is_version, IsVersion}
 use Rattle.bench_base.specs.declared.words.Kind.{Kind}
 use Rattle.bench_base.specs.declared.words.Kind.TheVariants.{Enrol, Reset, Audit, Refund, Withdraw}
 use Rattle.bench_base.specs.declared.words.Verdict.{Verdict}
@@ -43,6 +44,10 @@ verdict_of n = if n == 0 then Some Granted else if n == 1 then Some NotEnrolled 
 
 -- == the layouts ==
 
+-- the sums of a Request and the amount of a Reply: four bytes in version 1, eight in version 2
+abbrev pub sum_size : ℕ → Size
+sum_size version = if version == 1 then Four else Eight
+
 -- version, tag, device, number, kind, customer, amount, ascending, descending, refunded, pieces, day; sums have that size
 abbrev pub request_table : Size → List Size
 request_table s = One ∷ One ∷ Four ∷ Four ∷ One ∷ Four ∷ s ∷ s ∷ s ∷ s ∷ Four ∷ Four ∷ []
@@ -75,8 +80,8 @@ debit_values r = 1 ∷ 16 ∷ r.device ∷ r.piece ∷ r.postage ∷ r.class ∷
 
 -- all but the code
 unfoldable pub body : Message → List ℕ
-body (m.Request q) = row (request_table Four) (request_values q)
-body (m.Reply r) = row (reply_table Four) (reply_values r)
+body (m.Request q) = row (request_table (sum_size q.version)) (request_values q)
+body (m.Reply r) = row (reply_table (sum_size r.version)) (reply_values r)
 body (m.Done r) = row done_table (done_values r)
 body (m.Debit r) = row debit_table (debit_values r)
 body (m.Release x) = 1 ∷ 17 ∷ x
@@ -97,8 +102,8 @@ IsDay z = (pos 10957 ≤ℤ z) × (z ≤ℤ pos 84005)
 
 -- what has a spelling
 abbrev pub IsWhole : Message → Type 0
-IsWhole (m.Request q) = (q.version ≡ 1) × Fit (request_table Four) (request_values q) × IsDay q.day
-IsWhole (m.Reply r) = (r.version ≡ 1) × Fit (reply_table Four) (reply_values r) × FitsSigned w32 r.deadline
+IsWhole (m.Request q) = IsVersion q.version × Fit (request_table (sum_size q.version)) (request_values q) × IsDay q.day
+IsWhole (m.Reply r) = IsVersion r.version × Fit (reply_table (sum_size r.version)) (reply_values r) × FitsSigned w32 r.deadline
 IsWhole (m.Done r) = Fit done_table (done_values r)
 IsWhole (m.Debit r) = Fit debit_table (debit_values r)
 IsWhole (m.Release x) = (found : Mark × List ℕ) × (read_mark x ≡ Ok found)
@@ -126,8 +131,12 @@ HasCode bytes key = (32 ≤ length bytes) × (drop (length bytes - 32) bytes ≡
 
 -- == reading ==
 
-unfoldable pub size_of : ℕ → Option ℕ
-size_of n = if n == 1 then Some 71 else if n == 2 then Some 56 else if n == 3 then Some 42 else if n == 16 then Some 16 else if n == 17 then Some 66 else None
+-- how many bytes a message of this version and tag has; version 2 has a Request and a Reply alone
+unfoldable pub size_of : ℕ → ℕ → Option ℕ
+size_of v t =
+    if v == 1
+    then (if t == 1 then Some 71 else if t == 2 then Some 56 else if t == 3 then Some 42 else if t == 16 then Some 16 else if t == 17 then Some 66 else None)
+    else (if t == 1 then Some 87 else if t == 2 then Some 60 else None)
 
 abbrev pub given : {A B : Type 0} → Unread → Option A → (A → Result B Unread) → Result B Unread
 given e None f = Err e
@@ -156,7 +165,7 @@ abbrev pub request_in : List ℕ → Result Message Unread
 request_in vs = given unread.Kind (kind_of (get_or vs 4 0)) (λ kind. given unread.Day (day_of (cast_signed w32 (get_or vs 11 0))) (λ day. Ok (m.Request (request_from vs kind day))))
 
 unfoldable pub request_at : List ℕ → Result Message Unread
-request_at bytes = request_in (values 0 (request_table Four) bytes)
+request_at bytes = request_in (values 0 (request_table (sum_size (get_or bytes 0 0))) bytes)
 
 abbrev pub reply_from : List ℕ → Kind → Verdict → ReplyMsg
 reply_from vs kind verdict = record {
@@ -174,7 +183,7 @@ abbrev pub reply_in : List ℕ → Result Message Unread
 reply_in vs = given unread.Kind (kind_of (get_or vs 4 0)) (λ kind. given unread.Verdict (verdict_of (get_or vs 5 0)) (λ verdict. Ok (m.Reply (reply_from vs kind verdict))))
 
 unfoldable pub reply_at : List ℕ → Result Message Unread
-reply_at bytes = reply_in (values 0 (reply_table Four) bytes)
+reply_at bytes = reply_in (values 0 (reply_table (sum_size (get_or bytes 0 0))) bytes)
 
 abbrev pub done_from : List ℕ → DoneMsg
 done_from vs = record { device = get_or vs 2 0; number = get_or vs 3 0 }
@@ -207,8 +216,8 @@ by_tag t bytes =
 unfoldable pub read : List ℕ → Result Message Unread
 read bytes =
     if nat_lt (length bytes) 2 then Err unread.Length
-    else if get_or bytes 0 0 == 1
-    then given unread.Tag (size_of (get_or bytes 1 0)) (λ n. if length bytes == n then by_tag (get_or bytes 1 0) bytes else Err unread.Length)
+    else if is_version (get_or bytes 0 0)
+    then given unread.Tag (size_of (get_or bytes 0 0) (get_or bytes 1 0)) (λ n. if length bytes == n then by_tag (get_or bytes 1 0) bytes else Err unread.Length)
     else Err unread.Version
 
 -- the message that was read, if it ends in a code

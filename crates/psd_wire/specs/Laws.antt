@@ -1,8 +1,9 @@
 -- The laws of messages and their spellings.
-use Rattle.std.specs.Prelude.{◌≡◌, List, ℕ, true, false, Ok}
+use Rattle.std.specs.Prelude.{◌≡◌, List, ℕ, ◌++◌, true, false, Ok}
+use Rattle.hmac_core.specs.Hmac.{hmac}
 use Rattle.bench_base.specs.Table.{IsBytes}
 use Rattle.psd_wire.specs.declared.message.Message.{Message}
-use Rattle.psd_wire.specs.Grammar.{spell, is_coded, IsWhole, read, IsReading, HasCode}
+use Rattle.psd_wire.specs.Grammar.{body, spell, is_coded, IsWhole, read, IsReading, HasCode}
 
 -- what is written is read back as the same message
 abbrev pub ReadsBack : Type 0
@@ -27,3 +28,11 @@ OneSpelling = (x y : Message) (key : List ℕ) → IsWhole x → IsWhole y → s
 -- bytes read as one message at most, whatever their code
 abbrev pub OneReading : Type 0
 OneReading = (bytes : List ℕ) (x y : Message) → IsReading bytes x → IsReading bytes y → x ≡ y
+
+-- a body with its code under a key behind it reads as the message
+abbrev pub ReadsBody : Type 0
+ReadsBody = (x : Message) (key : List ℕ) → is_coded x ≡ true → IsWhole x → read (body x ++ hmac key (body x)) ≡ Ok x
+
+-- messages of one body are one message
+abbrev pub OneBody : Type 0
+OneBody = (x y : Message) → is_coded x ≡ true → is_coded y ≡ true → IsWhole x → IsWhole y → body x ≡ body y → x ≡ y

@@ -9,6 +9,6 @@ mod theorems;
 mod writing;
 
 pub use message::{DebitMsg, DoneMsg, Message, ReplyMsg, Request};
-pub use reading::{code_matches, read_message, read_under};
+pub use reading::{code_matches, read_body, read_message, read_under};
 pub use theorems::{one_spelling, round_trip};
-pub use writing::write_message;
+pub use writing::{write_body, write_message};

@@ -5,7 +5,7 @@ use bench_base::words::{Kind, Verdict};
 /// What a device asks of the centre, with its registers as they stood.
 #[derive(Clone, Copy)]
 pub struct Request {
-    /// The version of the layout: 1.
+    /// The version of the layout: 1 or 2. In version 1 the amount and the registers are below 2^32.
     pub version: u8,
     pub device: u32,
     /// The number of the transaction, counted by the device from 1.
@@ -23,7 +23,7 @@ pub struct Request {
 /// How the centre ruled on a request, and what the device may do by it.
 #[derive(Clone, Copy)]
 pub struct ReplyMsg {
-    /// The version of the layout: 1.
+    /// The version of the layout, that of the request. In version 1 the amount is below 2^32.
     pub version: u8,
     pub device: u32,
     /// The number of the request.

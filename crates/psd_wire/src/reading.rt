@@ -1,13 +1,14 @@
 //! Messages out of bytes.
-ghost use Rattle.std.specs.Prelude.{◌≡◌, ◌≢◌, ◌≤◌, ◌↔◌, IsTrue, IfOk, IfSome, IfNone, IsErrOf, Ok, length};
+ghost use Rattle.std.specs.Prelude.{◌≡◌, ◌≢◌, ◌≤◌, ◌↔◌, IsTrue, IfOk, IfSome, IfNone, IsErrOf, Ok, length, slice_index};
+ghost use Rattle.bench_base.specs.Table.{Four, Eight, room, values};
 ghost use Rattle.bench_base.specs.declared.refusals.Unread.{Unread as TheUnread};
 ghost use Rattle.psd_wire.specs.declared.message.Message.{Message as TheMessage};
-ghost use Rattle.psd_wire.specs.Grammar.{read, kind_of, verdict_of, size_of, request_at, reply_at, done_at, debit_at, release_at, spell, IsWhole, IsCoded, IsReading, HasCode, coded_in};
+ghost use Rattle.psd_wire.specs.Grammar.{read, kind_of, verdict_of, size_of, sum_size, request_table, reply_table, request_in, reply_in, request_at, reply_at, done_at, debit_at, release_at, body, spell, IsWhole, IsCoded, IsReading, HasCode, coded_in};
 ghost use Rattle.psd_wire.specs.Faults.{HasFault};
 
 use crate::message::{DebitMsg, DoneMsg, Message, ReplyMsg, Request};
-use bench_base::fields::{i32_at, u16_at, u32_at};
-use bench_base::numbers::DayNo;
+use bench_base::fields::{i32_at, u16_at, u32_at, u64_at};
+use bench_base::numbers::{DayNo, is_known_version};
 use bench_base::refusals::Unread;
 use bench_base::words::{Key, Kind, Verdict};
 use hmac_core::matches;
@@ -43,25 +44,40 @@ fn verdict_from(code: u8) -> Option<Verdict>
     }
 }
 
-// How many bytes a message of this tag has.
+// How many bytes a message of this version and tag has.
 #[tactic(auto, unfolding(crate::specs::Grammar::size_of))]
-fn length_of(tag: u8) -> Option<usize>
-    ensures { result ≡ size_of tag }
+fn length_of(version: u8, tag: u8) -> Option<usize>
+    ensures { result ≡ size_of version tag }
 {
-    match tag {
-        1 => Some(71),
-        2 => Some(56),
-        3 => Some(42),
-        16 => Some(16),
-        17 => Some(66),
+    match (version == 1, tag) {
+        (true, 1) => Some(71),
+        (true, 2) => Some(56),
+        (true, 3) => Some(42),
+        (true, 16) => Some(16),
+        (true, 17) => Some(66),
+        (false, 1) => Some(87),
+        (false, 2) => Some(60),
         _ => None,
     }
 }
 
-#[tactic(auto, unfolding(crate::specs::Grammar::request_at, crate::specs::Grammar::day_of, bench_base::specs::Table::number))]
+#[tactic(auto, unfolding(crate::specs::Grammar::request_at))]
 fn request_from(bytes: &[u8]) -> Result<Message, Unread>
-    requires { 39 ≤ length bytes.now }
+    requires { room (request_table (sum_size (slice_index bytes.now 0))) ≤ length bytes.now }
     ensures { result ≡ request_at bytes.now }
+{
+    if bytes[0] == 1 {
+        first_request(bytes)
+    } else {
+        second_request(bytes)
+    }
+}
+
+// A Request of version 1.
+#[tactic(auto, unfolding(crate::specs::Grammar::day_of, bench_base::specs::Table::number))]
+fn first_request(bytes: &[u8]) -> Result<Message, Unread>
+    requires { 39 ≤ length bytes.now }
+    ensures { result ≡ request_in (values 0 (request_table Four) bytes.now) }
 {
     let Some(kind) = kind_from(bytes[10]) else {
         return Err(Unread::Kind);
@@ -84,10 +100,50 @@ fn request_from(bytes: &[u8]) -> Result<Message, Unread>
     }))
 }
 
-#[tactic(auto, unfolding(crate::specs::Grammar::reply_at, bench_base::specs::Table::number))]
+// A Request of version 2.
+#[tactic(auto, unfolding(crate::specs::Grammar::day_of, bench_base::specs::Table::number))]
+fn second_request(bytes: &[u8]) -> Result<Message, Unread>
+    requires { 55 ≤ length bytes.now }
+    ensures { result ≡ request_in (values 0 (request_table Eight) bytes.now) }
+{
+    let Some(kind) = kind_from(bytes[10]) else {
+        return Err(Unread::Kind);
+    };
+    let Some(day) = DayNo::new(i32_at(bytes, 51)) else {
+        return Err(Unread::Day);
+    };
+    Ok(Message::Request(Request {
+        version: bytes[0],
+        device: u32_at(bytes, 2),
+        number: u32_at(bytes, 6),
+        kind,
+        customer: u32_at(bytes, 11),
+        amount: u64_at(bytes, 15),
+        ascending: u64_at(bytes, 23),
+        descending: u64_at(bytes, 31),
+        refunded: u64_at(bytes, 39),
+        pieces: u32_at(bytes, 47),
+        day,
+    }))
+}
+
+#[tactic(auto, unfolding(crate::specs::Grammar::reply_at))]
 fn reply_from(bytes: &[u8]) -> Result<Message, Unread>
-    requires { 24 ≤ length bytes.now }
+    requires { room (reply_table (sum_size (slice_index bytes.now 0))) ≤ length bytes.now }
     ensures { result ≡ reply_at bytes.now }
+{
+    if bytes[0] == 1 {
+        first_reply(bytes)
+    } else {
+        second_reply(bytes)
+    }
+}
+
+// A Reply of version 1.
+#[tactic(auto, unfolding(bench_base::specs::Table::number))]
+fn first_reply(bytes: &[u8]) -> Result<Message, Unread>
+    requires { 24 ≤ length bytes.now }
+    ensures { result ≡ reply_in (values 0 (reply_table Four) bytes.now) }
 {
     let Some(kind) = kind_from(bytes[10]) else {
         return Err(Unread::Kind);
@@ -104,6 +160,30 @@ fn reply_from(bytes: &[u8]) -> Result<Message, Unread>
         amount: u64::from(u32_at(bytes, 12)),
         deadline: i32_at(bytes, 16),
         origin: u32_at(bytes, 20),
+    }))
+}
+
+// A Reply of version 2.
+#[tactic(auto, unfolding(bench_base::specs::Table::number))]
+fn second_reply(bytes: &[u8]) -> Result<Message, Unread>
+    requires { 28 ≤ length bytes.now }
+    ensures { result ≡ reply_in (values 0 (reply_table Eight) bytes.now) }
+{
+    let Some(kind) = kind_from(bytes[10]) else {
+        return Err(Unread::Kind);
+    };
+    let Some(verdict) = verdict_from(bytes[11]) else {
+        return Err(Unread::Verdict);
+    };
+    Ok(Message::Reply(ReplyMsg {
+        version: bytes[0],
+        device: u32_at(bytes, 2),
+        number: u32_at(bytes, 6),
+        kind,
+        verdict,
+        amount: u64_at(bytes, 12),
+        deadline: i32_at(bytes, 20),
+        origin: u32_at(bytes, 24),
     }))
 }
 
@@ -155,10 +235,10 @@ fn message_of(bytes: &[u8]) -> Result<Message, Unread>
     if bytes.len() < 2 {
         return Err(Unread::Length);
     }
-    if bytes[0] != 1 {
+    if !is_known_version(bytes[0]) {
         return Err(Unread::Version);
     }
-    let Some(length) = length_of(bytes[1]) else {
+    let Some(length) = length_of(bytes[0], bytes[1]) else {
         return Err(Unread::Tag);
     };
     if bytes.len() != length {
@@ -175,9 +255,9 @@ fn message_of(bytes: &[u8]) -> Result<Message, Unread>
 
 /// The message of these bytes. The code behind it is not checked.
 ///
-/// The first fault is answered: `Length` where there are fewer than two bytes, `Version` where byte 0 is not 1,
-/// `Tag` where byte 1 is no tag, `Length` where there are not as many bytes as the tag has, `Kind` where the
-/// kind's byte is not 1 to 5, `Verdict` where the verdict's byte is not 0 to 6, `Day` where a Request's day is
+/// The first fault is answered: `Length` where there are fewer than two bytes, `Version` where byte 0 is
+/// neither 1 nor 2, `Tag` where byte 1 is no tag of that version, `Length` where there are not as many bytes as
+/// version and tag have, `Kind` where the kind's byte is not 1 to 5, `Verdict` where the verdict's byte is not 0 to 6, `Day` where a Request's day is
 /// out of range, and `Mark` where a Release's 64 bytes are no indicium.
 pub fn read_message(bytes: &[u8]) -> Result<Message, Unread>
     ensures exact { result ≡ read bytes.now }
@@ -210,6 +290,20 @@ pub fn read_under(bytes: &[u8], key: &Key) -> Option<Message>
     } else {
         None
     }
+}
+
+/// The message whose body the bytes are, among those that end in a code; None exactly where they are the body of
+/// none. A body is all but the code.
+pub fn read_body(bytes: &[u8]) -> Option<Message>
+    ensures found { IfSome result (λ x. IsCoded x × IsWhole x × (body x ≡ bytes.now)) }
+    ensures none { IfNone result ((x : TheMessage) → IsCoded x → IsWhole x → body x ≢ bytes.now) }
+{
+    if bytes.len() > 55 {
+        return None;
+    }
+    let mut filled = [0; 87];
+    filled[..bytes.len()].copy_from_slice(bytes);
+    coded_of(read_message(&filled[..bytes.len() + 32]))
 }
 
 // The message that was read, if it ends in a code.

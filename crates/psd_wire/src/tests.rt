@@ -1,10 +1,11 @@
 //! Messages against bytes of an independent program.
 ghost use Rattle.std.specs.Prelude.{◌≡◌, ◌<◌, ◌≤◌, ◌≤ℤ◌, pos, length};
+ghost use Rattle.bench_base.specs.Rules.{IsVersion};
 ghost use Rattle.psd_wire.specs.Grammar.{IsWhole};
 
 use crate::{
-    DebitMsg, DoneMsg, Message, ReplyMsg, Request, code_matches, read_message, read_under,
-    write_message,
+    DebitMsg, DoneMsg, Message, ReplyMsg, Request, code_matches, read_body, read_message,
+    read_under, write_body, write_message,
 };
 use bench_base::numbers::DayNo;
 use bench_base::refusals::Unread;
@@ -27,6 +28,24 @@ const REPLY: [u8; 56] = [
     0x00, 0x00, 0x50, 0x7d, 0x00, 0x01, 0x6f, 0x99, 0x6e, 0x33, 0x36, 0x9a, 0x60, 0x13, 0x90, 0x5b,
     0xed, 0x4a, 0x70, 0xfe, 0x18, 0xe4, 0xb1, 0xac, 0xe3, 0x06, 0x26, 0x6c, 0x23, 0xae, 0x3a, 0x96,
     0x2e, 0xf3, 0xe4, 0x42, 0xb5, 0x4d, 0x49, 0xe4,
+];
+
+/// The same reset in version 2.
+const REQUEST_OF_TWO: [u8; 87] = [
+    0x02, 0x01, 0x00, 0x00, 0x00, 0x01, 0x00, 0x00, 0x00, 0x03, 0x02, 0x00, 0x00, 0x00, 0x01, 0x00,
+    0x00, 0x00, 0x00, 0x00, 0x00, 0xc3, 0x50, 0x00, 0x00, 0x00, 0x00, 0x00, 0x00, 0x00, 0x00, 0x00,
+    0x00, 0x00, 0x00, 0x00, 0x00, 0x00, 0x00, 0x00, 0x00, 0x00, 0x00, 0x00, 0x00, 0x00, 0x00, 0x00,
+    0x00, 0x00, 0x00, 0x00, 0x00, 0x50, 0x21, 0x6e, 0xa2, 0xac, 0xcb, 0xb2, 0xb1, 0x36, 0x39, 0x22,
+    0xef, 0x2e, 0xbc, 0xbd, 0x04, 0x04, 0x95, 0x7a, 0x72, 0xe3, 0x31, 0xf3, 0x01, 0xea, 0x95, 0xd7,
+    0xd2, 0xb0, 0xa7, 0x15, 0x4e, 0xb1, 0x7a,
+];
+
+/// And its reply.
+const REPLY_OF_TWO: [u8; 60] = [
+    0x02, 0x02, 0x00, 0x00, 0x00, 0x01, 0x00, 0x00, 0x00, 0x03, 0x02, 0x00, 0x00, 0x00, 0x00, 0x00,
+    0x00, 0x00, 0xc3, 0x50, 0x00, 0x00, 0x50, 0x7d, 0x00, 0x01, 0x6f, 0x99, 0x52, 0xac, 0x92, 0x20,
+    0x5a, 0x40, 0x17, 0x38, 0x97, 0xe1, 0x3a, 0xae, 0xcc, 0xfe, 0x42, 0x64, 0x8f, 0x47, 0xb4, 0x27,
+    0x0c, 0x0a, 0xfc, 0xac, 0xf2, 0x55, 0xea, 0x75, 0x3d, 0x37, 0xbe, 0xb6,
 ];
 
 /// Device 1 has applied number 3.
@@ -67,6 +86,24 @@ const DISTINCT_REPLY: [u8; 56] = [
     0xd8, 0xac, 0xb8, 0x01, 0xb1, 0xc4, 0x08, 0xdc,
 ];
 
+/// A withdrawal of version 2 whose numbers all differ.
+const DISTINCT_REQUEST_OF_TWO: [u8; 87] = [
+    0x02, 0x01, 0xff, 0xfe, 0xfd, 0xfc, 0x01, 0x02, 0x03, 0x04, 0x05, 0x05, 0x06, 0x07, 0x08, 0x09,
+    0x0a, 0x0b, 0x0c, 0x0d, 0x0e, 0x0f, 0x10, 0x11, 0x12, 0x13, 0x14, 0x15, 0x16, 0x17, 0x18, 0x19,
+    0x1a, 0x1b, 0x1c, 0x1d, 0x1e, 0x1f, 0x20, 0x21, 0x22, 0x23, 0x24, 0x25, 0x26, 0x27, 0x28, 0x29,
+    0x2a, 0x2b, 0x2c, 0x00, 0x01, 0x48, 0x25, 0x35, 0xfb, 0x42, 0x63, 0x96, 0x06, 0xc9, 0xfa, 0x94,
+    0x72, 0x23, 0x55, 0x3a, 0x54, 0x7e, 0xec, 0x3c, 0xb9, 0x48, 0x34, 0xd7, 0x2c, 0xe5, 0xf1, 0xd3,
+    0x95, 0x51, 0x67, 0x52, 0x2c, 0x56, 0x68,
+];
+
+/// A reply of imbalance of version 2 whose numbers all differ; its deadline is -2.
+const DISTINCT_REPLY_OF_TWO: [u8; 60] = [
+    0x02, 0x02, 0xff, 0xfe, 0xfd, 0xfc, 0x01, 0x02, 0x03, 0x04, 0x04, 0x06, 0x05, 0x06, 0x07, 0x08,
+    0x09, 0x0a, 0x0b, 0x0c, 0xff, 0xff, 0xff, 0xfe, 0x0d, 0x0e, 0x0f, 0x10, 0xcb, 0xf6, 0x57, 0x4b,
+    0x9b, 0x7d, 0xfd, 0xc8, 0x51, 0x9a, 0xdb, 0x04, 0x52, 0x04, 0x0c, 0x48, 0x94, 0x2d, 0x09, 0xcb,
+    0x7d, 0x06, 0xda, 0xd3, 0xc7, 0xeb, 0x57, 0x60, 0x5e, 0x18, 0x4e, 0x48,
+];
+
 fn day(number: i32) -> DayNo
     requires { (pos 10957 ≤ℤ number) × (number ≤ℤ pos 84005) }
     ensures { result ≡ number }
@@ -74,11 +111,12 @@ fn day(number: i32) -> DayNo
     DayNo::new(number).unwrap()
 }
 
-fn reset() -> Message
+fn reset(version: u8) -> Message
+    requires { IsVersion version }
     ensures { IsWhole result }
 {
     Message::Request(Request {
-        version: 1,
+        version,
         device: 1,
         number: 3,
         kind: Kind::Reset,
@@ -92,11 +130,12 @@ fn reset() -> Message
     })
 }
 
-fn granted() -> Message
+fn granted(version: u8) -> Message
+    requires { IsVersion version }
     ensures { IsWhole result }
 {
     Message::Reply(ReplyMsg {
-        version: 1,
+        version,
         device: 1,
         number: 3,
         kind: Kind::Reset,
@@ -140,6 +179,39 @@ fn distinct_reply() -> Message
     })
 }
 
+fn distinct_request_of_two() -> Message
+    ensures { IsWhole result }
+{
+    Message::Request(Request {
+        version: 2,
+        device: 0xfffefdfc,
+        number: 0x01020304,
+        kind: Kind::Withdraw,
+        customer: 0x05060708,
+        amount: 0x090a0b0c0d0e0f10,
+        ascending: 0x1112131415161718,
+        descending: 0x191a1b1c1d1e1f20,
+        refunded: 0x2122232425262728,
+        pieces: 0x292a2b2c,
+        day: day(84_005),
+    })
+}
+
+fn distinct_reply_of_two() -> Message
+    ensures { IsWhole result }
+{
+    Message::Reply(ReplyMsg {
+        version: 2,
+        device: 0xfffefdfc,
+        number: 0x01020304,
+        kind: Kind::Refund,
+        verdict: Verdict::Imbalance,
+        amount: 0x05060708090a0b0c,
+        deadline: -2,
+        origin: 0x0d0e0f10,
+    })
+}
+
 fn done() -> Message
     ensures { IsWhole result }
 {
@@ -177,18 +249,28 @@ fn is_read(bytes: &[u8]) -> bool {
 
 #[test]
 fn messages_have_these_bytes(rt: HostRuntime) {
-    assert!(rt; is_spelled(&reset(), &REQUEST), "request");
-    assert!(rt; is_spelled(&granted(), &REPLY), "reply");
-    assert!(rt; is_spelled(&done(), &DONE), "done");
-    assert!(rt; is_spelled(&debit(), &DEBIT), "debit");
-    assert!(rt;
-        is_spelled(&distinct_request(), &DISTINCT_REQUEST),
-        "request of distinct numbers"
-    );
-    assert!(rt;
-        is_spelled(&distinct_reply(), &DISTINCT_REPLY),
-        "reply of distinct numbers"
-    );
+    for (name, message, bytes) in [
+        ("request", reset(1), REQUEST.as_slice()),
+        ("request of version 2", reset(2), &REQUEST_OF_TWO),
+        ("reply", granted(1), &REPLY),
+        ("reply of version 2", granted(2), &REPLY_OF_TWO),
+        ("done", done(), &DONE),
+        ("debit", debit(), &DEBIT),
+        ("distinct request", distinct_request(), &DISTINCT_REQUEST),
+        (
+            "distinct request of version 2",
+            distinct_request_of_two(),
+            &DISTINCT_REQUEST_OF_TWO,
+        ),
+        ("distinct reply", distinct_reply(), &DISTINCT_REPLY),
+        (
+            "distinct reply of version 2",
+            distinct_reply_of_two(),
+            &DISTINCT_REPLY_OF_TWO,
+        ),
+    ] {
+        assert!(rt; is_spelled(&message, bytes), "{name}");
+    }
     assert!(rt; is_read(&RELEASE), "release");
 }
 
@@ -201,6 +283,34 @@ fn codes_are_checked(rt: HostRuntime) {
     assert!(rt; read_under(&DEBIT, &KEY).is_none(), "a Debit has no code");
 }
 
+// Whether the bytes without their code are the body of a message that has these bytes.
+fn is_body_of(bytes: &[u8]) -> bool
+    requires { 32 ≤ length bytes.now }
+{
+    match read_body(&bytes[..bytes.len() - 32]) {
+        Some(message) => {
+            write_body(&message).as_slice() == &bytes[..bytes.len() - 32]
+                && is_spelled(&message, bytes)
+        }
+        None => false,
+    }
+}
+
+#[test]
+fn bodies_are_known(rt: HostRuntime) {
+    for bytes in [
+        REQUEST.as_slice(),
+        &REQUEST_OF_TWO,
+        &REPLY,
+        &REPLY_OF_TWO,
+        &DONE,
+    ] {
+        assert!(rt; is_body_of(bytes), "{bytes:?}");
+        assert!(rt; read_body(bytes).is_none(), "with its code");
+    }
+    assert!(rt; read_body(&DEBIT).is_none(), "a Debit has no code");
+}
+
 fn fault_of(bytes: &[u8]) -> Option<Unread> {
     match read_message(bytes) {
         Ok(_) => None,
@@ -210,10 +320,10 @@ fn fault_of(bytes: &[u8]) -> Option<Unread> {
 
 // The fault of the bytes with another one at that place.
 fn fault_with(bytes: &[u8], at: usize, byte: u8) -> Option<Unread>
-    requires fits { length bytes.now ≤ 71 }
-    requires inside { at < 71 }
+    requires fits { length bytes.now ≤ 87 }
+    requires inside { at < 87 }
 {
-    let mut changed = [0; 71];
+    let mut changed = [0; 87];
     changed[..bytes.len()].copy_from_slice(bytes);
     changed[at] = byte;
     fault_of(&changed[..bytes.len()])
@@ -221,25 +331,37 @@ fn fault_with(bytes: &[u8], at: usize, byte: u8) -> Option<Unread>
 
 #[test]
 fn messages_not_read(rt: HostRuntime) {
-    assert_eq!(rt; fault_of(&[]), Some(Unread::Length));
-    assert_eq!(rt; fault_of(&[1]), Some(Unread::Length));
-    assert_eq!(rt; fault_of(&DEBIT[..15]), Some(Unread::Length));
-    for (at, byte, fault) in [
-        (0, 2, Unread::Version),
-        (1, 99, Unread::Tag),
-        (1, 2, Unread::Length),
-        (10, 6, Unread::Kind),
-        (38, 0x26, Unread::Day),
+    for (bytes, fault) in [
+        ([].as_slice(), Unread::Length),
+        (&[1], Unread::Length),
+        (&[1, 1], Unread::Length),
+        (&[2, 1], Unread::Length),
+        (&[3, 1], Unread::Version),
+        (&[0, 1], Unread::Version),
+        (&[1, 0x63], Unread::Tag),
+        (&[2, 3], Unread::Tag),
+        (&[2, 0x11], Unread::Tag),
+        (&DEBIT[..15], Unread::Length),
     ] {
-        assert_eq!(rt;
-            fault_with(&DISTINCT_REQUEST, at, byte),
-            Some(fault),
-            "request, byte {at}"
-        );
+        assert_eq!(rt; fault_of(bytes), Some(fault), "{bytes:?}");
     }
-    assert_eq!(rt; fault_with(&REPLY, 10, 0), Some(Unread::Kind));
-    assert_eq!(rt; fault_with(&REPLY, 11, 7), Some(Unread::Verdict));
-    assert_eq!(rt; fault_with(&RELEASE, 2, 3), Some(Unread::Mark));
+    for (bytes, at, byte, fault) in [
+        (DISTINCT_REQUEST.as_slice(), 0, 3, Unread::Version),
+        (&DISTINCT_REQUEST, 0, 2, Unread::Length),
+        (&DISTINCT_REQUEST, 1, 99, Unread::Tag),
+        (&DISTINCT_REQUEST, 1, 2, Unread::Length),
+        (&DISTINCT_REQUEST, 10, 6, Unread::Kind),
+        (&DISTINCT_REQUEST, 38, 0x26, Unread::Day),
+        (&DISTINCT_REQUEST_OF_TWO, 0, 1, Unread::Length),
+        (&DISTINCT_REQUEST_OF_TWO, 10, 6, Unread::Kind),
+        (&DISTINCT_REQUEST_OF_TWO, 54, 0x26, Unread::Day),
+        (&REPLY, 10, 0, Unread::Kind),
+        (&REPLY, 11, 7, Unread::Verdict),
+        (&REPLY_OF_TWO, 11, 7, Unread::Verdict),
+        (&RELEASE, 2, 3, Unread::Mark),
+    ] {
+        assert_eq!(rt; fault_with(bytes, at, byte), Some(fault), "byte {at}");
+    }
     assert_eq!(rt;
         fault_with(&RELEASE, 65, 0),
         None,

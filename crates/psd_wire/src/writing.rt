@@ -6,7 +6,7 @@ ghost use Rattle.psd_wire.specs.Grammar.{IsWhole, body, spell, kind_code, verdic
 
 use crate::message::{DebitMsg, DoneMsg, Message, ReplyMsg, Request};
 use bench_base::bytes::Note;
-use bench_base::fields::{put_i32, put_u16, put_u32};
+use bench_base::fields::{put_i32, put_u16, put_u32, put_u64};
 use bench_base::words::{Key, Kind, Verdict};
 use hmac_core::hmac256;
 
@@ -37,8 +37,9 @@ fn code_of_verdict(verdict: Verdict) -> u8
 }
 
 #[tactic(auto, unfolding(crate::specs::Grammar::body, bench_base::specs::Table::spelled))]
-fn request_body(request: &Request) -> [u8; 39]
-    requires { IsWhole (m.Request request.now) }
+fn first_request(request: &Request) -> [u8; 39]
+    requires whole { IsWhole (m.Request request.now) }
+    requires version { request.now.version ≡ 1 }
     ensures { result ≡ body (m.Request request.now) }
 {
     let mut bytes = [0; 39];
@@ -58,8 +59,31 @@ fn request_body(request: &Request) -> [u8; 39]
 }
 
 #[tactic(auto, unfolding(crate::specs::Grammar::body, bench_base::specs::Table::spelled))]
-fn reply_body(reply: &ReplyMsg) -> [u8; 24]
-    requires { IsWhole (m.Reply reply.now) }
+fn second_request(request: &Request) -> [u8; 55]
+    requires whole { IsWhole (m.Request request.now) }
+    requires version { request.now.version ≡ 2 }
+    ensures { result ≡ body (m.Request request.now) }
+{
+    let mut bytes = [0; 55];
+    bytes[0] = request.version;
+    bytes[1] = 1;
+    put_u32(&mut bytes, 2, request.device);
+    put_u32(&mut bytes, 6, request.number);
+    bytes[10] = code_of_kind(request.kind);
+    put_u32(&mut bytes, 11, request.customer);
+    put_u64(&mut bytes, 15, request.amount);
+    put_u64(&mut bytes, 23, request.ascending);
+    put_u64(&mut bytes, 31, request.descending);
+    put_u64(&mut bytes, 39, request.refunded);
+    put_u32(&mut bytes, 47, request.pieces);
+    put_i32(&mut bytes, 51, request.day.get());
+    bytes
+}
+
+#[tactic(auto, unfolding(crate::specs::Grammar::body, bench_base::specs::Table::spelled))]
+fn first_reply(reply: &ReplyMsg) -> [u8; 24]
+    requires whole { IsWhole (m.Reply reply.now) }
+    requires version { reply.now.version ≡ 1 }
     ensures { result ≡ body (m.Reply reply.now) }
 {
     let mut bytes = [0; 24];
@@ -72,6 +96,25 @@ fn reply_body(reply: &ReplyMsg) -> [u8; 24]
     put_u32(&mut bytes, 12, reply.amount as u32);
     put_i32(&mut bytes, 16, reply.deadline);
     put_u32(&mut bytes, 20, reply.origin);
+    bytes
+}
+
+#[tactic(auto, unfolding(crate::specs::Grammar::body, bench_base::specs::Table::spelled))]
+fn second_reply(reply: &ReplyMsg) -> [u8; 28]
+    requires whole { IsWhole (m.Reply reply.now) }
+    requires version { reply.now.version ≡ 2 }
+    ensures { result ≡ body (m.Reply reply.now) }
+{
+    let mut bytes = [0; 28];
+    bytes[0] = reply.version;
+    bytes[1] = 2;
+    put_u32(&mut bytes, 2, reply.device);
+    put_u32(&mut bytes, 6, reply.number);
+    bytes[10] = code_of_kind(reply.kind);
+    bytes[11] = code_of_verdict(reply.verdict);
+    put_u64(&mut bytes, 12, reply.amount);
+    put_i32(&mut bytes, 20, reply.deadline);
+    put_u32(&mut bytes, 24, reply.origin);
     bytes
 }
 
@@ -112,6 +155,47 @@ fn release_body(mark: &[u8; 64]) -> [u8; 66]
     bytes
 }
 
+fn request_body(request: &Request) -> Note
+    requires { IsWhole (m.Request request.now) }
+    ensures exact { result ≡ body (m.Request request.now) }
+    ensures short { length result ≤ 55 }
+{
+    if request.version == 1 {
+        Note::of(&first_request(request))
+    } else {
+        Note::of(&second_request(request))
+    }
+}
+
+fn reply_body(reply: &ReplyMsg) -> Note
+    requires { IsWhole (m.Reply reply.now) }
+    ensures exact { result ≡ body (m.Reply reply.now) }
+    ensures short { length result ≤ 55 }
+{
+    if reply.version == 1 {
+        Note::of(&first_reply(reply))
+    } else {
+        Note::of(&second_reply(reply))
+    }
+}
+
+/// All bytes of the message but its code. A Debit and a Release have no code.
+///
+/// The version of a Request or Reply is 1 or 2, and in version 1 its amount and sums are below 2^32. The 64 bytes
+/// of a Release are an indicium that `read_indicium` takes.
+pub fn write_body(message: &Message) -> Note
+    requires { IsWhole message.now }
+    ensures { result ≡ body message.now }
+{
+    match message {
+        Message::Request(request) => request_body(request),
+        Message::Reply(reply) => reply_body(reply),
+        Message::Done(done) => Note::of(&done_body(done)),
+        Message::Debit(debit) => Note::of(&debit_body(debit)),
+        Message::Release(mark) => Note::of(&release_body(mark)),
+    }
+}
+
 // A body and its code.
 fn coded(body: &[u8], key: &Key) -> Note
     requires { length body.now ≤ 55 }
@@ -127,16 +211,15 @@ fn coded(body: &[u8], key: &Key) -> Note
 
 /// The one spelling of the message under the key. A Debit and a Release have no code, and the key does not count.
 ///
-/// The version of a Request or Reply is 1, its amounts and sums are below 2^32, and the 64 bytes of a Release are
-/// an indicium that `read_indicium` takes.
+/// The message is as for `write_body`.
 #[tactic(auto, unfolding(crate::specs::Grammar::spell))]
 pub fn write_message(message: &Message, key: &Key) -> Note
     requires { IsWhole message.now }
     ensures { result ≡ spell message.now key.now }
 {
     match message {
-        Message::Request(request) => coded(&request_body(request), key),
-        Message::Reply(reply) => coded(&reply_body(reply), key),
+        Message::Request(request) => coded(request_body(request).as_slice(), key),
+        Message::Reply(reply) => coded(reply_body(reply).as_slice(), key),
         Message::Done(done) => coded(&done_body(done), key),
         Message::Debit(debit) => Note::of(&debit_body(debit)),
         Message::Release(mark) => Note::of(&release_body(mark)),

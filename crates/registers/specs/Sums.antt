@@ -3,7 +3,7 @@ use Rattle.std.specs.Prelude.{ℕ, ◌+◌, ◌-◌, ◌≤◌, Result, Ok, Err,
 
 -- the most that the three sums are together
 abbrev pub limit : ℕ
-limit = 4294967295
+limit = 1000000000000
 
 -- what was spent, what is left, what was given back, in mills; and how many pieces were marked
 pub record Sums : Type 0 where

@@ -7,7 +7,7 @@ ghost use Rattle.registers.specs.Sums.{Sums, Sound, total, zeros, debited, loade
 use std::marker::Model;
 
 /// The most that ascending, descending and refunded are together, in mills.
-pub const TOTAL_LIMIT: u64 = 4_294_967_295;
+pub const TOTAL_LIMIT: u64 = 1_000_000_000_000;
 
 /// What was spent, what is left, what was given back, and how many pieces were marked.
 ///
@@ -182,6 +182,16 @@ mod tests {
         assert!(rt; stand_at(&debited, 550, 49_450, 0, 1));
         assert!(rt; stand_at(&debited.clear(), 550, 0, 49_450, 1));
         assert!(rt; debited.debit(49_451).is_err());
-        assert!(rt; debited.load(u32::MAX).is_err());
+        let more = debited.load(u32::MAX).expect(&rt, "a load past four bytes");
+        assert!(rt; stand_at(&more, 550, 4_295_016_745, 0, 1));
+    }
+
+    #[test]
+    fn the_limit_of_the_registers(rt: HostRuntime) {
+        let full = Registers::of(0, 1_000_000_000_000, 0, 0).expect(&rt, "full registers");
+        assert!(rt; full.load(1).err() == Some(1_000_000_000_000));
+        assert!(rt; full.load(0).is_ok());
+        assert!(rt; Registers::of(1, 1_000_000_000_000, 0, 0).is_none());
+        assert!(rt; Registers::of(0, u64::MAX, u64::MAX, 0).is_none());
     }
 }

@@ -14,13 +14,16 @@ const PIECE: u32 = 64;
 /// The pieces of the storage, which are written in turn.
 const PIECES: u32 = 64;
 
+/// The bytes of the storage.
+const SIZE: u32 = PIECE * PIECES;
+
 const PATH: &str = "storage_speed.nv";
 
 /// Writes and syncs one piece after the other.
 fn write_and_sync<N: Nv>(nv: &mut N, rounds: u32) -> Result<(), NvFail>
-    requires { 4096 ≤ N.size nv.old }
+    requires { SIZE ≤ N.size nv.old }
 {
-    let piece = [0xA5; 64];
+    let piece = [0xA5; PIECE as usize];
     for round in 0..rounds {
         nv.write(round % PIECES * PIECE, &piece)?;
         nv.sync()?;
@@ -29,7 +32,7 @@ fn write_and_sync<N: Nv>(nv: &mut N, rounds: u32) -> Result<(), NvFail>
 }
 
 fn timed<N: Nv>(rt: &impl Clock, nv: &mut N, rounds: u32) -> io::Result<Duration> {
-    if nv.size() < PIECE * PIECES {
+    if nv.size() < SIZE {
         return Err(invalid("the storage is too short"));
     }
     let start = Instant::now(rt)?;
@@ -46,14 +49,14 @@ fn in_memory<R: Clock + AllocGlobal>(rt: &R, rounds: u32) -> io::Result<Duration
     let (Some(calls), Some(bytes)) = (calls, bytes) else {
         return Err(invalid("too often for a record"));
     };
-    let content = vec![in rt.alloc(); 0; 4096]?;
+    let content = vec![in rt.alloc(); 0; SIZE as usize]?;
     let mut nv = MemNv::new(rt.alloc(), content, Vec::new(rt.alloc()), calls, bytes)?;
     timed(rt, &mut nv, rounds)
 }
 
 /// Time over a file, which is made and removed here.
 fn in_a_file(rt: &HostRuntime, rounds: u32) -> io::Result<Duration> {
-    let Ok(mut nv) = FileNv::start(rt, PATH, PIECE * PIECES) else {
+    let Ok(mut nv) = FileNv::start(rt, PATH, SIZE) else {
         return Err(invalid("the file can't be used"));
     };
     let time = timed(rt, &mut nv, rounds);

@@ -1,4 +1,4 @@
-use Rattle.std.proofs.Common.{◌≡◌, ◌*◌, ◌≤◌, take, sum_by}
+use Rattle.std.proofs.Common.{◌≡◌, ◌*◌, ◌-◌, ◌^◌, ◌≤◌, take, sum_by}
 use Rattle.centre_ledger.specs.Rows.{buys_in, returns_in}
 use Rattle.centre_ledger.proofs.balances.sums_of.Given as goal
 
@@ -6,6 +6,6 @@ abbrev pub invariant-loop-slot : goal.invariant-loop-slot
 invariant-loop-slot l = record {
   bought : l.bought ≡ sum_by (buys_in l.customer) (take l.slot-index l.devices);
   returned : l.returned ≡ sum_by (returns_in l.customer) (take l.slot-index l.devices);
-  small_bought : l.bought ≤ l.slot-index * 4294967295;
-  small_returned : l.returned ≤ l.slot-index * 4294967295;
+  small : l.bought ≤ l.slot-index * (2 ^ 64 - 1);
+  covered : l.returned ≤ l.bought;
 }

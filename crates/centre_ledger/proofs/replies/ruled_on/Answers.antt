@@ -4,7 +4,7 @@ use Rattle.psd_wire.specs.declared.message.Message.TheVariants as m
 use Rattle.psd_wire.specs.Grammar.{IsWhole, spell}
 use Rattle.centre_ledger.specs.Soundness.{IsSoundDevice}
 use Rattle.centre_ledger.specs.Rows.{ruled_row}
-use Rattle.centre_ledger.proofs.Keeping.{reply-whole, ruled-sound}
+use Rattle.centre_ledger.proofs.Keeping.{reply-whole, sums-after, ruled-sound}
 use Rattle.centre_ledger.proofs.replies.ruled_on.Goals as goal
 
 pub write_message-requires : goal.write_message-requires
@@ -40,3 +40,13 @@ returns-clause-sound c =
     } in
     subst IsSoundDevice same
     (ruled-sound r c.args.verdict c.args.balance q c.args.bytes.now c.requires.sound (omega arith) c.requires.whole c.requires.spelled c.requires.device c.requires.number c.requires.verdict)
+
+pub overflow_add-result : goal.overflow_add-result
+overflow_add-result c =
+    let sums = sums-after c.args.row.now c.args.verdict c.args.balance c.args.request.now c.requires.sound c.requires.verdict in
+    record { fits = omega (arith, sums.limit, c.adds.ensures.exact) }
+
+pub overflow_add-result-2 : goal.overflow_add-result-2
+overflow_add-result-2 c =
+    let sums = sums-after c.args.row.now c.args.verdict c.args.balance c.args.request.now c.requires.sound c.requires.verdict in
+    record { fits = omega (arith, sums.limit, sums.returns_le, c.takes.ensures.exact) }

@@ -1,32 +1,40 @@
 use Rattle.centre_ledger.proofs.Following as following
+use Rattle.centre_ledger.proofs.Slots as slots
+use Rattle.centre_ledger.proofs.Standings as standings
 use Rattle.centre_ledger.proofs.theorems.rows_follow_the_commits.Goals as goal
 
-pub returns-clause-registered : goal.returns-clause-registered
-returns-clause-registered c = following.registering
+pub returns-clause-devices : goal.returns-clause-devices
+returns-clause-devices c = record {
+  registered = following.registering;
+  ruled = following.ruling-keeps;
+  settled = following.settling;
+  others = following.other-devices;
+}
 
-pub returns-clause-settled : goal.returns-clause-settled
-returns-clause-settled c = following.settling
+pub returns-clause-customers : goal.returns-clause-customers
+returns-clause-customers c = record {
+  opened = following.opening;
+  deposited = following.depositing;
+  flagged = following.flagging;
+  others = following.other-customers;
+}
 
-pub returns-clause-other_devices : goal.returns-clause-other_devices
-returns-clause-other_devices c = following.other-devices
+pub returns-clause-slots : goal.returns-clause-slots
+returns-clause-slots c = slots.slots
 
-pub returns-clause-opened : goal.returns-clause-opened
-returns-clause-opened c = following.opening
+pub returns-clause-order : goal.returns-clause-order
+returns-clause-order c = slots.in-order
 
-pub returns-clause-deposited : goal.returns-clause-deposited
-returns-clause-deposited c = following.depositing
+pub returns-clause-sound : goal.returns-clause-sound
+returns-clause-sound c = slots.sound
 
-pub returns-clause-flagged : goal.returns-clause-flagged
-returns-clause-flagged c = following.flagging
+pub returns-clause-rulings : goal.returns-clause-rulings
+returns-clause-rulings c = record {
+  ruled = following.ruling;
+  paid = slots.paying;
+  balanced = following.balancing;
+  left = slots.left-is;
+}
 
-pub returns-clause-other_customers : goal.returns-clause-other_customers
-returns-clause-other_customers c = following.other-customers
-
-pub returns-clause-ruled : goal.returns-clause-ruled
-returns-clause-ruled c = following.ruling
-
-pub returns-clause-after_ruling : goal.returns-clause-after_ruling
-returns-clause-after_ruling c = following.ruling-keeps
-
-pub returns-clause-balanced : goal.returns-clause-balanced
-returns-clause-balanced c = following.balancing
+pub returns-clause-standing : goal.returns-clause-standing
+returns-clause-standing c = standings.standing

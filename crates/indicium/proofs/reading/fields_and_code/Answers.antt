@@ -10,5 +10,5 @@ returns c = record {
       let rest = take_all (length c.args.bytes.now - 32) (drop 32 c.args.bytes.now) (omega (arith, length-drop 32 c.args.bytes.now)) in
       ap (λ m. Ok (m, c.copy_from_slice.new.self)) c.mark_of-mark.ensures
       ∙ ap (λ k. Ok (mark_at c.args.bytes.now, k)) (c.copy_from_slice.ensures.after ∙ rest)
-      ∙ sym (read_mark-ok c.args.bytes.now c.if-bytes-ne-LENGTH.false c.if-bytes-ne1.false c.if-bytes-ne1-2.false);
+      ∙ sym (read_mark-ok c.args.bytes.now c.if-bytes-ne-LENGTH.false (sym c.is_known_version.ensures ∙ c.if-not-is_known_version.false) c.if-bytes-ne1.false);
 }

@@ -1,5 +1,6 @@
 use Rattle.std.proofs.Common.{◌≡◌, ◌≢◌, ◌↔◌, ℕ, List, Result, length, slice_index, IfOk, IsErrOf, sym, ◌∙◌, subst, arith}
 use Rattle.bench_base.specs.Table.{IsBytes}
+use Rattle.bench_base.specs.Rules.{IsVersion}
 use Rattle.bench_base.specs.declared.refusals.MarkFault.{MarkFault}
 use Rattle.bench_base.specs.declared.refusals.MarkFault.TheVariants.{Length, Version, Algorithm}
 use Rattle.indicium.specs.Marks.{ReadsAs}
@@ -33,11 +34,12 @@ returns-clause-length c =
 
 pub returns-clause-version : goal.returns-clause-version
 returns-clause-version c =
-    at (λ r. IsErrOf r (Version (slice_index c.args.bytes.now 0)) ↔ ((length c.args.bytes.now ≡ 64) × (slice_index c.args.bytes.now 0 ≢ 1)))
+    at (λ r. IsErrOf r (Version (slice_index c.args.bytes.now 0))
+    ↔ ((length c.args.bytes.now ≡ 64) × (slice_index c.args.bytes.now 0 ≢ 1) × (slice_index c.args.bytes.now 0 ≢ 2)))
     _ _ c.fields_and_code.ensures.exact (laws.version-fault c.args.bytes.now)
 
 pub returns-clause-algorithm : goal.returns-clause-algorithm
 returns-clause-algorithm c =
     at (λ r. IsErrOf r (Algorithm (slice_index c.args.bytes.now 1))
-    ↔ ((length c.args.bytes.now ≡ 64) × (slice_index c.args.bytes.now 0 ≡ 1) × (slice_index c.args.bytes.now 1 ≢ 1)))
+    ↔ ((length c.args.bytes.now ≡ 64) × IsVersion (slice_index c.args.bytes.now 0) × (slice_index c.args.bytes.now 1 ≢ 1)))
     _ _ c.fields_and_code.ensures.exact (laws.algorithm-fault c.args.bytes.now)

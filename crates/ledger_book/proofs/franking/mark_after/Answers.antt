@@ -1,5 +1,5 @@
 use Rattle.std.proofs.Common.{reverse, arith}
-use Rattle.ledger_book.proofs.Marks.{fits-debited, whole-mark, fits-again}
+use Rattle.ledger_book.proofs.Marks.{fits-debited, whole-mark, whole-held, fits-again}
 use Rattle.ledger_book.proofs.franking.mark_after.Goals as goal
 
 pub returns-clause-whole : goal.returns-clause-whole
@@ -8,4 +8,15 @@ returns-clause-whole c =
     let up = f.ascending in
     let down = f.descending in
     let day = fits-again c.get.result c.get.ensures.range.0 c.get.ensures.range.1 in
-    whole-mark _ f.version (omega arith) (omega arith) (omega arith) (omega arith) (omega arith) day (omega arith) (omega arith)
+    whole-held (record {
+      version = c.args.version;
+      device = c.get-number.result;
+      piece = c.args.piece;
+      postage = c.args.postage;
+      ascending = _;
+      descending = _;
+      day = _;
+      origin = c.origin.result;
+      class = c.args.class;
+    }) _ _ c.carried_sum.ensures c.carried_sum-2.ensures
+    (whole-mark _ f.version (omega arith) (omega arith) (omega arith) (omega arith) (omega arith) day (omega arith) (omega arith))

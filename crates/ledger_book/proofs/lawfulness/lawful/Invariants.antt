@@ -1,7 +1,7 @@
 use Rattle.std.proofs.Common.{take, reverse}
-use Rattle.bench_base.specs.Rules.{first_rules}
+use Rattle.bench_base.specs.Rules.{todays_rules}
 use Rattle.ledger_lawful.specs.Lawful.{Always, LawfulAt}
 use Rattle.ledger_book.proofs.lawfulness.lawful.Given as goal
 
 abbrev pub invariant-loop-end : goal.invariant-loop-end
-invariant-loop-end l = Always (LawfulAt first_rules) (reverse (take l.end l.book))
+invariant-loop-end l = Always (LawfulAt todays_rules) (reverse (take l.end l.book))

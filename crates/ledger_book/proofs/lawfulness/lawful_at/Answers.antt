@@ -1,5 +1,5 @@
 use Rattle.std.proofs.Common.{◌≡◌, ◌∙◌, sym, ap, subst, reverse, take}
-use Rattle.bench_base.specs.Rules.{first_rules}
+use Rattle.bench_base.specs.Rules.{todays_rules}
 use Rattle.bench_base.specs.Ledger.{counted}
 use Rattle.ledger_lawful.specs.Lawful.{Always, LawfulAt, Debits}
 use Rattle.ledger_book.proofs.Prefixes.{always-weaker}
@@ -9,6 +9,6 @@ use Rattle.ledger_book.proofs.lawfulness.lawful_at.Goals as goal
 pub releases-requires : goal.releases-requires
 releases-requires c =
     let before = reverse (take c.args.end c.args.book.now) in
-    let kept = always-weaker (LawfulAt first_rules) (λ P. Debits first_rules (counted P)) (λ P h. h.debits) before c.requires.earlier in
+    let kept = always-weaker (LawfulAt todays_rules) (λ P. Debits todays_rules (counted P)) (λ P h. h.debits) before c.requires.earlier in
     let is : counted before ≡ reverse c.deref-then-lawful_commits.result.now = sym (ap reverse c.deref-then-lawful_commits.ensures.value ∙ c.in_ok-earlier.ensures) in
-    subst (Always (Debits first_rules)) is (always-counted (Debits first_rules) before kept)
+    subst (Always (Debits todays_rules)) is (always-counted (Debits todays_rules) before kept)

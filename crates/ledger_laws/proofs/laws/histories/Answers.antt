@@ -1,6 +1,7 @@
 use Rattle.std.proofs.Common.{List, ◌∷◌, refl, arith}
 use Rattle.bench_base.specs.Rules.{Rules}
 use Rattle.bench_base.specs.Ledger.{Ledger, counted}
+use Rattle.ledger_moves.specs.Histories.{earlier}
 use Rattle.ledger_laws.proofs.Histories.{histories, allows-same, carried-by}
 use Rattle.ledger_laws.proofs.Lawfulness.{everywhere, lawful, has-owner, no-imbalance, is-fitting, linked, paid}
 use Rattle.law_money.proofs.Standing.{standing, begins}
@@ -9,7 +10,17 @@ use Rattle.ledger_laws.proofs.Ups.{either_up}
 use Rattle.ledger_laws.proofs.laws.histories.Goals as goal
 
 pub returns-clause-today : goal.returns-clause-today
-returns-clause-today c = (record { version = refl; total = omega arith }, tt)
+returns-clause-today c =
+    (
+      (record { version = (omega arith, omega arith); total = omega arith }, record { total = omega arith; version = omega arith; grace = omega arith; small = omega arith }),
+      (
+        (record { version = (omega arith, omega arith); total = omega arith }, record { total = omega arith; version = omega arith; grace = omega arith; small = omega arith }),
+        (record { version = (omega arith, omega arith); total = omega arith }, tt),
+      ),
+    )
+
+pub returns-clause-earlier : goal.returns-clause-earlier
+returns-clause-earlier c τ H h = earlier (earlier h)
 
 pub returns-clause-holds : goal.returns-clause-holds
 returns-clause-holds c τ ρ ρs H E h =

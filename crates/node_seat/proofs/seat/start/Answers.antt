@@ -1,47 +1,70 @@
-use Rattle.std.proofs.Common.{◌≡◌, false, Err, sym, refl, ◌∙◌, ap, rules}
+use Rattle.std.proofs.Common.{Err, sym, ap, subst}
 use Rattle.bench_base.specs.declared.refusals.BootFail.{BootFail}
-use Rattle.nv_store.specs.Mounts.{Mounts}
-use Rattle.node_acts.specs.Views.{View}
-use Rattle.node_seat.specs.Stands.{StoreStands, Stands}
-use Rattle.node_seat.proofs.Booted.{undamaged}
-use Rattle.node_seat.proofs.Rests.{mounts_twice, store_stays}
-use Rattle.node_seat.proofs.seat.start.Given.{Over}
+use Rattle.nv_store.specs.Turns.{Spent}
+use Rattle.node_seat.specs.Ends.{end_of_boot}
+use Rattle.node_seat.proofs.Booted.{cut, faulted, is_foreign, comes_on}
+use Rattle.node_seat.proofs.Rests.{reads_twice, restart_cut, restart_faulted, spent_after}
 use Rattle.node_seat.proofs.seat.start.Goals as goal
 
--- the restart and the boot together write nothing
-mounted : (g : Over) (c : goal.In-Err-Damaged g) → g.K.Storage.Nv.tells
-    → Mounts (g.K.Storage.Nv.times (g.K.Node.storage c.args.node.now)) (g.K.Storage.Nv.times (g.K.Node.storage c.boot.new.self))
-mounted g c tells =
-    let n = g.K.Node in
-    let nv = g.K.Storage.Nv in
-    let r = c.in-Ok.ensures in
-    mounts_twice (nv.times (n.storage c.args.node.now)) (nv.times (n.storage c.restart.new.self)) (nv.times (n.storage c.boot.new.self))
-    (g.met.K.Storage.Nv.nested (n.storage c.restart.new.self) tells) (g.met.K.Storage.Nv.nested (n.storage c.boot.new.self) tells)
-    (r.reads.mounts tells).time (r.reads.mounts tells).images (c.boot.ensures.reads.mounts tells)
+pub returns-in-Err-Power : goal.returns-in-Err-Power
+returns-in-Err-Power g c =
+    let r = c.in-Err-Power.ensures in
+    cut g.K.Node g.K.Storage.Nv c.args.number c.args.node.now c.restart.new.self (sym c.if-is_on.ensures) g.met.K.Storage.Nv.nested r.reads r.off
+    (restart_cut _ _ c.in-Err-Power.field-0 r.answer c.in-Err-Power.field-0-is)
 
-stays : (g : Over) (c : goal.In-Err-Damaged g) (v : View g.K.Node.Seen) → Stands g.K.Node g.K.Storage.Nv c.args.number v c.args.node.now
-    → StoreStands g.K.Node g.K.Storage.Nv c.args.number v (g.K.Node.storage c.boot.new.self)
-stays g c v st =
-    let n = g.K.Node in
-    store_stays n g.K.Storage.Nv g.met.K.Storage.Nv.nested c.args.number v (n.storage c.args.node.now) (n.storage c.boot.new.self) st.store
-    (c.boot.ensures.reads.size ∙ c.in-Ok.ensures.reads.size) (mounted g c)
+pub returns-in-Err-Fault : goal.returns-in-Err-Fault
+returns-in-Err-Fault g c =
+    let r = c.in-Err-Fault.ensures in
+    faulted g.K.Node g.K.Storage.Nv c.args.number c.args.node.now c.restart.new.self (sym c.if-is_on.ensures) g.met.K.Storage.Nv.nested r.reads r.off
+    (restart_faulted _ _ c.in-Err-Fault.field-0 r.answer c.in-Err-Fault.field-0-is)
+
+pub returns-in-Err-Power-boot : goal.returns-in-Err-Power-boot
+returns-in-Err-Power-boot g c =
+    let nv = g.K.Storage.Nv in
+    let in_it = g.K.Node.storage in
+    let s = c.args.node.now in
+    let mid = c.restart.new.self in
+    let t = c.boot.new.self in
+    let r = c.in-Ok.ensures in
+    let e = c.in-Err-Power-boot.ensures in
+    cut g.K.Node nv c.args.number s t (sym c.if-is_on.ensures) g.met.K.Storage.Nv.nested (reads_twice nv g.met.K.Storage.Nv.nested (in_it s) (in_it mid) (in_it t) r.reads e.reads) e.leaves
+    (subst (λ (f : BootFail). Spent 1 (nv.meters (in_it s)) (nv.meters (in_it t)) (end_of_boot (Err f))) c.in-Err-Power-boot.field-0-is (spent_after _ _ _ _ _ r.answer e.spent))
+
+pub returns-in-Err-Fault-boot : goal.returns-in-Err-Fault-boot
+returns-in-Err-Fault-boot g c =
+    let nv = g.K.Storage.Nv in
+    let in_it = g.K.Node.storage in
+    let s = c.args.node.now in
+    let mid = c.restart.new.self in
+    let t = c.boot.new.self in
+    let r = c.in-Ok.ensures in
+    let e = c.in-Err-Fault-boot.ensures in
+    faulted g.K.Node nv c.args.number s t (sym c.if-is_on.ensures) g.met.K.Storage.Nv.nested (reads_twice nv g.met.K.Storage.Nv.nested (in_it s) (in_it mid) (in_it t) r.reads e.reads) e.leaves
+    (subst (λ (f : BootFail). Spent 1 (nv.meters (in_it s)) (nv.meters (in_it t)) (end_of_boot (Err f))) c.in-Err-Fault-boot.field-0-is (spent_after _ _ _ _ _ r.answer e.spent))
 
 pub returns-in-Err-Damaged : goal.returns-in-Err-Damaged
 returns-in-Err-Damaged g c =
-    let n = g.K.Node in
     let nv = g.K.Storage.Nv in
+    let in_it = g.K.Node.storage in
+    let s = c.args.node.now in
+    let mid = c.restart.new.self in
     let t = c.boot.new.self in
+    let r = c.in-Ok.ensures in
     let e = c.in-Err-Damaged.ensures in
-    let damage : nv.tells → n.IsDamaged c.args.number (n.storage t) = λ tells. e.damaged tells (ap (λ (f : BootFail). Err f) c.in-Err-Damaged.field-0-is) in
-    let off : n.is_on c.args.node.now ≡ false = sym c.if-is_on.ensures in
-    record {
-      already = (λ is. cc, λ is. cc (is, off));
-      leaves = e.leaves;
-      comes = λ v st tells. undamaged n nv g.met.K.Node.intact c.args.number v (n.storage t) (stays g c v st) tells
-          (g.met.K.Storage.Nv.content_is (n.storage t) tells) (damage tells);
-      stands = λ v st tells. record { on = e.leaves ∙ sym off ∙ st.on; store = stays g c v st; runs = λ on. absurd (cc (on, st.on, off)) };
-      mounts = mounted g c;
-      damaged = λ tells read. (λ is. damage tells, λ is. refl);
-      refused = λ is. cc;
-      spent = search rules;
-    }
+    is_foreign g.K.Node nv c.args.number s t (sym c.if-is_on.ensures) g.met.K.Storage.Nv.nested (reads_twice nv g.met.K.Storage.Nv.nested (in_it s) (in_it mid) (in_it t) r.reads e.reads)
+    g.met.K.Node.intact g.met.K.Storage.Nv.content_is
+    (subst (λ (f : BootFail). Spent 1 (nv.meters (in_it s)) (nv.meters (in_it t)) (end_of_boot (Err f))) c.in-Err-Damaged.field-0-is (spent_after _ _ _ _ _ r.answer e.spent))
+    e.leaves (λ tells. e.damaged tells (ap (λ (f : BootFail). Err f) c.in-Err-Damaged.field-0-is))
+
+pub returns-in-Ok-boot : goal.returns-in-Ok-boot
+returns-in-Ok-boot g c =
+    let nv = g.K.Storage.Nv in
+    let in_it = g.K.Node.storage in
+    let s = c.args.node.now in
+    let mid = c.restart.new.self in
+    let t = c.boot.new.self in
+    let r = c.in-Ok.ensures in
+    let e = c.in-Ok-boot.ensures in
+    comes_on g.K.Node nv c.args.number s t (sym c.if-is_on.ensures) g.met.K.Storage.Nv.nested (reads_twice nv g.met.K.Storage.Nv.nested (in_it s) (in_it mid) (in_it t) r.reads e.reads)
+    g.met.K.Node.intact g.met.K.Storage.Nv.content_is (spent_after _ _ _ _ _ r.answer e.spent)
+    g.met.K.Node.one_shown (g.met.K.Node.sized t) e.leaves e.starts.0 e.starts.1 (λ tells. g.met.K.Node.knows t tells e.leaves) c.commits.result c.commits.ensures

@@ -1,15 +1,14 @@
-use Rattle.std.proofs.Common.{◌∙◌, ap, sym}
-use Rattle.psd_state.specs.Payload.{mark_in}
-use Rattle.psd_state.proofs.Under.{found-mark, not_so, is_so}
+use Rattle.std.proofs.Common.{◌∙◌, sym}
+use Rattle.psd_state.proofs.Under.{genuine-found, genuine-read, not_so, is_so}
 use Rattle.psd_state.proofs.parts.read_mark.Goals as goal
 
 pub returns-then-not-verify_mark-clause-none : goal.returns-then-not-verify_mark-clause-none
 returns-then-not-verify_mark-clause-none c = λ k w e. not_so _ _ c.verify_mark.ensures c.if-not-verify_mark.true (k, w, sym e)
 
-pub returns-clause-found : goal.returns-clause-found
-returns-clause-found c =
-    let is = found-mark _ c.args.bytes.now c.args.key.now (c.mark_of.ensures ∙ ap mark_in c.read_indicium.ensures.exact) (is_so _ _ c.verify_mark.ensures c.if-not-verify_mark.false) in is.0
+pub returns-in-Ok-clause-found : goal.returns-in-Ok-clause-found
+returns-in-Ok-clause-found c =
+    genuine-found c.args.bytes.now c.args.key.now c.in-Ok.found c.in-Ok.ensures.found (is_so _ _ c.verify_mark.ensures c.if-not-verify_mark.false)
 
-pub returns-clause-none : goal.returns-clause-none
-returns-clause-none c =
-    let is = found-mark _ c.args.bytes.now c.args.key.now (c.mark_of.ensures ∙ ap mark_in c.read_indicium.ensures.exact) (is_so _ _ c.verify_mark.ensures c.if-not-verify_mark.false) in is.1
+pub returns-in-Err-clause-none : goal.returns-in-Err-clause-none
+returns-in-Err-clause-none c =
+    λ k w e. genuine-read c.args.bytes.now c.args.key.now c.in-Err.field-0 (sym c.read_indicium.ensures.exact ∙ c.in-Err.is) (k, w, sym e)

@@ -6,3 +6,6 @@ returns-clause-one_spelling c = laws.one-spelling
 
 pub returns-clause-one_reading : goal.returns-clause-one_reading
 returns-clause-one_reading c = laws.one-reading
+
+pub returns-clause-one_body : goal.returns-clause-one_body
+returns-clause-one_body c = laws.one-body

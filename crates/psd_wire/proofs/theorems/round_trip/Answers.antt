@@ -14,3 +14,6 @@ returns-clause-spells_back c x key bytes h coded read code = let back = laws.spe
 
 pub returns-clause-uncoded : goal.returns-clause-uncoded
 returns-clause-uncoded c x key bytes h coded read = laws.spell-uncoded x key bytes coded h read
+
+pub returns-clause-reads_body : goal.returns-clause-reads_body
+returns-clause-reads_body c = laws.reads-body

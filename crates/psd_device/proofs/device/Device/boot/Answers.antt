@@ -55,3 +55,6 @@ returns-in-Err-clause-sound g c tells size own is =
     let same : nv.size k.nv ≡ nv.size c.args.nv = e.reads.size ∙ ap nv.size c.new-node.ensures.storage in
     let image = image_before (nv.times c.new-node.result.nv) (nv.times k.nv) (nv.content k.nv) (e.reads.mounts tells) (g.met.N.Nv.nested k.nv tells) (g.met.N.Nv.content_is k.nv tells) in
     not_damaged nv c.args.device k.nv (own (nv.content k.nv) (subst (λ (s : g.row.N.Denot). Image (nv.times s) (nv.content k.nv)) c.new-node.ensures.storage image)) (same ∙ size) (subst (λ (n : ℕ). IsDamaged c.args.device n (nv.times k.nv) (nv.content k.nv)) (sym same) (left_damaged g c tells is))
+
+pub invariant_of-result : goal.invariant_of-result
+invariant_of-result g c = record { runs = c.in-Ok.ensures.leaves; room = c.boot_record.new.self.room c.in-Ok.ensures.leaves }

@@ -5,16 +5,18 @@ use Rattle.psd_state.proofs.record.DevRec.debit_new.Goals as goal
 
 pub invariant_of-franked : goal.invariant_of-franked
 invariant_of-franked c =
-    let is = c.mark_for-mark.ensures.value in
-    debit-holds _ _ c.args.command.now.postage c.mark_for-mark.result c.self.invariant (sym c.in-None.ensures) c.in-Ok.ensures.exact c.in-Ok.ensures.sound
-    refl refl refl refl refl c.mark_for-mark.ensures.whole (ap (λ (k : Mark). k.device) is)
-    (ap (λ (k : Mark). k.piece) is ∙ omega (arith, c.if-from.false, c.from.ensures, c.from-2.ensures, c.pieces-pieces.ensures.value))
-    (ap (λ (k : Mark). k.ascending) is)
+    let is = c.mark_for-mark.ensures.value in (
+      debit-holds _ _ c.args.command.now.postage c.mark_for-mark.result c.self.invariant.0 (sym c.in-None.ensures) c.in-Ok.ensures.exact c.in-Ok.ensures.sound
+          refl refl refl refl refl c.mark_for-mark.ensures.whole (ap (λ (k : Mark). k.device) is)
+          (ap (λ (k : Mark). k.piece) is ∙ omega (arith, c.if-from.false, c.from.ensures, c.from-2.ensures, c.pieces-pieces.ensures.value))
+          (ap (λ (k : Mark). k.ascending) is),
+      sym c.code_of-code.ensures,
+    )
 
 pub returns-clause-sound : goal.returns-clause-sound
 returns-clause-sound c =
     let is = c.mark_for-mark.ensures.value in
-    debit-holds _ _ c.args.command.now.postage c.mark_for-mark.result c.self.invariant (sym c.in-None.ensures) c.in-Ok.ensures.exact c.in-Ok.ensures.sound
+    debit-holds _ _ c.args.command.now.postage c.mark_for-mark.result c.self.invariant.0 (sym c.in-None.ensures) c.in-Ok.ensures.exact c.in-Ok.ensures.sound
     refl refl refl refl refl c.mark_for-mark.ensures.whole (ap (λ (k : Mark). k.device) is)
     (ap (λ (k : Mark). k.piece) is ∙ omega (arith, c.if-from.false, c.from.ensures, c.from-2.ensures, c.pieces-pieces.ensures.value))
     (ap (λ (k : Mark). k.ascending) is)

@@ -1,0 +1,13 @@
+//! How much is kept where.
+
+/// The most commits that a cell of storage can count.
+pub const MOST_COMMITS: u32 = 4_294_967_295;
+
+/// The bytes of a device's record as it is stored.
+pub const RECORD_BYTES: usize = 209;
+
+/// The slots of a device's one cell.
+pub const SLOTS: u32 = 16;
+
+/// The bytes of a device's storage: a gate, a count and a record for each slot.
+pub const DEVICE_BYTES: u32 = 3_424;
