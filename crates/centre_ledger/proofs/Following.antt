@@ -128,12 +128,12 @@ other-devices r C _ h is = record { registered = is.registered; enrolled = is.en
 
 -- == customers ==
 
-record NoMoney (c : ℕ) (C : List Commit) : Type 0 where
-  suspended : suspended c C ≡ false
-  deposits : deposits c C ≡ 0
-  receipt : receipt c C ≡ (0, 0)
+pub record NoMoney (c : ℕ) (C : List Commit) : Type 0 where
+  pub suspended : suspended c C ≡ false
+  pub deposits : deposits c C ≡ 0
+  pub receipt : receipt c C ≡ (0, 0)
 
-no-money : (c : ℕ) (C : List Commit) → InOrder C → opened c C ≡ false → NoMoney c C
+pub no-money : (c : ℕ) (C : List Commit) → InOrder C → opened c C ≡ false → NoMoney c C
 no-money c [] o h = record { suspended = refl; deposits = refl; receipt = refl }
 no-money c (Opened e ∷ C) o h = either e c
     (λ t y. absurd (true≢false (rw t at h)))

@@ -13,18 +13,18 @@ use Rattle.bench_base.specs.Table.{IsBytes}
 use Rattle.psd_wire.specs.declared.message.Message.TheVariants as m
 use Rattle.psd_wire.proofs.Readings.{spell-back}
 use Rattle.ledger_terms.specs.Requests.{request_in}
-use Rattle.ledger_terms.specs.Centres.{registered, opened}
-use Rattle.ledger_terms.specs.Rulings.{verdict_by}
+use Rattle.ledger_terms.specs.Centres.{registered, enrolled, opened, suspended, balance}
+use Rattle.ledger_terms.specs.Rulings.{payer, own_customer, verdict_by}
 use Rattle.centre_ledger.specs.declared.rows.DeviceRow.{DeviceRow}
 use Rattle.centre_ledger.specs.declared.rows.CustomerRow.{CustomerRow}
 use Rattle.centre_ledger.specs.Answers.{settle_answer, deposit_answer}
 use Rattle.centre_ledger.specs.Order.{InOrder}
 use Rattle.centre_ledger.specs.Soundness.{IsSoundDevice, IsSoundCustomer, IsNext, IsVerdict}
-use Rattle.centre_ledger.specs.Rows.{account, ruled_row}
+use Rattle.centre_ledger.specs.Rows.{account, enrolled_in, is_suspended, ruled_row}
 use Rattle.centre_ledger.specs.Records.{IsRowOf, IsCustomerOf, registered_row, PaysBy}
-use Rattle.centre_ledger.specs.Laws.{touches_device, touches_customer, IsSlotOf, IsCustomerSlotOf, SlotLaws, OrderLaws, SoundLaws}
+use Rattle.centre_ledger.specs.Laws.{touches_device, touches_customer, IsSlotOf, IsCustomerSlotOf, SlotLaws, OrderLaws, SoundLaws, PayingByRows, BalanceByRows}
 use Rattle.centre_ledger.proofs.Keeping.{ruled-sound}
-use Rattle.centre_ledger.proofs.Following.{ruling, settles, other-devices, other-customers}
+use Rattle.centre_ledger.proofs.Following.{ruling, balancing, no-money, settles, other-devices, other-customers}
 
 -- == which rows there are ==
 
@@ -215,3 +215,26 @@ sound = record {
   deposited = deposited-sound;
   flagged = λ r flag s. record { limit = s.limit; last = s.last; amount_le = s.amount_le; receipt = s.receipt; amount = s.amount };
 }
+
+-- == who pays ==
+
+pays-suspended : (o : Option CustomerRow) (w : ℕ) (C : List Commit) → InOrder C → IsCustomerSlotOf o w C → suspended w C ≡ is_suspended o
+pays-suspended None w C order slot = (no-money w C order slot).suspended
+pays-suspended (Some c) w C order slot = ap (λ x. suspended x C) (sym slot.0) ∙ slot.2.suspended
+
+pub paying : PayingByRows
+paying r o q C order is device slot =
+    let own : enrolled q.device C ≡ enrolled_in r = ap (λ d. enrolled d C) device ∙ is.enrolled in
+    record {
+      opened = ap (λ x. opened (payer q x) C) own ∙ sym (customer-there o (payer q (enrolled_in r)) C slot);
+      suspended = ap (λ x. suspended (payer q x) C) own ∙ pays-suspended o (payer q (enrolled_in r)) C order slot;
+      balance = ap (λ x. balance (own_customer x) C) own;
+    }
+
+pub left-is : BalanceByRows
+left-is os w left C order customer rows is sum =
+    let sums = balancing os w.customer C order customer rows in
+    let bought = sums.0 in
+    let returned = sums.1 in
+    let had = is.deposits in
+    omega arith

@@ -15,15 +15,15 @@ use Rattle.psd_wire.specs.declared.message.ReplyMsg.{ReplyMsg}
 use Rattle.psd_wire.specs.declared.message.Message.TheVariants as m
 use Rattle.psd_wire.specs.Grammar.{read}
 use Rattle.ledger_terms.specs.Requests.{request_in}
-use Rattle.ledger_terms.specs.Centres.{registered, opened, device_numbers, customer_bought, customer_returned}
+use Rattle.ledger_terms.specs.Centres.{registered, opened, device_numbers, customer_bought, customer_returned, balance}
 use Rattle.ledger_terms.specs.InFlight.{in_flight, acknowledged_resets, acknowledged_refunds}
-use Rattle.ledger_terms.specs.Rulings.{verdict, verdict_by, stored_reply}
+use Rattle.ledger_terms.specs.Rulings.{verdict, verdict_by, payer, own_customer, stored_reply}
 use Rattle.centre_ledger.specs.declared.rows.DeviceRow.{DeviceRow}
 use Rattle.centre_ledger.specs.declared.rows.CustomerRow.{CustomerRow}
 use Rattle.centre_ledger.specs.Answers.{settle_answer, deposit_answer, last_ruling, repeat_plan, flight_shown, reconcile_plan}
 use Rattle.centre_ledger.specs.Order.{InOrder}
 use Rattle.centre_ledger.specs.Soundness.{IsSoundDevice, IsSoundCustomer, IsNext, IsVerdict}
-use Rattle.centre_ledger.specs.Rows.{account, ruled_row, buys_in, returns_in}
+use Rattle.centre_ledger.specs.Rows.{account, enrolled_in, ruled_row, buys_in, returns_in}
 use Rattle.centre_ledger.specs.Records.{IsRowOf, IsCustomerOf, registered_row, opened_row, PaysBy}
 use Rattle.centre_ledger.specs.Standing.{ruling_in, flight_in, resets_in, refunds_in}
 
@@ -177,6 +177,23 @@ abbrev pub BalancingByRows : Type 0
 BalancingByRows = (os : List (Option DeviceRow)) (c : ℕ) (C : List Commit) → InOrder C → IsCustomer c
     → AreSlots os device_numbers C
     → (sum_by (buys_in c) os ≡ customer_bought c C) × (sum_by (returns_in c) os ≡ customer_returned c C)
+
+-- the row of the customer who pays, and the balance of the device's own, say what a ruling asks of the commits
+abbrev pub PayingByRows : Type 0
+PayingByRows = (r : DeviceRow) (o : Option CustomerRow) (q : Request) (C : List Commit) → InOrder C → IsRowOf r C → q.device ≡ r.device
+    → IsCustomerSlotOf o (payer q (enrolled_in r)) C → PaysBy q o (balance (own_customer (enrolled_in r)) C) C
+
+-- the balance by the rows of a customer and of all devices is that of the commits
+abbrev pub BalanceByRows : Type 0
+BalanceByRows = (os : List (Option DeviceRow)) (w : CustomerRow) (left : ℕ) (C : List Commit) → InOrder C → IsCustomer w.customer
+    → AreSlots os device_numbers C → IsCustomerOf w C
+    → left + sum_by (buys_in w.customer) os ≡ w.deposits + sum_by (returns_in w.customer) os → left ≡ balance w.customer C
+
+pub record Rulings : Type 0 where
+  pub ruled : RulingByRows
+  pub paid : PayingByRows
+  pub balanced : BalancingByRows
+  pub left : BalanceByRows
 
 -- the row of a device tells of the commits what is acknowledged, what is in flight, and what is answered again
 pub record Stands (r : DeviceRow) (C : List Commit) : Type 0 where

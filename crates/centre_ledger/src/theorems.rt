@@ -1,5 +1,5 @@
 //! What holds of all lists of commits and all rows, as contracts of functions that do nothing.
-ghost use Rattle.centre_ledger.specs.Laws.{DeviceRows, CustomerRows, SlotLaws, OrderLaws, SoundLaws, RulingByRows, BalancingByRows, StandingByRows};
+ghost use Rattle.centre_ledger.specs.Laws.{DeviceRows, CustomerRows, SlotLaws, OrderLaws, SoundLaws, Rulings, StandingByRows};
 
 /// The rows of the centre follow from the commits:
 ///
@@ -7,15 +7,14 @@ ghost use Rattle.centre_ledger.specs.Laws.{DeviceRows, CustomerRows, SlotLaws, O
 /// - `slots`: there is a row of a device exactly where it is registered, and of a customer exactly where it is open;
 /// - `order`: the commit that a call's refusals leave comes in order;
 /// - `sound`: each new row meets the conditions of a row;
-/// - `ruled`, `balanced` and `standing`: what the rows say of a ruling, of a balance, of what is acknowledged and in
-///   flight, and of a reply that is sent again is what follows from the commits.
+/// - `rulings`: what the rows say of a verdict, of the customer who pays and of a balance is what follows from the commits;
+/// - `standing`: so is what they say of what is acknowledged and in flight, and of a reply that is sent again.
 pub fn rows_follow_the_commits()
     ensures devices { DeviceRows }
     ensures customers { CustomerRows }
     ensures slots { SlotLaws }
     ensures order { OrderLaws }
     ensures sound { SoundLaws }
-    ensures ruled { RulingByRows }
-    ensures balanced { BalancingByRows }
+    ensures rulings { Rulings }
     ensures standing { StandingByRows }
 {}

@@ -16,8 +16,6 @@ use Rattle.bench_base.specs.Cells.{Place, OfDevice, OfRow, OfCustomer, OfJob, Of
 use Rattle.bench_base.specs.Jobs.{cell_of}
 use Rattle.bench_base.specs.Scans.{block_of, block_place, with_block, blocks}
 use Rattle.bench_base.specs.Ranges.{InRange}
-use Rattle.bench_base.specs.Rules.{Rules}
-use Rattle.law_good.proofs.Good.{Good}
 use Rattle.law_jobs.specs.Places.{node_at, commits_in, Hold, PlacesAddUp, device_places, centre_places, host_places, block_cell, verifier_places, CellsAddUp}
 
 -- == places and nodes ==
@@ -396,8 +394,3 @@ cells-add_up C ranges = record {
   host = places-add_up Host host_places C (host-holds C);
   verifier = places-add_up Verifier (verifier_places C) C (verifier-holds C ranges);
 }
-
--- each commit of a good list fits its fields
-pub all-in-range : (ρ : Rules) (C : List Commit) → Good ρ C → All InRange C
-all-in-range ρ [] g = λ k x lt. absurd (omega arith)
-all-in-range ρ (c ∷ C) g = All-cons InRange c C g.2 (all-in-range ρ C g.1)

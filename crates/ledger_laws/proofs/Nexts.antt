@@ -1,10 +1,12 @@
 -- The next commit of an event, and an open one, leave the commits in order.
-use Rattle.std.proofs.Common.{◌≡◌, ℕ, List, ◌∷◌, Some}
+use Rattle.std.proofs.Common.{◌≡◌, ℕ, List, [], ◌∷◌, Some, arith}
+use Rattle.std.specs.Prelude.{All}
+use Rattle.std.proofs.lemmas.List.Elements.{All-cons}
 use Rattle.bench_base.specs.declared.words.Node.{Node}
 use Rattle.bench_base.specs.declared.ledger.Commit.{Commit}
 use Rattle.bench_base.specs.declared.events.Event.{Event}
 use Rattle.bench_base.specs.Rules.{Rules}
-use Rattle.bench_base.specs.Ranges.{IsWholeEvent}
+use Rattle.bench_base.specs.Ranges.{IsWholeEvent, InRange}
 use Rattle.bench_base.specs.Ledger.{Ledger, torn_of, counted}
 use Rattle.ledger_moves.specs.Tariffs.{Tariff}
 use Rattle.ledger_lawful.specs.Editions.{Editions}
@@ -29,3 +31,8 @@ next-is τ ρ ρs H E h x text w u c at =
     let i = histories τ (ρ ∷ ρs) E H h ρ (carried, allows-same ρ) in
     let f = (plan-ok τ ρ carried H i x text w u).fit c at in
     record { on = f.on; range = f.range; ordered = ordered ρ (c ∷ counted H) (f.fits, i.good, f.range) }
+
+-- the numbers of each counted commit are in range
+pub in-range : (ρ : Rules) (C : List Commit) → Good ρ C → All InRange C
+in-range ρ [] g = λ k x lt. absurd (omega arith)
+in-range ρ (c ∷ C) g = All-cons InRange c C g.2 (in-range ρ C g.1)

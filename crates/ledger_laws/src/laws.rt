@@ -10,6 +10,7 @@ ghost use Rattle.ledger_lawful.specs.Editions.{Editions};
 ghost use Rattle.ledger_moves.specs.Moves.{plan};
 ghost use Rattle.ledger_moves.specs.Histories.{Unforged, History};
 ghost use Rattle.ledger_moves.specs.Tariffs.{Tariff};
+ghost use Rattle.law_jobs.specs.Places.{CellsAddUp};
 ghost use Rattle.law_orders.specs.Nexts.{AreOrdered, IsNext, IsOpen};
 ghost use Rattle.ledger_laws.specs.Laws.{ForHistories, Holds};
 
@@ -44,4 +45,10 @@ pub fn orders()
     ensures next { ForHistories (λ τ ρ ρs H. (x : Event) (text : List ℕ) → IsWholeEvent x → Unforged x H
         → (c : Commit) → (plan τ ρ H x text).commit ≡ Some c → IsNext c H) }
     ensures torn { ForHistories (λ τ ρ ρs H. (n : Node) (c : Commit) → torn_of n H ≡ Some c → IsOpen n c H) }
+{}
+
+/// After every history what lies in the cells of a node adds up to its commits: of each device, of the centre, of the host
+/// and of the verifier.
+pub fn counts()
+    ensures cells { ForHistories (λ τ ρ ρs H. CellsAddUp (counted H)) }
 {}

@@ -77,7 +77,7 @@ const ANSWERS: [(&str, &[Piece], &str, &str); 4] = [
         "day 2026-03-01\non d1\ncut d1 2 10 a5\ndebit d1 1 550 1\non d1\ncut d1 0 0 a5\ndebit d1 1 550 1\non d1\n\
         debit d1 1 550 1\nend\n",
         "day 20513\nup d1 commits 7\ncut d1\npower d1\nup d1 commits 7\ncut d1\npower d1\nup d1 commits 7\n\
-        mark d1 1 new 0101000000010000000100000226000002260000c12a0000502100016f9900010562e36e65f9617a07091681227f4b745673e719370e81c1bbc3cf8dcbc40d55\nend\n",
+        mark d1 1 new 0201000100000001000002260000000226000000c12a0000502100016f990001972e89bbe5ef7c7d7d3378dfbc37e9c0d7c88b86b38857353dfe8a25eef5f2c0\nend\n",
     ),
 ];
 
@@ -100,7 +100,7 @@ fn a_device_is_kept_across_off_and_on(rt: HostRuntime) -> Result<(), Fail> {
     let report = format!(in rt.alloc();
         "no day\nday 20513\nup d1 commits 7\nmark d1 1 new {FIRST_MARK}\nmark d1 1 again {FIRST_MARK}\n\
         refused d1 no funds 49450\n\
-        mark d1 2 new 010100000001000000020000c12a0000c350000000000000502100016f9900010b0fb9883cf9cfeb0b8004565ecd1d95c761894979775c6af299df58051a37ef\n\
+        mark d1 2 new 02010001000000020000c12a000000c35000000000000000502100016f990001961ca7759c244935b667926e560cd17886c15d397055e545649128c405324cf6\n\
         down d1\nup d1 commits 9\n\
         status d1 in-service ascending 50000 descending 0 refunded 0 pieces 2 number 3 deadline 20605 pending none\nend\n"
     )?;

@@ -23,7 +23,7 @@ pub const KEY: [u8; 32] = [1; 32];
 
 /// The mark of piece 1 with 550 mills on 2026-03-01, by a device that was loaded with 50,000. The code was computed by another program.
 pub const FIRST_MARK: &str =
-    "0101000000010000000100000226000002260000c12a0000502100016f9900010562e36e65f9617a07091681227f4b745673e719370e81c1bbc3cf8dcbc40d55";
+    "0201000100000001000002260000000226000000c12a0000502100016f990001972e89bbe5ef7c7d7d3378dfbc37e9c0d7c88b86b38857353dfe8a25eef5f2c0";
 
 fn lay(content: &mut [u8], pieces: &[Piece]) {
     for piece in pieces {

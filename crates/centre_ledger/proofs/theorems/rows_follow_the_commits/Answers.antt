@@ -28,11 +28,13 @@ returns-clause-order c = slots.in-order
 pub returns-clause-sound : goal.returns-clause-sound
 returns-clause-sound c = slots.sound
 
-pub returns-clause-ruled : goal.returns-clause-ruled
-returns-clause-ruled c = following.ruling
-
-pub returns-clause-balanced : goal.returns-clause-balanced
-returns-clause-balanced c = following.balancing
+pub returns-clause-rulings : goal.returns-clause-rulings
+returns-clause-rulings c = record {
+  ruled = following.ruling;
+  paid = slots.paying;
+  balanced = following.balancing;
+  left = slots.left-is;
+}
 
 pub returns-clause-standing : goal.returns-clause-standing
 returns-clause-standing c = standings.standing

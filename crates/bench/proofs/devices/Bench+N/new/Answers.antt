@@ -1,5 +1,6 @@
-use Rattle.std.proofs.Common.{[], true, false, ◌≡◌, length, refl, arith, subst, sym, ◌∙◌}
+use Rattle.std.proofs.Common.{[], None, replicate, true, false, ◌≡◌, length, refl, arith, subst, sym, ◌∙◌}
 use Rattle.nv_model.specs.contracts.fused.FusedNv.TheImpl.{ghosts}
+use Rattle.psd_device.specs.Knows.{shown_as}
 use Rattle.bench.specs.Places.{IsOver}
 use Rattle.bench.proofs.Making.{Moved, moved_start, moved_more, moved_some, moved_done, moved_from, moved_none, pairs_length}
 use Rattle.bench_views.specs.Devices.{device_kind}
@@ -56,4 +57,4 @@ returns-clause-stands g c H stands =
 pub returns-clause-blank : goal.returns-clause-blank
 returns-clause-blank g c blank =
     returns-clause-stands g c [] (blank_stand _ device_kind g.N.Nv c.args.stores.devices.items refl
-    (λ d. record { few = omega arith; blank = (λ e. refl, λ e. refl); own = tt }) (λ d. zeros_show 209 16 3424) blank)
+    (λ d. record { few = omega arith; blank = (λ e. refl, λ e. refl); own = tt }) (λ d. shown_as 0 None None (replicate 3424 0) refl (zeros_show 209 16 3424)) blank)
