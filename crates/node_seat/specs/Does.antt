@@ -3,6 +3,8 @@ use Rattle.std.specs.Prelude.{◌≡◌, ◌↔◌, ◌⊎◌, List, ℕ, true, 
 use Rattle.bench_base.specs.declared.refusals.StoreFail.{StoreFail}
 use Rattle.bench_base.specs.declared.refusals.StoreFail.TheVariants.{Worn, Failed}
 use Rattle.nv_model.specs.declared.nv.Nv.{Ghosts}
+use Rattle.nv_model.specs.declared.nv.NvFail.{NvFail}
+use Rattle.nv_model.specs.Meters.{Restarts}
 use Rattle.nv_model.specs.Moments.{Elapses}
 use Rattle.nv_store.specs.Mounts.{Mounts}
 use Rattle.nv_store.specs.Turns.{End, Spent}
@@ -12,6 +14,13 @@ use Rattle.node_acts.specs.Views.{Counting}
 pub record Reads {S : Type 0} (g : Ghosts S) (before now : S) : Type 0 where
   pub mounts : g.tells → Mounts (g.times before) (g.times now)
   pub size : g.size now ≡ g.size before
+
+-- what calls on a storage cost it: of a fuse they use at most so many calls
+abbrev pub Spends : {S : Type 0} → Ghosts S → ℕ → S → S → End → Type 0
+Spends g calls before now end = Spent calls (g.meters before) (g.meters now) end
+
+abbrev pub RestartIs : {S : Type 0} → Ghosts S → S → S → Result (Unit {0}) NvFail → Type 0
+RestartIs g before now result = Restarts (g.meters before) (g.meters now) result
 
 -- how a commit of this change ended for the record: Worn comes exactly where the change's cell has all its commits
 pub record Commits {S X : Type 0} (n : Counting S X) (before now : S) (change : X) (result : Result (Unit {0}) StoreFail) : Type 0 where
@@ -23,5 +32,5 @@ pub record Commits {S X : Type 0} (n : Counting S X) (before now : S) (change : 
 pub record Stores {S : Type 0} (g : Ghosts S) (IsOld IsNew : List ℕ → Type 0) (before now : S) (end : End) : Type 0 where
   pub any_moment : g.tells → (c : List ℕ) → (g.times now).since (g.times before).moment c → IsOld c ⊎ IsNew c
   pub time : g.tells → Elapses (g.times before) (g.times now)
-  pub spent : Spent 6 (g.meters before) (g.meters now) end
+  pub spent : Spends g 6 before now end
   pub size : g.size now ≡ g.size before

@@ -1,11 +1,9 @@
 //! What a node of the bench promises: a record over its storage, one commit at a time.
 ghost use Rattle.std.specs.Prelude.{◌≡◌, ◌+◌, List, Bool, ℕ, OnOk, IsErrOf, Some, true, false, is_ok};
-ghost use Rattle.nv_model.specs.Meters.{Restarts};
 ghost use Rattle.nv_model.specs.Moments.{Image};
-ghost use Rattle.nv_model.specs.Still.{SameTimes};
-ghost use Rattle.nv_store.specs.Turns.{Spent};
+ghost use Rattle.nv_model.specs.Still.{SameTimes, armed, with_fuse};
 ghost use Rattle.node_acts.specs.Views.{Counting};
-ghost use Rattle.node_seat.specs.Does.{Reads, Commits, Stores};
+ghost use Rattle.node_seat.specs.Does.{Reads, RestartIs, Spends, Commits, Stores};
 ghost use Rattle.node_seat.specs.Ends.{end_of_boot, end_of_commit, leaves_running};
 
 use bench_base::refusals::{BootFail, StoreFail};
@@ -68,7 +66,7 @@ pub trait Node: Drop + Sized {
         requires off { is_on self.old ≡ false }
         ensures off { is_on self.new ≡ false }
         ensures reads { Reads Self.Storage.Nv (storage self.old) (storage self.new) }
-        ensures answer { Restarts (Self.Storage.meters (storage self.old)) (Self.Storage.meters (storage self.new)) result };
+        ensures answer { RestartIs Self.Storage.Nv (storage self.old) (storage self.new) result };
 
     /// Switches a node that is off on, from what its storage shows, or leaves it off. Nothing is written.
     fn boot(&mut self, number: Self::Name) -> Result<(), BootFail>
@@ -78,7 +76,7 @@ pub trait Node: Drop + Sized {
         ensures starts { OnOk result ((name self.new ≡ number) × IsSound number (seen self.new)) }
         ensures reads { Reads Self.Storage.Nv (storage self.old) (storage self.new) }
         ensures damaged { Self.Storage.tells → IsErrOf result BootFail.Damaged → IsDamaged number (storage self.new) }
-        ensures spent { Spent 1 (Self.Storage.meters (storage self.old)) (Self.Storage.meters (storage self.new)) (end_of_boot result) };
+        ensures spent { Spends Self.Storage.Nv 1 (storage self.old) (storage self.new) (end_of_boot result) };
 
     /// Commits a change of a node that is on, and keeps it once it is committed. After Power and Fault the node is off.
     fn commit(&mut self, change: &Self::Change) -> Result<(), StoreFail>
@@ -106,10 +104,10 @@ pub trait Node: Drop + Sized {
 
     /// Arms the fuse of the storage.
     fn arm(&mut self, calls: u32, keep: u32, byte: u8)
-        ensures armed { Self.Storage.fuse_of (storage self.new) ≡ record (Self.Storage.fuse_of (storage self.old)) { fuse = Some calls; keep = keep; byte = byte } }
+        ensures armed { Self.Storage.fuse_of (storage self.new) ≡ armed calls keep byte (Self.Storage.fuse_of (storage self.old)) }
         ensures times { SameTimes (Self.Storage.times (storage self.old)) (Self.Storage.times (storage self.new)) }
         ensures size { Self.Storage.size (storage self.new) ≡ Self.Storage.size (storage self.old) }
-        ensures meters { Self.Storage.meters (storage self.new) ≡ record (Self.Storage.meters (storage self.old)) { fuse = Some calls } }
+        ensures meters { Self.Storage.meters (storage self.new) ≡ with_fuse calls (Self.Storage.meters (storage self.old)) }
         ensures name { name self.new ≡ name self.old }
         ensures seen { seen self.new ≡ seen self.old }
         ensures leaves { is_on self.new ≡ is_on self.old };
@@ -117,17 +115,20 @@ pub trait Node: Drop + Sized {
     ghost sized: { (k : Self) → is_on k ≡ true → Self.Storage.size (storage k) ≡ bytes };
 
     /// While it is on, each image shows the record.
-    ghost knows: { (k : Self) → Self.Storage.tells → is_on k ≡ true → (c : List ℕ) → Image (Self.Storage.times (storage k)) c → IsShown (seen k) c };
+    ghost knows: { (k : Self) → Self.Storage.tells → is_on k ≡ true → (c : List ℕ) → Image (Self.Storage.times (storage k)) c
+        → IsShown (seen k) c };
 
     /// An image shows one record.
-    ghost one_shown: { (d : Self.Name) (a b : Seen) (c : List ℕ) → IsSound d a → IsSound d b → IsShown a c → IsShown b c → a ≡ b };
+    ghost one_shown: { (d : Self.Name) (a b : Seen) (c : List ℕ) → IsSound d a → IsSound d b → IsShown a c → IsShown b c
+        → a ≡ b };
 
-    ghost keeps: { (d : Self.Name) (s : Seen) (x : Self.Change) → IsSound d s → IsKept x → IsFrom d s x → counting.is_worn s x ≡ false
-        → IsSound d (counting.after s x) };
+    ghost keeps: { (d : Self.Name) (s : Seen) (x : Self.Change) → IsSound d s → IsKept x → IsFrom d s x
+        → counting.is_worn s x ≡ false → IsSound d (counting.after s x) };
 
-    ghost counts: { (d : Self.Name) (s : Seen) (x : Self.Change) → IsSound d s → IsKept x → counting.count (counting.after s x) ≡ counting.count s + 1 };
+    ghost counts: { (d : Self.Name) (s : Seen) (x : Self.Change) → IsSound d s → IsKept x
+        → counting.count (counting.after s x) ≡ counting.count s + 1 };
 
     /// Storage that shows a record of the node is not damaged.
-    ghost intact: { (d : Self.Name) (s : Seen) (nv : Self.Storage) → IsSound d s → IsShown s (Self.Storage.content nv) → Self.Storage.size nv ≡ bytes
-        → IsDamaged d nv → ⊥ };
+    ghost intact: { (d : Self.Name) (s : Seen) (nv : Self.Storage) → IsSound d s → IsShown s (Self.Storage.content nv)
+        → Self.Storage.size nv ≡ bytes → IsDamaged d nv → ⊥ };
 }

@@ -41,7 +41,8 @@ pub fn stop<K: Node>(node: &mut K) -> bool
 
 /// Does what a call of the node decided on. A node whose commit fails is switched off.
 pub fn perform<K: Node, F: Copy, A: Copy>(node: &mut K, act: Act<K::Change, F, A>) -> Outcome<F, A>
-    ensures { (by : K.Node.Seen → Act K.Change F A) → by (K.Node.seen node.old) ≡ act → CallDoes K.Node K.Storage.Nv by node.old node.new result }
+    ensures { (by : K.Node.Seen → Act K.Change F A) → by (K.Node.seen node.old) ≡ act
+        → CallDoes K.Node K.Storage.Nv by node.old node.new result }
 {
     if !node.is_on() {
         return Outcome::Off;
@@ -59,7 +60,7 @@ pub fn perform<K: Node, F: Copy, A: Copy>(node: &mut K, act: Act<K::Change, F, A
     }
 }
 
-/// Arms the fuse of the node's storage: `calls` calls of write and sync pass, and the next one burns it. See `Fused::arm`.
+/// Arms the fuse of the node's storage: `calls` calls of write and sync pass, and the next one burns it.
 pub fn arm<K: Node>(node: &mut K, calls: u32, keep: u32, byte: u8)
     ensures { ArmDoes K.Node K.Storage.Nv K.Storage.Fuse.own calls keep byte node.old node.new }
 {

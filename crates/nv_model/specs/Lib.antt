@@ -1,7 +1,6 @@
 pub mod Bytes
 pub mod Meters
 pub mod Moments
-pub mod Still
 pub mod Replay
 pub mod Media
 pub mod Plans
@@ -11,3 +10,4 @@ pub mod Tallies
 pub mod Fuses
 pub mod Ranges
 pub mod Files
+pub mod Still

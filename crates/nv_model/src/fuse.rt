@@ -1,7 +1,7 @@
 //! Storage whose power can be cut by a fuse.
-ghost use Rattle.std.specs.Prelude.{◌≡◌, Some};
+ghost use Rattle.std.specs.Prelude.{◌≡◌};
 ghost use Rattle.nv_model.specs.Fuses as fuses;
-ghost use Rattle.nv_model.specs.Still.{SameTimes};
+ghost use Rattle.nv_model.specs.Still.{SameTimes, armed, with_fuse};
 
 use crate::fused::Fused;
 use crate::nv::Nv;
@@ -15,11 +15,11 @@ pub trait Fuse: Nv {
 
     /// Arms the fuse: see `Fused::arm`. Nothing else changes.
     fn arm(&mut self, calls: u32, keep: u32, byte: u8)
-        ensures armed { fuse_of self.new ≡ record (fuse_of self.old) { fuse = Some calls; keep = keep; byte = byte } }
+        ensures armed { fuse_of self.new ≡ armed calls keep byte (fuse_of self.old) }
         ensures times { SameTimes (Self.times self.old) (Self.times self.new) }
         ensures content { Self.content self.new ≡ Self.content self.old }
         ensures size { Self.size self.new ≡ Self.size self.old }
-        ensures meters { Self.meters self.new ≡ record (Self.meters self.old) { fuse = Some calls } };
+        ensures meters { Self.meters self.new ≡ with_fuse calls (Self.meters self.old) };
 }
 
 impl<N: Nv> Fuse for Fused<N> {

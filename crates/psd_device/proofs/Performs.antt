@@ -64,20 +64,20 @@ module _ {N A : Type 0} {g : Ghosts N} (act : Act State DevRefusal A) (d : Devic
 
   pub refuses : (x : DevRefusal) → torn_of d ≡ None → act ≡ Refuse x → Performs act d d (Err (Refused x))
   refuses x works is = quiet (Err (Refused x)) works (ap (commit_in counting (seen_of d)) is) refl
-      (sym (ap (result_in counting (seen_of d)) is), works, ap (λ (b : Act State DevRefusal A). seen_with (commit_in counting (seen_of d) b) (seen_of d)) (sym is))
+      (record { answer = sym (ap (result_in counting (seen_of d)) is); works = works; after = ap (λ (b : Act State DevRefusal A). seen_with (commit_in counting (seen_of d) b) (seen_of d)) (sym is) })
 
   pub tells_only : (a : A) → torn_of d ≡ None → act ≡ Tell a → Performs act d d (Ok a)
   tells_only a works is = quiet (Ok a) works (ap (commit_in counting (seen_of d)) is) refl
-      (sym (ap (result_in counting (seen_of d)) is), works, ap (λ (b : Act State DevRefusal A). seen_with (commit_in counting (seen_of d) b) (seen_of d)) (sym is))
+      (record { answer = sym (ap (result_in counting (seen_of d)) is); works = works; after = ap (λ (b : Act State DevRefusal A). seen_with (commit_in counting (seen_of d) b) (seen_of d)) (sym is) })
 
   pub worn : (c : Commit) (x : State) (a : A) → torn_of d ≡ None → act ≡ Commits c x a → counting.is_worn (seen_of d) x ≡ true → Performs act d d (Err (Store Worn))
   worn c x a works is full =
       let none : commits ≡ None = ap (commit_in counting (seen_of d)) is ∙ if_true (counting.is_worn (seen_of d) x) None _ full in
-      quiet (Err (Store Worn)) works none refl (
-        sym (ap (result_in counting (seen_of d)) is ∙ if_true (counting.is_worn (seen_of d) x) (Err (Store Worn)) (Ok a) full),
-        works,
-        ap (λ (m : Option (Commit × Seen)). seen_with m (seen_of d)) (sym none),
-      )
+      quiet (Err (Store Worn)) works none refl (record {
+        answer = sym (ap (result_in counting (seen_of d)) is ∙ if_true (counting.is_worn (seen_of d) x) (Err (Store Worn)) (Ok a) full);
+        works = works;
+        after = ap (λ (m : Option (Commit × Seen)). seen_with m (seen_of d)) (sym none);
+      })
 
   -- a call that commits
   module _ (c : Commit) (x : State) (a : A) (e : Device N g) (is : act ≡ Commits c x a) (works : torn_of d ≡ None) (fresh : counting.is_worn (seen_of d) x ≡ false)
@@ -120,7 +120,7 @@ module _ {N A : Type 0} {g : Ghosts N} (act : Act State DevRefusal A) (d : Devic
     -- it is made
     pub done : end ≡ Made → torn_of e ≡ None → seen_of e ≡ next → Performs act d e (Ok a)
     done ends torn seen = committed (Ok a) ends (λ k. cc) (λ m. e.runs ∙ ap (λ (o : Option Commit). not (is_some o)) torn) (λ m. seen)
-        (answered, torn, seen ∙ ap (λ (m : Option (Commit × Seen)). seen_with m (seen_of d)) (sym made_is))
+        (record { answer = answered; works = torn; after = seen ∙ ap (λ (m : Option (Commit × Seen)). seen_with m (seen_of d)) (sym made_is) })
       where
         answered : Ok a ≡ result_in counting (seen_of d) act
         answered = sym (ap (result_in counting (seen_of d)) is ∙ if_false (counting.is_worn (seen_of d) x) (Err (Store Worn)) (Ok a) fresh)

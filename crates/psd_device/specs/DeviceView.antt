@@ -1,5 +1,5 @@
 -- What contracts see of a device and of its calls.
-use Rattle.std.specs.Prelude.{◌≡◌, ◌≢◌, ℕ, List, Option, Result, Ok, Err, Some, None, IfSome}
+use Rattle.std.specs.Prelude.{◌≡◌, ◌≢◌, ℕ, ℤ, List, Option, Result, Ok, Err, Some, None, IfSome}
 use Rattle.bench_base.specs.declared.ledger.Commit.{Commit}
 use Rattle.bench_base.specs.declared.refusals.DevRefusal.{DevRefusal}
 use Rattle.bench_base.specs.declared.refusals.Fail.{Fail}
@@ -8,12 +8,17 @@ use Rattle.bench_base.specs.declared.refusals.StoreFail.TheVariants.{Power, Faul
 use Rattle.bench_base.specs.declared.sizes.TheConstants.{DEVICE_BYTES}
 use Rattle.nv_model.specs.declared.nv.Nv.{Ghosts}
 use Rattle.nv_ring.specs.declared.wear.Wear.{Wear}
-use Rattle.nv_store.specs.Turns.{Turn, Spent}
-use Rattle.node_acts.specs.declared.act.Act.{Act}
+use Rattle.nv_store.specs.Turns.{End, Turn}
 use Rattle.node_acts.specs.Acts.{commit_in, cost}
 use Rattle.node_acts.specs.Results.{result_in}
+use Rattle.node_seat.specs.Does.{Spends}
 use Rattle.node_seat.specs.Ends.{end_of_result}
-use Rattle.psd_state.specs.State.{State}
+use Rattle.bench_base.specs.declared.words.Kind.{Kind}
+use Rattle.bench_base.specs.Rules.{todays_rules}
+use Rattle.psd_wire.specs.declared.message.DebitMsg.{DebitMsg}
+use Rattle.psd_state.specs.Acts.{DeviceAct, make_act, debit_act, ask_act, take_act}
+use Rattle.psd_state.specs.declared.acts.Franked.{Franked}
+use Rattle.psd_state.specs.declared.acts.Taken.{Taken}
 use Rattle.psd_state.specs.Seen.{Seen, counting}
 use Rattle.psd_device.specs.Shown.{ShowsSeen, OnlyShown, IsKept}
 use Rattle.psd_device.specs.Sound.{IsSound, IsCurrent}
@@ -50,7 +55,32 @@ pub record Starts {N : Type 0} {g : Ghosts N} (device : ℕ) (d : Device N g) : 
   pub shows : g.tells → OnlyShown (seen_of d) (g.times (storage_of d)) (g.content (storage_of d))
   pub place : g.tells → IsCurrent (wear_of d).start (g.content (storage_of d))
 
+-- == the acts ==
+
+abbrev pub DeviceResult : Type 0 → Type 0
+DeviceResult A = Result A (Fail DevRefusal)
+
+abbrev pub make_of : {N : Type 0} {g : Ghosts N} → Device N g → List ℕ → DeviceAct (Unit {0})
+make_of d key = make_act (number_of d) key (seen_of d).state
+
+abbrev pub debit_of : {N : Type 0} {g : Ghosts N} → Device N g → DebitMsg → ℤ → DeviceAct Franked
+debit_of d command today = debit_act todays_rules (number_of d) command today (seen_of d).state
+
+abbrev pub ask_of : {N : Type 0} {g : Ghosts N} → Device N g → Kind → ℕ → ℕ → ℤ → DeviceAct (List ℕ)
+ask_of d kind customer amount today = ask_act todays_rules (number_of d) kind customer amount today (seen_of d).state
+
+abbrev pub take_of : {N : Type 0} {g : Ghosts N} → Device N g → List ℕ → ℤ → DeviceAct Taken
+take_of d bytes today = take_act todays_rules (number_of d) bytes today (seen_of d).state
+
 -- == a call ==
+
+-- the commit of an act, with the record that it makes
+abbrev pub commit_from : {N A : Type 0} {g : Ghosts N} → DeviceAct A → Device N g → Option (Commit × Seen)
+commit_from act d = commit_in counting (seen_of d) act
+
+-- how a call of this act ended for the storage
+abbrev pub end_from : {N A : Type 0} {g : Ghosts N} → DeviceAct A → Device N g → DeviceResult A → End
+end_from act d result = end_of_result result (commit_from act d)
 
 -- the images that show the commit too
 abbrev pub IsAfter : Option (Commit × Seen) → List ℕ → Type 0
@@ -68,13 +98,15 @@ Tore None old new = ⊥
 Tore (Some x) old new = (torn_of new ≡ Some x.0) × (seen_of new ≡ seen_of old)
 
 -- it answers what the act does, and has the record after its commit
-abbrev pub Did : {N A : Type 0} {g : Ghosts N} → Act State DevRefusal A → Device N g → Device N g → Result A (Fail DevRefusal) → Type 0
-Did act old new result = (result ≡ result_in counting (seen_of old) act) × (torn_of new ≡ None) × (seen_of new ≡ seen_with (commit_in counting (seen_of old) act) (seen_of old))
+pub record Did {N A : Type 0} {g : Ghosts N} (act : DeviceAct A) (old new : Device N g) (result : DeviceResult A) : Type 0 where
+  pub answer : result ≡ result_in counting (seen_of old) act
+  pub works : torn_of new ≡ None
+  pub after : seen_of new ≡ seen_with (commit_from act old) (seen_of old)
 
 -- what a call of this act answered and left in a device that had not failed
-abbrev pub Does : {N A : Type 0} {g : Ghosts N} → Act State DevRefusal A → Device N g → Device N g → Result A (Fail DevRefusal) → Type 0
-Does act old new (Err (Store Power)) = Tore (commit_in counting (seen_of old) act) old new
-Does act old new (Err (Store Fault)) = Tore (commit_in counting (seen_of old) act) old new
+abbrev pub Does : {N A : Type 0} {g : Ghosts N} → DeviceAct A → Device N g → Device N g → DeviceResult A → Type 0
+Does act old new (Err (Store Power)) = Tore (commit_from act old) old new
+Does act old new (Err (Store Fault)) = Tore (commit_from act old) old new
 Does act old new (Err (Store Worn)) = Did act old new (Err (Store Worn))
 Does act old new (Err (Store Failed)) = ⊥
 Does act old new (Err (Refused x)) = Did act old new (Err (Refused x))
@@ -82,15 +114,15 @@ Does act old new (Ok a) = Did act old new (Ok a)
 
 -- What a call of this act did, answered and left. A device of which a commit failed answers `Failed` to each call and
 -- stays as it is; a call that commits nothing leaves the device and its storage as they were.
-pub record Performs {N A : Type 0} {g : Ghosts N} (act : Act State DevRefusal A) (old new : Device N g) (result : Result A (Fail DevRefusal)) : Type 0 where
+pub record Performs {N A : Type 0} {g : Ghosts N} (act : DeviceAct A) (old new : Device N g) (result : DeviceResult A) : Type 0 where
   pub failed : torn_of old ≢ None → (result ≡ Err (Store Failed)) × (new ≡ old)
   pub does : torn_of old ≡ None → Does act old new result
   pub turn : torn_of old ≡ None → g.tells
-      → Turn (ShowsSeen (seen_of old)) (IsAfter (commit_in counting (seen_of old) act)) (g.times (storage_of old)) (g.times (storage_of new))
-      (end_of_result result (commit_in counting (seen_of old) act))
-  pub spent : torn_of old ≡ None → Spent (cost act) (g.meters (storage_of old)) (g.meters (storage_of new)) (end_of_result result (commit_in counting (seen_of old) act))
-  pub next : torn_of old ≡ None → IfSome (commit_in counting (seen_of old) act) (λ x. IfSome x.1.state IsKept)
-  pub rests : commit_in counting (seen_of old) act ≡ None → new ≡ old
+      → Turn (ShowsSeen (seen_of old)) (IsAfter (commit_from act old)) (g.times (storage_of old)) (g.times (storage_of new))
+      (end_from act old result)
+  pub spent : torn_of old ≡ None → Spends g (cost act) (storage_of old) (storage_of new) (end_from act old result)
+  pub next : torn_of old ≡ None → IfSome (commit_from act old) (λ x. IfSome x.1.state IsKept)
+  pub rests : commit_from act old ≡ None → new ≡ old
   pub number : number_of new ≡ number_of old
   pub kept : IfSome (seen_of new).state IsKept
   pub size : g.size (storage_of new) ≡ DEVICE_BYTES

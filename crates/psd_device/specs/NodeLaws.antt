@@ -1,6 +1,5 @@
 -- That a device meets the laws of a node.
-use Rattle.std.proofs.Common.{◌≡◌, ⊎_elim, ℕ, ◌+◌, ◌≤◌, List, Option, Some, None, false, ◌==◌, ◌∙◌, ap, arith}
-use Rattle.std.specs.Prelude.{IfSome}
+use Rattle.std.proofs.Common.{◌≡◌, ⊎_elim, ℕ, ◌+◌, ◌≤◌, List, Option, false, ◌==◌, ◌∙◌, ap, arith}
 use Rattle.std.proofs.lemmas.Bool.Decides.{nat_tests}
 use Rattle.bench_base.specs.declared.sizes.TheConstants.{MOST_COMMITS, RECORD_BYTES, SLOTS, DEVICE_BYTES}
 use Rattle.nv_model.specs.declared.nv.Nv.{Ghosts}
@@ -8,7 +7,7 @@ use Rattle.nv_store.specs.Slot.{slots_at}
 use Rattle.psd_state.specs.State.{State}
 use Rattle.psd_state.specs.Seen.{Seen, counting}
 use Rattle.psd_device.specs.Shown.{IsShown, IsKept}
-use Rattle.psd_device.specs.Boots.{IsOwn, IsDamaged, ShowsOwn}
+use Rattle.psd_device.specs.Boots.{IsDamaged, ShowsOwn}
 use Rattle.psd_device.specs.Knows as knows
 use Rattle.psd_device.specs.Sound.{IsSound}
 use Rattle.nv_store.specs.CellLaws.{not_mixed}
@@ -39,13 +38,13 @@ keeps d s x sound kept number fresh = record {
     no_next k is = omega arith
 
 -- storage that is sure to show a record of the device is not damaged
-pub not_damaged : {N : Type 0} (g : Ghosts N) (d : ℕ) (nv : N) → ShowsOwn d (g.content nv) → g.size nv ≡ DEVICE_BYTES → IsDamaged d (g.size nv) (g.times nv) (g.content nv) → ⊥
+pub not_damaged : {N : Type 0} (g : Ghosts N) (d : ℕ) (nv : N) → ShowsOwn d (g.content nv) → g.size nv ≡ DEVICE_BYTES → IsDamaged g d nv → ⊥
 not_damaged g d nv own size damaged =
     ⊎_elim (λ other. other size)
     (λ wrong. ⊎_elim (λ mixed. not_mixed SLOTS (slots_at RECORD_BYTES 0 (g.content nv)) mixed (shows_clear d (g.content nv) own)) (λ foreign. own_not_foreign d (g.content nv) own foreign) wrong.1)
     damaged
 
 pub intact : {N : Type 0} (g : Ghosts N) (d : ℕ) (s : Seen) (nv : N) → IsSound d s → IsShown s.count s.state (g.content nv) → g.size nv ≡ DEVICE_BYTES
-    → IsDamaged d (g.size nv) (g.times nv) (g.content nv) → ⊥
+    → IsDamaged g d nv → ⊥
 intact g d s nv sound shown size damaged =
     not_damaged g d nv (record { count = s.count; state = s.state; own = sound.own; shows = shown }) size damaged

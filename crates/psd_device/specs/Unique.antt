@@ -1,16 +1,12 @@
 -- That a record can be kept, and that a payload reads as it, has one proof at most.
-use Rattle.std.proofs.Common.{◌≡◌, ◌⊎◌, inl, inr, ℕ, List, [], ◌∷◌, Option, Some, None, IfSome, ap, sym, ◌∙◌, arith}
+use Rattle.std.proofs.Common.{◌≡◌, ◌⊎◌, inl, inr, ℕ, List, [], ◌∷◌, Option, Some, None, IfSome, ap, arith}
 use Rattle.std.proofs.Props.{props}
-use Rattle.bench_base.specs.Rules.{IsVersion}
 use Rattle.bench_base.specs.Table.{Size, One, Two, Four, Five, Eight, IsNumber, Fit}
 use Rattle.bench_base.specs.declared.words.Kind.{Kind}
 use Rattle.bench_base.specs.declared.words.Kind.TheVariants.{Enrol, Reset, Audit, Refund, Withdraw}
 use Rattle.bench_base.specs.declared.words.Phase.{Phase}
 use Rattle.indicium.specs.declared.Mark.{Mark}
-use Rattle.indicium.specs.Marks as marks
 use Rattle.psd_wire.specs.declared.message.Request.{Request}
-use Rattle.psd_wire.specs.declared.message.Message.TheVariants as m
-use Rattle.psd_wire.specs.Grammar as grammar
 use Rattle.registers.specs.Sums.{Sums}
 use Rattle.nv_store.specs.Slot.{Held}
 use Rattle.psd_state.specs.State.{State, Holds, IsAmount, PendingOk, MarkOk}

@@ -1,14 +1,13 @@
 //! A device out of its storage.
 ghost use Rattle.std.specs.Prelude.{◌≡◌, ◌≢◌, List, OnOk, IfOk, IfErr, IfSome, IsErrOf, MatchResult, Ok, Err, false, is_ok, ℕ};
-ghost use Rattle.nv_model.specs.Moments.{Image};
 ghost use Rattle.nv_store.specs.Store.{one_held};
-ghost use Rattle.nv_store.specs.Turns.{Spent, Kept};
-ghost use Rattle.node_seat.specs.Does.{Reads};
+ghost use Rattle.nv_store.specs.Turns.{Kept};
+ghost use Rattle.node_seat.specs.Does.{Reads, Spends};
 ghost use Rattle.node_seat.specs.Ends.{end_of_boot};
 ghost use Rattle.psd_state.specs.State.{State};
 ghost use Rattle.psd_state.specs.Payload.{ReadsAs};
 ghost use Rattle.psd_device.specs.Shown.{IsHeld};
-ghost use Rattle.psd_device.specs.Boots.{IsOwn, ShowsOwn, IsDamaged};
+ghost use Rattle.psd_device.specs.Boots.{IsOwn, AllShowOwn, IsDamaged};
 
 use crate::device::Device;
 use crate::node::DeviceNode;
@@ -49,10 +48,10 @@ impl<N: Nv> DeviceNode<N> {
         ensures leaves { is_on self.new ≡ is_ok result }
         ensures starts { OnOk result ((number_in self.new ≡ device) × IsSound device (seen_in self.new)) }
         ensures reads { Reads N.Nv (storage_in self.old) (storage_in self.new) }
-        ensures size { N.size (storage_in self.old) ≢ DEVICE_BYTES → (result ≡ Err BootFail.Damaged) × (storage_in self.new ≡ storage_in self.old) }
-        ensures damaged { N.tells → IsErrOf result BootFail.Damaged
-            → IsDamaged device (N.size (storage_in self.new)) (N.times (storage_in self.new)) (N.content (storage_in self.new)) }
-        ensures spent { Spent 1 (N.meters (storage_in self.old)) (N.meters (storage_in self.new)) (end_of_boot result) }
+        ensures size { N.size (storage_in self.old) ≢ DEVICE_BYTES
+            → (result ≡ Err BootFail.Damaged) × (storage_in self.new ≡ storage_in self.old) }
+        ensures damaged { N.tells → IsErrOf result BootFail.Damaged → IsDamaged N.Nv device (storage_in self.new) }
+        ensures spent { Spends N.Nv 1 (storage_in self.old) (storage_in self.new) (end_of_boot result) }
         ensures wear { OnOk result (IsNewWear (wear_in self.new) (seen_in self.new).count) }
         ensures place { N.tells → OnOk result (IsCurrent (wear_in self.new).start (N.content (storage_in self.new))) }
     {
@@ -95,11 +94,10 @@ impl<N: Nv> Device<N> {
 
         // Why it fails, and what it costs.
         ensures size { N.size nv ≢ DEVICE_BYTES → result ≡ Err (nv, BootFail.Damaged) }
-        ensures damaged { N.tells → MatchResult result (λ d. IsDamaged device (N.size nv) (N.times (storage_of d)) (N.content (storage_of d)) → ⊥)
-            (λ e. e.1 ≡ BootFail.Damaged → IsDamaged device (N.size nv) (N.times e.0) (N.content e.0)) }
-        ensures sound { N.tells → N.size nv ≡ DEVICE_BYTES → ((c : List ℕ) → Image (N.times nv) c → ShowsOwn device c) → IfErr result (λ e. e.1 ≢ BootFail.Damaged) }
-        ensures spent { MatchResult result (λ d. Spent 1 (N.meters nv) (N.meters (storage_of d)) Kept)
-            (λ e. Spent 1 (N.meters nv) (N.meters e.0) (end_of_boot (Err e.1))) }
+        ensures damaged { N.tells → MatchResult result (λ d. IsDamaged N.Nv device (storage_of d) → ⊥)
+            (λ e. e.1 ≡ BootFail.Damaged → IsDamaged N.Nv device e.0) }
+        ensures sound { N.tells → N.size nv ≡ DEVICE_BYTES → AllShowOwn N.Nv device nv → IfErr result (λ e. e.1 ≢ BootFail.Damaged) }
+        ensures spent { MatchResult result (λ d. Spends N.Nv 1 nv (storage_of d) Kept) (λ e. Spends N.Nv 1 nv e.0 (end_of_boot (Err e.1))) }
 
         // Wear is counted from here on.
         ensures wear { IfOk result (λ d. IsNewWear (wear_of d) (seen_of d).count) }

@@ -5,9 +5,8 @@
 //! storage has 4,294,967,295 commits. A refusal, Worn, and an answer that needs no commit leave the device and its storage
 //! as they were. The others never answer `Store`.
 ghost use Rattle.std.specs.Prelude.{◌≡◌};
-ghost use Rattle.bench_base.specs.Rules.{todays_rules};
 ghost use Rattle.node_acts.specs.Results.{answer_of};
-ghost use Rattle.psd_state.specs.Acts.{make_act, debit_act, ask_act, take_act, resend_act, ack_act, status_act};
+ghost use Rattle.psd_state.specs.Acts.{resend_act, ack_act, status_act};
 
 use crate::device::Device;
 use bench_base::bytes::Note;
@@ -31,11 +30,11 @@ fn answer<A: Copy>(act: DeviceAct<A>) -> Result<A, DevFail>
 }
 
 impl<N: Nv> Device<N> {
-    ghost use Rattle.psd_device.specs.DeviceView.{number_of, seen_of, Performs};
+    ghost use Rattle.psd_device.specs.DeviceView.{seen_of, make_of, debit_of, ask_of, take_of, Performs};
 
     /// Makes the device under a key. `Made` exactly where it was made before.
     pub fn make(&mut self, key: &Key) -> Result<(), DevFail>
-        ensures { Performs (make_act (number_of self.old) key.now (seen_of self.old).state) self.old self.new result }
+        ensures { Performs (make_of self.old key.now) self.old self.new result }
     {
         let act = acts::make_act(self.node.number(), key, self.node.record());
         self.perform(act)
@@ -44,7 +43,7 @@ impl<N: Nv> Device<N> {
     /// Marks a piece: see `DevRec::debit`. `Blank`, before its refusals, exactly where there is no record. The mark of the last
     /// piece is given once more without a commit.
     pub fn debit(&mut self, command: &DebitMsg, day: DayNo) -> Result<Franked, DevFail>
-        ensures { Performs (debit_act todays_rules (number_of self.old) command.now day (seen_of self.old).state) self.old self.new result }
+        ensures { Performs (debit_of self.old command.now day) self.old self.new result }
     {
         let act = acts::debit_act(self.node.number(), command, day, self.node.record());
         self.perform(act)
@@ -59,7 +58,7 @@ impl<N: Nv> Device<N> {
         amount: u32,
         day: DayNo,
     ) -> Result<Note, DevFail>
-        ensures { Performs (ask_act todays_rules (number_of self.old) kind customer amount day (seen_of self.old).state) self.old self.new result }
+        ensures { Performs (ask_of self.old kind customer amount day) self.old self.new result }
     {
         let act = acts::ask_act(
             self.node.number(),
@@ -76,7 +75,7 @@ impl<N: Nv> Device<N> {
     /// message; for a Debit those of `debit`; for a Reply `Blank`, `WrongDevice` with the Reply's device, `BadCode` exactly
     /// where its code is not of this device's key, and then those of `DevRec::apply`.
     pub fn take(&mut self, bytes: &[u8], day: DayNo) -> Result<Taken, DevFail>
-        ensures { Performs (take_act todays_rules (number_of self.old) bytes.now day (seen_of self.old).state) self.old self.new result }
+        ensures { Performs (take_of self.old bytes.now day) self.old self.new result }
     {
         let act = acts::take_act(self.node.number(), bytes, day, self.node.record());
         self.perform(act)

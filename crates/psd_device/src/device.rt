@@ -96,11 +96,12 @@ impl<N: Nv> Device<N> {
 
 impl<M: Nv> Device<Fused<M>> {
     ghost use Rattle.nv_model.specs.Fuses.{inside, state_of};
+    ghost use Rattle.nv_model.specs.Still.{armed};
     ghost use Rattle.psd_device.specs.DeviceView.{storage_of, seen_of, number_of, torn_of, wear_of};
 
     /// Arms the fuse of the storage: see `Fused::arm`.
     pub fn arm(&mut self, calls: u32, keep: u32, byte: u8)
-        ensures armed { state_of (storage_of self.new) ≡ record (state_of (storage_of self.old)) { fuse = Some calls; keep = keep; byte = byte } }
+        ensures armed { state_of (storage_of self.new) ≡ armed calls keep byte (state_of (storage_of self.old)) }
         ensures inside { inside (storage_of self.new) ≡ inside (storage_of self.old) }
         ensures number { number_of self.new ≡ number_of self.old }
         ensures seen { seen_of self.new ≡ seen_of self.old }

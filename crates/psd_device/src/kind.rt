@@ -39,7 +39,7 @@ impl<M: Fuse + Drop> Node for DeviceNode<M> {
 
     ghost IsShown = { λ s c. ShowsSeen s c };
 
-    ghost IsDamaged = { λ d nv. IsDamaged d (M.size nv) (M.times nv) (M.content nv) };
+    ghost IsDamaged = { λ d nv. IsDamaged M.Nv.own d nv };
 
     ghost name = { λ k. node_view.number_in k };
 
