@@ -60,7 +60,11 @@ fn franked<T: Tell>(device: DevNo, command: &DebitMsg, day: DayNo, mark: &Franke
     if mark.again {
         return T::one(marked, released);
     }
-    T::two(marked, Entry::Commit(debit_commit(device, command, day)), released)
+    T::two(
+        marked,
+        Entry::Commit(debit_commit(device, command, day)),
+        released,
+    )
 }
 
 /// Debits a piece on that day, or gives the mark of the last piece again.

@@ -218,8 +218,8 @@ module _ {K S N C R X F A : Type 0} (n : Ghosts K S N C R) (g : nv.Ghosts S) (f 
   turn_call x did = record {
     by_view = λ v st tells'.
         let it : Tells n.counting m refusal reply tell told.refuses told.did (when_on m v (done_plan n.counting m refusal reply tell v.state (by v.state)))
-            (by v.state) (commit_of n.counting v (by v.state)) x
-            = tells n.counting m refusal reply tell told.refuses told.did v (by v.state) (own v.state) x (did.comes d v st tells') in
+        (by v.state) (commit_of n.counting v (by v.state)) x
+        = tells n.counting m refusal reply tell told.refuses told.did v (by v.state) (own v.state) x (did.comes d v st tells') in
         record {
           may = may_by v x it;
           entries = ap in_order (added_is m tell done (by v.state) x (agrees v.state) (done_of n.counting v (by v.state) x (did.comes d v st tells')) ∙ it.entries_are)

@@ -183,8 +183,7 @@ module _ {K S C R N : Type 0} (n : Ghosts K S ℕ C R) (g : nv.Ghosts S) (f : fu
       let moves = moved n g f h kind τ tells old mid e x H event s in
       let may = gets old mid e x event in
       let quiet = first_none line e x rest none in
-      let fine : tells_failure event.turn.reply ≡ false = subst (λ (y : Reply). tells_failure y ≡ false) event.told (tells_none e x event.taken moves.0 may quiet) in
-      (
+      let fine : tells_failure event.turn.reply ≡ false = subst (λ (y : Reply). tells_failure y ≡ false) event.told (tells_none e x event.taken moves.0 may quiet) in (
         exactly τ H e x event.taken moves.0 may closed (answered τ H e x event.taken may quiet moves),
         all_exact mid new rest (ledger_by τ H e x) did.2 (stands_then n g f h kind τ tells old mid e x H event s u) (rest_none line e x rest none)
             (λ d. subst (λ (y : Reply). torn_of (Device d) (ledger_by τ H e y) ≡ None) (sym event.told)

@@ -15,8 +15,10 @@ use nv_model::{Fused, MemNv, Nv};
 use psd_device::DeviceNode;
 use std::alloc::Global;
 
-/// The room of a storage's record: so many calls, and so many written bytes. Where it is full, each write fails.
+/// The room of a storage's record, in calls. Where it is full, each write fails.
 const CALLS: u32 = 12_000;
+
+/// The room in written bytes: a commit writes 215 by six calls.
 const BYTES: u32 = 430_000;
 
 fn blank(alloc: Global) -> Option<MemNv>

@@ -36,8 +36,7 @@ unreachable-requires g c =
 pub returns-in-Day-clause-did : goal.returns-in-Day-clause-did
 returns-in-Day-clause-did g c =
     let t = c.in-Day.day in
-    let is : c.args.event.now ≡ ev.Day t = is_day c.args.event.now t (sym c.take.ensures ∙ c.in-Some.is ∙ ap (λ x. Some x) c.in-Day.is) in
-    (
+    let is : c.args.event.now ≡ ev.Day t = is_day c.args.event.now t (sym c.take.ensures ∙ c.in-Some.is ∙ ap (λ x. Some x) c.in-Day.is) in (
       turn_of (r.Day t) (entry.Day t ∷ []),
       c.one.ensures,
       subst (λ (e : Event). Steps (node_of g) g.M.Nv g.M.Fuse g.N.Nv device_kind e (turn_of (r.Day t) (entry.Day t ∷ [])) (bench_of c.args.bench.now) (record (bench_of c.args.bench.now) { day = Some t })) (sym is)
@@ -46,8 +45,7 @@ returns-in-Day-clause-did g c =
 
 pub returns-in-End-clause-did : goal.returns-in-End-clause-did
 returns-in-End-clause-did g c =
-    let is : c.args.event.now ≡ ev.End = is_end c.args.event.now (sym c.take.ensures ∙ c.in-Some.is ∙ ap (λ x. Some x) c.in-End.is) in
-    (
+    let is : c.args.event.now ≡ ev.End = is_end c.args.event.now (sym c.take.ensures ∙ c.in-Some.is ∙ ap (λ x. Some x) c.in-End.is) in (
       turn_of r.End [],
       c.silent.ensures,
       subst (λ (e : Event). Steps (node_of g) g.M.Nv g.M.Fuse g.N.Nv device_kind e (turn_of r.End []) (bench_of c.args.bench.now) (bench_of c.args.bench.now)) (sym is)
@@ -58,8 +56,7 @@ pub returns-in-None-clause-did : goal.returns-in-None-clause-did
 returns-in-None-clause-did g c =
     let b = c.in-Device in
     let is : taken c.args.event.now ≡ Some (take.Device b.device b.asked) = sym c.take.ensures ∙ c.in-Some.is ∙ ap (λ x. Some x) b.is in
-    let of = subst (λ (e : Event). IsOfDevice b.device e) (sym (event_is c.args.event.now b.device b.asked is)) (of_device b.device b.asked) in
-    (
+    let of = subst (λ (e : Event). IsOfDevice b.device e) (sym (event_is c.args.event.now b.device b.asked is)) (of_device b.device b.asked) in (
       turn_of r.NoDay [],
       c.silent-in-None.ensures,
       steps_none (node_of g) g.M.Nv g.M.Fuse g.N.Nv device_kind (bench_of c.args.bench.now) c.requires.ready c.args.event.now b.device c.requires.whole c.requires.taken of c.in-None.is,
@@ -77,8 +74,7 @@ returns-in-Some-day-clause-did g c =
     let e_is = event_is c.args.event.now b.device b.asked is in
     let is' : taken (event_of b.device b.asked) ≡ Some (take.Device b.device b.asked) = subst (λ (e : Event). taken e ≡ Some (take.Device b.device b.asked)) e_is is in
     let whole = subst (λ (e : Event). IsWholeEvent e) e_is c.requires.whole in
-    let of = subst (λ (e : Event). IsTaken e) e_is c.requires.taken in
-    (
+    let of = subst (λ (e : Event). IsTaken e) e_is c.requires.taken in (
       at.0,
       at.1,
       subst (λ (e : Event). Steps n g.M.Nv g.M.Fuse g.N.Nv device_kind e at.0 old new) (sym e_is) (record {
