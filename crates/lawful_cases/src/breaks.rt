@@ -1,9 +1,10 @@
 //! What comes after the ordinary path, or after a part of it, in each ledger.
 use crate::messages::{
     EARLY_RESET, FIFTH_AUDIT, FIRST_MARK, LARGE_RESET, LATER_AUDIT, OTHER_MARK, REFUND,
-    SECOND_MARK, SMALL_REFUND,
+    SECOND_MARK, SMALL_REFUND, UNKEYED_MARK,
 };
-use crate::path::{LENGTH, device, first_day};
+use crate::path::{LENGTH, Version, device, first_day, mark_of};
+use crate::today;
 use bench_base::bytes::Note;
 use bench_base::ledger::{Commit, Entry};
 use bench_base::numbers::DayNo;
@@ -47,11 +48,17 @@ pub enum Mark {
     First,
     Other,
     Second,
+    /// The second piece in version 2.
+    SecondToday,
+    /// The first under the empty key.
+    Unkeyed,
 }
 
 /// A ledger: the first entries of the path but for one, and what comes after them.
 pub struct Case {
     pub name: &'static str,
+    /// In which version the path is.
+    pub version: Version,
     pub keep: usize,
     /// The entry of the path that is left out; past its end for none.
     pub without: usize,
@@ -59,7 +66,7 @@ pub struct Case {
 }
 
 use Asked::{EarlyReset, FifthAudit, LargeReset, LaterAudit, Refund, SmallRefund};
-use Mark::{First, Other, Second};
+use Mark::{First, Other, Second, SecondToday, Unkeyed};
 use Step::{Accept, Apply, Ask, Debit, Hold, Order, Print, Release, Rule, Settle, TornDebit, Up};
 use Verdict::{Granted, NoFunds, Suspended};
 
@@ -67,18 +74,21 @@ use Verdict::{Granted, NoFunds, Suspended};
 pub const CASES: &[Case] = &[
     Case {
         name: "lawful: the ordinary path",
+        version: Version::First,
         keep: LENGTH,
         without: LENGTH,
         steps: &[],
     },
     Case {
         name: "lawful: a second debit, released twice",
+        version: Version::First,
         keep: LENGTH,
         without: LENGTH,
         steps: &[Debit(2, 550, 0, 1), Release(2, Second), Release(2, Second)],
     },
     Case {
         name: "lawful: a refund of all that is left",
+        version: Version::First,
         keep: LENGTH,
         without: LENGTH,
         steps: &[
@@ -90,24 +100,56 @@ pub const CASES: &[Case] = &[
     },
     Case {
         name: "lawful: a torn debit that counts",
+        version: Version::First,
         keep: LENGTH,
         without: LENGTH,
         steps: &[TornDebit(2, 550), Up(9), Release(2, Second)],
     },
     Case {
+        name: "lawful: the ordinary path in version 2",
+        version: Version::Today,
+        keep: LENGTH,
+        without: LENGTH,
+        steps: &[],
+    },
+    Case {
+        name: "lawful: a mark of version 2 beside one of version 1",
+        version: Version::First,
+        keep: LENGTH,
+        without: LENGTH,
+        steps: &[Debit(2, 550, 0, 2), Release(2, SecondToday)],
+    },
+    Case {
+        name: "lawful: a mark of version 1 beside one of version 2",
+        version: Version::Today,
+        keep: LENGTH,
+        without: LENGTH,
+        steps: &[Debit(2, 550, 0, 1), Release(2, Second)],
+    },
+    Case {
+        name: "lawful: small postage in the days of grace",
+        version: Version::First,
+        keep: LENGTH,
+        without: LENGTH,
+        steps: &[Debit(2, 1000, 99, 2)],
+    },
+    Case {
         name: "numbering: a number skipped",
+        version: Version::First,
         keep: LENGTH,
         without: LENGTH,
         steps: &[Ask(5, FifthAudit)],
     },
     Case {
         name: "numbering: asked before the last was applied",
+        version: Version::First,
         keep: LENGTH,
         without: LENGTH,
         steps: &[Ask(4, LaterAudit), Ask(5, FifthAudit)],
     },
     Case {
         name: "numbering: ruled twice",
+        version: Version::First,
         keep: LENGTH,
         without: LENGTH,
         steps: &[
@@ -118,18 +160,21 @@ pub const CASES: &[Case] = &[
     },
     Case {
         name: "numbering: another request ruled",
+        version: Version::First,
         keep: LENGTH,
         without: LENGTH,
         steps: &[Ask(4, LaterAudit), Rule(4, NoFunds, LargeReset)],
     },
     Case {
         name: "numbering: applied before it was ruled",
+        version: Version::First,
         keep: LENGTH,
         without: LENGTH,
         steps: &[Ask(4, LaterAudit), Apply(4, Granted)],
     },
     Case {
         name: "numbering: applied with another verdict",
+        version: Version::First,
         keep: LENGTH,
         without: LENGTH,
         steps: &[
@@ -140,84 +185,119 @@ pub const CASES: &[Case] = &[
     },
     Case {
         name: "debits: a piece skipped",
+        version: Version::First,
         keep: LENGTH,
         without: LENGTH,
         steps: &[Debit(3, 550, 0, 1)],
     },
     Case {
         name: "debits: no postage",
+        version: Version::First,
         keep: LENGTH,
         without: LENGTH,
         steps: &[Debit(2, 0, 0, 1)],
     },
     Case {
-        name: "debits: a mark of version 2",
+        name: "debits: a mark of version 3",
+        version: Version::First,
         keep: LENGTH,
         without: LENGTH,
-        steps: &[Debit(2, 550, 0, 2)],
+        steps: &[Debit(2, 550, 0, 3)],
     },
     Case {
         name: "several: a debit of more than is left",
+        version: Version::First,
         keep: LENGTH,
         without: LENGTH,
         steps: &[Debit(2, 49451, 0, 1)],
     },
     Case {
         name: "releases: again with another mark",
+        version: Version::First,
         keep: LENGTH,
         without: LENGTH,
         steps: &[Release(1, Other)],
     },
     Case {
+        name: "releases: a mark in another version",
+        version: Version::First,
+        keep: LENGTH,
+        without: LENGTH,
+        steps: &[Debit(2, 550, 0, 2), Release(2, Second)],
+    },
+    Case {
+        name: "releases: by a device that was not made",
+        version: Version::First,
+        keep: 32,
+        without: 7,
+        steps: &[Release(1, Unkeyed)],
+    },
+    Case {
         name: "releases: before the debit",
+        version: Version::First,
         keep: LENGTH,
         without: LENGTH,
         steps: &[Release(2, Second)],
     },
     Case {
         name: "releases: of a torn debit that does not count",
+        version: Version::First,
         keep: LENGTH,
         without: LENGTH,
         steps: &[TornDebit(2, 550), Up(8), Release(2, Second)],
     },
     Case {
         name: "refunds: of another amount",
+        version: Version::First,
         keep: LENGTH,
         without: LENGTH,
         steps: &[Ask(4, SmallRefund), Rule(4, Granted, SmallRefund)],
     },
     Case {
         name: "registers: settled before it was applied",
+        version: Version::First,
         keep: LENGTH,
         without: LENGTH,
         steps: &[Ask(4, LaterAudit), Rule(4, Granted, LaterAudit), Settle(4)],
     },
     Case {
         name: "balances: more bought than deposited",
+        version: Version::First,
         keep: LENGTH,
         without: LENGTH,
         steps: &[Ask(4, LargeReset), Rule(4, Granted, LargeReset)],
     },
     Case {
-        name: "days: past the deadline",
+        name: "days: more than small postage past the deadline",
+        version: Version::First,
         keep: LENGTH,
         without: LENGTH,
-        steps: &[Debit(2, 550, 93, 1)],
+        steps: &[Debit(2, 1001, 93, 2)],
+    },
+    Case {
+        name: "days: past the days of grace",
+        version: Version::First,
+        keep: LENGTH,
+        without: LENGTH,
+        steps: &[Debit(2, 1, 100, 2)],
     },
     Case {
         name: "days: before the last day",
+        version: Version::First,
         keep: LENGTH,
         without: LENGTH,
         steps: &[Debit(2, 550, -1, 1)],
     },
     Case {
         name: "days: while a refund is pending",
+        version: Version::First,
         keep: LENGTH,
         without: LENGTH,
         steps: &[Ask(4, Refund), Debit(2, 550, 0, 1)],
     },
     Case {
         name: "days: before the first inspection",
+        version: Version::First,
         keep: 17,
         without: LENGTH,
         steps: &[
@@ -229,48 +309,56 @@ pub const CASES: &[Case] = &[
     },
     Case {
         name: "acceptances: a piece twice",
+        version: Version::First,
         keep: LENGTH,
         without: LENGTH,
         steps: &[Accept(1, 2)],
     },
     Case {
         name: "acceptances: before its release",
+        version: Version::First,
         keep: LENGTH,
         without: LENGTH,
         steps: &[Debit(2, 550, 0, 1), Accept(2, 2)],
     },
     Case {
         name: "prints: a line twice",
+        version: Version::First,
         keep: LENGTH,
         without: LENGTH,
         steps: &[Print(1)],
     },
     Case {
         name: "prints: before its job is begun",
+        version: Version::First,
         keep: LENGTH,
         without: 35,
         steps: &[],
     },
     Case {
         name: "prints: a mark held that was not released",
+        version: Version::First,
         keep: LENGTH,
         without: LENGTH,
         steps: &[Order(2, 2), Hold(2, Other)],
     },
     Case {
         name: "prints: two jobs hold one piece",
+        version: Version::First,
         keep: LENGTH,
         without: LENGTH,
         steps: &[Order(2, 1), Hold(2, First)],
     },
     Case {
         name: "prints: held without a job",
+        version: Version::First,
         keep: LENGTH,
         without: LENGTH,
         steps: &[Hold(2, First)],
     },
     Case {
         name: "several: the debit left out",
+        version: Version::First,
         keep: LENGTH,
         without: 31,
         steps: &[],
@@ -293,6 +381,8 @@ fn bytes_of(mark: Mark) -> [u8; 64] {
         First => FIRST_MARK,
         Other => OTHER_MARK,
         Second => SECOND_MARK,
+        SecondToday => today::SECOND_MARK,
+        Unkeyed => UNKEYED_MARK,
     }
 }
 
@@ -329,7 +419,7 @@ fn commit_of(step: Step) -> Option<Commit> {
 }
 
 /// The entry that a step stands for.
-pub fn entry_of(step: Step) -> Entry {
+pub fn entry_of(version: Version, step: Step) -> Entry {
     if let Some(commit) = commit_of(step) {
         return Entry::Commit(commit);
     }
@@ -341,7 +431,7 @@ pub fn entry_of(step: Step) -> Entry {
         ),
         Up(count) => Entry::Up(Node::Device(d), count),
         Release(piece, mark) => Entry::Released(d, piece, bytes_of(mark)),
-        Print(job) => Entry::Printed(job, FIRST_MARK),
+        Print(job) => Entry::Printed(job, mark_of(version)),
         _ => Entry::Begin,
     }
 }

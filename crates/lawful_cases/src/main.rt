@@ -4,6 +4,7 @@
 mod breaks;
 mod messages;
 mod path;
+mod today;
 
 use bench_base::ledger::{Commit, Entry};
 use bench_base::words::Node;
@@ -16,13 +17,13 @@ fn ledger_of(alloc: Global, case: &Case) -> Result<Vec<Entry>, AllocError> {
     let mut ledger = Vec::new(alloc);
     for at in 0..case.keep {
         if at != case.without
-            && let Some(entry) = path::entry(alloc, at)
+            && let Some(entry) = path::entry(alloc, case.version, at)
         {
             ledger.push(entry)?;
         }
     }
     for step in case.steps {
-        ledger.push(breaks::entry_of(*step))?;
+        ledger.push(breaks::entry_of(case.version, *step))?;
     }
     Ok(ledger)
 }

@@ -2,6 +2,7 @@
 use crate::messages::{
     AUDIT, DEBIT, DONE, ENROL, ENROLLED, FILLED, FIRST_MARK, INSPECTED, RELEASE, RESET,
 };
+use crate::today;
 use bench_base::bytes::Note;
 use bench_base::ledger::{Commit, Entry, Text};
 use bench_base::numbers::{Customer, DayNo, DevNo};
@@ -35,7 +36,58 @@ pub fn first_day() -> DayNo {
     day
 }
 
-fn commit(at: usize) -> Option<Commit> {
+/// In which version requests, replies and marks of the path are.
+#[derive(Clone, Copy)]
+pub enum Version {
+    First,
+    Today,
+}
+
+fn number_of(version: Version) -> u8 {
+    match version {
+        Version::First => 1,
+        Version::Today => 2,
+    }
+}
+
+fn request_of(version: Version, number: u32) -> Note {
+    match (version, number) {
+        (Version::First, 1) => Note::of(&ENROL),
+        (Version::First, 2) => Note::of(&AUDIT),
+        (Version::First, _) => Note::of(&RESET),
+        (Version::Today, 1) => Note::of(&today::ENROL),
+        (Version::Today, 2) => Note::of(&today::AUDIT),
+        (Version::Today, _) => Note::of(&today::RESET),
+    }
+}
+
+fn reply_of(version: Version, number: u32) -> Note {
+    match (version, number) {
+        (Version::First, 1) => Note::of(&ENROLLED),
+        (Version::First, 2) => Note::of(&INSPECTED),
+        (Version::First, _) => Note::of(&FILLED),
+        (Version::Today, 1) => Note::of(&today::ENROLLED),
+        (Version::Today, 2) => Note::of(&today::INSPECTED),
+        (Version::Today, _) => Note::of(&today::FILLED),
+    }
+}
+
+/// The mark of piece 1.
+pub fn mark_of(version: Version) -> [u8; 64] {
+    match version {
+        Version::First => FIRST_MARK,
+        Version::Today => today::FIRST_MARK,
+    }
+}
+
+fn release_of(version: Version) -> Note {
+    match version {
+        Version::First => Note::of(&RELEASE),
+        Version::Today => Note::of(&today::RELEASE),
+    }
+}
+
+fn commit(version: Version, at: usize) -> Option<Commit> {
     let d = device();
     let granted = Verdict::Granted;
     let made = match at {
@@ -44,19 +96,19 @@ fn commit(at: usize) -> Option<Commit> {
         9 => Commit::Trusted(d, [1; 32]),
         10 => Commit::Opened(customer()),
         11 => Commit::Deposited(customer(), 1, 100000),
-        12 => Commit::Asked(d, 1, Note::of(&ENROL)),
-        14 => Commit::Ruled(d, 1, granted, Note::of(&ENROL)),
+        12 => Commit::Asked(d, 1, request_of(version, 1)),
+        14 => Commit::Ruled(d, 1, granted, request_of(version, 1)),
         16 => Commit::Applied(d, 1, granted),
-        17 => Commit::Asked(d, 2, Note::of(&AUDIT)),
-        19 => Commit::Ruled(d, 2, granted, Note::of(&AUDIT)),
+        17 => Commit::Asked(d, 2, request_of(version, 2)),
+        19 => Commit::Ruled(d, 2, granted, request_of(version, 2)),
         21 => Commit::Applied(d, 2, granted),
-        22 => Commit::Asked(d, 3, Note::of(&RESET)),
-        24 => Commit::Ruled(d, 3, granted, Note::of(&RESET)),
+        22 => Commit::Asked(d, 3, request_of(version, 3)),
+        24 => Commit::Ruled(d, 3, granted, request_of(version, 3)),
         26 => Commit::Applied(d, 3, granted),
         28 => Commit::Settled(d, 3),
         29 => Commit::Ordered(1, d, 1, 550, 1),
-        31 => Commit::Debited(d, 1, 550, 1, first_day(), 1),
-        34 => Commit::Held(1, FIRST_MARK),
+        31 => Commit::Debited(d, 1, 550, 1, first_day(), number_of(version)),
+        34 => Commit::Held(1, mark_of(version)),
         35 => Commit::Began(1),
         37 => Commit::Closed(1),
         38 => Commit::Accepted(d, 1, 1),
@@ -65,28 +117,28 @@ fn commit(at: usize) -> Option<Commit> {
     Some(made)
 }
 
-fn message(at: usize) -> Option<Note> {
+fn message(version: Version, at: usize) -> Option<Note> {
     let sent = match at {
-        13 => Note::of(&ENROL),
-        15 => Note::of(&ENROLLED),
-        18 => Note::of(&AUDIT),
-        20 => Note::of(&INSPECTED),
-        23 => Note::of(&RESET),
-        25 => Note::of(&FILLED),
+        13 => request_of(version, 1),
+        15 => reply_of(version, 1),
+        18 => request_of(version, 2),
+        20 => reply_of(version, 2),
+        23 => request_of(version, 3),
+        25 => reply_of(version, 3),
         27 => Note::of(&DONE),
         30 => Note::of(&DEBIT),
-        33 => Note::of(&RELEASE),
+        33 => release_of(version),
         _ => return None,
     };
     Some(sent)
 }
 
 /// The entry at this place. The text of the rates is left empty: no clause speaks of it.
-pub fn entry(alloc: Global, at: usize) -> Option<Entry> {
-    if let Some(commit) = commit(at) {
+pub fn entry(alloc: Global, version: Version, at: usize) -> Option<Entry> {
+    if let Some(commit) = commit(version, at) {
         return Some(Entry::Commit(commit));
     }
-    if let Some(note) = message(at) {
+    if let Some(note) = message(version, at) {
         return Some(Entry::Sent(note));
     }
     let other = match at {
@@ -97,8 +149,8 @@ pub fn entry(alloc: Global, at: usize) -> Option<Entry> {
         4 => Entry::Up(Node::Host, 0),
         5 => Entry::Up(Node::Verifier, 0),
         6 => Entry::Up(Node::Device(device()), 0),
-        32 => Entry::Released(device(), 1, FIRST_MARK),
-        36 => Entry::Printed(1, FIRST_MARK),
+        32 => Entry::Released(device(), 1, mark_of(version)),
+        36 => Entry::Printed(1, mark_of(version)),
         _ => return None,
     };
     Some(other)
