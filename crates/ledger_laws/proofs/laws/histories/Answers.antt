@@ -10,14 +10,13 @@ use Rattle.ledger_laws.proofs.Ups.{either_up}
 use Rattle.ledger_laws.proofs.laws.histories.Goals as goal
 
 pub returns-clause-today : goal.returns-clause-today
-returns-clause-today c =
-    (
-      (record { version = (omega arith, omega arith); total = omega arith }, record { total = omega arith; version = omega arith; grace = omega arith; small = omega arith }),
-      (
-        (record { version = (omega arith, omega arith); total = omega arith }, record { total = omega arith; version = omega arith; grace = omega arith; small = omega arith }),
-        (record { version = (omega arith, omega arith); total = omega arith }, tt),
-      ),
-    )
+returns-clause-today c = (
+  (record { version = (omega arith, omega arith); total = omega arith }, record { total = omega arith; version = omega arith; grace = omega arith; small = omega arith }),
+  (
+    (record { version = (omega arith, omega arith); total = omega arith }, record { total = omega arith; version = omega arith; grace = omega arith; small = omega arith }),
+    (record { version = (omega arith, omega arith); total = omega arith }, tt),
+  ),
+)
 
 pub returns-clause-earlier : goal.returns-clause-earlier
 returns-clause-earlier c τ H h = earlier (earlier h)
