@@ -1,7 +1,7 @@
 -- In a run in which no storage failed, each reply is the answer.
-use Rattle.std.proofs.Common.{◌≡◌, ◌≢◌, ◌⊎◌, inl, inr, ⊎_elim, ℕ, zero, suc, ◌+◌, ◌-◌, ◌^◌, ◌<◌, min, List, [], ◌∷◌, length, Option, Some, None, Bool, true, false, refl, sym, ◌∙◌, ap, subst, true≢false, arith}
+use Rattle.std.proofs.Common.{◌≡◌, inl, inr, ℕ, zero, suc, ◌+◌, ◌-◌, ◌^◌, ◌<◌, min, List, [], ◌∷◌, length, Option, Some, None, Bool, true, false, refl, sym, ◌∙◌, ap, subst, true≢false, arith}
 use Rattle.std.proofs.lemmas.Bool.{cases_lt, eq-eqb}
-use Rattle.std.specs.Prelude.{IsSome, slice_get, ◌==◌}
+use Rattle.std.specs.Prelude.{IsSome, ◌==◌}
 use Rattle.bench_base.specs.Causes.{Rose}
 use Rattle.bench_base.specs.declared.words.Node.{Node}
 use Rattle.bench_base.specs.declared.words.Node.TheVariants.{Device}
@@ -10,8 +10,8 @@ use Rattle.bench_base.specs.declared.events.Event.TheVariants as ev
 use Rattle.bench_base.specs.declared.events.Reply.{Reply}
 use Rattle.bench_base.specs.declared.events.Reply.TheVariants as r
 use Rattle.bench_base.specs.Events.{node_for, may_commit, IsAt}
-use Rattle.bench_base.specs.Replies.{Told, LostPower, Faulted, PrinterFailed, told_by, loses_power, faults, tells_power, tells_fault, MayGet, MayFailAt}
-use Rattle.bench_base.specs.Ledger.{Ledger, day_in, torn_of}
+use Rattle.bench_base.specs.Replies.{tells_power, tells_fault, MayGet, MayFailAt}
+use Rattle.bench_base.specs.Ledger.{Ledger, torn_of}
 use Rattle.bench_base.specs.Plans.{Plan}
 use Rattle.bench_base.specs.Ranges.{IsDevice, IsWholeEvent}
 use Rattle.bench_base.specs.Rules.{todays_rules}
@@ -23,19 +23,18 @@ use Rattle.node_acts.specs.Plans.{Fails}
 use Rattle.node_seat.specs.declared.node.Node.{Ghosts}
 use Rattle.node_seat.specs.Stands.{meters_of}
 use Rattle.ledger_moves.specs.Tariffs.{Tariff}
-use Rattle.ledger_moves.specs.Moves.{plan, answer, OtherUp, FailsToRead}
+use Rattle.ledger_moves.specs.Moves.{plan}
 use Rattle.bench_views.specs.declared.taken.DeviceCall.{DeviceCall}
-use Rattle.bench_views.specs.declared.taken.Taken.{Taken}
-use Rattle.bench_views.specs.Taken.{IsTaken, taken}
-use Rattle.bench.specs.Benches.{Bench, IsReady}
+use Rattle.bench_views.specs.Taken.{IsTaken}
+use Rattle.bench.specs.Benches.{Bench}
 use Rattle.bench.specs.Costs.{Balanced, armed, one_if}
-use Rattle.bench.specs.Steps.{is_failure, tells_failure}
+use Rattle.bench.specs.Steps.{tells_failure}
 use Rattle.bench.proofs.Making.{get_some}
 use Rattle.script_replay.specs.Chains.{DidEvent, DidDeeds}
 use Rattle.script_replay.specs.Counts.{replies_that, AreBalanced}
 use Rattle.script_replay.specs.Deeds.{Deed, Skipped, Did, ledger_by, RunWhile}
 use Rattle.script_replay.specs.Run.{StandsFor, Unforged, Moves}
-use Rattle.script_replay.specs.Undisturbed.{IsAnswer, IsTheAnswer, NoneOpen, IsUndisturbed, AreUndisturbed}
+use Rattle.script_replay.specs.Undisturbed.{IsAnswer, IsTheAnswer, IsUndisturbed, AreUndisturbed}
 use Rattle.script_replay.proofs.Chains.{moved, stands_then}
 
 -- == by the counts nothing was told ==

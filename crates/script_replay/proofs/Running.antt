@@ -1,5 +1,5 @@
 -- A run: it begins, does the deeds, and what it leaves is lawful.
-use Rattle.std.proofs.Common.{◌≡◌, ℕ, List, [], ◌∷◌, ◌++◌, Option, None, sym, subst}
+use Rattle.std.proofs.Common.{◌≡◌, ℕ, List, [], ◌∷◌, Option, None, sym, subst}
 use Rattle.bench_base.specs.declared.ledger.Entry.TheVariants.{Begin}
 use Rattle.bench_base.specs.declared.words.Node.TheVariants.{Device}
 use Rattle.bench_base.specs.Ledger.{Ledger}

@@ -1,5 +1,5 @@
 -- Deeds: what was done for a script, one deed a line. The script, the report and the ledger of a run are functions of its deeds.
-use Rattle.std.specs.Prelude.{◌≡◌, ◌≢◌, ℕ, ◌≤◌, List, [], ◌∷◌, ◌++◌, length, flat_map}
+use Rattle.std.specs.Prelude.{◌≡◌, ◌≢◌, ℕ, ◌≤◌, List, [], ◌∷◌, length, flat_map}
 use Rattle.bench_base.specs.declared.events.Event.{Event}
 use Rattle.bench_base.specs.declared.events.Event.TheVariants as event
 use Rattle.bench_base.specs.declared.events.Reply.{Reply}

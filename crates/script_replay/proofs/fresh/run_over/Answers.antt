@@ -1,5 +1,4 @@
 use Rattle.script_replay.specs.Fresh.{RanFresh}
-use Rattle.script_replay.specs.Run.{DidRun}
 use Rattle.script_replay.proofs.Deeds.{said}
 use Rattle.script_replay.proofs.Running.{from_nothing}
 use Rattle.script_replay.proofs.fresh.run_over.Goals as goal

@@ -1,9 +1,4 @@
-use Rattle.std.specs.Prelude.{IfSome}
-use Rattle.std.proofs.Common.{◌≡◌, ◌≢◌, Some, refl, sym, ap, ◌∙◌}
-use Rattle.bench_base.specs.declared.events.Event.{Event}
-use Rattle.bench_base.specs.declared.events.Event.TheVariants as event
-use Rattle.bench_views.specs.Taken.{taken}
-use Rattle.bench_views.specs.declared.taken.Taken.TheVariants as take
+use Rattle.std.proofs.Common.{Some, refl, sym, ap, ◌∙◌}
 use Rattle.bench.proofs.Events.{is_end}
 use Rattle.script_replay.proofs.run.ended_by.Goals as goal
 

@@ -1,5 +1,4 @@
 use Rattle.std.proofs.Common.{refl}
-use Rattle.bench.specs.Benches.{bench_of}
 use Rattle.script_replay.proofs.Chains.{are_done}
 use Rattle.script_replay.proofs.Deeds.{line_taken, line_goes, line_stops, line_runs_out, stops_unread, stops_failed}
 use Rattle.script_replay.proofs.run.turn.Goals as goal
