@@ -3,3 +3,4 @@ pub mod Runs
 pub mod WorkedFunds
 pub mod WorkedPath
 pub mod WorkedRefusals
+pub mod WorkedToday

@@ -4,7 +4,7 @@ use Rattle.bench_base.specs.declared.refusals.RateRefusal.{RateRefusal}
 use Rattle.bench_base.specs.declared.refusals.RateRefusal.TheVariants.{NoClass}
 use Rattle.bench_base.specs.declared.events.Event.{Event}
 use Rattle.bench_base.specs.declared.events.Reply.{Reply}
-use Rattle.bench_base.specs.Rules.{first_rules}
+use Rattle.bench_base.specs.Rules.{Rules}
 use Rattle.bench_base.specs.Ledger.{Ledger}
 use Rattle.ledger_moves.specs.Tariffs.{Tariff}
 use Rattle.ledger_moves.specs.Moves.{Moves, entries}
@@ -17,11 +17,11 @@ pub record Step : Type 0 where
   pub text : List ℕ
   pub reply : Reply
 
--- each step is a move of the event in hand, and together they make the ledger at the end
-unfoldable pub IsRow : Tariff → List Step → Ledger → Ledger → Type 0
-IsRow τ [] H end = H ≡ end
-IsRow τ (s ∷ ss) H end =
-    Unforged s.event H × Moves τ first_rules H s.event s.text s.reply × IsRow τ ss (entries τ first_rules H s.event s.text s.reply) end
+-- each step is a move of the event in hand by these rules, and together they make the ledger at the end
+unfoldable pub IsRow : Tariff → Rules → List Step → Ledger → Ledger → Type 0
+IsRow τ ρ [] H end = H ≡ end
+IsRow τ ρ (s ∷ ss) H end =
+    Unforged s.event H × Moves τ ρ H s.event s.text s.reply × IsRow τ ρ ss (entries τ ρ H s.event s.text s.reply) end
 
 abbrev pub one_price : Bool → Result ℕ RateRefusal
 one_price known = if known then Ok 550 else Err NoClass

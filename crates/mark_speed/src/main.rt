@@ -56,7 +56,7 @@ fn mark(piece: u32) -> Mark
     ensures { IsWhole result }
 {
     Mark {
-        version: 1,
+        version: 2,
         device: 1,
         piece,
         postage: 550,
