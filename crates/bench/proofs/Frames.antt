@@ -177,7 +177,7 @@ module _ {K S C R : Type 0} (n : Ghosts K S ℕ C R) (g : nv.Ghosts S) (f : fuse
     dates = λ t is. absurd (of.no_day t is);
     ends = λ is. absurd (of.no_end is);
     refused = at_refused;
-    damaged = at.did.silent;
+    adds = at.did.adds;
     switches = λ some m is. subst (λ (j : Node). At (λ k s t. Switches j e turn.reply (n.is_on s) (n.is_on t)) old new j) (node_is d e m of is)
         (walk_here (λ k s t. Switches (Device d) e turn.reply (n.is_on s) (n.is_on t)) at.did.switches);
     charged = charged_at;
