@@ -1,5 +1,5 @@
 -- Events that leave the devices as they are: a day, the end, and each event without a day.
-use Rattle.std.proofs.Common.{◌≡◌, ◌⊎◌, ◌≢◌, inl, ℕ, ℤ, ◌+◌, List, [], ◌∷◌, ◌++◌, Option, Some, None, Bool, true, false, ◌↔◌, refl, sym, ◌∙◌, ap, subst, append-nil, true≢false, arith}
+use Rattle.std.proofs.Common.{◌≡◌, ◌⊎◌, inl, ℕ, ℤ, ◌+◌, List, [], ◌∷◌, ◌++◌, Option, Some, None, true, false, ◌↔◌, refl, sym, ◌∙◌, ap, subst, append-nil, true≢false, arith}
 use Rattle.std.specs.Prelude.{slice_get, IsSome, length}
 use Rattle.bench_base.specs.declared.words.Node.{Node}
 use Rattle.bench_base.specs.declared.words.Node.TheVariants.{Device, Centre, Host, Verifier}
@@ -18,7 +18,6 @@ use Rattle.bench_base.specs.Ledger.{Ledger, day_in, is_on, torn_of}
 use Rattle.nv_model.specs.declared.nv.Nv as nv
 use Rattle.nv_model.specs.declared.fuse.Fuse as fuse
 use Rattle.nv_model.specs.Meters.{Meters}
-use Rattle.nv_store.specs.Mounts.{Mounts}
 use Rattle.node_acts.specs.Kinds.{Kind}
 use Rattle.node_acts.specs.Plans.{after}
 use Rattle.node_seat.specs.declared.node.Node.{Ghosts}
@@ -31,12 +30,12 @@ use Rattle.node_turns.specs.Costs.{Charged}
 use Rattle.node_turns.specs.Turns.{in_order, turn_of}
 use Rattle.ledger_moves.specs.Tariffs.{Tariff}
 use Rattle.ledger_moves.specs.Histories.{History}
-use Rattle.ledger_moves.specs.Moves.{Moves, plan, plan_at, plan_on, on_day, entries}
+use Rattle.ledger_moves.specs.Moves.{Moves, plan, entries}
 use Rattle.bench_views.specs.declared.taken.DeviceCall.{DeviceCall}
 use Rattle.bench_views.specs.declared.taken.Taken.TheVariants as take
 use Rattle.bench_views.specs.Taken.{IsTaken, taken}
-use Rattle.bench.specs.Benches.{Bench, At, IsReady, HasDay, Stands, view_by}
-use Rattle.bench.specs.Steps.{Steps, StepsOn, StepsByViews, StepsAlone, ShowsCommit, AreLeft, with_open, after_stop}
+use Rattle.bench.specs.Benches.{Bench, At, IsReady, Stands, view_by}
+use Rattle.bench.specs.Steps.{Steps, StepsOn, StepsByViews, StepsAlone, ShowsCommit, with_open}
 use Rattle.node_acts.specs.declared.asked.Asked.{Asked}
 use Rattle.bench.proofs.Events.{IsOfDevice}
 use Rattle.bench.proofs.Sets.{same_some}

@@ -9,9 +9,8 @@ use Rattle.bench_base.specs.declared.events.Event.TheVariants as ev
 use Rattle.bench_base.specs.declared.events.Reply.{Reply}
 use Rattle.bench_base.specs.declared.events.Reply.TheVariants as r
 use Rattle.bench_base.specs.Rules.{todays_rules, editions}
-use Rattle.bench_base.specs.Plans.{Plan}
 use Rattle.bench_base.specs.Nodes.{node_of}
-use Rattle.bench_base.specs.Events.{node_for, needs_day, needs_on, may_commit, day_after}
+use Rattle.bench_base.specs.Events.{node_for, needs_day, may_commit, day_after}
 use Rattle.bench_base.specs.Replies.{Told, Did, Refused, Armed, CameOn, WentOff, LostPower, Faulted, WasDamaged, PrinterFailed, RatesFailed, told_by, is_refusal, has_read, MayGet}
 use Rattle.bench_base.specs.Ledger.{Ledger, torn_of, counted}
 use Rattle.nv_model.specs.declared.nv.Nv as nv
@@ -19,9 +18,9 @@ use Rattle.nv_model.specs.declared.fuse.Fuse as fuse
 use Rattle.nv_model.specs.Moments.{Image}
 use Rattle.nv_store.specs.Mounts.{Mounts}
 use Rattle.node_acts.specs.Views.{View}
-use Rattle.node_acts.specs.Plans.{after, MayReply, view_after}
+use Rattle.node_acts.specs.Plans.{after}
 use Rattle.node_seat.specs.declared.node.Node.{Ghosts}
-use Rattle.node_seat.specs.Shown.{Allowed, IsAfter}
+use Rattle.node_seat.specs.Shown.{Allowed}
 use Rattle.node_seat.specs.Stands as node
 use Rattle.node_seat.specs.Stands.{times_of, meters_of, HasDamage, IsArmed}
 use Rattle.ledger_moves.specs.Tariffs.{Tariff}
@@ -31,7 +30,7 @@ use Rattle.ledger_moves.specs.Histories.{History}
 use Rattle.node_acts.specs.declared.asked.Asked.{Asked}
 use Rattle.bench_views.specs.declared.taken.DeviceCall.{DeviceCall}
 use Rattle.bench_views.specs.declared.taken.Taken.TheVariants as take
-use Rattle.node_acts.specs.Kinds.{Kind, node_plan, node_commit}
+use Rattle.node_acts.specs.Kinds.{Kind}
 use Rattle.bench_views.specs.Taken.{taken}
 use Rattle.node_turns.specs.declared.turn.Turn.{Turn}
 use Rattle.bench.specs.Benches.{Bench, At, Stands, StoresStand, ForEach, view_by}

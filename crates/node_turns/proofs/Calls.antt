@@ -10,7 +10,7 @@ use Rattle.bench_base.specs.declared.events.Event.TheVariants as ev
 use Rattle.bench_base.specs.declared.events.Reply.{Reply}
 use Rattle.bench_base.specs.declared.events.Reply.TheVariants as r
 use Rattle.bench_base.specs.Events.{node_for, needs_on, may_commit, calls_of, IsAt}
-use Rattle.bench_base.specs.Replies.{Told, Did, Refused, WasDamaged, refuses, loses_power, faults, leaves_on, told_by, is_refusal, tells_power, tells_fault, MayGet, Commits as CommitsAt}
+use Rattle.bench_base.specs.Replies.{Told, Did, Refused, refuses, loses_power, faults, leaves_on, told_by, is_refusal, tells_power, tells_fault, MayGet, Commits as CommitsAt}
 use Rattle.bench_base.specs.Plans.{Plan}
 use Rattle.bench_base.specs.Ledger.{Ledger}
 use Rattle.nv_model.specs.declared.nv.Nv as nv
