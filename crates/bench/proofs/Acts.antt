@@ -1,9 +1,8 @@
 -- The acts of a device's calls: whose they are, what they change, and how they are told.
-use Rattle.std.proofs.Common.{◌≡◌, ◌≢◌, ℕ, ℤ, ◌==◌, ◌&&◌, ◌≤◌, List, [], ◌∷◌, ◌++◌, Option, Some, None, Bool, true, false, Result, Ok, Err, if◌then◌else◌, refl, sym, subst, arith}
+use Rattle.std.proofs.Common.{◌≡◌, ℕ, ℤ, ◌==◌, ◌&&◌, ◌≤◌, List, [], ◌∷◌, Option, Some, None, Bool, true, false, Result, Ok, Err, if◌then◌else◌, refl, sym, subst, arith}
 use Rattle.std.specs.List.{AllByRecursion}
 use Rattle.std.proofs.lemmas.Bool.{eqb-true}
 use Rattle.bench_base.specs.declared.words.Node.TheVariants.{Device}
-use Rattle.bench_base.specs.declared.ledger.Commit.{Commit}
 use Rattle.bench_base.specs.declared.ledger.Commit.TheVariants.{Made}
 use Rattle.bench_base.specs.declared.ledger.Entry.TheVariants as entry
 use Rattle.bench_base.specs.declared.refusals.DevRefusal.{DevRefusal}
@@ -20,7 +19,6 @@ use Rattle.indicium.specs.Marks as marks
 use Rattle.node_acts.specs.declared.act.Act.{Act}
 use Rattle.node_acts.specs.declared.act.Act.TheVariants.{Refuse, Tell, Commits}
 use Rattle.node_acts.specs.declared.act.Outcome.{Outcome}
-use Rattle.node_acts.specs.declared.act.Outcome.TheVariants as o
 use Rattle.node_acts.specs.Acts.{cost, CommitsSome}
 use Rattle.node_acts.specs.Plans.{IsOfNode}
 use Rattle.node_seat.specs.declared.node.Node.{Ghosts}
@@ -29,7 +27,7 @@ use Rattle.node_turns.specs.declared.node.Undone.{Undone}
 use Rattle.node_turns.specs.declared.node.Undone.TheVariants as undone
 use Rattle.node_turns.specs.declared.turn.Turn.{Turn}
 use Rattle.node_turns.specs.Done.{IsDone}
-use Rattle.node_turns.specs.Turns.{turn_of, call_turn}
+use Rattle.node_turns.specs.Turns.{call_turn}
 use Rattle.node_turns.proofs.Calls.{IsToldBy, Agrees}
 use Rattle.psd_wire.specs.declared.message.DebitMsg.{DebitMsg}
 use Rattle.psd_state.specs.State.{State}

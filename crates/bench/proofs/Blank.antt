@@ -1,5 +1,5 @@
 -- Blank storages, as the first run finds them: they stand for the empty ledger.
-use Rattle.std.proofs.Common.{◌≡◌, inl, ℕ, zero, suc, ◌+◌, ◌*◌, ◌-◌, List, [], take, replicate, None, refl, sym, ◌∙◌, ap, subst, arith}
+use Rattle.std.proofs.Common.{◌≡◌, inl, ℕ, zero, suc, ◌+◌, ◌*◌, ◌-◌, List, [], take, replicate, None, refl, sym, ◌∙◌, ap, subst}
 use Rattle.std.proofs.lemmas.List.{drop-replicate}
 use Rattle.nv_model.specs.declared.nv.Nv as nv
 use Rattle.nv_store.specs.Slot.{slot, slots_at}

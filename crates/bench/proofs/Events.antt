@@ -1,6 +1,5 @@
 -- What an event of a device is, and whom a failure is told of.
-use Rattle.std.proofs.Common.{◌≡◌, ◌≢◌, ⊎_elim, ℕ, ℤ, List, Option, Some, None, Bool, true, false, refl, sym, ◌∙◌, ap, subst, true≢false}
-use Rattle.std.specs.Prelude.{◌==◌}
+use Rattle.std.proofs.Common.{◌≡◌, ◌≢◌, ⊎_elim, ℕ, ℤ, List, Option, Some, Bool, true, false, refl, sym, ◌∙◌, ap, subst, true≢false}
 use Rattle.std.proofs.lemmas.Bool.{eqb-true}
 use Rattle.bench_base.specs.declared.words.Node.{Node}
 use Rattle.bench_base.specs.declared.words.Node.TheVariants.{Device, Centre, Host, Verifier}
@@ -18,7 +17,7 @@ use Rattle.bench_views.specs.declared.taken.DeviceCall.TheVariants.{Make, Debit,
 use Rattle.bench_views.specs.declared.taken.Taken.TheVariants as take
 use Rattle.bench_views.specs.Taken.{taken}
 use Rattle.bench_views.proofs.Events.{each_taken, each_asked, some-same}
-use Rattle.bench.specs.DeviceTurns.{call_event, event_of}
+use Rattle.bench.specs.DeviceTurns.{event_of}
 
 -- P holds of each event of a device
 record Each (P : ℕ → Asked DeviceCall → Type 0) : Type 0 where

@@ -1,6 +1,6 @@
 -- An event of one device leaves the others as they were, and the bench stands for the ledger that it makes.
-use Rattle.std.proofs.Common.{◌≡◌, ◌≢◌, ◌⊎◌, inl, inr, ⊎_elim, ℕ, ℤ, ◌+◌, ◌<◌, ◌≤◌, List, [], ◌∷◌, length, Option, Some, None, Bool, true, false, ◌↔◌, refl, sym, ◌∙◌, ap, subst, true≢false, ◌==◌, if◌then◌else◌, arith}
-use Rattle.std.specs.Prelude.{slice_get, slice_set, option_map, IfSome, IsSome}
+use Rattle.std.proofs.Common.{◌≡◌, ◌≢◌, ◌⊎◌, inl, inr, ⊎_elim, ℕ, ℤ, ◌+◌, ◌≤◌, List, [], ◌∷◌, length, Option, Some, None, Bool, true, false, ◌↔◌, refl, sym, ◌∙◌, ap, subst, true≢false, ◌==◌, if◌then◌else◌, arith}
+use Rattle.std.specs.Prelude.{slice_get, slice_set, option_map, IfSome}
 use Rattle.std.proofs.lemmas.Option.{slice_get_within}
 use Rattle.std.proofs.lemmas.List.{length-set}
 use Rattle.std.proofs.lemmas.Bool.{cases_eq}
@@ -12,13 +12,13 @@ use Rattle.bench_base.specs.declared.ledger.Entry.TheVariants as entry
 use Rattle.bench_base.specs.declared.events.Event.{Event}
 use Rattle.bench_base.specs.declared.events.Event.TheVariants as ev
 use Rattle.bench_base.specs.declared.events.Reply.TheVariants as r
-use Rattle.bench_base.specs.Events.{node_for, may_commit}
+use Rattle.bench_base.specs.Events.{node_for}
 use Rattle.bench_base.specs.Replies.{Told, Did, Refused, Armed, CameOn, WentOff, LostPower, Faulted, WasDamaged, PrinterFailed, RatesFailed, told_by, is_refusal}
 use Rattle.bench_base.specs.Plans.{Plan}
 use Rattle.bench_base.specs.Nodes.{node_of}
 use Rattle.bench_base.specs.Rules.{todays_rules, editions}
 use Rattle.bench_base.specs.Ranges.{IsWholeEvent}
-use Rattle.bench_base.specs.Ledger.{Ledger, counted, torn_of, is_on}
+use Rattle.bench_base.specs.Ledger.{Ledger, counted, torn_of}
 use Rattle.nv_model.specs.declared.nv.Nv as nv
 use Rattle.nv_model.specs.declared.fuse.Fuse as fuse
 use Rattle.nv_store.specs.Mounts.{Mounts}
@@ -33,20 +33,20 @@ use Rattle.node_seat.specs.Stands.{StoreStands, times_of, meters_of, HasDamage, 
 use Rattle.node_seat.proofs.Rests.{mounts_none}
 use Rattle.node_turns.specs.declared.turn.Turn.{Turn}
 use Rattle.node_turns.specs.Costs.{Charged}
-use Rattle.node_turns.specs.NodeTurns.{Switches, MovesView, NodeTurn}
-use Rattle.node_turns.specs.Turns.{in_order, turn_of}
+use Rattle.node_turns.specs.NodeTurns.{Switches, MovesView}
+use Rattle.node_turns.specs.Turns.{in_order}
 use Rattle.ledger_moves.specs.Tariffs.{Tariff}
 use Rattle.ledger_moves.specs.Histories.{History}
-use Rattle.ledger_moves.specs.Moves.{Moves, plan, entries}
+use Rattle.ledger_moves.specs.Moves.{plan, entries}
 use Rattle.bench_views.specs.declared.taken.DeviceCall.{DeviceCall}
 use Rattle.bench_views.specs.declared.taken.Taken.TheVariants as take
 use Rattle.bench_views.specs.Taken.{IsTaken, taken}
 use Rattle.bench_views.specs.Follows.{ForDeviceEvents, Follows, Replied, plan_by, commit_by}
-use Rattle.bench_views.proofs.Events.{some-same, none-some}
-use Rattle.bench.specs.Benches.{Bench, At, IsReady, HasDay, Stands, StoresStand, view_by}
+use Rattle.bench_views.proofs.Events.{some-same}
+use Rattle.bench.specs.Benches.{Bench, At, IsReady, Stands, StoresStand, view_by}
 use Rattle.bench.specs.DeviceTurns.{DeviceTurn, event_of}
 use Rattle.bench.specs.Steps.{Steps, StepsOn, StepsByViews, StepsAlone, ShowsCommit, AreLeft, with_open, after_stop, is_failure, tells_failure}
-use Rattle.bench.proofs.Events.{IsOfDevice, of_device, node_is, same_device, untold}
+use Rattle.bench.proofs.Events.{IsOfDevice, of_device, node_is, untold}
 use Rattle.bench.proofs.Making.{get_some}
 use Rattle.bench.proofs.Sets.{get_set_same, get_set_other, set_there, same_some}
 use Rattle.bench.proofs.Stops.{stop_history, left_stands, none_left}
@@ -177,7 +177,7 @@ module _ {K S C R : Type 0} (n : Ghosts K S ℕ C R) (g : nv.Ghosts S) (f : fuse
     dates = λ t is. absurd (of.no_day t is);
     ends = λ is. absurd (of.no_end is);
     refused = at_refused;
-    damaged = at.did.silent;
+    adds = at.did.adds;
     switches = λ some m is. subst (λ (j : Node). At (λ k s t. Switches j e turn.reply (n.is_on s) (n.is_on t)) old new j) (node_is d e m of is)
         (walk_here (λ k s t. Switches (Device d) e turn.reply (n.is_on s) (n.is_on t)) at.did.switches);
     charged = charged_at;

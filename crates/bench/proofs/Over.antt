@@ -1,5 +1,5 @@
 -- A bench that is made over eight storages, and taken apart.
-use Rattle.std.proofs.Common.{◌≡◌, ℕ, ◌+◌, List, ◌∷◌, length, None, Bool, true, false, refl, sym, ◌∙◌, subst, arith, true≢false}
+use Rattle.std.proofs.Common.{◌≡◌, ℕ, ◌+◌, List, ◌∷◌, None, refl, sym, ◌∙◌, subst, arith, true≢false}
 use Rattle.std.proofs.lemmas.Option.{slice_get_within}
 use Rattle.bench_base.specs.Ledger.{Ledger}
 use Rattle.bench_base.specs.declared.ledger.Entry.TheVariants.{Begin}
@@ -10,7 +10,6 @@ use Rattle.nv_model.specs.Fuses.{inside}
 use Rattle.node_acts.specs.Kinds.{Kind}
 use Rattle.node_acts.specs.Views.{View}
 use Rattle.node_seat.specs.declared.node.Node.{Ghosts}
-use Rattle.node_seat.specs.Stands as node
 use Rattle.node_seat.specs.Stands.{StoreStands}
 use Rattle.psd_device.specs.declared.node.DeviceNode.{DeviceNode}
 use Rattle.psd_device.specs.NodeView.{is_on, storage_in}

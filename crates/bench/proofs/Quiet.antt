@@ -1,5 +1,5 @@
 -- Events that leave the devices as they are: a day, the end, and each event without a day.
-use Rattle.std.proofs.Common.{◌≡◌, ◌⊎◌, ◌≢◌, inl, ℕ, ℤ, ◌+◌, List, [], ◌∷◌, ◌++◌, Option, Some, None, Bool, true, false, ◌↔◌, refl, sym, ◌∙◌, ap, subst, append-nil, true≢false, arith}
+use Rattle.std.proofs.Common.{◌≡◌, ◌⊎◌, inl, ℕ, ℤ, ◌+◌, List, [], ◌∷◌, ◌++◌, Option, Some, None, true, false, ◌↔◌, refl, sym, ◌∙◌, ap, subst, append-nil, true≢false, arith}
 use Rattle.std.specs.Prelude.{slice_get, IsSome, length}
 use Rattle.bench_base.specs.declared.words.Node.{Node}
 use Rattle.bench_base.specs.declared.words.Node.TheVariants.{Device, Centre, Host, Verifier}
@@ -10,7 +10,7 @@ use Rattle.bench_base.specs.declared.events.Event.TheVariants as ev
 use Rattle.bench_base.specs.declared.events.Reply.{Reply}
 use Rattle.bench_base.specs.declared.events.Reply.TheVariants as r
 use Rattle.bench_base.specs.Events.{needs_day, node_for, day_after, calls_of}
-use Rattle.bench_base.specs.Replies.{tells_power, tells_fault, has_read, is_refusal, MayGet}
+use Rattle.bench_base.specs.Replies.{tells_power, tells_fault, has_read, is_refusal, MayGet, told_by}
 use Rattle.bench_base.specs.Plans.{Plan, refuse, told}
 use Rattle.bench_base.specs.Rules.{todays_rules, editions}
 use Rattle.bench_base.specs.Ranges.{IsWholeEvent}
@@ -18,7 +18,6 @@ use Rattle.bench_base.specs.Ledger.{Ledger, day_in, is_on, torn_of}
 use Rattle.nv_model.specs.declared.nv.Nv as nv
 use Rattle.nv_model.specs.declared.fuse.Fuse as fuse
 use Rattle.nv_model.specs.Meters.{Meters}
-use Rattle.nv_store.specs.Mounts.{Mounts}
 use Rattle.node_acts.specs.Kinds.{Kind}
 use Rattle.node_acts.specs.Plans.{after}
 use Rattle.node_seat.specs.declared.node.Node.{Ghosts}
@@ -26,16 +25,17 @@ use Rattle.node_seat.specs.Shown.{Allowed}
 use Rattle.node_seat.specs.Stands.{times_of, meters_of, StoreStands}
 use Rattle.node_seat.proofs.Rests.{uses_none, mounts_none}
 use Rattle.node_turns.specs.declared.turn.Turn.{Turn}
+use Rattle.node_turns.specs.Adds.{Adds}
 use Rattle.node_turns.specs.Costs.{Charged}
 use Rattle.node_turns.specs.Turns.{in_order, turn_of}
 use Rattle.ledger_moves.specs.Tariffs.{Tariff}
 use Rattle.ledger_moves.specs.Histories.{History}
-use Rattle.ledger_moves.specs.Moves.{Moves, plan, plan_at, plan_on, on_day, entries}
+use Rattle.ledger_moves.specs.Moves.{Moves, plan, entries}
 use Rattle.bench_views.specs.declared.taken.DeviceCall.{DeviceCall}
 use Rattle.bench_views.specs.declared.taken.Taken.TheVariants as take
 use Rattle.bench_views.specs.Taken.{IsTaken, taken}
-use Rattle.bench.specs.Benches.{Bench, At, IsReady, HasDay, Stands, view_by}
-use Rattle.bench.specs.Steps.{Steps, StepsOn, StepsByViews, StepsAlone, ShowsCommit, AreLeft, with_open, after_stop}
+use Rattle.bench.specs.Benches.{Bench, At, IsReady, Stands, view_by}
+use Rattle.bench.specs.Steps.{Steps, StepsOn, StepsByViews, StepsAlone, ShowsCommit, with_open}
 use Rattle.node_acts.specs.declared.asked.Asked.{Asked}
 use Rattle.bench.proofs.Events.{IsOfDevice}
 use Rattle.bench.proofs.Sets.{same_some}
@@ -60,7 +60,7 @@ pub record IsPlanned (e : Event) (p : Plan) (today : Option ℤ) : Type 0 where
   pub fault : (i : Node) → tells_fault i p.reply ≡ false
   pub silent : p.commit ≡ None
   pub not_read : has_read p.reply ≡ false
-  pub undamaged : (i : Node) → p.reply ≢ r.Damaged i
+  pub says : Adds e (told_by p.reply) (in_order p.after)
   pub gets : MayGet e p.reply
   pub still : (d : ℕ) (H : Ledger) → torn_of (Device d) (p.after ++ H) ≡ torn_of (Device d) H
 
@@ -77,13 +77,13 @@ unfolding plan
 plan_none τ H e needs none = rw (sym none, needs) refl
 
 pub planned_day : (t : ℤ) (today : Option ℤ) → IsPlanned (ev.Day t) (told (r.Day t) (entry.Day t ∷ [])) today
-planned_day t today = record { plan_is = λ τ H day. plan_day τ H t; adds = λ H. refl; power = λ i. refl; fault = λ i. refl; silent = refl; not_read = refl; undamaged = λ i is. cc; gets = refl; still = λ d H. refl }
+planned_day t today = record { plan_is = λ τ H day. plan_day τ H t; adds = λ H. refl; power = λ i. refl; fault = λ i. refl; silent = refl; not_read = refl; says = tt; gets = refl; still = λ d H. refl }
 
 pub planned_end : (today : Option ℤ) → IsPlanned ev.End (refuse r.End) today
-planned_end today = record { plan_is = λ τ H day. plan_end τ H; adds = λ H. refl; power = λ i. refl; fault = λ i. refl; silent = refl; not_read = refl; undamaged = λ i is. cc; gets = refl; still = λ d H. refl }
+planned_end today = record { plan_is = λ τ H day. plan_end τ H; adds = λ H. refl; power = λ i. refl; fault = λ i. refl; silent = refl; not_read = refl; says = tt; gets = refl; still = λ d H. refl }
 
 pub planned_none : (e : Event) → needs_day e ≡ true → IsPlanned e (refuse r.NoDay) None
-planned_none e needs = record { plan_is = λ τ H none. plan_none τ H e needs none; adds = λ H. refl; power = λ i. refl; fault = λ i. refl; silent = refl; not_read = refl; undamaged = λ i is. cc; gets = needs; still = λ d H. refl }
+planned_none e needs = record { plan_is = λ τ H none. plan_none τ H e needs none; adds = λ H. refl; power = λ i. refl; fault = λ i. refl; silent = refl; not_read = refl; says = refl; gets = needs; still = λ d H. refl }
 
 module _ {K : Type 0} where
   -- what holds of each device that is as it was, holds at each node
@@ -164,7 +164,7 @@ module _ {K S C R N : Type 0} (n : Ghosts K S ℕ C R) (g : nv.Ghosts S) (f : fu
       dates = dates;
       ends = ends;
       refused = refused;
-      damaged = λ m is. absurd (planned.undamaged m is);
+      adds = planned.says;
       switches = λ some m is. absurd (no_node some m is);
       charged = charged_at;
       armed = λ some m calls keep byte is. absurd (no_node some m (ap node_for is));

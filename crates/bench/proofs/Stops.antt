@@ -1,5 +1,5 @@
 -- What is left where the process stops within an event stands for the ledger, with the event's commit open if it has one.
-use Rattle.std.proofs.Common.{◌≡◌, ◌⊎◌, inl, inr, ⊎_elim, ℕ, ◌+◌, List, [], ◌∷◌, Option, Some, None, Bool, true, false, refl, ap, subst, arith}
+use Rattle.std.proofs.Common.{◌≡◌, ◌⊎◌, inl, inr, ⊎_elim, ℕ, ◌+◌, List, [], ◌∷◌, Option, Some, None, refl, ap, subst, arith}
 use Rattle.std.specs.Prelude.{slice_get, length}
 use Rattle.std.proofs.lemmas.Option.{slice_get_within}
 use Rattle.bench_base.specs.declared.ledger.Commit.{Commit}
@@ -26,10 +26,9 @@ use Rattle.ledger_moves.specs.Moves.{plan, entries}
 use Rattle.ledger_moves.specs.Histories.{Unforged, History, begins, moves}
 use Rattle.bench_views.specs.declared.taken.DeviceCall.{DeviceCall}
 use Rattle.bench_views.specs.Taken.{IsTaken}
-use Rattle.bench.specs.Benches.{Bench, IsReady, Stands, StoresStand, At, view_by}
+use Rattle.bench.specs.Benches.{Bench, Stands, At, view_by}
 use Rattle.bench.specs.Steps.{AreLeft, ShowsCommit, with_open, after_stop}
 use Rattle.bench.proofs.Making.{get_some}
-use Rattle.bench.proofs.Over.{none_day}
 
 -- == the ledger ==
 

@@ -9,9 +9,8 @@ use Rattle.bench_base.specs.declared.events.Event.TheVariants as ev
 use Rattle.bench_base.specs.declared.events.Reply.{Reply}
 use Rattle.bench_base.specs.declared.events.Reply.TheVariants as r
 use Rattle.bench_base.specs.Rules.{todays_rules, editions}
-use Rattle.bench_base.specs.Plans.{Plan}
 use Rattle.bench_base.specs.Nodes.{node_of}
-use Rattle.bench_base.specs.Events.{node_for, needs_day, needs_on, may_commit, day_after}
+use Rattle.bench_base.specs.Events.{node_for, needs_day, may_commit, day_after}
 use Rattle.bench_base.specs.Replies.{Told, Did, Refused, Armed, CameOn, WentOff, LostPower, Faulted, WasDamaged, PrinterFailed, RatesFailed, told_by, is_refusal, has_read, MayGet}
 use Rattle.bench_base.specs.Ledger.{Ledger, torn_of, counted}
 use Rattle.nv_model.specs.declared.nv.Nv as nv
@@ -19,9 +18,9 @@ use Rattle.nv_model.specs.declared.fuse.Fuse as fuse
 use Rattle.nv_model.specs.Moments.{Image}
 use Rattle.nv_store.specs.Mounts.{Mounts}
 use Rattle.node_acts.specs.Views.{View}
-use Rattle.node_acts.specs.Plans.{after, MayReply, view_after}
+use Rattle.node_acts.specs.Plans.{after}
 use Rattle.node_seat.specs.declared.node.Node.{Ghosts}
-use Rattle.node_seat.specs.Shown.{Allowed, IsAfter}
+use Rattle.node_seat.specs.Shown.{Allowed}
 use Rattle.node_seat.specs.Stands as node
 use Rattle.node_seat.specs.Stands.{times_of, meters_of, HasDamage, IsArmed}
 use Rattle.ledger_moves.specs.Tariffs.{Tariff}
@@ -31,10 +30,11 @@ use Rattle.ledger_moves.specs.Histories.{History}
 use Rattle.node_acts.specs.declared.asked.Asked.{Asked}
 use Rattle.bench_views.specs.declared.taken.DeviceCall.{DeviceCall}
 use Rattle.bench_views.specs.declared.taken.Taken.TheVariants as take
-use Rattle.node_acts.specs.Kinds.{Kind, node_plan, node_commit}
+use Rattle.node_acts.specs.Kinds.{Kind}
 use Rattle.bench_views.specs.Taken.{taken}
 use Rattle.node_turns.specs.declared.turn.Turn.{Turn}
 use Rattle.bench.specs.Benches.{Bench, At, Stands, StoresStand, ForEach, view_by}
+use Rattle.node_turns.specs.Adds.{Adds}
 use Rattle.node_turns.specs.Costs.{Charged}
 use Rattle.node_turns.specs.NodeTurns.{Switches, MovesView}
 use Rattle.node_turns.specs.Turns.{in_order, turn_of}
@@ -109,7 +109,8 @@ module _ {K S C R : Type 0} (n : Ghosts K S ℕ C R) (g : nv.Ghosts S) where
         → At (λ d s t. (turn.reply ≡ r.Damaged m) ↔ HasDamage n d t) old new m
 
   -- Whatever the storages tell: which replies the event may get at all; whether it has a day, and the day after it; the turns of
-  -- `day` and `end`; what is refused, armed and charged; and each node but its own is as it was.
+  -- `day` and `end`; what a reply alone says of the entries; what is refused, armed and charged; and each node but its own is as
+  -- it was.
   pub record StepsAlone (f : fuse.Ghosts S) (e : Event) (turn : Turn) (old new : Bench K) : Type 0 where
     pub reply : MayGet e turn.reply
     pub day : needs_day e ≡ true → (turn.reply ≡ r.NoDay) ↔ (old.day ≡ None)
@@ -117,7 +118,7 @@ module _ {K S C R : Type 0} (n : Ghosts K S ℕ C R) (g : nv.Ghosts S) where
     pub dates : (t : ℤ) → e ≡ ev.Day t → turn ≡ turn_of (r.Day t) (entry.Day t ∷ [])
     pub ends : e ≡ ev.End → turn ≡ turn_of r.End []
     pub refused : is_refusal turn.reply ≡ true → (new ≡ old) × (turn.entries ≡ in_order [])
-    pub damaged : (m : Node) → turn.reply ≡ r.Damaged m → turn.entries ≡ in_order []
+    pub adds : Adds e (told_by turn.reply) turn.entries
     pub switches : IsSome old.day → (m : Node) → node_for e ≡ Some m → At (λ d s t. Switches m e turn.reply (n.is_on s) (n.is_on t)) old new m
     pub charged : (m : Node) → At (λ d s t. Charged m e turn.reply (meters_of n g s) (meters_of n g t)) old new m
     pub armed : IsSome old.day → (m : Node) (calls keep byte : ℕ) → e ≡ ev.Cut m calls keep byte → At (λ d s t. IsArmed n f t calls keep byte) old new m

@@ -1,7 +1,8 @@
-//! The writes and syncs of a device's commits, and nothing else.
+//! The writes and syncs of a device's commits and nothing else, and codes alone.
 ghost use Rattle.std.specs.Prelude.{◌≡◌, ◌≤◌, ◌<◌, ◌+◌, ◌*◌};
 
 use anyhow::{Result, bail};
+use hmac_core::hmac256;
 use nv_model::{Nv, NvFail};
 use std::time::{Duration, Instant};
 
@@ -42,4 +43,20 @@ pub fn timed<N: Nv>(rt: &HostRuntime, nv: &mut N, count: u32) -> Result<Duration
         bail!("a call of the storage failed");
     }
     Ok(start.elapsed(rt)?)
+}
+
+/// A chain of codes of 32 bytes: each is the text of the next.
+fn chain(count: u32) -> [u8; 32] {
+    let mut text = [0; 32];
+    for _ in 0..count {
+        text = hmac256(&[1; 32], &text);
+    }
+    text
+}
+
+/// The time that so many codes take, and the last of them.
+pub fn codes(rt: &HostRuntime, count: u32) -> Result<(Duration, [u8; 32])> {
+    let start = Instant::now(rt)?;
+    let last = chain(count);
+    Ok((start.elapsed(rt)?, last))
 }

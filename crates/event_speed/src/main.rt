@@ -1,4 +1,4 @@
-//! Times debits through a whole run, over storage in memory and over files, and beside each the writes and syncs alone.
+//! Times debits through a whole run, over storage in memory and over files; beside each the writes and syncs alone, and codes alone.
 #![tactic(auto)]
 
 ghost use Rattle.std.specs.Prelude.{◌≡◌, ◌≤◌, IfOk};
@@ -43,7 +43,11 @@ fn in_memory(rt: &HostRuntime, count: u32) -> Result<()>
     tell_run(rt, "memory", count, &tenths)?;
     let mut nv = benches::blank(rt.alloc(), count)?;
     let time = bare::timed(rt, &mut nv, count)?;
-    tell(rt, "memory, writes and syncs alone", count, time)
+    tell(rt, "memory, writes and syncs alone", count, time)?;
+    let (time, last) = bare::codes(rt, count)?;
+    tell(rt, "codes of 32 bytes alone", count, time)?;
+    eprintln!(rt; "the last code begins with {}", last[0])?;
+    Ok(())
 }
 
 fn in_files(rt: &HostRuntime, count: u32) -> Result<()> {

@@ -1,5 +1,5 @@
 -- A node that was called, by the act of the call.
-use Rattle.std.proofs.Common.{◌≡◌, ◌≢◌, ◌⊎◌, inl, inr, ℕ, zero, suc, ℤ, ◌+◌, ◌≤◌, ◌<◌, List, [], ◌∷◌, ◌++◌, Option, Some, None, Bool, true, false, not, ◌&&◌, if◌then◌else◌, ◌↔◌, refl, sym, ◌∙◌, ap, subst, true≢false, arith}
+use Rattle.std.proofs.Common.{◌≡◌, ◌≢◌, ◌⊎◌, inl, inr, ℕ, ℤ, ◌≤◌, List, [], ◌∷◌, ◌++◌, Option, Some, None, Bool, true, false, not, ◌&&◌, if◌then◌else◌, ◌↔◌, refl, sym, ◌∙◌, ap, subst, true≢false, arith}
 use Rattle.std.specs.Prelude.{IfSome}
 use Rattle.bench_base.specs.declared.words.Node.{Node}
 use Rattle.bench_base.specs.declared.ledger.Commit.{Commit}
@@ -10,20 +10,18 @@ use Rattle.bench_base.specs.declared.events.Event.TheVariants as ev
 use Rattle.bench_base.specs.declared.events.Reply.{Reply}
 use Rattle.bench_base.specs.declared.events.Reply.TheVariants as r
 use Rattle.bench_base.specs.Events.{node_for, needs_on, may_commit, calls_of, IsAt}
-use Rattle.bench_base.specs.Replies.{Told, Did, Refused, WasDamaged, refuses, loses_power, faults, leaves_on, reads, told_by, has_read, is_refusal, tells_power, tells_fault, MayGet, Commits as CommitsAt}
+use Rattle.bench_base.specs.Replies.{Told, Did, Refused, refuses, loses_power, faults, leaves_on, told_by, is_refusal, tells_power, tells_fault, MayGet, Commits as CommitsAt}
 use Rattle.bench_base.specs.Plans.{Plan}
 use Rattle.bench_base.specs.Ledger.{Ledger}
 use Rattle.nv_model.specs.declared.nv.Nv as nv
 use Rattle.nv_model.specs.declared.fuse.Fuse as fuse
 use Rattle.nv_model.specs.Meters.{Meters, Uses}
-use Rattle.nv_model.specs.Moments.{Times, Image}
 use Rattle.nv_store.specs.Mounts.{Mounts}
 use Rattle.nv_store.specs.Turns.{Spent}
 use Rattle.node_acts.specs.declared.act.Act.{Act}
 use Rattle.node_acts.specs.declared.act.Act.TheVariants.{Refuse, Tell, Commits}
 use Rattle.node_acts.specs.declared.act.Outcome.{Outcome}
 use Rattle.node_acts.specs.declared.act.Outcome.TheVariants as o
-use Rattle.node_acts.specs.declared.asked.Asked.{Asked}
 use Rattle.node_acts.specs.declared.asked.Asked.TheVariants.{Call}
 use Rattle.node_acts.specs.Views.{Counting, View}
 use Rattle.node_acts.specs.Acts.{cost, has_failed, commit_of, commit_in, outcome_in, outcome_of, MayCome, after_call, TellsOf, CommitsSome, CameOf}
@@ -34,11 +32,12 @@ use Rattle.node_acts.proofs.Told.{Tells, tells}
 use Rattle.node_seat.specs.declared.node.Node.{Ghosts}
 use Rattle.node_seat.specs.Ends.{end_of}
 use Rattle.node_seat.specs.Shown.{Allowed, IsAfter, IsNext, IsFitting}
-use Rattle.node_seat.specs.Stands.{times_of, meters_of, IsArmed, Stands}
+use Rattle.node_seat.specs.Stands.{times_of, Stands}
 use Rattle.node_seat.specs.Calls.{CallDoes}
 use Rattle.node_seat.proofs.Rests.{mounts_none}
+use Rattle.node_turns.specs.Adds.{Adds}
 use Rattle.node_turns.specs.Costs.{Charged}
-use Rattle.node_turns.specs.NodeTurns.{Switches, NodeTurn}
+use Rattle.node_turns.specs.NodeTurns.{NodeTurn}
 use Rattle.node_turns.specs.Turns.{in_order, added, call_turn}
 
 no : {P : Type 0} → false ≡ true → P
@@ -105,10 +104,6 @@ module _ {F A : Type 0} (m : Node) (e : Event) (refusal : F → Reply) (reply : 
   at_node : IsAt (node_for e) m
   at_node = subst (λ (o : Option Node). IsAt o m) (sym told.node) refl
 
-  -- what a reply tells of, where it tells that the call was done, or refused
-  by_told : {P : Type 0} (f : Told → P) (x : Reply) (t : Told) → told_by x ≡ t → f (told_by x) ≡ f t
-  by_told f x t is = ap f is
-
   module _ {X : Type 0} (act : Act X F A) (commits : CommitsSome (λ c. Unit {0}) act → may_commit e ≡ true) where
     commits_at : CommitsSome (λ c. Unit {0}) act → CommitsAt e m
     commits_at some = record { commits = commits some; at = at_node }
@@ -142,13 +137,14 @@ module _ {F A : Type 0} (m : Node) (e : Event) (refusal : F → Reply) (reply : 
   call_refused done (o.Power c) P stays is = no is
   call_refused done (o.Fault c) P stays is = no is
 
-  call_undamaged : (x : Outcome F A) (i : Node) → call_reply m refusal reply x ≢ r.Damaged i
-  call_undamaged o.Off i is = cc
-  call_undamaged (o.Refused y) i is = let t : WasDamaged i ≡ Refused = sym (ap told_by is) ∙ told.refuses y in cc
-  call_undamaged (o.Done a) i is = let t : WasDamaged i ≡ Did = sym (ap told_by is) ∙ told.did a in cc
-  call_undamaged o.Worn i is = cc
-  call_undamaged (o.Power c) i is = cc
-  call_undamaged (o.Fault c) i is = cc
+  call_adds : {X : Type 0} (act : Act X F A) (done : A → Ledger) → (CommitsSome (λ c. Unit {0}) act → may_commit e ≡ true) → (x : Outcome F A) → CameOf act x
+      → Adds e (told_by (call_reply m refusal reply x)) (in_order (added m done x))
+  call_adds act done commits o.Off came = refl
+  call_adds act done commits (o.Refused y) came = subst (λ (t : Told). Adds e t (in_order [])) (sym (told.refuses y)) refl
+  call_adds act done commits (o.Done a) came = subst (λ (t : Told). Adds e t (in_order (done a))) (sym (told.did a)) tt
+  call_adds act done commits o.Worn came = refl
+  call_adds act done commits (o.Power c) came = inr (c, commits (some_commit act commits (λ made. made ≡ c) act came), refl)
+  call_adds act done commits (o.Fault c) came = inr (c, commits (some_commit act commits (λ made. made ≡ c) act came), refl)
 
   -- neither a refusal nor that it was done tells of a failure
   no_power : (x : Reply) (t : Told) → told_by x ≡ t → loses_power m t ≡ false → tells_power m x ≡ true → {P : Type 0} → P
@@ -232,7 +228,7 @@ module _ {K S N C R X F A : Type 0} (n : Ghosts K S N C R) (g : nv.Ghosts S) (f 
     reply = call_gets m e refusal reply told (by (n.seen s)) (commits (n.seen s)) x did.came;
     on_day = call_on_day m e refusal reply told x;
     refused = call_refused m e refusal reply told done x (t ≡ s) did.refused;
-    silent = λ i is. absurd (call_undamaged m e refusal reply told x i is);
+    adds = call_adds m e refusal reply told (by (n.seen s)) done (commits (n.seen s)) x did.came;
     unwritten = λ tells' none. subst (λ (k : K). Mounts (times_of n g s) (times_of n g k)) (sym (did.tells_only (λ some. no (sym none ∙ commits (n.seen s) some)))) (mounts_none (times_of n g s));
     found = λ tells' on. absurd (told.no_switch on);
     charged = call_charged m e refusal reply told x (cost (by (n.seen s))) _ _ (costs (n.seen s)) did.spent;

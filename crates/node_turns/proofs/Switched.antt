@@ -1,38 +1,33 @@
 -- A node that was switched on or off, and one whose fuse was armed.
-use Rattle.std.proofs.Common.{◌≡◌, ◌≢◌, ◌⊎◌, inl, inr, ℕ, ℤ, ◌+◌, List, [], ◌∷◌, Option, Some, None, Bool, true, false, if◌then◌else◌, ◌↔◌, refl, sym, ◌∙◌, ap, subst, true≢false, arith}
-use Rattle.std.specs.Prelude.{IsSome}
+use Rattle.std.proofs.Common.{◌≡◌, ◌≢◌, inl, inr, ℕ, ℤ, List, [], ◌∷◌, Some, None, Bool, true, false, if◌then◌else◌, ◌↔◌, refl, sym, ◌∙◌, ap, subst, true≢false, arith}
 use Rattle.std.proofs.lemmas.Bool.{eq-eqb}
 use Rattle.bench_base.specs.declared.words.Node.{Node}
-use Rattle.bench_base.specs.declared.ledger.Commit.{Commit}
 use Rattle.bench_base.specs.declared.ledger.Entry.TheVariants as entry
-use Rattle.bench_base.specs.declared.events.Event.{Event}
 use Rattle.bench_base.specs.declared.events.Event.TheVariants as ev
-use Rattle.bench_base.specs.declared.events.Reply.{Reply}
 use Rattle.bench_base.specs.declared.events.Reply.TheVariants as r
 use Rattle.bench_base.specs.declared.words.Node.TheVariants.{Device, Centre, Host, Verifier}
 use Rattle.bench_base.specs.Nodes.{same_node}
 use Rattle.bench_base.specs.Plans.{Plan, refuse, told}
-use Rattle.bench_base.specs.Replies.{has_read, is_refusal, MayGet}
+use Rattle.bench_base.specs.Replies.{has_read, is_refusal, MayGet, told_by}
 use Rattle.nv_model.specs.declared.nv.Nv as nv
 use Rattle.nv_model.specs.declared.fuse.Fuse as fuse
 use Rattle.nv_model.specs.Meters.{Meters}
-use Rattle.nv_model.specs.Moments.{Times, Image}
 use Rattle.nv_store.specs.Mounts.{Mounts}
 use Rattle.nv_store.specs.Turns.{Spent}
 use Rattle.node_acts.specs.declared.act.Started.{Started}
 use Rattle.node_acts.specs.declared.act.Started.TheVariants as start
-use Rattle.node_acts.specs.declared.asked.Asked.{Asked}
 use Rattle.node_acts.specs.declared.asked.Asked.TheVariants.{On, Off, Cut}
 use Rattle.node_acts.specs.Views.{Counting, View, stopped}
 use Rattle.node_acts.specs.Starts.{MayStart, after_start, leaves_on, HasRead}
-use Rattle.node_acts.specs.Plans.{after, MayReply, view_after, on_plan, when_on}
+use Rattle.node_acts.specs.Plans.{after, MayReply, view_after}
 use Rattle.node_acts.specs.Kinds.{Kind}
 use Rattle.node_seat.specs.declared.node.Node.{Ghosts}
 use Rattle.node_seat.specs.Shown.{Allowed}
-use Rattle.node_seat.specs.Stands.{times_of, meters_of, HasDamage, IsArmed, Stands}
+use Rattle.node_seat.specs.Stands.{times_of, HasDamage, IsArmed, Stands}
 use Rattle.node_seat.specs.Starts.{StartDoes, StopDoes, ArmDoes}
 use Rattle.node_seat.specs.Ends.{end_of_start}
 use Rattle.node_seat.proofs.Rests.{uses_none, mounts_none}
+use Rattle.node_turns.specs.Adds.{Adds}
 use Rattle.node_turns.specs.Costs.{Charged}
 use Rattle.node_turns.specs.NodeTurns.{Switches, NodeTurn}
 use Rattle.node_turns.specs.Turns.{in_order, start_turn, stop_turn, turn_of}
@@ -117,12 +112,12 @@ module _ (m : Node) where
   start_refused start.Fault P stays is = no is
   start_refused start.Damaged P stays is = no is
 
-  start_silent : (x : Started) (i : Node) → (start_turn m x).reply ≡ r.Damaged i → (start_turn m x).entries ≡ in_order []
-  start_silent start.Already i is = cc
-  start_silent (start.Up k) i is = cc
-  start_silent start.Power i is = cc
-  start_silent start.Fault i is = cc
-  start_silent start.Damaged i is = refl
+  start_adds : (x : Started) → Adds (ev.On m) (told_by (start_turn m x).reply) (start_turn m x).entries
+  start_adds start.Already = refl
+  start_adds (start.Up k) = refl
+  start_adds start.Power = inl refl
+  start_adds start.Fault = inl refl
+  start_adds start.Damaged = refl
 
   start_found : (x : Started) (Bad : Type 0) → (HasRead x → (x ≡ start.Damaged) ↔ Bad) → has_read (start_turn m x).reply ≡ true → ((start_turn m x).reply ≡ r.Damaged m) ↔ Bad
   start_found start.Already Bad found is = no is
@@ -164,9 +159,9 @@ module _ (m : Node) where
   stop_refused true P stays is = no is
   stop_refused false P stays is = (stays refl, refl)
 
-  stop_silent : (was : Bool) (i : Node) → (stop_turn m was).reply ≡ r.Damaged i → (stop_turn m was).entries ≡ in_order []
-  stop_silent true i is = cc
-  stop_silent false i is = cc
+  stop_adds : (was : Bool) → Adds (ev.Off m) (told_by (stop_turn m was).reply) (stop_turn m was).entries
+  stop_adds true = refl
+  stop_adds false = refl
 
   stop_charged : (was : Bool) (a b : Meters) → b ≡ a → Charged m (ev.Off m) (stop_turn m was).reply a b
   stop_charged true a b same = subst (λ (c : Meters). Charged m (ev.Off m) (stop_turn m true).reply a c) (sym same)
@@ -205,7 +200,7 @@ module _ {K S N C R X : Type 0} (n : Ghosts K S N C R) (g : nv.Ghosts S) (f : fu
     reply = start_gets m x;
     on_day = start_on_day m x;
     refused = start_refused m x (t ≡ s) did.refused;
-    silent = start_silent m x;
+    adds = start_adds m x;
     unwritten = λ tells is. did.mounts tells;
     found = λ tells is. start_found m x (HasDamage n d t) (did.damaged tells);
     charged = start_charged m x _ _ did.spent;
@@ -235,7 +230,7 @@ module _ {K S N C R X : Type 0} (n : Ghosts K S N C R) (g : nv.Ghosts S) (f : fu
     reply = stop_gets m was;
     on_day = stop_on_day m was;
     refused = stop_refused m was (t ≡ s) did.refused;
-    silent = stop_silent m was;
+    adds = stop_adds m was;
     unwritten = λ tells is. same_times did.storage;
     found = λ tells is. cc;
     charged = stop_charged m was _ _ (ap g.meters did.storage);
@@ -255,7 +250,7 @@ module _ {K S N C R X : Type 0} (n : Ghosts K S N C R) (g : nv.Ghosts S) (f : fu
     reply = (calls, keep, byte, refl);
     on_day = λ e. cc;
     refused = λ is. no is;
-    silent = λ i is. cc;
+    adds = refl;
     unwritten = λ tells is. did.mounts tells;
     found = λ tells is. cc;
     charged = cut_charged m calls keep byte calls _ _ did.meters;

@@ -8,7 +8,7 @@ use Rattle.bench_base.specs.declared.events.Reply.{Reply}
 use Rattle.bench_base.specs.declared.events.Reply.TheVariants as r
 use Rattle.bench_base.specs.Plans.{Plan}
 use Rattle.bench_base.specs.Events.{needs_on, may_commit}
-use Rattle.bench_base.specs.Replies.{is_refusal, has_read, on_after, MayGet}
+use Rattle.bench_base.specs.Replies.{is_refusal, has_read, on_after, told_by, MayGet}
 use Rattle.nv_model.specs.declared.nv.Nv as nv
 use Rattle.nv_model.specs.declared.fuse.Fuse as fuse
 use Rattle.nv_store.specs.Mounts.{Mounts}
@@ -20,6 +20,7 @@ use Rattle.node_seat.specs.declared.node.Node.{Ghosts}
 use Rattle.node_seat.specs.Shown.{Allowed, IsAfter, IsNext}
 use Rattle.node_seat.specs.Stands.{times_of, meters_of, HasDamage, IsArmed, Stands}
 use Rattle.node_turns.specs.declared.turn.Turn.{Turn}
+use Rattle.node_turns.specs.Adds.{Adds}
 use Rattle.node_turns.specs.Costs.{Charged}
 use Rattle.node_turns.specs.Turns.{in_order}
 
@@ -54,7 +55,7 @@ pub record NodeTurn {K S N C R X : Type 0} (n : Ghosts K S N C R) (g : nv.Ghosts
   pub reply : MayGet e turn.reply
   pub on_day : turn.reply ≢ r.NoDay
   pub refused : is_refusal turn.reply ≡ true → (t ≡ s) × (turn.entries ≡ in_order [])
-  pub silent : (i : Node) → turn.reply ≡ r.Damaged i → turn.entries ≡ in_order []
+  pub adds : Adds e (told_by turn.reply) turn.entries
   pub unwritten : g.tells → may_commit e ≡ false → Mounts (times_of n g s) (times_of n g t)
   pub found : g.tells → e ≡ ev.On m → has_read turn.reply ≡ true → (turn.reply ≡ r.Damaged m) ↔ HasDamage n d t
   pub charged : Charged m e turn.reply (meters_of n g s) (meters_of n g t)

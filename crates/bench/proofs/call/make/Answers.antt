@@ -1,4 +1,4 @@
-use Rattle.std.proofs.Common.{◌≡◌, List, Option, sym, ◌∙◌, ap, subst, [], ◌∷◌}
+use Rattle.std.proofs.Common.{Option, sym, ◌∙◌, ap, subst, [], ◌∷◌}
 use Rattle.bench_base.specs.declared.ledger.Commit.TheVariants.{Made}
 use Rattle.bench_base.specs.declared.ledger.Entry.TheVariants as entry
 use Rattle.bench_base.specs.declared.words.Node.TheVariants.{Device}

@@ -1,4 +1,4 @@
-use Rattle.std.proofs.Common.{◌≡◌, List, ℕ, ℤ, [], ◌∷◌, false, refl, sym, ap, subst}
+use Rattle.std.proofs.Common.{◌≡◌, List, ℕ, ℤ, [], ◌∷◌, false, refl, sym, subst}
 use Rattle.bench_base.specs.declared.ledger.Commit.TheVariants.{Made}
 use Rattle.bench_base.specs.declared.ledger.Entry.TheVariants as entry
 use Rattle.bench_base.specs.declared.words.Node.TheVariants.{Device}
@@ -12,7 +12,6 @@ use Rattle.node_acts.specs.declared.act.Outcome.TheVariants as o
 use Rattle.node_acts.specs.declared.asked.Asked.TheVariants.{Call}
 use Rattle.node_seat.specs.Calls.{CallDoes}
 use Rattle.node_seat.proofs.Called.{off_call}
-use Rattle.node_turns.specs.declared.turn.Turn.{Turn}
 use Rattle.node_turns.specs.NodeTurns.{NodeTurn}
 use Rattle.node_turns.specs.Turns.{call_turn, turn_of}
 use Rattle.node_turns.proofs.Calls.{turn_call}

@@ -2,7 +2,6 @@ use Rattle.std.proofs.Common.{sym, subst, []}
 use Rattle.bench_base.specs.declared.words.Node.TheVariants.{Device}
 use Rattle.bench_base.specs.declared.events.Reply.TheVariants as r
 use Rattle.node_acts.specs.declared.asked.Asked.{Asked}
-use Rattle.node_turns.specs.declared.turn.Turn.{Turn}
 use Rattle.node_turns.specs.NodeTurns.{NodeTurn}
 use Rattle.node_turns.specs.Turns.{start_turn, stop_turn, turn_of}
 use Rattle.node_turns.proofs.Switched.{turn_on, turn_off, turn_cut}

@@ -1,4 +1,4 @@
-use Rattle.std.proofs.Common.{◌≡◌, length, sym, ◌∙◌, arith}
+use Rattle.std.proofs.Common.{arith}
 use Rattle.psd_device.specs.contracts.kind.DeviceNodeNode.TheImpl.{ghosts}
 use Rattle.bench.proofs.Begun.{stopping_none, stopping_more, all_stopped}
 use Rattle.bench.proofs.places.stop_all.Goals as goal

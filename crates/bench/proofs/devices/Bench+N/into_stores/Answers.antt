@@ -1,8 +1,8 @@
-use Rattle.std.proofs.Common.{true, false, ◌≡◌, length, refl, arith}
+use Rattle.std.proofs.Common.{true, false, ◌≡◌, refl, arith}
 use Rattle.nv_model.specs.contracts.fused.FusedNv.TheImpl.{ghosts}
 use Rattle.bench_views.specs.Devices.{device_kind}
 use Rattle.bench.specs.Places.{IsInside}
-use Rattle.bench.proofs.Making.{moved_more, moved_some, moved_done, moved_from}
+use Rattle.bench.proofs.Making.{moved_more, moved_some, moved_done}
 use Rattle.bench.proofs.Over.{inside_stands}
 use Rattle.bench.proofs.devices.Bench+N.into_stores.Goals as goal
 

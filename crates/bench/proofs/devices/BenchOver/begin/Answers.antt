@@ -1,4 +1,4 @@
-use Rattle.std.proofs.Common.{refl, ◌∙◌}
+use Rattle.std.proofs.Common.{refl}
 use Rattle.bench_views.specs.Devices.{device_kind}
 use Rattle.bench.proofs.Begun.{begun_stands}
 use Rattle.bench.proofs.devices.BenchOver.begin.Goals as goal
