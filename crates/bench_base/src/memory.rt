@@ -1,8 +1,8 @@
 //! A source and a sink over vectors, with lists of the calls that fail.
-ghost use Rattle.std.specs.Prelude.{◌≡◌, ◌+◌, ◌-◌, ◌^◌, ◌≤◌, ◌<◌, ◌↔◌, min, length, [], Contains, IsErr, IfOk, Some, Ok};
-ghost use Rattle.std.specs.Io.{ReadsAtMost, WritesAtMost};
-ghost use Rattle.std.specs.Io.KnownBytes.{ReadConsumes, WriteAppends};
-ghost use Rattle.bench_base.specs.Causes.{HasCause, HasWriteCause};
+ghost use Rattle.std.specs.Prelude.{◌≡◌, ◌+◌, ◌-◌, ◌^◌, ◌≤◌, ◌↔◌, min, length, [], Contains, IsErr, IfOk, Some};
+ghost use Rattle.std.specs.Io.{ReadsAtMost};
+ghost use Rattle.std.specs.Io.KnownBytes.{ReadConsumes};
+ghost use Rattle.bench_base.specs.Causes.{HasCause};
 
 use crate::stream::{ReadFail, Sink, Source, WriteFail};
 use std::marker::Model;
@@ -135,24 +135,14 @@ impl MemSink {
 }
 
 impl Sink for MemSink {
+    ghost use Rattle.bench_base.specs.Memory.{LaysOnShelf};
+
     ghost taken = { λ s. Some s.taken };
 
     ghost faults = { λ s. s.faults };
 
     fn write(&mut self, bytes: &[u8]) -> Result<usize, WriteFail>
-        ensures bound { WritesAtMost result bytes.now }
-        ensures bytes { WriteAppends (Some self.old.taken) (Some self.new.taken) result bytes.now }
-        ensures cause { HasWriteCause self.old.faults self.new.faults result bytes.now }
-        ensures refused { Contains self.old.fails self.old.writes → IsErr result }
-        ensures zero { ¬ Contains self.old.fails self.old.writes → Contains self.old.zeros self.old.writes → result ≡ Ok 0 }
-        ensures full { ¬ Contains self.old.fails self.old.writes → ¬ Contains self.old.zeros self.old.writes
-            → self.old.room ≡ 0 → 0 < length bytes.now → IsErr result }
-        ensures whole { ¬ Contains self.old.fails self.old.writes → ¬ Contains self.old.zeros self.old.writes
-            → 0 < self.old.room → result ≡ Ok (min (length bytes.now) self.old.room) }
-        ensures nothing { ¬ Contains self.old.fails self.old.writes → length bytes.now ≡ 0 → result ≡ Ok 0 }
-        ensures room { self.new.room + length self.new.taken ≡ self.old.room + length self.old.taken }
-        ensures count { self.new.writes ≡ min (self.old.writes + 1) (2 ^ 64 - 1) }
-        ensures lists { (self.new.fails ≡ self.old.fails) × (self.new.zeros ≡ self.old.zeros) }
+        ensures { LaysOnShelf self.old self.new bytes.now result }
     {
         let number = self.writes;
         self.writes = self.writes.saturating_add(1);

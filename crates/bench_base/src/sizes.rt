@@ -11,3 +11,12 @@ pub const SLOTS: u32 = 16;
 
 /// The bytes of a device's storage: a gate, a count and a record for each slot.
 pub const DEVICE_BYTES: u32 = 3_424;
+
+/// The bytes of a row of the centre as it is stored.
+pub const ROW_BYTES: usize = 192;
+
+/// The cells of the centre: of devices 1 to 8, and then of customers 1 to 64.
+pub const CENTRE_CELLS: u32 = 72;
+
+/// The bytes of the centre's storage: for each cell two slots of a gate, a count and a row.
+pub const CENTRE_BYTES: u32 = 28_368;

@@ -152,9 +152,6 @@ reads-as bytes x h e = let found = read_mark-found bytes x h e in record { whole
 pub found : (bytes : List ℕ) → IsBytes bytes → IfOk (read_mark bytes) (λ x. ReadsAs bytes x.0 x.1)
 found bytes h = if_ok (read_mark bytes) _ (λ x e. reads-as bytes x h e)
 
-pub length-reads : (bytes : List ℕ) (m : Mark) (code : List ℕ) → ReadsAs bytes m code → length bytes ≡ 64
-length-reads bytes m code r = omega (arith, ap length r.spelled, length-append (body m) code, length-body m r.whole, r.long)
-
 pub only : (bytes : List ℕ) (m : Mark) (code : List ℕ) → ReadsAs bytes m code → read_mark bytes ≡ Ok (m, code)
 only bytes m code r = ap read_mark r.spelled ∙ read_mark-spell m code r.whole r.long
 

@@ -1,8 +1,8 @@
 //! Marks out of bytes, and whether a mark is genuine.
-ghost use Rattle.std.specs.Prelude.{◌≡◌, ◌≢◌, ◌≤◌, ◌↔◌, ◌++◌, ℕ, List, length, slice_index, IfOk, IsErrOf, IsTrue, Ok};
+ghost use Rattle.std.specs.Prelude.{◌≡◌, ◌≢◌, ◌≤◌, ◌↔◌, ℕ, List, length, slice_index, IfOk, IsErrOf, IsTrue, Ok};
 ghost use Rattle.bench_base.specs.declared.refusals.MarkFault.TheVariants.{Length, Version, Algorithm};
 ghost use Rattle.bench_base.specs.Rules.{IsVersion};
-ghost use Rattle.indicium.specs.Marks.{body, mark_at, read_mark, IsWhole, IsSpelled, ReadsAs};
+ghost use Rattle.indicium.specs.Marks.{mark_at, read_mark, IsSpelled, ReadsAs};
 ghost use Rattle.indicium.specs.declared.Mark.{Mark as TheMark};
 
 use crate::Mark;

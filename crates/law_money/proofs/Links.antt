@@ -68,14 +68,6 @@ module _ (ρ : Rules) where
       (found ((f == d) && (m == n)) (ruled_reply d n C) (reply_to C (request_in r)) p e)
   ruled_reply-le d n p (_ ∷ C) e = ruled_reply-le d n p C e
 
-  pub waits-le : (w : Option (ℕ × List ℕ)) (a k : ℕ) → Waits w a k → a ≤ k + 1
-  waits-le None a k h = omega arith
-  waits-le (Some p) a k h = omega arith
-
-  pub waits-ge : (w : Option (ℕ × List ℕ)) (a k : ℕ) → Waits w a k → k ≤ a
-  waits-ge None a k h = omega arith
-  waits-ge (Some p) a k h = omega arith
-
   pub waits-some : (w : Option (ℕ × List ℕ)) (a k n : ℕ) (note : List ℕ) → w ≡ Some (n, note) → Waits w a k → (n ≡ a) × (a ≡ k + 1)
   waits-some None a k n note e h = cc
   waits-some (Some p) a k n note e h = let same : p.0 ≡ n = cc in (sym same ∙ h.0, h.1)

@@ -1,6 +1,6 @@
 -- The marks of debits: each fits its fields and reads as a mark of its device and piece; a piece has one mark; and the kept
 -- mark is that of the last piece.
-use Rattle.std.proofs.Common.{◌+◌, IsSome, ◌≡◌, ℕ, ℤ, ◌<◌, ◌≤◌, ◌^◌, Bool, true, false, List, [], ◌∷◌, Option, Some, None, Ok, refl, sym, ap, subst, ◌∙◌, ⊎_elim, arith}
+use Rattle.std.proofs.Common.{◌+◌, IsSome, ◌≡◌, ℕ, ℤ, ◌≤◌, Bool, true, false, List, [], ◌∷◌, Option, Some, None, Ok, refl, sym, ap, subst, ◌∙◌, ⊎_elim, arith}
 use Rattle.std.specs.Prelude.{◌==◌, ◌&&◌, if◌then◌else◌}
 use Rattle.std.proofs.lemmas.Bool.{eqb-true, cases_Bool, eq-eqb, and_parts}
 use Rattle.bench_base.specs.declared.words.Kind.TheVariants.{Enrol}
@@ -18,11 +18,9 @@ use Rattle.ledger_terms.specs.Sums.{ascending, pieces}
 use Rattle.ledger_terms.specs.Centres.{registered, origin_in}
 use Rattle.ledger_terms.specs.Devices.{key_of, applied_kind, origin, customer}
 use Rattle.ledger_terms.specs.Franking.{key_or_none, mark_after, indicium_after, kept, marked}
-use Rattle.ledger_terms.specs.Rulings.{buys_limit}
 use Rattle.ledger_lawful.specs.Editions.{IsCarried}
 use Rattle.law_good.proofs.Basics.{some-same, some-none, either, found, first_of-none}
 use Rattle.law_good.proofs.Good.{Good, Fits}
-use Rattle.law_money.proofs.Money.{funds}
 use Rattle.law_money.proofs.Asked.{note-reads}
 use Rattle.law_plans.proofs.Whole.{whole-mark}
 

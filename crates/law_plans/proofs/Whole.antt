@@ -1,5 +1,5 @@
 -- What has a spelling: messages and marks whose numbers fit their fields.
-use Rattle.std.proofs.Common.{◌≡◌, ℕ, ℤ, pos, ◌^◌, ◌<◌, ◌≤◌, ◌==◌, Bool, true, false, cond, [], ◌∷◌, ◌+ℤ◌, arith, FitsSigned, Fits as Fits32, lit<}
+use Rattle.std.proofs.Common.{ℕ, ℤ, pos, ◌^◌, ◌<◌, ◌≤◌, ◌==◌, Bool, true, false, cond, [], ◌∷◌, ◌+ℤ◌, arith, FitsSigned, Fits as Fits32, lit<}
 use Rattle.std.specs.Int.{w32, cast_unsigned}
 use Rattle.std.proofs.lemmas.Int.{ints}
 use Rattle.std.proofs.Math.Facts.{Fits-of_z}

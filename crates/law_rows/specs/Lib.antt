@@ -1,3 +1,4 @@
 pub mod Rows
 pub mod TodayRows
 pub mod Runs
+pub mod Worked

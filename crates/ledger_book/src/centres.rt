@@ -1,5 +1,5 @@
 //! The state of the centre, over its commits. Amounts are in mills.
-ghost use Rattle.std.specs.Prelude.{◌≡◌, pos, ◌≤◌, ◌<◌, ◌*◌, ◌^◌, [], ◌∷◌, length, reverse};
+ghost use Rattle.std.specs.Prelude.{◌≡◌, ◌≤◌, ◌<◌, ◌*◌, ◌^◌, [], ◌∷◌, length, reverse};
 ghost use Rattle.ledger_terms.specs.Centres.{registered, enrolled, ruled, done, settled, deposits, device_share, customer_sum, whole_balance};
 ghost use Rattle.ledger_book.specs.Sides.{amount_of};
 

@@ -1,5 +1,5 @@
 //! The clauses of a lawful ledger that speak of its commits alone, each for the newest commit after those before it.
-ghost use Rattle.std.specs.Prelude.{◌≡◌, ◌↔◌, ◌+◌, ◌+ℤ◌, ◌≤ℤ◌, ◌<ℤ◌, pos, ◌-◌, ◌≤◌, ◌<◌, ◌*◌, ◌^◌, ◌⊎◌, List, ℕ, true, false, Some, None, [], ◌∷◌, length, reverse, IsTrue, IsSome};
+ghost use Rattle.std.specs.Prelude.{◌≡◌, ◌↔◌, ◌+◌, ◌+ℤ◌, ◌≤ℤ◌, ◌<ℤ◌, pos, ◌-◌, ◌≤◌, ◌<◌, ◌*◌, ◌⊎◌, List, ℕ, true, false, Some, None, [], ◌∷◌, length, reverse, IsTrue, IsSome};
 ghost use Rattle.bench_base.specs.declared.ledger.Commit.{Commit as ACommit};
 ghost use Rattle.bench_base.specs.Rules.{todays_rules};
 ghost use Rattle.bench_base.specs.Kinds.{empties, is_granted};
@@ -7,7 +7,7 @@ ghost use Rattle.ledger_terms.specs.Requests.{request_in, note_of, request_of};
 ghost use Rattle.ledger_terms.specs.Sums.{pieces, descending};
 ghost use Rattle.ledger_terms.specs.Devices.{applied_of};
 ghost use Rattle.ledger_terms.specs.InFlight.{ruling_of};
-ghost use Rattle.ledger_lawful.specs.Lawful.{asks, Numbering, IsNextDebit, NextDebit, Totals, AllDevices, Debits, debited_since, Refunds, AfterApplied, Accounts, Registers, Solvent, AllCustomers, Balances, Days};
+ghost use Rattle.ledger_lawful.specs.Lawful.{asks, Numbering, NextDebit, Totals, AllDevices, Debits, debited_since, Refunds, AfterApplied, Accounts, Registers, Solvent, Balances, Days};
 
 use crate::centres::{customer_sum, deposits, device_at, ruled, settled};
 use crate::devices::{applied_of, deadline, is_frozen, last_day, phase};

@@ -1,5 +1,5 @@
 //! The commits of a ledger that count.
-ghost use Rattle.std.specs.Prelude.{◌≡◌, ◌≤◌, List, [], ◌∷◌, length, reverse, IfOk};
+ghost use Rattle.std.specs.Prelude.{◌≡◌, ◌≤◌, [], ◌∷◌, length, reverse, IfOk};
 ghost use Rattle.bench_base.specs.Ledger.{Ledger, counted, count_of, torn_of};
 ghost use Rattle.ledger_book.specs.Growth.{newest};
 

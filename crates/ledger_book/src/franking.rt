@@ -1,6 +1,6 @@
 //! The mark of each debit.
 ghost use Rattle.bench_base.specs.Rows.{first_of};
-ghost use Rattle.std.specs.Prelude.{◌≡◌, ◌+◌, ◌≤◌, ◌<◌, ◌^◌, [], ◌∷◌, length, reverse};
+ghost use Rattle.std.specs.Prelude.{◌≡◌, ◌+◌, ◌<◌, ◌∷◌, reverse};
 ghost use Rattle.bench_base.specs.Rules.{todays_rules};
 ghost use Rattle.ledger_terms.specs.Sums.{ascending, descending};
 ghost use Rattle.ledger_terms.specs.Devices.{origin};

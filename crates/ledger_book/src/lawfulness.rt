@@ -1,5 +1,5 @@
 //! Whether a ledger is lawful.
-ghost use Rattle.std.specs.Prelude.{◌≡◌, ◌↔◌, ◌+◌, ◌<◌, length, take, reverse, IsTrue, IfOk};
+ghost use Rattle.std.specs.Prelude.{◌↔◌, ◌+◌, ◌<◌, length, take, reverse, IsTrue, IfOk};
 ghost use Rattle.bench_base.specs.Rules.{todays_rules};
 ghost use Rattle.bench_base.specs.Ledger.{counted};
 ghost use Rattle.ledger_lawful.specs.Lawful.{Always, LawfulAt, Lawful, Numbering, Debits, Refunds, Registers, Balances, Days};

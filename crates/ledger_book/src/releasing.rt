@@ -1,5 +1,5 @@
 //! The clauses of a lawful ledger that speak of its entries: releases, acceptances and prints.
-ghost use Rattle.std.specs.Prelude.{◌≡◌, ◌↔◌, ◌⊎◌, true, false, Some, None, [], ◌∷◌, reverse, IsSome, IsTrue};
+ghost use Rattle.std.specs.Prelude.{◌≡◌, ◌↔◌, true, false, Some, None, [], ◌∷◌, reverse, IsSome, IsTrue};
 ghost use Rattle.bench_base.specs.Rules.{todays_rules};
 ghost use Rattle.bench_base.specs.Ledger.{Ledger, counted, IsReleased, IsReleasedAs, IsPrinted};
 ghost use Rattle.bench_base.specs.Jobs.{Job, job_of, held_of};

@@ -110,7 +110,3 @@ lock today deadline p = p
 abbrev pub unless_blank : Option (List ℕ) → Phase → Phase
 unless_blank None p = Blank
 unless_blank (Some key) p = p
-
--- the phase as it is shown on a day: blank without a Made, and locked after the deadline
-abbrev pub phase_on : ℤ → ℕ → List Commit → Phase
-phase_on today d C = unless_blank (key_of d C) (lock today (deadline d C) (phase d C))

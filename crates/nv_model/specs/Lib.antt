@@ -11,3 +11,4 @@ pub mod Fuses
 pub mod Ranges
 pub mod Files
 pub mod Still
+pub mod Calls

@@ -1,8 +1,8 @@
 //! What storage promises: the trait Nv.
-ghost use Rattle.std.specs.Prelude.{◌≡◌, ◌+◌, ◌≤◌, List, ℕ, Bool, true, false, length, Result, OnOk, IsErrOf};
-ghost use Rattle.nv_model.specs.Bytes.{SameOutside, laid, range};
-ghost use Rattle.nv_model.specs.Meters.{Meters, Answers, Restarts, after_call, burns};
-ghost use Rattle.nv_model.specs.Moments.{Times, Image, Nested, Only, Elapses, Tears, Stays, IsImage, Writes, Unwritten, SamePlaces};
+ghost use Rattle.std.specs.Prelude.{◌≡◌, ◌+◌, ◌≤◌, List, ℕ, Bool, false, length, Result};
+ghost use Rattle.nv_model.specs.Calls.{DidRead, DidWrite, DidSync, DidRestart};
+ghost use Rattle.nv_model.specs.Meters.{Meters};
+ghost use Rattle.nv_model.specs.Moments.{Times, Image, Nested, IsImage};
 
 /// How a call of a storage fails. `Power`: power was cut, and every call but a restart fails so until one succeeds.
 /// `Fault`: this call failed, and the next may succeed.
@@ -54,59 +54,25 @@ pub trait Nv {
     fn read(&mut self, at: u32, buf: &mut [u8]) -> Result<(), NvFail>
         requires { at + length buf.old ≤ size self.old }
         ensures exact { read_is self.old self.new result }
-        ensures bytes_read { tells → OnOk result (buf.new ≡ range (content self.old) at (length buf.new)) }
-        ensures same { tells → content self.new ≡ content self.old }
-        ensures base { tells → base self.new ≡ base self.old }
-        ensures places { tells → SamePlaces (written self.old) (written self.new) }
-        ensures images { tells → Stays (times self.old) (times self.new) }
-        ensures time { tells → Elapses (times self.old) (times self.new) }
-        ensures size { size self.new ≡ size self.old }
-        ensures answer { Answers (meters self.old) (meters self.new) result }
-        ensures fuse { (meters self.new).fuse ≡ (meters self.old).fuse };
+        ensures did { DidRead tells size content base written times meters self.old self.new at buf.new result };
 
     /// Writes bytes from `at` on. Until the next sync or restart that succeeds, a cut of power may leave any bytes in this
     /// range, also where the write fails. After a Fault a read gives the bytes outside the range as before.
     fn write(&mut self, at: u32, bytes: &[u8]) -> Result<(), NvFail>
         requires { at + length bytes.now ≤ size self.old }
         ensures exact { write_is self.old self.new at bytes.now result }
-        ensures written { tells → OnOk result (content self.new ≡ laid (content self.old) at bytes.now) }
-        ensures others { tells → IsErrOf result NvFail.Fault → SameOutside at (length bytes.now) (content self.old) (content self.new) }
-        ensures base { tells → (IsErrOf result NvFail.Power → ⊥) → base self.new ≡ base self.old }
-        ensures places { tells → (IsErrOf result NvFail.Power → ⊥) → Writes at (length bytes.now) (written self.old) (written self.new) }
-        ensures images { tells → Tears at (length bytes.now) (times self.old) (times self.new) }
-        ensures off { tells → (meters self.old).lost ≡ true → Stays (times self.old) (times self.new) }
-        ensures time { tells → Elapses (times self.old) (times self.new) }
-        ensures size { size self.new ≡ size self.old }
-        ensures answer { Answers (meters self.old) (meters self.new) result }
-        ensures fuse { (meters self.new).fuse ≡ after_call (meters self.old) }
-        ensures burnt { (meters self.old).lost ≡ false → burns (meters self.old).fuse ≡ true → IsErrOf result NvFail.Power };
+        ensures did { DidWrite tells size content base written times meters self.old self.new at bytes.now result };
 
     /// Makes sure of what was written: where it succeeds, a cut of power leaves what a read gives now. After a Fault what
     /// was written may still be lost.
     fn sync(&mut self) -> Result<(), NvFail>
         ensures exact { sync_is self.old self.new result }
-        ensures durable { tells → OnOk result (Only (times self.new) (content self.new)) }
-        ensures same { tells → OnOk result (content self.new ≡ content self.old) }
-        ensures synced { tells → OnOk result ((base self.new ≡ content self.new) × Unwritten (written self.new)) }
-        ensures kept { tells → IsErrOf result NvFail.Fault → (base self.new ≡ base self.old) × SamePlaces (written self.old) (written self.new) }
-        ensures images { tells → Stays (times self.old) (times self.new) }
-        ensures time { tells → Elapses (times self.old) (times self.new) }
-        ensures size { size self.new ≡ size self.old }
-        ensures answer { Answers (meters self.old) (meters self.new) result }
-        ensures fuse { (meters self.new).fuse ≡ after_call (meters self.old) }
-        ensures burnt { (meters self.old).lost ≡ false → burns (meters self.old).fuse ≡ true → IsErrOf result NvFail.Power };
+        ensures did { DidSync tells size content base written times meters self.old self.new result };
 
     /// Begins again, also after a cut of power. The content is then one of the images of this moment, and the only one.
     fn restart(&mut self) -> Result<(), NvFail>
         ensures exact { restart_is self.old self.new result }
-        ensures durable { tells → OnOk result (Only (times self.new) (content self.new)) }
-        ensures found { tells → OnOk result (Image (times self.old) (content self.new)) }
-        ensures synced { tells → OnOk result ((base self.new ≡ content self.new) × Unwritten (written self.new)) }
-        ensures kept { tells → IsErrOf result NvFail.Fault → (base self.new ≡ base self.old) × SamePlaces (written self.old) (written self.new) }
-        ensures images { tells → Stays (times self.old) (times self.new) }
-        ensures time { tells → Elapses (times self.old) (times self.new) }
-        ensures size { size self.new ≡ size self.old }
-        ensures answer { Restarts (meters self.old) (meters self.new) result };
+        ensures did { DidRestart tells size content base written times meters self.old self.new result };
 
     /// What a read gives is an image.
     ghost content_is: { (s : Self) → tells → Image (times s) (content s) };

@@ -1,12 +1,9 @@
 //! One cell of sixteen slots.
-ghost use Rattle.std.specs.Prelude.{◌≡◌, ◌≢◌, ◌+◌, ◌*◌, ◌/◌, ◌≤◌, ◌<◌, ℕ, Option, IfOk, IfErr, MatchResult, Some, None, false, sum, slice_index, replicate};
-ghost use Rattle.nv_model.specs.Moments.{Only};
+ghost use Rattle.std.specs.Prelude.{◌≡◌, ◌+◌, ◌*◌, ◌/◌, ◌≤◌, ◌<◌, Some, false, sum, slice_index};
 ghost use Rattle.nv_store.specs.declared.TheConstants.{MOST_BYTES};
 ghost use Rattle.nv_store.specs.Slot.{Held, slots_at};
 ghost use Rattle.nv_store.specs.Cells.{Top};
-ghost use Rattle.nv_store.specs.Store.{one_held, count_of, OnlyShows, Holds, next_is_open};
-ghost use Rattle.nv_store.specs.Mounts.{Mounts, MountCauses};
-ghost use Rattle.nv_store.specs.Scans.{IsMixed};
+ghost use Rattle.nv_store.specs.Store.{Holds, count_of, one_view};
 ghost use Rattle.nv_ring.specs.Turns.{IsWearOf, fills_of, slot_after};
 
 use crate::wear::Wear;
@@ -35,21 +32,7 @@ impl<N: Nv, const L: usize> Store<L> for Ring<N, L> {
 
     ghost slots = { 16 };
 
-    ghost cell_count = { λ s. 1 };
-
-    ghost held = { λ s k. one_held s.head.count s.payload };
-
-    ghost failed = { λ s. s.failed };
-
-    ghost next_is_open = { λ s cell. next_is_open 16 s.head };
-
-    ghost content = { λ s. N.content s.nv };
-
-    ghost size = { λ s. N.size s.nv };
-
-    ghost times = { λ s. N.times s.nv };
-
-    ghost meters = { λ s. N.meters s.nv };
+    ghost view = { λ s. one_view N.Nv 16 s.nv s.head s.payload s.failed };
 
     /// The number of commits and the current slot at the mount.
     ghost keeps = { λ old new. (new.wear.first ≡ old.wear.first) × (new.wear.start ≡ old.wear.start) };
@@ -90,30 +73,13 @@ impl<N: Nv, const L: usize> Store<L> for Ring<N, L> {
 
 impl<N: Nv, const L: usize> Ring<N, L> {
     ghost use Rattle.nv_ring.specs.RingView.{storage_of, held_by, has_failed, first_of, start_of, fills_in};
+    ghost use Rattle.nv_ring.specs.Mounts.{MountsRing};
 
     /// Mounts the ring in storage of `16·(5+L)` bytes; a failed mount gives the storage back.
     pub fn mount(nv: N) -> Result<Ring<N, L>, (N, MountCause)>
         requires small { L ≤ MOST_BYTES }
         requires powered { (N.meters nv).lost ≡ false }
-
-        ensures size { N.size nv ≢ 16 * (5 + L) → result ≡ Err (nv, MountCause.Size (N.size nv)) }
-        ensures of_size { IfErr result (λ e. (n : ℕ) → e.1 ≡ MountCause.Size n → N.size nv ≢ 16 * (5 + L)) }
-        ensures mixed { N.tells → IfErr result (λ e. (k : ℕ) → e.1 ≡ MountCause.Mixed k
-            → (k ≡ 0) × Only (N.times e.0) (N.content e.0) × IsMixed 16 (slots_at L 0 (N.content e.0))) }
-
-        ensures mounts { N.tells → MatchResult result (λ ring. Mounts (N.times nv) (N.times (storage_of ring))) (λ e. Mounts (N.times nv) (N.times e.0)) }
-        ensures shows { N.tells → IfOk result (λ ring. OnlyShows L 16 1 (λ k. held_by ring) (N.times (storage_of ring)) (N.content (storage_of ring))) }
-        ensures works { IfOk result (λ ring. has_failed ring ≡ false) }
-        ensures causes { MatchResult result (λ ring. MountCauses (N.meters nv) (N.meters (storage_of ring)) None)
-            (λ e. MountCauses (N.meters nv) (N.meters e.0) (Some e.1)) }
-        ensures bytes { MatchResult result (λ ring. N.size (storage_of ring) ≡ N.size nv) (λ e. N.size e.0 ≡ N.size nv) }
-
-        // Wear is counted from here on.
-        ensures first { IfOk result (λ ring. first_of ring ≡ count_of (held_by ring)) }
-        ensures fills { IfOk result (λ ring. fills_in ring ≡ replicate 16 0) }
-        ensures blank { IfOk result (λ ring. held_by ring ≡ None → start_of ring ≡ 15) }
-        ensures start { N.tells → IfOk result (λ ring. (held : Held) → held_by ring ≡ Some held
-            → Top 16 (slots_at L 0 (N.content (storage_of ring))) (start_of ring) held) }
+        ensures { MountsRing nv result }
     {
         let mut nv = nv;
         let mut payload = [0; L];

@@ -3,6 +3,7 @@ pub mod Gates
 pub mod Then
 pub mod Step
 pub mod OneCell
+pub mod OneStore
 pub mod Between
 pub mod Fronts
 pub mod ScanMore

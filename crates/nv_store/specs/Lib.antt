@@ -6,13 +6,14 @@ pub mod Mounts
 pub mod Scans
 pub mod Tables
 pub mod Fails
+pub mod Lent
 pub mod Current
 pub mod Knows
 pub mod TableKnows
 pub mod OneView
-pub mod CellList
-pub mod CellLaws
+pub mod Clear
 pub mod RoomView
 pub mod Rooms
 pub mod TableView
+pub mod TableMounts
 pub mod Turns

@@ -1,12 +1,14 @@
 -- A store of cells over a storage: what an image shows, what a commit may leave, and why it answers so.
-use Rattle.std.specs.Prelude.{◌≡◌, ◌≢◌, ◌⊎◌, ◌↔◌, ℕ, zero, suc, ◌+◌, ◌-◌, ◌*◌, ◌<◌, ◌≤◌, ◌^◌, List, Bool, true, false, Option, Some, None, Result, IsOk, IsErrOf, if◌then◌else◌, ◌==◌, get_or}
+use Rattle.std.specs.Prelude.{◌≡◌, ◌≢◌, ◌⊎◌, ◌↔◌, ◌||◌, ℕ, zero, suc, ◌+◌, ◌-◌, ◌*◌, ◌<◌, ◌≤◌, ◌^◌, List, Bool, true, false, Option, Some, None, Result, IsOk, IsErrOf, OnOk, OnErr, if◌then◌else◌, ◌==◌, get_or}
 use Rattle.bench_base.specs.declared.refusals.StoreFail.{StoreFail}
 use Rattle.bench_base.specs.declared.refusals.StoreFail.TheVariants.{Power, Fault, Worn, Failed}
 use Rattle.bench_base.specs.Causes.{Rose}
-use Rattle.nv_model.specs.Meters.{Meters, WasCut, Uses}
-use Rattle.nv_model.specs.Moments.{Times, Only}
+use Rattle.nv_model.specs.declared.nv.Nv.{Ghosts}
+use Rattle.nv_model.specs.Meters.{Meters, WasCut, Uses, UsesExactly}
+use Rattle.nv_model.specs.Moments.{Times, Only, Elapses, Rests}
 use Rattle.nv_store.specs.Slot.{Held, slots_at, IsClear}
 use Rattle.nv_store.specs.Cells.{Known, shown, next_of}
+use Rattle.nv_store.specs.Fails.{ends_failed}
 use Rattle.nv_store.specs.declared.head.Head.{Head}
 
 -- cells of n slots lie one after the other: what the image shows in cell k, its count and its payload
@@ -83,3 +85,62 @@ count_sum (suc n) held = count_sum n held + count_of (held n)
 pub record Holds (size n : ℕ) (head : Head) (payload : List ℕ) (now : Times) (content : List ℕ) : Type 0 where
   pub only : Only now content
   pub known : Known n (slots_at size 0 content) head.count head.place head.gates payload
+
+-- what contracts see of a store
+pub record StoreView : Type 1 where
+  -- the number of its cells, and what each holds: the number of its commits and its payload, or nothing
+  pub cells : ℕ
+  pub held : ℕ → Option Held
+  -- whether an earlier commit answered Power or Fault
+  pub failed : Bool
+  -- whether the slot that the next commit to a cell fills is open
+  pub fills_open : ℕ → Bool
+  -- what a read of its storage gives, and the size of the storage in bytes
+  pub content : List ℕ
+  pub size : ℕ
+  -- the moment of the storage, and its images since each moment
+  pub times : Times
+  -- the counts of the storage, whether its power is lost, and its fuse
+  pub meters : Meters
+
+-- that of a store of one cell of n slots
+abbrev pub one_view : {N : Type 0} → Ghosts N → ℕ → N → Head → List ℕ → Bool → StoreView
+one_view g n nv head payload failed = record {
+  cells = 1;
+  held = λ k. one_held head.count payload;
+  failed = failed;
+  fills_open = λ k. next_is_open n head;
+  content = g.content nv;
+  size = g.size nv;
+  times = g.times nv;
+  meters = g.meters nv;
+}
+
+-- a commit to `cell` changes what this cell holds, and no other, or nothing
+pub record ChangesCell (cell : ℕ) (payload : List ℕ) (before now : StoreView) (result : Result (Unit {0}) StoreFail) : Type 0 where
+  pub here : OnOk result (now.held cell ≡ after_commit (before.held cell) payload)
+  pub others : (k : ℕ) → k < before.cells → k ≢ cell → now.held k ≡ before.held k
+  pub unchanged : OnErr result (now.held cell ≡ before.held cell)
+  pub cells : now.cells ≡ before.cells
+  pub failed : now.failed ≡ (before.failed || ends_failed result)
+
+-- what the storage may show of it
+pub record ShowsChange (tells : Type 0) (L slots cell : ℕ) (payload : List ℕ) (before now : StoreView) (result : Result (Unit {0}) StoreFail) : Type 0 where
+  -- each image since the call began shows what was before, or the new payload in this cell
+  pub any_moment : tells → before.failed ≡ false → (c : List ℕ) → now.times.since before.times.moment c
+      → Between L slots before.cells cell before.held payload c
+  pub time : tells → Elapses before.times now.times
+  -- after Ok the only image shows what the store holds then
+  pub shows : tells → OnOk result (OnlyShows L slots now.cells now.held now.times now.content)
+  -- Worn and Failed leave it alone
+  pub untouched : tells → (IsErrOf result Worn ⊎ IsErrOf result Failed) → Rests before.content now.content before.times now.times
+
+-- what a commit of a payload to a store with cells of so many slots did
+pub record CommitsCell (tells : Type 0) (L slots cell : ℕ) (payload : List ℕ) (before now : StoreView) (result : Result (Unit {0}) StoreFail) : Type 0 where
+  pub held : ChangesCell cell payload before now result
+  pub images : ShowsChange tells L slots cell payload before now result
+  pub size : now.size ≡ before.size
+  pub causes : Causes before.meters now.meters before.failed (count_of (before.held cell)) result
+  -- of an armed fuse a commit that succeeds uses six calls, four where the slot that it fills was closed
+  pub calls : OnOk result (UsesExactly (commit_calls (before.fills_open cell)) before.meters.fuse now.meters.fuse)
+  pub free : (IsErrOf result Worn ⊎ IsErrOf result Failed) → now.meters ≡ before.meters

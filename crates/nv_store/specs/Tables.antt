@@ -1,9 +1,10 @@
 -- The cells of a table: what is known of each, and its payload.
-use Rattle.std.specs.Prelude.{◌≡◌, ℕ, ◌+◌, ◌*◌, ◌<◌, List, Bool, false, slice_get, Option, Some, None}
+use Rattle.std.specs.Prelude.{◌≡◌, ℕ, ◌+◌, ◌*◌, ◌<◌, List, Bool, false, length, slice_get, Option, Some, None}
+use Rattle.nv_model.specs.declared.nv.Nv.{Ghosts}
 use Rattle.nv_model.specs.Moments.{Times, Only}
 use Rattle.nv_store.specs.Slot.{Held, slots_at}
 use Rattle.nv_store.specs.Cells.{Known}
-use Rattle.nv_store.specs.Store.{one_held, next_is_open}
+use Rattle.nv_store.specs.Store.{StoreView, one_held, next_is_open}
 use Rattle.nv_store.specs.declared.head.Head.{Head}
 
 -- what a cell of this head and payload holds
@@ -21,6 +22,19 @@ row_is_open None = false
 
 abbrev pub cell_is_open : List Head → ℕ → Bool
 cell_is_open heads k = row_is_open (slice_get heads k)
+
+-- what contracts see of a table
+abbrev pub table_view : {N : Type 0} → Ghosts N → N → List Head → List (List ℕ) → Bool → StoreView
+table_view g nv heads payloads failed = record {
+  cells = length heads;
+  held = table_held heads payloads;
+  failed = failed;
+  fills_open = cell_is_open heads;
+  content = g.content nv;
+  size = g.size nv;
+  times = g.times nv;
+  meters = g.meters nv;
+}
 
 -- of each of the first cells its head and its payload are known
 pub record TableKnown (size n cells : ℕ) (image : List ℕ) (heads : List Head) (payloads : List (List ℕ)) : Type 0 where

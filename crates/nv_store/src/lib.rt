@@ -22,6 +22,6 @@ pub use head::Head;
 pub use lent::{commit_lent, mount_lent};
 pub use one::Cell;
 pub use room::Room;
-pub use rooms::{commit_room, count_room, get_room, is_room_worn, mount_room};
+pub use rooms::{clear_room, commit_room, count_room, get_room, is_room_worn, mount_room};
 pub use store::Store;
 pub use table::{MountFail, Table};

@@ -1,11 +1,8 @@
 //! One cell of two slots.
-ghost use Rattle.std.specs.Prelude.{◌≡◌, ◌≢◌, ◌+◌, ◌*◌, ◌≤◌, ◌<◌, ℕ, Option, IfOk, IfErr, MatchResult, Some, None, false};
-ghost use Rattle.nv_model.specs.Moments.{Only};
+ghost use Rattle.std.specs.Prelude.{◌≡◌, ◌+◌, ◌*◌, ◌≤◌, ◌<◌, Some, false};
 ghost use Rattle.nv_store.specs.declared.TheConstants.{MOST_BYTES};
-ghost use Rattle.nv_store.specs.Slot.{slots_at};
-ghost use Rattle.nv_store.specs.Store.{one_held, OnlyShows, Holds, next_is_open};
-ghost use Rattle.nv_store.specs.Mounts.{Mounts, MountCauses};
-ghost use Rattle.nv_store.specs.Scans.{IsMixed};
+ghost use Rattle.nv_store.specs.Store.{Holds, one_view};
+ghost use Rattle.nv_store.specs.Mounts.{MountsOne};
 
 use crate::causes::{MountCause, ends_failed};
 use crate::head::Head;
@@ -33,21 +30,7 @@ impl<N: Nv, const L: usize> Store<L> for Cell<N, L> {
 
     ghost slots = { 2 };
 
-    ghost cell_count = { λ s. 1 };
-
-    ghost held = { λ s k. one_held s.head.count s.payload };
-
-    ghost failed = { λ s. s.failed };
-
-    ghost next_is_open = { λ s cell. next_is_open 2 s.head };
-
-    ghost content = { λ s. N.content s.nv };
-
-    ghost size = { λ s. N.size s.nv };
-
-    ghost times = { λ s. N.times s.nv };
-
-    ghost meters = { λ s. N.meters s.nv };
+    ghost view = { λ s. one_view N.Nv 2 s.nv s.head s.payload s.failed };
 
     ghost use Rattle.nv_store.specs.Knows.{holds_shows};
 
@@ -86,18 +69,7 @@ impl<N: Nv, const L: usize> Cell<N, L> {
     pub fn mount(nv: N) -> Result<Cell<N, L>, (N, MountCause)>
         requires small { L ≤ MOST_BYTES }
         requires powered { (N.meters nv).lost ≡ false }
-
-        ensures size { N.size nv ≢ 16 * (5 + L) → result ≡ Err (nv, MountCause.Size (N.size nv)) }
-        ensures of_size { IfErr result (λ e. (n : ℕ) → e.1 ≡ MountCause.Size n → N.size nv ≢ 16 * (5 + L)) }
-        ensures mixed { N.tells → IfErr result (λ e. (k : ℕ) → e.1 ≡ MountCause.Mixed k
-            → (k ≡ 0) × Only (N.times e.0) (N.content e.0) × IsMixed 2 (slots_at L 0 (N.content e.0))) }
-
-        ensures mounts { N.tells → MatchResult result (λ cell. Mounts (N.times nv) (N.times (storage_of cell))) (λ e. Mounts (N.times nv) (N.times e.0)) }
-        ensures shows { N.tells → IfOk result (λ cell. OnlyShows L 2 1 (λ k. held_by cell) (N.times (storage_of cell)) (N.content (storage_of cell))) }
-        ensures works { IfOk result (λ cell. has_failed cell ≡ false) }
-        ensures causes { MatchResult result (λ cell. MountCauses (N.meters nv) (N.meters (storage_of cell)) None)
-            (λ e. MountCauses (N.meters nv) (N.meters e.0) (Some e.1)) }
-        ensures bytes { MatchResult result (λ cell. N.size (storage_of cell) ≡ N.size nv) (λ e. N.size e.0 ≡ N.size nv) }
+        ensures { MountsOne N.Nv L 2 storage_of held_by has_failed nv result }
     {
         let mut nv = nv;
         let mut payload = [0; L];

@@ -1,12 +1,7 @@
 //! Cells of two slots, one after the other.
-ghost use Rattle.std.specs.Prelude.{◌≡◌, ◌≢◌, ◌+◌, ◌*◌, ◌≤◌, ◌<◌, ◌^◌, ℕ, Option, length, IsErrAnd, IfOk, IfErr, MatchResult, Some, None, false};
-ghost use Rattle.nv_model.specs.Moments.{Only};
+ghost use Rattle.std.specs.Prelude.{◌≡◌, ◌+◌, ◌*◌, ◌≤◌, ◌<◌, ◌^◌, length, Some, false};
 ghost use Rattle.nv_store.specs.declared.TheConstants.{MOST_BYTES};
-ghost use Rattle.nv_store.specs.Slot.{slots_at, IsClear};
-ghost use Rattle.nv_store.specs.Scans.{IsMixed};
-ghost use Rattle.nv_store.specs.Store.{OnlyShows};
-ghost use Rattle.nv_store.specs.Mounts.{Mounts, MountCauses};
-ghost use Rattle.nv_store.specs.Tables.{TableHolds, PlacesInside, table_held, cell_is_open};
+ghost use Rattle.nv_store.specs.Tables.{TableHolds, PlacesInside, table_view};
 
 use crate::causes::{MountCause, store_fail};
 use crate::cells::{commit_cell, settle};
@@ -34,21 +29,7 @@ impl<N: Nv, const L: usize> Store<L> for Table<N, L> {
 
     ghost slots = { 2 };
 
-    ghost cell_count = { λ s. length s.room.heads.items };
-
-    ghost held = { λ s. table_held s.room.heads.items s.room.payloads.items };
-
-    ghost failed = { λ s. s.failed };
-
-    ghost next_is_open = { λ s. cell_is_open s.room.heads.items };
-
-    ghost content = { λ s. N.content s.nv };
-
-    ghost size = { λ s. N.size s.nv };
-
-    ghost times = { λ s. N.times s.nv };
-
-    ghost meters = { λ s. N.meters s.nv };
+    ghost view = { λ s. table_view N.Nv s.nv s.room.heads.items s.room.payloads.items s.failed };
 
     ghost use Rattle.nv_store.specs.TableKnows.{table_only};
 
@@ -100,29 +81,14 @@ pub struct MountFail<N, const L: usize> {
 
 impl<N: Nv, const L: usize> Table<N, L> {
     ghost use Rattle.nv_store.specs.RoomView.{cells_of};
-    ghost use Rattle.nv_store.specs.TableView.{storage_of, cell_count, held_by, has_failed};
+    ghost use Rattle.nv_store.specs.TableView.{storage_of, cell_count};
+    ghost use Rattle.nv_store.specs.TableMounts.{MountsTable};
 
     /// Mounts as many cells as the room is for, in storage of `2·(5+L)` bytes a cell.
     pub fn mount(nv: N, room: Room<L>) -> Result<Table<N, L>, MountFail<N, L>>
         requires small { L ≤ MOST_BYTES }
         requires powered { (N.meters nv).lost ≡ false }
-
-        ensures size { N.size nv ≢ cells_of room.entry * (2 * (5 + L)) → IsErrAnd result (λ e. (e.nv ≡ nv) × (e.cause ≡ MountCause.Size (N.size nv))) }
-        ensures of_size { IfErr result (λ e. (n : ℕ) → e.cause ≡ MountCause.Size n → N.size nv ≢ cells_of room.entry * (2 * (5 + L))) }
-
-        // Mixed names the first cell that is mixed.
-        ensures mixed { N.tells → IfErr result (λ e. (k : ℕ) → e.cause ≡ MountCause.Mixed k
-            → Only (N.times e.nv) (N.content e.nv) × (k < cells_of room.entry) × IsMixed 2 (slots_at L (k * (2 * (5 + L))) (N.content e.nv))) }
-        ensures least { N.tells → IfErr result (λ e. (k : ℕ) → e.cause ≡ MountCause.Mixed k
-            → (j : ℕ) → j < k → IsClear 2 (slots_at L (j * (2 * (5 + L))) (N.content e.nv))) }
-
-        ensures cells { MatchResult result (λ table. cell_count table ≡ cells_of room.entry) (λ e. cells_of e.room ≡ cells_of room.entry) }
-        ensures mounts { N.tells → MatchResult result (λ table. Mounts (N.times nv) (N.times (storage_of table))) (λ e. Mounts (N.times nv) (N.times e.nv)) }
-        ensures shows { N.tells → IfOk result (λ table. OnlyShows L 2 (cell_count table) (held_by table) (N.times (storage_of table)) (N.content (storage_of table))) }
-        ensures works { IfOk result (λ table. has_failed table ≡ false) }
-        ensures causes { MatchResult result (λ table. MountCauses (N.meters nv) (N.meters (storage_of table)) None)
-            (λ e. MountCauses (N.meters nv) (N.meters e.nv) (Some e.cause)) }
-        ensures bytes { MatchResult result (λ table. N.size (storage_of table) ≡ N.size nv) (λ e. N.size e.nv ≡ N.size nv) }
+        ensures { MountsTable nv room.entry result }
     {
         let mut nv = nv;
         let size = nv.size();

@@ -61,8 +61,8 @@ fn storage(alloc: Global, size: usize) -> Option<Fused<MemNv>>
 
 /// Commits the numbers from 1 to `commits`.
 fn fill<S: Store<4>>(store: &mut S, cell: u32, commits: u8) -> bool
-    requires { cell < S.cell_count store.old }
-    ensures { S.cell_count store.new ≡ S.cell_count store.old }
+    requires { cell < (S.view store.old).cells }
+    ensures { (S.view store.new).cells ≡ (S.view store.old).cells }
 {
     for made in 0..commits {
         if store.commit(cell, &[made + 1; 4]).is_err() {
@@ -74,8 +74,8 @@ fn fill<S: Store<4>>(store: &mut S, cell: u32, commits: u8) -> bool
 
 /// Makes the commit that is cut: whether it answers Power, and the next one Failed.
 fn cut_short<S: Store<4>>(store: &mut S, cell: u32) -> bool
-    requires { cell < S.cell_count store.old }
-    ensures { S.cell_count store.new ≡ S.cell_count store.old }
+    requires { cell < (S.view store.old).cells }
+    ensures { (S.view store.new).cells ≡ (S.view store.old).cells }
 {
     store.commit(cell, &[200; 4]) == Err(StoreFail::Power)
         && store.commit(cell, &[201; 4]) == Err(StoreFail::Failed)
@@ -83,7 +83,7 @@ fn cut_short<S: Store<4>>(store: &mut S, cell: u32) -> bool
 
 /// The first byte of a payload.
 fn first_of<S: Store<4>>(store: &S, cell: u32) -> u8
-    requires { cell < S.cell_count store.now }
+    requires { cell < (S.view store.now).cells }
 {
     match store.get(cell) {
         Some(payload) => payload[0],
@@ -93,7 +93,7 @@ fn first_of<S: Store<4>>(store: &S, cell: u32) -> u8
 
 /// What a store shows.
 fn look<S: Store<4>>(store: &mut S, cell: u32, power: bool) -> Seen
-    requires { cell < S.cell_count store.old }
+    requires { cell < (S.view store.old).cells }
 {
     Seen {
         power,

@@ -42,9 +42,6 @@ bounds_of y m d h =
 
 -- ---- reading
 
-digit_cell : (a b n : ℕ) → 48 ≤ a → a ≤ 57 → n % 10 ≡ a - 48 → 48 + n % 10 ≡ a
-digit_cell a b n h k e = omega (arith, h, k, e)
-
 pub cells_of : (text : List ℕ) → length text ≡ 10
     → text ≡ get_or text 0 0 ∷ get_or text 1 0 ∷ get_or text 2 0 ∷ get_or text 3 0 ∷ get_or text 4 0 ∷ get_or text 5 0 ∷ get_or text 6 0 ∷ get_or text 7 0 ∷ get_or text 8 0 ∷ get_or text 9 0 ∷ []
 cells_of (a ∷ b ∷ c ∷ d ∷ e ∷ f ∷ g ∷ h ∷ i ∷ j ∷ []) n = refl

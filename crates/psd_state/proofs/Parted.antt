@@ -10,7 +10,7 @@ use Rattle.bench_base.proofs.Tables.{row-values, values-row, values-fit, length-
 use Rattle.indicium.specs.declared.Mark.{Mark}
 use Rattle.indicium.specs.Marks as marks
 use Rattle.indicium.proofs.Readings.{length-spell, read-spell}
-use Rattle.psd_wire.specs.Grammar.{sum_size, body}
+use Rattle.psd_wire.specs.Grammar.{body}
 use Rattle.psd_wire.proofs.Readings.{length-request, one-spelling, request_room, request_room-le, length-body_of, one-body, request_version}
 use Rattle.registers.specs.Sums.{Sums}
 use Rattle.bench_base.specs.declared.words.Phase.{Phase}
@@ -238,27 +238,8 @@ same-mark key n (Some q) (Some r) v w f g e =
     let pairs = ok_same (sym (read-spell q key v) ∙ ap marks.read_mark e ∙ read-spell r key w) in
     ap (λ (x : Mark × List ℕ). Some x.0) pairs
 
-pub signed-again : (v : ℕ) (f : Fields) (bytes : List ℕ) → f ≡ fields_at v bytes → (cast_signed w32 (cast_unsigned w32 f.deadline) ≡ f.deadline) × (cast_signed w32 (cast_unsigned w32 f.last_day) ≡ f.last_day)
-unfolding fields_at
-signed-again v f bytes e = (
-  to_z-of_z w32 f.deadline (subst (λ (x : Fields). FitsSigned w32 x.deadline) (sym e) (read_sfits w32 _)),
-  to_z-of_z w32 f.last_day (subst (λ (x : Fields). FitsSigned w32 x.last_day) (sym e) (read_sfits w32 _)),
-)
-
 abbrev fields : ℕ → ℕ → List ℕ → ℕ → ℕ → ℕ → ℕ → ℕ → ℤ → ℤ → ℕ → ℕ → ℕ → Fields
 fields d p key x y z n i t u c o f = record { device = d; phase = p; key = key; ascending = x; descending = y; refunded = z; pieces = n; number = i; deadline = t; last_day = u; customer = c; origin = o; pending = f }
-
-pub fields-made : (v : ℕ) (f : Fields) (d : ℕ) (p : Phase) (r : Sums) (t u : ℤ) (o : Option Request) (k : Option Mark)
-    → f.device ≡ d → phase_byte v p ≡ f.phase → r ≡ sums_of f → t ≡ f.deadline → u ≡ f.last_day → flag_of o ≡ f.pending
-    → f ≡ fields_of v (record { device = d; phase = p; key = f.key; registers = r; number = f.number; deadline = t; last_day = u; customer = f.customer; origin = f.origin; pending = o; mark = k })
-fields-made v f d p r t u o k hd hp hr ht hu ho =
-    let a : f.ascending ≡ r.ascending = ap (λ (x : Sums). x.ascending) (sym hr) in
-    let b : f.descending ≡ r.descending = ap (λ (x : Sums). x.descending) (sym hr) in
-    let c : f.refunded ≡ r.refunded = ap (λ (x : Sums). x.refunded) (sym hr) in
-    let n : f.pieces ≡ r.pieces = ap (λ (x : Sums). x.pieces) (sym hr) in
-    let whole : fields f.device f.phase f.key f.ascending f.descending f.refunded f.pieces f.number f.deadline f.last_day f.customer f.origin f.pending
-    ≡ fields d (phase_byte v p) f.key r.ascending r.descending r.refunded r.pieces f.number t u f.customer f.origin (flag_of o) = cc in
-    whole
 
 -- the numbers of a record fit where those that were written do, whatever stands for the days
 pub fits-of : (s : State) (flag x y : ℕ) → Fit head_table (head 2 s) → length s.key ≡ 32 → flag ≡ flag_of s.pending

@@ -23,7 +23,7 @@ use Rattle.ledger_terms.specs.Franking.{mark_after, kept}
 use Rattle.psd_wire.proofs.Readings.{read-spell}
 use Rattle.psd_state.specs.State.{State, IsAmount}
 use Rattle.psd_state.specs.Answers as answers
-use Rattle.psd_state.specs.Answers.{after_ask, after_debit, after_apply, made_state}
+use Rattle.psd_state.specs.Answers.{after_ask, after_debit, after_apply}
 use Rattle.psd_state.specs.Records.{state_of}
 
 pub request_in-spell : (q : Request) (key : List ℕ) → grammar.IsWhole (m.Request q) → request_in (grammar.spell (m.Request q) key) ≡ q

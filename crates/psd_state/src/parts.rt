@@ -1,5 +1,5 @@
 //! The parts of a payload, written and read one by one.
-ghost use Rattle.std.specs.Prelude.{◌≡◌, ◌↔◌, ◌≤◌, ◌<◌, ◌+◌, ◌∷◌, [], Option, Some, None, IsSome, IfSome, IfNone, IsTrue, ℕ, List, length, take, replicate, true, FitsSigned};
+ghost use Rattle.std.specs.Prelude.{◌≡◌, ◌↔◌, ◌≤◌, ◌<◌, ◌∷◌, [], Option, Some, None, IfSome, IfNone, IsTrue, ℕ, List, length, replicate, true, FitsSigned};
 ghost use Rattle.std.specs.Int.{w32};
 ghost use Rattle.bench_base.specs.Rules.{IsVersion};
 ghost use Rattle.bench_base.specs.Table.{row, Fit};

@@ -4,7 +4,7 @@ ghost use Rattle.std.specs.Int.{w32};
 ghost use Rattle.bench_base.specs.Rules.{IsVersion};
 ghost use Rattle.registers.specs.Sums.{Sound, total};
 ghost use Rattle.psd_state.specs.State.{State, Holds, PendingOk, MarkOk, IsAmount, kept_code};
-ghost use Rattle.psd_state.specs.Payload.{bytes_of, spelled, pending_part, mark_part, fields_of as fields_in, Ranges, IsOld, ReadsAs, PendingWhole, MarkWhole, IsKeptAt, flag_of, sums_of};
+ghost use Rattle.psd_state.specs.Payload.{bytes_of, spelled, pending_part, mark_part, fields_of as fields_in, Ranges, IsOld, ReadsAs, PendingWhole, MarkWhole, flag_of, sums_of};
 ghost use Rattle.ledger_terms.specs.Rulings.{buys_limit as limit_of};
 
 use crate::page::Page;

@@ -99,14 +99,6 @@ pub byte_of : (at : ℕ) (bytes : List ℕ) → number One (take 1 (drop at byte
 unfolding number
 byte_of at bytes = get_or-take 1 (drop at bytes) 0 0 (omega arith) ∙ get_or-drop at bytes 0 0 ∙ ap (λ i. get_or bytes i 0) (omega arith)
 
-pub four_of : (bytes : List ℕ) → number Four bytes ≡ from_be_bytes w32 bytes
-unfolding number
-four_of bytes = refl
-
-pub eight_of : (bytes : List ℕ) → number Eight bytes ≡ from_be_bytes w64 bytes
-unfolding number
-eight_of bytes = refl
-
 -- == versions ==
 
 known : (v : ℕ) → is_version v ≡ true → IsVersion v

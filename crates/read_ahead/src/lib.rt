@@ -1,7 +1,7 @@
 //! A source that reads ahead of another, so that a read of one byte is a look into a buffer.
 #![tactic(auto)]
 
-ghost use Rattle.std.specs.Prelude.{◌≡◌, ◌-◌, ◌≤◌, ◌<◌, min, length, take, drop, vec_len, [], Some, OnOk, MatchResult};
+ghost use Rattle.std.specs.Prelude.{◌≡◌, ◌-◌, ◌≤◌, ◌<◌, min, length, take, drop, vec_len, OnOk};
 ghost use Rattle.std.specs.Io.KnownBytes.{prepend_known, Keeps, IsAtEnd};
 ghost use Rattle.bench_base.specs.Causes.{HasCause};
 

@@ -78,6 +78,3 @@ none_behind (Some x) most v w rest h small range front is = tt
 none_behind None most v w rest h small range front is = λ n fits e.
     let inner : rest ≡ decimal n = cc in
     none_within None most v rest h small range is n fits inner
-
-pub no_rest : (w rest : List ℕ) → w ≡ 100 ∷ rest → ((n : ℕ) → n < 2 ^ 32 → rest ≢ decimal n) → (n : ℕ) → n < 2 ^ 32 → w ≢ 100 ∷ decimal n
-no_rest w rest front none n h e = let inner : rest ≡ decimal n = cc in none n h inner

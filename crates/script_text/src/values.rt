@@ -1,8 +1,8 @@
 //! What the words of a line read as.
-ghost use Rattle.std.specs.Prelude.{◌≡◌, ◌≢◌, ℕ, List, ◌<◌, ◌≤◌, ◌^◌, ◌++◌, codes, decimal, length, [], ◌∷◌, IfSome, IfNone};
+ghost use Rattle.std.specs.Prelude.{◌≡◌, ◌≢◌, ℕ, List, ◌<◌, ◌≤◌, ◌^◌, codes, decimal, length, [], IfSome, IfNone};
 ghost use Rattle.bench_base.specs.Table.{IsBytes};
 ghost use Rattle.script_text.specs.Words.{device_word, node_word, hex_word, byte_word, given_word, kind_word};
-ghost use Rattle.bench_base.specs.Ranges.{IsWord, IsDevice, IsCustomer, IsNode, IsKey, IsGiven};
+ghost use Rattle.bench_base.specs.Ranges.{IsDevice, IsCustomer, IsNode, IsKey, IsGiven};
 
 use crate::digits::{number, read_hex};
 use crate::word::{Word, after};

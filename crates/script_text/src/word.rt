@@ -1,7 +1,6 @@
 //! The words of a line, and what each kind of word reads as.
-ghost use Rattle.std.specs.Prelude.{◌≡◌, ◌≢◌, ℕ, List, [], ◌∷◌, ◌++◌, ◌<◌, ◌^◌, decimal, IfSome, IfNone, MatchOption};
-ghost use Rattle.script_text.specs.Words.{words_in, device_word};
-ghost use Rattle.bench_base.specs.Ranges.{IsDevice};
+ghost use Rattle.std.specs.Prelude.{◌≡◌, ◌≢◌, ℕ, List, [], ◌∷◌, ◌++◌, ◌<◌, IfSome, IfNone, MatchOption};
+ghost use Rattle.script_text.specs.Words.{words_in};
 
 use bench_base::numbers::DevNo;
 

@@ -16,44 +16,22 @@ settled-history =
     row-history sample first_rules [] rows.settling_steps rows.reply_lost_start rows.settled_ledger settling-row
     (row-history sample first_rules [] rows.first_steps [] rows.reply_lost_start first-row nothing)
 
-pub returns-clause-first : goal.returns-clause-first
-returns-clause-first c = first-row
+pub returns-clause-path : goal.returns-clause-path
+returns-clause-path c = record {
+  first = first-row;
+  settling = settling-row;
+  ordinary = ordinary-row;
+  history = row-history sample first_rules [] rows.ordinary_steps rows.settled_ledger rows.ordinary_ledger ordinary-row settled-history;
+}
 
-pub returns-clause-settling : goal.returns-clause-settling
-returns-clause-settling c = settling-row
-
-pub returns-clause-ordinary : goal.returns-clause-ordinary
-returns-clause-ordinary c = ordinary-row
-
-pub returns-clause-history : goal.returns-clause-history
-returns-clause-history c =
-    row-history sample first_rules [] rows.ordinary_steps rows.settled_ledger rows.ordinary_ledger ordinary-row settled-history
-
-pub returns-clause-lost : goal.returns-clause-lost
-returns-clause-lost c = lost-row
-
-pub returns-clause-refund : goal.returns-clause-refund
-returns-clause-refund c = refund-row
-
-pub returns-clause-withdrawal : goal.returns-clause-withdrawal
-returns-clause-withdrawal c = withdrawal-row
-
-pub returns-clause-funds : goal.returns-clause-funds
-returns-clause-funds c = funds-row
+pub returns-clause-requests : goal.returns-clause-requests
+returns-clause-requests c = record { lost = lost-row; refund = refund-row; withdrawal = withdrawal-row; funds = funds-row }
 
 pub returns-clause-refusals : goal.returns-clause-refusals
-returns-clause-refusals c = refusals-row
-
-pub returns-clause-scans : goal.returns-clause-scans
-returns-clause-scans c = scans-row
-
-pub returns-clause-checks : goal.returns-clause-checks
-returns-clause-checks c = checks-row
+returns-clause-refusals c = record { refusals = refusals-row; scans = scans-row; checks = checks-row }
 
 pub returns-clause-today : goal.returns-clause-today
-returns-clause-today c = today-row
-
-pub returns-clause-goes_on : goal.returns-clause-goes_on
-returns-clause-goes_on c =
-    row-history sample todays_rules (wide_rules ∷ first_rules ∷ []) today_steps rows.settled_ledger today_ledger today-row
-    (earlier (earlier settled-history))
+returns-clause-today c = record {
+  today = today-row;
+  goes_on = row-history sample todays_rules (wide_rules ∷ first_rules ∷ []) today_steps rows.settled_ledger today_ledger today-row (earlier (earlier settled-history));
+}

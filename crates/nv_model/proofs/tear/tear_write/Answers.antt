@@ -17,8 +17,8 @@ returns-then-is_ok-clause-part g c tells =
     let kept = c.min-kept.result in
     let short : kept ≤ n = omega (arith, c.min-kept.ensures) in
     let first : Part at n (times c.args.nv.now) (times c.write.new.self) = record {
-      images = tears_wider at n at (length (take kept c.args.bytes.now)) (g.N.Nv.times c.args.nv.now) (g.N.Nv.times c.write.new.self) (omega arith) (omega (arith, length-take-le kept c.args.bytes.now short)) (c.write.ensures.images tells);
-      time = c.write.ensures.time tells;
+      images = tears_wider at n at (length (take kept c.args.bytes.now)) (g.N.Nv.times c.args.nv.now) (g.N.Nv.times c.write.new.self) (omega arith) (omega (arith, length-take-le kept c.args.bytes.now short)) (c.write.ensures.did.images tells);
+      time = c.write.ensures.did.time tells;
     } in
     let second : Part at n (times c.write.new.self) (times c.fill_and_sync.new.nv) = part_wider at n (omega arith) (omega arith) (c.fill_and_sync.ensures.part tells) in
     part_twice (nested c.write.new.self) (nested c.fill_and_sync.new.nv) first second
@@ -35,7 +35,7 @@ returns-then-is_ok-clause-exact g c tells =
     let room : at + n ≤ length old = omega (arith, sized, c.requires.room) in
     let is : k ≡ min c.args.keep n = c.min-kept.ensures in
     let ok : is_ok c.write.result ≡ true = search rules in
-    let wrote : g.N.Nv.content c.write.new.self ≡ laid old at (take k bytes) = on_true c.write.result ok (c.write.ensures.written tells) in
+    let wrote : g.N.Nv.content c.write.new.self ≡ laid old at (take k bytes) = on_true c.write.result ok (c.write.ensures.did.written tells) in
     let exact : laid (laid old at (take k bytes)) (at + k) run ≡ torn old at bytes c.args.keep c.args.byte =
     subst (λ (m : ℕ). laid (laid old at (take m bytes)) (at + m) (replicate (n - m) c.args.byte) ≡ torn old at bytes c.args.keep c.args.byte) (sym is) (kept_then old at bytes c.args.keep c.args.byte room) in
     ⊎_elim (λ e. inl (e ∙ ap (λ (l : List ℕ). laid l (at + k) run) wrote ∙ exact))
@@ -49,6 +49,6 @@ returns-else-is_ok-clause-part g c tells =
     let kept = c.min-kept.result in
     let short : kept ≤ n = omega (arith, c.min-kept.ensures) in
     record {
-      images = tears_wider at n at (length (take kept c.args.bytes.now)) (g.N.Nv.times c.args.nv.now) (g.N.Nv.times c.write.new.self) (omega arith) (omega (arith, length-take-le kept c.args.bytes.now short)) (c.write.ensures.images tells);
-      time = c.write.ensures.time tells;
+      images = tears_wider at n at (length (take kept c.args.bytes.now)) (g.N.Nv.times c.args.nv.now) (g.N.Nv.times c.write.new.self) (omega arith) (omega (arith, length-take-le kept c.args.bytes.now short)) (c.write.ensures.did.images tells);
+      time = c.write.ensures.did.time tells;
     }

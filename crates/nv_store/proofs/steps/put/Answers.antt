@@ -10,10 +10,10 @@ returns-clause-puts g c tells =
     let old = times c.args.nv.now in
     let mid = times c.write.new.self in
     let new = times c.sync.new.self in
-    let first = c.write.ensures.time tells in
-    let second = c.sync.ensures.time tells in
+    let first = c.write.ensures.did.time tells in
+    let second = c.sync.ensures.did.time tells in
     record {
-      torn = torn_synced c.args.at (length c.args.bytes.now) (g.N.Nv.content c.args.nv.now) old mid new (g.met.N.Nv.nested c.write.new.self tells) (c.requires.alone tells) (c.write.ensures.images tells) first second (c.sync.ensures.images tells);
-      done = on_ok_weaker c.sync.result (λ same. same ∙ c.in_ok-write.ensures.written tells) (c.sync.ensures.same tells);
+      torn = torn_synced c.args.at (length c.args.bytes.now) (g.N.Nv.content c.args.nv.now) old mid new (g.met.N.Nv.nested c.write.new.self tells) (c.requires.alone tells) (c.write.ensures.did.images tells) first second (c.sync.ensures.did.images tells);
+      done = on_ok_weaker c.sync.result (λ same. same ∙ c.in_ok-write.ensures.did.written tells) (c.sync.ensures.did.same tells);
       time = elapses_twice old mid new (g.met.N.Nv.nested c.sync.new.self tells) first second;
     }

@@ -1,21 +1,25 @@
-use Rattle.std.proofs.Common.{ℕ, subst, arith}
-use Rattle.nv_store.specs.Store.{one_held, Between}
+use Rattle.std.proofs.Common.{arith, rules, true}
+use Rattle.nv_store.specs.Lent.{parts}
+use Rattle.nv_store.proofs.OneStore.{one_commits}
 use Rattle.nv_ring.proofs.ring.RingStore.commit.Goals as goal
 
 pub count-requires-clause-room : goal.count-requires-clause-room
-count-requires-clause-room g c = omega (arith, c.in-Ok.ensures.done.0, c.in-Ok.ensures.fits, c.args.self.now.wears.count)
+count-requires-clause-room g c = omega (arith, c.in-Ok.ensures.keeps.done.0, c.in-Ok.ensures.keeps.fits, c.args.self.now.wears.count)
 
-pub returns-in-Ok-clause-any_moment : goal.returns-in-Ok-clause-any_moment
-returns-in-Ok-clause-any_moment g c tells works i now =
+pub returns-in-Ok-clause-commits : goal.returns-in-Ok-clause-commits
+returns-in-Ok-clause-commits g c =
     let s = c.args.self.now in
-    subst (λ (cell : ℕ). Between g.row.L 16 1 cell (λ k. one_held s.head.count s.payload) c.args.payload.now i) (omega (arith, c.requires)) (c.commit_lent-done.ensures.any_moment tells i now)
+    let done = c.commit_lent-done in
+    one_commits g.N.Nv g.row.L 16 c.args.cell (parts s.nv s.head s.payload) (parts done.new.nv done.new.head done.new.kept) c.args.payload.now done.result s.failed c.if-self.false s.failed c.requires (search rules) done.ensures
 
-pub returns-in-Err-Power-clause-any_moment : goal.returns-in-Err-Power-clause-any_moment
-returns-in-Err-Power-clause-any_moment g c tells works i now =
+pub returns-in-Err-Power-clause-commits : goal.returns-in-Err-Power-clause-commits
+returns-in-Err-Power-clause-commits g c =
     let s = c.args.self.now in
-    subst (λ (cell : ℕ). Between g.row.L 16 1 cell (λ k. one_held s.head.count s.payload) c.args.payload.now i) (omega (arith, c.requires)) (c.commit_lent-done.ensures.any_moment tells i now)
+    let done = c.commit_lent-done in
+    one_commits g.N.Nv g.row.L 16 c.args.cell (parts s.nv s.head s.payload) (parts done.new.nv done.new.head done.new.kept) c.args.payload.now done.result s.failed c.if-self.false true c.requires (search rules) done.ensures
 
-pub returns-in-Err-Worn-clause-any_moment : goal.returns-in-Err-Worn-clause-any_moment
-returns-in-Err-Worn-clause-any_moment g c tells works i now =
+pub returns-in-Err-Worn-clause-commits : goal.returns-in-Err-Worn-clause-commits
+returns-in-Err-Worn-clause-commits g c =
     let s = c.args.self.now in
-    subst (λ (cell : ℕ). Between g.row.L 16 1 cell (λ k. one_held s.head.count s.payload) c.args.payload.now i) (omega (arith, c.requires)) (c.commit_lent-done.ensures.any_moment tells i now)
+    let done = c.commit_lent-done in
+    one_commits g.N.Nv g.row.L 16 c.args.cell (parts s.nv s.head s.payload) (parts done.new.nv done.new.head done.new.kept) c.args.payload.now done.result s.failed c.if-self.false s.failed c.requires (search rules) done.ensures

@@ -1,8 +1,9 @@
-use Rattle.std.proofs.Common.{ℕ, subst, arith}
-use Rattle.nv_store.specs.Store.{one_held, Between}
+use Rattle.nv_store.specs.Lent.{parts}
+use Rattle.nv_store.proofs.OneStore.{one_commits}
 use Rattle.nv_store.proofs.one.CellStore.commit.Goals as goal
 
-pub returns-clause-any_moment : goal.returns-clause-any_moment
-returns-clause-any_moment g c tells works i now =
+pub returns-clause-commits : goal.returns-clause-commits
+returns-clause-commits g c =
     let s = c.args.self.now in
-    subst (λ (cell : ℕ). Between g.row.L 2 1 cell (λ k. one_held s.head.count s.payload) c.args.payload.now i) (omega (arith, c.requires)) (c.commit_lent-done.ensures.any_moment tells i now)
+    let done = c.commit_lent-done in
+    one_commits g.N.Nv g.row.L 2 c.args.cell (parts s.nv s.head s.payload) (parts done.new.nv done.new.head done.new.kept) c.args.payload.now done.result s.failed c.if-self.false c.ends_failed-self.result c.requires c.ends_failed-self.ensures done.ensures
