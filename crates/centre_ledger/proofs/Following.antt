@@ -24,7 +24,7 @@ use Rattle.centre_ledger.specs.Answers.{last_ruling, stored_note, settle_answer,
 use Rattle.centre_ledger.specs.Order.{InOrder}
 use Rattle.centre_ledger.specs.Soundness.{IsSoundDevice}
 use Rattle.centre_ledger.specs.Rows.{enrolled_in, account, amount_shown, reply_by, buys_in, returns_in}
-use Rattle.centre_ledger.specs.Records.{IsRowOf, IsCustomerOf, registered_row, opened_row, PaysBy}
+use Rattle.centre_ledger.specs.Records.{IsRowOf}
 use Rattle.centre_ledger.specs.Laws.{RegisteringStarts, SettlingKeeps, OtherDevicesKeep, OpeningStarts, DepositingKeeps, FlaggingKeeps, OtherCustomersKeep, RulingByRows, RulingKeeps, IsSlotOf, AreSlots, BalancingByRows}
 
 some-none : {A : Type 0} {a : A} → Some a ≡ None → ⊥
@@ -40,17 +40,17 @@ either e d same other = ⊎_elim (λ (h : (e == d) ≡ true). same h (eqb-true e
 -- == devices ==
 
 -- the centre holds nothing of a device before its Registered
-record Nothing (d : ℕ) (C : List Commit) : Type 0 where
-  enrolled : enrolled d C ≡ None
-  withdrawn : withdrawn d C ≡ false
-  ruled : ruled d C ≡ 0
-  done : done d C ≡ 0
-  bought : bought d C ≡ 0
-  returned : returned d C ≡ 0
-  last : last_ruling d C ≡ None
-  reply : stored_reply d C ≡ None
+pub record Nothing (d : ℕ) (C : List Commit) : Type 0 where
+  pub enrolled : enrolled d C ≡ None
+  pub withdrawn : withdrawn d C ≡ false
+  pub ruled : ruled d C ≡ 0
+  pub done : done d C ≡ 0
+  pub bought : bought d C ≡ 0
+  pub returned : returned d C ≡ 0
+  pub last : last_ruling d C ≡ None
+  pub reply : stored_reply d C ≡ None
 
-nothing-before : (d : ℕ) (C : List Commit) → InOrder C → registered d C ≡ None → Nothing d C
+pub nothing-before : (d : ℕ) (C : List Commit) → InOrder C → registered d C ≡ None → Nothing d C
 nothing-before d [] o h = record { enrolled = refl; withdrawn = refl; ruled = refl; done = refl; bought = refl; returned = refl; last = refl; reply = refl }
 nothing-before d (Registered e origin key ∷ C) o h = either e d
     (λ t y. absurd (some-none (rw t at h)))
@@ -101,6 +101,15 @@ settles settled ruled n now h = go (nat_le n settled) (n == ruled) refl h
     go true u e k = absurd (cc)
     go false true e k = let same : n ≡ now = cc in sym same ∙ eqb-true n ruled e
     go false false e k = absurd (cc)
+
+-- and it is the number that was done
+pub settled-number : (settled ruled n now : ℕ) → settle_answer settled ruled n ≡ Ok (Some now) → now ≡ n
+settled-number settled ruled n now h = go (nat_le n settled) (n == ruled) h
+  where
+    go : (t u : Bool) → cond t (Ok None) (cond u (Ok (Some n)) (Err (no.Ahead ruled))) ≡ Ok (Some now) → now ≡ n
+    go true u k = absurd (cc)
+    go false true k = let same : n ≡ now = cc in sym same
+    go false false k = absurd (cc)
 
 pub settling : SettlingKeeps
 settling r C number now sound is h =
@@ -303,11 +312,11 @@ ruling-keeps r o left note C sound is device number pays v verdict_is =
 
 -- == a balance ==
 
-share-none : (f : Verdict → Request → ℕ) (d c : ℕ) (C : List Commit) → enrolled d C ≡ None → device_share f c C d ≡ 0
+pub share-none : (f : Verdict → Request → ℕ) (d c : ℕ) (C : List Commit) → enrolled d C ≡ None → device_share f c C d ≡ 0
 share-none f d c C h = ap (λ o. cond (is_some_at o c) (ruled_sum f d C) 0) h
 
 -- a device that is only registered bought nothing, and has no customer
-share-row : (f : Verdict → Request → ℕ) (sum : ℕ) (r : DeviceRow) (c : ℕ) (C : List Commit) → IsSoundDevice r → IsRowOf r C → 1 ≤ c → ruled_sum f r.device C ≡ sum → device_share f c C r.device ≡ cond (r.customer == c) sum 0
+pub share-row : (f : Verdict → Request → ℕ) (sum : ℕ) (r : DeviceRow) (c : ℕ) (C : List Commit) → IsSoundDevice r → IsRowOf r C → 1 ≤ c → ruled_sum f r.device C ≡ sum → device_share f c C r.device ≡ cond (r.customer == c) sum 0
 share-row f sum r c C sound is from_1 amount = ⊎_elim
     (λ (t : (r.state == 1) ≡ true).
     let none : enrolled r.device C ≡ None = is.enrolled ∙ ap (λ b. cond b None (Some r.customer)) t in

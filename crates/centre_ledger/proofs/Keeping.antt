@@ -28,13 +28,16 @@ use Rattle.centre_ledger.specs.Rows.{enrolled_in, account, amount_shown, deadlin
 
 -- == what a granted Request was found to be ==
 
-record WasGranted (a : Account) (q : Request) : Type 0 where
-  left : (not (same_kind q.kind Enrol) && has_left a.enrolled a.withdrawn) ≡ false
-  new : (same_kind q.kind Enrol && is_enrolled a.enrolled) ≡ false
-  sums : out_of_balance q a.bought a.returned ≡ false
-  opened : (same_kind q.kind Enrol && not a.opened) ≡ false
+pub and-then : (a b : Bool) → a ≡ true → (a && b) ≡ false → b ≡ false
+and-then a b t h = ap (λ x. x && b) (sym t) ∙ h
 
-granted : (a : Account) (q : Request) → is_granted (verdict_by a q).0 ≡ true → WasGranted a q
+pub record WasGranted (a : Account) (q : Request) : Type 0 where
+  pub left : (not (same_kind q.kind Enrol) && has_left a.enrolled a.withdrawn) ≡ false
+  pub new : (same_kind q.kind Enrol && is_enrolled a.enrolled) ≡ false
+  pub sums : out_of_balance q a.bought a.returned ≡ false
+  pub opened : (same_kind q.kind Enrol && not a.opened) ≡ false
+
+pub granted : (a : Account) (q : Request) → is_granted (verdict_by a q).0 ≡ true → WasGranted a q
 unfolding verdict_by
 granted a q h = go (not (same_kind q.kind Enrol) && has_left a.enrolled a.withdrawn) (same_kind q.kind Enrol && is_enrolled a.enrolled) (out_of_balance q a.bought a.returned) (same_kind q.kind Enrol && not a.opened) refl refl refl refl h
   where
@@ -67,6 +70,23 @@ short-of a q h = go (not (same_kind q.kind Enrol) && has_left a.enrolled a.withd
     go false false false false true z e k = absurd (cc)
     go false false false false false true e k = ltb-true a.balance q.amount (and_parts (same_kind q.kind Reset) (nat_lt a.balance q.amount) e).1
     go false false false false false false e k = absurd (cc)
+
+-- a granted reset is within the balance
+pub funded : (a : Account) (q : Request) → is_granted (verdict_by a q).0 ≡ true → same_kind q.kind Reset ≡ true → q.amount ≤ a.balance
+unfolding verdict_by
+funded a q h reset = go (not (same_kind q.kind Enrol) && has_left a.enrolled a.withdrawn) (same_kind q.kind Enrol && is_enrolled a.enrolled) (out_of_balance q a.bought a.returned) (same_kind q.kind Enrol && not a.opened) ((same_kind q.kind Enrol || same_kind q.kind Reset) && a.suspended) (same_kind q.kind Reset && nat_lt a.balance q.amount) refl h
+  where
+    given : (s t u x y z : Bool) → Verdict × ℕ
+    given s t u x y z = cond s (NotEnrolled, 0) (cond t (EnrolledAlready, 0) (cond u (Imbalance, a.bought) (cond x (NoCustomer, 0) (cond y (Suspended, 0) (cond z (NoFunds, a.balance) (Granted, q.amount))))))
+
+    go : (s t u x y z : Bool) → (same_kind q.kind Reset && nat_lt a.balance q.amount) ≡ z → is_granted (given s t u x y z).0 ≡ true → q.amount ≤ a.balance
+    go true t u x y z e k = absurd (true≢false (sym k))
+    go false true u x y z e k = absurd (true≢false (sym k))
+    go false false true x y z e k = absurd (true≢false (sym k))
+    go false false false true y z e k = absurd (true≢false (sym k))
+    go false false false false true z e k = absurd (true≢false (sym k))
+    go false false false false false true e k = absurd (true≢false (sym k))
+    go false false false false false false e k = ltb-false a.balance q.amount (and-then (same_kind q.kind Reset) (nat_lt a.balance q.amount) reset e)
 
 -- == the Reply ==
 
@@ -145,9 +165,6 @@ none-true : (b : Bool) (bs : List Bool) → any_true (b ∷ bs) ≡ false → (b
 none-true true bs h = absurd (true≢false h)
 none-true false bs h = (refl, h)
 
-and-then : (a b : Bool) → a ≡ true → (a && b) ≡ false → b ≡ false
-and-then a b t h = ap (λ x. x && b) (sym t) ∙ h
-
 none-of-3 : (a b c : Bool) → any_true (a ∷ b ∷ c ∷ []) ≡ false → c ≡ false
 none-of-3 a b c h = (none-true c [] (none-true b (c ∷ []) (none-true a (b ∷ c ∷ []) h).1).1).0
 
@@ -189,7 +206,7 @@ within version bought amount h =
     omega (arith, ltb-false (buys_limit version) (bought + amount) last, limit-long version)
 
 -- a reset empties nothing
-reset-fills : (k : Kind) → same_kind k Reset ≡ true → empties k ≡ false
+pub reset-fills : (k : Kind) → same_kind k Reset ≡ true → empties k ≡ false
 unfolding same_kind
 reset-fills Enrol h = refl
 reset-fills Reset h = refl
@@ -240,7 +257,7 @@ record Standing (s c b : ℕ) : Type 0 where
   enrolled : 2 ≤ s → IsCustomer c
 
 -- a device of which nothing is left was enrolled
-left-of : (s own : ℕ) → has_left (cond (s == 1) None (Some own)) (s == 3) ≡ false → s ≡ 1 → ⊥
+pub left-of : (s own : ℕ) → has_left (cond (s == 1) None (Some own)) (s == 3) ≡ false → s ≡ 1 → ⊥
 left-of s own h e = true≢false (sym (ap (λ b. has_left (cond b None (Some own)) (s == 3)) (eq-eqb s 1 e)) ∙ h)
 
 standing-of : (k : Kind) (g : Bool) (s own c bought amount : ℕ) → Standing s own bought

@@ -1,7 +1,7 @@
 -- Which rows there are, that the commit of each call comes in order, and that each new row meets the conditions of a row.
 use Rattle.std.proofs.Common.{◌≡◌, ℕ, ◌+◌, ◌≤◌, Bool, true, false, List, ◌∷◌, Option, Some, None, Ok, Err, cond, refl, sym, ap, ◌∙◌, true≢false, arith}
 use Rattle.std.specs.Prelude.{◌==◌, ◌&&◌, ◌||◌, not, nat_lt, IsSome, is_some}
-use Rattle.std.proofs.lemmas.Bool.{eqb-true, ltb-false, leb-false, not-false}
+use Rattle.std.proofs.lemmas.Bool.{eqb-true, ltb-false, not-false}
 use Rattle.bench_base.specs.declared.words.Verdict.{Verdict}
 use Rattle.bench_base.specs.declared.words.Node.TheVariants.{Centre}
 use Rattle.bench_base.specs.declared.refusals.CentreRefusal.TheVariants as no
@@ -64,19 +64,19 @@ slots = record {
 
 -- == the order ==
 
-record IsDeposit (last total n a after : ℕ) : Type 0 where
-  receipt : n ≡ last + 1
-  from_1 : 1 ≤ a
-  most : a ≤ 1000000000
-  room : total + a ≤ 1000000000000000
-  sum : after ≡ total + a
+pub record IsDeposit (last total n a after : ℕ) : Type 0 where
+  pub receipt : n ≡ last + 1
+  pub from_1 : 1 ≤ a
+  pub most : a ≤ 1000000000
+  pub room : total + a ≤ 1000000000000000
+  pub sum : after ≡ total + a
 
-either-false : (x y : Bool) → (x || y) ≡ false → (x ≡ false) × (y ≡ false)
+pub either-false : (x y : Bool) → (x || y) ≡ false → (x ≡ false) × (y ≡ false)
 either-false true y h = absurd (true≢false h)
 either-false false y h = (refl, h)
 
 -- what a deposit that is taken was found to be
-deposit-taken : (last : ℕ × ℕ) (total n a after : ℕ) → deposit_answer last total n a ≡ Ok (Some after) → IsDeposit last.0 total n a after
+pub deposit-taken : (last : ℕ × ℕ) (total n a after : ℕ) → deposit_answer last total n a ≡ Ok (Some after) → IsDeposit last.0 total n a after
 deposit-taken last total n a after h = go ((n == last.0) && nat_lt 0 n) (a == last.1) (not (n == last.0 + 1)) ((a == 0) || nat_lt 1000000000 a) (nat_lt 1000000000000000 (total + a)) refl refl refl h
   where
     go : (t u x y z : Bool) → not (n == last.0 + 1) ≡ x → ((a == 0) || nat_lt 1000000000 a) ≡ y → nat_lt 1000000000000000 (total + a) ≡ z

@@ -1,7 +1,14 @@
+pub mod ActLaws
+pub mod Acts
 pub mod Answers
+pub mod Books
 pub mod Laws
 pub mod Order
+pub mod Parts
+pub mod Payload
+pub mod PayloadLaws
 pub mod Records
 pub mod Rows
+pub mod Seen
 pub mod Soundness
 pub mod Standing

@@ -1,16 +1,35 @@
 //! The centre's rows and rules, without storage.
 #![tactic(auto)]
 
+mod accounts;
+mod acts;
 mod balances;
+#[cfg(test)]
+mod call_tests;
+mod customers;
+mod messages;
+mod page;
+mod payload;
 mod replies;
 mod rows;
 mod rulings;
 mod settling;
+mod soundness;
+mod standing;
+mod taking;
+#[cfg(test)]
+mod tests;
 mod theorems;
 
-pub use balances::balance_of;
+pub use accounts::Accounts;
+pub use acts::{
+    CentreAct, Deposit, balance_act, deposit_act, flag_act, open_act, register_act, standing_act,
+};
+pub use balances::{Balances, balance_of};
 pub use replies::ruled;
-pub use rows::{CustomerRow, DeviceRow, ENROLLED, REGISTERED, WITHDRAWN};
+pub use rows::{CustomerRow, DeviceRow, ENROLLED, REGISTERED, Row, WITHDRAWN};
 pub use rulings::verdict;
 pub use settling::{deposited, is_repeat, settled};
-pub use theorems::rows_follow_the_commits;
+pub use standing::Standing;
+pub use taking::{CentreAnswer, take_act};
+pub use theorems::{acts_follow_the_commits, one_row, rows_follow_the_commits};

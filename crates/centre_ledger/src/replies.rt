@@ -18,7 +18,7 @@ use psd_wire::{Message, ReplyMsg, Request, read_message, write_message};
 /// How many days after its request a reply lets the device debit.
 const DAYS: i32 = 92;
 
-fn is_granted(verdict: Verdict) -> bool
+pub fn is_granted(verdict: Verdict) -> bool
     ensures { result ≡ kinds.is_granted verdict }
 {
     matches!(verdict, Verdict::Granted)
@@ -99,7 +99,7 @@ fn customer_after(customer: u32, verdict: Verdict, request: &Request) -> u32
 }
 
 #[tactic(auto, unfolding(bench_base::specs::Kinds::same_kind, ledger_terms::specs::Sums::adds))]
-fn adds(verdict: Verdict, request: &Request) -> u64
+pub fn adds(verdict: Verdict, request: &Request) -> u64
     ensures exact { result ≡ sums.adds verdict request.now }
     ensures most { result ≤ request.now.amount }
 {
@@ -111,7 +111,7 @@ fn adds(verdict: Verdict, request: &Request) -> u64
 }
 
 #[tactic(auto, unfolding(bench_base::specs::Kinds::same_kind, ledger_terms::specs::Sums::takes))]
-fn takes(verdict: Verdict, request: &Request) -> u64
+pub fn takes(verdict: Verdict, request: &Request) -> u64
     ensures exact { result ≡ sums.takes verdict request.now }
     ensures most { result ≤ request.now.amount }
 {
@@ -123,7 +123,7 @@ fn takes(verdict: Verdict, request: &Request) -> u64
 }
 
 // The row with the ruling on this request.
-fn ruled_on(
+pub fn ruled_on(
     row: &DeviceRow,
     request: &Request,
     bytes: &Note,

@@ -44,3 +44,10 @@ pub struct CustomerRow {
     pub receipt: u32,
     pub amount: u32,
 }
+
+/// A row of the centre, of a device or of a customer.
+#[derive(Clone, Copy)]
+pub enum Row {
+    Device(DeviceRow),
+    Customer(CustomerRow),
+}

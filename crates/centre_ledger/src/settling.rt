@@ -8,10 +8,10 @@ use crate::rows::{CustomerRow, DeviceRow};
 use bench_base::refusals::CentreRefusal;
 
 /// The most that may be deposited at once, in mills.
-const DEPOSIT_LIMIT: u32 = 1_000_000_000;
+pub const DEPOSIT_LIMIT: u32 = 1_000_000_000;
 
 /// The most that the deposits of a customer may come to, in mills.
-const DEPOSITS_LIMIT: u64 = 1_000_000_000_000_000;
+pub const DEPOSITS_LIMIT: u64 = 1_000_000_000_000_000;
 
 /// The row after the transaction of this number is done; None where it was settled already.
 ///

@@ -1,5 +1,7 @@
 //! What holds of all lists of commits and all rows, as contracts of functions that do nothing.
+ghost use Rattle.centre_ledger.specs.ActLaws.{ActsLeaveSound, ActsFollow, ActsArePlanned};
 ghost use Rattle.centre_ledger.specs.Laws.{DeviceRows, CustomerRows, SlotLaws, OrderLaws, SoundLaws, Rulings, StandingByRows};
+ghost use Rattle.centre_ledger.specs.PayloadLaws.{PayloadLaws};
 
 /// The rows of the centre follow from the commits:
 ///
@@ -17,4 +19,21 @@ pub fn rows_follow_the_commits()
     ensures sound { SoundLaws }
     ensures rulings { Rulings }
     ensures standing { StandingByRows }
+{}
+
+/// What the centre's calls do by its rows:
+///
+/// - `sound`: where a call commits a row, it is a commit of the centre, and the rows with that one are sound, also together;
+/// - `follows`: where the rows are those of the commits before, they are then those of the commits and that one;
+/// - `planned`: what a call does by these rows is what the ledger plans for it over the commits.
+pub fn acts_follow_the_commits()
+    ensures sound { ActsLeaveSound }
+    ensures follows { ActsFollow }
+    ensures planned { ActsArePlanned }
+{}
+
+/// No payload reads as two rows of devices, whatever its version, or as two rows of customers; what is written for a
+/// row reads as that row; and what reads as a row has 192 bytes.
+pub fn one_row()
+    ensures { PayloadLaws }
 {}

@@ -1,4 +1,5 @@
 pub mod Answered
+pub mod Centres
 pub mod Histories
 pub mod Lawfulness
 pub mod Nexts

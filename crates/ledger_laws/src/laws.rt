@@ -1,11 +1,12 @@
 //! The laws of histories, each as a contract of a function that takes and answers nothing.
-ghost use Rattle.std.specs.Prelude.{◌≡◌, ℕ, List, [], ◌∷◌, Some};
+ghost use Rattle.std.specs.Prelude.{◌≡◌, ℕ, List, [], ◌∷◌, Some, All, IsSome, true};
 ghost use Rattle.bench_base.specs.declared.words.Node.{Node};
 ghost use Rattle.bench_base.specs.declared.ledger.Commit.{Commit};
 ghost use Rattle.bench_base.specs.declared.events.Event.{Event};
 ghost use Rattle.bench_base.specs.Rules.{first_rules, editions};
-ghost use Rattle.bench_base.specs.Ranges.{IsWholeEvent};
+ghost use Rattle.bench_base.specs.Ranges.{IsWholeEvent, InRange};
 ghost use Rattle.bench_base.specs.Ledger.{Ledger, torn_of, counted};
+ghost use Rattle.ledger_terms.specs.Centres.{enrolled, withdrawn};
 ghost use Rattle.ledger_lawful.specs.Editions.{Editions};
 ghost use Rattle.ledger_moves.specs.Moves.{plan};
 ghost use Rattle.ledger_moves.specs.Histories.{Unforged, History};
@@ -47,8 +48,14 @@ pub fn orders()
     ensures torn { ForHistories (λ τ ρ ρs H. (n : Node) (c : Commit) → torn_of n H ≡ Some c → IsOpen n c H) }
 {}
 
-/// After every history what lies in the cells of a node adds up to its commits: of each device, of the centre, of the host
-/// and of the verifier.
+/// After every history the numbers of each commit fit their fields (`ranges`), and what lies in the cells of a node adds up to its
+/// commits: of each device, of the centre, of the host and of the verifier (`cells`).
 pub fn counts()
+    ensures ranges { ForHistories (λ τ ρ ρs H. All InRange (counted H)) }
     ensures cells { ForHistories (λ τ ρ ρs H. CellsAddUp (counted H)) }
+{}
+
+/// After every history a device that is withdrawn was enrolled.
+pub fn withdrawals()
+    ensures { ForHistories (λ τ ρ ρs H. (d : ℕ) → withdrawn d (counted H) ≡ true → IsSome (enrolled d (counted H))) }
 {}

@@ -1,6 +1,5 @@
-use Rattle.std.proofs.Common.{List, ◌∷◌, refl, arith}
-use Rattle.bench_base.specs.Rules.{Rules}
-use Rattle.bench_base.specs.Ledger.{Ledger, counted}
+use Rattle.std.proofs.Common.{◌∷◌, arith}
+use Rattle.bench_base.specs.Ledger.{counted}
 use Rattle.ledger_moves.specs.Histories.{earlier}
 use Rattle.ledger_laws.proofs.Histories.{histories, allows-same, carried-by}
 use Rattle.ledger_laws.proofs.Lawfulness.{everywhere, lawful, has-owner, no-imbalance, is-fitting, linked, paid}

@@ -1,0 +1,123 @@
+-- The row with a ruling is one whose customer can pay.
+use Rattle.std.proofs.Common.{◌≡◌, ℕ, ◌+◌, ◌≤◌, Bool, true, false, List, Option, Some, None, cond, refl, sym, ap, subst, ◌∙◌, ⊎_elim, true≢false, arith}
+use Rattle.std.specs.Prelude.{◌==◌, ◌&&◌, not, IsSome, is_some}
+use Rattle.std.proofs.lemmas.Bool.{cases_Bool, cases_eq, ne_eqb, eqb-true, and_parts, not-false}
+use Rattle.bench_base.specs.declared.words.Kind.{Kind}
+use Rattle.bench_base.specs.declared.words.Kind.TheVariants.{Enrol, Reset, Audit, Refund, Withdraw}
+use Rattle.bench_base.specs.declared.words.Verdict.{Verdict}
+use Rattle.bench_base.specs.Kinds.{same_kind, is_granted}
+use Rattle.psd_wire.specs.declared.message.Request.{Request}
+use Rattle.ledger_terms.specs.Sums.{adds, takes}
+use Rattle.ledger_terms.specs.Rulings.{own_customer, has_left, is_enrolled}
+use Rattle.centre_ledger.specs.declared.rows.DeviceRow.{DeviceRow}
+use Rattle.centre_ledger.specs.Rows.{account, enrolled_in, customer_after, buys_in, returns_in}
+use Rattle.centre_ledger.specs.Soundness.{IsSoundDevice}
+use Rattle.centre_ledger.specs.Books.{Books, device_at, customer_at, left_in, AreSound}
+use Rattle.centre_ledger.specs.Acts.{payer_in, own_left, verdict_in, ruled_in}
+use Rattle.centre_ledger.proofs.Keeping.{WasGranted, granted, funded, left-of, and-then}
+use Rattle.centre_ledger.proofs.Payers.{found-device, found-owned}
+use Rattle.centre_ledger.proofs.Puts.{CanPay}
+
+-- the customer after a ruling is open, where the device is enrolled then
+owned-after : (has : ℕ → Type 0) (k : Kind) (g : Bool) (s own c : ℕ) → 1 ≤ s → (2 ≤ s → has own)
+    → (g ≡ true → (not (same_kind k Enrol) && has_left (cond (s == 1) None (Some own)) (s == 3)) ≡ false) → (g ≡ true → same_kind k Enrol ≡ true → has c)
+    → 2 ≤ cond (g && same_kind k Enrol) 2 (cond (g && same_kind k Withdraw) 3 s) → has (cond (g && same_kind k Enrol) c own)
+unfolding same_kind
+owned-after has k false s own c from was left named h = was h
+owned-after has Enrol true s own c from was left named h = named refl refl
+owned-after has Withdraw true s own c from was left named h = was (⊎_elim (λ (one : s ≡ 1). absurd (left-of s own (left refl) one)) (λ (more : s ≡ 1 → ⊥). let two : 2 ≤ s = omega arith in two) (cases_eq s 1))
+owned-after has Reset true s own c from was left named h = was h
+owned-after has Audit true s own c from was left named h = was h
+owned-after has Refund true s own c from was left named h = was h
+
+was-granted : (b : Books) (r : DeviceRow) (q : Request) → is_granted (verdict_in b r q) ≡ true → WasGranted (account r (payer_in b r q) (own_left b r)) q
+was-granted b r q h = granted (account r (payer_in b r q) (own_left b r)) q h
+
+-- the customer that a granted enrolment names is open
+named-open : (b : Books) (r : DeviceRow) (q : Request) → is_granted (verdict_in b r q) ≡ true → same_kind q.kind Enrol ≡ true → IsSome (customer_at b q.customer)
+named-open b r q g enrol =
+    let open_so : IsSome (payer_in b r q) = not-false _ (and-then (same_kind q.kind Enrol) (not (is_some (payer_in b r q))) enrol (was-granted b r q g).opened) in
+    subst (λ w. IsSome (customer_at b w)) (ap (λ t. cond t q.customer (own_customer (enrolled_in r))) enrol) open_so
+
+-- a reset is no enrolment
+no-enrol : (k : Kind) → same_kind k Reset ≡ true → not (same_kind k Enrol) ≡ true
+unfolding same_kind
+no-enrol Enrol h = absurd (true≢false (sym h))
+no-enrol Reset h = refl
+no-enrol Audit h = refl
+no-enrol Refund h = refl
+no-enrol Withdraw h = refl
+
+no-reset : (k : Kind) → same_kind k Enrol ≡ true → same_kind k Reset ≡ false
+unfolding same_kind
+no-reset Enrol h = refl
+no-reset Reset h = absurd (true≢false (sym h))
+no-reset Audit h = refl
+no-reset Refund h = refl
+no-reset Withdraw h = refl
+
+-- what a granted reset adds is left to the device's own customer
+adds-most : (b : Books) (r : DeviceRow) (q : Request) → adds (verdict_in b r q) q ≤ left_in b r.customer
+unfolding adds
+adds-most b r q = ⊎_elim
+    (λ (t : (is_granted (verdict_in b r q) && same_kind q.kind Reset) ≡ true).
+    let parts = and_parts (is_granted (verdict_in b r q)) (same_kind q.kind Reset) t in
+    let enough = funded (account r (payer_in b r q) (own_left b r)) q parts.0 parts.1 in
+    let here : has_left (enrolled_in r) (r.state == 3) ≡ false = and-then (not (same_kind q.kind Enrol)) (has_left (enrolled_in r) (r.state == 3)) (no-enrol q.kind parts.1) (was-granted b r q parts.0).left in
+    let enrolled : (r.state == 1) ≡ false = ne_eqb r.state 1 (left-of r.state r.customer here) in
+    rw t (subst (λ s. q.amount ≤ left_in b (own_customer (cond s None (Some r.customer)))) enrolled enough))
+    (λ (t : (is_granted (verdict_in b r q) && same_kind q.kind Reset) ≡ false). rw t (omega arith))
+    (cases_Bool (is_granted (verdict_in b r q) && same_kind q.kind Reset))
+
+-- a device bought nothing before its enrolment is granted, nor with it
+record Fresh (r : DeviceRow) (v : Verdict) (q : Request) : Type 0 where
+  bought : r.buys + adds v q ≡ 0
+  returned : r.returns ≡ 0
+
+fresh : (b : Books) (r : DeviceRow) (q : Request) → IsSoundDevice r → is_granted (verdict_in b r q) ≡ true → same_kind q.kind Enrol ≡ true → Fresh r (verdict_in b r q) q
+unfolding adds
+fresh b r q sound g enrol = ⊎_elim
+    (λ (one : r.state ≡ 1).
+    let buys = (sound.registered one).1 in
+    let least = sound.returns_le in
+    let none : same_kind q.kind Reset ≡ false = no-reset q.kind enrol in
+    record { bought = rw (g, none) (omega arith); returned = omega arith })
+    (λ (more : r.state ≡ 1 → ⊥).
+    let was : is_enrolled (enrolled_in r) ≡ false = and-then (same_kind q.kind Enrol) (is_enrolled (enrolled_in r)) enrol (was-granted b r q g).new in
+    absurd (true≢false (ap (λ s. is_enrolled (cond s None (Some r.customer))) (sym (ne_eqb r.state 1 more)) ∙ was)))
+    (cases_eq r.state 1)
+
+-- of a customer w: what the row bought and gave back, with its customer and without
+none-of : (t s : Bool) (buys returns takes left had : ℕ) → buys ≡ 0 → returns ≡ 0 → cond t buys 0 + cond s returns 0 ≤ left + had + cond t (returns + takes) 0
+none-of true true buys returns takes left had e f = omega arith
+none-of true false buys returns takes left had e f = omega arith
+none-of false true buys returns takes left had e f = omega arith
+none-of false false buys returns takes left had e f = omega arith
+
+own-of : (t : Bool) (buys adds returns takes left : ℕ) → (t ≡ true → adds ≤ left) → cond t (buys + adds) 0 + cond t returns 0 ≤ left + cond t buys 0 + cond t (returns + takes) 0
+own-of true buys adds returns takes left most = let m = most refl in omega arith
+own-of false buys adds returns takes left most = omega arith
+
+pub ruled-can-pay : (b : Books) (r : DeviceRow) (q : Request) (bytes : List ℕ) → AreSound b → device_at b r.device ≡ Some r → CanPay b (ruled_in b r q bytes)
+ruled-can-pay b r q bytes sound at = record {
+  owned = owned-after (λ w. IsSome (customer_at b w)) q.kind (is_granted v) r.state r.customer q.customer sound_r.state.0 (found-owned b r.device r sound at)
+      (λ g. (was-granted b r q g).left) (named-open b r q);
+  paid = λ w c is. subst (λ (o : Option DeviceRow). buys_in w (Some (ruled_in b r q bytes)) + returns_in w o ≤ left_in b w + buys_in w o + returns_in w (Some (ruled_in b r q bytes))) (sym at) (paid w);
+}
+  where
+    v : Verdict
+    v = verdict_in b r q
+
+    sound_r : IsSoundDevice r
+    sound_r = (found-device b r.device r sound at).0.sound
+
+    paid : (w : ℕ) → buys_in w (Some (ruled_in b r q bytes)) + returns_in w (Some r) ≤ left_in b w + buys_in w (Some r) + returns_in w (Some (ruled_in b r q bytes))
+    paid w = ⊎_elim
+        (λ (t : (is_granted (verdict_in b r q) && same_kind q.kind Enrol) ≡ true).
+        let parts = and_parts (is_granted (verdict_in b r q)) (same_kind q.kind Enrol) t in
+        let none = fresh b r q sound_r parts.0 parts.1 in
+        none-of (customer_after r.customer (verdict_in b r q) q == w) (r.customer == w) (r.buys + adds (verdict_in b r q) q) r.returns (takes (verdict_in b r q) q) (left_in b w) (buys_in w (Some r)) none.bought none.returned)
+        (λ (t : (is_granted (verdict_in b r q) && same_kind q.kind Enrol) ≡ false).
+        rw t (own-of (r.customer == w) r.buys (adds (verdict_in b r q) q) r.returns (takes (verdict_in b r q) q) (left_in b w)
+        (λ e. subst (λ u. adds (verdict_in b r q) q ≤ left_in b u) (eqb-true r.customer w e) (adds-most b r q))))
+        (cases_Bool (is_granted (verdict_in b r q) && same_kind q.kind Enrol))

@@ -1,0 +1,34 @@
+use Rattle.std.proofs.Common.{refl, sym, ap, ◌∙◌, arith, true≢false, inl}
+use Rattle.centre_ledger.specs.declared.rows.DeviceRow.{DeviceRow}
+use Rattle.centre_ledger.proofs.Fields.{zeros-behind}
+use Rattle.centre_ledger.proofs.Reading.{none-by, both-found, bare-again, parts-made, spelling-made, spells, device-is, end-is, not-missed}
+use Rattle.centre_ledger.proofs.payload.read_first.Goals as goal
+
+pub returns-in_default-clause-none : goal.returns-in_default-clause-none
+returns-in_default-clause-none c =
+    λ r d h. c.in_default.ensures.none (device-is 1 c.args.payload.now r (spells 1 c.args.payload.now r (omega arith, omega arith) h) h.reads c.args.device d)
+
+pub returns-then-not-is_zero-clause-none : goal.returns-then-not-is_zero-clause-none
+returns-then-not-is_zero-clause-none c =
+    λ r d h.
+    let end = end-is 1 c.args.payload.now r (spells 1 c.args.payload.now r (omega arith, omega arith) h) h.reads in
+    absurd (true≢false (sym (c.is_zero.ensures.1 ((zeros-behind 188 4 c.args.payload.now c.requires.long).1 end)) ∙ c.if-not-is_zero.true))
+
+pub with_messages-requires-clause-bare : goal.with_messages-requires-clause-bare
+with_messages-requires-clause-bare c = bare-again 1 c.args.payload.now c.in-Some.row c.in-Some.ensures.found.0
+
+pub returns-clause-found : goal.returns-clause-found
+returns-clause-found c =
+    let end = (zeros-behind 188 4 c.args.payload.now c.requires.long).0 (c.is_zero.ensures.0 c.if-not-is_zero.false) in
+    let row = c.in-Some.ensures.found in
+    both-found c.with_messages.result _ _ _
+    (λ r found sound. (
+      ap (λ (x : DeviceRow). x.device) found.0 ∙ row.1,
+      spelling-made 1 c.args.payload.now r (omega arith, omega arith) c.requires.long (λ i. omega (arith, c.type_inv.payload i)) sound
+          (parts-made 1 c.args.payload.now c.in-Some.row r (inl refl) row.0 found.0 found.1 end),
+    )) c.with_messages.ensures.found c.with_messages.ensures.sound
+
+pub returns-clause-none : goal.returns-clause-none
+returns-clause-none c =
+    none-by c.with_messages.result _ _
+    (λ none r d h. not-missed 1 c.args.payload.now r (spells 1 c.args.payload.now r (omega arith, omega arith) h) h.reads c.in-Some.row c.in-Some.ensures.found.0 none) c.with_messages.ensures.none

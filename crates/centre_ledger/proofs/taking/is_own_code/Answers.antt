@@ -1,0 +1,5 @@
+use Rattle.centre_ledger.proofs.Asked.{code-is}
+use Rattle.centre_ledger.proofs.taking.is_own_code.Goals as goal
+
+pub returns : goal.returns
+returns c = code-is _ _ _ c.code_matches.ensures

@@ -1,0 +1,45 @@
+-- A device that is withdrawn was enrolled.
+use Rattle.std.proofs.Common.{◌≡◌, ℕ, Bool, true, false, List, [], ◌∷◌, Option, Some, None, cond, refl, sym, ◌∙◌, ap, subst, true≢false, ⊎_elim}
+use Rattle.std.specs.Prelude.{◌==◌, ◌&&◌, IsSome}
+use Rattle.std.proofs.lemmas.Bool.{cases_Bool, eqb-true, and_parts}
+use Rattle.bench_base.specs.declared.words.Kind.{Kind}
+use Rattle.bench_base.specs.declared.words.Kind.TheVariants.{Enrol, Reset, Audit, Refund, Withdraw}
+use Rattle.bench_base.specs.declared.ledger.Commit.{Commit}
+use Rattle.bench_base.specs.declared.ledger.Commit.TheVariants.{Ruled}
+use Rattle.bench_base.specs.Rules.{Rules}
+use Rattle.bench_base.specs.Rows.{first_of}
+use Rattle.bench_base.specs.Kinds.{same_kind, is_granted}
+use Rattle.ledger_terms.specs.Requests.{request_in}
+use Rattle.ledger_terms.specs.Centres.{enrolled, withdrawn}
+use Rattle.law_good.proofs.Good.{Good}
+use Rattle.ledger_laws.proofs.Lawfulness.{has-owner}
+
+no-enrolment : (k : Kind) → same_kind k Withdraw ≡ true → same_kind k Enrol ≡ false
+unfolding same_kind
+no-enrolment Enrol h = absurd (true≢false (sym h))
+no-enrolment Reset h = absurd (true≢false (sym h))
+no-enrolment Audit h = absurd (true≢false (sym h))
+no-enrolment Refund h = absurd (true≢false (sym h))
+no-enrolment Withdraw h = refl
+
+stays-some : (t : Bool) (o : Option ℕ) (w : ℕ) → IsSome o → IsSome (cond t (first_of o (Some w)) o)
+stays-some t None w h = absurd (true≢false (sym h))
+stays-some true (Some x) w h = refl
+stays-some false (Some x) w h = refl
+
+is-some : (o : Option ℕ) (w : ℕ) → o ≡ Some w → IsSome o
+is-some None w h = absurd (cc)
+is-some (Some x) w h = refl
+
+pub withdrawn-enrolled : (ρ : Rules) (d : ℕ) (C : List Commit) → Good ρ C → withdrawn d C ≡ true → IsSome (enrolled d C)
+withdrawn-enrolled ρ d [] g h = absurd (true≢false (sym h))
+withdrawn-enrolled ρ d (Ruled e n v note ∷ C) g h = ⊎_elim
+    (λ (t : ((e == d) && (is_granted v && same_kind (request_in note).kind Withdraw)) ≡ true).
+    let device = and_parts (e == d) _ t in
+    let kind = and_parts (is_granted v) _ device.1 in
+    let owner = has-owner ρ (Ruled e n v note ∷ C) g (no-enrolment (request_in note).kind kind.1) in
+    stays-some _ (enrolled d C) (request_in note).customer (is-some (enrolled d C) (request_in note).customer (ap (λ (i : ℕ). enrolled i C) (sym (eqb-true e d device.0)) ∙ owner)))
+    (λ (t : ((e == d) && (is_granted v && same_kind (request_in note).kind Withdraw)) ≡ false).
+    stays-some _ (enrolled d C) (request_in note).customer (withdrawn-enrolled ρ d C g.1 (rw t at h)))
+    (cases_Bool ((e == d) && (is_granted v && same_kind (request_in note).kind Withdraw)))
+withdrawn-enrolled ρ d (_ ∷ C) g h = withdrawn-enrolled ρ d C g.1 h
