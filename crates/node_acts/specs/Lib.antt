@@ -4,3 +4,5 @@ pub mod Starts
 pub mod Plans
 pub mod Results
 pub mod Kinds
+pub mod RowList
+pub mod RowLaws

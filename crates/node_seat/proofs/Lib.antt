@@ -1,4 +1,5 @@
 pub mod Rests
 pub mod Booted
 pub mod Called
+pub mod Performed
 pub mod Armed

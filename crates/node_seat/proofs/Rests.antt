@@ -120,3 +120,7 @@ module _ {K S N C R : Type 0} (n : Ghosts K S N C R) (g : nv.Ghosts S) where
     });
     runs = λ is. cc;
   }
+
+-- an image after a mount is one of its beginning
+pub image_before : (before now : Times) (c : List ℕ) → Mounts before now → Nested now → Image now c → Image before c
+image_before before now c mounts nested image = mounts.images c (nested before.moment now.moment c mounts.time.later image)

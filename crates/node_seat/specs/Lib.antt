@@ -4,3 +4,4 @@ pub mod Shown
 pub mod Stands
 pub mod Starts
 pub mod Calls
+pub mod Performed

@@ -31,6 +31,10 @@ module _ {K S N C R : Type 0} (n : Ghosts K S N C R) where
   abbrev pub IsNext : N → n.Seen → n.Seen → Type 0
   IsNext d s next = n.IsSound d next × (n.counting.count next ≡ n.counting.count s + 1)
 
+  -- the record can take what the act commits, if it commits
+  abbrev pub CanCommit : {F A : Type 0} → n.Seen → Act C F A → Type 0
+  CanCommit {F} {A} s act = (c : Commit) (x : C) (a : A) → act ≡ Commits c x a → n.IsFit s x
+
   -- a change of the act is one of node d and this record
   abbrev pub IsFitting : {F A : Type 0} → N → n.Seen → Act C F A → Type 0
   IsFitting d s (Refuse x) = Unit {0}

@@ -1,5 +1,5 @@
 //! What a node of the bench promises: a record over its storage, one commit at a time.
-ghost use Rattle.std.specs.Prelude.{◌≡◌, ◌+◌, List, Bool, ℕ, OnOk, IsErrOf, Some, true, false, is_ok};
+ghost use Rattle.std.specs.Prelude.{◌≡◌, ◌+◌, List, Bool, ℕ, OnOk, IsErrOf, true, false, is_ok};
 ghost use Rattle.nv_model.specs.Moments.{Image};
 ghost use Rattle.nv_model.specs.Still.{SameTimes, armed, with_fuse};
 ghost use Rattle.node_acts.specs.Views.{Counting};
@@ -31,6 +31,9 @@ pub trait Node: Drop + Sized {
 
     /// What is true of each change that code can make.
     ghost IsKept: { Self.Change → Type 0 };
+
+    /// The record can take the change.
+    ghost IsFit: { Seen → Self.Change → Type 0 };
 
     /// The change is one of this record of the node.
     ghost IsFrom: { Self.Name → Seen → Self.Change → Type 0 };
@@ -81,6 +84,7 @@ pub trait Node: Drop + Sized {
     /// Commits a change of a node that is on, and keeps it once it is committed. After Power and Fault the node is off.
     fn commit(&mut self, change: &Self::Change) -> Result<(), StoreFail>
         requires on { is_on self.old ≡ true }
+        requires fits { IsFit (seen self.old) change.now }
         ensures leaves { is_on self.new ≡ leaves_running result }
         ensures name { name self.new ≡ name self.old }
         ensures kept { IsKept change.now }

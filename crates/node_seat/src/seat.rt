@@ -1,7 +1,8 @@
 //! A node in its place on the bench: it is switched on and off, does its calls, and has its fuse armed.
-ghost use Rattle.std.specs.Prelude.{◌≡◌};
+ghost use Rattle.std.specs.Prelude.{◌≡◌, true};
 ghost use Rattle.node_acts.specs.declared.act.Act.{Act};
 ghost use Rattle.node_seat.specs.Calls.{CallDoes};
+ghost use Rattle.node_seat.specs.Shown.{CanCommit};
 ghost use Rattle.node_seat.specs.Starts.{StartDoes, StopDoes, ArmDoes};
 
 use crate::node::Node;
@@ -39,8 +40,10 @@ pub fn stop<K: Node>(node: &mut K) -> bool
     true
 }
 
-/// Does what a call of the node decided on. A node whose commit fails is switched off.
+/// Does what a call of the node decided on. The record of a node that is on can take what is committed. A node whose
+/// commit fails is switched off.
 pub fn perform<K: Node, F: Copy, A: Copy>(node: &mut K, act: Act<K::Change, F, A>) -> Outcome<F, A>
+    requires fits { K.Node.is_on node.old ≡ true → CanCommit K.Node (K.Node.seen node.old) act }
     ensures { (by : K.Node.Seen → Act K.Change F A) → by (K.Node.seen node.old) ≡ act
         → CallDoes K.Node K.Storage.Nv by node.old node.new result }
 {

@@ -24,7 +24,7 @@ use Rattle.node_acts.specs.declared.act.Outcome.{Outcome}
 use Rattle.node_acts.specs.declared.act.Outcome.TheVariants as o
 use Rattle.node_acts.specs.declared.asked.Asked.TheVariants.{Call}
 use Rattle.node_acts.specs.Views.{Counting, View}
-use Rattle.node_acts.specs.Acts.{cost, has_failed, commit_of, commit_in, outcome_in, outcome_of, MayCome, after_call, TellsOf, CommitsSome, CameOf}
+use Rattle.node_acts.specs.Acts.{cost, has_failed, commit_of, outcome_in, MayCome, TellsOf, CommitsSome, CameOf}
 use Rattle.node_acts.specs.Acts as acts
 use Rattle.node_acts.specs.Plans.{after, MayReply, view_after, when_on, done_plan, call_reply, call_entries, act_entries, IsOfNode}
 use Rattle.node_acts.specs.Kinds.{Kind}
@@ -207,7 +207,7 @@ module _ {K S N C R X F A : Type 0} (n : Ghosts K S N C R) (g : nv.Ghosts S) (f 
     (told : IsToldBy m e refusal reply)
     (plan_is : (v : View n.Seen) → kind.plan d today v call ≡ when_on m v (done_plan n.counting m refusal reply tell v.state (by v.state)))
     (commit_is : (v : View n.Seen) → kind.commit d today v call ≡ commit_of n.counting v (by v.state))
-    (fits : (s : n.Seen) → IsFitting n d s (by s)) (own : (s : n.Seen) → IsOfNode m (by s)) (agrees : (s : n.Seen) → Agrees tell done (by s))
+    (fits : (s : n.Seen) → n.IsSound d s → IsFitting n d s (by s)) (own : (s : n.Seen) → IsOfNode m (by s)) (agrees : (s : n.Seen) → Agrees tell done (by s))
     (commits : (s : n.Seen) → CommitsSome (λ c. Unit {0}) (by s) → may_commit e ≡ true) (costs : (s : n.Seen) → cost (by s) ≤ calls_of e)
     (s t : K) where
   pub turn_call : (x : Outcome F A) → CallDoes n g by s t x → NodeTurn n g f kind m d today e (Call call) s t (call_turn m refusal reply done x)
@@ -221,10 +221,10 @@ module _ {K S N C R X F A : Type 0} (n : Ghosts K S N C R) (g : nv.Ghosts S) (f 
           entries = ap in_order (added_is m tell done (by v.state) x (agrees v.state) (done_of n.counting v (by v.state) x (did.comes d v st tells')) ∙ it.entries_are)
               ∙ ap (λ (p : Plan). in_order (after p (call_reply m refusal reply x) [])) (sym (plan_is v));
           stands = subst (λ (made : Option (Commit × n.Seen)). Stands n g d (view_after n.counting (call_reply m refusal reply x) made v) t) (sym (commit_is v))
-              (subst (λ (w : View n.Seen). Stands n g d w t) (sym (it.view v)) (did.stands d v st tells' (fits v.state)));
+              (subst (λ (w : View n.Seen). Stands n g d w t) (sym (it.view v)) (did.stands d v st tells' (fits v.state (st.store.sound tells').state)));
           any_moment = λ image is. subst (λ (made : Option (Commit × n.Seen)). Allowed n v image ⊎ IsAfter n made image) (sym (commit_is v)) ((did.turn d v st tells').any_moment image is);
         };
-    keeps = λ v st tells'. subst (λ (made : Option (Commit × n.Seen)). IfSome made (λ y. IsNext n d v.state y.1)) (sym (commit_is v)) (did.keeps d v st tells' (fits v.state));
+    keeps = λ v st tells'. subst (λ (made : Option (Commit × n.Seen)). IfSome made (λ y. IsNext n d v.state y.1)) (sym (commit_is v)) (did.keeps d v st tells' (fits v.state (st.store.sound tells').state));
     reply = call_gets m e refusal reply told (by (n.seen s)) (commits (n.seen s)) x did.came;
     on_day = call_on_day m e refusal reply told x;
     refused = call_refused m e refusal reply told done x (t ≡ s) did.refused;

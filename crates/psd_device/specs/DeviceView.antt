@@ -1,18 +1,13 @@
 -- What contracts see of a device and of its calls.
-use Rattle.std.specs.Prelude.{◌≡◌, ◌≢◌, ℕ, ℤ, List, Option, Result, Ok, Err, Some, None, IfSome}
+use Rattle.std.specs.Prelude.{◌≡◌, ℕ, ℤ, List, Option, Result, None, IfSome}
 use Rattle.bench_base.specs.declared.ledger.Commit.{Commit}
 use Rattle.bench_base.specs.declared.refusals.DevRefusal.{DevRefusal}
 use Rattle.bench_base.specs.declared.refusals.Fail.{Fail}
-use Rattle.bench_base.specs.declared.refusals.Fail.TheVariants.{Refused, Store}
-use Rattle.bench_base.specs.declared.refusals.StoreFail.TheVariants.{Power, Fault, Worn, Failed}
 use Rattle.bench_base.specs.declared.sizes.TheConstants.{DEVICE_BYTES}
 use Rattle.nv_model.specs.declared.nv.Nv.{Ghosts}
 use Rattle.nv_ring.specs.declared.wear.Wear.{Wear}
-use Rattle.nv_store.specs.Turns.{End, Turn}
-use Rattle.node_acts.specs.Acts.{commit_in, cost}
-use Rattle.node_acts.specs.Results.{result_in}
-use Rattle.node_seat.specs.Does.{Spends}
-use Rattle.node_seat.specs.Ends.{end_of_result}
+use Rattle.node_acts.specs.Acts.{commit_in}
+use Rattle.node_seat.specs.Performed.{Performed}
 use Rattle.bench_base.specs.declared.words.Kind.{Kind}
 use Rattle.bench_base.specs.Rules.{todays_rules}
 use Rattle.psd_wire.specs.declared.message.DebitMsg.{DebitMsg}
@@ -74,55 +69,10 @@ take_of d bytes today = take_act todays_rules (number_of d) bytes today (seen_of
 
 -- == a call ==
 
--- the commit of an act, with the record that it makes
-abbrev pub commit_from : {N A : Type 0} {g : Ghosts N} → DeviceAct A → Device N g → Option (Commit × Seen)
-commit_from act d = commit_in counting (seen_of d) act
-
--- how a call of this act ended for the storage
-abbrev pub end_from : {N A : Type 0} {g : Ghosts N} → DeviceAct A → Device N g → DeviceResult A → End
-end_from act d result = end_of_result result (commit_from act d)
-
--- the images that show the commit too
-abbrev pub IsAfter : Option (Commit × Seen) → List ℕ → Type 0
-IsAfter None image = ⊥
-IsAfter (Some x) image = ShowsSeen x.1 image
-
--- the record after the commit that was made
-abbrev pub seen_with : Option (Commit × Seen) → Seen → Seen
-seen_with None s = s
-seen_with (Some x) s = x.1
-
--- the commit, if there is one, is the one that failed, and the record stays
-abbrev pub Tore : {N : Type 0} {g : Ghosts N} → Option (Commit × Seen) → Device N g → Device N g → Type 0
-Tore None old new = ⊥
-Tore (Some x) old new = (torn_of new ≡ Some x.0) × (seen_of new ≡ seen_of old)
-
--- it answers what the act does, and has the record after its commit
-pub record Did {N A : Type 0} {g : Ghosts N} (act : DeviceAct A) (old new : Device N g) (result : DeviceResult A) : Type 0 where
-  pub answer : result ≡ result_in counting (seen_of old) act
-  pub works : torn_of new ≡ None
-  pub after : seen_of new ≡ seen_with (commit_from act old) (seen_of old)
-
--- what a call of this act answered and left in a device that had not failed
-abbrev pub Does : {N A : Type 0} {g : Ghosts N} → DeviceAct A → Device N g → Device N g → DeviceResult A → Type 0
-Does act old new (Err (Store Power)) = Tore (commit_from act old) old new
-Does act old new (Err (Store Fault)) = Tore (commit_from act old) old new
-Does act old new (Err (Store Worn)) = Did act old new (Err (Store Worn))
-Does act old new (Err (Store Failed)) = ⊥
-Does act old new (Err (Refused x)) = Did act old new (Err (Refused x))
-Does act old new (Ok a) = Did act old new (Ok a)
-
--- What a call of this act did, answered and left. A device of which a commit failed answers `Failed` to each call and
--- stays as it is; a call that commits nothing leaves the device and its storage as they were.
+-- What a call of this act did, answered and left. The record is one that can be kept, and so is the one after a commit.
 pub record Performs {N A : Type 0} {g : Ghosts N} (act : DeviceAct A) (old new : Device N g) (result : DeviceResult A) : Type 0 where
-  pub failed : torn_of old ≢ None → (result ≡ Err (Store Failed)) × (new ≡ old)
-  pub does : torn_of old ≡ None → Does act old new result
-  pub turn : torn_of old ≡ None → g.tells
-      → Turn (ShowsSeen (seen_of old)) (IsAfter (commit_from act old)) (g.times (storage_of old)) (g.times (storage_of new))
-      (end_from act old result)
-  pub spent : torn_of old ≡ None → Spends g (cost act) (storage_of old) (storage_of new) (end_from act old result)
-  pub next : torn_of old ≡ None → IfSome (commit_from act old) (λ x. IfSome x.1.state IsKept)
-  pub rests : commit_from act old ≡ None → new ≡ old
+  pub performed : Performed g counting ShowsSeen storage_of seen_of torn_of act old new result
+  pub next : torn_of old ≡ None → IfSome (commit_in counting (seen_of old) act) (λ x. IfSome x.1.state IsKept)
   pub number : number_of new ≡ number_of old
   pub kept : IfSome (seen_of new).state IsKept
   pub size : g.size (storage_of new) ≡ DEVICE_BYTES

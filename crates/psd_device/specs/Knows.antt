@@ -10,7 +10,6 @@ use Rattle.nv_store.specs.declared.head.Head.{Head}
 use Rattle.nv_store.specs.Store.{one_held, cell_shown, Shows}
 use Rattle.nv_store.specs.Knows.{holds_shows, none_held, some_held}
 use Rattle.psd_state.specs.State.{State}
-use Rattle.psd_state.specs.Payload.{ReadsAs}
 use Rattle.psd_state.proofs.Parted.{one-reading}
 use Rattle.psd_device.specs.Shown.{IsHeld, IsShown, IsKept, ShowsSeen, OnlyShown}
 use Rattle.psd_device.specs.Sound.{IsCurrent}
@@ -21,14 +20,6 @@ use Rattle.psd_device.specs.declared.node.DeviceNode.{DeviceNode}
 -- the cell, by what it holds
 pub shown_as : (count : ℕ) (s : Option State) (held : Option Held) (image : List ℕ) → IsHeld count s held → Shows RECORD_BYTES SLOTS 1 (λ k. held) image → IsShown count s image
 shown_as count s held image is shows = record { held = subst (IsHeld count s) (sym (shows.each 0 (omega arith))) is; clear = shows.clear 0 (omega arith) }
-
--- no commits hold no record
-pub held_none : (payload : List ℕ) → IsHeld 0 None (one_held 0 payload)
-held_none payload = refl
-
--- commits hold the record that their payload reads as
-pub held_some : (count : ℕ) (payload : List ℕ) (s : State) → 0 < count → ReadsAs payload s → IsHeld count (Some s) (one_held count payload)
-held_some count payload s some reads = subst (IsHeld count (Some s)) (sym (some_held count payload some)) (refl, reads)
 
 -- blank is a device with no commits
 pub blank_held : (count : ℕ) (payload : List ℕ) (o : Option State) → IsHeld count o (one_held count payload) → (count ≡ 0) ↔ (o ≡ None)

@@ -10,7 +10,7 @@ use Rattle.psd_device.specs.Shown.{IsShown, IsKept}
 use Rattle.psd_device.specs.Boots.{IsDamaged, ShowsOwn}
 use Rattle.psd_device.specs.Knows as knows
 use Rattle.psd_device.specs.Sound.{IsSound}
-use Rattle.nv_store.specs.CellLaws.{not_mixed}
+use Rattle.nv_store.specs.Clear.{not_mixed}
 use Rattle.psd_device.specs.Finds.{shows_clear, own_not_foreign}
 
 seen_same : (a b : Seen) → a.count ≡ b.count → a.state ≡ b.state → a ≡ b

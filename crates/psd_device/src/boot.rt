@@ -1,5 +1,5 @@
 //! A device out of its storage.
-ghost use Rattle.std.specs.Prelude.{◌≡◌, ◌≢◌, List, OnOk, IfOk, IfErr, IfSome, IsErrOf, MatchResult, Ok, Err, false, is_ok, ℕ};
+ghost use Rattle.std.specs.Prelude.{◌≡◌, ◌≢◌, OnOk, IfOk, IfErr, IfSome, IsErrOf, MatchResult, Ok, Err, false, is_ok};
 ghost use Rattle.nv_store.specs.Store.{one_held};
 ghost use Rattle.nv_store.specs.Turns.{Kept};
 ghost use Rattle.node_seat.specs.Does.{Reads, Spends};

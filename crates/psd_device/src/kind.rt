@@ -33,6 +33,8 @@ impl<M: Fuse + Drop> Node for DeviceNode<M> {
 
     ghost IsKept = { λ x. IsKept x };
 
+    ghost IsFit = { λ s x. Unit {0} };
+
     ghost IsFrom = { λ d s x. x.device ≡ d };
 
     ghost IsSound = { λ d s. sound_by.IsSound d s };

@@ -1,5 +1,5 @@
 //! A device in its storage, on or off.
-ghost use Rattle.std.specs.Prelude.{◌≡◌, ◌==◌, ◌<◌, ◌^◌, ℕ, OnErr, IsErrOf, true, false};
+ghost use Rattle.std.specs.Prelude.{◌≡◌, ◌==◌, ◌<◌, ◌^◌, OnErr, IsErrOf, true, false};
 ghost use Rattle.std.specs.Option.{ForSome};
 ghost use Rattle.nv_model.specs.Meters.{Restarts};
 ghost use Rattle.bench_base.specs.declared.sizes.TheConstants.{RECORD_BYTES, SLOTS, DEVICE_BYTES};

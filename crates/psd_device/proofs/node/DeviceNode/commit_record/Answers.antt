@@ -17,7 +17,7 @@ returns-in-Ok-clause-stores g c =
     record {
       any_moment = λ tells i now. between_shown s.head.count s.payload s.state s.written c.args.next.now c.write_payload-payload.result
           (reads_as_spelled c.args.next.now c.write_payload-payload.result c.write_payload-payload.ensures.sound c.write_payload-payload.ensures.fits c.write_payload-payload.ensures.value) i
-          (c.in-Ok.ensures.any_moment tells i now);
+          (c.in-Ok.ensures.images.any_moment tells i now);
       time = search rules;
       spent = search rules;
       size = search rules;
@@ -29,7 +29,7 @@ returns-in-Err-clause-stores g c =
     record {
       any_moment = λ tells i now. between_shown s.head.count s.payload s.state s.written c.args.next.now c.write_payload-payload.result
           (reads_as_spelled c.args.next.now c.write_payload-payload.result c.write_payload-payload.ensures.sound c.write_payload-payload.ensures.fits c.write_payload-payload.ensures.value) i
-          (c.in-Err.ensures.any_moment tells i now);
+          (c.in-Err.ensures.images.any_moment tells i now);
       time = search rules;
       spent = search rules;
       size = search rules;

@@ -1,0 +1,7 @@
+use Rattle.std.proofs.Common.{◌≡◌, length}
+use Rattle.nv_store.specs.RoomView.{kept_in}
+use Rattle.centre_protocol.specs.Boots.{DevicesRead}
+use Rattle.centre_protocol.proofs.boot.devices_in.Given as goal
+
+abbrev pub invariant-loop-place : goal.invariant-loop-place
+invariant-loop-place l = record { read : DevicesRead (kept_in l.room) l.place l.rows; long : length l.rows ≡ 8 }

@@ -1,0 +1,103 @@
+//! The centre as a node of the bench.
+ghost use Rattle.std.specs.Prelude.{◌≡◌};
+ghost use Rattle.bench_base.specs.declared.sizes.TheConstants.{CENTRE_BYTES};
+ghost use Rattle.centre_ledger.specs.Seen as seen_by;
+ghost use Rattle.centre_protocol.specs.Payloads as payloads;
+ghost use Rattle.centre_protocol.specs.Cells.{HasCell};
+ghost use Rattle.centre_protocol.specs.Sound as sound_by;
+ghost use Rattle.centre_protocol.specs.NodeView as node_view;
+ghost use Rattle.centre_protocol.specs.Knows as known;
+ghost use Rattle.centre_protocol.specs.NodeLaws as laws;
+
+use crate::node::CentreNode;
+use crate::room::CentreRoom;
+use bench_base::refusals::{BootFail, StoreFail};
+use centre_ledger::Row;
+use node_seat::Node;
+use nv_model::{Fuse, NvFail};
+
+impl<M: Fuse + Drop> Node for CentreNode<M> {
+    type Storage = M;
+
+    type Name = ();
+
+    type Change = Row;
+
+    type Spare = CentreRoom;
+
+    ghost Seen = { seen_by.Seen };
+
+    ghost bytes = { CENTRE_BYTES };
+
+    ghost counting = { seen_by.counting };
+
+    ghost IsKept = { λ x. HasCell x };
+
+    ghost IsFit = { λ s x. sound_by.IsFit s x };
+
+    ghost IsFrom = { λ d s x. sound_by.IsFit s x };
+
+    ghost IsSound = { λ d s. sound_by.IsSound s };
+
+    ghost IsShown = { λ s c. payloads.IsShown s c };
+
+    ghost IsDamaged = { λ d nv. payloads.IsDamaged M.Nv.own nv };
+
+    ghost name = { λ k. tt };
+
+    ghost seen = { λ k. node_view.seen_in k };
+
+    ghost is_on = { λ k. node_view.is_on k };
+
+    ghost storage = { λ k. node_view.storage_in k };
+
+    ghost sized = { λ k on. known.size k on };
+
+    ghost knows = { λ k tells on. known.shows k tells on };
+
+    ghost one_shown = { λ d a b c. laws.one_shown a b c };
+
+    ghost keeps = { λ d s x. laws.keeps s x };
+
+    ghost counts = { λ d s x. laws.counts s x };
+
+    ghost intact = { λ d s nv. laws.intact M.Nv.own s nv };
+
+    fn off(_number: (), nv: M, spare: CentreRoom) -> CentreNode<M> {
+        let CentreRoom { cells } = spare;
+        CentreNode::new(nv, cells)
+    }
+
+    fn is_on(&self) -> bool {
+        self.on
+    }
+
+    fn restart(&mut self) -> Result<(), NvFail> {
+        self.restart_storage()
+    }
+
+    fn boot(&mut self, _number: ()) -> Result<(), BootFail> {
+        self.boot_rows()
+    }
+
+    fn commit(&mut self, change: &Row) -> Result<(), StoreFail> {
+        self.commit_row(change)
+    }
+
+    fn commits(&self) -> u64 {
+        self.count()
+    }
+
+    fn shut(&mut self) {
+        self.on = false;
+    }
+
+    fn into_parts(self) -> (M, CentreRoom) {
+        let (nv, cells) = self.into_storage();
+        (nv, CentreRoom { cells })
+    }
+
+    fn arm(&mut self, calls: u32, keep: u32, byte: u8) {
+        self.nv.arm(calls, keep, byte);
+    }
+}

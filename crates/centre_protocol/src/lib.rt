@@ -1,0 +1,17 @@
+//! The centre on storage: each call that changes a row commits it before it answers.
+#![tactic(auto)]
+
+mod boot;
+mod calls;
+mod centre;
+mod kind;
+mod node;
+mod room;
+mod rows;
+#[cfg(test)]
+mod tests;
+
+pub use centre::Centre;
+pub use centre_ledger::{CentreAnswer, Deposit, Standing};
+pub use node::CentreNode;
+pub use room::CentreRoom;
