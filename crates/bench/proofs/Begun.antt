@@ -7,9 +7,8 @@ use Rattle.std.proofs.lemmas.Option.{slice_get_within}
 use Rattle.bench_base.specs.Ledger.{Ledger}
 use Rattle.bench_base.specs.declared.ledger.Entry.TheVariants.{Begin}
 use Rattle.nv_model.specs.declared.nv.Nv as nv
-use Rattle.node_acts.specs.Kinds.{Kind}
 use Rattle.node_seat.specs.declared.node.Node.{Ghosts}
-use Rattle.bench.specs.Benches.{Bench, HasDay, Stands, view_by}
+use Rattle.bench.specs.Benches.{Bench, Nodes, HasDay, Stands, device_view, centre_view}
 use Rattle.bench.specs.Places.{Pairs, IsStopped, Begun, StopsAt}
 use Rattle.bench.proofs.Making.{get_some, pairs_at, pairs_length}
 use Rattle.bench.proofs.Sets.{get_set_same, get_set_other, same_some}
@@ -57,12 +56,13 @@ module _ {K S N C R : Type 0} (n : Ghosts K S N C R) (g : nv.Ghosts S) where
   pub all_stopped : (k : ℕ) (old new : List K) → k ≡ length old → Stopping n g k old new → Pairs (IsStopped n g) old new
   all_stopped k old new all stopping = pairs_of (IsStopped n g) old new stopping.size (λ i s t lt was is. stopping.stopped i s t (omega arith) was is)
 
-pub begun_stands : {K S C R X : Type 0} (n : Ghosts K S ℕ C R) (g : nv.Ghosts S) (kind : Kind ℕ n.Seen X) (old new : Bench K) (H : Ledger)
-    → new.day ≡ None → Begun n g old.devices new.devices → Stands n kind g old H → Stands n kind g new (Begin ∷ H)
-begun_stands n g kind old new H no_day begun stands = record {
+pub begun_stands : {D C S XD XC RD RC : Type 0} (n : Nodes D C S XD XC RD RC) (g : nv.Ghosts S) (old new : Bench D C) (H : Ledger)
+    → new.day ≡ None → Begun n g old new → Stands n g old H → Stands n g new (Begin ∷ H)
+begun_stands n g old new H no_day begun stands = record {
   day = subst (λ o. HasDay o (Begin ∷ H)) (sym no_day) (none_day H);
   devices = λ i t is.
       let lt : i < length new.devices = slice_get_within new.devices i t is in
-      let s = get_some old.devices i (omega (arith, pairs_length (IsStopped n g) old.devices new.devices begun)) in
-      (pairs_at (IsStopped n g) old.devices new.devices begun i s.0 t s.1 is).stands (i + 1) (view_by n kind (i + 1) H) (stands.devices i s.0 s.1);
+      let s = get_some old.devices i (omega (arith, pairs_length (IsStopped n.devices g) old.devices new.devices begun.devices)) in
+      (pairs_at (IsStopped n.devices g) old.devices new.devices begun.devices i s.0 t s.1 is).stands (i + 1) (device_view n (i + 1) H) (stands.devices i s.0 s.1);
+  centre = begun.centre.stands tt (centre_view n H) stands.centre;
 }

@@ -1,9 +1,16 @@
-mod Acts
 mod Begun
 mod Blank
+mod BlankCentre
+mod Calls
+mod CentreActs
+mod CentreFits
+mod CentreTurns
+mod DeviceActs
+mod DeviceTurns
 pub mod Events
-mod Frames
 pub mod Making
+mod OneNode
+mod OneTurn
 mod Over
 mod Quiet
 mod Sets

@@ -55,7 +55,7 @@ rest_long P k whole left made moved =
 pub moved_some : {X Y : Type 0} (P : X → Y → Type 0) (k : ℕ) (whole left : List X) (made : List Y) → Moved P k whole left made → k < length whole → 0 < length left
 moved_some P k whole left made moved few = omega (arith, rest_long P k whole left made moved)
 
-empty_list : {X : Type 0} (xs : List X) → length xs ≡ 0 → xs ≡ []
+pub empty_list : {X : Type 0} (xs : List X) → length xs ≡ 0 → xs ≡ []
 empty_list [] is = refl
 empty_list (x ∷ xs) is = absurd (omega arith)
 

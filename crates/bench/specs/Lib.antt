@@ -1,5 +1,5 @@
 pub mod Benches
+pub mod Calls
 pub mod Costs
-pub mod DeviceTurns
 pub mod Places
 pub mod Steps

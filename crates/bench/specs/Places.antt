@@ -1,5 +1,5 @@
--- The places of devices on a bench that is made, begins a run, and is taken apart.
-use Rattle.std.specs.Prelude.{◌≡◌, ℕ, List, [], ◌∷◌, false, Some, None, slice_get, slice_set}
+-- The nodes of a bench that is made, begins a run, and is taken apart.
+use Rattle.std.specs.Prelude.{◌≡◌, ℕ, List, [], ◌∷◌, false, Bool, Some, None, slice_get, slice_set}
 use Rattle.nv_model.specs.declared.nv.Nv as nv
 use Rattle.nv_model.specs.declared.fused.Fused.{Fused}
 use Rattle.nv_model.specs.Fuses.{inside, state_of}
@@ -7,7 +7,11 @@ use Rattle.node_acts.specs.Views.{View, stopped}
 use Rattle.node_seat.specs.declared.node.Node.{Ghosts}
 use Rattle.node_seat.specs.Stands.{Stands}
 use Rattle.psd_device.specs.declared.node.DeviceNode.{DeviceNode}
-use Rattle.psd_device.specs.NodeView.{is_on, storage_in}
+use Rattle.psd_device.specs.NodeView as device
+use Rattle.centre_protocol.specs.declared.node.CentreNode.{CentreNode}
+use Rattle.centre_protocol.specs.NodeView as centre
+use Rattle.bench.specs.Benches.{Bench, Nodes}
+use Rattle.bench.specs.Benches as benches
 
 -- two lists, of which each two elements at one place are related
 abbrev pub Pairs : {X Y : Type 0} → (X → Y → Type 0) → List X → List Y → Type 0
@@ -15,15 +19,35 @@ Pairs P [] [] = Unit {0}
 Pairs P (x ∷ xs) (y ∷ ys) = P x y × Pairs P xs ys
 Pairs P _ _ = ⊥
 
--- the device is off, over this storage, whose fuse is not armed
-pub record IsOver {N : Type 0} {h : nv.Ghosts N} {g : nv.Ghosts (Fused N h)} (store : N) (device : DeviceNode (Fused N h) g) : Type 0 where
-  pub off : is_on device ≡ false
-  pub within : inside (storage_in device) ≡ store
-  pub unarmed : state_of (storage_in device) ≡ record { lost = false; fuse = None; keep = 0; byte = 0; last = None }
+-- a node that is off or on, over the storage with a fuse that it has: this one is off, over this storage, whose fuse is not armed
+pub record IsOver {N : Type 0} {h : nv.Ghosts N} (store : N) (is_on : Bool) (storage : Fused N h) : Type 0 where
+  pub off : is_on ≡ false
+  pub within : inside storage ≡ store
+  pub unarmed : state_of storage ≡ record { lost = false; fuse = None; keep = 0; byte = 0; last = None }
 
--- the storage is the one inside the device's fuse
-abbrev pub IsInside : {N : Type 0} {h : nv.Ghosts N} {g : nv.Ghosts (Fused N h)} → DeviceNode (Fused N h) g → N → Type 0
-IsInside device store = store ≡ inside (storage_in device)
+abbrev pub IsDeviceOver : {N : Type 0} {h : nv.Ghosts N} {g : nv.Ghosts (Fused N h)} → N → DeviceNode (Fused N h) g → Type 0
+IsDeviceOver store k = IsOver store (device.is_on k) (device.storage_in k)
+
+abbrev pub IsCentreOver : {N : Type 0} {h : nv.Ghosts N} {g : nv.Ghosts (Fused N h)} → N → CentreNode (Fused N h) g → Type 0
+IsCentreOver store k = IsOver store (centre.is_on k) (centre.storage_in k)
+
+-- the storage is the one inside the node's fuse
+abbrev pub IsInDevice : {N : Type 0} {h : nv.Ghosts N} {g : nv.Ghosts (Fused N h)} → DeviceNode (Fused N h) g → N → Type 0
+IsInDevice k store = store ≡ inside (device.storage_in k)
+
+abbrev pub IsInCentre : {N : Type 0} {h : nv.Ghosts N} {g : nv.Ghosts (Fused N h)} → CentreNode (Fused N h) g → N → Type 0
+IsInCentre k store = store ≡ inside (centre.storage_in k)
+
+-- each node of a bench is off, over the storage in its place; each storage is the one inside the fuse of the node in its place
+pub record AreOver {N : Type 0} {h : nv.Ghosts N} {g : nv.Ghosts (Fused N h)} (stores : benches.Places N)
+    (bench : Bench (DeviceNode (Fused N h) g) (CentreNode (Fused N h) g)) : Type 0 where
+  pub devices : Pairs (λ store k. IsDeviceOver store k) stores.devices bench.devices
+  pub centre : IsCentreOver stores.centre bench.centre
+
+pub record AreInside {N : Type 0} {h : nv.Ghosts N} {g : nv.Ghosts (Fused N h)} (bench : Bench (DeviceNode (Fused N h) g) (CentreNode (Fused N h) g))
+    (stores : benches.Places N) : Type 0 where
+  pub devices : Pairs (λ k store. IsInDevice k store) bench.devices stores.devices
+  pub centre : IsInCentre bench.centre stores.centre
 
 module _ {K S N C R : Type 0} (n : Ghosts K S N C R) (g : nv.Ghosts S) where
   -- a node after a begin: it is off, over the storage as it was
@@ -32,8 +56,8 @@ module _ {K S N C R : Type 0} (n : Ghosts K S N C R) (g : nv.Ghosts S) where
     pub storage : n.storage t ≡ n.storage s
     pub stands : (d : N) (v : View n.Seen) → Stands n g d v s → Stands n g d (stopped v) t
 
-  abbrev pub Begun : List K → List K → Type 0
-  Begun old new = Pairs IsStopped old new
+  abbrev pub AreStopped : List K → List K → Type 0
+  AreStopped old new = Pairs IsStopped old new
 
   -- the node in one place was switched off
   pub record StopsAt (place : ℕ) (old new : List K) : Type 0 where
@@ -42,3 +66,8 @@ module _ {K S N C R : Type 0} (n : Ghosts K S N C R) (g : nv.Ghosts S) where
     pub was : slice_get old place ≡ Some before
     pub set : new ≡ slice_set old place now
     pub stops : IsStopped before now
+
+-- a run begins: each node was switched off
+pub record Begun {D C S XD XC RD RC : Type 0} (n : Nodes D C S XD XC RD RC) (g : nv.Ghosts S) (old new : Bench D C) : Type 0 where
+  pub devices : AreStopped n.devices g old.devices new.devices
+  pub centre : IsStopped n.centre g old.centre new.centre

@@ -1,7 +1,7 @@
 -- What one event does to the bench.
 use Rattle.std.specs.Prelude.{◌≡◌, ◌⊎◌, ◌↔◌, ℕ, ℤ, List, [], ◌∷◌, Bool, true, false, Option, Some, None, IsSome, length, slice_get}
 use Rattle.bench_base.specs.declared.words.Node.{Node}
-use Rattle.bench_base.specs.declared.words.Node.TheVariants.{Device}
+use Rattle.bench_base.specs.declared.words.Node.TheVariants.{Device, Centre}
 use Rattle.bench_base.specs.declared.ledger.Commit.{Commit}
 use Rattle.bench_base.specs.declared.ledger.Entry.TheVariants as entry
 use Rattle.bench_base.specs.declared.events.Event.{Event}
@@ -17,34 +17,47 @@ use Rattle.nv_model.specs.declared.nv.Nv as nv
 use Rattle.nv_model.specs.declared.fuse.Fuse as fuse
 use Rattle.nv_model.specs.Moments.{Image}
 use Rattle.nv_store.specs.Mounts.{Mounts}
-use Rattle.node_acts.specs.Views.{View}
+use Rattle.node_acts.specs.declared.asked.Asked.{Asked}
+use Rattle.node_acts.specs.Kinds.{Kind, view_in}
 use Rattle.node_acts.specs.Plans.{after}
+use Rattle.node_acts.specs.Views.{View}
 use Rattle.node_seat.specs.declared.node.Node.{Ghosts}
 use Rattle.node_seat.specs.Shown.{Allowed}
 use Rattle.node_seat.specs.Stands as node
 use Rattle.node_seat.specs.Stands.{times_of, meters_of, HasDamage, IsArmed}
-use Rattle.ledger_moves.specs.Tariffs.{Tariff}
-use Rattle.ledger_moves.specs.Moves as ledger
-use Rattle.ledger_moves.specs.Moves.{Moves, plan}
-use Rattle.ledger_moves.specs.Histories.{History}
-use Rattle.node_acts.specs.declared.asked.Asked.{Asked}
-use Rattle.bench_views.specs.declared.taken.DeviceCall.{DeviceCall}
-use Rattle.bench_views.specs.declared.taken.Taken.TheVariants as take
-use Rattle.node_acts.specs.Kinds.{Kind}
-use Rattle.bench_views.specs.Taken.{taken}
 use Rattle.node_turns.specs.declared.turn.Turn.{Turn}
-use Rattle.bench.specs.Benches.{Bench, At, Stands, StoresStand, ForEach, view_by}
 use Rattle.node_turns.specs.Adds.{Adds}
 use Rattle.node_turns.specs.Costs.{Charged}
 use Rattle.node_turns.specs.NodeTurns.{Switches, MovesView}
 use Rattle.node_turns.specs.Turns.{in_order, turn_of}
+use Rattle.ledger_moves.specs.Tariffs.{Tariff}
+use Rattle.ledger_moves.specs.Moves as ledger
+use Rattle.ledger_moves.specs.Moves.{Moves, plan}
+use Rattle.ledger_moves.specs.Histories.{History}
+use Rattle.bench_views.specs.declared.taken.DeviceCall.{DeviceCall}
+use Rattle.bench_views.specs.declared.taken.CentreCall.{CentreCall}
+use Rattle.bench_views.specs.declared.taken.Taken.TheVariants as take
+use Rattle.bench_views.specs.Taken.{taken}
+use Rattle.bench.specs.Benches.{Bench, Places, Nodes, At, Stands, StoresStand, ForEach}
 
--- == of one node ==
+-- == of one node, of any kind ==
 
--- an image of device d that shows its counted commits and the commit of the event
-abbrev pub ShowsCommit : {K S C R X : Type 0} (n : Ghosts K S ℕ C R) → Kind ℕ n.Seen X → Tariff → Ledger → Event → ℕ → List ℕ → Type 0
-ShowsCommit n kind τ H e d image = (c : Commit) × ((plan τ todays_rules H e []).commit ≡ Some c) × (node_of c ≡ Device d)
-    × n.IsShown (kind.seen d (c ∷ counted H)) image
+-- an image of node m that shows its counted commits and the commit of the event
+abbrev pub ShowsCommit : {K S N C R : Type 0} (n : Ghosts K S N C R) → (List Commit → n.Seen) → Node → Tariff → Ledger → Event → List ℕ → Type 0
+ShowsCommit n seen m τ H e image = (c : Commit) × ((plan τ todays_rules H e []).commit ≡ Some c) × (node_of c ≡ m) × n.IsShown (seen (c ∷ counted H)) image
+
+-- each image that the node had since the event began shows the ledger, or the ledger and the one commit of the event
+abbrev pub ShowsLedger : {K S N C R : Type 0} (n : Ghosts K S N C R) → nv.Ghosts S → (List Commit → n.Seen) → Node → Tariff → Ledger → Event → K → K → Type 0
+ShowsLedger n g seen m τ H e s t = (image : List ℕ) → (times_of n g t).since (times_of n g s).moment image
+    → Allowed n (view_in m seen H) image ⊎ ShowsCommit n seen m τ H e image
+
+-- whatever this storage may hold is an image that the node had at some moment between these
+abbrev pub HoldsImage : {K S N C R T : Type 0} (n : Ghosts K S N C R) → nv.Ghosts S → nv.Ghosts T → K → K → T → Type 0
+HoldsImage n g h s t store = (image : List ℕ) → Image (h.times store) image → (times_of n g t).since (times_of n g s).moment image
+
+-- the event does what any view allows for which the node stood
+abbrev pub MovesViews : {K S N C R X : Type 0} (n : Ghosts K S N C R) → nv.Ghosts S → Kind N n.Seen X → Node → N → ℤ → Asked X → Turn → K → K → Type 0
+MovesViews n g kind m d today asked turn s t = (v : View n.Seen) → node.Stands n g d v s → MovesView n kind g m d today asked turn v s t
 
 -- == failures ==
 
@@ -64,6 +77,11 @@ is_failure RatesFailed = false
 abbrev pub tells_failure : Reply → Bool
 tells_failure reply = is_failure (told_by reply)
 
+-- a node without an open commit has none now
+pub record StayClosed (old new : Ledger) : Type 0 where
+  pub devices : (d : ℕ) → torn_of (Device d) old ≡ None → torn_of (Device d) new ≡ None
+  pub centre : torn_of Centre old ≡ None → torn_of Centre new ≡ None
+
 -- == a stop within a step ==
 
 -- the ledger with this commit, if there is one, open
@@ -77,41 +95,44 @@ after_stop τ H e = entry.Begin ∷ with_open (plan τ todays_rules H e []).comm
 
 -- == of the bench ==
 
-module _ {K S C R : Type 0} (n : Ghosts K S ℕ C R) (g : nv.Ghosts S) where
-  -- Eight storages that a stop leaves: of each, whatever it may hold is an image that the device had at some moment between
-  -- these benches, before and after the event.
-  pub record AreLeft {N : Type 0} (h : nv.Ghosts N) (old new : Bench K) (stores : List N) : Type 0 where
-    pub eight : length stores ≡ 8
-    pub size : (i : ℕ) (store : N) → slice_get stores i ≡ Some store → h.size store ≡ n.bytes
-    pub images : (i : ℕ) (s t : K) (store : N) → slice_get old.devices i ≡ Some s → slice_get new.devices i ≡ Some t
-        → slice_get stores i ≡ Some store → (image : List ℕ) → Image (h.times store) image → (times_of n g t).since (times_of n g s).moment image
+module _ {D C S XD XC RD RC : Type 0} (n : Nodes D C S XD XC RD RC) (g : nv.Ghosts S) where
+  -- Storages that a stop leaves: of each, whatever it may hold is an image that its node had at some moment between these benches,
+  -- before and after the event.
+  pub record AreLeft {N : Type 0} (h : nv.Ghosts N) (old new : Bench D C) (stores : Places N) : Type 0 where
+    pub eight : length stores.devices ≡ 8
+    pub size : (i : ℕ) (store : N) → slice_get stores.devices i ≡ Some store → h.size store ≡ n.devices.bytes
+    pub images : (i : ℕ) (s t : D) (store : N) → slice_get old.devices i ≡ Some s → slice_get new.devices i ≡ Some t
+        → slice_get stores.devices i ≡ Some store → HoldsImage n.devices g h s t store
+    pub centre_size : h.size stores.centre ≡ n.centre.bytes
+    pub centre_images : HoldsImage n.centre g h old.centre new.centre stores.centre
 
   -- By a history for which the bench stood: the reply is one that the event may get there, the entries are those of the event
   -- and the reply, the bench stands for the history with them, and only a failure leaves a commit open. At every moment meanwhile
   -- the storages show the ledger, or the ledger and the one commit of the event; so where the process is stopped they stand for it.
-  pub record StepsOn {N : Type 0} (h : nv.Ghosts N) (kind : Kind ℕ n.Seen DeviceCall) (τ : Tariff) (H : Ledger) (e : Event) (turn : Turn) (old new : Bench K) : Type 0 where
+  pub record StepsOn {N : Type 0} (h : nv.Ghosts N) (τ : Tariff) (H : Ledger) (e : Event) (turn : Turn) (old new : Bench D C) : Type 0 where
     pub moves : Moves τ todays_rules H e [] turn.reply
     pub entries : turn.entries ≡ in_order (after (plan τ todays_rules H e []) turn.reply [])
-    pub stands : Stands n kind g new (ledger.entries τ todays_rules H e [] turn.reply)
-    pub closed : tells_failure turn.reply ≡ false → (d : ℕ) → torn_of (Device d) H ≡ None
-        → torn_of (Device d) (ledger.entries τ todays_rules H e [] turn.reply) ≡ None
-    pub any_moment : (m : Node) → At (λ d s t. (image : List ℕ) → (times_of n g t).since (times_of n g s).moment image
-        → Allowed n (view_by n kind d H) image ⊎ ShowsCommit n kind τ H e d image) old new m
-    pub stopped : (stores : List N) → AreLeft h old new stores → History τ editions (after_stop τ H e) × StoresStand n kind h stores (after_stop τ H e)
+    pub stands : Stands n g new (ledger.entries τ todays_rules H e [] turn.reply)
+    pub closed : tells_failure turn.reply ≡ false → StayClosed H (ledger.entries τ todays_rules H e [] turn.reply)
+    pub any_moment : (m : Node) → At (λ d. ShowsLedger n.devices g (n.kinds.devices.seen d) (Device d) τ H e) (ShowsLedger n.centre g (n.kinds.centre.seen tt) Centre τ H e) old new m
+    pub stopped : (stores : Places N) → AreLeft h old new stores → History τ editions (after_stop τ H e) × StoresStand n h stores (after_stop τ H e)
 
   -- By what the storages show, whether or not a history leads to it: the event does what any view allows for which its node stood;
   -- one that commits nothing writes nothing; and damage is told exactly where the storage that an `on` read is none of the node.
-  pub record StepsByViews (kind : Kind ℕ n.Seen DeviceCall) (e : Event) (turn : Turn) (old new : Bench K) : Type 0 where
-    pub views : (today : ℤ) (d : ℕ) (asked : Asked DeviceCall) → old.day ≡ Some today → taken e ≡ Some (take.Device d asked)
-        → At (λ i s t. (v : View n.Seen) → node.Stands n g i v s → MovesView n kind g (Device i) i today asked turn v s t) old new (Device d)
-    pub unwritten : may_commit e ≡ false → (m : Node) → At (λ d s t. Mounts (times_of n g s) (times_of n g t)) old new m
+  pub record StepsByViews (e : Event) (turn : Turn) (old new : Bench D C) : Type 0 where
+    pub devices : (today : ℤ) (d : ℕ) (asked : Asked DeviceCall) → old.day ≡ Some today → taken e ≡ Some (take.Device d asked)
+        → At (λ i. MovesViews n.devices g n.kinds.devices (Device i) i today asked turn) (λ s t. Unit {0}) old new (Device d)
+    pub centre : (today : ℤ) (asked : Asked CentreCall) → old.day ≡ Some today → taken e ≡ Some (take.Centre asked)
+        → MovesViews n.centre g n.kinds.centre Centre tt today asked turn old.centre new.centre
+    pub unwritten : may_commit e ≡ false → (m : Node)
+        → At (λ d s t. Mounts (times_of n.devices g s) (times_of n.devices g t)) (λ s t. Mounts (times_of n.centre g s) (times_of n.centre g t)) old new m
     pub damaged : (m : Node) → e ≡ ev.On m → has_read turn.reply ≡ true
-        → At (λ d s t. (turn.reply ≡ r.Damaged m) ↔ HasDamage n d t) old new m
+        → At (λ d s t. (turn.reply ≡ r.Damaged m) ↔ HasDamage n.devices d t) (λ s t. (turn.reply ≡ r.Damaged m) ↔ HasDamage n.centre tt t) old new m
 
   -- Whatever the storages tell: which replies the event may get at all; whether it has a day, and the day after it; the turns of
   -- `day` and `end`; what a reply alone says of the entries; what is refused, armed and charged; and each node but its own is as
   -- it was.
-  pub record StepsAlone (f : fuse.Ghosts S) (e : Event) (turn : Turn) (old new : Bench K) : Type 0 where
+  pub record StepsAlone (f : fuse.Ghosts S) (e : Event) (turn : Turn) (old new : Bench D C) : Type 0 where
     pub reply : MayGet e turn.reply
     pub day : needs_day e ≡ true → (turn.reply ≡ r.NoDay) ↔ (old.day ≡ None)
     pub dated : new.day ≡ day_after e old.day
@@ -119,13 +140,16 @@ module _ {K S C R : Type 0} (n : Ghosts K S ℕ C R) (g : nv.Ghosts S) where
     pub ends : e ≡ ev.End → turn ≡ turn_of r.End []
     pub refused : is_refusal turn.reply ≡ true → (new ≡ old) × (turn.entries ≡ in_order [])
     pub adds : Adds e (told_by turn.reply) turn.entries
-    pub switches : IsSome old.day → (m : Node) → node_for e ≡ Some m → At (λ d s t. Switches m e turn.reply (n.is_on s) (n.is_on t)) old new m
-    pub charged : (m : Node) → At (λ d s t. Charged m e turn.reply (meters_of n g s) (meters_of n g t)) old new m
-    pub armed : IsSome old.day → (m : Node) (calls keep byte : ℕ) → e ≡ ev.Cut m calls keep byte → At (λ d s t. IsArmed n f t calls keep byte) old new m
-    pub others : (m : Node) → (node_for e ≡ Some m → ⊥) → At (λ d s t. t ≡ s) old new m
+    pub switches : IsSome old.day → (m : Node) → node_for e ≡ Some m
+        → At (λ d s t. Switches m e turn.reply (n.devices.is_on s) (n.devices.is_on t)) (λ s t. Switches m e turn.reply (n.centre.is_on s) (n.centre.is_on t)) old new m
+    pub charged : (m : Node)
+        → At (λ d s t. Charged m e turn.reply (meters_of n.devices g s) (meters_of n.devices g t)) (λ s t. Charged m e turn.reply (meters_of n.centre g s) (meters_of n.centre g t)) old new m
+    pub armed : IsSome old.day → (m : Node) (calls keep byte : ℕ) → e ≡ ev.Cut m calls keep byte
+        → At (λ d s t. IsArmed n.devices f t calls keep byte) (λ s t. IsArmed n.centre f t calls keep byte) old new m
+    pub others : (m : Node) → (node_for e ≡ Some m → ⊥) → At (λ d s t. t ≡ s) (λ s t. t ≡ s) old new m
 
   -- what one event does to the bench, in three parts
-  pub record Steps {N : Type 0} (f : fuse.Ghosts S) (h : nv.Ghosts N) (kind : Kind ℕ n.Seen DeviceCall) (e : Event) (turn : Turn) (old new : Bench K) : Type 0 where
-    pub history : ForEach n kind g old (λ τ H. StepsOn h kind τ H e turn old new)
-    pub shown : g.tells → StepsByViews kind e turn old new
+  pub record Steps {N : Type 0} (f : fuse.Ghosts S) (h : nv.Ghosts N) (e : Event) (turn : Turn) (old new : Bench D C) : Type 0 where
+    pub history : ForEach n g old (λ τ H. StepsOn h τ H e turn old new)
+    pub shown : g.tells → StepsByViews e turn old new
     pub always : StepsAlone f e turn old new

@@ -1,23 +1,26 @@
 //! One event.
-ghost use Rattle.std.specs.Prelude.{◌≡◌, ◌↔◌, ◌≤◌, ◌<◌, length, IfOk, IsOk, IsTrue, Some};
+ghost use Rattle.std.specs.Prelude.{◌≡◌, ◌↔◌, length, IfOk, IsOk, IsTrue};
 ghost use Rattle.bench_base.specs.declared.words.Node.TheVariants as node;
 ghost use Rattle.bench_base.specs.Ranges.{IsWholeEvent};
 ghost use Rattle.node_turns.specs.declared.turn.Turn.{Turn};
 ghost use Rattle.node_turns.specs.NodeTurns.{NodeTurn};
 ghost use Rattle.bench_views.specs.Devices.{device_kind};
+ghost use Rattle.bench_views.specs.Centre.{centre_kind};
 ghost use Rattle.bench_views.specs.Taken.{IsTaken};
-ghost use Rattle.bench.specs.Benches.{IsReady, ForEach, bench_of, fuse_in};
-ghost use Rattle.bench.specs.DeviceTurns.{DeviceTurn, event_of};
+ghost use Rattle.bench.specs.Benches.{IsReady, ForEach, nodes, bench_of, fuse_in};
+ghost use Rattle.bench_views.specs.Kinds.{bench_kinds};
+ghost use Rattle.bench.specs.Calls.{DeviceTurn, device_event, centre_event};
 ghost use Rattle.bench.specs.Steps.{Steps, StepsOn, StepsByViews, StepsAlone};
 
-use crate::call;
-use crate::devices::{Bench, BenchOver};
+use crate::benches::{Bench, BenchOver};
+use crate::{centre_calls, device_calls};
 use bench_base::events::{Event, Reply};
 use bench_base::ledger::Entry;
 use bench_base::numbers::{DayNo, DevNo};
 use bench_base::words::Node as NodeNo;
-use bench_views::laws::devices_follow;
-use bench_views::{DeviceCall, Taken, take};
+use bench_views::laws::nodes_follow;
+use bench_views::{CentreCall, DeviceCall, Taken, take};
+use centre_protocol::CentreNode;
 use node_acts::Asked;
 use node_seat::Node;
 use node_turns::{Tell, Turn, cut, start, stop};
@@ -26,7 +29,7 @@ use psd_device::DeviceNode;
 use psd_wire::DebitMsg;
 use std::alloc::{AllocError, Global};
 
-/// Whether the bench takes the event: it has devices alone, and they take no messages.
+/// Whether the bench takes the event: it has the devices and the centre, and they take no messages.
 pub fn is_taken(event: &Event) -> bool
     ensures { IsTrue result ↔ IsTaken event.now }
 {
@@ -34,20 +37,20 @@ pub fn is_taken(event: &Event) -> bool
 }
 
 // A call of the device in this place, on that day. A device that is off decides nothing.
-fn called<T: Tell, M: Fuse + Drop>(
+fn device_called<T: Tell, M: Fuse + Drop>(
     place: &mut DeviceNode<M>,
     device: DevNo,
     day: DayNo,
     asked: &DeviceCall,
 ) -> T
     ensures did { (turn : Turn) × T.IsOf result turn
-        × NodeTurn ⟦<DeviceNode<M> as Node>⟧ M.Nv M.Fuse.own device_kind (node.Device device) device day (event_of device (Asked.Call asked.now)) (Asked.Call asked.now) place.old place.new turn }
+        × NodeTurn ⟦<DeviceNode<M> as Node>⟧ M.Nv M.Fuse.own device_kind (node.Device device) device day (device_event device (Asked.Call asked.now)) (Asked.Call asked.now) place.old place.new turn }
 {
     if !place.is_on() {
         return T::silent(Reply::OffNode(NodeNo::Device(device)));
     }
     match asked {
-        DeviceCall::Make(key) => call::make(place, device, key),
+        DeviceCall::Make(key) => device_calls::make(place, device, key),
         DeviceCall::Debit {
             piece,
             postage,
@@ -59,21 +62,21 @@ fn called<T: Tell, M: Fuse + Drop>(
                 postage: *postage,
                 class: *class,
             };
-            call::debit(place, device, &command, day)
+            device_calls::debit(place, device, &command, day)
         }
-        DeviceCall::Status => call::status(place, device, day),
+        DeviceCall::Status => device_calls::status(place, device, day),
     }
 }
 
 // An event of the device in this place, on that day.
-fn node_turn<T: Tell, M: Fuse + Drop>(
+fn device_did<T: Tell, M: Fuse + Drop>(
     place: &mut DeviceNode<M>,
     device: DevNo,
     day: DayNo,
     asked: &Asked<DeviceCall>,
 ) -> T
     ensures did { (turn : Turn) × T.IsOf result turn
-        × NodeTurn ⟦<DeviceNode<M> as Node>⟧ M.Nv M.Fuse.own device_kind (node.Device device) device day (event_of device asked.now) asked.now place.old place.new turn }
+        × NodeTurn ⟦<DeviceNode<M> as Node>⟧ M.Nv M.Fuse.own device_kind (node.Device device) device day (device_event device asked.now) asked.now place.old place.new turn }
 {
     match asked {
         Asked::On => start(place, device, &NodeNo::Device(device)),
@@ -81,7 +84,7 @@ fn node_turn<T: Tell, M: Fuse + Drop>(
         Asked::Cut(calls, keep, byte) => {
             cut(place, &NodeNo::Device(device), *calls, *keep, *byte)
         }
-        Asked::Call(asked) => called(place, device, day, asked),
+        Asked::Call(asked) => device_called(place, device, day, asked),
     }
 }
 
@@ -97,7 +100,58 @@ fn device_turn<T: Tell, M: Fuse + Drop>(
         × DeviceTurn ⟦<DeviceNode<M> as Node>⟧ M.Nv M.Fuse.own device_kind device day asked.now devices.old.items devices.new.items turn }
 {
     let place = device.get() as usize - 1;
-    node_turn(&mut devices[place], device, day, asked)
+    device_did(&mut devices[place], device, day, asked)
+}
+
+// A call of the centre, on that day. A centre that is off decides nothing.
+fn centre_called<T: Tell, M: Fuse + Drop>(
+    place: &mut CentreNode<M>,
+    day: DayNo,
+    asked: &CentreCall,
+) -> T
+    requires whole { IsWholeEvent (centre_event (Asked.Call asked.now)) }
+    ensures did { (turn : Turn) × T.IsOf result turn
+        × NodeTurn ⟦<CentreNode<M> as Node>⟧ M.Nv M.Fuse.own centre_kind node.Centre tt day (centre_event (Asked.Call asked.now)) (Asked.Call asked.now) place.old place.new turn }
+{
+    if !place.is_on() {
+        return T::silent(Reply::OffNode(NodeNo::Centre));
+    }
+    match asked {
+        CentreCall::Register {
+            device,
+            origin,
+            key,
+        } => centre_calls::register(place, *device, *origin, key),
+        CentreCall::Open(customer) => centre_calls::open(place, *customer),
+        CentreCall::Deposit {
+            customer,
+            receipt,
+            amount,
+        } => centre_calls::deposit(place, *customer, *receipt, *amount),
+        CentreCall::Flag {
+            customer,
+            suspended,
+        } => centre_calls::flag(place, *customer, *suspended),
+        CentreCall::Balance(customer) => centre_calls::balance(place, *customer),
+    }
+}
+
+// An event of the centre, on that day.
+fn centre_turn<T: Tell, M: Fuse + Drop>(
+    place: &mut CentreNode<M>,
+    day: DayNo,
+    asked: &Asked<CentreCall>,
+) -> T
+    requires whole { IsWholeEvent (centre_event asked.now) }
+    ensures did { (turn : Turn) × T.IsOf result turn
+        × NodeTurn ⟦<CentreNode<M> as Node>⟧ M.Nv M.Fuse.own centre_kind node.Centre tt day (centre_event asked.now) asked.now place.old place.new turn }
+{
+    match asked {
+        Asked::On => start(place, (), &NodeNo::Centre),
+        Asked::Off => stop(place, &NodeNo::Centre),
+        Asked::Cut(calls, keep, byte) => cut(place, &NodeNo::Centre, *calls, *keep, *byte),
+        Asked::Call(asked) => centre_called(place, day, asked),
+    }
 }
 
 /// Does one event as `step` does, and tells it whole or by its reply alone, which makes no entries.
@@ -107,10 +161,10 @@ pub fn react<T: Tell, M: Fuse + Drop, N: Nv>(bench: &mut BenchOver<M, N>, event:
     requires ready { IsReady (bench_of bench.old) }
     ensures ready { IsReady (bench_of bench.new) }
     ensures did { (turn : Turn) × T.IsOf result turn
-        × Steps ⟦<DeviceNode<M> as Node>⟧ M.Nv M.Fuse.own N.Nv device_kind event.now turn (bench_of bench.old) (bench_of bench.new) }
+        × Steps (nodes ⟦<DeviceNode<M> as Node>⟧ ⟦<CentreNode<M> as Node>⟧ bench_kinds) M.Nv M.Fuse.own N.Nv event.now turn (bench_of bench.old) (bench_of bench.new) }
 {
-    // What the bench sees of its devices follows from the ledger.
-    devices_follow();
+    // What the bench sees of its nodes follows from the ledger.
+    nodes_follow();
     let Some(taken) = take(event) else {
         unreachable!();
     };
@@ -123,6 +177,10 @@ pub fn react<T: Tell, M: Fuse + Drop, N: Nv>(bench: &mut BenchOver<M, N>, event:
         Taken::Device(device, asked) => match bench.day {
             None => T::silent(Reply::NoDay),
             Some(day) => device_turn(&mut bench.devices, *device, day, asked),
+        },
+        Taken::Centre(asked) => match bench.day {
+            None => T::silent(Reply::NoDay),
+            Some(day) => centre_turn(&mut bench.centre, day, asked),
         },
     }
 }
@@ -147,12 +205,12 @@ pub fn step<N: Nv + Drop>(
     requires ready { IsReady (bench_of bench.old) }
     ensures ready { IsReady (bench_of bench.new) }
     ensures memory { IsOk result }
-    ensures history { ForEach ⟦<DeviceNode<Fused<N>> as Node>⟧ device_kind ⟦<Fused<N> as Nv>⟧ (bench_of bench.old) (λ τ H. IfOk result (λ turn.
-        StepsOn ⟦<DeviceNode<Fused<N>> as Node>⟧ ⟦<Fused<N> as Nv>⟧ N.Nv device_kind τ H event.now turn (bench_of bench.old) (bench_of bench.new))) }
+    ensures history { ForEach (nodes ⟦<DeviceNode<Fused<N>> as Node>⟧ ⟦<CentreNode<Fused<N>> as Node>⟧ bench_kinds) ⟦<Fused<N> as Nv>⟧ (bench_of bench.old) (λ τ H. IfOk result (λ turn.
+        StepsOn (nodes ⟦<DeviceNode<Fused<N>> as Node>⟧ ⟦<CentreNode<Fused<N>> as Node>⟧ bench_kinds) ⟦<Fused<N> as Nv>⟧ N.Nv τ H event.now turn (bench_of bench.old) (bench_of bench.new))) }
     ensures shown { N.tells → IfOk result (λ turn.
-        StepsByViews ⟦<DeviceNode<Fused<N>> as Node>⟧ ⟦<Fused<N> as Nv>⟧ device_kind event.now turn (bench_of bench.old) (bench_of bench.new)) }
+        StepsByViews (nodes ⟦<DeviceNode<Fused<N>> as Node>⟧ ⟦<CentreNode<Fused<N>> as Node>⟧ bench_kinds) ⟦<Fused<N> as Nv>⟧ event.now turn (bench_of bench.old) (bench_of bench.new)) }
     ensures always { IfOk result (λ turn.
-        StepsAlone ⟦<DeviceNode<Fused<N>> as Node>⟧ ⟦<Fused<N> as Nv>⟧ fuse_in event.now turn (bench_of bench.old) (bench_of bench.new)) }
+        StepsAlone (nodes ⟦<DeviceNode<Fused<N>> as Node>⟧ ⟦<CentreNode<Fused<N>> as Node>⟧ bench_kinds) ⟦<Fused<N> as Nv>⟧ fuse_in event.now turn (bench_of bench.old) (bench_of bench.new)) }
 {
     Ok(react(bench, event))
 }

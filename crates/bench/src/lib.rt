@@ -1,11 +1,14 @@
-//! The bench: eight devices on their storages, and the events that change them.
+//! The bench: eight devices and the centre on their storages, and the events that change them.
 #![tactic(auto)]
 
-mod call;
-mod devices;
+mod benches;
+mod centre_calls;
+mod device_calls;
 mod event;
 mod places;
+mod stores;
 
-pub use devices::{Bench, BenchOver, Stores};
+pub use benches::{Bench, BenchOver};
 pub use event::{is_taken, react, step};
 pub use node_turns::{Tell, Turn};
+pub use stores::Stores;

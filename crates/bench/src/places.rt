@@ -1,9 +1,10 @@
-//! The places of devices on a bench that is made, begins a run, and is taken apart.
-ghost use Rattle.std.specs.Prelude.{◌≡◌, ◌<◌, ◌≤◌, length};
+//! The nodes of a bench that is made, begins a run, and is taken apart.
+ghost use Rattle.std.specs.Prelude.{◌≡◌, ◌<◌, length};
 ghost use Rattle.nv_model.specs.Meters.{Works};
-ghost use Rattle.bench.specs.Places.{Begun, StopsAt, IsOver, IsInside};
+ghost use Rattle.bench.specs.Places.{AreStopped, StopsAt, IsDeviceOver, IsCentreOver, IsInDevice, IsInCentre};
 
 use bench_base::numbers::DevNo;
+use centre_protocol::{CentreNode, CentreRoom};
 use node_seat::Node;
 use nv_model::{Fuse, Fused, Nv};
 use psd_device::DeviceNode;
@@ -18,7 +19,7 @@ fn stop_at<M: Fuse + Drop>(devices: &mut Vec<DeviceNode<M>>, place: usize)
 
 /// Switches all devices off.
 pub fn stop_all<M: Fuse + Drop>(devices: &mut Vec<DeviceNode<M>>)
-    ensures begun { Begun ⟦<DeviceNode<M> as Node>⟧ M.Nv devices.old.items devices.new.items }
+    ensures stopped { AreStopped ⟦<DeviceNode<M> as Node>⟧ M.Nv devices.old.items devices.new.items }
     ensures size { length devices.new.items ≡ length devices.old.items }
 {
     for place in 0..devices.len() {
@@ -29,7 +30,7 @@ pub fn stop_all<M: Fuse + Drop>(devices: &mut Vec<DeviceNode<M>>)
 /// A device that is off, over a storage that gets a fuse. Its number counts from its next boot on.
 pub fn device_over<N: Nv + Drop>(nv: N) -> DeviceNode<Fused<N>>
     requires fresh { Works (N.meters nv) }
-    ensures over { IsOver nv result }
+    ensures over { IsDeviceOver nv result }
 {
     match DevNo::new(1) {
         Some(number) => DeviceNode::off(number, Fused::new(nv), ()),
@@ -37,10 +38,26 @@ pub fn device_over<N: Nv + Drop>(nv: N) -> DeviceNode<Fused<N>>
     }
 }
 
+/// The centre, off, over a storage that gets a fuse.
+pub fn centre_over<N: Nv + Drop>(nv: N, room: CentreRoom) -> CentreNode<Fused<N>>
+    requires fresh { Works (N.meters nv) }
+    ensures over { IsCentreOver nv result }
+{
+    CentreNode::off((), Fused::new(nv), room)
+}
+
 /// The storage of a device, without its fuse.
-pub fn storage_of<N: Nv + Drop>(device: DeviceNode<Fused<N>>) -> N
-    ensures inside { IsInside device result }
+pub fn device_storage<N: Nv + Drop>(device: DeviceNode<Fused<N>>) -> N
+    ensures inside { IsInDevice device result }
 {
     let (nv, _memory) = device.into_parts();
+    nv.into_inner()
+}
+
+/// The storage of the centre, without its fuse.
+pub fn centre_storage<N: Nv + Drop>(centre: CentreNode<Fused<N>>) -> N
+    ensures inside { IsInCentre centre result }
+{
+    let (nv, _room) = centre.into_parts();
     nv.into_inner()
 }

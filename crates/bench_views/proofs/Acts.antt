@@ -1,4 +1,4 @@
--- What a device is asked goes in one of the steps.
+-- What a device is called for goes in one of the steps.
 use Rattle.std.proofs.Common.{◌≡◌, ℕ, ℤ, Bool, true, false, List, [], ◌∷◌, Option, Some, None, Result, Ok, Err, cond, refl, sym, subst}
 use Rattle.std.specs.Prelude.{option_map, ◌+◌}
 use Rattle.std.proofs.lemmas.Bool.{eq-eqb}
@@ -13,7 +13,7 @@ use Rattle.bench_base.specs.Ledger.{Ledger, is_on, counted, count_of}
 use Rattle.psd_wire.specs.declared.message.DebitMsg.{DebitMsg}
 use Rattle.ledger_terms.specs.Devices.{key_of}
 use Rattle.node_acts.specs.Acts.{commit_in}
-use Rattle.node_acts.specs.Plans.{after}
+use Rattle.node_acts.specs.Plans.{after, MayReply}
 use Rattle.psd_state.specs.State.{State}
 use Rattle.psd_state.specs.Records.{IsRecordOf, state_of}
 use Rattle.psd_state.specs.Answers.{debit_answer}
@@ -24,13 +24,11 @@ use Rattle.psd_state.specs.declared.debiting.Debited.{Debited}
 use Rattle.psd_state.specs.declared.debiting.Debited.TheVariants.{New, Again}
 use Rattle.ledger_moves.specs.Moves.{debit_by}
 use Rattle.law_orders.specs.Nexts.{AreOrdered}
-use Rattle.node_acts.specs.declared.asked.Asked.{Asked}
-use Rattle.node_acts.specs.declared.asked.Asked.TheVariants.{On, Off, Cut, Call}
 use Rattle.bench_views.specs.declared.taken.DeviceCall.{DeviceCall}
 use Rattle.bench_views.specs.declared.taken.DeviceCall.TheVariants.{Make, Debit, Status}
 use Rattle.ledger_moves.specs.Devices.{record_in}
-use Rattle.bench_views.specs.Devices.{seen_in, view_of, marked, released, device_plan, commit_by, MayReply}
-use Rattle.bench_views.proofs.Steps.{Step, IsQuiet, IsRight, acts, turns-on, turns-off, cuts}
+use Rattle.bench_views.specs.Devices.{seen_in, view_of, marked, released, call_plan, call_commit}
+use Rattle.bench_views.proofs.Steps.{Step, IsQuiet, IsRight, acts}
 
 module _ (H : Ledger) (ordered : AreOrdered (counted H)) (making : MakingStarts) (debiting : DebitingKeeps) where
   abbrev kept : ℕ → Option (List ℕ) → Option State
@@ -69,10 +67,8 @@ module _ (H : Ledger) (ordered : AreOrdered (counted H)) (making : MakingStarts)
   refused-quiet : (d : ℕ) (y : DevRefusal) → IsQuiet (r.DevRefused d y)
   refused-quiet d y = record { plain = tt; no_print = λ j e. cc }
 
-  abbrev Goes : ℕ → ℤ → Asked DeviceCall → Reply → Type 0
-  Goes d today asked x = Step counting (Device d) (seen_in d) H x (commit_by d today (view_of d H) asked) (after (device_plan d today (view_of d H) asked) x H)
-
-  called : (d : ℕ) (today : ℤ) (call : DeviceCall) (x : Reply) → MayReply d today (view_of d H) (Call call) x → Goes d today (Call call) x
+  pub called : (d : ℕ) (today : ℤ) (call : DeviceCall) (x : Reply) → MayReply counting (Device d) (view_of d H) (call_plan d today (view_of d H) call) x
+      → Step counting (Device d) (seen_in d) H x (call_commit d today (view_of d H) call) (after (call_plan d today (view_of d H) call) x H)
   called d today (Make key) x may =
       acts counting (Device d) (seen_in d) H (r.DevRefused d) (λ u. r.Made d) (λ u. []) (refused-quiet d) (λ u. refl) (λ u j e. cc) (λ u. tt) (is_on (Device d) H)
       (make_act d key (record_in d (counted H))) x (make-right d key (key_of d (counted H)) refl) refl may
@@ -80,13 +76,7 @@ module _ (H : Ledger) (ordered : AreOrdered (counted H)) (making : MakingStarts)
       acts counting (Device d) (seen_in d) H (r.DevRefused d) (marked d piece) (released d piece) (refused-quiet d) (λ f. refl) (λ f j e. cc) (λ f. tt) (is_on (Device d) H)
       (debit_act todays_rules d (debit_by d piece postage class) today (record_in d (counted H))) x (debit-right d (debit_by d piece postage class) today (key_of d (counted H)) refl) refl may
   called d today Status x may =
-      subst (λ m. Step counting (Device d) (seen_in d) H x m (after (device_plan d today (view_of d H) (Call Status)) x H))
+      subst (λ m. Step counting (Device d) (seen_in d) H x m (after (call_plan d today (view_of d H) Status) x H))
       (status-none (is_on (Device d) H) (seen_in d (counted H)) today (record_in d (counted H)))
       (acts counting (Device d) (seen_in d) H (r.DevRefused d) (r.Status d) (λ view. []) (refused-quiet d) (λ view. refl) (λ view j e. cc) (λ view. tt) (is_on (Device d) H)
       (status_act today (record_in d (counted H))) x (status-right d today (key_of d (counted H))) refl may)
-
-  pub stepped : (d : ℕ) (today : ℤ) (asked : Asked DeviceCall) (x : Reply) → MayReply d today (view_of d H) asked x → Goes d today asked x
-  stepped d today On x may = turns-on counting (Device d) (seen_in d) H (is_on (Device d) H) x may
-  stepped d today Off x may = turns-off counting (Device d) (seen_in d) H (is_on (Device d) H) x may
-  stepped d today (Cut calls keep byte) x may = cuts counting (Device d) (seen_in d) H x may
-  stepped d today (Call call) x may = called d today call x may

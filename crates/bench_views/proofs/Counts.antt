@@ -17,7 +17,7 @@ count-at : (d : ℕ) (C : List Commit) → commits_at (OfDevice d) C ≡ count_o
 count-at d [] = refl
 count-at d (c ∷ C) = rw (one-cell d c, count-at d C) refl
 
-top-is : (n top : ℕ) → n ≤ top → nat_le top n ≡ (n == top)
+pub top-is : (n top : ℕ) → n ≤ top → nat_le top n ≡ (n == top)
 top-is n top le = ⊎_elim
     (λ (t : (n == top) ≡ true). let same : n ≡ top = eqb-true n top t in le-leb top n (omega arith) ∙ sym t)
     (λ (t : (n == top) ≡ false). let apart = eqb-false n top t in lt-leb top n (omega arith) ∙ sym t)

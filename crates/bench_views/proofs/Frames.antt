@@ -92,6 +92,6 @@ count-under i x c C h = ap (λ (k : ℕ). if same_node (node_of x) (Device i) th
 -- a commit of another device leaves what is seen of this one as it is, also under an open commit of its own
 pub devices_apart : (d i : ℕ) → i ≢ d → Apart (Device d) (Device i) (seen_in i)
 devices_apart d i ne = record {
-  frame = λ c C own. let other = other-is d i c ne own in λ k. record { count = count-frame i c C other k; state = record-frame i c C other k };
-  under = λ x c C its own. let other = other-is d i c ne own in λ k. record { count = count-under i x c C other k; state = under i x c C (own-is i x its) other k };
+  frame = λ c C own next. let other = other-is d i c ne own in λ k. record { count = count-frame i c C other k; state = record-frame i c C other k };
+  under = λ x c C its own next more. let other = other-is d i c ne own in λ k. record { count = count-under i x c C other k; state = under i x c C (own-is i x its) other k };
 }

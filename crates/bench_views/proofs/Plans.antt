@@ -25,11 +25,13 @@ use Rattle.ledger_moves.specs.Devices as device
 use Rattle.ledger_moves.specs.Devices.{record_in}
 use Rattle.ledger_moves.specs.Moves.{plan, at_node, debit_by}
 use Rattle.node_acts.specs.Plans.{when_on}
+use Rattle.node_acts.specs.Kinds.{node_plan}
+use Rattle.psd_state.specs.Seen.{counting}
 use Rattle.node_acts.specs.declared.asked.Asked.{Asked}
 use Rattle.bench_views.specs.declared.taken.DeviceCall.{DeviceCall}
 use Rattle.bench_views.specs.declared.taken.Taken.TheVariants as take
 use Rattle.bench_views.specs.Taken.{taken}
-use Rattle.bench_views.specs.Devices.{view_of, device_plan, act_plan, marked, released}
+use Rattle.bench_views.specs.Devices.{view_of, call_plan, act_plan, marked, released}
 use Rattle.bench_views.proofs.Counts.{worn-is}
 use Rattle.bench_views.proofs.Events.{each_asked}
 
@@ -72,9 +74,9 @@ module _ (H : Ledger) where
   status-own d today (Some s) = tt
 
   pub planned : (τ : Tariff) (today : ℤ) → day_in H ≡ Some today → (e : Event) (d : ℕ) (asked : Asked DeviceCall) → taken e ≡ Some (take.Device d asked) → IsCounted d
-      → plan τ todays_rules H e [] ≡ device_plan d today (view_of d H) asked
+      → plan τ todays_rules H e [] ≡ node_plan counting (Device d) (call_plan d today (view_of d H)) (view_of d H) asked
   unfolding plan
-  planned τ today day = each_asked (λ e d asked. IsCounted d → plan τ todays_rules H e [] ≡ device_plan d today (view_of d H) asked) (record {
+  planned τ today day = each_asked (λ e d asked. IsCounted d → plan τ todays_rules H e [] ≡ node_plan counting (Device d) (call_plan d today (view_of d H)) (view_of d H) asked) (record {
     on = λ d le. rw day refl;
     off = λ d le. rw day refl;
     cut = λ d calls keep byte le. rw day refl;

@@ -13,18 +13,18 @@ use Rattle.bench_base.specs.Nodes.{same_node, node_of}
 use Rattle.bench_base.specs.Ledger.{Ledger, is_on, count_of, torn_of, at_up, counted}
 use Rattle.node_acts.specs.Views.{Counting, View, up_with, started}
 use Rattle.node_acts.specs.Plans.{view_after}
-use Rattle.law_orders.specs.Nexts.{IsOpen}
+use Rattle.law_orders.specs.Nexts.{AreOrdered, IsOpen}
 use Rattle.node_acts.specs.Kinds.{view_in}
 use Rattle.bench_views.specs.Follows.{Rests}
 use Rattle.bench_views.proofs.Steps.{AreTold, Step, tells, does, tears, boots, stops}
 
-same-self : (m : Node) → same_node m m ≡ true
+pub same-self : (m : Node) → same_node m m ≡ true
 same-self (Device d) = eq-eqb d d refl
 same-self Centre = refl
 same-self Host = refl
 same-self Verifier = refl
 
-same-apart : (m i : Node) → i ≢ m → same_node m i ≡ false
+pub same-apart : (m i : Node) → i ≢ m → same_node m i ≡ false
 same-apart (Device d) (Device e) ne = ne_eqb d e (λ is. ne (ap Device (sym is)))
 same-apart (Device d) Centre ne = refl
 same-apart (Device d) Host ne = refl
@@ -55,13 +55,13 @@ told-view i seen (_ ∷ T) H h = absurd h
 told-rests : (T : List Entry) (old H : Ledger) → AreTold T → Rests old H → Rests old (T ++ H)
 told-rests [] old H h r = r
 told-rests (entry.Released d piece mark ∷ T) old H h r = let is = told-rests T old H h r in
-    record { day = is.day; rates = is.rates; messages = is.messages; centre = is.centre; host = is.host; verifier = is.verifier }
+    record { day = is.day; rates = is.rates; messages = is.messages; host = is.host; verifier = is.verifier }
 told-rests (_ ∷ T) old H h r = absurd h
 
--- a commit of node m leaves what is seen of node i as it is, also under an open commit of its own
+-- a commit of node m, in order, leaves what is seen of node i as it is, also under an open commit of its own
 pub record Apart {S : Type 0} (m i : Node) (seen : List Commit → S) : Type 0 where
-  pub frame : (c : Commit) (C : List Commit) → node_of c ≡ m → seen (c ∷ C) ≡ seen C
-  pub under : (x c : Commit) (C : List Commit) → node_of x ≡ i → node_of c ≡ m → seen (x ∷ c ∷ C) ≡ seen (x ∷ C)
+  pub frame : (c : Commit) (C : List Commit) → node_of c ≡ m → AreOrdered (c ∷ C) → seen (c ∷ C) ≡ seen C
+  pub under : (x c : Commit) (C : List Commit) → node_of x ≡ i → node_of c ≡ m → AreOrdered (c ∷ C) → AreOrdered (x ∷ C) → seen (x ∷ c ∷ C) ≡ seen (x ∷ C)
 
 module _ (H : Ledger) (opens : (n : Node) (c : Commit) → torn_of n H ≡ Some c → IsOpen n c H) where
   -- a node that is on has no open commit
@@ -72,7 +72,7 @@ module _ (H : Ledger) (opens : (n : Node) (c : Commit) → torn_of n H ≡ Some 
   module _ {S X : Type 0} (n : Counting S X) (m : Node) (seen : List Commit → S) where
     -- == the node itself ==
 
-    module _ (counts : (C : List Commit) → n.count (seen C) ≡ count_of m C) where
+    module _ (counts : n.count (seen (counted H)) ≡ count_of m (counted H)) where
       boot-by : (c : Commit) (counted-too : Bool)
           → seen-by seen (cond counted-too (c ∷ counted H) (counted H)) None true ≡ cond counted-too (started (seen (c ∷ counted H))) (started (seen (counted H)))
       boot-by c true = refl
@@ -81,7 +81,7 @@ module _ (H : Ledger) (opens : (n : Node) (c : Commit) → torn_of n H ≡ Some 
       boot : (k : ℕ) (t : Option Commit) → seen-by seen (at_up t m k (counted H)) None true ≡ up_with n (option_map (λ c. seen (c ∷ counted H)) t) k (view_in m seen H)
       boot k None = refl
       boot k (Some c) = boot-by c (k == count_of m (counted H) + 1)
-          ∙ ap (λ (l : ℕ). cond (k == l + 1) (started (seen (c ∷ counted H))) (started (seen (counted H)))) (sym (counts (counted H)))
+          ∙ ap (λ (l : ℕ). cond (k == l + 1) (started (seen (c ∷ counted H))) (started (seen (counted H)))) (sym counts)
 
       pub here : (x : Reply) (made : Option (Commit × S)) (new : Ledger) → Step n m seen H x made new → view_in m seen new ≡ view_after n x made (view_in m seen H)
       here x made new (tells T are still) = told-view m seen T H are ∙ sym (still (view_in m seen H))
@@ -95,15 +95,15 @@ module _ (H : Ledger) (opens : (n : Node) (c : Commit) → torn_of n H ≡ Some 
 
     module _ {T : Type 0} (i : Node) (ne : i ≢ m) (other : List Commit → T) (apart : Apart m i other) where
       -- the commit of one counts, and is not seen of the other
-      other-with : (c : Commit) (t : Option Commit) → node_of c ≡ m → ((y : Commit) → t ≡ Some y → node_of y ≡ i)
+      other-with : (c : Commit) (t : Option Commit) → node_of c ≡ m → AreOrdered (c ∷ counted H) → ((y : Commit) → t ≡ Some y → IsOpen i y H)
           → option_map (λ y. other (y ∷ c ∷ counted H)) t ≡ option_map (λ y. other (y ∷ counted H)) t
-      other-with c None own its = refl
-      other-with c (Some y) own its = ap (λ (s : T). Some s) (apart.under y c (counted H) (its y refl) own)
+      other-with c None own next its = refl
+      other-with c (Some y) own next its = let torn_is = its y refl in ap (λ (s : T). Some s) (apart.under y c (counted H) torn_is.node own next torn_is.ordered)
 
-      other-commit : (c : Commit) → node_of c ≡ m → seen-by other (c ∷ counted H) (torn_of i H) (is_on i H) ≡ view_in i other H
-      other-commit c own = λ k. record {
-        state = apart.frame c (counted H) own k;
-        next = other-with c (torn_of i H) own (λ y h. (opens i y h).node) k;
+      other-commit : (c : Commit) → node_of c ≡ m → AreOrdered (c ∷ counted H) → seen-by other (c ∷ counted H) (torn_of i H) (is_on i H) ≡ view_in i other H
+      other-commit c own next = λ k. record {
+        state = apart.frame c (counted H) own next k;
+        next = other-with c (torn_of i H) own next (λ y h. opens i y h) k;
         on = is_on i H;
       }
 
@@ -112,22 +112,24 @@ module _ (H : Ledger) (opens : (n : Node) (c : Commit) → torn_of n H ≡ Some 
       other-boot k (Some c) h = by (k == count_of m (counted H) + 1)
         where
           by : (counted-too : Bool) → seen-by other (cond counted-too (c ∷ counted H) (counted H)) (torn_of i H) (is_on i H) ≡ view_in i other H
-          by true = other-commit c (opens m c h).node
+          by true = other-commit c (opens m c h).node (opens m c h).ordered
           by false = refl
 
-      pub others : (x : Reply) (made : Option (Commit × S)) (new : Ledger) → Step n m seen H x made new → view_in i other new ≡ view_in i other H
-      others x made new (tells T are still) = told-view i other T H are
-      others x made new (does T c s are done on own is) = told-view i other T (entry.Commit c ∷ H) are ∙ other-commit c own
-      others x made new (tears c s fails own is) = rw (same-apart m i ne) refl
-      others x made new (boots k) = rw (same-apart m i ne) (other-boot k (torn_of m H) refl)
-      others x made new stops = rw (same-apart m i ne) refl
+      pub others : (x : Reply) (made : Option (Commit × S)) (new : Ledger) → ((c : Commit) (s : S) → made ≡ Some (c, s) → AreOrdered (c ∷ counted H)) → Step n m seen H x made new
+          → view_in i other new ≡ view_in i other H
+      others x made new next (tells T are still) = told-view i other T H are
+      others x made new next (does T c s are done on own is) = told-view i other T (entry.Commit c ∷ H) are ∙ other-commit c own (next c s refl)
+      others x made new next (tears c s fails own is) = rw (same-apart m i ne) refl
+      others x made new next (boots k) = rw (same-apart m i ne) (other-boot k (torn_of m H) refl)
+      others x made new next stops = rw (same-apart m i ne) refl
 
   -- == all else ==
 
-  pub device-rests : {S X : Type 0} (n : Counting S X) (d : ℕ) (seen : List Commit → S) (x : Reply) (made : Option (Commit × S)) (new : Ledger) → Step n (Device d) seen H x made new → Rests H new
-  device-rests n d seen x made new (tells T are still) = told-rests T H H are (record { day = refl; rates = refl; messages = refl; centre = refl; host = refl; verifier = refl })
-  device-rests n d seen x made new (does T c s are done on own is) =
-      told-rests T H (entry.Commit c ∷ H) are (record { day = refl; rates = refl; messages = refl; centre = refl; host = refl; verifier = refl })
-  device-rests n d seen x made new (tears c s fails own is) = record { day = refl; rates = refl; messages = refl; centre = refl; host = refl; verifier = refl }
-  device-rests n d seen x made new (boots k) = record { day = refl; rates = refl; messages = refl; centre = refl; host = refl; verifier = refl }
-  device-rests n d seen x made new stops = record { day = refl; rates = refl; messages = refl; centre = refl; host = refl; verifier = refl }
+  pub rests : {S X : Type 0} (n : Counting S X) (m : Node) (seen : List Commit → S) → Host ≢ m → Verifier ≢ m → (x : Reply) (made : Option (Commit × S)) (new : Ledger) → Step n m seen H x made new
+      → Rests H new
+  rests n m seen host verifier x made new (tells T are still) = told-rests T H H are (record { day = refl; rates = refl; messages = refl; host = refl; verifier = refl })
+  rests n m seen host verifier x made new (does T c s are done on own is) = told-rests T H (entry.Commit c ∷ H) are (record { day = refl; rates = refl; messages = refl; host = refl; verifier = refl })
+  rests n m seen host verifier x made new (tears c s fails own is) =
+      record { day = refl; rates = refl; messages = refl; host = rw (same-apart m Host host) refl; verifier = rw (same-apart m Verifier verifier) refl }
+  rests n m seen host verifier x made new (boots k) = record { day = refl; rates = refl; messages = refl; host = rw (same-apart m Host host) refl; verifier = rw (same-apart m Verifier verifier) refl }
+  rests n m seen host verifier x made new stops = record { day = refl; rates = refl; messages = refl; host = rw (same-apart m Host host) refl; verifier = rw (same-apart m Verifier verifier) refl }

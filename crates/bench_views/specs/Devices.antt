@@ -1,4 +1,4 @@
--- A device, as the ledger shows it to the bench, and what an event of it does by that alone.
+-- A device, as the ledger shows it to the bench, and what a call of it does by that alone.
 use Rattle.std.specs.Prelude.{ℕ, ℤ, List, [], ◌∷◌, Option, None}
 use Rattle.bench_base.specs.declared.words.Node.TheVariants.{Device}
 use Rattle.bench_base.specs.declared.refusals.DevRefusal.{DevRefusal}
@@ -13,7 +13,6 @@ use Rattle.bench_base.specs.Ledger.{Ledger, count_of}
 use Rattle.node_acts.specs.declared.act.Act.{Act}
 use Rattle.node_acts.specs.Views.{View}
 use Rattle.node_acts.specs.Acts.{commit_of}
-use Rattle.node_acts.specs.Plans as node
 use Rattle.node_acts.specs.Plans.{done_plan, when_on}
 use Rattle.psd_state.specs.State.{State}
 use Rattle.psd_state.specs.Seen.{Seen, counting}
@@ -21,10 +20,9 @@ use Rattle.psd_state.specs.Acts.{make_act, debit_act, status_act}
 use Rattle.psd_state.specs.declared.acts.Franked.{Franked}
 use Rattle.ledger_moves.specs.Devices.{record_in}
 use Rattle.ledger_moves.specs.Moves.{debit_by}
-use Rattle.node_acts.specs.declared.asked.Asked.{Asked}
 use Rattle.bench_views.specs.declared.taken.DeviceCall.{DeviceCall}
 use Rattle.bench_views.specs.declared.taken.DeviceCall.TheVariants.{Make, Debit, Status}
-use Rattle.node_acts.specs.Kinds.{Kind, view_in, node_plan, node_commit}
+use Rattle.node_acts.specs.Kinds.{Kind, view_in}
 
 abbrev pub seen_in : ℕ → List Commit → Seen
 seen_in d C = record { count = count_of (Device d) C; state = record_in d C }
@@ -58,21 +56,3 @@ call_commit d today v Status = None
 
 abbrev pub device_kind : Kind ℕ Seen DeviceCall
 device_kind = record { seen = seen_in; plan = call_plan; commit = call_commit }
-
--- == its events ==
-
--- the plan of what device d is asked on that day
-abbrev pub device_plan : ℕ → ℤ → View Seen → Asked DeviceCall → Plan
-device_plan d today v asked = node_plan counting (Device d) (call_plan d today v) v asked
-
--- the commit of that plan, with the record after it
-abbrev pub commit_by : ℕ → ℤ → View Seen → Asked DeviceCall → Option (Commit × Seen)
-commit_by d today v asked = node_commit (call_commit d today v) asked
-
--- the replies that it may get
-abbrev pub MayReply : ℕ → ℤ → View Seen → Asked DeviceCall → Reply → Type 0
-MayReply d today v asked reply = node.MayReply counting (Device d) v (device_plan d today v asked) reply
-
--- the device after it got this reply
-abbrev pub view_after : ℕ → ℤ → Asked DeviceCall → Reply → View Seen → View Seen
-view_after d today asked reply v = node.view_after counting reply (commit_by d today v asked) v

@@ -1,16 +1,23 @@
 //! The laws, each as a contract of a function that takes and answers nothing.
-ghost use Rattle.psd_state.specs.Seen.{counting};
-ghost use Rattle.bench_views.specs.Devices.{device_kind};
-ghost use Rattle.bench_views.specs.Follows.{ForDeviceEvents, Follows};
+ghost use Rattle.psd_state.specs.Seen as device;
+ghost use Rattle.centre_ledger.specs.Seen as centre;
+ghost use Rattle.bench_views.specs.Centre.{IsKnown};
+ghost use Rattle.bench_views.specs.Follows.{DevicesFollow, CentreFollows};
+ghost use Rattle.bench_views.specs.Kinds.{bench_kinds};
 
-use ledger_laws::laws::{histories, orders};
+use centre_ledger::acts_follow_the_commits;
+use ledger_laws::laws::{counts, histories, orders, withdrawals};
 use psd_state::record_follows_the_commits;
 
-/// An event of a device does what the device alone would do, and changes that device alone: see `Follows`.
-pub fn devices_follow()
-    ensures follows { ForDeviceEvents counting device_kind (Follows counting device_kind) }
+/// An event of a node does what the node alone would do, and changes that node alone: see `Follows`.
+pub fn nodes_follow()
+    ensures devices { DevicesFollow device.counting bench_kinds }
+    ensures centre { CentreFollows centre.counting bench_kinds IsKnown }
 {
     histories();
     orders();
+    counts();
+    withdrawals();
     record_follows_the_commits();
+    acts_follow_the_commits();
 }

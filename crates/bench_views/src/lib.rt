@@ -4,4 +4,4 @@
 pub mod laws;
 mod taken;
 
-pub use taken::{DeviceCall, Taken, take};
+pub use taken::{CentreCall, DeviceCall, Taken, take};

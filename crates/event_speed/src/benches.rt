@@ -1,5 +1,5 @@
 //! Benches whose device 1 has money for every debit, over memory and over files.
-ghost use Rattle.std.specs.Prelude.{◌≡◌, ◌≤◌, ◌<◌, ◌+◌, ◌*◌, ◌^◌, ℕ, Some, IfOk, length, slice_get};
+ghost use Rattle.std.specs.Prelude.{◌≡◌, ◌≤◌, ◌<◌, ◌+◌, ◌*◌, ◌^◌, IfOk, length};
 ghost use Rattle.std.specs.List.{All};
 ghost use Rattle.bench.specs.Benches.{IsReady, bench_of};
 ghost use Rattle.nv_model.specs.Meters.{Works};
@@ -7,6 +7,7 @@ ghost use Rattle.nv_model.specs.Meters.{Works};
 use crate::{bare, debits};
 use anyhow::{Result, bail};
 use bench::{Bench, Stores};
+use bench_base::sizes::CENTRE_BYTES;
 use nv_model::{FileNv, Fused, MemNv, Nv};
 use std::alloc::{AllocError, Global};
 use std::fs;
@@ -25,6 +26,8 @@ const FILES: [&str; 8] = [
     "event_speed-7.nv",
     "event_speed-8.nv",
 ];
+
+const CENTRE_FILE: &str = "event_speed-centre.nv";
 
 /// Where these bytes stand in the storage of device 1, in service until 2026-06-01 with 1,000,000,000 mills. All others are zero.
 const LOADED: [(usize, &[u8]); 4] = [
@@ -67,7 +70,7 @@ fn recorded(alloc: Global, content: Vec<u8>, commits: u32) -> Result<MemNv, Allo
     Ok(nv)
 }
 
-/// A blank storage in memory whose record has room for so many commits.
+/// A blank storage of a device in memory, whose record has room for so many commits.
 pub fn blank(alloc: Global, commits: u32) -> Result<MemNv, AllocError>
     requires few { commits ≤ 1000000 }
     ensures { IfOk result (λ nv. Works (⟦<MemNv as Nv>⟧.meters nv)) }
@@ -76,13 +79,22 @@ pub fn blank(alloc: Global, commits: u32) -> Result<MemNv, AllocError>
     recorded(alloc, content, commits)
 }
 
-/// A bench over eight storages.
-fn over<N: Nv + Drop>(alloc: Global, devices: Vec<N>) -> Result<Bench<N>>
+/// A blank storage of the centre in memory.
+fn blank_centre(alloc: Global) -> Result<MemNv, AllocError>
+    ensures { IfOk result (λ nv. Works (⟦<MemNv as Nv>⟧.meters nv)) }
+{
+    let content = vec![in alloc; 0; CENTRE_BYTES as usize]?;
+    recorded(alloc, content, 1)
+}
+
+/// A bench over these storages.
+fn over<N: Nv + Drop>(alloc: Global, devices: Vec<N>, centre: N) -> Result<Bench<N>>
     requires eight { length devices.items ≡ 8 }
     requires fresh { All (λ nv. Works (N.meters nv)) devices.items }
+    requires fresh_centre { Works (N.meters centre) }
     ensures ready { IfOk result (λ bench. IsReady (bench_of bench)) }
 {
-    match Bench::new(alloc, Stores { devices }) {
+    match Bench::new(alloc, Stores { devices, centre }) {
         Ok(bench) => Ok(bench),
         Err(_) => bail!("no memory"),
     }
@@ -103,7 +115,7 @@ pub fn in_memory(alloc: Global, commits: u32) -> Result<Bench<MemNv>>
         blank(alloc, 1)?,
         blank(alloc, 1)?,
     ]?;
-    over(alloc, devices)
+    over(alloc, devices, blank_centre(alloc)?)
 }
 
 /// The storage of the device of this number, in the current folder.
@@ -112,6 +124,16 @@ fn file(rt: &HostRuntime, device: usize) -> Result<FileNv>
     ensures fresh { IfOk result (λ nv. Works (⟦<FileNv as Nv>⟧.meters nv)) }
 {
     match FileNv::start(rt, FILES[device - 1], SIZE) {
+        Ok(nv) => Ok(nv),
+        Err(_) => bail!("a file can't be used"),
+    }
+}
+
+/// The storage of the centre, in the current folder.
+fn centre_file(rt: &HostRuntime) -> Result<FileNv>
+    ensures fresh { IfOk result (λ nv. Works (⟦<FileNv as Nv>⟧.meters nv)) }
+{
+    match FileNv::start(rt, CENTRE_FILE, CENTRE_BYTES) {
         Ok(nv) => Ok(nv),
         Err(_) => bail!("a file can't be used"),
     }
@@ -130,7 +152,7 @@ fn over_files(rt: &HostRuntime) -> Result<Bench<FileNv>>
         file(rt, 7)?,
         file(rt, 8)?,
     ]?;
-    over(rt.alloc(), devices)
+    over(rt.alloc(), devices, centre_file(rt)?)
 }
 
 /// The time of each tenth of so many debits over files in the current folder.
@@ -152,4 +174,5 @@ pub fn remove_files(rt: &HostRuntime) {
     for name in FILES {
         let _removed = fs::remove_file(rt, name);
     }
+    let _removed = fs::remove_file(rt, CENTRE_FILE);
 }

@@ -1,5 +1,4 @@
 //! A run of debits of one device.
-ghost use Rattle.std.specs.Prelude.{◌≡◌, ◌≤◌};
 ghost use Rattle.bench.specs.Benches.{IsReady, bench_of};
 
 use crate::watch::Watch;

@@ -1,7 +1,7 @@
 //! Times debits through a whole run, over storage in memory and over files; beside each the writes and syncs alone, and codes alone.
 #![tactic(auto)]
 
-ghost use Rattle.std.specs.Prelude.{◌≡◌, ◌≤◌, IfOk};
+ghost use Rattle.std.specs.Prelude.{◌≤◌, IfOk};
 
 mod bare;
 mod benches;

@@ -1,5 +1,5 @@
 //! A report that keeps nothing but times.
-ghost use Rattle.std.specs.Prelude.{◌≡◌, None};
+ghost use Rattle.std.specs.Prelude.{None};
 
 use bench_base::stream::{Sink, WriteFail};
 use std::rt::Clock;

@@ -1,5 +1,5 @@
-//! The meter's program: replays a script from standard input over eight devices, whose storages are files in the current
-//! folder, and writes the report to standard output.
+//! The meter's program: replays a script from standard input over eight devices and the centre, whose storages are files in the
+//! current folder, and writes the report to standard output.
 #![tactic(auto)]
 
 ghost use Rattle.std.specs.Prelude.{◌≡◌, IfOk, length};
@@ -8,6 +8,7 @@ ghost use Rattle.nv_model.specs.Meters.{Works};
 ghost use Rattle.bench.specs.Benches.{IsReady, bench_of};
 
 use bench::{Bench, Stores};
+use bench_base::sizes::{CENTRE_BYTES, DEVICE_BYTES};
 use bench_base::stream::{IoSink, IoSource};
 use nv_model::{FileNv, Fused, Nv};
 use read_ahead::ReadAhead;
@@ -18,9 +19,6 @@ use std::os::fd::AsRawFd;
 use std::process::ExitCode;
 use std::{env, io};
 use thiserror::Error;
-
-/// The bytes of a device's storage where it is made.
-const DEVICE_BYTES: u32 = 3424;
 
 /// The storages of devices 1 to 8, in the current folder.
 const DEVICE_FILES: [&str; 8] = [
@@ -33,6 +31,9 @@ const DEVICE_FILES: [&str; 8] = [
     "device-7.nv",
     "device-8.nv",
 ];
+
+/// The storage of the centre.
+const CENTRE_FILE: &str = "centre.nv";
 
 /// How much of the script is read ahead, in bytes.
 const AHEAD: usize = 8192;
@@ -125,23 +126,33 @@ fn hold_folder(rt: &HostRuntime) -> Result<Vec<File>, OpenFault> {
     Err(fault)
 }
 
-// The storages of the devices.
+// A storage of so many bytes, which is made where it is missing.
+fn open_store(rt: &HostRuntime, name: &'static str, bytes: u32) -> Result<FileNv, OpenFault>
+    ensures { IfOk result (λ nv. Works (⟦<FileNv as Nv>⟧.meters nv)) }
+{
+    match FileNv::start(rt, name, bytes) {
+        Ok(nv) => Ok(nv),
+        Err(_) => Err(OpenFault::File(name)),
+    }
+}
+
+// The storages of the devices and of the centre.
 fn open_stores(rt: &HostRuntime) -> Result<Stores<FileNv>, OpenFault>
     ensures eight { IfOk result (λ stores. length stores.devices.items ≡ 8) }
     ensures fresh { IfOk result (λ stores. All (λ nv. Works (⟦<FileNv as Nv>⟧.meters nv)) stores.devices.items) }
+    ensures fresh_centre { IfOk result (λ stores. Works (⟦<FileNv as Nv>⟧.meters stores.centre)) }
 {
     let Ok(mut devices) = Vec::with_capacity(rt.alloc(), 8) else {
         return Err(OpenFault::Memory);
     };
     for name in DEVICE_FILES {
-        let Ok(nv) = FileNv::start(rt, name, DEVICE_BYTES) else {
-            return Err(OpenFault::File(name));
-        };
+        let nv = open_store(rt, name, DEVICE_BYTES)?;
         let Ok(()) = devices.push(nv) else {
             return Err(OpenFault::Memory);
         };
     }
-    Ok(Stores { devices })
+    let centre = open_store(rt, CENTRE_FILE, CENTRE_BYTES)?;
+    Ok(Stores { devices, centre })
 }
 
 fn open_bench(rt: &HostRuntime) -> Result<Bench<FileNv>, OpenFault>

@@ -1,6 +1,4 @@
 //! Rows of devices on storage: what is kept across off and on, and across cuts of power.
-ghost use Rattle.std.specs.Prelude.{◌≡◌};
-
 use crate::worked::{FIRST_MARK, KEY, Piece, bench_over, made_again, outcome, told};
 use script_replay::status::Status;
 use std::test::Fail;

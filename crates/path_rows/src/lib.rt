@@ -1,8 +1,6 @@
 //! Worked rows of the whole path, over streams and storages in memory.
 #![tactic(auto)]
 
-ghost use Rattle.std.specs.Prelude.{◌≡◌, ◌≤◌, ◌<◌, ◌^◌, IfOk, length};
-
 #[cfg(test)]
 mod bench_rows;
 #[cfg(test)]

@@ -1,6 +1,4 @@
 //! Rows of scripts, words and streams over blank storages: how runs end.
-ghost use Rattle.std.specs.Prelude.{◌≡◌};
-
 use crate::worked::{Given, bench_over, outcome, told};
 use bench::step;
 use bench_base::events::Event;
@@ -51,7 +49,7 @@ fn scripts_end(rt: HostRuntime) -> Result<(), Fail> {
         (b"end\nx\n", Status::Done, "end\n"),
         (b"status d1\r\n", Status::Script(1), ""),
         (b"end \n", Status::Script(1), ""),
-        (b"on centre\n", Status::Script(1), ""),
+        (b"on host\n", Status::Script(1), ""),
         (b"order d1 1 1 20 1\n", Status::Script(1), ""),
     ];
     for (script, status, report) in rows {

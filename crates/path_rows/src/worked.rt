@@ -6,6 +6,7 @@ ghost use Rattle.nv_model.specs.Meters.{Works};
 
 use bench::{Bench, Stores};
 use bench_base::memory::{MemSink, MemSource};
+use bench_base::sizes::{CENTRE_BYTES, DEVICE_BYTES};
 use nv_model::{Fused, MemNv, Nv};
 use script_replay::run::run;
 use script_replay::status::Status;
@@ -33,32 +34,35 @@ fn lay(content: &mut [u8], pieces: &[Piece]) {
     }
 }
 
-/// A storage with this content, without a plan.
-fn storage(alloc: Global, pieces: &[Piece]) -> Result<MemNv, AllocError>
+/// A storage of so many bytes with this content, without a plan.
+fn storage(alloc: Global, bytes: u32, pieces: &[Piece]) -> Result<MemNv, AllocError>
     ensures { IfOk result (λ nv. Works (⟦<MemNv as Nv>⟧.meters nv)) }
 {
-    let mut content = vec![in alloc; 0; 3424]?;
+    let mut content = vec![in alloc; 0; bytes as usize]?;
     lay(&mut content, pieces);
     let nv = MemNv::new(alloc, content, Vec::new(alloc), 400, 40_000)?;
     Ok(nv)
 }
 
-/// Eight storages, of which the first has this content and the others are blank.
+/// The storages of a bench, of which that of device 1 has this content and the others are blank.
 fn stores(alloc: Global, pieces: &[Piece]) -> Result<Stores<MemNv>, AllocError>
     ensures eight { IfOk result (λ stores. length stores.devices.items ≡ 8) }
     ensures fresh { IfOk result (λ stores. All (λ nv. Works (⟦<MemNv as Nv>⟧.meters nv)) stores.devices.items) }
+    ensures fresh_centre { IfOk result (λ stores. Works (⟦<MemNv as Nv>⟧.meters stores.centre)) }
 {
     let mut devices = Vec::with_capacity(alloc, 8)?;
     for i in 0..8_u32 {
-        devices.push(storage(alloc, if i == 0 { pieces } else { &[] })?)?;
+        devices.push(storage(alloc, DEVICE_BYTES, if i == 0 { pieces } else { &[] })?)?;
     }
-    Ok(Stores { devices })
+    let centre = storage(alloc, CENTRE_BYTES, &[])?;
+    Ok(Stores { devices, centre })
 }
 
-/// A bench over eight storages.
+/// A bench over these storages.
 fn made(alloc: Global, stores: Stores<MemNv>) -> Result<Bench<MemNv>, Fail>
     requires eight { length stores.devices.items ≡ 8 }
     requires fresh { All (λ nv. Works (⟦<MemNv as Nv>⟧.meters nv)) stores.devices.items }
+    requires fresh_centre { Works (⟦<MemNv as Nv>⟧.meters stores.centre) }
     ensures ready { IfOk result (λ bench. IsReady (bench_of bench)) }
 {
     match Bench::new(alloc, stores) {
@@ -88,8 +92,12 @@ fn left(alloc: Global, bench: Bench<MemNv>) -> Result<Stores<MemNv>, Fail>
     requires ready { IsReady (bench_of bench) }
     ensures eight { IfOk result (λ stores. length stores.devices.items ≡ 8) }
     ensures fresh { IfOk result (λ stores. All (λ nv. Works (⟦<MemNv as Nv>⟧.meters nv)) stores.devices.items) }
+    ensures fresh_centre { IfOk result (λ stores. Works (⟦<MemNv as Nv>⟧.meters stores.centre)) }
 {
-    let mut storages = bench.into_stores().devices;
+    let Stores {
+        devices: mut storages,
+        centre,
+    } = bench.into_stores();
     storages.reverse();
     let mut devices = Vec::with_capacity(alloc, 8)?;
     for _ in 0..8_u32 {
@@ -98,7 +106,8 @@ fn left(alloc: Global, bench: Bench<MemNv>) -> Result<Stores<MemNv>, Fail>
         };
         devices.push(restarted(nv)?)?;
     }
-    Ok(Stores { devices })
+    let centre = restarted(centre)?;
+    Ok(Stores { devices, centre })
 }
 
 /// Another bench over the storages of this one.

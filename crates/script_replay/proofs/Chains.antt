@@ -5,52 +5,49 @@ use Rattle.bench_base.specs.declared.events.Reply.{Reply}
 use Rattle.bench_base.specs.Ledger.{Ledger}
 use Rattle.nv_model.specs.declared.nv.Nv as nv
 use Rattle.nv_model.specs.declared.fuse.Fuse as fuse
-use Rattle.node_acts.specs.Kinds.{Kind}
-use Rattle.node_seat.specs.declared.node.Node.{Ghosts}
 use Rattle.ledger_moves.specs.Tariffs.{Tariff}
 use Rattle.ledger_moves.specs.Histories.{History}
-use Rattle.bench_views.specs.declared.taken.DeviceCall.{DeviceCall}
-use Rattle.bench.specs.Benches.{Bench, Stands}
+use Rattle.bench.specs.Benches.{Bench, Nodes, Stands}
 use Rattle.script_replay.specs.Chains.{DidEvent, DidDeeds}
 use Rattle.script_replay.specs.Deeds.{Deed, Skipped, Did, ledger_by, ledger_after, RunWhile, AreUnforged}
 use Rattle.script_replay.specs.Run.{StandsFor, Unforged, Moves}
 use Rattle.script_replay.proofs.Deeds.{AreDone}
 
-module _ {K S C R N : Type 0} (n : Ghosts K S ℕ C R) (g : nv.Ghosts S) (f : fuse.Ghosts S) (h : nv.Ghosts N) (kind : Kind ℕ n.Seen DeviceCall) where
-  both : (x y z : Bench K) (a b : List Deed) → DidDeeds n g f h kind x y a → DidDeeds n g f h kind y z b → DidDeeds n g f h kind x z (a ++ b)
-  both x y z [] b p q = subst (λ (w : Bench K). DidDeeds n g f h kind w z b) p q
+module _ {D C S XD XC RD RC N : Type 0} (n : Nodes D C S XD XC RD RC) (g : nv.Ghosts S) (f : fuse.Ghosts S) (h : nv.Ghosts N) where
+  both : (x y z : Bench D C) (a b : List Deed) → DidDeeds n g f h x y a → DidDeeds n g f h y z b → DidDeeds n g f h x z (a ++ b)
+  both x y z [] b p q = subst (λ (w : Bench D C). DidDeeds n g f h w z b) p q
   both x y z (Skipped line ∷ a) b p q = both x y z a b p q
   both x y z (Did line e reply ∷ a) b p q = (p.0, p.1, both p.0 y z a b p.2 q)
 
-  pub are_done : AreDone (DidDeeds n g f h kind)
+  pub are_done : AreDone (DidDeeds n g f h)
   are_done = record { nothing = λ b. refl; skipped = λ b line. refl; both = both }
 
-  pub did_one : (old new : Bench K) (line : List ℕ) (e : Event) (reply : Reply) → DidEvent n g f h kind old new e reply → DidDeeds n g f h kind old new (Did line e reply ∷ [])
+  pub did_one : (old new : Bench D C) (line : List ℕ) (e : Event) (reply : Reply) → DidEvent n g f h old new e reply → DidDeeds n g f h old new (Did line e reply ∷ [])
   did_one old new line e reply did = (new, did, refl)
 
   -- == by a history ==
 
   module _ (τ : Tariff) (tells : g.tells) where
     -- what one event does, by its reply
-    pub moved : (old new : Bench K) (e : Event) (reply : Reply) (H : Ledger) → DidEvent n g f h kind old new e reply → StandsFor n g kind τ old H → Moves τ H e reply
+    pub moved : (old new : Bench D C) (e : Event) (reply : Reply) (H : Ledger) → DidEvent n g f h old new e reply → StandsFor n g τ old H → Moves τ H e reply
     moved old new e reply H did s = subst (λ (x : Reply). Moves τ H e x) (sym did.told) (did.steps.history τ H s.history s.stands tells).moves
 
-    pub stands_then : (old new : Bench K) (e : Event) (reply : Reply) (H : Ledger) → DidEvent n g f h kind old new e reply → StandsFor n g kind τ old H → Unforged H e
-        → StandsFor n g kind τ new (ledger_by τ H e reply)
+    pub stands_then : (old new : Bench D C) (e : Event) (reply : Reply) (H : Ledger) → DidEvent n g f h old new e reply → StandsFor n g τ old H → Unforged H e
+        → StandsFor n g τ new (ledger_by τ H e reply)
     stands_then old new e reply H did s u = record {
       history = History.moves e [] reply s.history u (moved old new e reply H did s);
-      stands = subst (λ (x : Reply). Stands n kind g new (ledger_by τ H e x)) (sym did.told) (did.steps.history τ H s.history s.stands tells).stands;
+      stands = subst (λ (x : Reply). Stands n g new (ledger_by τ H e x)) (sym did.told) (did.steps.history τ H s.history s.stands tells).stands;
     }
 
-    pub runs : (old new : Bench K) (deeds : List Deed) (H : Ledger) → DidDeeds n g f h kind old new deeds → StandsFor n g kind τ old H → RunWhile τ Unforged (Moves τ) H deeds
+    pub runs : (old new : Bench D C) (deeds : List Deed) (H : Ledger) → DidDeeds n g f h old new deeds → StandsFor n g τ old H → RunWhile τ Unforged (Moves τ) H deeds
     runs old new [] H did s = tt
     runs old new (Skipped line ∷ rest) H did s = runs old new rest H did s
     runs old new (Did line e reply ∷ rest) H did s = λ u.
         (moved old did.0 e reply H did.1 s, runs did.0 new rest (ledger_by τ H e reply) did.2 (stands_then old did.0 e reply H did.1 s u))
 
-    pub stands_after : (old new : Bench K) (deeds : List Deed) (H : Ledger) → DidDeeds n g f h kind old new deeds → StandsFor n g kind τ old H → AreUnforged τ Unforged H deeds
-        → StandsFor n g kind τ new (ledger_after τ H deeds)
-    stands_after old new [] H did s u = subst (λ (b : Bench K). StandsFor n g kind τ b H) (sym did) s
+    pub stands_after : (old new : Bench D C) (deeds : List Deed) (H : Ledger) → DidDeeds n g f h old new deeds → StandsFor n g τ old H → AreUnforged τ Unforged H deeds
+        → StandsFor n g τ new (ledger_after τ H deeds)
+    stands_after old new [] H did s u = subst (λ (b : Bench D C). StandsFor n g τ b H) (sym did) s
     stands_after old new (Skipped line ∷ rest) H did s u = stands_after old new rest H did s u
     stands_after old new (Did line e reply ∷ rest) H did s u =
         stands_after did.0 new rest (ledger_by τ H e reply) did.2 (stands_then old did.0 e reply H did.1 s u.0) u.1

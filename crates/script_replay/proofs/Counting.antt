@@ -7,22 +7,19 @@ use Rattle.bench_base.specs.declared.events.Event.{Event}
 use Rattle.bench_base.specs.declared.events.Reply.{Reply}
 use Rattle.bench_base.specs.declared.events.Reply.TheVariants as r
 use Rattle.bench_base.specs.declared.words.Node.{Node}
-use Rattle.bench_base.specs.declared.words.Node.TheVariants.{Device}
+use Rattle.bench_base.specs.declared.words.Node.TheVariants.{Device, Centre, Host, Verifier}
 use Rattle.bench_base.specs.Events.{calls_of}
 use Rattle.bench_base.specs.Replies.{tells_power, tells_fault, tells_cut}
 use Rattle.nv_model.specs.declared.nv.Nv as nv
 use Rattle.nv_model.specs.declared.fuse.Fuse as fuse
 use Rattle.nv_model.specs.Meters.{Meters, Uses}
-use Rattle.node_acts.specs.Kinds.{Kind}
-use Rattle.node_seat.specs.declared.node.Node.{Ghosts}
 use Rattle.node_seat.specs.Stands.{meters_of}
 use Rattle.node_turns.specs.Costs.{Charged}
-use Rattle.bench_views.specs.declared.taken.DeviceCall.{DeviceCall}
-use Rattle.bench.specs.Benches.{Bench, IsReady}
+use Rattle.bench.specs.Benches.{Bench, Nodes, IsReady}
 use Rattle.bench.specs.Costs.{Balanced, armed, one_if}
 use Rattle.bench.specs.Places.{Begun, IsStopped}
 use Rattle.bench.proofs.Making.{pairs_at}
-use Rattle.script_replay.specs.Chains.{DidDeeds}
+use Rattle.script_replay.specs.Chains.{DidEvent, DidDeeds}
 use Rattle.script_replay.specs.Counts.{AreBalanced}
 use Rattle.script_replay.specs.Deeds.{Deed, Skipped, Did}
 
@@ -101,36 +98,63 @@ balanced_at p f k q g l was is hp hf hk b = let power = b.power in let fault = b
   fault = λ few. let a = fault few in omega (arith, a, hf);
 }
 
-module _ {K S C R N : Type 0} (n : Ghosts K S ℕ C R) (g : nv.Ghosts S) (f : fuse.Ghosts S) (h : nv.Ghosts N) (kind : Kind ℕ n.Seen DeviceCall) where
-  same_device : (devices : List K) (i : ℕ) (s t : K) → slice_get devices i ≡ Some s → slice_get devices i ≡ Some t → s ≡ t
-  same_device devices i s t a b = cc
+module _ {D C S XD XC RD RC N : Type 0} (n : Nodes D C S XD XC RD RC) (g : nv.Ghosts S) (f : fuse.Ghosts S) (h : nv.Ghosts N) where
+  same_node_at : (devices : List D) (i : ℕ) (s t : D) → slice_get devices i ≡ Some s → slice_get devices i ≡ Some t → s ≡ t
+  same_node_at devices i s t a b = cc
 
   -- storages that stay as they are
-  still_balanced : (old new : Bench K) → Begun n g old.devices new.devices → AreBalanced n g old new []
-  still_balanced old new begun i s t hs ht =
-      subst (Balanced 0 0 0 (meters_of n g s)) (ap g.meters (sym (pairs_at (IsStopped n g) old.devices new.devices begun i s t hs ht).storage)) (none_balanced (meters_of n g s))
+  still_balanced : (old new : Bench D C) → Begun n g old new → AreBalanced n g old new []
+  still_balanced old new begun (Device d) = λ i s t next hs ht.
+      subst (Balanced 0 0 0 (meters_of n.devices g s)) (ap g.meters (sym (pairs_at (IsStopped n.devices g) old.devices new.devices begun.devices i s t hs ht).storage)) (none_balanced (meters_of n.devices g s))
+  still_balanced old new begun Centre = subst (Balanced 0 0 0 (meters_of n.centre g old.centre)) (ap g.meters (sym begun.centre.storage)) (none_balanced (meters_of n.centre g old.centre))
+  still_balanced old new begun Host = tt
+  still_balanced old new begun Verifier = tt
 
-  steps_balanced : (old new : Bench K) (deeds : List Deed) → IsReady old → DidDeeds n g f h kind old new deeds → AreBalanced n g old new deeds
-  steps_balanced old new [] ready did i s t hs ht =
-      let same : s ≡ t = same_device old.devices i s t hs (ap (λ (b : Bench K). slice_get b.devices i) (sym did) ∙ ht) in
-      subst (λ (u : K). Balanced 0 0 0 (meters_of n g s) (meters_of n g u)) same (none_balanced (meters_of n g s))
-  steps_balanced old new (Skipped line ∷ rest) ready did i s t hs ht = steps_balanced old new rest ready did i s t hs ht
-  steps_balanced old new (Did line e reply ∷ rest) ready did i s t hs ht =
-      let mid = did.0 in
-      let event = did.1 in
+  none_done : (old new : Bench D C) → new ≡ old → AreBalanced n g old new []
+  none_done old new same (Device d) = λ i s t next hs ht.
+      let there : s ≡ t = same_node_at old.devices i s t hs (ap (λ (b : Bench D C). slice_get b.devices i) (sym same) ∙ ht) in
+      subst (λ (u : D). Balanced 0 0 0 (meters_of n.devices g s) (meters_of n.devices g u)) there (none_balanced (meters_of n.devices g s))
+  none_done old new same Centre =
+      subst (λ (b : Bench D C). Balanced 0 0 0 (meters_of n.centre g old.centre) (meters_of n.centre g b.centre)) (sym same) (none_balanced (meters_of n.centre g old.centre))
+  none_done old new same Host = tt
+  none_done old new same Verifier = tt
+
+  -- one deed, and the others
+  first_done : (old mid new : Bench D C) (line : List ℕ) (e : Event) (reply : Reply) (rest : List Deed) → IsReady old → DidEvent n g f h old mid e reply → AreBalanced n g mid new rest
+      → AreBalanced n g old new (Did line e reply ∷ rest)
+  first_done old mid new line e reply rest ready event others (Device d) = λ i s t next hs ht.
       let inside : i < length mid.devices = omega (arith, slice_get_within old.devices i s hs, ready.eight, event.ready.eight) in
       let u = get_or mid.devices i s in
       let there = slice_get-get_or mid.devices i s inside in
-      let charged = event.steps.always.charged (Device (i + 1)) i s u refl hs there in
-      two_balanced _ _ _ _ _ _ (meters_of n g s) (meters_of n g u) (meters_of n g t)
-      (one_balanced (Device (i + 1)) e reply (meters_of n g s) (meters_of n g u)
-      (subst (λ (x : Reply). Charged (Device (i + 1)) e x (meters_of n g s) (meters_of n g u)) (sym event.told) charged))
-      (steps_balanced mid new rest event.ready did.2 i u t there ht)
+      let charged = event.steps.always.charged (Device d) i s u next hs there in
+      two_balanced _ _ _ _ _ _ (meters_of n.devices g s) (meters_of n.devices g u) (meters_of n.devices g t)
+      (one_balanced (Device d) e reply (meters_of n.devices g s) (meters_of n.devices g u)
+      (subst (λ (x : Reply). Charged (Device d) e x (meters_of n.devices g s) (meters_of n.devices g u)) (sym event.told) charged))
+      (others (Device d) i u t next there ht)
+  first_done old mid new line e reply rest ready event others Centre =
+      two_balanced _ _ _ _ _ _ (meters_of n.centre g old.centre) (meters_of n.centre g mid.centre) (meters_of n.centre g new.centre)
+      (one_balanced Centre e reply (meters_of n.centre g old.centre) (meters_of n.centre g mid.centre)
+      (subst (λ (x : Reply). Charged Centre e x (meters_of n.centre g old.centre) (meters_of n.centre g mid.centre)) (sym event.told) (event.steps.always.charged Centre)))
+      (others Centre)
+  first_done old mid new line e reply rest ready event others Host = tt
+  first_done old mid new line e reply rest ready event others Verifier = tt
 
-  pub run_balanced : (old begun new : Bench K) (deeds : List Deed) → IsReady old → IsReady begun → Begun n g old.devices begun.devices → DidDeeds n g f h kind begun new deeds → AreBalanced n g old new deeds
-  run_balanced old begun new deeds ready ready' begins did i s t hs ht =
+  steps_balanced : (old new : Bench D C) (deeds : List Deed) → IsReady old → DidDeeds n g f h old new deeds → AreBalanced n g old new deeds
+  steps_balanced old new [] ready did = none_done old new did
+  steps_balanced old new (Skipped line ∷ rest) ready did = steps_balanced old new rest ready did
+  steps_balanced old new (Did line e reply ∷ rest) ready did = first_done old did.0 new line e reply rest ready did.1 (steps_balanced did.0 new rest did.1.ready did.2)
+
+  pub run_balanced : (old begun new : Bench D C) (deeds : List Deed) → IsReady old → IsReady begun → Begun n g old begun → DidDeeds n g f h begun new deeds → AreBalanced n g old new deeds
+  run_balanced old begun new deeds ready ready' begins did (Device d) = λ i s t next hs ht.
       let inside : i < length begun.devices = omega (arith, slice_get_within old.devices i s hs, ready.eight, ready'.eight) in
       let u = get_or begun.devices i s in
       let there = slice_get-get_or begun.devices i s inside in
-      balanced_at _ _ _ _ _ _ (meters_of n g s) (meters_of n g t) (omega arith) (omega arith) (omega arith)
-      (two_balanced 0 0 0 _ _ _ (meters_of n g s) (meters_of n g u) (meters_of n g t) (still_balanced old begun begins i s u hs there) (steps_balanced begun new deeds ready' did i u t there ht))
+      balanced_at _ _ _ _ _ _ (meters_of n.devices g s) (meters_of n.devices g t) (omega arith) (omega arith) (omega arith)
+      (two_balanced 0 0 0 _ _ _ (meters_of n.devices g s) (meters_of n.devices g u) (meters_of n.devices g t) (still_balanced old begun begins (Device d) i s u next hs there)
+      (steps_balanced begun new deeds ready' did (Device d) i u t next there ht))
+  run_balanced old begun new deeds ready ready' begins did Centre =
+      balanced_at _ _ _ _ _ _ (meters_of n.centre g old.centre) (meters_of n.centre g new.centre) (omega arith) (omega arith) (omega arith)
+      (two_balanced 0 0 0 _ _ _ (meters_of n.centre g old.centre) (meters_of n.centre g begun.centre) (meters_of n.centre g new.centre) (still_balanced old begun begins Centre)
+      (steps_balanced begun new deeds ready' did Centre))
+  run_balanced old begun new deeds ready ready' begins did Host = tt
+  run_balanced old begun new deeds ready ready' begins did Verifier = tt

@@ -6,14 +6,11 @@ use Rattle.bench_base.specs.Ledger.{Ledger}
 use Rattle.bench_base.specs.Rules.{todays_rules, editions}
 use Rattle.nv_model.specs.declared.nv.Nv as nv
 use Rattle.nv_model.specs.declared.fuse.Fuse as fuse
-use Rattle.node_acts.specs.Kinds.{Kind}
-use Rattle.node_seat.specs.declared.node.Node.{Ghosts}
 use Rattle.ledger_lawful.specs.Editions.{Editions}
 use Rattle.ledger_laws.specs.Laws.{ForHistories, Holds}
 use Rattle.ledger_moves.specs.Tariffs.{Tariff}
 use Rattle.ledger_moves.specs.Histories.{History}
-use Rattle.bench_views.specs.declared.taken.DeviceCall.{DeviceCall}
-use Rattle.bench.specs.Benches.{Bench, IsReady, Stands}
+use Rattle.bench.specs.Benches.{Bench, Nodes, IsReady, Stands}
 use Rattle.bench.specs.Places.{Begun}
 use Rattle.script_replay.specs.Chains.{DidDeeds}
 use Rattle.script_replay.specs.Deeds.{Deed, Skipped, Did}
@@ -25,44 +22,44 @@ use Rattle.script_replay.proofs.Chains.{runs, stands_after}
 use Rattle.script_replay.proofs.Counting.{run_balanced}
 use Rattle.script_replay.proofs.Deeds.{said}
 
-module _ {K S C R N : Type 0} (n : Ghosts K S ℕ C R) (g : nv.Ghosts S) (f : fuse.Ghosts S) (h : nv.Ghosts N) (kind : Kind ℕ n.Seen DeviceCall) (today : Editions editions) (holds : ForHistories Holds)
-    (old begun : Bench K) (ready : IsReady old) (ready' : IsReady begun) (begins : Begun n g old.devices begun.devices) (no_day : begun.day ≡ None)
-    (begins_stands : (H : Ledger) → Stands n kind g old H → Stands n kind g begun (Begin ∷ H)) where
-  still_ready : (b new : Bench K) (deeds : List Deed) → IsReady b → DidDeeds n g f h kind b new deeds → IsReady new
-  still_ready b new [] is did = subst (λ (x : Bench K). IsReady x) (sym did) is
+module _ {D C S XD XC RD RC N : Type 0} (n : Nodes D C S XD XC RD RC) (g : nv.Ghosts S) (f : fuse.Ghosts S) (h : nv.Ghosts N) (today : Editions editions) (holds : ForHistories Holds)
+    (old begun : Bench D C) (ready : IsReady old) (ready' : IsReady begun) (begins : Begun n g old begun) (no_day : begun.day ≡ None)
+    (begins_stands : (H : Ledger) → Stands n g old H → Stands n g begun (Begin ∷ H)) where
+  still_ready : (b new : Bench D C) (deeds : List Deed) → IsReady b → DidDeeds n g f h b new deeds → IsReady new
+  still_ready b new [] is did = subst (λ (x : Bench D C). IsReady x) (sym did) is
   still_ready b new (Skipped line ∷ rest) is did = still_ready b new rest is did
   still_ready b new (Did line e reply ∷ rest) is did = still_ready did.0 new rest did.1.ready did.2
 
-  over : (new : Bench K) (deeds : List Deed) → DidDeeds n g f h kind begun new deeds → (τ : Tariff) (H : Ledger) → StandsFor n g kind τ old H → g.tells → DidOver n g kind τ H old new deeds
+  over : (new : Bench D C) (deeds : List Deed) → DidDeeds n g f h begun new deeds → (τ : Tariff) (H : Ledger) → StandsFor n g τ old H → g.tells → DidOver n g τ H old new deeds
   over new deeds did τ H s tells =
-      let s' : StandsFor n g kind τ begun (Begin ∷ H) = record { history = History.begins s.history; stands = begins_stands H s.stands } in
-      let balanced = run_balanced n g f h kind old begun new deeds ready ready' begins did in
+      let s' : StandsFor n g τ begun (Begin ∷ H) = record { history = History.begins s.history; stands = begins_stands H s.stands } in
+      let balanced = run_balanced n g f h old begun new deeds ready ready' begins did in
       record {
-        run = runs n g f h kind τ tells begun new deeds (Begin ∷ H) did s';
-        stands = λ u. stands_after n g f h kind τ tells begun new deeds (Begin ∷ H) did s' u;
-        lawful = λ u. (holds τ todays_rules _ _ today (stands_after n g f h kind τ tells begun new deeds (Begin ∷ H) did s' u).history).lawful;
-        answers = λ quiet. all_answered n g f h kind τ tells begun new deeds (Begin ∷ H) did s' (no_failure n g old new deeds ready.eight (still_ready begun new deeds ready' did).eight balanced quiet);
-        exact = λ quiet none. all_exact n g f h kind τ tells begun new deeds (Begin ∷ H) did s'
-            (no_failure n g old new deeds ready.eight (still_ready begun new deeds ready' did).eight balanced quiet) (λ d. none (Device d));
+        run = runs n g f h τ tells begun new deeds (Begin ∷ H) did s';
+        stands = λ u. stands_after n g f h τ tells begun new deeds (Begin ∷ H) did s' u;
+        lawful = λ u. (holds τ todays_rules _ _ today (stands_after n g f h τ tells begun new deeds (Begin ∷ H) did s' u).history).lawful;
+        answers = λ quiet. all_answered n g f h τ tells begun new deeds (Begin ∷ H) did s' (no_failure n g old new deeds ready.eight (still_ready begun new deeds ready' did).eight balanced quiet);
+        exact = λ quiet none. all_exact n g f h τ tells begun new deeds (Begin ∷ H) did s'
+            (no_failure n g old new deeds ready.eight (still_ready begun new deeds ready' did).eight balanced quiet) (λ m here. none m);
       }
 
-  pub did_run : (new : Bench K) (deeds : List Deed) → DidDeeds n g f h kind begun new deeds → DidRun n g f h kind old new deeds
+  pub did_run : (new : Bench D C) (deeds : List Deed) → DidDeeds n g f h begun new deeds → DidRun n g f h old new deeds
   did_run new deeds did = record {
     begun = begun;
     begins = begins;
     no_day = no_day;
     steps = did;
-    balanced = run_balanced n g f h kind old begun new deeds ready ready' begins did;
+    balanced = run_balanced n g f h old begun new deeds ready ready' begins did;
     over = over new deeds did;
   }
 
-  pub ran : (outcome : Status) (new : Bench K) (a b t u : Option (List ℕ)) → Replayed outcome (DidDeeds n g f h kind begun new) a b t u → Replayed outcome (DidRun n g f h kind old new) a b t u
-  ran outcome new a b t u r = said (DidDeeds n g f h kind begun new) (DidRun n g f h kind old new) outcome a b t u (did_run new) r
+  pub ran : (outcome : Status) (new : Bench D C) (a b t u : Option (List ℕ)) → Replayed outcome (DidDeeds n g f h begun new) a b t u → Replayed outcome (DidRun n g f h old new) a b t u
+  ran outcome new a b t u r = said (DidDeeds n g f h begun new) (DidRun n g f h old new) outcome a b t u (did_run new) r
 
 -- from nothing nothing is asked of a ledger
-pub from_nothing : {K S C R N : Type 0} (n : Ghosts K S ℕ C R) (g : nv.Ghosts S) (f : fuse.Ghosts S) (h : nv.Ghosts N) (kind : Kind ℕ n.Seen DeviceCall) (old new : Bench K) (deeds : List Deed)
-    → DidRun n g f h kind old new deeds → Stands n kind g old [] → g.tells → RanFresh deeds
-from_nothing n g f h kind old new deeds did stands tells = record {
+pub from_nothing : {D C S XD XC RD RC N : Type 0} (n : Nodes D C S XD XC RD RC) (g : nv.Ghosts S) (f : fuse.Ghosts S) (h : nv.Ghosts N) (old new : Bench D C) (deeds : List Deed)
+    → DidRun n g f h old new deeds → Stands n g old [] → g.tells → RanFresh deeds
+from_nothing n g f h old new deeds did stands tells = record {
   run = λ τ. (did.over τ [] (record { history = History.nothing; stands = stands }) tells).run;
   lawful = λ τ. (did.over τ [] (record { history = History.nothing; stands = stands }) tells).lawful;
 }

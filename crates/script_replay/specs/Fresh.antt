@@ -1,5 +1,5 @@
 -- A run from nothing: on a bench over blank storages, with no premise but that nothing from outside is forged.
-use Rattle.std.specs.Prelude.{◌≡◌, List, [], ◌∷◌, replicate}
+use Rattle.std.specs.Prelude.{◌≡◌, ℕ, List, [], ◌∷◌, replicate}
 use Rattle.bench_base.specs.declared.ledger.Entry.TheVariants.{Begin}
 use Rattle.bench_base.specs.Rules.{todays_rules}
 use Rattle.nv_model.specs.declared.nv.Nv as nv
@@ -10,12 +10,12 @@ use Rattle.ledger_moves.specs.Tariffs.{Tariff}
 use Rattle.script_replay.specs.Deeds.{Deed, ledger_after, RunWhile, AreUnforged}
 use Rattle.script_replay.specs.Run.{Unforged, Moves}
 
--- a storage as it is made: it tells what it holds, which is zero bytes
-pub record IsFresh {N : Type 0} (h : nv.Ghosts N) (store : N) : Type 0 where
+-- a storage as it is made: it tells what it holds, which is so many zero bytes
+pub record IsFresh {N : Type 0} (h : nv.Ghosts N) (bytes : ℕ) (store : N) : Type 0 where
   pub tells : h.tells
   pub works : Works (h.meters store)
-  pub size : h.size store ≡ 3424
-  pub blank : Only (h.times store) (replicate 3424 0)
+  pub size : h.size store ≡ bytes
+  pub blank : Only (h.times store) (replicate bytes 0)
 
 -- Each reply in turn is one that its event may get, and what the deeds leave is lawful, as long as nothing is forged, whatever
 -- is read as rates.

@@ -7,5 +7,6 @@ pub mod Events
 pub mod Fresh
 pub mod Lines
 pub mod Run
+pub mod Streams
 pub mod Turns
 pub mod Undisturbed

@@ -9,15 +9,12 @@ use Rattle.bench_base.specs.declared.events.Event.{Event}
 use Rattle.bench_base.specs.declared.events.Reply.{Reply}
 use Rattle.nv_model.specs.declared.nv.Nv as nv
 use Rattle.nv_model.specs.declared.fuse.Fuse as fuse
-use Rattle.node_acts.specs.Kinds.{Kind}
-use Rattle.node_seat.specs.declared.node.Node.{Ghosts}
 use Rattle.ledger_lawful.specs.Lawful.{Lawful}
 use Rattle.ledger_moves.specs.Tariffs.{Tariff}
 use Rattle.ledger_moves.specs.Moves as moves
 use Rattle.ledger_moves.specs.Histories as histories
 use Rattle.ledger_moves.specs.Histories.{History}
-use Rattle.bench_views.specs.declared.taken.DeviceCall.{DeviceCall}
-use Rattle.bench.specs.Benches.{Bench, Stands}
+use Rattle.bench.specs.Benches.{Bench, Nodes, Stands}
 use Rattle.bench.specs.Places.{Begun}
 use Rattle.script_replay.specs.Chains.{DidDeeds}
 use Rattle.script_replay.specs.Counts.{AreBalanced}
@@ -38,17 +35,17 @@ Unforged H e = histories.Unforged e H
 abbrev pub Moves : Tariff → Ledger → Event → Reply → Type 0
 Moves τ H e r = moves.Moves τ todays_rules H e [] r
 
-module _ {K S C R : Type 0} (n : Ghosts K S ℕ C R) (g : nv.Ghosts S) (kind : Kind ℕ n.Seen DeviceCall) where
+module _ {D C S XD XC RD RC : Type 0} (n : Nodes D C S XD XC RD RC) (g : nv.Ghosts S) where
   -- the bench stands for this history
-  pub record StandsFor (τ : Tariff) (bench : Bench K) (H : Ledger) : Type 0 where
+  pub record StandsFor (τ : Tariff) (bench : Bench D C) (H : Ledger) : Type 0 where
     pub history : History τ editions H
-    pub stands : Stands n kind g bench H
+    pub stands : Stands n g bench H
 
   -- By a history for which the bench stood, with a run begun: each reply is one that its event may get there, and as long as
   -- nothing from outside is forged the bench stands for what the deeds leave, which is lawful. Where no storage failed and no
-  -- fuse was armed, each reply is the answer: of a device that comes on with an open commit one of its two, and where no commit
+  -- fuse was armed, each reply is the answer: of a node that comes on with an open commit one of its two, and where no commit
   -- was open at the beginning the answer itself.
-  pub record DidOver (τ : Tariff) (H : Ledger) (old new : Bench K) (deeds : List Deed) : Type 0 where
+  pub record DidOver (τ : Tariff) (H : Ledger) (old new : Bench D C) (deeds : List Deed) : Type 0 where
     pub run : RunWhile τ Unforged (Moves τ) (Begin ∷ H) deeds
     pub stands : AreUnforged τ Unforged (Begin ∷ H) deeds → StandsFor τ new (ledger_after τ (Begin ∷ H) deeds)
     pub lawful : AreUnforged τ Unforged (Begin ∷ H) deeds → Lawful todays_rules (ledger_after τ (Begin ∷ H) deeds)
@@ -56,14 +53,14 @@ module _ {K S C R : Type 0} (n : Ghosts K S ℕ C R) (g : nv.Ghosts S) (kind : K
     pub exact : AreUndisturbed n g old new deeds → NoneOpen H → RunWhile τ Unforged (IsTheAnswer τ) (Begin ∷ H) deeds
 
 -- The bench began a run and did the deeds: each event by a step, whether or not a history leads to what the storages show.
-pub record DidRun {K S C R N : Type 0} (n : Ghosts K S ℕ C R) (g : nv.Ghosts S) (f : fuse.Ghosts S) (h : nv.Ghosts N) (kind : Kind ℕ n.Seen DeviceCall)
-    (old new : Bench K) (deeds : List Deed) : Type 0 where
-  pub begun : Bench K
-  pub begins : Begun n g old.devices begun.devices
+pub record DidRun {D C S XD XC RD RC N : Type 0} (n : Nodes D C S XD XC RD RC) (g : nv.Ghosts S) (f : fuse.Ghosts S) (h : nv.Ghosts N)
+    (old new : Bench D C) (deeds : List Deed) : Type 0 where
+  pub begun : Bench D C
+  pub begins : Begun n g old begun
   pub no_day : begun.day ≡ None
-  pub steps : DidDeeds n g f h kind begun new deeds
+  pub steps : DidDeeds n g f h begun new deeds
   pub balanced : AreBalanced n g old new deeds
-  pub over : (τ : Tariff) (H : Ledger) → StandsFor n g kind τ old H → g.tells → DidOver n g kind τ H old new deeds
+  pub over : (τ : Tariff) (H : Ledger) → StandsFor n g τ old H → g.tells → DidOver n g τ H old new deeds
 
 -- == how the run ended ==
 

@@ -1,8 +1,7 @@
 -- Runs in which no storage failed: each reply is the answer.
-use Rattle.std.specs.Prelude.{◌≡◌, ◌⊎◌, ℕ, ◌+◌, List, [], Some, None, slice_get}
+use Rattle.std.specs.Prelude.{◌≡◌, ◌⊎◌, List, [], None}
 use Rattle.bench_base.specs.Causes.{Rose}
 use Rattle.bench_base.specs.declared.words.Node.{Node}
-use Rattle.bench_base.specs.declared.words.Node.TheVariants.{Device}
 use Rattle.bench_base.specs.declared.events.Event.{Event}
 use Rattle.bench_base.specs.declared.events.Reply.{Reply}
 use Rattle.bench_base.specs.Ledger.{Ledger, torn_of}
@@ -10,11 +9,10 @@ use Rattle.bench_base.specs.Replies.{tells_cut}
 use Rattle.bench_base.specs.Rules.{todays_rules}
 use Rattle.nv_model.specs.declared.nv.Nv as nv
 use Rattle.nv_model.specs.Meters.{Meters}
-use Rattle.node_seat.specs.declared.node.Node.{Ghosts}
 use Rattle.node_seat.specs.Stands.{meters_of}
 use Rattle.ledger_moves.specs.Tariffs.{Tariff}
 use Rattle.ledger_moves.specs.Moves.{answer, OtherUp}
-use Rattle.bench.specs.Benches.{Bench}
+use Rattle.bench.specs.Benches.{Bench, Nodes, At}
 use Rattle.script_replay.specs.Deeds.{Deed}
 use Rattle.script_replay.specs.Counts.{replies_that}
 
@@ -22,7 +20,7 @@ use Rattle.script_replay.specs.Counts.{replies_that}
 abbrev pub IsTheAnswer : Tariff → Ledger → Event → Reply → Type 0
 IsTheAnswer τ H e r = r ≡ answer τ todays_rules H e []
 
--- the same, but for a device that comes on with an open commit, which may show that
+-- the same, but for a node that comes on with an open commit, which may show that
 abbrev pub IsAnswer : Tariff → Ledger → Event → Reply → Type 0
 IsAnswer τ H e r = IsTheAnswer τ H e r ⊎ OtherUp (answer τ todays_rules H e []) r H
 
@@ -30,13 +28,13 @@ IsAnswer τ H e r = IsTheAnswer τ H e r ⊎ OtherUp (answer τ todays_rules H e
 abbrev pub NoneOpen : Ledger → Type 0
 NoneOpen H = (m : Node) → torn_of m H ≡ None
 
--- of device d: no count of its storage rose, no fuse was armed at the beginning, and no `cut` was answered
-pub record IsUndisturbed (d : ℕ) (deeds : List Deed) (was is : Meters) : Type 0 where
+-- of node m: no count of its storage rose, no fuse was armed at the beginning, and no `cut` was answered
+pub record IsUndisturbed (m : Node) (deeds : List Deed) (was is : Meters) : Type 0 where
   pub cuts : Rose was.cuts is.cuts → ⊥
   pub faults : Rose was.faults is.faults → ⊥
   pub unarmed : was.fuse ≡ None
-  pub uncut : replies_that (tells_cut (Device d)) deeds ≡ 0
+  pub uncut : replies_that (tells_cut m) deeds ≡ 0
 
-abbrev pub AreUndisturbed : {K S N C R : Type 0} (n : Ghosts K S N C R) (g : nv.Ghosts S) → Bench K → Bench K → List Deed → Type 0
-AreUndisturbed {K} n g old new deeds = (i : ℕ) (s t : K) → slice_get old.devices i ≡ Some s → slice_get new.devices i ≡ Some t
-    → IsUndisturbed (i + 1) deeds (meters_of n g s) (meters_of n g t)
+abbrev pub AreUndisturbed : {D C S XD XC RD RC : Type 0} (n : Nodes D C S XD XC RD RC) (g : nv.Ghosts S) → Bench D C → Bench D C → List Deed → Type 0
+AreUndisturbed n g old new deeds = (m : Node)
+    → At (λ d s t. IsUndisturbed m deeds (meters_of n.devices g s) (meters_of n.devices g t)) (λ s t. IsUndisturbed m deeds (meters_of n.centre g s) (meters_of n.centre g t)) old new m

@@ -1,17 +1,17 @@
 //! A run over a whole script: line by line, until it ends.
-ghost use Rattle.std.specs.Prelude.{◌≡◌, ◌≢◌, ◌⊎◌, ℕ, List, ◌+◌, ◌≤◌, ◌<◌, ◌∷◌, [], IfNone, IfSome, Some, map, codes, string_bytes, ◌↔◌, IsTrue};
+ghost use Rattle.std.specs.Prelude.{◌≡◌, ◌≢◌, ◌⊎◌, ◌+◌, ◌≤◌, ◌<◌, ◌∷◌, [], IfNone, IfSome, Some, map, codes, string_bytes, ◌↔◌, IsTrue};
 ghost use Rattle.bench_base.specs.Causes.{Rose};
 ghost use Rattle.bench_base.specs.Ranges.{IsWholeEvent};
 ghost use Rattle.bench_base.specs.declared.events.Event.TheVariants as ends;
 ghost use Rattle.bench_base.specs.declared.events.Reply.{Reply};
-ghost use Rattle.bench_views.specs.Devices.{device_kind};
+ghost use Rattle.bench_views.specs.Kinds.{bench_kinds};
 ghost use Rattle.bench_views.specs.Taken.{IsTaken};
-ghost use Rattle.bench.specs.Benches.{IsReady, bench_of, fuse_in};
+ghost use Rattle.bench.specs.Benches.{IsReady, nodes, bench_of, fuse_in};
 ghost use Rattle.script_replay.specs.Chains.{DidEvent, DidDeeds};
 ghost use Rattle.script_replay.specs.Deeds.{line_of};
-ghost use Rattle.script_replay.specs.Ends.{EndsAs, IsByScript};
 ghost use Rattle.script_replay.specs.Events.{IsLineOf};
 ghost use Rattle.script_replay.specs.Run.{DidRun, Replayed};
+ghost use Rattle.script_replay.specs.Streams.{EndsRun, streams};
 ghost use Rattle.script_replay.specs.Turns.{DidLine, Refused, Reported, Goes, Stops};
 ghost use Rattle.script_replay.specs.declared.status.Status.{Status};
 
@@ -22,6 +22,7 @@ use bench::{Bench, BenchOver, is_taken, react};
 use bench_base::events::{Event, Reply};
 use bench_base::stream::{Sink, Source};
 use bench_views::{Taken, take};
+use centre_protocol::CentreNode;
 use ledger_laws::laws::histories;
 use node_seat::Node;
 use nv_model::{Fuse, Fused, Nv};
@@ -49,7 +50,7 @@ fn reply_to<M: Fuse + Drop, N: Nv>(event: &Event, bench: &mut BenchOver<M, N>) -
     requires taken { IsTaken event.now }
     requires ready { IsReady (bench_of bench.old) }
     ensures ready { IsReady (bench_of bench.new) }
-    ensures did { DidEvent ⟦<DeviceNode<M> as Node>⟧ M.Nv M.Fuse.own N.Nv device_kind (bench_of bench.old) (bench_of bench.new) event.now result }
+    ensures did { DidEvent (nodes ⟦<DeviceNode<M> as Node>⟧ ⟦<CentreNode<M> as Node>⟧ bench_kinds) M.Nv M.Fuse.own N.Nv (bench_of bench.old) (bench_of bench.new) event.now result }
 {
     react(bench, event)
 }
@@ -61,7 +62,7 @@ fn ended_by(event: &Event) -> Option<Status>
 {
     match take(event) {
         Some(Taken::End) => Some(Status::Done),
-        Some(Taken::Day(_) | Taken::Device(_, _)) | None => None,
+        Some(Taken::Day(_) | Taken::Device(_, _) | Taken::Centre(_)) | None => None,
     }
 }
 
@@ -75,7 +76,7 @@ fn do_event<K: Sink, M: Fuse + Drop, N: Nv>(
     requires taken { IsTaken event.now }
     requires ready { IsReady (bench_of bench.old) }
     ensures ready { IsReady (bench_of bench.new) }
-    ensures done { (r : Reply) × DidEvent ⟦<DeviceNode<M> as Node>⟧ M.Nv M.Fuse.own N.Nv device_kind (bench_of bench.old) (bench_of bench.new) event.now r
+    ensures done { (r : Reply) × DidEvent (nodes ⟦<DeviceNode<M> as Node>⟧ ⟦<CentreNode<M> as Node>⟧ bench_kinds) M.Nv M.Fuse.own N.Nv (bench_of bench.old) (bench_of bench.new) event.now r
         × Reported result (event.now ≢ ends.End) (event.now ≡ ends.End) (line_of r) (K.taken report.old) (K.taken report.new) }
     ensures not_words { result ≢ Some Status.Words }
     ensures later { K.faults report.old ≤ K.faults report.new }
@@ -99,7 +100,7 @@ fn do_line<K: Sink, M: Fuse + Drop, N: Nv>(
 ) -> Option<Status>
     requires ready { IsReady (bench_of bench.old) }
     ensures ready { IsReady (bench_of bench.new) }
-    ensures done { DidLine (DidDeeds ⟦<DeviceNode<M> as Node>⟧ M.Nv M.Fuse.own N.Nv device_kind) line.now result (bench_of bench.old) (bench_of bench.new) (K.taken report.old) (K.taken report.new)
+    ensures done { DidLine (DidDeeds (nodes ⟦<DeviceNode<M> as Node>⟧ ⟦<CentreNode<M> as Node>⟧ bench_kinds) M.Nv M.Fuse.own N.Nv) line.now result (bench_of bench.old) (bench_of bench.new) (K.taken report.old) (K.taken report.new)
         ⊎ Refused number line.now result (bench_of bench.old) (bench_of bench.new) (K.taken report.old) (K.taken report.new) }
     ensures not_words { result ≢ Some Status.Words }
     ensures later { K.faults report.old ≤ K.faults report.new }
@@ -138,9 +139,9 @@ fn turn<S: Source, K: Sink, M: Fuse + Drop, N: Nv>(
     requires few { number ≤ 1000000 }
     requires ready { IsReady (bench_of bench.old) }
     ensures ready { IsReady (bench_of bench.new) }
-    ensures goes { IfNone result (Goes (DidDeeds ⟦<DeviceNode<M> as Node>⟧ M.Nv M.Fuse.own N.Nv device_kind) (bench_of bench.old) (bench_of bench.new) (S.left script.old) (S.left script.new)
+    ensures goes { IfNone result (Goes (DidDeeds (nodes ⟦<DeviceNode<M> as Node>⟧ ⟦<CentreNode<M> as Node>⟧ bench_kinds) M.Nv M.Fuse.own N.Nv) (bench_of bench.old) (bench_of bench.new) (S.left script.old) (S.left script.new)
         (K.taken report.old) (K.taken report.new)) }
-    ensures stops { IfSome result (λ s. Stops (DidDeeds ⟦<DeviceNode<M> as Node>⟧ M.Nv M.Fuse.own N.Nv device_kind) s number (bench_of bench.old) (bench_of bench.new) (S.left script.old) (S.left script.new)
+    ensures stops { IfSome result (λ s. Stops (DidDeeds (nodes ⟦<DeviceNode<M> as Node>⟧ ⟦<CentreNode<M> as Node>⟧ bench_kinds) M.Nv M.Fuse.own N.Nv) s number (bench_of bench.old) (bench_of bench.new) (S.left script.old) (S.left script.new)
         (K.taken report.old) (K.taken report.new)) }
     ensures not_words { result ≢ Some Status.Words }
     ensures read_later { S.faults script.old ≤ S.faults script.new }
@@ -173,7 +174,7 @@ fn replay<S: Source, K: Sink, M: Fuse + Drop, N: Nv>(
 ) -> Status
     requires ready { IsReady (bench_of bench.old) }
     ensures ready { IsReady (bench_of bench.new) }
-    ensures ran { Replayed result (DidDeeds ⟦<DeviceNode<M> as Node>⟧ M.Nv M.Fuse.own N.Nv device_kind (bench_of bench.old) (bench_of bench.new)) (S.left script.old) (S.left script.new)
+    ensures ran { Replayed result (DidDeeds (nodes ⟦<DeviceNode<M> as Node>⟧ ⟦<CentreNode<M> as Node>⟧ bench_kinds) M.Nv M.Fuse.own N.Nv (bench_of bench.old) (bench_of bench.new)) (S.left script.old) (S.left script.new)
         (K.taken report.old) (K.taken report.new) }
     ensures not_words { result ≢ Status.Words }
     ensures read_later { S.faults script.old ≤ S.faults script.new }
@@ -226,21 +227,11 @@ pub fn run<S: Source, K: Sink, N: Nv + Drop>(
     ensures ready { IsReady (bench_of bench.new) }
 
     // The deeds, and the status by them: each status has its row in `EndsIn`.
-    ensures ran { Replayed result (DidRun ⟦<DeviceNode<Fused<N>> as Node>⟧ ⟦<Fused<N> as Nv>⟧ fuse_in N.Nv device_kind (bench_of bench.old) (bench_of bench.new)) (S.left script.old) (S.left script.new)
+    ensures ran { Replayed result (DidRun (nodes ⟦<DeviceNode<Fused<N>> as Node>⟧ ⟦<CentreNode<Fused<N>> as Node>⟧ bench_kinds) ⟦<Fused<N> as Nv>⟧ fuse_in N.Nv (bench_of bench.old) (bench_of bench.new)) (S.left script.old) (S.left script.new)
         (K.taken report.old) (K.taken report.new) }
 
-    // Done, Script and TooLong come exactly where the bytes of the script say so, and only a fault of a stream hinders them.
-    ensures exact { IfSome (S.left script.old) (λ bytes. IsByScript result → (s : Status) → (result ≡ s) ↔ EndsAs s bytes) }
-
-    ensures words { (result ≡ Status.Words) ↔ (map string_bytes words.now ≢ codes "replay" ∷ []) }
-    ensures untouched { result ≡ Status.Words → (S.left script.new ≡ S.left script.old)
-        × (S.faults script.new ≡ S.faults script.old) × (K.taken report.new ≡ K.taken report.old)
-        × (K.faults report.new ≡ K.faults report.old) }
-
-    ensures read_fault { result ≡ Status.ReadFault → Rose (S.faults script.old) (S.faults script.new) }
-    ensures write_fault { result ≡ Status.WriteFault → Rose (K.faults report.old) (K.faults report.new) }
-    ensures read_later { S.faults script.old ≤ S.faults script.new }
-    ensures write_later { K.faults report.old ≤ K.faults report.new }
+    // How it ends, and what that says of the script and the report.
+    ensures ends { EndsRun result (map string_bytes words.now) (streams S.Source script.old K.Sink report.old) (streams S.Source script.new K.Sink report.new) }
 {
     histories();
     bench.begin();

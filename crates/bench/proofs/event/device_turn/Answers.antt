@@ -7,7 +7,7 @@ returns g c =
     let devices = c.args.devices.now.items in
     let place = c.get.result - 1 in
     let inside : place < 8 = omega (arith, c.get.ensures.range.0, c.get.ensures.range.1) in
-    let came = c.node_turn.ensures.did in
+    let came = c.device_did.ensures.did in
     record {
       did = (
         came.0,
@@ -16,7 +16,7 @@ returns g c =
           place = place;
           is_device = omega (arith, c.get.ensures.range.0, c.get.ensures.value);
           before = c.index_mut.result.now;
-          now = c.node_turn.new.place;
+          now = c.device_did.new.place;
           was = slice_get_read devices 8 place c.index_mut.result.now (sym c.requires.eight) inside c.index_mut.ensures.value;
           set = refl;
           did = came.2;

@@ -18,8 +18,8 @@ loop-place-preserved g c =
           c.stop_at.new.devices.items (omega (arith, c.loop-place-test.true, c.len-place-end.ensures, ok.0)) c.loop-place.invariant.stopping c.stop_at.ensures.stopped;
     }
 
-pub returns-clause-begun : goal.returns-clause-begun
-returns-clause-begun g c =
+pub returns-clause-stopped : goal.returns-clause-stopped
+returns-clause-stopped g c =
     let ok = c.args.devices.now.ok in
     all_stopped (ghosts g.row.M g.M.Fuse g.M.Fuse-dict g.M.Nv g.M.Nv-dict g.M.Destruct-dict) g.M.Nv c.loop-place.place c.args.devices.now.items c.loop-place.devices.items
     (omega (arith, c.loop-place-test.false, c.loop-place.invariant.few, c.len-place-end.ensures, ok.0)) c.loop-place.invariant.stopping

@@ -1,0 +1,143 @@
+//! Eight devices and the centre, each in its place, and the day.
+ghost use Rattle.std.specs.Prelude.{◌≡◌, ◌≤◌, ◌<◌, ◌+◌, [], ◌∷◌, ℕ, Some, None, length, slice_get, IfOk, IfErr};
+ghost use Rattle.std.specs.Vec.{vec_capacity};
+ghost use Rattle.bench_base.specs.declared.ledger.Entry.TheVariants.{Begin};
+ghost use Rattle.bench_base.specs.Ledger.{Ledger};
+ghost use Rattle.bench_views.specs.Kinds.{bench_kinds};
+
+use crate::places::{centre_over, centre_storage, device_over, device_storage, stop_all};
+use crate::stores::Stores;
+use bench_base::numbers::DayNo;
+use centre_protocol::{CentreNode, CentreRoom};
+use node_seat::Node;
+use nv_model::{Fuse, Fused, Nv};
+use psd_device::DeviceNode;
+use std::alloc::Global;
+
+/// Eight devices and the centre over storages of type M, which are made of storages of type N.
+#[derive(Drop)]
+pub struct BenchOver<M: Nv, N> {
+    pub(crate) devices: Vec<DeviceNode<M>>,
+    pub(crate) centre: CentreNode<M>,
+    pub(crate) day: Option<DayNo>,
+    /// Room to hand the storages back.
+    spare: Vec<N>,
+    ghost roomy: { 8 ≤ vec_capacity spare },
+    ghost empty: { length spare.items ≡ 0 },
+}
+
+/// Eight devices and the centre over storages of type N, each with a fuse.
+pub type Bench<N> = BenchOver<Fused<N>, N>;
+
+impl<M: Fuse + Drop, N> BenchOver<M, N> {
+    ghost use Rattle.bench.specs.Benches.{IsReady, Stands, nodes, bench_of};
+    ghost use Rattle.bench.specs.Places.{Begun};
+
+    /// Begins a run: each node is switched off, and the day is forgotten. The fuses stay.
+    pub fn begin(&mut self)
+        requires ready { IsReady (bench_of self.old) }
+        ensures ready { IsReady (bench_of self.new) }
+        ensures no_day { (bench_of self.new).day ≡ None }
+        ensures stands { (H : Ledger) → Stands (nodes ⟦<DeviceNode<M> as Node>⟧ ⟦<CentreNode<M> as Node>⟧ bench_kinds) M.Nv (bench_of self.old) H
+            → Stands (nodes ⟦<DeviceNode<M> as Node>⟧ ⟦<CentreNode<M> as Node>⟧ bench_kinds) M.Nv (bench_of self.new) (Begin ∷ H) }
+        ensures begun { Begun (nodes ⟦<DeviceNode<M> as Node>⟧ ⟦<CentreNode<M> as Node>⟧ bench_kinds) M.Nv (bench_of self.old) (bench_of self.new) }
+    {
+        self.day = None;
+        stop_all(&mut self.devices);
+        let _was_on = node_seat::stop(&mut self.centre);
+    }
+}
+
+impl<N: Nv + Drop> Bench<N> {
+    ghost use Rattle.nv_model.specs.Meters.{Works};
+    ghost use Rattle.bench.specs.Benches.{IsReady, Stands, StoresStand, AreBlank, nodes, bench_of, places_of};
+    ghost use Rattle.bench.specs.Places.{AreOver, AreInside};
+
+    /// A bench over these storages, which have power and no fuse: all nodes are off, and there is no day. The memory in which the
+    /// centre runs is made here. The bench stands for what the storages stand for, and for the empty ledger where they are blank.
+    /// Where there is no memory, the storages come back.
+    pub fn new(alloc: Global, stores: Stores<N>) -> Result<Bench<N>, Stores<N>>
+        requires eight { length stores.devices.items ≡ 8 }
+        requires fresh { (i : ℕ) (nv : N) → slice_get stores.devices.items i ≡ Some nv → Works (N.meters nv) }
+        requires fresh_centre { Works (N.meters stores.centre) }
+        ensures ready { IfOk result (λ bench. IsReady (bench_of bench)) }
+        ensures no_day { IfOk result (λ bench. (bench_of bench).day ≡ None) }
+        ensures over { IfOk result (λ bench. AreOver (places_of stores) (bench_of bench)) }
+        ensures stands { IfOk result (λ bench. (H : Ledger) → StoresStand (nodes ⟦<DeviceNode<Fused<N>> as Node>⟧ ⟦<CentreNode<Fused<N>> as Node>⟧ bench_kinds) N.Nv (places_of stores) H
+            → Stands (nodes ⟦<DeviceNode<Fused<N>> as Node>⟧ ⟦<CentreNode<Fused<N>> as Node>⟧ bench_kinds) ⟦<Fused<N> as Nv>⟧ (bench_of bench) H) }
+        ensures blank { IfOk result (λ bench. AreBlank N.Nv (places_of stores)
+            → Stands (nodes ⟦<DeviceNode<Fused<N>> as Node>⟧ ⟦<CentreNode<Fused<N>> as Node>⟧ bench_kinds) ⟦<Fused<N> as Nv>⟧ (bench_of bench) []) }
+        ensures back { IfErr result (λ left. left ≡ stores) }
+    {
+        let Stores {
+            devices: mut spare,
+            centre,
+        } = stores;
+        let mut devices = match Vec::with_capacity(alloc, 8) {
+            Ok(devices) => devices,
+            Err(_) => {
+                return Err(Stores {
+                    devices: spare,
+                    centre,
+                });
+            }
+        };
+        let room = match CentreRoom::new(alloc) {
+            Ok(room) => room,
+            Err(_) => {
+                return Err(Stores {
+                    devices: spare,
+                    centre,
+                });
+            }
+        };
+        for _ in 0..8usize {
+            match spare.pop() {
+                Some(nv) => match devices.push(device_over(nv)) {
+                    Ok(()) => {}
+                    Err(_) => unreachable!(),
+                },
+                None => unreachable!(),
+            }
+        }
+        devices.reverse();
+        Ok(BenchOver {
+            devices,
+            centre: centre_over(centre, room),
+            day: None,
+            spare,
+        })
+    }
+
+    /// The storages, without their fuses. A node that is on is switched off. They stand for what the bench stood for, with a new run
+    /// begun. One whose power was lost wants a restart before another bench is made of it.
+    pub fn into_stores(self) -> Stores<N>
+        requires ready { IsReady (bench_of self) }
+        ensures inside { AreInside (bench_of self) (places_of result) }
+        ensures stands { (H : Ledger) → Stands (nodes ⟦<DeviceNode<Fused<N>> as Node>⟧ ⟦<CentreNode<Fused<N>> as Node>⟧ bench_kinds) ⟦<Fused<N> as Nv>⟧ (bench_of self) H
+            → StoresStand (nodes ⟦<DeviceNode<Fused<N>> as Node>⟧ ⟦<CentreNode<Fused<N>> as Node>⟧ bench_kinds) N.Nv (places_of result) (Begin ∷ H) }
+    {
+        let BenchOver {
+            devices,
+            centre,
+            day: _,
+            spare,
+        } = self;
+        let mut devices = devices;
+        let mut stores = spare;
+        for _ in 0..8usize {
+            match devices.pop() {
+                Some(device) => match stores.push(device_storage(device)) {
+                    Ok(()) => {}
+                    Err(_) => unreachable!(),
+                },
+                None => unreachable!(),
+            }
+        }
+        stores.reverse();
+        Stores {
+            devices: stores,
+            centre: centre_storage(centre),
+        }
+    }
+}
