@@ -45,7 +45,7 @@ five_bytes x rest l h =
     ap₂ (λ a b. a ∷ b) high (ap (to_be_bytes w32) same ∙ be_bytes_4 rest low l (λ i. h (suc i)) refl)
 
 -- the bytes of the number of these bytes
-spelled-number : (s : Size) (bytes : List ℕ) → length bytes ≡ bytes_in s → IsBytes bytes → spelled s (number s bytes) ≡ bytes
+pub spelled-number : (s : Size) (bytes : List ℕ) → length bytes ≡ bytes_in s → IsBytes bytes → spelled s (number s bytes) ≡ bytes
 unfolding spelled number
 spelled-number One bytes l h = one_cell bytes l
 spelled-number Two bytes l h = be_bytes_2 bytes _ l h refl
@@ -55,7 +55,7 @@ spelled-number Five (x ∷ rest) l h = five_bytes x rest (omega (arith, l)) h
 spelled-number Eight bytes l h = be_bytes_8 bytes _ l h refl
 
 -- the number of the bytes of a number
-number-spelled : (s : Size) (n : ℕ) → IsNumber s n → number s (spelled s n) ≡ n
+pub number-spelled : (s : Size) (n : ℕ) → IsNumber s n → number s (spelled s n) ≡ n
 unfolding spelled number
 number-spelled One n h = refl
 number-spelled Two n h = from_be_bytes-to_be_bytes_2 n h
@@ -64,7 +64,7 @@ number-spelled Five n h =
     ap (λ r. n / 2 ^ 32 * 2 ^ 32 + r) (from_be_bytes-to_be_bytes_4 (n % 2 ^ 32) (omega arith)) ∙ omega arith
 number-spelled Eight n h = from_be_bytes-to_be_bytes_8 n h
 
-length-spelled : (s : Size) (n : ℕ) → length (spelled s n) ≡ bytes_in s
+pub length-spelled : (s : Size) (n : ℕ) → length (spelled s n) ≡ bytes_in s
 unfolding spelled
 length-spelled One n = refl
 length-spelled Two n = refl
@@ -72,7 +72,7 @@ length-spelled Four n = refl
 length-spelled Five n = refl
 length-spelled Eight n = refl
 
-number-fits : (s : Size) (bytes : List ℕ) → IsBytes bytes → IsNumber s (number s bytes)
+pub number-fits : (s : Size) (bytes : List ℕ) → IsBytes bytes → IsNumber s (number s bytes)
 unfolding number
 number-fits One bytes h = h 0
 number-fits Two bytes h = omega (arith, h 0, h 1)
