@@ -1,2 +1,10 @@
+pub mod ActLaws
+pub mod Acts
 pub mod Answers
+pub mod Index
 pub mod Order
+pub mod Payload
+pub mod PayloadLaws
+pub mod Records
+pub mod Rows
+pub mod Seen

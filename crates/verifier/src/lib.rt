@@ -1,6 +1,14 @@
-//! The verifier: which marks are accepted, each piece once.
+//! The verifier's rows and rules, without storage: which marks are accepted, each piece once.
 #![tactic(auto)]
 
+mod acts;
+mod index;
+mod payload;
 mod scans;
+mod theorems;
 
+pub use acts::{Accepted, Change, ScanAct, Spot, scan_act, trust_act};
+pub use index::{BlockIndex, Entry};
+pub use payload::{accept_payload, key_in, read_block, read_trust, scan_in, trust_payload};
 pub use scans::scan;
+pub use theorems::{acts_follow_the_commits, one_row};

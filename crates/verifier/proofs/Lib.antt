@@ -1,0 +1,9 @@
+pub mod After
+pub mod Blocks
+pub mod Cells
+pub mod Fits
+pub mod Found
+pub mod Indexed
+pub mod Laid
+pub mod LawActs
+pub mod Words

@@ -1,0 +1,89 @@
+-- What holds of the acts of the verifier: they leave sound rows, and do what the ledger plans over the commits whose rows these are.
+use Rattle.std.specs.Prelude.{◌≡◌, ℕ, ℤ, ◌<◌, false, List, [], ◌∷◌, Option, None}
+use Rattle.bench_base.specs.declared.sizes.TheConstants.{VERIFIER_CELLS}
+use Rattle.bench_base.specs.declared.words.Node.TheVariants.{Verifier}
+use Rattle.bench_base.specs.declared.ledger.Commit.{Commit}
+use Rattle.bench_base.specs.declared.events.Reply.{Reply}
+use Rattle.bench_base.specs.declared.events.Reply.TheVariants as r
+use Rattle.bench_base.specs.Cells.{place_of}
+use Rattle.bench_base.specs.Cells as cells
+use Rattle.bench_base.specs.Ledger.{count_of}
+use Rattle.bench_base.specs.Nodes.{node_of, same_node}
+use Rattle.bench_base.specs.Plans.{Plan}
+use Rattle.bench_base.specs.Ranges.{IsDevice, IsKey, IsCount}
+use Rattle.bench_base.specs.Scans.{trusted}
+use Rattle.bench_base.specs.Table.{IsBytes}
+use Rattle.node_acts.specs.Plans.{plan_of}
+use Rattle.node_acts.specs.RowList.{row_at, commits_at, commits_in}
+use Rattle.node_acts.specs.declared.act.Act.TheVariants.{Refuse, Tell, Commits}
+use Rattle.indicium.specs.Marks.{read_mark}
+use Rattle.verifier.specs.declared.acts.Accepted.{Accepted}
+use Rattle.verifier.specs.declared.acts.Change.{Change}
+use Rattle.verifier.specs.Acts.{ScanAct, trust_act, scan_act}
+use Rattle.verifier.specs.Answers.{trust_plan, scan_plan}
+use Rattle.verifier.specs.Records.{seen_after, IsRecorded}
+use Rattle.verifier.specs.Seen.{Seen, AreSound, cell_of, counting}
+
+-- == the rows stay sound ==
+
+-- the rows can take the change: its cell is there, and they are sound with it
+pub record IsFit (s : Seen) (x : Change) : Type 0 where
+  pub inside : cell_of x < VERIFIER_CELLS
+  pub sound : AreSound (counting.after s x)
+
+-- where the act commits a change, the commit is the verifier's, and the rows can take it
+abbrev pub LeavesSound : {A : Type 0} → Seen → ScanAct A → Type 0
+LeavesSound s (Refuse x) = Unit {0}
+LeavesSound s (Tell a) = Unit {0}
+LeavesSound s (Commits c x a) = IsFit s x × (node_of c ≡ Verifier)
+
+pub record SoundActs (s : Seen) : Type 0 where
+  pub trusted : (d : ℕ) (key : List ℕ) → IsDevice d → IsKey key → LeavesSound s (trust_act d key s)
+  pub scanned : (n : ℕ) (bytes : List ℕ) (today : ℤ) → IsCount n → IsBytes bytes → LeavesSound s (scan_act n bytes today s)
+
+abbrev pub ActsLeaveSound : Type 0
+ActsLeaveSound = (s : Seen) → AreSound s → SoundActs s
+
+-- == the rows of commits ==
+
+-- the rows of the commits with this change are those of the commits and the one more, which lies in the cell that the change names
+pub record IsNext (C : List Commit) (c : Commit) (x : Change) : Type 0 where
+  pub recorded : IsRecorded (c ∷ C)
+  pub seen : counting.after (seen_after C) x ≡ seen_after (c ∷ C)
+  pub count : commits_at (row_at (seen_after C) (cell_of x)) ≡ cells.commits_at (place_of c) C
+
+abbrev pub FollowsCommits : {A : Type 0} → List Commit → ScanAct A → Type 0
+FollowsCommits C (Refuse x) = Unit {0}
+FollowsCommits C (Tell a) = Unit {0}
+FollowsCommits C (Commits c x a) = IsNext C c x
+
+pub record FollowingActs (C : List Commit) : Type 0 where
+  pub trusted : (d : ℕ) (key : List ℕ) → IsDevice d → IsKey key → FollowsCommits C (trust_act d key (seen_after C))
+  pub scanned : (n : ℕ) (bytes : List ℕ) (today : ℤ) → IsCount n → IsBytes bytes → FollowsCommits C (scan_act n bytes today (seen_after C))
+
+pub record ActsFollow : Type 0 where
+  -- at the start there are no rows
+  pub none : (k : ℕ) → row_at (seen_after []) k ≡ None
+  pub sound : (C : List Commit) → IsRecorded C → AreSound (seen_after C)
+  pub counted : (C : List Commit) → IsRecorded C → commits_in (seen_after C) ≡ count_of Verifier C
+  -- the other nodes' commits leave the rows
+  pub others : (c : Commit) (C : List Commit) → same_node (node_of c) Verifier ≡ false → seen_after (c ∷ C) ≡ seen_after C
+  pub each : (C : List Commit) → IsRecorded C → FollowingActs C
+
+-- == the plans ==
+
+-- the plan of an act whose answer is told by its reply alone
+abbrev pub act_plan : {A : Type 0} → (A → Reply) → ScanAct A → Plan
+act_plan reply act = plan_of r.ScanRefused reply (λ a. []) act
+
+-- what a scan under this number is told as
+abbrev pub accepted_reply : ℕ → Accepted → Reply
+accepted_reply n a = r.Accepted a.device a.piece n a.again
+
+-- each act's plan is the ledger's
+pub record PlannedActs (C : List Commit) : Type 0 where
+  pub trusted : (d : ℕ) (key : List ℕ) → IsDevice d → act_plan (λ u. r.Trusted d) (trust_act d key (seen_after C)) ≡ trust_plan d key (trusted d C)
+  pub scanned : (n : ℕ) (bytes : List ℕ) (today : ℤ) → IsBytes bytes → act_plan (accepted_reply n) (scan_act n bytes today (seen_after C)) ≡ scan_plan n bytes today (read_mark bytes) C
+
+abbrev pub ActsArePlanned : Type 0
+ActsArePlanned = (C : List Commit) → IsRecorded C → PlannedActs C

@@ -1,0 +1,60 @@
+-- What each call of the verifier does, by its rows. Days are since 1970-01-01.
+use Rattle.std.specs.Prelude.{ℕ, ℤ, ◌%◌, Bool, true, false, List, Option, Some, None, Result, Ok, Err, is_some, nat_le, if◌then◌else◌}
+use Rattle.bench_base.specs.declared.sizes.TheConstants.{VERIFIER_CELLS, BLOCK_PIECES}
+use Rattle.bench_base.specs.declared.refusals.MarkFault.{MarkFault}
+use Rattle.bench_base.specs.declared.refusals.ScanRefusal.{ScanRefusal}
+use Rattle.bench_base.specs.declared.refusals.ScanRefusal.TheVariants as no
+use Rattle.bench_base.specs.declared.ledger.Commit.TheVariants as c
+use Rattle.bench_base.specs.Scans.{block_of}
+use Rattle.node_acts.specs.declared.act.Act.{Act}
+use Rattle.node_acts.specs.declared.act.Act.TheVariants.{Refuse, Tell, Commits}
+use Rattle.indicium.specs.declared.Mark.{Mark}
+use Rattle.indicium.specs.Marks.{read_mark}
+use Rattle.psd_wire.specs.Codes.{has_code}
+use Rattle.verifier.specs.declared.acts.Accepted.{Accepted}
+use Rattle.verifier.specs.declared.acts.Change.{Change}
+use Rattle.verifier.specs.declared.acts.Change.TheVariants as change
+use Rattle.verifier.specs.declared.acts.Spot.{Spot}
+use Rattle.verifier.specs.Answers.{scan_answer}
+use Rattle.verifier.specs.Seen.{Seen, key_at, spot_in}
+
+abbrev pub ScanAct : Type 0 → Type 0
+ScanAct A = Act Change ScanRefusal A
+
+-- == trust ==
+
+-- by whether the device is trusted
+abbrev pub trusted_act : ℕ → List ℕ → Bool → ScanAct (Unit {0})
+trusted_act d key true = Refuse no.Known
+trusted_act d key false = Commits (c.Trusted d key) (change.Trust d key) tt
+
+abbrev pub trust_act : ℕ → List ℕ → Seen → ScanAct (Unit {0})
+trust_act d key s = trusted_act d key (is_some (key_at s d))
+
+-- == a scan ==
+
+abbrev pub told : Mark → Bool → Accepted
+told k again = record { device = k.device; piece = k.piece; again = again }
+
+-- the piece was accepted before under the same scan number n, or it is to be accepted in this cell
+abbrev pub answered_act : ℕ → Mark → ℕ → Result Bool ScanRefusal → ScanAct Accepted
+answered_act n k cell (Err x) = Refuse x
+answered_act n k cell (Ok true) = Tell (told k true)
+answered_act n k cell (Ok false) = Commits (c.Accepted k.device k.piece n) (change.Accept cell k.device (block_of k.piece) (k.piece % BLOCK_PIECES) n) (told k false)
+
+-- where the next cell lies beyond the last, all blocks are in use
+abbrev pub spot_act : ℕ → Mark → ℤ → Spot → ScanAct Accepted
+spot_act n k today spot = answered_act n k spot.cell (scan_answer n k.day today (nat_le VERIFIER_CELLS spot.cell) spot.accepted)
+
+-- a mark in these bytes, by the key of its device and where its piece is looked up
+abbrev pub marked_act : ℕ → List ℕ → Mark → ℤ → Option (List ℕ) → Spot → ScanAct Accepted
+marked_act n bytes k today None spot = Refuse (no.Unknown k.device)
+marked_act n bytes k today (Some key) spot = if has_code key bytes then spot_act n k today spot else Refuse no.BadCode
+
+abbrev pub read_act : ℕ → List ℕ → ℤ → Seen → Result (Mark × List ℕ) MarkFault → ScanAct Accepted
+read_act n bytes today s (Err fault) = Refuse (no.Unread fault)
+read_act n bytes today s (Ok k) = marked_act n bytes k.0 today (key_at s k.0.device) (spot_in s k.0.device k.0.piece)
+
+-- bytes that are scanned under a number
+abbrev pub scan_act : ℕ → List ℕ → ℤ → Seen → ScanAct Accepted
+scan_act n bytes today s = read_act n bytes today s (read_mark bytes)

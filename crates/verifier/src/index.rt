@@ -1,0 +1,136 @@
+//! The blocks in use, by device and number.
+ghost use Rattle.std.specs.Prelude.{◌≡◌, ◌↔◌, ◌+◌, ◌<◌, ◌≤◌, ◌^◌, ℕ, List, [], IsTrue, None, length, get_or};
+ghost use Rattle.bench_base.specs.declared.sizes.TheConstants.{MOST_BLOCKS};
+ghost use Rattle.verifier.specs.Index.{cell_in, with_cell, rank, rank_of, AreOrdered, nothing};
+ghost use Rattle.verifier.specs.Index as index;
+
+use bench_base::sizes::MOST_BLOCKS;
+use std::marker::Model;
+
+/// A block in use.
+#[derive(Clone, Copy)]
+pub struct Entry {
+    pub device: u32,
+    /// The number of the block.
+    pub block: u32,
+    /// The cell that it lies in.
+    pub cell: u32,
+}
+
+/// At most 1,024 blocks, in the order of their devices and numbers, so that no call walks them.
+#[derive(Drop)]
+pub struct BlockIndex {
+    entries: [Entry; MOST_BLOCKS],
+    len: usize,
+}
+
+impl Model for BlockIndex {
+    ghost use Rattle.std.specs.Prelude.{List, take};
+    ghost use Rattle.verifier.specs.declared.index.Entry.{Entry};
+
+    ghost Value = { List Entry };
+
+    ghost use Rattle.verifier.specs.Index.{IsKept};
+
+    ghost view = { λ i. take i.len i.entries };
+
+    ghost invariant = { λ i. IsKept i.entries i.len };
+}
+
+// Whether the entry comes before this block.
+fn precedes(entry: &Entry, device: u32, block: u32) -> bool
+    ensures { IsTrue result ↔ (rank_of entry.now < rank device block) }
+{
+    let number = entry.block;
+    entry.device < device || entry.device == device && number < block
+}
+
+fn is_of(entry: &Entry, device: u32, block: u32) -> bool
+    ensures { result ≡ index.is_of device block entry.now }
+{
+    entry.device == device && entry.block == block
+}
+
+// How many entries come before this block.
+fn rank_in(entries: &[Entry], device: u32, block: u32) -> usize
+    requires { AreOrdered entries.now }
+    ensures inside { result ≤ length entries.now }
+    ensures before { (k : ℕ) → k < result → rank_of (get_or entries.now k nothing) < rank device block }
+    ensures behind { (k : ℕ) → result ≤ k → k < length entries.now → rank device block ≤ rank_of (get_or entries.now k nothing) }
+{
+    let mut low = 0;
+    let mut high = entries.len();
+    while low < high {
+        let middle = low + (high - low) / 2;
+        if precedes(&entries[middle], device, block) {
+            low = middle + 1;
+        } else {
+            high = middle;
+        }
+    }
+    low
+}
+
+impl BlockIndex {
+    /// No block.
+    pub fn new() -> BlockIndex
+        ensures { result ≡ [] }
+    {
+        let none = Entry {
+            device: 0,
+            block: 0,
+            cell: 0,
+        };
+        BlockIndex {
+            entries: [none; MOST_BLOCKS],
+            len: 0,
+        }
+    }
+
+    /// Forgets all blocks.
+    pub fn clear(&mut self)
+        ensures { self.new ≡ [] }
+    {
+        self.len = 0;
+    }
+
+    /// The number of blocks, at most 1,024.
+    pub fn len(&self) -> usize
+        ensures value { result ≡ length self.now }
+        ensures room { result ≤ MOST_BLOCKS }
+        ensures ordered { AreOrdered self.now }
+    {
+        self.len
+    }
+
+    /// The cell of the block; None exactly where it is not in the index.
+    pub fn find(&self, device: u32, block: u32) -> Option<u32>
+        ensures { result ≡ cell_in self.now device block }
+    {
+        let entries = &self.entries[..self.len];
+        let place = rank_in(entries, device, block);
+        if place < entries.len() && is_of(&entries[place], device, block) {
+            Some(entries[place].cell)
+        } else {
+            None
+        }
+    }
+
+    /// Adds a block that is not in the index, which has room; all others stay.
+    pub fn insert(&mut self, device: u32, block: u32, cell: u32)
+        requires fresh { cell_in self.old device block ≡ None }
+        requires room { length self.old < MOST_BLOCKS }
+        ensures added { (d b : ℕ) → cell_in self.new d b ≡ with_cell device block cell self.old d b }
+        ensures more { length self.new ≡ length self.old + 1 }
+    {
+        let len = self.len;
+        let place = rank_in(&self.entries[..len], device, block);
+        self.entries.copy_within(place..len, place + 1);
+        self.entries[place] = Entry {
+            device,
+            block,
+            cell,
+        };
+        self.len = len + 1;
+    }
+}
