@@ -87,6 +87,7 @@ module _ (s : Seen) (sound : AreSound s) (d : ℕ) (key : List ℕ) (device : Is
   pub trust-fits : IsFit s (change.Trust d key)
   trust-fits = record {
     inside = omega (arith, device);
+    own = tt;
     sound = record {
       long = put_long s (d - 1) (TrustRow d key) ∙ sound.long;
       each = each-row s (d - 1) (TrustRow d key) inside sound.each (record { place = (omega (arith, device), omega (arith, device)); sound = (omega (arith, device), fits) });
@@ -111,6 +112,7 @@ pub record CanAccept (s : Seen) (cell d b : ℕ) : Type 0 where
   -- it has no key, its block stands behind others, and is in no other cell
   pub keyless : key_in (row_in s cell) ≡ None
   pub packed : (k : ℕ) → FIRST_BLOCK ≤ k → k + 1 ≡ cell → IsSome (row_at s k)
+  pub own : (e c : ℕ) → block_in (row_in s cell) ≡ Some (e, c) → (e ≡ d) × (c ≡ b)
   pub only : (k : ℕ) → block_in (row_in s k) ≡ Some (d, b) → k ≡ cell
   pub long : length (scans_in (row_in s cell)) ≡ BLOCK_PIECES
   pub words : (j : ℕ) → get_or (scans_in (row_in s cell)) j 0 < 2 ^ 32
@@ -160,6 +162,7 @@ module _ (s : Seen) (sound : AreSound s) (cell d b place n : ℕ) (can : CanAcce
   pub accept-fits : IsFit s (change.Accept cell d b place n)
   accept-fits = record {
     inside = can.inside;
+    own = (in_block, can.own);
     sound = record {
       long = put_long s cell (BlockRow d b (set (scans_in (row_in s cell)) place n)) ∙ sound.long;
       each = each-row s cell (BlockRow d b (set (scans_in (row_in s cell)) place n)) row_inside sound.each (record { place = can.from; sound = row_sound });
@@ -216,6 +219,7 @@ module _ (s : Seen) (sound : AreSound s) (d b : ℕ) (trusted : IsSome (key_at s
         number = number;
         keyless = keyless (row_in s cell) (d, b) f.1;
         packed = λ k from next. sound.together.packed k from (subst (λ j. IsSome (row_at s j)) (sym next) (has cell (row_at s cell) f.1));
+        own = λ e c held. same_pair e c d b (sym held ∙ f.1);
         only = λ k held. sound.together.distinct k cell d b held f.1;
         long = kept.0;
         words = kept.1;
@@ -244,6 +248,7 @@ module _ (s : Seen) (sound : AreSound s) (d b : ℕ) (trusted : IsSome (key_at s
         number = number;
         keyless = ap (λ (o : Option Row). key_in o) blank;
         packed = λ k from next. used-before s sound k from (omega (arith, next));
+        own = λ e c held. absurd (no_pair e c (sym (ap (λ (o : Option Row). block_in o) blank) ∙ held));
         only = λ k held. absurd (cell-none s sound d b none k held);
         long = ap (λ (o : Option Row). length (scans_in o)) blank ∙ zeros_long;
         words = λ j. subst (λ (o : Option Row). get_or (scans_in o) j 0 < 2 ^ 32) (sym blank) (zeros_small j);

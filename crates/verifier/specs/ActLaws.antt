@@ -1,6 +1,6 @@
 -- What holds of the acts of the verifier: they leave sound rows, and do what the ledger plans over the commits whose rows these are.
-use Rattle.std.specs.Prelude.{◌≡◌, ℕ, ℤ, ◌<◌, false, List, [], ◌∷◌, Option, None}
-use Rattle.bench_base.specs.declared.sizes.TheConstants.{VERIFIER_CELLS}
+use Rattle.std.specs.Prelude.{◌≡◌, ℕ, ℤ, ◌<◌, false, List, [], ◌∷◌, Option, Some, None}
+use Rattle.bench_base.specs.declared.sizes.TheConstants.{VERIFIER_CELLS, BLOCK_PIECES}
 use Rattle.bench_base.specs.declared.words.Node.TheVariants.{Verifier}
 use Rattle.bench_base.specs.declared.ledger.Commit.{Commit}
 use Rattle.bench_base.specs.declared.events.Reply.{Reply}
@@ -19,16 +19,23 @@ use Rattle.node_acts.specs.declared.act.Act.TheVariants.{Refuse, Tell, Commits}
 use Rattle.indicium.specs.Marks.{read_mark}
 use Rattle.verifier.specs.declared.acts.Accepted.{Accepted}
 use Rattle.verifier.specs.declared.acts.Change.{Change}
+use Rattle.verifier.specs.declared.acts.Change.TheVariants as change
 use Rattle.verifier.specs.Acts.{ScanAct, trust_act, scan_act}
 use Rattle.verifier.specs.Answers.{trust_plan, scan_plan}
 use Rattle.verifier.specs.Records.{seen_after, IsRecorded}
-use Rattle.verifier.specs.Seen.{Seen, AreSound, cell_of, counting}
+use Rattle.verifier.specs.Seen.{Seen, AreSound, block_in, row_in, cell_of, counting}
 
 -- == the rows stay sound ==
+
+-- the change is one of its cell: a block's cell holds no other block, and the block has the place
+abbrev pub IsOwn : Seen → Change → Type 0
+IsOwn s (change.Trust d key) = Unit {0}
+IsOwn s (change.Accept cell d b place n) = (place < BLOCK_PIECES) × ((e c : ℕ) → block_in (row_in s cell) ≡ Some (e, c) → (e ≡ d) × (c ≡ b))
 
 -- the rows can take the change: its cell is there, and they are sound with it
 pub record IsFit (s : Seen) (x : Change) : Type 0 where
   pub inside : cell_of x < VERIFIER_CELLS
+  pub own : IsOwn s x
   pub sound : AreSound (counting.after s x)
 
 -- where the act commits a change, the commit is the verifier's, and the rows can take it

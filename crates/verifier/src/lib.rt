@@ -9,6 +9,8 @@ mod theorems;
 
 pub use acts::{Accepted, Change, ScanAct, Spot, scan_act, trust_act};
 pub use index::{BlockIndex, Entry};
-pub use payload::{accept_payload, key_in, read_block, read_trust, scan_in, trust_payload};
+pub use payload::{
+    accept_payload, block_in, key_in, read_block, read_trust, scan_in, trust_payload,
+};
 pub use scans::scan;
 pub use theorems::{acts_follow_the_commits, one_row};

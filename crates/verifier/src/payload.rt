@@ -2,7 +2,7 @@
 ghost use Rattle.std.specs.Prelude.{◌≡◌, ℕ, ◌<◌, ◌↔◌, List, MatchOption, MatchBool, IsTrue, length, get_or, set, replicate};
 ghost use Rattle.std.specs.Option.{option_copied};
 ghost use Rattle.verifier.specs.Rows.{TrustRow, BlockRow};
-ghost use Rattle.verifier.specs.Payload.{RowReadsAs, block_bytes, scans_of, scans_before, key_of};
+ghost use Rattle.verifier.specs.Payload.{RowReadsAs, block_bytes, scans_of, scans_before, key_of, word_at};
 ghost use Rattle.verifier.specs.Seen.{scan_shown};
 
 use bench_base::fields::{put_u32, u32_at};
@@ -54,6 +54,15 @@ pub fn read_block(payload: &[u8; BLOCK_BYTES]) -> Option<(u32, u32)>
         return None;
     }
     Some((device, number))
+}
+
+/// Device and number that stand in the payload of a block.
+#[tactic(auto, unfolding(crate::specs::Payload::word_at, bench_base::specs::Table::number))]
+pub fn block_in(payload: &[u8; BLOCK_BYTES]) -> (u32, u32)
+    ensures device { result.0 ≡ word_at 0 payload.now }
+    ensures number { result.1 ≡ word_at 1 payload.now }
+{
+    (u32_at(payload, 0), u32_at(payload, 4))
 }
 
 /// The scan under which the piece at this place of a block was accepted.

@@ -1,0 +1,31 @@
+-- Cells without commits, and an index without blocks.
+use Rattle.std.proofs.Common.{◌≡◌, inl, inr, ℕ, ◌+◌, ◌<◌, ◌≤◌, List, [], length, option_map, Option, Some, None, true, false, refl, sym, ◌∙◌, ap, subst, arith, true≢false}
+use Rattle.std.specs.Prelude.{is_some}
+use Rattle.std.proofs.lemmas.Bool.{cases_lt}
+use Rattle.std.proofs.lemmas.List.{get_or_past}
+use Rattle.bench_base.specs.declared.sizes.TheConstants.{VERIFIER_CELLS, FIRST_BLOCK}
+use Rattle.node_acts.specs.RowList.{row_at, row_of}
+use Rattle.nv_store.specs.Slot.{Held}
+use Rattle.nv_store.specs.Store.{payload_of}
+use Rattle.row_table.specs.Kept.{IsFilled}
+use Rattle.verifier.specs.declared.index.Entry.{Entry}
+use Rattle.verifier.specs.Index.{cell_in, IsIndexOf}
+use Rattle.verifier.specs.Payload.{IsPayloadOf, row_of as row_from}
+use Rattle.verifier.specs.Seen.{AreTogether, block_in}
+use Rattle.verifier_node.specs.Payloads.{HoldRows, seen_held}
+use Rattle.verifier_node.specs.Boots.{AreJoined}
+use Rattle.verifier_node.specs.Held.{held-long}
+use Rattle.verifier_node.proofs.Booted.{start-indexed, joined}
+
+module _ (held : ℕ → Option Held) (blank : (k : ℕ) → held k ≡ None) where
+  pub none_hold : HoldRows held
+  none_hold j lt = subst (λ (h : Option Held). IsFilled (IsPayloadOf j) (option_map (row_from j) (payload_of h)) h) (sym (blank j)) tt
+
+  none_joined : (es : List Entry) → es ≡ [] → AreJoined held es
+  none_joined es empty = joined held none_hold es FIRST_BLOCK (start-indexed held none_hold es empty) (omega arith) (λ k le lt. blank k)
+
+  pub none_together : AreTogether (seen_held held)
+  none_together = (none_joined [] refl).together
+
+  pub none_index : (es : List Entry) → es ≡ [] → IsIndexOf es (seen_held held)
+  none_index es empty = (none_joined es empty).indexed

@@ -1,0 +1,16 @@
+use Rattle.std.proofs.Common.{arith}
+use Rattle.verifier.specs.Acts.{scan_act}
+use Rattle.verifier.proofs.LawActs.{leaves}
+use Rattle.verifier_node.specs.Knows.{rows_sound}
+use Rattle.verifier_node.specs.VerifierView.{seen_of}
+use Rattle.verifier_node.proofs.Fits.{can_commit}
+use Rattle.verifier_node.proofs.running.Verifier.scan.Goals as goal
+
+pub perform-requires : goal.perform-requires
+perform-requires g c =
+    let v = c.args.self.now in
+    let act = c.scan_act-act in
+    record {
+      fits = can_commit (seen_of v) (scan_act c.args.number c.args.bytes.now c.args.day (seen_of v)) act.result act.ensures
+          ((leaves (seen_of v) (rows_sound v.node)).scanned c.args.number c.args.bytes.now c.args.day (c.requires, c.ranges.number.fits) (λ i. omega (arith, c.type_inv.bytes i)));
+    }

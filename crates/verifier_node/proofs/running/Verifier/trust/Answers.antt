@@ -1,0 +1,15 @@
+use Rattle.verifier.specs.Acts.{trust_act}
+use Rattle.verifier.proofs.LawActs.{leaves}
+use Rattle.verifier_node.specs.Knows.{rows_sound}
+use Rattle.verifier_node.specs.VerifierView.{seen_of}
+use Rattle.verifier_node.proofs.Fits.{can_commit}
+use Rattle.verifier_node.proofs.running.Verifier.trust.Goals as goal
+
+pub perform-requires : goal.perform-requires
+perform-requires g c =
+    let v = c.args.self.now in
+    let act = c.trust_act-act in
+    record {
+      fits = can_commit (seen_of v) (trust_act c.args.device c.args.key.now (seen_of v)) act.result act.ensures.act
+          ((leaves (seen_of v) (rows_sound v.node)).trusted c.args.device c.args.key.now act.ensures.number (c.told-key, c.fits-key));
+    }

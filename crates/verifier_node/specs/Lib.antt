@@ -1,0 +1,10 @@
+pub mod Payloads
+pub mod Unique
+pub mod Sound
+pub mod Held
+pub mod Indexes
+pub mod Boots
+pub mod NodeView
+pub mod Knows
+pub mod NodeLaws
+pub mod VerifierView
