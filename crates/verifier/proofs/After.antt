@@ -1,11 +1,11 @@
 -- The rows after some commits: what they tell, and what one commit more does to them.
-use Rattle.std.proofs.Common.{◌≡◌, ◌≢◌, ◌⊎◌, inl, inr, ℕ, zero, suc, ◌+◌, ◌-◌, ◌*◌, ◌/◌, ◌%◌, ◌<◌, ◌≤◌, ◌^◌, List, [], ◌∷◌, length, get_or, set, option_map, Option, Some, None, Bool, true, false, refl, sym, ap, ap₂, subst, ◌∙◌, arith, true≢false}
-use Rattle.std.specs.Prelude.{◌==◌, ◌&&◌, is_some, IsSome, All, unwrap_or, nat_lt, position, if◌then◌else◌}
+use Rattle.std.proofs.Common.{◌≡◌, ◌≢◌, inl, inr, ℕ, ◌+◌, ◌-◌, ◌%◌, ◌<◌, ◌≤◌, List, [], ◌∷◌, length, get_or, set, option_map, Option, Some, None, true, false, refl, sym, ap, subst, ◌∙◌, arith, true≢false}
+use Rattle.std.specs.Prelude.{◌==◌, ◌&&◌, is_some, All, unwrap_or, nat_lt, if◌then◌else◌}
 use Rattle.std.proofs.lemmas.Bool.{cases_Bool, cases_eq, cases_lt, eqb-true, eq-eqb, ne_eqb}
 use Rattle.std.proofs.lemmas.Bool.Decides.{nat_tests}
 use Rattle.std.proofs.lemmas.List.{get_or_past}
 use Rattle.std.proofs.lemmas.List.Elements.{All-head, All-tail}
-use Rattle.bench_base.specs.declared.sizes.TheConstants.{VERIFIER_CELLS, FIRST_BLOCK, BLOCK_PIECES, LAST_BLOCK}
+use Rattle.bench_base.specs.declared.sizes.TheConstants.{VERIFIER_CELLS, FIRST_BLOCK, BLOCK_PIECES}
 use Rattle.bench_base.specs.declared.ledger.Commit.{Commit}
 use Rattle.bench_base.specs.declared.ledger.Commit.TheVariants.{Trusted, Accepted}
 use Rattle.bench_base.specs.Cells.{OfTrust, OfBlock, commits_at}
@@ -17,13 +17,12 @@ use Rattle.node_acts.specs.RowList as list
 use Rattle.node_acts.specs.RowLaws.{listed_long, listed_at, put_listed}
 use Rattle.verifier.specs.declared.acts.Change.TheVariants as change
 use Rattle.verifier.specs.declared.acts.Spot.{Spot}
-use Rattle.verifier.specs.Order.{InOrder, IsRoomy}
-use Rattle.verifier.specs.Payload.{no_scans}
+use Rattle.verifier.specs.Order.{IsRoomy}
 use Rattle.verifier.specs.Records.{block_at, scans_after, trust_after, block_after, cell_after, seen_after, IsRecorded}
 use Rattle.verifier.specs.Rows.{Row, TrustRow, BlockRow}
-use Rattle.verifier.specs.Seen.{Seen, row_in, key_in, block_in, scans_in, holds, key_at, cell_of_block, used, scan_shown, spot_by, spot_in, counting, row_with}
-use Rattle.verifier.proofs.Blocks.{pair, same_block, is-block, own-block, newest-at, older-at, past-all, within-all, place-at, blocks-kept, blocks-more, at-place, untrusted-blank, unused-blank, unused-none, piece-is, place-inside, block-is, scan-at, unused-scans, scans-more, scans-others}
-use Rattle.verifier.proofs.Cells.{both, key-in-cell, block-held, held-block, used-is, shown-some}
+use Rattle.verifier.specs.Seen.{Seen, row_in, key_in, block_in, scans_in, holds, key_at, cell_of_block, used, scan_shown, spot_by, spot_in, counting}
+use Rattle.verifier.proofs.Blocks.{pair, same_block, is-block, own-block, newest-at, older-at, past-all, within-all, place-at, blocks-kept, blocks-more, at-place, untrusted-blank, unused-blank, unused-none, piece-is, place-inside, scan-at, unused-scans, scans-more, scans-others}
+use Rattle.verifier.proofs.Cells.{key-in-cell, block-held, used-is}
 use Rattle.verifier.proofs.Found.{position-is, position-none}
 
 some_none : {A : Type 0} (a : A) → Some a ≡ None → ⊥

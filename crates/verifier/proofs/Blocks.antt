@@ -1,5 +1,5 @@
 -- The blocks in use after some commits, the newest first, by their places, which are counted from the oldest.
-use Rattle.std.proofs.Common.{◌≡◌, ◌≢◌, ◌⊎◌, inl, inr, ℕ, zero, suc, ◌+◌, ◌-◌, ◌*◌, ◌/◌, ◌%◌, ◌<◌, ◌≤◌, List, [], ◌∷◌, length, replicate, get_or, set, Option, Some, None, Bool, true, false, refl, sym, ap, ap₂, subst, ◌∙◌, arith, true≢false}
+use Rattle.std.proofs.Common.{◌≡◌, ◌≢◌, inl, inr, ℕ, ◌+◌, ◌*◌, ◌%◌, ◌<◌, ◌≤◌, List, [], ◌∷◌, length, replicate, get_or, set, Option, Some, None, Bool, true, false, refl, sym, ap, ◌∙◌, arith, true≢false}
 use Rattle.std.specs.Prelude.{◌==◌, ◌&&◌, is_some, IsSome, unwrap_or, if◌then◌else◌}
 use Rattle.std.proofs.lemmas.Bool.{cases_Bool, cases_eq, eqb-true, eq-eqb, ne_eqb}
 use Rattle.std.proofs.lemmas.List.{get_or-replicate, length-replicate, get_or-set_same, get_or-set_other, length-set}
@@ -9,7 +9,6 @@ use Rattle.bench_base.specs.declared.ledger.Commit.TheVariants.{Trusted, Accepte
 use Rattle.bench_base.specs.Cells.{OfTrust, OfBlock, commits_at}
 use Rattle.bench_base.specs.Rows.{first_of}
 use Rattle.bench_base.specs.Scans.{trusted, accepted, block_of, block_place, with_block, blocks}
-use Rattle.node_acts.specs.RowList.{listed}
 use Rattle.node_acts.specs.RowLaws.{listed_is, listed_same, listed_long, listed_at}
 use Rattle.verifier.specs.Payload.{no_scans}
 use Rattle.verifier.specs.Records.{block_at, scans_after}

@@ -1,17 +1,17 @@
 -- Sound rows that take a change are sound.
-use Rattle.std.proofs.Common.{◌≡◌, ◌≢◌, ◌⊎◌, inl, inr, ℕ, zero, suc, replicate, ◌+◌, ◌-◌, ◌<◌, ◌≤◌, ◌^◌, List, length, get_or, set, Option, Some, None, Bool, true, false, refl, sym, ap, subst, ◌∙◌, arith, true≢false}
-use Rattle.std.specs.Prelude.{◌==◌, is_some, IsSome, IfSome, if◌then◌else◌}
-use Rattle.std.proofs.lemmas.Bool.{cases_eq, cases_lt, ne_eqb}
-use Rattle.std.proofs.lemmas.List.{get_or-set_same, get_or-set_other, length-set, length-replicate, get_or_past}
+use Rattle.std.proofs.Common.{◌≡◌, ◌≢◌, ◌⊎◌, inl, inr, ℕ, zero, suc, replicate, ◌+◌, ◌-◌, ◌<◌, ◌≤◌, ◌^◌, List, length, get_or, set, Option, Some, None, true, refl, sym, ap, subst, ◌∙◌, arith, true≢false}
+use Rattle.std.specs.Prelude.{is_some, IsSome, IfSome}
+use Rattle.std.proofs.lemmas.Bool.{cases_eq}
+use Rattle.std.proofs.lemmas.List.{get_or-set_same, get_or-set_other, length-set, length-replicate}
 use Rattle.bench_base.specs.Ranges.{IsDevice, IsKey}
 use Rattle.bench_base.specs.declared.sizes.TheConstants.{VERIFIER_CELLS, FIRST_BLOCK, BLOCK_PIECES, LAST_BLOCK}
-use Rattle.node_acts.specs.RowList.{row_at, row_of, commits_at, put}
+use Rattle.node_acts.specs.RowList.{row_at, row_of, put}
 use Rattle.node_acts.specs.RowLaws.{put_long, put_here, put_other}
 use Rattle.verifier.specs.declared.acts.Change.TheVariants as change
 use Rattle.verifier.specs.ActLaws.{IsFit}
 use Rattle.verifier.specs.Payload.{no_scans}
 use Rattle.verifier.specs.Rows.{Row, TrustRow, BlockRow, IsSoundBlock}
-use Rattle.verifier.specs.Seen.{Seen, row_in, key_in, block_in, scans_in, key_at, cell_of_block, used, AreSound, AreTogether, IsRowAt}
+use Rattle.verifier.specs.Seen.{Seen, row_in, key_in, block_in, scans_in, key_at, cell_of_block, used, AreSound, IsRowAt}
 use Rattle.verifier.proofs.Cells.{keyless, key-in-cell, keyed, cell-found, cell-none, block-from, used-before, next-blank}
 
 no_pair : (d b : ℕ) → ◌≡◌ {A = Option (ℕ × ℕ)} None (Some (d, b)) → ⊥

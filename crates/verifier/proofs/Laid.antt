@@ -1,18 +1,17 @@
 -- The payloads of rows: what is laid down, and what is read back.
-use Rattle.std.proofs.Common.{◌≡◌, ◌↔◌, ℕ, zero, suc, [], ◌∷◌, ◌+◌, ◌-◌, ◌*◌, ◌<◌, ◌≤◌, ◌^◌, List, ◌++◌, length, get_or, set, take, drop, replicate, refl, sym, ap, ap₂, subst, ◌∙◌, arith, length-append, append_assoc, Option, Some, None, Bool, IsTrue, inl, inr, true, false, true≢false}
+use Rattle.std.proofs.Common.{◌≡◌, ◌↔◌, ℕ, zero, suc, ◌∷◌, ◌+◌, ◌-◌, ◌*◌, ◌<◌, ◌≤◌, ◌^◌, List, ◌++◌, length, get_or, set, take, drop, replicate, refl, sym, ap, ap₂, subst, ◌∙◌, arith, length-append, Some, None, Bool, IsTrue, inl, inr, true, false, true≢false}
 use Rattle.std.specs.Int.{w32, to_be_bytes, from_be_bytes}
 use Rattle.std.specs.Prelude.{◌==◌, nat_lt, MatchBool, if◌then◌else◌}
 use Rattle.std.proofs.lemmas.Bool.{cases_lt, ne_eqb}
 use Rattle.std.proofs.lemmas.Bool.Decides.{nat_tests}
 use Rattle.std.proofs.lemmas.List.{take_at, drop_at, drop-drop, take-append-drop, length-take, length-drop, drop-replicate, length-replicate, get_or-replicate, get_or_past, take_all}
 use Rattle.bench_base.specs.Table.{Four, spelled, number, IsBytes}
-use Rattle.bench_base.specs.Ranges.{IsKey}
 use Rattle.bench_base.specs.declared.sizes.TheConstants.{BLOCK_BYTES, BLOCK_PIECES, FIRST_BLOCK, LAST_BLOCK}
-use Rattle.bench_base.proofs.Tables.{IsBytes-drop, IsBytes-take, length-spelled, number-spelled, spelled-number, number-fits}
+use Rattle.bench_base.proofs.Tables.{IsBytes-drop, IsBytes-take, length-spelled, number-spelled, spelled-number}
 use Rattle.node_acts.specs.RowList.{listed}
 use Rattle.node_acts.specs.RowLaws.{listed_same, listed_is, listed_long, listed_at}
-use Rattle.verifier.specs.Rows.{Row, TrustRow, BlockRow, IsSoundBlock, IsSoundRow}
-use Rattle.verifier.specs.Payload.{words, word_at, trust_bytes, block_bytes, no_scans, scans_of, key_of, row_of, row_bytes, RowReadsAs, IsPayloadOf}
+use Rattle.verifier.specs.Rows.{Row, TrustRow, BlockRow}
+use Rattle.verifier.specs.Payload.{words, word_at, trust_bytes, block_bytes, scans_of, key_of, row_of, RowReadsAs, IsPayloadOf}
 use Rattle.verifier.specs.PayloadLaws.{PayloadLaws}
 use Rattle.verifier.specs.Seen.{scan_shown}
 use Rattle.verifier.proofs.Words.{length-words, word-words, word-next, word-fits, words-back, zero-word, words-zeros, all-zeros, put-word}

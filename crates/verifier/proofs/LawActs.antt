@@ -1,13 +1,13 @@
 -- The acts of the verifier leave sound rows, follow the commits, and are what the ledger plans.
-use Rattle.std.proofs.Common.{◌≡◌, ◌≢◌, ◌⊎◌, inl, inr, ℕ, ℤ, zero, suc, ◌+◌, ◌-◌, ◌/◌, ◌%◌, ◌<◌, ◌≤◌, ◌^◌, List, [], ◌∷◌, length, drop, get_or, option_map, Option, Some, None, Bool, true, false, Ok, Err, refl, sym, ap, ap₂, subst, ◌∙◌, arith, true≢false}
-use Rattle.std.specs.Prelude.{Result, pos, ◌+ℤ◌, ◌==◌, ◌&&◌, is_some, is_none, IsSome, IfSome, All, nat_le, sum_by, if◌then◌else◌}
-use Rattle.std.proofs.lemmas.Bool.{cases_Bool, cases_eq, cases_lt}
+use Rattle.std.proofs.Common.{◌≡◌, inl, inr, ℕ, ℤ, zero, suc, ◌+◌, ◌-◌, ◌%◌, ◌<◌, ◌≤◌, ◌^◌, List, [], ◌∷◌, length, drop, option_map, Option, Some, None, Bool, true, false, Ok, Err, refl, sym, ap, ap₂, subst, ◌∙◌, arith, true≢false}
+use Rattle.std.specs.Prelude.{Result, pos, ◌+ℤ◌, ◌==◌, ◌&&◌, is_some, is_none, IsSome, IfSome, All, nat_le, if◌then◌else◌}
+use Rattle.std.proofs.lemmas.Bool.{cases_Bool, cases_lt}
 use Rattle.std.proofs.lemmas.Bool.Decides.{nat_tests}
 use Rattle.std.proofs.lemmas.List.{get_or_past}
 use Rattle.std.proofs.lemmas.List.Elements.{All-head, All-tail}
 use Rattle.std.proofs.lemmas.List.Sums.{sum_by-cons}
 use lib.Signed.{lt_z}
-use Rattle.bench_base.specs.declared.sizes.TheConstants.{VERIFIER_CELLS, FIRST_BLOCK, BLOCK_PIECES, LAST_BLOCK}
+use Rattle.bench_base.specs.declared.sizes.TheConstants.{VERIFIER_CELLS, FIRST_BLOCK, BLOCK_PIECES}
 use Rattle.bench_base.specs.declared.words.Node.TheVariants.{Verifier}
 use Rattle.bench_base.specs.declared.ledger.Commit.{Commit}
 use Rattle.bench_base.specs.declared.ledger.Commit.TheVariants as c
@@ -19,30 +19,27 @@ use Rattle.bench_base.specs.Cells.{OfTrust, OfBlock}
 use Rattle.bench_base.specs.Cells as cells
 use Rattle.bench_base.specs.Ledger.{count_of}
 use Rattle.bench_base.specs.Nodes.{node_of, same_node}
-use Rattle.bench_base.specs.Ranges.{InRange, IsDevice, IsKey, IsCount, IsWord}
+use Rattle.bench_base.specs.Ranges.{InRange, IsDevice, IsKey, IsCount}
 use Rattle.bench_base.specs.Rows.{first_holding}
-use Rattle.bench_base.specs.Rules.{IsVersion}
 use Rattle.bench_base.specs.Scans.{trusted, accepted, block_of, block_place, blocks}
 use Rattle.bench_base.specs.Table.{IsBytes, Size, Fit}
-use Rattle.node_acts.specs.declared.act.Act.TheVariants.{Refuse, Tell, Commits}
+use Rattle.node_acts.specs.declared.act.Act.TheVariants.{Refuse}
 use Rattle.node_acts.specs.RowList.{row_at, row_of, commits_at, commits_in, listed}
 use Rattle.node_acts.specs.RowLaws.{put_counts}
 use Rattle.indicium.specs.declared.Mark.{Mark}
-use Rattle.indicium.specs.Marks.{read_mark, mark_fields, mark_values, IsWhole}
+use Rattle.indicium.specs.Marks.{read_mark, mark_values}
 use Rattle.indicium.proofs.Readings.{read_mark-found}
 use Rattle.psd_wire.specs.Codes.{has_code}
-use Rattle.verifier.specs.declared.acts.Accepted.{Accepted}
-use Rattle.verifier.specs.declared.acts.Change.{Change}
 use Rattle.verifier.specs.declared.acts.Change.TheVariants as change
 use Rattle.verifier.specs.declared.acts.Spot.{Spot}
 use Rattle.verifier.specs.Answers.{no_scan, trust_plan, is_full, scan_rows, scan_answer, scan_key, scan_plan}
 use Rattle.verifier.specs.Answers as plan
-use Rattle.verifier.specs.Order.{InOrder, IsRoomy}
-use Rattle.verifier.specs.Acts.{ScanAct, trusted_act, answered_act, spot_act, marked_act, read_act}
+use Rattle.verifier.specs.Order.{IsRoomy}
+use Rattle.verifier.specs.Acts.{trusted_act, answered_act, spot_act, marked_act, read_act}
 use Rattle.verifier.specs.ActLaws.{IsFit, LeavesSound, ActsLeaveSound, IsNext, FollowsCommits, ActsFollow, act_plan, accepted_reply, ActsArePlanned}
 use Rattle.verifier.specs.Records.{trust_after, block_after, cell_after, seen_after, IsRecorded}
 use Rattle.verifier.specs.Rows.{TrustRow}
-use Rattle.verifier.specs.Seen.{Seen, row_in, key_at, block_in, key_in, cell_of_block, used, spot_by, spot_in, counting, cell_of, AreSound, IsRowAt}
+use Rattle.verifier.specs.Seen.{Seen, row_in, key_at, block_in, cell_of_block, used, spot_by, spot_in, counting, AreSound, IsRowAt}
 use Rattle.verifier.proofs.After.{after-long, after-at, trust-cell, block-cell, key-after, trusted-range, found-after, none-after, used-after, spot-after, spot_after, trusts-more, accepts-known, accepts-new}
 use Rattle.verifier.proofs.Blocks.{place-at, blocks-kept, blocks-more, past-all, untrusted-blank, unused-blank, place-inside}
 use Rattle.verifier.proofs.Cells.{shown-some, shown-none}

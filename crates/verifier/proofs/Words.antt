@@ -1,12 +1,12 @@
 -- Numbers of four bytes, one after the other: how they are read, written and replaced.
-use Rattle.std.proofs.Common.{◌≡◌, ℕ, zero, suc, [], ◌∷◌, ◌+◌, ◌-◌, ◌*◌, ◌<◌, ◌≤◌, ◌^◌, List, ◌++◌, length, get_or, set, take, drop, replicate, refl, sym, ap, ap₂, subst, ◌∙◌, arith, length-append, append_assoc}
+use Rattle.std.proofs.Common.{◌≡◌, ℕ, zero, suc, [], ◌∷◌, ◌+◌, ◌-◌, ◌*◌, ◌<◌, ◌≤◌, ◌^◌, List, ◌++◌, length, get_or, set, take, drop, replicate, refl, sym, ap, ap₂, ◌∙◌, arith, length-append, append_assoc}
 use Rattle.std.specs.Int.{w32, to_be_bytes}
 use Rattle.std.proofs.Math.Seq.{take-append-add}
-use Rattle.std.proofs.lemmas.List.{take_at, drop_at, drop-drop, take-append-drop, length-take, length-drop, drop-replicate, take-replicate, length-replicate, get_or-replicate, replicate-append-replicate}
+use Rattle.std.proofs.lemmas.List.{take_at, drop_at, drop-drop, take-append-drop, length-take, length-drop, drop-replicate, take-replicate, replicate-append-replicate}
 use Rattle.bench_base.specs.Table.{Four, spelled, number, IsBytes}
 use Rattle.bench_base.proofs.Tables.{IsBytes-drop, IsBytes-take, length-spelled, number-spelled, spelled-number, number-fits}
 use Rattle.node_acts.specs.RowList.{listed}
-use Rattle.node_acts.specs.RowLaws.{listed_same, listed_is, listed_long, listed_at}
+use Rattle.node_acts.specs.RowLaws.{listed_same}
 use Rattle.verifier.specs.Payload.{words, word_at}
 
 pub length-words : (ns : List ℕ) → length (words ns) ≡ 4 * length ns

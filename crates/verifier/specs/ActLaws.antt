@@ -1,5 +1,5 @@
 -- What holds of the acts of the verifier: they leave sound rows, and do what the ledger plans over the commits whose rows these are.
-use Rattle.std.specs.Prelude.{◌≡◌, ℕ, ℤ, ◌<◌, false, List, [], ◌∷◌, Option, Some, None}
+use Rattle.std.specs.Prelude.{◌≡◌, ℕ, ℤ, ◌<◌, false, List, [], ◌∷◌, Some, None}
 use Rattle.bench_base.specs.declared.sizes.TheConstants.{VERIFIER_CELLS, BLOCK_PIECES}
 use Rattle.bench_base.specs.declared.words.Node.TheVariants.{Verifier}
 use Rattle.bench_base.specs.declared.ledger.Commit.{Commit}

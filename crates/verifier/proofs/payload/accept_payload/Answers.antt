@@ -1,4 +1,4 @@
-use Rattle.std.proofs.Common.{ap, ap₂, ◌∙◌, refl, arith, rules, ℕ, ◌+◌, ◌*◌, List, set, ◌∷◌}
+use Rattle.std.proofs.Common.{ap₂, ◌∙◌, refl, rules, ◌+◌, ◌*◌, set, ◌∷◌}
 use Rattle.bench_base.specs.declared.sizes.TheConstants.{BLOCK_PIECES}
 use Rattle.verifier.specs.Payload.{words, block_bytes}
 use Rattle.verifier.proofs.Laid.{block-laid}

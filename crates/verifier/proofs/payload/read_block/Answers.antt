@@ -1,4 +1,4 @@
-use Rattle.std.proofs.Common.{◌∙◌, sym, arith, true≢false}
+use Rattle.std.proofs.Common.{◌∙◌, sym, true≢false}
 use Rattle.verifier.proofs.Laid.{read-block, not-number, not-used}
 use Rattle.verifier.proofs.payload.read_block.Goals as goal
 use Rattle.verifier.proofs.payload.read_block.Goals.{then-number-gt-LAST_BLOCK-via-then-number-gt-LAST_BLOCK, then-number-gt-LAST_BLOCK-via-else-number-gt-LAST_BLOCK+then-is_zero}

@@ -1,4 +1,4 @@
-use Rattle.std.proofs.Common.{ap₂, List, ℕ, ◌++◌, take, drop}
+use Rattle.std.proofs.Common.{ap₂, List, ℕ, ◌++◌, take}
 use Rattle.std.proofs.lemmas.List.{drop-drop}
 use Rattle.verifier.proofs.Laid.{trust-written}
 use Rattle.verifier.proofs.payload.trust_payload.Goals as goal

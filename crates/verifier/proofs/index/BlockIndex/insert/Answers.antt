@@ -1,4 +1,4 @@
-use Rattle.std.proofs.Common.{◌∙◌, sym, ap, List, length, take, arith, ◌<◌, ◌≤◌}
+use Rattle.std.proofs.Common.{◌∙◌, ap, List, length, take, arith, ◌<◌, ◌≤◌}
 use Rattle.std.proofs.lemmas.List.{length-take, length-set}
 use Rattle.verifier.specs.declared.index.Entry.{Entry}
 use Rattle.verifier.specs.Index.{cell_in, with_cell}
