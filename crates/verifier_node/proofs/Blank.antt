@@ -1,20 +1,15 @@
 -- Cells without commits, and an index without blocks.
-use Rattle.std.proofs.Common.{◌≡◌, inl, inr, ℕ, ◌+◌, ◌<◌, ◌≤◌, List, [], length, option_map, Option, Some, None, true, false, refl, sym, ◌∙◌, ap, subst, arith, true≢false}
-use Rattle.std.specs.Prelude.{is_some}
-use Rattle.std.proofs.lemmas.Bool.{cases_lt}
-use Rattle.std.proofs.lemmas.List.{get_or_past}
-use Rattle.bench_base.specs.declared.sizes.TheConstants.{VERIFIER_CELLS, FIRST_BLOCK}
-use Rattle.node_acts.specs.RowList.{row_at, row_of}
+use Rattle.std.proofs.Common.{◌≡◌, ℕ, List, [], option_map, Option, None, refl, sym, subst, arith}
+use Rattle.bench_base.specs.declared.sizes.TheConstants.{FIRST_BLOCK}
 use Rattle.nv_store.specs.Slot.{Held}
 use Rattle.nv_store.specs.Store.{payload_of}
 use Rattle.row_table.specs.Kept.{IsFilled}
 use Rattle.verifier.specs.declared.index.Entry.{Entry}
-use Rattle.verifier.specs.Index.{cell_in, IsIndexOf}
+use Rattle.verifier.specs.Index.{IsIndexOf}
 use Rattle.verifier.specs.Payload.{IsPayloadOf, row_of as row_from}
-use Rattle.verifier.specs.Seen.{AreTogether, block_in}
+use Rattle.verifier.specs.Seen.{AreTogether}
 use Rattle.verifier_node.specs.Payloads.{HoldRows, seen_held}
 use Rattle.verifier_node.specs.Boots.{AreJoined}
-use Rattle.verifier_node.specs.Held.{held-long}
 use Rattle.verifier_node.proofs.Booted.{start-indexed, joined}
 
 module _ (held : ℕ → Option Held) (blank : (k : ℕ) → held k ≡ None) where

@@ -1,12 +1,12 @@
 -- What was read out of the cells of the verifier.
-use Rattle.std.proofs.Common.{◌≡◌, ◌⊎◌, inl, inr, ℕ, ◌+◌, ◌<◌, ◌≤◌, List, [], length, Option, Some, None, true, false, refl, sym, ap, subst, ◌∙◌, arith, true≢false}
-use Rattle.std.specs.Prelude.{is_some, is_none, IsSome}
+use Rattle.std.proofs.Common.{◌≡◌, ◌⊎◌, inl, inr, ℕ, ◌+◌, ◌<◌, ◌≤◌, List, [], Option, Some, None, true, false, sym, ap, subst, ◌∙◌, arith, true≢false}
+use Rattle.std.specs.Prelude.{is_some, IsSome}
 use Rattle.std.proofs.lemmas.Bool.{cases_lt}
 use Rattle.std.proofs.lemmas.List.{get_or_past}
 use Rattle.bench_base.specs.declared.sizes.TheConstants.{MOST_COMMITS, BLOCK_BYTES, VERIFIER_CELLS, FIRST_BLOCK}
 use Rattle.nv_model.specs.declared.nv.Nv.{Ghosts}
 use Rattle.nv_store.specs.Slot.{Held}
-use Rattle.nv_store.specs.Store.{Shows, OnlyShows, count_of, payload_of}
+use Rattle.nv_store.specs.Store.{Shows, OnlyShows, payload_of}
 use Rattle.nv_store.specs.RoomView.{cells_of, kept_in}
 use Rattle.nv_store.specs.Rooms.{RoomRuns}
 use Rattle.nv_store.specs.TableKnows.{table_only}
@@ -15,16 +15,16 @@ use Rattle.node_acts.specs.RowList.{row_at, commits_at}
 use Rattle.row_table.specs.Shows.{HasMixedCell, HasForeignCell, BreaksTogether}
 use Rattle.row_table.specs.Kept.{foreign_shown, seen_count, seen_shown}
 use Rattle.verifier.specs.declared.index.Entry.{Entry}
-use Rattle.verifier.specs.Index.{cell_in, IsIndexOf}
+use Rattle.verifier.specs.Index.{cell_in}
 use Rattle.verifier.specs.Payload.{word_at, IsPayloadOf}
 use Rattle.verifier.specs.Rows.{Row}
-use Rattle.verifier.specs.Seen.{Seen, row_in, block_in, key_at, AreTogether}
+use Rattle.verifier.specs.Seen.{row_in, block_in, key_at, AreTogether}
 use Rattle.verifier.proofs.Cells.{shown-some, shown-none}
 use Rattle.verifier_node.specs.Payloads.{rows_held, seen_held, HoldRows, IsDamaged}
 use Rattle.verifier_node.specs.Held.{held-long, held-each, held-sound}
 use Rattle.verifier_node.specs.Sound.{IsSound}
 use Rattle.verifier_node.specs.Indexes.{IsAdded}
-use Rattle.verifier_node.specs.Boots.{CellRead, AreRead, IsIndexed, AreBlank, HasGap, Breaks, AreJoined, HoldNone, HoldSound}
+use Rattle.verifier_node.specs.Boots.{AreRead, IsIndexed, AreBlank, HasGap, Breaks, AreJoined, HoldNone, HoldSound}
 use Rattle.verifier_node.proofs.Indexing.{all-together, all-indexed, none-indexed, more-indexed, packed-to}
 use Rattle.verifier_node.proofs.Reading.{block-held, seen-some, payload-some}
 

@@ -1,5 +1,5 @@
 -- What a commit of a change leaves.
-use Rattle.std.proofs.Common.{◌≡◌, ◌≢◌, ◌⊎◌, inl, inr, ℕ, ◌<◌, List, option_map, Option, Some, None, Bool, Ok, Err, IsErrOf, true, false, refl, sym, ◌∙◌, ap, ap₂, subst, arith}
+use Rattle.std.proofs.Common.{◌≡◌, ◌≢◌, ◌⊎◌, inl, inr, ℕ, ◌<◌, List, option_map, Option, Some, None, Bool, Ok, Err, IsErrOf, true, false, refl, sym, ◌∙◌, ap, subst, arith}
 use Rattle.std.specs.Prelude.{IsSome, is_some, MatchBool}
 use Rattle.std.proofs.lemmas.Bool.{cases_eq}
 use Rattle.bench_base.specs.declared.refusals.StoreFail.{StoreFail}
@@ -16,7 +16,7 @@ use Rattle.nv_store.specs.declared.room.Room.{Room}
 use Rattle.node_seat.specs.Does.{Commits}
 use Rattle.node_seat.specs.Ends.{end_of_commit, leaves_running}
 use Rattle.node_seat.proofs.Called.{not_worn}
-use Rattle.node_acts.specs.RowList.{row_at, commits_at, is_worn, put}
+use Rattle.node_acts.specs.RowList.{row_at, commits_at, is_worn}
 use Rattle.node_acts.specs.RowLaws.{listed_same, worn_is}
 use Rattle.row_table.specs.Kept.{IsFilled, with_count, seen_count, still_filled, seen_put, between_seen}
 use Rattle.verifier.specs.declared.acts.Change.{Change}

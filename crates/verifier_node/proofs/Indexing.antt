@@ -1,10 +1,10 @@
 -- The index of the blocks, and what a change makes of it.
-use Rattle.std.proofs.Common.{◌≡◌, ◌≢◌, ◌⊎◌, inl, inr, ℕ, zero, suc, ◌+◌, ◌-◌, ◌<◌, ◌≤◌, List, [], length, set, Option, Some, None, Bool, true, false, refl, sym, ap, ap₂, subst, ◌∙◌, arith, true≢false}
-use Rattle.std.specs.Prelude.{is_some, IsSome, IfSome, if◌then◌else◌, ◌==◌, ◌&&◌}
+use Rattle.std.proofs.Common.{◌≡◌, ◌≢◌, inl, inr, ℕ, zero, suc, ◌+◌, ◌-◌, ◌<◌, ◌≤◌, List, [], length, Option, Some, None, Bool, true, false, refl, sym, ap, subst, ◌∙◌, arith, true≢false}
+use Rattle.std.specs.Prelude.{is_some, IsSome, IfSome, if◌then◌else◌}
 use Rattle.std.proofs.lemmas.Bool.{cases_Bool, cases_eq, cases_lt}
 use Rattle.std.proofs.lemmas.List.{get_or_past}
-use Rattle.bench_base.specs.declared.sizes.TheConstants.{VERIFIER_CELLS, FIRST_BLOCK, MOST_BLOCKS}
-use Rattle.node_acts.specs.RowList.{row_at, row_of, put}
+use Rattle.bench_base.specs.declared.sizes.TheConstants.{VERIFIER_CELLS, FIRST_BLOCK}
+use Rattle.node_acts.specs.RowList.{row_at, row_of}
 use Rattle.node_acts.specs.RowLaws.{put_here, put_other}
 use Rattle.verifier.specs.declared.acts.Change.{Change}
 use Rattle.verifier.specs.declared.acts.Change.TheVariants as change
@@ -12,12 +12,12 @@ use Rattle.verifier.specs.declared.index.Entry.{Entry}
 use Rattle.verifier.specs.ActLaws.{IsFit}
 use Rattle.verifier.specs.Index.{cell_in, with_cell, IsIndexOf}
 use Rattle.verifier.specs.Rows.{Row, TrustRow, BlockRow}
-use Rattle.verifier.specs.Seen.{Seen, row_in, block_in, holds, key_at, cell_of_block, used, scans_in, AreTogether, AreSound, IsRowAt, cell_of, row_with, counting}
+use Rattle.verifier.specs.Seen.{Seen, row_in, block_in, holds, key_at, cell_of_block, used, AreTogether, AreSound, IsRowAt, cell_of, row_with, counting}
 use Rattle.verifier.proofs.Blocks.{pair, same_block, is-block, own-block}
-use Rattle.verifier.proofs.Cells.{held-block, block-held, cell-found, cell-none, used-is, used-before, used-most, next-blank, shown-some, shown-none}
-use Rattle.verifier.proofs.Fits.{here, there}
+use Rattle.verifier.proofs.Cells.{held-block, block-held, cell-found, cell-none, used-is, used-before, used-most, next-blank, shown-none}
+use Rattle.verifier.proofs.Fits.{here}
 use Rattle.verifier.proofs.Found.{position-is, position-none}
-use Rattle.verifier_node.specs.Boots.{IsIndexed, AreBlank}
+use Rattle.verifier_node.specs.Boots.{IsIndexed}
 use Rattle.verifier_node.specs.Indexes.{CanAdd, IsAdded, CanIndex, Indexes}
 
 no_pair : (d b : ℕ) → ◌≡◌ {A = Option (ℕ × ℕ)} None (Some (d, b)) → ⊥

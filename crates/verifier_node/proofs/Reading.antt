@@ -1,19 +1,18 @@
 -- What the payloads of the cells read as.
-use Rattle.std.proofs.Common.{◌≡◌, ◌⊎◌, ◌↔◌, inl, inr, ℕ, zero, suc, ◌+◌, ◌-◌, ◌<◌, ◌≤◌, List, length, get_or, set, replicate, option_map, Option, Some, None, Bool, true, false, refl, sym, ap, ap₂, subst, ◌∙◌, arith, true≢false}
-use Rattle.std.specs.Prelude.{nat_lt, is_some, is_none, IsSome, IfSome, MatchBool, MatchOption, if◌then◌else◌, ◌==◌}
-use Rattle.std.proofs.lemmas.Bool.{cases_lt, cases_eq, ne_eqb}
+use Rattle.std.proofs.Common.{◌≡◌, ◌↔◌, inl, inr, ℕ, zero, suc, ◌+◌, ◌-◌, ◌<◌, ◌≤◌, List, get_or, set, replicate, option_map, Option, Some, None, Bool, true, false, refl, sym, ap, ap₂, subst, ◌∙◌, arith, true≢false}
+use Rattle.std.specs.Prelude.{nat_lt, is_some, IsSome, IfSome, MatchBool, MatchOption, if◌then◌else◌}
+use Rattle.std.proofs.lemmas.Bool.{cases_lt}
 use Rattle.std.proofs.lemmas.Bool.Decides.{nat_tests}
-use Rattle.std.proofs.lemmas.List.{get_or_past}
 use Rattle.bench_base.specs.declared.sizes.TheConstants.{MOST_COMMITS, VERIFIER_CELLS, FIRST_BLOCK, BLOCK_PIECES}
 use Rattle.node_acts.specs.RowList.{row_at}
 use Rattle.nv_store.specs.Slot.{Held}
 use Rattle.nv_store.specs.Store.{count_of, payload_of}
-use Rattle.row_table.specs.Kept.{IsFilled, HoldsForeign, with_count, seen_at}
+use Rattle.row_table.specs.Kept.{IsFilled, with_count, seen_at}
 use Rattle.verifier.specs.declared.acts.Change.TheVariants as change
 use Rattle.verifier.specs.ActLaws.{IsFit}
 use Rattle.verifier.specs.Payload.{block_bytes, word_at, key_of, scans_of, scans_before, no_scans, row_of, RowReadsAs, IsPayloadOf}
 use Rattle.verifier.specs.Rows.{Row, TrustRow, BlockRow}
-use Rattle.verifier.specs.Seen.{Seen, row_in, key_in, block_in, scans_in, scan_shown, key_at, row_with, IsRowAt}
+use Rattle.verifier.specs.Seen.{row_in, key_in, scans_in, scan_shown, key_at, row_with, IsRowAt}
 use Rattle.verifier.proofs.Cells.{key-in-cell}
 use Rattle.verifier.proofs.Fits.{here}
 use Rattle.verifier.proofs.Laid.{trust-parts, block-parts}

@@ -1,14 +1,14 @@
 -- What is seen of cells that hold rows.
-use Rattle.std.proofs.Common.{◌≡◌, inl, inr, ℕ, ◌<◌, ◌≤◌, List, length, option_map, Option, Some, None, IfSome, sym, ◌∙◌, ap, subst, refl, arith}
+use Rattle.std.proofs.Common.{◌≡◌, inl, inr, ℕ, ◌<◌, length, Option, Some, None, IfSome, sym, subst, arith}
 use Rattle.std.proofs.lemmas.Bool.{cases_lt}
 use Rattle.std.proofs.lemmas.List.{get_or_past}
 use Rattle.bench_base.specs.declared.sizes.TheConstants.{VERIFIER_CELLS}
-use Rattle.node_acts.specs.RowList.{row_at, row_of}
+use Rattle.node_acts.specs.RowList.{row_of}
 use Rattle.nv_store.specs.Slot.{Held}
-use Rattle.row_table.specs.Kept.{IsFilled, seen_long, seen_row, seen_at, with_count}
+use Rattle.row_table.specs.Kept.{IsFilled, seen_long, seen_row}
 use Rattle.verifier.specs.Payload.{IsPayloadOf}
 use Rattle.verifier.specs.Rows.{Row}
-use Rattle.verifier.specs.Seen.{Seen, AreTogether, AreSound, IsRowAt, row_in}
+use Rattle.verifier.specs.Seen.{AreTogether, AreSound, IsRowAt, row_in}
 use Rattle.verifier_node.specs.Payloads.{rows_held, seen_held, HoldRows}
 
 pub held-long : (held : ℕ → Option Held) → length (seen_held held) ≡ VERIFIER_CELLS

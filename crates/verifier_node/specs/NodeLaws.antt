@@ -9,7 +9,7 @@ use Rattle.node_acts.specs.RowLaws.{put_here, put_other, put_counts}
 use Rattle.row_table.specs.ShowsLaws as table
 use Rattle.verifier.specs.declared.acts.Change.{Change}
 use Rattle.verifier.specs.ActLaws.{IsFit}
-use Rattle.verifier.specs.Payload.{IsPayloadOf, row_of}
+use Rattle.verifier.specs.Payload.{IsPayloadOf}
 use Rattle.verifier.specs.Rows.{Row}
 use Rattle.verifier.specs.Seen.{Seen, AreTogether, cell_of, row_with, counting}
 use Rattle.verifier.proofs.Laid.{payload-laws}

@@ -1,4 +1,4 @@
-use Rattle.std.proofs.Common.{◌≡◌, ℕ, sym, refl, subst, arith}
+use Rattle.std.proofs.Common.{◌≡◌, ℕ, sym, subst, arith}
 use Rattle.bench_base.specs.declared.sizes.TheConstants.{VERIFIER_CELLS}
 use Rattle.nv_store.specs.RoomView.{kept_in}
 use Rattle.verifier_node.specs.Payloads.{seen_held}

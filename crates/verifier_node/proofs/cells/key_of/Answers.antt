@@ -1,4 +1,4 @@
-use Rattle.std.proofs.Common.{sym, ap, ◌∙◌, Option, Some, List, ℕ, option_map, arith}
+use Rattle.std.proofs.Common.{sym, ap, ◌∙◌, Some, option_map, arith}
 use Rattle.nv_store.specs.RoomView.{kept_in}
 use Rattle.verifier.specs.Payload.{key_of}
 use Rattle.verifier.specs.Seen.{key_at}

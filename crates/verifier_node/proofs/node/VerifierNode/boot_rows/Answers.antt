@@ -1,4 +1,4 @@
-use Rattle.std.proofs.Common.{◌∙◌, refl}
+use Rattle.std.proofs.Common.{◌∙◌}
 use Rattle.nv_store.specs.RoomView.{kept_in}
 use Rattle.verifier_node.proofs.Blank.{none_hold, none_together, none_index}
 use Rattle.verifier_node.proofs.Booted.{read-rows, sound_booted}

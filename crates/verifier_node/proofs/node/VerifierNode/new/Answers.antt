@@ -1,6 +1,5 @@
-use Rattle.std.proofs.Common.{rules, sym, subst, ap, List}
+use Rattle.std.proofs.Common.{rules}
 use Rattle.nv_store.specs.RoomView.{kept_in}
-use Rattle.verifier.specs.declared.index.Entry.{Entry}
 use Rattle.verifier_node.proofs.Blank.{none_hold, none_together, none_index}
 use Rattle.verifier_node.proofs.node.VerifierNode.new.Goals as goal
 
