@@ -1,6 +1,6 @@
 -- What the cells of the verifier tell: keys, blocks, and the next cell.
-use Rattle.std.proofs.Common.{◌≡◌, inl, inr, ℕ, ◌+◌, ◌-◌, ◌<◌, ◌≤◌, length, get_or, drop, Option, Some, None, Bool, true, false, refl, sym, ap, subst, ◌∙◌, arith, true≢false}
-use Rattle.std.specs.Prelude.{◌==◌, ◌&&◌, is_some, IsSome, IfSome, if◌then◌else◌}
+use Rattle.std.proofs.Common.{◌≡◌, inl, inr, ℕ, ◌+◌, ◌-◌, ◌<◌, ◌≤◌, length, get_or, drop, Option, Some, None, true, false, refl, sym, ap, subst, ◌∙◌, arith, true≢false}
+use Rattle.std.specs.Prelude.{◌==◌, is_some, IsSome, IfSome, if◌then◌else◌}
 use Rattle.std.proofs.lemmas.Bool.{cases_eq, cases_lt, eqb-true, eq-eqb, ne_eqb}
 use Rattle.std.proofs.lemmas.List.{get_or-drop, get_or_past, length-drop}
 use Rattle.std.proofs.lemmas.List.Sums.{prefix_len_passes, prefix_len_stops, prefix_len_is, prefix_len-le-length}
@@ -8,12 +8,8 @@ use Rattle.bench_base.specs.declared.sizes.TheConstants.{VERIFIER_CELLS, FIRST_B
 use Rattle.node_acts.specs.RowList.{row_at, row_of}
 use Rattle.verifier.specs.Rows.{Row, TrustRow, BlockRow}
 use Rattle.verifier.specs.Seen.{Seen, row_in, key_in, block_in, holds, key_at, cell_of_block, used, AreSound, IsRowAt}
+use Rattle.verifier.proofs.Basics.{same-pair, no-pair, both-true}
 use Rattle.verifier.proofs.Found.{found-at, found-none}
-
-pub both : (s t : Bool) → (s && t) ≡ true → (s ≡ true) × (t ≡ true)
-both true true h = (refl, refl)
-both true false h = absurd (true≢false (sym h))
-both false t h = absurd (true≢false (sym h))
 
 -- == one cell ==
 
@@ -22,26 +18,20 @@ pub held-block : (d b : ℕ) (o : Option Row) → holds d b o ≡ true → block
 held-block d b None is = absurd (true≢false (sym is))
 held-block d b (Some (TrustRow e key)) is = absurd (true≢false (sym is))
 held-block d b (Some (BlockRow e n scans)) is =
-    let parts = both (e == d) (n == b) is in
+    let parts = both-true (e == d) (n == b) is in
     λ i. Some (eqb-true e d parts.0 i, eqb-true n b parts.1 i)
 
-same_pair : (e n d b : ℕ) → ◌≡◌ {A = Option (ℕ × ℕ)} (Some (e, n)) (Some (d, b)) → (e ≡ d) × (n ≡ b)
-same_pair e n d b h = let same : ◌≡◌ {A = ℕ × ℕ} (e, n) (d, b) = cc in (ap (λ (x : ℕ × ℕ). x.0) same, ap (λ (x : ℕ × ℕ). x.1) same)
-
-no_pair : (d b : ℕ) → ◌≡◌ {A = Option (ℕ × ℕ)} None (Some (d, b)) → ⊥
-no_pair d b h = cc
-
 pub block-held : (d b : ℕ) (o : Option Row) → block_in o ≡ Some (d, b) → holds d b o ≡ true
-block-held d b None is = absurd (no_pair d b is)
-block-held d b (Some (TrustRow e key)) is = absurd (no_pair d b is)
+block-held d b None is = absurd (no-pair d b is)
+block-held d b (Some (TrustRow e key)) is = absurd (no-pair d b is)
 block-held d b (Some (BlockRow e n scans)) is =
-    let same = same_pair e n d b is in
+    let same = same-pair e n d b is in
     rw (eq-eqb e d same.0, eq-eqb n b same.1) refl
 
 -- a cell of a block has no key
 pub keyless : (o : Option Row) (x : ℕ × ℕ) → block_in o ≡ Some x → key_in o ≡ None
-keyless None x is = absurd (no_pair x.0 x.1 is)
-keyless (Some (TrustRow e key)) x is = absurd (no_pair x.0 x.1 is)
+keyless None x is = absurd (no-pair x.0 x.1 is)
+keyless (Some (TrustRow e key)) x is = absurd (no-pair x.0 x.1 is)
 keyless (Some (BlockRow e n scans)) x is = refl
 
 pub shown-some : {A : Type 0} (o : Option A) → is_some o ≡ true → (x : A) × (o ≡ Some x)
@@ -56,9 +46,6 @@ shown-none (Some x) h = absurd (true≢false h)
 
 pub key-in-cell : (s : Seen) (d : ℕ) → 1 ≤ d → key_at s d ≡ key_in (row_in s (d - 1))
 key-in-cell s d low = ap (λ t. if t then None else key_in (row_in s (d - 1))) (ne_eqb d 0 (λ is. omega (arith, low, is)))
-
-pub no-key-0 : (s : Seen) → key_at s 0 ≡ None
-no-key-0 s = refl
 
 -- a device with a key is one of the eight
 module _ (s : Seen) (sound : AreSound s) where
@@ -88,12 +75,12 @@ module _ (s : Seen) (sound : AreSound s) where
   pub cell-none : (d b : ℕ) → cell_of_block s d b ≡ None → (k : ℕ) → block_in (row_in s k) ≡ Some (d, b) → ⊥
   cell-none d b none k is = elim (cases_lt k (length s)) [
     | inl lt ↦ true≢false (sym (block-held d b (row_in s k) is) ∙ found-none (λ x. holds d b (row_of x)) s None none k lt)
-    | inr past ↦ no_pair d b (sym (ap (λ (o : Option (ℕ × Row)). block_in (row_of o)) (get_or_past s k None past)) ∙ is)
+    | inr past ↦ no-pair d b (sym (ap (λ (o : Option (ℕ × Row)). block_in (row_of o)) (get_or_past s k None past)) ∙ is)
   ]
 
   block_from : (k : ℕ) (o : Option Row) (x : ℕ × ℕ) → IfSome o (IsRowAt k) → block_in o ≡ Some x → FIRST_BLOCK ≤ k
-  block_from k None x fits is = absurd (no_pair x.0 x.1 is)
-  block_from k (Some (TrustRow e key)) x fits is = absurd (no_pair x.0 x.1 is)
+  block_from k None x fits is = absurd (no-pair x.0 x.1 is)
+  block_from k (Some (TrustRow e key)) x fits is = absurd (no-pair x.0 x.1 is)
   block_from k (Some (BlockRow e n scans)) x fits is = fits.place
 
   -- blocks lie behind the keys

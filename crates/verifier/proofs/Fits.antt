@@ -12,13 +12,8 @@ use Rattle.verifier.specs.ActLaws.{IsFit}
 use Rattle.verifier.specs.Payload.{no_scans}
 use Rattle.verifier.specs.Rows.{Row, TrustRow, BlockRow, IsSoundBlock}
 use Rattle.verifier.specs.Seen.{Seen, row_in, key_in, block_in, scans_in, key_at, cell_of_block, used, AreSound, IsRowAt}
+use Rattle.verifier.proofs.Basics.{no-pair, same-pair}
 use Rattle.verifier.proofs.Cells.{keyless, key-in-cell, keyed, cell-found, cell-none, block-from, used-before, next-blank}
-
-no_pair : (d b : ℕ) → ◌≡◌ {A = Option (ℕ × ℕ)} None (Some (d, b)) → ⊥
-no_pair d b h = cc
-
-same_pair : (e n d b : ℕ) → ◌≡◌ {A = Option (ℕ × ℕ)} (Some (e, n)) (Some (d, b)) → (e ≡ d) × (n ≡ b)
-same_pair e n d b h = let same : ◌≡◌ {A = ℕ × ℕ} (e, n) (d, b) = cc in (ap (λ (x : ℕ × ℕ). x.0) same, ap (λ (x : ℕ × ℕ). x.1) same)
 
 -- == a row in its cell ==
 
@@ -69,7 +64,7 @@ module _ (s : Seen) (sound : AreSound s) (d : ℕ) (key : List ℕ) (device : Is
   inside = omega (arith, device, sound.long)
 
   no_block : (e b : ℕ) → block_in (row_in (put s (d - 1) (TrustRow d key)) (d - 1)) ≡ Some (e, b) → ⊥
-  no_block e b is = no_pair e b (sym (ap (λ (o : Option Row). block_in o) (here s (d - 1) (TrustRow d key) inside)) ∙ is)
+  no_block e b is = no-pair e b (sym (ap (λ (o : Option Row). block_in o) (here s (d - 1) (TrustRow d key) inside)) ∙ is)
 
   block_there : (k e b : ℕ) → block_in (row_in (put s (d - 1) (TrustRow d key)) k) ≡ Some (e, b) → (k ≢ d - 1) × (block_in (row_in s k) ≡ Some (e, b))
   block_there k e b is = elim (cases_eq k (d - 1)) [
@@ -153,7 +148,7 @@ module _ (s : Seen) (sound : AreSound s) (cell d b place n : ℕ) (can : CanAcce
     | inl same ↦
         inl (
           same,
-          same_pair d b e c (sym (ap (λ (o : Option Row). block_in o) (ap (row_in (put s cell (BlockRow d b (set (scans_in (row_in s cell)) place n)))) same
+          same-pair d b e c (sym (ap (λ (o : Option Row). block_in o) (ap (row_in (put s cell (BlockRow d b (set (scans_in (row_in s cell)) place n)))) same
               ∙ here s cell (BlockRow d b (set (scans_in (row_in s cell)) place n)) row_inside)) ∙ is),
         )
     | inr differs ↦ inr (differs, sym (ap (λ (o : Option Row). block_in o) (there s cell (BlockRow d b (set (scans_in (row_in s cell)) place n)) row_inside k differs)) ∙ is)
@@ -203,8 +198,8 @@ zero_at (suc n) (suc j) = zero_at n j
 
 module _ (s : Seen) (sound : AreSound s) (d b : ℕ) (trusted : IsSome (key_at s d)) (number : b ≤ LAST_BLOCK) where
   scans_kept : (k : ℕ) (o : Option Row) (x : ℕ × ℕ) → IfSome o (IsRowAt k) → block_in o ≡ Some x → (length (scans_in o) ≡ BLOCK_PIECES) × ((j : ℕ) → get_or (scans_in o) j 0 < 2 ^ 32)
-  scans_kept k None x fits is = absurd (no_pair x.0 x.1 is)
-  scans_kept k (Some (TrustRow e key)) x fits is = absurd (no_pair x.0 x.1 is)
+  scans_kept k None x fits is = absurd (no-pair x.0 x.1 is)
+  scans_kept k (Some (TrustRow e key)) x fits is = absurd (no-pair x.0 x.1 is)
   scans_kept k (Some (BlockRow e c ns)) x fits is = (fits.sound.long, fits.sound.words)
 
   -- in the cell of its block
@@ -219,14 +214,14 @@ module _ (s : Seen) (sound : AreSound s) (d b : ℕ) (trusted : IsSome (key_at s
         number = number;
         keyless = keyless (row_in s cell) (d, b) f.1;
         packed = λ k from next. sound.together.packed k from (subst (λ j. IsSome (row_at s j)) (sym next) (has cell (row_at s cell) f.1));
-        own = λ e c held. same_pair e c d b (sym held ∙ f.1);
+        own = λ e c held. same-pair e c d b (sym held ∙ f.1);
         only = λ k held. sound.together.distinct k cell d b held f.1;
         long = kept.0;
         words = kept.1;
       }
     where
       has : (cell : ℕ) (o : Option (ℕ × Row)) → block_in (row_of o) ≡ Some (d, b) → is_some o ≡ true
-      has cell None held = absurd (no_pair d b held)
+      has cell None held = absurd (no-pair d b held)
       has cell (Some x) held = refl
 
   zeros_long : length no_scans ≡ BLOCK_PIECES
@@ -248,7 +243,7 @@ module _ (s : Seen) (sound : AreSound s) (d b : ℕ) (trusted : IsSome (key_at s
         number = number;
         keyless = ap (λ (o : Option Row). key_in o) blank;
         packed = λ k from next. used-before s sound k from (omega (arith, next));
-        own = λ e c held. absurd (no_pair e c (sym (ap (λ (o : Option Row). block_in o) blank) ∙ held));
+        own = λ e c held. absurd (no-pair e c (sym (ap (λ (o : Option Row). block_in o) blank) ∙ held));
         only = λ k held. absurd (cell-none s sound d b none k held);
         long = ap (λ (o : Option Row). length (scans_in o)) blank ∙ zeros_long;
         words = λ j. subst (λ (o : Option Row). get_or (scans_in o) j 0 < 2 ^ 32) (sym blank) (zeros_small j);

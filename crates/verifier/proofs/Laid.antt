@@ -1,12 +1,11 @@
 -- The payloads of rows: what is laid down, and what is read back.
 use Rattle.std.proofs.Common.{◌≡◌, ◌↔◌, ℕ, zero, suc, ◌∷◌, ◌+◌, ◌-◌, ◌*◌, ◌<◌, ◌≤◌, ◌^◌, List, ◌++◌, length, get_or, set, take, drop, replicate, refl, sym, ap, ap₂, subst, ◌∙◌, arith, length-append, Some, None, Bool, IsTrue, inl, inr, true, false, true≢false}
 use Rattle.std.specs.Int.{w32, to_be_bytes, from_be_bytes}
-use Rattle.std.specs.Prelude.{◌==◌, nat_lt, MatchBool, if◌then◌else◌}
+use Rattle.std.specs.Prelude.{◌==◌, MatchBool, if◌then◌else◌}
 use Rattle.std.proofs.lemmas.Bool.{cases_lt, ne_eqb}
-use Rattle.std.proofs.lemmas.Bool.Decides.{nat_tests}
 use Rattle.std.proofs.lemmas.List.{take_at, drop_at, drop-drop, take-append-drop, length-take, length-drop, drop-replicate, length-replicate, get_or-replicate, get_or_past, take_all}
 use Rattle.bench_base.specs.Table.{Four, spelled, number, IsBytes}
-use Rattle.bench_base.specs.declared.sizes.TheConstants.{BLOCK_BYTES, BLOCK_PIECES, FIRST_BLOCK, LAST_BLOCK}
+use Rattle.bench_base.specs.declared.sizes.TheConstants.{BLOCK_BYTES, BLOCK_PIECES, LAST_BLOCK}
 use Rattle.bench_base.proofs.Tables.{IsBytes-drop, IsBytes-take, length-spelled, number-spelled, spelled-number}
 use Rattle.node_acts.specs.RowList.{listed}
 use Rattle.node_acts.specs.RowLaws.{listed_same, listed_is, listed_long, listed_at}
@@ -14,6 +13,7 @@ use Rattle.verifier.specs.Rows.{Row, TrustRow, BlockRow}
 use Rattle.verifier.specs.Payload.{words, word_at, trust_bytes, block_bytes, scans_of, key_of, row_of, RowReadsAs, IsPayloadOf}
 use Rattle.verifier.specs.PayloadLaws.{PayloadLaws}
 use Rattle.verifier.specs.Seen.{scan_shown}
+use Rattle.verifier.proofs.Basics.{trust-low, block-high}
 use Rattle.verifier.proofs.Words.{length-words, word-words, word-next, word-fits, words-back, zero-word, words-zeros, all-zeros, put-word}
 
 -- == blocks, of any number of pieces ==
@@ -145,12 +145,6 @@ device_laid d rest small = ap (λ x. number Four x) (take_at (spelled Four d) re
 
 -- == the laws of payloads ==
 
-below : (k : ℕ) → k < FIRST_BLOCK → nat_lt k FIRST_BLOCK ≡ true
-below k lt = grind (arith, nat_tests)
-
-not_below : (k : ℕ) → FIRST_BLOCK ≤ k → nat_lt k FIRST_BLOCK ≡ false
-not_below k le = grind (arith, nat_tests)
-
 pub trust-parts : (d : ℕ) (key payload : List ℕ) → RowReadsAs (TrustRow d key) payload → (word_at 0 payload ≡ d) × (key_of payload ≡ key) × (replicate (length (drop 36 payload)) 0 ≡ drop 36 payload)
 unfolding trust_bytes
 trust-parts d key payload reads = (
@@ -173,11 +167,11 @@ block-parts d b scans payload reads = (
 one-row : (k : ℕ) (x : Row) (payload : List ℕ) → IsPayloadOf k x payload → row_of k payload ≡ x
 one-row k (TrustRow d key) payload is =
     let parts = trust-parts d key payload is.row in
-    ap (λ t. if t then TrustRow (word_at 0 payload) (key_of payload) else BlockRow (word_at 0 payload) (word_at 1 payload) (scans_of payload)) (below k is.place.1)
+    ap (λ t. if t then TrustRow (word_at 0 payload) (key_of payload) else BlockRow (word_at 0 payload) (word_at 1 payload) (scans_of payload)) (trust-low k is.place.1)
     ∙ ap₂ (λ e l. TrustRow e l) parts.0 parts.1
 one-row k (BlockRow d b scans) payload is =
     let parts = block-parts d b scans payload is.row in
-    ap (λ t. if t then TrustRow (word_at 0 payload) (key_of payload) else BlockRow (word_at 0 payload) (word_at 1 payload) (scans_of payload)) (not_below k is.place)
+    ap (λ t. if t then TrustRow (word_at 0 payload) (key_of payload) else BlockRow (word_at 0 payload) (word_at 1 payload) (scans_of payload)) (block-high k is.place)
     ∙ (λ i. BlockRow (parts.0 i) (parts.1 i) (parts.2 i))
 
 one-length : (x : Row) (payload : List ℕ) → RowReadsAs x payload → length payload ≡ BLOCK_BYTES

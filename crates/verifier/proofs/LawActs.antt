@@ -32,7 +32,7 @@ use Rattle.indicium.proofs.Readings.{read_mark-found}
 use Rattle.psd_wire.specs.Codes.{has_code}
 use Rattle.verifier.specs.declared.acts.Change.TheVariants as change
 use Rattle.verifier.specs.declared.acts.Spot.{Spot}
-use Rattle.verifier.specs.Answers.{no_scan, trust_plan, is_full, scan_rows, scan_answer, scan_key, scan_plan}
+use Rattle.verifier.specs.Answers.{no_scan, trust_plan, is_full, scan_answer, scan_key, scan_plan}
 use Rattle.verifier.specs.Answers as plan
 use Rattle.verifier.specs.Order.{IsRoomy}
 use Rattle.verifier.specs.Acts.{trusted_act, answered_act, spot_act, marked_act, read_act}
@@ -40,6 +40,7 @@ use Rattle.verifier.specs.ActLaws.{IsFit, LeavesSound, ActsLeaveSound, IsNext, F
 use Rattle.verifier.specs.Records.{trust_after, block_after, cell_after, seen_after, IsRecorded}
 use Rattle.verifier.specs.Rows.{TrustRow}
 use Rattle.verifier.specs.Seen.{Seen, row_in, key_at, block_in, cell_of_block, used, spot_by, spot_in, counting, AreSound, IsRowAt}
+use Rattle.verifier.proofs.Basics.{no-pair}
 use Rattle.verifier.proofs.After.{after-long, after-at, trust-cell, block-cell, key-after, trusted-range, found-after, none-after, used-after, spot-after, spot_after, trusts-more, accepts-known, accepts-new}
 use Rattle.verifier.proofs.Blocks.{place-at, blocks-kept, blocks-more, past-all, untrusted-blank, unused-blank, place-inside}
 use Rattle.verifier.proofs.Cells.{shown-some, shown-none}
@@ -141,9 +142,6 @@ blank k = elim (cases_lt k VERIFIER_CELLS) [
     back : (k : ℕ) → FIRST_BLOCK ≤ k → k ≡ FIRST_BLOCK + (k - FIRST_BLOCK)
     back k le = omega (arith, le)
 
-no_pair : (d b : ℕ) → ◌≡◌ {A = Option (ℕ × ℕ)} None (Some (d, b)) → ⊥
-no_pair d b h = cc
-
 blank-row : (k : ℕ) → row_in (seen_after []) k ≡ None
 blank-row k = ap (λ o. row_of o) (blank k)
 
@@ -152,9 +150,9 @@ none-sound = record {
   long = after-long [];
   each = λ k. subst (λ o. IfSome o (IsRowAt k)) (sym (blank-row k)) tt;
   together = record {
-    trusted = λ k d b is. absurd (no_pair d b (sym (ap (λ o. block_in o) (blank-row k)) ∙ is));
+    trusted = λ k d b is. absurd (no-pair d b (sym (ap (λ o. block_in o) (blank-row k)) ∙ is));
     packed = λ k from has. absurd (true≢false (sym has ∙ ap is_some (blank (k + 1))));
-    distinct = λ i j d b is is'. absurd (no_pair d b (sym (ap (λ o. block_in o) (blank-row i)) ∙ is));
+    distinct = λ i j d b is is'. absurd (no-pair d b (sym (ap (λ o. block_in o) (blank-row i)) ∙ is));
   };
 }
 

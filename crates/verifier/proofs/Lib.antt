@@ -1,4 +1,5 @@
 pub mod After
+pub mod Basics
 pub mod Blocks
 pub mod Cells
 pub mod Fits

@@ -1,5 +1,5 @@
 //! The blocks in use, by device and number.
-ghost use Rattle.std.specs.Prelude.{◌≡◌, ◌↔◌, ◌+◌, ◌<◌, ◌≤◌, ◌^◌, ℕ, List, [], IsTrue, None, length, get_or};
+ghost use Rattle.std.specs.Prelude.{◌≡◌, ◌↔◌, ◌+◌, ◌<◌, ◌≤◌, ℕ, List, [], IsTrue, None, length, get_or};
 ghost use Rattle.bench_base.specs.declared.sizes.TheConstants.{MOST_BLOCKS};
 ghost use Rattle.verifier.specs.Index.{cell_in, with_cell, rank, rank_of, AreOrdered, nothing};
 ghost use Rattle.verifier.specs.Index as index;

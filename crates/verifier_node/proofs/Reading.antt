@@ -1,8 +1,7 @@
 -- What the payloads of the cells read as.
 use Rattle.std.proofs.Common.{◌≡◌, ◌↔◌, inl, inr, ℕ, zero, suc, ◌+◌, ◌-◌, ◌<◌, ◌≤◌, List, get_or, set, replicate, option_map, Option, Some, None, Bool, true, false, refl, sym, ap, ap₂, subst, ◌∙◌, arith, true≢false}
-use Rattle.std.specs.Prelude.{nat_lt, is_some, IsSome, IfSome, MatchBool, MatchOption, if◌then◌else◌}
+use Rattle.std.specs.Prelude.{is_some, IsSome, IfSome, MatchBool, MatchOption, if◌then◌else◌}
 use Rattle.std.proofs.lemmas.Bool.{cases_lt}
-use Rattle.std.proofs.lemmas.Bool.Decides.{nat_tests}
 use Rattle.bench_base.specs.declared.sizes.TheConstants.{MOST_COMMITS, VERIFIER_CELLS, FIRST_BLOCK, BLOCK_PIECES}
 use Rattle.node_acts.specs.RowList.{row_at}
 use Rattle.nv_store.specs.Slot.{Held}
@@ -13,6 +12,7 @@ use Rattle.verifier.specs.ActLaws.{IsFit}
 use Rattle.verifier.specs.Payload.{block_bytes, word_at, key_of, scans_of, scans_before, no_scans, row_of, RowReadsAs, IsPayloadOf}
 use Rattle.verifier.specs.Rows.{Row, TrustRow, BlockRow}
 use Rattle.verifier.specs.Seen.{row_in, key_in, scans_in, scan_shown, key_at, row_with, IsRowAt}
+use Rattle.verifier.proofs.Basics.{trust-low, block-high, some-none, same-some}
 use Rattle.verifier.proofs.Cells.{key-in-cell}
 use Rattle.verifier.proofs.Fits.{here}
 use Rattle.verifier.proofs.Laid.{trust-parts, block-parts}
@@ -23,20 +23,14 @@ use Rattle.verifier_node.specs.Boots.{CellRead, HasForeign}
 abbrev zeros : ℕ → List ℕ
 zeros n = replicate n 0
 
-below : (k : ℕ) → k < FIRST_BLOCK → nat_lt k FIRST_BLOCK ≡ true
-below k lt = grind (arith, nat_tests)
-
-not_below : (k : ℕ) → FIRST_BLOCK ≤ k → nat_lt k FIRST_BLOCK ≡ false
-not_below k le = grind (arith, nat_tests)
-
 abbrev by_cell : Bool → List ℕ → Row
 by_cell t payload = if t then TrustRow (word_at 0 payload) (key_of payload) else BlockRow (word_at 0 payload) (word_at 1 payload) (scans_of payload)
 
 pub trust-row : (k : ℕ) (payload : List ℕ) → k < FIRST_BLOCK → row_of k payload ≡ TrustRow (word_at 0 payload) (key_of payload)
-trust-row k payload lt = ap (λ t. by_cell t payload) (below k lt)
+trust-row k payload lt = ap (λ t. by_cell t payload) (trust-low k lt)
 
 pub block-row : (k : ℕ) (payload : List ℕ) → FIRST_BLOCK ≤ k → row_of k payload ≡ BlockRow (word_at 0 payload) (word_at 1 payload) (scans_of payload)
-block-row k payload le = ap (λ t. by_cell t payload) (not_below k le)
+block-row k payload le = ap (λ t. by_cell t payload) (block-high k le)
 
 -- == whether a payload reads as a row of its cell ==
 
@@ -65,21 +59,15 @@ reads-block k payload (Some x) t is le found =
     subst (λ u. MatchBool u (IsPayloadOf k (row_of k payload) payload) ((y : Row) → IsPayloadOf k y payload → ⊥)) (sym is)
     (subst (λ y. IsPayloadOf k y payload) (sym row) (record { place = le; row = found }))
 
-some_none : {A : Type 0} (a : A) → Some a ≡ None → ⊥
-some_none a h = cc
-
-same_some : {A : Type 0} {a e : A} → Some a ≡ Some e → a ≡ e
-same_some h = cc
-
 -- a cell with a payload
 pub read-cell : (held : ℕ → Option Held) (k : ℕ) (payload : List ℕ) (t : Bool) → Some payload ≡ payload_of (held k) → count_of (held k) ≤ MOST_COMMITS → k < VERIFIER_CELLS
     → MatchBool t (IsPayloadOf k (row_of k payload) payload) ((x : Row) → IsPayloadOf k x payload → ⊥) → MatchBool t (CellRead held k) (HasForeign held)
 read-cell held k payload t has few lt = by (held k) refl t
   where
     by : (h : Option Held) → held k ≡ h → (t : Bool) → MatchBool t (IsPayloadOf k (row_of k payload) payload) ((x : Row) → IsPayloadOf k x payload → ⊥) → MatchBool t (CellRead held k) (HasForeign held)
-    by None is t found = absurd (some_none payload (has ∙ ap payload_of is))
+    by None is t found = absurd (some-none payload (has ∙ ap payload_of is))
     by (Some h) is true found =
-        let own : payload ≡ h.1 = same_some (has ∙ ap payload_of is) in
+        let own : payload ≡ h.1 = same-some (has ∙ ap payload_of is) in
         record {
           filled = subst (λ (o : Option Held). IsFilled (IsPayloadOf k) (option_map (row_of k) (payload_of o)) o) (sym is) (subst (λ (p : List ℕ). IsPayloadOf k (row_of k p) p) own found);
           few = few;
@@ -89,7 +77,7 @@ read-cell held k payload t has few lt = by (held k) refl t
       kept = h;
       inside = lt;
       is = is;
-      reads_none = λ x reads. none x (subst (λ (p : List ℕ). IsPayloadOf k x p) (sym (same_some (has ∙ ap payload_of is))) reads);
+      reads_none = λ x reads. none x (subst (λ (p : List ℕ). IsPayloadOf k x p) (sym (same-some (has ∙ ap payload_of is))) reads);
     }
 
 -- a blank cell
@@ -98,16 +86,16 @@ blank-cell held k has few = by (held k) refl
   where
     by : (h : Option Held) → held k ≡ h → CellRead held k
     by None is = record { filled = subst (λ (o : Option Held). IsFilled (IsPayloadOf k) (option_map (row_of k) (payload_of o)) o) (sym is) tt; few = few }
-    by (Some h) is = absurd (some_none h.1 (sym (ap payload_of is) ∙ sym has))
+    by (Some h) is = absurd (some-none h.1 (sym (ap payload_of is) ∙ sym has))
 
 -- == what is seen by the payloads ==
 
 pub payload-none : (h : Option Held) → None ≡ payload_of h → h ≡ None
 payload-none None is = refl
-payload-none (Some h) is = absurd (some_none h.1 (sym is))
+payload-none (Some h) is = absurd (some-none h.1 (sym is))
 
 pub payload-some : (h : Option Held) (payload : List ℕ) → Some payload ≡ payload_of h → IsSome h
-payload-some None payload is = absurd (some_none payload is)
+payload-some None payload is = absurd (some-none payload is)
 payload-some (Some h) payload is = refl
 
 module _ (held : ℕ → Option Held) (filled : HoldRows held) where
@@ -133,9 +121,6 @@ module _ (held : ℕ → Option Held) (filled : HoldRows held) where
   pub block-held : (k : ℕ) (payload : List ℕ) → FIRST_BLOCK ≤ k → k < VERIFIER_CELLS → Some payload ≡ payload_of (held k)
       → row_in (seen_held held) k ≡ Some (BlockRow (word_at 0 payload) (word_at 1 payload) (scans_of payload))
   block-held k payload le lt has = held-row held filled k lt ∙ ap (option_map (row_of k)) (sym has) ∙ ap (λ r. Some r) (block-row k payload le)
-
-  pub none-held : (k : ℕ) → k < VERIFIER_CELLS → None ≡ payload_of (held k) → row_in (seen_held held) k ≡ None
-  none-held k lt has = held-row held filled k lt ∙ ap (option_map (row_of k)) (sym has)
 
   block_scans : (k : ℕ) (o : Option (List ℕ)) → FIRST_BLOCK ≤ k → scans_in (option_map (row_of k) o) ≡ scans_before o
   block_scans k None le = refl

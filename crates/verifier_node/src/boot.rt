@@ -1,5 +1,5 @@
 //! The verifier out of its storage.
-ghost use Rattle.std.specs.Prelude.{◌≡◌, ◌≢◌, ◌+◌, ◌<◌, ◌≤◌, ℕ, [], Some, None, OnOk, OnErr, IfOk, IfErr, IsErrOf, MatchBool, MatchResult, Err, false, is_ok, length};
+ghost use Rattle.std.specs.Prelude.{◌≡◌, ◌≢◌, ◌+◌, ◌<◌, ◌≤◌, [], Some, None, OnOk, OnErr, IfOk, IfErr, IsErrOf, MatchBool, MatchResult, Err, false, is_ok};
 ghost use Rattle.bench_base.specs.declared.sizes.TheConstants.{VERIFIER_CELLS, VERIFIER_BYTES, FIRST_BLOCK};
 ghost use Rattle.nv_store.specs.RoomView.{cells_of, kept_in};
 ghost use Rattle.nv_store.specs.Store.{payload_of};
@@ -9,7 +9,7 @@ ghost use Rattle.verifier.specs.Rows.{Row};
 ghost use Rattle.node_seat.specs.Does.{Reads, Spends};
 ghost use Rattle.node_seat.specs.Ends.{end_of_boot};
 ghost use Rattle.verifier_node.specs.Payloads.{seen_held, HoldRows, IsDamaged};
-ghost use Rattle.verifier_node.specs.Boots.{CellRead, AreRead, HasForeign, IsIndexed, AreBlank, HasGap, Breaks, AreJoined, HoldNone, HoldSound, Booted};
+ghost use Rattle.verifier_node.specs.Boots.{CellRead, AreRead, HasForeign, IsIndexed, AreBlank, HasGap, Breaks, HoldNone, HoldSound, Booted};
 
 use crate::cells::{is_blank, key_of};
 use crate::node::VerifierNode;

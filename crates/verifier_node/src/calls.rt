@@ -4,7 +4,7 @@
 //! Fault; after every refusal it answers Power or Fault where its commit failed, and Worn where the cell of its change has
 //! 4,294,967,295 commits. A refusal, Worn, and an answer that needs no commit leave the verifier and its storage as they
 //! were.
-ghost use Rattle.std.specs.Prelude.{◌≡◌, ◌≤◌};
+ghost use Rattle.std.specs.Prelude.{◌≤◌};
 ghost use Rattle.verifier.specs.Acts as act_of;
 
 use crate::running::Verifier;

@@ -1,5 +1,4 @@
 //! The verifier as a node of the bench.
-ghost use Rattle.std.specs.Prelude.{◌≡◌};
 ghost use Rattle.bench_base.specs.declared.sizes.TheConstants.{VERIFIER_BYTES};
 ghost use Rattle.verifier.specs.ActLaws as acts;
 ghost use Rattle.verifier.specs.Seen as seen_by;

@@ -1,5 +1,5 @@
 //! The verifier in its storage, on or off.
-ghost use Rattle.std.specs.Prelude.{◌≡◌, ◌==◌, ◌<◌, ◌^◌, ℕ, OnErr, IsErrOf, true, false};
+ghost use Rattle.std.specs.Prelude.{◌≡◌, ◌<◌, OnErr, IsErrOf, true, false};
 ghost use Rattle.nv_model.specs.Meters.{Restarts};
 ghost use Rattle.bench_base.specs.declared.sizes.TheConstants.{BLOCK_BYTES, VERIFIER_CELLS, VERIFIER_BYTES};
 ghost use Rattle.nv_store.specs.RoomView.{cells_of, kept_in};
@@ -10,7 +10,7 @@ ghost use Rattle.bench_base.specs.Ranges.{IsDevice};
 ghost use Rattle.verifier.specs.Acts as act_of;
 ghost use Rattle.verifier.specs.ActLaws.{IsFit};
 ghost use Rattle.verifier.specs.Index.{IsIndexOf};
-ghost use Rattle.verifier.specs.Seen.{AreTogether, AreSound, counting, key_at, spot_in};
+ghost use Rattle.verifier.specs.Seen.{AreTogether, counting, spot_in};
 ghost use Rattle.verifier_node.specs.Indexes.{CanIndex, Indexes};
 ghost use Rattle.verifier_node.specs.Payloads.{IsShown, HoldRows, seen_held};
 ghost use Rattle.verifier_node.specs.Sound.{HasCell};

@@ -1,5 +1,5 @@
 //! The running verifier: its rows in its storage, and the commit that failed.
-ghost use Rattle.std.specs.Prelude.{◌≡◌, None, not, is_some};
+ghost use Rattle.std.specs.Prelude.{◌≡◌, not, is_some};
 ghost use Rattle.bench_base.specs.declared.sizes.TheConstants.{VERIFIER_CELLS, VERIFIER_BYTES};
 ghost use Rattle.nv_store.specs.RoomView.{cells_of};
 ghost use Rattle.verifier.specs.Seen.{counting};

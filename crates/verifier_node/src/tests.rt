@@ -1,6 +1,6 @@
 //! Worked scans of the verifier over storage in memory, which is used once in each test: what it answers, what it leaves,
 //! what it starts from, and cuts of power at each call.
-ghost use Rattle.std.specs.Prelude.{◌≡◌, ◌<◌, ◌≤◌, ◌^◌, IfOk, length, false};
+ghost use Rattle.std.specs.Prelude.{◌≡◌, ◌<◌, ◌^◌, IfOk, length, false};
 ghost use Rattle.bench_base.specs.Rules.{IsVersion};
 ghost use Rattle.indicium.specs.Marks.{IsWhole};
 ghost use Rattle.nv_model.specs.Fuses.{state_of};

@@ -1,0 +1,29 @@
+-- What is used of flags, of options, and of the number of a cell.
+use Rattle.std.proofs.Common.{◌≡◌, ℕ, ◌<◌, ◌≤◌, Option, Some, None, Bool, true, false, refl, sym, ap, arith, true≢false}
+use Rattle.std.specs.Prelude.{◌&&◌, nat_lt}
+use Rattle.std.proofs.lemmas.Bool.Decides.{nat_tests}
+use Rattle.bench_base.specs.declared.sizes.TheConstants.{FIRST_BLOCK}
+
+pub both-true : (s t : Bool) → (s && t) ≡ true → (s ≡ true) × (t ≡ true)
+both-true true true h = (refl, refl)
+both-true true false h = absurd (true≢false (sym h))
+both-true false t h = absurd (true≢false (sym h))
+
+pub some-none : {A : Type 0} (a : A) → Some a ≡ None → ⊥
+some-none a h = cc
+
+pub same-some : {A : Type 0} {a e : A} → Some a ≡ Some e → a ≡ e
+same-some h = cc
+
+pub no-pair : (d b : ℕ) → ◌≡◌ {A = Option (ℕ × ℕ)} None (Some (d, b)) → ⊥
+no-pair d b h = cc
+
+pub same-pair : (e n d b : ℕ) → ◌≡◌ {A = Option (ℕ × ℕ)} (Some (e, n)) (Some (d, b)) → (e ≡ d) × (n ≡ b)
+same-pair e n d b h = let same : ◌≡◌ {A = ℕ × ℕ} (e, n) (d, b) = cc in (ap (λ (x : ℕ × ℕ). x.0) same, ap (λ (x : ℕ × ℕ). x.1) same)
+
+-- a cell of a device, and one of a block
+pub trust-low : (k : ℕ) → k < FIRST_BLOCK → nat_lt k FIRST_BLOCK ≡ true
+trust-low k lt = grind (arith, nat_tests)
+
+pub block-high : (k : ℕ) → FIRST_BLOCK ≤ k → nat_lt k FIRST_BLOCK ≡ false
+block-high k le = grind (arith, nat_tests)
