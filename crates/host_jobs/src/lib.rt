@@ -10,6 +10,8 @@ mod rows;
 mod sizes;
 mod soundness;
 mod states;
+#[cfg(test)]
+mod tests;
 mod theorems;
 
 pub use acts::{

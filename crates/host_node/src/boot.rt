@@ -112,12 +112,7 @@ impl<N: Nv> HostNode<N> {
         ensures damaged { N.tells → IsErrOf result BootFail.Damaged → IsDamaged N.Nv (storage_in self.new) }
         ensures spent { Spends N.Nv 1 (storage_in self.old) (storage_in self.new) (end_of_boot result) }
     {
-        match mount_jobs(
-            &mut self.nv,
-            &mut self.room,
-            &mut self.rows,
-            &mut self.kept,
-        ) {
+        match mount_jobs(&mut self.nv, &mut self.room, &mut self.rows, &mut self.kept) {
             Ok(()) => {
                 self.on = true;
                 Ok(())
