@@ -34,16 +34,13 @@ use Rattle.host_jobs.proofs.Found.{some-same, none-some, found-row, opened, Wait
 use Rattle.host_jobs.proofs.Answered.{OrderOk, order-ok, HoldOk, hold-ok, is-closed, no-room}
 use Rattle.host_jobs.proofs.Puts.{put-here, put-other}
 use Rattle.host_jobs.proofs.SoundActs.{sound-row, held-mark}
+use Rattle.host_jobs.proofs.JobFacts.{none-if}
 use Rattle.host_jobs.proofs.CellFacts.{IsRowOf}
 use Rattle.host_jobs.proofs.ByRows.{job-facts, row-is, last-is, top-is, tops-are, open-is, oldest-is, told}
 
 first-none : {A : Type 0} (o p : Option A) → o ≡ None → first_of o p ≡ p
 first-none None p h = refl
 first-none (Some a) p h = none-some (sym h)
-
-none-by : {A : Type 0} (o : Option A) → ((x : A) → o ≡ Some x → ⊥) → o ≡ None
-none-by None h = refl
-none-by (Some x) h = absurd (h x refl)
 
 module _ (rows : Jobs) (C : List Commit) (sound : AreSound rows) (are : AreRowsOf rows C) where
   -- a row that is put, where it is the one that the commits tell of its job
@@ -72,11 +69,11 @@ module _ (rows : Jobs) (C : List Commit) (sound : AreSound rows) (are : AreRowsO
 
     new-job : job_of j D ≡ Some what
     new-job =
-        let before = none-by (job_of j C) (λ b is. let le = (job-facts rows C sound are).job_le j b is in omega (arith, le.1, next)) in
+        let before = none-if (job_of j C) (λ b is. let le = (job-facts rows C sound are).job_le j b is in omega (arith, le.1, next)) in
         rw (eq-eqb j j refl) (first-none (job_of j C) (Some what) before)
 
     new-held : held_of j D ≡ None
-    new-held = none-by (held_of j C) (λ x is. let le = (job-facts rows C sound are).held_le j x is in omega (arith, le.1, next))
+    new-held = none-if (held_of j C) (λ x is. let le = (job-facts rows C sound are).held_le j x is in omega (arith, le.1, next))
 
     abbrev with_tops : List ℕ → Option (List ℕ) → Option JobRow
     with_tops tops mark = Some (record { job = j; device = d; piece = piece; postage = postage; class = class; state = state.Ordered; tops = tops; indicium = mark })

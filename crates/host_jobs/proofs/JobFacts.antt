@@ -27,7 +27,7 @@ first-new : {A : Type 0} (o : Option A) (b : Option A) → ((x : A) → o ≡ So
 first-new None b h = refl
 first-new (Some x) b h = absurd (h x refl)
 
-none-if : {A : Type 0} (o : Option A) → ((x : A) → o ≡ Some x → ⊥) → o ≡ None
+pub none-if : {A : Type 0} (o : Option A) → ((x : A) → o ≡ Some x → ⊥) → o ≡ None
 none-if None h = refl
 none-if (Some x) h = absurd (h x refl)
 

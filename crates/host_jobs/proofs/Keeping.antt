@@ -157,7 +157,7 @@ keeps-on rows kept x is next = record { sound = next.sound; is = ap (λ (k : Kep
 
 -- == no jobs ==
 
-none-at : (k : ℕ) → row_in no_jobs k ≡ None
+pub none-at : (k : ℕ) → row_in no_jobs k ≡ None
 none-at k = ⊎_elim
     (λ (lt : k < HOST_CELLS). listed_at HOST_CELLS (λ i. None) None k lt)
     (λ (past : HOST_CELLS ≤ k). get_or_past no_jobs k None (omega (arith, past, listed_long {A = Option JobRow} HOST_CELLS (λ i. None))))

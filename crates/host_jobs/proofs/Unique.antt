@@ -1,5 +1,5 @@
 -- That what is kept is that of the rows has one proof at most.
-use Rattle.std.proofs.Common.{◌≡◌, ◌≤◌, ℕ, List, Option, Some, None, length, get_or}
+use Rattle.std.proofs.Common.{ℕ, List, Option, Some, None}
 use Rattle.std.proofs.Props.{props}
 use Rattle.std.specs.Prelude.{IfSome}
 use Rattle.bench_base.specs.declared.words.JobState.{JobState}
@@ -7,7 +7,7 @@ use Rattle.bench_base.specs.declared.words.JobState.TheVariants as state
 use Rattle.host_jobs.specs.declared.rows.JobRow.{JobRow}
 use Rattle.host_jobs.specs.declared.kept.Kept.{Kept}
 use Rattle.host_jobs.specs.Rows.{Jobs, row_in}
-use Rattle.host_jobs.specs.Soundness.{IsMarked, Holds, IsSoundJob, IsJobAt, IsFresh, ArePlaced, AreGapless, WaitOnce, AreFresh, AreJoined, AreSound, IsKept}
+use Rattle.host_jobs.specs.Soundness.{IsMarked, Holds, IsSoundJob, IsJobAt, IsFresh, ArePlaced, AreJoined, AreSound, IsKept}
 
 if_some-prop : {A : Type 0} (P : A → Type 0) → ((a : A) → IsProp (P a)) → (o : Option A) → IsProp (IfSome o P)
 if_some-prop P one None = hlevel

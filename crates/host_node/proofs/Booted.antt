@@ -1,46 +1,27 @@
 -- What was read out of the cells of the host.
-use Rattle.std.proofs.Common.{◌≡◌, ◌⊎◌, inl, inr, ℕ, ◌<◌, ◌≤◌, length, Option, Some, None, IfSome, ⊎_elim, sym, subst, arith}
+use Rattle.std.proofs.Common.{◌≡◌, ◌⊎◌, inl, inr, ℕ, ◌<◌, ◌≤◌, length, Option, None, ⊎_elim, sym, subst, arith}
 use Rattle.std.proofs.lemmas.Bool.{cases_lt}
 use Rattle.std.proofs.lemmas.List.{get_or_past}
 use Rattle.bench_base.specs.declared.sizes.TheConstants.{MOST_COMMITS}
 use Rattle.nv_model.specs.declared.nv.Nv.{Ghosts}
 use Rattle.nv_store.specs.Slot.{Held}
-use Rattle.nv_store.specs.Store.{Shows, OnlyShows, count_of}
+use Rattle.nv_store.specs.Store.{Shows, OnlyShows}
 use Rattle.nv_store.specs.RoomView.{cells_of, kept_in}
 use Rattle.nv_store.specs.Rooms.{RoomRuns}
 use Rattle.nv_store.specs.TableKnows.{table_only}
 use Rattle.nv_store.specs.declared.room.Room.{Room}
-use Rattle.node_acts.specs.RowList.{row_at, commits_at}
+use Rattle.node_acts.specs.RowList.{commits_at}
 use Rattle.row_table.specs.Shows.{HasMixedCell, HasForeignCell, BreaksTogether}
 use Rattle.row_table.specs.Kept.{foreign_shown, seen_by, seen_long, seen_count, seen_shown}
 use Rattle.host_jobs.specs.declared.rows.JobRow.{JobRow}
 use Rattle.host_jobs.specs.declared.sizes.TheConstants.{JOB_BYTES, HOST_CELLS}
 use Rattle.host_jobs.specs.Rows.{Jobs, row_in}
 use Rattle.host_jobs.specs.Seen.{Seen, rows_in}
-use Rattle.host_jobs.specs.Soundness.{IsJobAt, ArePlaced, AreSound}
-use Rattle.host_node.specs.Payloads.{IsPayloadOf, HoldRows, IsDamaged}
+use Rattle.host_jobs.specs.Soundness.{AreSound}
+use Rattle.host_node.specs.Payloads.{IsPayloadOf, IsDamaged}
 use Rattle.host_node.specs.Cells.{rows_kept}
-use Rattle.host_node.specs.Boots.{JobsRead, HoldJobs, HoldNone}
+use Rattle.host_node.specs.Boots.{HoldJobs, HoldNone}
 use Rattle.host_node.specs.Sound.{IsSound}
-
-module _ (held : ℕ → Option Held) (rows : Jobs) (read : JobsRead held HOST_CELLS rows) (long : length rows ≡ HOST_CELLS) where
-  pub are_placed : ArePlaced rows
-  are_placed = record {
-    long = long;
-    each = λ k. ⊎_elim
-        (λ (inside : k < HOST_CELLS). (read k inside).own)
-        (λ (past : HOST_CELLS ≤ k). subst (λ (o : Option JobRow). IfSome o (IsJobAt k)) (sym (get_or_past rows k None (omega (arith, long, past)))) tt)
-        (cases_lt k HOST_CELLS);
-  }
-
-  hold_rows : HoldRows (row_in rows) held
-  hold_rows k lt = (read k lt).filled
-
-  pub hold_jobs : AreSound rows → HoldJobs held rows
-  hold_jobs sound = record { are = hold_rows; sound = sound; few = λ k lt. (read k lt).few }
-
-  pub hold_unsound : (AreSound rows → ⊥) → HoldNone held
-  hold_unsound breaks = inr (record { rows = rows; long = long; are = hold_rows; breaks = breaks })
 
 -- what is seen of cells that hold sound jobs
 pub sound_booted : (held : ℕ → Option Held) (rows : Jobs) → HoldJobs held rows → IsSound (seen_by HOST_CELLS held (row_in rows))

@@ -1,5 +1,5 @@
 -- That the host can write what its calls commit.
-use Rattle.std.proofs.Common.{◌≡◌, sym, ap, subst}
+use Rattle.std.proofs.Common.{◌≡◌, sym, subst}
 use Rattle.bench_base.specs.declared.ledger.Commit.{Commit}
 use Rattle.node_acts.specs.declared.act.Act.TheVariants.{Commits}
 use Rattle.host_jobs.specs.declared.rows.JobRow.{JobRow}

@@ -1,14 +1,13 @@
 -- The jobs of the host by their cells: what lies where, and how a job that is put changes that.
-use Rattle.std.proofs.Common.{◌≡◌, ◌≢◌, ℕ, ◌+◌, ◌<◌, ◌≤◌, length, get_or, map, Option, Some, None, ⊎_elim, refl, sym, ◌∙◌, ap, subst, arith}
-use Rattle.std.proofs.lemmas.Bool.{cases_lt}
-use Rattle.std.proofs.lemmas.List.{ext_get_or, get_or-map, get_or_past, get_or-set_same, get_or-set_other, length-map, map-set}
+use Rattle.std.proofs.Common.{◌≡◌, ◌≢◌, ℕ, ◌+◌, ◌<◌, length, Option, Some, None, sym, ◌∙◌, subst, arith}
+use Rattle.std.proofs.lemmas.List.{ext_get_or, get_or-map, get_or-set_same, get_or-set_other, length-map, map-set}
 use Rattle.node_acts.specs.RowList.{row_at, row_of, commits_at, put}
-use Rattle.node_acts.specs.RowLaws.{listed_at, listed_long}
 use Rattle.nv_store.specs.Slot.{Held}
 use Rattle.row_table.specs.Kept.{IsFilled, seen_by, seen_long, seen_row}
 use Rattle.host_jobs.specs.declared.rows.JobRow.{JobRow}
 use Rattle.host_jobs.specs.declared.sizes.TheConstants.{HOST_CELLS}
 use Rattle.host_jobs.proofs.Cells.{cell-lt}
+use Rattle.host_jobs.proofs.Keeping.{none-at}
 use Rattle.host_jobs.specs.Rows.{Jobs, no_jobs, row_in, put_row}
 use Rattle.host_jobs.specs.Seen.{Seen, cell_of, rows_in}
 use Rattle.host_node.specs.Payloads.{IsPayloadOf, HoldRows}
@@ -46,13 +45,7 @@ row_other rows x k differs = get_or-set_other rows (cell_of x) k (Some x) None d
 
 -- == no jobs ==
 
-no_row : (k : ℕ) → row_in no_jobs k ≡ None
-no_row k = ⊎_elim
-    (λ (lt : k < HOST_CELLS). listed_at HOST_CELLS (λ i. None) None k lt)
-    (λ (past : HOST_CELLS ≤ k). get_or_past no_jobs k None (omega (arith, past, listed_long {A = Option JobRow} HOST_CELLS (λ i. None))))
-    (cases_lt k HOST_CELLS)
-
 -- blank cells hold none
 pub none_hold : (held : ℕ → Option Held) → ((k : ℕ) → held k ≡ None) → HoldRows (row_in no_jobs) held
 none_hold held none k lt =
-    subst (λ (o : Option JobRow). IsFilled (IsPayloadOf k) o (held k)) (sym (no_row k)) (subst (λ (h : Option Held). IsFilled (IsPayloadOf k) None h) (sym (none k)) tt)
+    subst (λ (o : Option JobRow). IsFilled (IsPayloadOf k) o (held k)) (sym (none-at k)) (subst (λ (h : Option Held). IsFilled (IsPayloadOf k) None h) (sym (none k)) tt)

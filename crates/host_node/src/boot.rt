@@ -1,5 +1,5 @@
 //! The host out of its storage.
-ghost use Rattle.std.specs.Prelude.{◌≡◌, ◌≢◌, ◌+◌, ◌<◌, ◌≤◌, OnOk, IfOk, IfErr, IsErrOf, MatchResult, Err, false, is_ok, length};
+ghost use Rattle.std.specs.Prelude.{◌≡◌, ◌≢◌, ◌<◌, OnOk, IfOk, IfErr, IsErrOf, MatchResult, Err, false, is_ok, length};
 ghost use Rattle.host_jobs.specs.declared.sizes.TheConstants.{HOST_CELLS, HOST_BYTES};
 ghost use Rattle.nv_store.specs.RoomView.{cells_of, kept_in};
 ghost use Rattle.nv_store.specs.Turns.{Kept as WithPower};

@@ -1,5 +1,5 @@
 //! The running host: its jobs in its storage, and the commit that failed.
-ghost use Rattle.std.specs.Prelude.{◌≡◌, None, not, is_some};
+ghost use Rattle.std.specs.Prelude.{◌≡◌, not, is_some};
 ghost use Rattle.host_jobs.specs.declared.sizes.TheConstants.{HOST_BYTES};
 ghost use Rattle.host_jobs.specs.Seen.{counting};
 ghost use Rattle.host_node.specs.NodeView.{storage_in, is_on};

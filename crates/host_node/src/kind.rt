@@ -1,5 +1,4 @@
 //! The host as a node of the bench.
-ghost use Rattle.std.specs.Prelude.{◌≡◌};
 ghost use Rattle.host_jobs.specs.declared.sizes.TheConstants.{HOST_BYTES};
 ghost use Rattle.host_jobs.specs.Seen as seen_by;
 ghost use Rattle.host_node.specs.Payloads as payloads;

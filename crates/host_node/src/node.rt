@@ -1,5 +1,5 @@
 //! The host in its storage, on or off.
-ghost use Rattle.std.specs.Prelude.{◌≡◌, ◌==◌, ◌<◌, ◌^◌, ℕ, OnErr, IsErrOf, true, false, length};
+ghost use Rattle.std.specs.Prelude.{◌≡◌, OnErr, IsErrOf, true, false};
 ghost use Rattle.nv_model.specs.Meters.{Restarts};
 ghost use Rattle.host_jobs.specs.declared.sizes.TheConstants.{JOB_BYTES, HOST_CELLS, HOST_BYTES};
 ghost use Rattle.nv_store.specs.RoomView.{cells_of, kept_in};

@@ -1,6 +1,6 @@
 //! Worked rows of the host over storage in memory: what it starts from, what it leaves there, its refusals in order, and cuts
 //! of power at each call.
-ghost use Rattle.std.specs.Prelude.{◌≡◌, ◌<◌, ◌≤◌, ◌^◌, IfOk, length, false};
+ghost use Rattle.std.specs.Prelude.{◌≡◌, ◌<◌, ◌^◌, IfOk, length, false};
 ghost use Rattle.bench_base.specs.Ranges.{IsPostage};
 ghost use Rattle.nv_model.specs.Fuses.{state_of};
 

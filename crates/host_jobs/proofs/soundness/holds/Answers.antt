@@ -1,4 +1,4 @@
-use Rattle.std.proofs.Common.{◌≡◌, sym, ◌∙◌, true≢false}
+use Rattle.std.proofs.Common.{sym, ◌∙◌, true≢false}
 use Rattle.std.proofs.Math.Logic.{∥∥₁_elim}
 use Rattle.host_jobs.proofs.soundness.holds.Goals as goal
 
