@@ -17,10 +17,6 @@ cell-oldest last le = omega arith
 pub cell-next : (last : ℕ) → cell_of (last + 1) ≡ last % 1024
 cell-next last = omega arith
 
--- before the cells were all used once
-pub cell-first : (j : ℕ) → 1 ≤ j → j ≤ 1024 → cell_of j ≡ j - 1
-cell-first j from most = omega arith
-
 -- the one of the last 1,024 jobs that lies in the cell of an earlier one
 pub record Later (j last : ℕ) : Type 0 where
   pub job : ℕ

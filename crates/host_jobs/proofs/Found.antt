@@ -93,10 +93,6 @@ module _ (rows : Jobs) (placed : ArePlaced rows) where
   pub row-top : (d k : ℕ) → top_at d (row_in rows k) ≤ top_in d rows
   row-top d k = greatest-le (top_at d) rows k None refl
 
-  -- the row of a job
-  pub own-row : (k : ℕ) (r : JobRow) → row_in rows k ≡ Some r → job_row rows r.job ≡ Some r
-  own-row k r is = if_job-is r.job (row_in rows (cell_of r.job)) r (ap (row_in rows) (row-at k r is).cell ∙ is) refl
-
   -- a row of device d that waits, if no other does
   pub opens : (d k : ℕ) (r : JobRow) → row_in rows k ≡ Some r → is_ordered r.state ≡ true → r.device ≡ d
       → ((i : ℕ) → IsSome (waiting d (row_in rows i)) → i ≡ k) → open_in d rows ≡ Some r.job

@@ -31,11 +31,6 @@ pub none-if : {A : Type 0} (o : Option A) → ((x : A) → o ≡ Some x → ⊥)
 none-if None h = refl
 none-if (Some x) h = absurd (h x refl)
 
-found-before : {A : Type 0} (t : Bool) (o : Option A) (a b : A) → cond t (first_of o (Some a)) o ≡ Some b → ((t ≡ true) × (o ≡ None) × (a ≡ b)) ⊎ (o ≡ Some b)
-found-before true None a b e = inl (refl, refl, cc)
-found-before true (Some y) a b e = inr e
-found-before false o a b e = inr e
-
 unless-other : (i : ℕ) (w : Option ℕ) (j : ℕ) → unless_job i w ≡ Some j → (w ≡ Some j) × (j ≢ i)
 unless-other i None j h = none-some h
 unless-other i (Some k) j h = ⊎_elim

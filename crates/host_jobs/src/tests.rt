@@ -1,7 +1,14 @@
 //! A job's payload by its layout, and the memory for jobs.
-use crate::{HOST_CELLS, JobRow, JobRows, cell_of};
+use crate::{
+    HOST_CELLS, JobRow, JobRows, Kept, begin_print_act, cell_of, close_act, debit_message_act,
+    order_act, take_act,
+};
 use bench_base::fields::{put_u16, put_u32};
+use bench_base::ledger::Commit;
+use bench_base::numbers::DevNo;
+use bench_base::refusals::{HostRefusal, Unread};
 use bench_base::words::JobState;
+use node_acts::Act;
 use std::alloc::AllocError;
 use std::test::Fail;
 
@@ -128,5 +135,50 @@ fn keeps_jobs_in_their_cells(rt: HostRuntime) -> Result<(), AllocError> {
     assert!(rt; rows.job(1).is_none());
     rows.clear();
     assert!(rt; rows.job(1_025).is_none());
+    Ok(())
+}
+
+#[test]
+fn decides_without_jobs(rt: HostRuntime) -> Result<(), AllocError> {
+    let rows = JobRows::new(rt.alloc())?;
+    let kept = Kept::none();
+    let device = DevNo::new(8).expect(&rt, "device 8");
+    assert!(rt;
+        matches!(
+            order_act(device, 1, 1, None, &rows, &kept),
+            Act::Refuse(HostRefusal::NoRates)
+        ),
+        "no rates"
+    );
+    match order_act(device, 1, 2, Some(Ok(550)), &rows, &kept) {
+        Act::Commits(Commit::Ordered(1, _, 1, 550, 2), row, told) => {
+            assert_eq!(rt; row.job, 1);
+            assert_eq!(rt; told.job, 1);
+            assert_eq!(rt; told.postage, 550);
+        }
+        _ => assert!(rt; false, "job 1"),
+    }
+    assert!(rt;
+        matches!(debit_message_act(1, &rows), Act::Refuse(HostRefusal::NoJob)),
+        "sent"
+    );
+    assert!(rt;
+        matches!(
+            begin_print_act(1, &rows, &kept),
+            Act::Refuse(HostRefusal::NoJob)
+        ),
+        "printed"
+    );
+    assert!(rt;
+        matches!(close_act(1, &rows, &kept), Act::Refuse(HostRefusal::NoJob)),
+        "closed"
+    );
+    assert!(rt;
+        matches!(
+            take_act(&[], &rows, &kept),
+            Act::Refuse(HostRefusal::Unread(Unread::Length))
+        ),
+        "taken"
+    );
     Ok(())
 }
