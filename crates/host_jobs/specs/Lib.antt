@@ -1,2 +1,12 @@
+pub mod ActLaws
+pub mod Acts
 pub mod Answers
 pub mod Order
+pub mod Payload
+pub mod PayloadLaws
+pub mod Records
+pub mod Rows
+pub mod Seen
+pub mod SeenLaws
+pub mod Soundness
+pub mod Turns

@@ -22,6 +22,7 @@ use Rattle.psd_state.specs.Records as device
 use Rattle.psd_state.specs.Records.{IsRecordOf, IsOutstanding, state_of as record_of}
 use Rattle.centre_ledger.specs.Order as centre
 use Rattle.host_jobs.specs.Order as host
+use Rattle.host_jobs.specs.Turns as turns
 use Rattle.verifier.specs.Order as verifier
 use Rattle.law_good.proofs.Basics.{some-same, some-none, either, found, none-if}
 use Rattle.law_good.proofs.Good.{Good, Fits}
@@ -188,6 +189,18 @@ module _ (ρ : Rules) where
   pub host-order : (C : List Commit) → Good ρ C → host.InOrder C
   host-order [] g = tt
   host-order (c ∷ C) g = (host-follows c C g.0 g.1, host-order C g.1)
+
+  -- what the refusals of the host's calls leave is what fits
+  turn-follows : (c : Commit) (C : List Commit) → Fits ρ c C → Good ρ C → turns.Follows c C
+  turn-follows (Ordered j d p a k) C f g = record { next = f.next; idle = f.idle; fresh = f.fresh; room = (host-follows (Ordered j d p a k) C f g).1 }
+  turn-follows (Held j x) C f g = record { at = f.at; job_is = f.job_is; open_is = f.open_is; mark = f.mark }
+  turn-follows (Began j) C f g = f
+  turn-follows (Closed j) C f g = ap is_open f.1 ∙ f.2
+  turn-follows _ C f g = tt
+
+  pub host-turn : (C : List Commit) → Good ρ C → turns.InTurn C
+  host-turn [] g = tt
+  host-turn (c ∷ C) g = (turn-follows c C g.0 g.1, host-turn C g.1)
 
   verifier-follows : (c : Commit) (C : List Commit) → Fits ρ c C → verifier.Follows c C
   verifier-follows (Trusted d key) C f = f

@@ -9,6 +9,7 @@ use Rattle.ledger_terms.specs.Devices.{key_of}
 use Rattle.psd_state.specs.Records as device
 use Rattle.centre_ledger.specs.Order as centre
 use Rattle.host_jobs.specs.Order as host
+use Rattle.host_jobs.specs.Turns as turns
 use Rattle.verifier.specs.Order as verifier
 use Rattle.verifier.specs.Order.{IsRoomy}
 
@@ -18,6 +19,7 @@ pub record AreOrdered (C : List Commit) : Type 0 where
   pub records : (d : ℕ) (key : List ℕ) → key_of d C ≡ Some key → device.IsRecordOf (device.state_of d key C) d C
   pub centre : centre.InOrder C
   pub host : host.InOrder C
+  pub turns : turns.InTurn C
   pub verifier : verifier.InOrder C
   pub roomy : IsRoomy C
 

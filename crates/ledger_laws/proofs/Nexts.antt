@@ -16,11 +16,11 @@ use Rattle.law_orders.specs.Nexts.{AreOrdered, IsNext, IsOpen}
 use Rattle.law_good.proofs.Good.{Good}
 use Rattle.law_good.proofs.Grown.{Inv}
 use Rattle.ledger_laws.proofs.Histories.{histories, plan-ok, allows-same, carried-by}
-use Rattle.law_orders.proofs.Orders.{device-order, device-record, centre-order, host-order, verifier-order}
+use Rattle.law_orders.proofs.Orders.{device-order, device-record, centre-order, host-order, host-turn, verifier-order}
 use Rattle.law_jobs.proofs.Cells.{roomy}
 
 pub ordered : (ρ : Rules) (C : List Commit) → Good ρ C → AreOrdered C
-ordered ρ C g = record { devices = device-order ρ C g; records = device-record ρ C g; centre = centre-order ρ C g; host = host-order ρ C g; verifier = verifier-order ρ C g; roomy = roomy ρ C g }
+ordered ρ C g = record { devices = device-order ρ C g; records = device-record ρ C g; centre = centre-order ρ C g; host = host-order ρ C g; turns = host-turn ρ C g; verifier = verifier-order ρ C g; roomy = roomy ρ C g }
 
 pub open-is : (ρ : Rules) (H : Ledger) → Inv ρ H → (n : Node) (c : Commit) → torn_of n H ≡ Some c → IsOpen n c H
 open-is ρ H i n c h = let o = i.opens n c h in record { node = o.node; off = o.off; range = o.range; ordered = ordered ρ (c ∷ counted H) (o.fits, i.good, o.range) }

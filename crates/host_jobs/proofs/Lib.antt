@@ -1,0 +1,16 @@
+pub mod Lists
+pub mod Cells
+pub mod Found
+pub mod Puts
+pub mod Answered
+pub mod SoundActs
+pub mod JobFacts
+pub mod CellFacts
+pub mod ByRows
+pub mod PlannedActs
+pub mod FollowingActs
+pub mod Walks
+pub mod Keeping
+pub mod JobBytes
+pub mod Seeing
+pub mod Unique

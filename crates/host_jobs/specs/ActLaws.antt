@@ -1,0 +1,86 @@
+-- What holds of the acts of all rows: they leave sound rows, and do what the ledger plans over the commits whose rows these are.
+use Rattle.std.specs.Prelude.{◌≡◌, ℕ, List, [], ◌∷◌, Option, Result, IfSome, IfOk}
+use Rattle.bench_base.specs.Nodes.{node_of}
+use Rattle.bench_base.specs.Plans.{Plan}
+use Rattle.bench_base.specs.Ranges.{IsDevice, IsPostage}
+use Rattle.bench_base.specs.Cells.{OfJob, place_of}
+use Rattle.bench_base.specs.Jobs.{cell_of, job_of, held_of}
+use Rattle.bench_base.specs.declared.words.Node.TheVariants.{Host}
+use Rattle.bench_base.specs.declared.refusals.RateRefusal.{RateRefusal}
+use Rattle.bench_base.specs.declared.events.Reply.{Reply}
+use Rattle.bench_base.specs.declared.events.Reply.TheVariants as r
+use Rattle.bench_base.specs.declared.ledger.Commit.{Commit}
+use Rattle.bench_base.specs.declared.ledger.Entry.{Entry}
+use Rattle.bench_base.specs.declared.ledger.Entry.TheVariants as e
+use Rattle.node_acts.specs.Plans.{plan_of}
+use Rattle.node_acts.specs.declared.act.Act.TheVariants.{Refuse, Tell, Commits}
+use Rattle.psd_wire.specs.Grammar.{read}
+use Rattle.host_jobs.specs.Answers.{order_plan, shelf_of, send_plan, print_plan, close_plan, host_take, shown_state}
+use Rattle.host_jobs.specs.Acts.{HostAct, order_act, debit_message_act, take_act, begin_print_act, close_act}
+use Rattle.host_jobs.specs.Records.{rows_after}
+use Rattle.host_jobs.specs.Rows.{Jobs, no_jobs, put_row}
+use Rattle.host_jobs.specs.Soundness.{AreSound, IsNext}
+use Rattle.host_jobs.specs.Turns.{InTurn}
+
+-- == the rows stay sound ==
+
+-- where the act commits a row, it is one that these rows can take, and the commit is the host's and lies in the cell of the row
+abbrev pub LeavesSound : {A : Type 0} → Jobs → HostAct A → Type 0
+LeavesSound rows (Refuse x) = Unit {0}
+LeavesSound rows (Tell a) = Unit {0}
+LeavesSound rows (Commits c x a) = IsNext rows x × (node_of c ≡ Host) × (place_of c ≡ OfJob (cell_of x.job))
+
+-- a price is a postage that a piece may be franked with
+abbrev pub IsPrice : Option (Result ℕ RateRefusal) → Type 0
+IsPrice price = IfSome price (λ r. IfOk r IsPostage)
+
+pub record SoundActs (rows : Jobs) : Type 0 where
+  pub ordered : (d piece class : ℕ) (price : Option (Result ℕ RateRefusal)) → IsDevice d → IsPrice price → LeavesSound rows (order_act d piece class price rows)
+  pub sent : (j : ℕ) → LeavesSound rows (debit_message_act j rows)
+  pub taken : (bytes : List ℕ) → LeavesSound rows (take_act bytes rows)
+  pub begun : (j : ℕ) → LeavesSound rows (begin_print_act j rows)
+  pub closed : (j : ℕ) → LeavesSound rows (close_act j rows)
+
+abbrev pub ActsLeaveSound : Type 0
+ActsLeaveSound = (rows : Jobs) → AreSound rows → SoundActs rows
+
+-- == the rows of commits ==
+
+-- these are the rows of the commits, which come in the host's turn
+pub record AreRowsOf (rows : Jobs) (C : List Commit) : Type 0 where
+  pub order : InTurn C
+  pub are : rows ≡ rows_after C
+
+-- where the act commits a row, the rows with it are those of the commits and that one
+abbrev pub FollowsCommits : {A : Type 0} → Jobs → List Commit → HostAct A → Type 0
+FollowsCommits rows C (Refuse x) = Unit {0}
+FollowsCommits rows C (Tell a) = Unit {0}
+FollowsCommits rows C (Commits c x a) = AreRowsOf (put_row rows x) (c ∷ C)
+
+pub record FollowingActs (rows : Jobs) (C : List Commit) : Type 0 where
+  pub ordered : (d piece class : ℕ) (price : Option (Result ℕ RateRefusal)) → IsDevice d → FollowsCommits rows C (order_act d piece class price rows)
+  pub taken : (bytes : List ℕ) → FollowsCommits rows C (take_act bytes rows)
+  pub begun : (j : ℕ) → FollowsCommits rows C (begin_print_act j rows)
+  pub closed : (j : ℕ) → FollowsCommits rows C (close_act j rows)
+
+pub record ActsFollow : Type 0 where
+  -- at the start there are no rows
+  pub none : AreRowsOf no_jobs []
+  pub each : (rows : Jobs) (C : List Commit) → AreSound rows → AreRowsOf rows C → FollowingActs rows C
+
+-- == the plans ==
+
+abbrev pub act_plan : {A : Type 0} → (A → Reply) → (A → List Entry) → HostAct A → Plan
+act_plan reply tell act = plan_of r.HostRefused reply tell act
+
+-- each act's plan is the ledger's
+pub record PlannedActs (rows : Jobs) (C : List Commit) : Type 0 where
+  pub ordered : (d piece class : ℕ) (price : Option (Result ℕ RateRefusal)) → IsDevice d
+      → act_plan (λ a. r.Ordered a.job a.postage) (λ a. []) (order_act d piece class price rows) ≡ order_plan d piece class (shelf_of d C) price
+  pub sent : (k j : ℕ) → act_plan (λ note. r.SentDebit j k) (λ note. e.Sent note ∷ []) (debit_message_act j rows) ≡ send_plan k j (shown_state j C) (job_of j C)
+  pub taken : (bytes : List ℕ) → act_plan (λ j. r.Held j) (λ j. []) (take_act bytes rows) ≡ host_take (read bytes) C
+  pub begun : (j : ℕ) → act_plan (λ x. r.Printed j) (λ x. e.Printed j x ∷ []) (begin_print_act j rows) ≡ print_plan j (shown_state j C) (held_of j C)
+  pub closed : (j : ℕ) → act_plan (λ a. r.Closed j) (λ a. []) (close_act j rows) ≡ close_plan j (shown_state j C)
+
+abbrev pub ActsArePlanned : Type 0
+ActsArePlanned = (rows : Jobs) (C : List Commit) → AreSound rows → AreRowsOf rows C → PlannedActs rows C

@@ -1,0 +1,138 @@
+use Rattle.std.proofs.Common.{ℕ, Ok, Err, rules, inl, refl, sym, ◌∙◌, subst}
+use Rattle.nv_store.specs.RoomView.{kept_in}
+use Rattle.nv_store.specs.Rooms.{RoomCommits}
+use Rattle.nv_store.specs.Store.{count_of}
+use Rattle.host_jobs.specs.Seen.{cell_of}
+use Rattle.host_node.specs.Knows.{shows}
+use Rattle.host_node.proofs.Commits.{rows_fit, sound_fit, between, filled_after, seen_after, filled_still, seen_still, fails_fresh, fails_off, not_found_worn, spent_failed}
+use Rattle.host_node.proofs.node.HostNode.commit_row.Goals as goal
+
+pub write_payload-payload-requires : goal.write_payload-payload-requires
+write_payload-payload-requires g c = sound_fit c.args.self.now c.args.row.now c.requires.fits
+
+pub put-requires-clause-next : goal.put-requires-clause-next
+put-requires-clause-next g c = rows_fit c.args.self.now c.args.row.now c.requires.fits
+
+pub returns-then-is_worn-clause-answers : goal.returns-then-is_worn-clause-answers
+returns-then-is_worn-clause-answers g c = record { worn = (λ is. sym c.if-is_worn.ensures, λ is. refl); not_failed = λ is. cc; done = search rules }
+
+pub returns-then-is_worn-clause-stores : goal.returns-then-is_worn-clause-stores
+returns-then-is_worn-clause-stores g c = record {
+  any_moment = λ tells i now. inl (shows c.args.self.now tells c.requires.on i now);
+  time = search rules;
+  spent = search rules;
+  size = search rules;
+}
+
+pub invariant_of-self : goal.invariant_of-self
+invariant_of-self g c =
+    let k = c.args.self.now in
+    let x = c.args.row.now in
+    let cell = c.cell_of-cell.ensures in
+    let bytes = c.write_payload-payload.result in
+    let room = c.commit_room.new.room in
+    let done = subst (λ (j : ℕ). RoomCommits g.N.Nv j bytes k.room room k.nv c.commit_room.new.nv (Ok tt)) cell c.in-Ok.ensures in
+    record {
+      cells = done.puts.cells ∙ k.cells;
+      filled = filled_after k x bytes c.write_payload-payload.ensures.reads room c.put.new.rows c.put.ensures.rows done.puts;
+      follows = c.put.ensures.kept;
+      size = λ on. done.size ∙ k.size on;
+      runs = λ on. done.runs refl;
+    }
+
+pub returns-in-Ok-clause-answers : goal.returns-in-Ok-clause-answers
+returns-in-Ok-clause-answers g c =
+    let k = c.args.self.now in
+    let x = c.args.row.now in
+    let cell = c.cell_of-cell.ensures in
+    let bytes = c.write_payload-payload.result in
+    let room = c.commit_room.new.room in
+    let done = subst (λ (j : ℕ). RoomCommits g.N.Nv j bytes k.room room k.nv c.commit_room.new.nv (Ok tt)) cell c.in-Ok.ensures in
+    let fresh = sym c.if-is_worn.ensures in
+    record {
+      worn = (λ is. cc, λ full. cc);
+      not_failed = λ is. cc;
+      done = seen_after k x bytes c.write_payload-payload.ensures.reads room c.put.new.rows c.put.ensures.rows done.puts;
+    }
+
+pub returns-in-Ok-clause-stores : goal.returns-in-Ok-clause-stores
+returns-in-Ok-clause-stores g c =
+    let k = c.args.self.now in
+    let x = c.args.row.now in
+    let cell = c.cell_of-cell.ensures in
+    let bytes = c.write_payload-payload.result in
+    let room = c.commit_room.new.room in
+    let done = subst (λ (j : ℕ). RoomCommits g.N.Nv j bytes k.room room k.nv c.commit_room.new.nv (Ok tt)) cell c.in-Ok.ensures in
+    record {
+      any_moment = λ tells i now. between k x bytes c.write_payload-payload.ensures.reads i (done.any_moment tells (λ is. cc) i now);
+      time = done.time;
+      spent = search rules;
+      size = done.size;
+    }
+
+pub invariant_of-self-in-Err : goal.invariant_of-self-in-Err
+invariant_of-self-in-Err g c =
+    let k = c.args.self.now in
+    let x = c.args.row.now in
+    let bytes = c.write_payload-payload.result in
+    let room = c.commit_room.new.room in
+    let e = subst (λ (j : ℕ). RoomCommits g.N.Nv j bytes k.room room k.nv c.commit_room.new.nv (Err c.in-Err.fail)) c.cell_of-cell.ensures c.in-Err.ensures in
+    record {
+      cells = e.puts.cells ∙ k.cells;
+      filled = filled_still k x bytes room c.in-Err.fail e.puts;
+      follows = k.follows;
+      size = λ on. cc;
+      runs = λ on. cc;
+    }
+
+pub returns-in-Err-clause-stays : goal.returns-in-Err-clause-stays
+returns-in-Err-clause-stays g c =
+    let k = c.args.self.now in
+    let x = c.args.row.now in
+    let bytes = c.write_payload-payload.result in
+    let room = c.commit_room.new.room in
+    let e = subst (λ (j : ℕ). RoomCommits g.N.Nv j bytes k.room room k.nv c.commit_room.new.nv (Err c.in-Err.fail)) c.cell_of-cell.ensures c.in-Err.ensures in
+    seen_still k x bytes room c.in-Err.fail e.puts
+
+pub returns-in-Err-clause-answers : goal.returns-in-Err-clause-answers
+returns-in-Err-clause-answers g c =
+    let k = c.args.self.now in
+    let x = c.args.row.now in
+    let bytes = c.write_payload-payload.result in
+    let room = c.commit_room.new.room in
+    let e = subst (λ (j : ℕ). RoomCommits g.N.Nv j bytes k.room room k.nv c.commit_room.new.nv (Err c.in-Err.fail)) c.cell_of-cell.ensures c.in-Err.ensures in
+    let fresh = sym c.if-is_worn.ensures in
+    fails_fresh k x fresh c.in-Err.fail _ _ e.causes _
+
+pub returns-in-Err-clause-stores : goal.returns-in-Err-clause-stores
+returns-in-Err-clause-stores g c =
+    let k = c.args.self.now in
+    let x = c.args.row.now in
+    let bytes = c.write_payload-payload.result in
+    let room = c.commit_room.new.room in
+    let e = subst (λ (j : ℕ). RoomCommits g.N.Nv j bytes k.room room k.nv c.commit_room.new.nv (Err c.in-Err.fail)) c.cell_of-cell.ensures c.in-Err.ensures in
+    let fresh = sym c.if-is_worn.ensures in
+    record {
+      any_moment = λ tells i now. between k x bytes c.write_payload-payload.ensures.reads i (e.any_moment tells (not_found_worn k x fresh c.in-Err.fail _ _ e.causes) i now);
+      time = e.time;
+      spent = spent_failed _ _ (count_of (kept_in k.room (cell_of x))) c.in-Err.fail e.causes;
+      size = e.size;
+    }
+
+pub returns-in-Err-clause-leaves : goal.returns-in-Err-clause-leaves
+returns-in-Err-clause-leaves g c =
+    let k = c.args.self.now in
+    let x = c.args.row.now in
+    let bytes = c.write_payload-payload.result in
+    let room = c.commit_room.new.room in
+    let e = subst (λ (j : ℕ). RoomCommits g.N.Nv j bytes k.room room k.nv c.commit_room.new.nv (Err c.in-Err.fail)) c.cell_of-cell.ensures c.in-Err.ensures in
+    fails_off k x (sym c.if-is_worn.ensures) c.in-Err.fail _ _ e.causes
+
+pub returns-in-Err-clause-rests : goal.returns-in-Err-clause-rests
+returns-in-Err-clause-rests g c is =
+    let k = c.args.self.now in
+    let x = c.args.row.now in
+    let bytes = c.write_payload-payload.result in
+    let room = c.commit_room.new.room in
+    let e = subst (λ (j : ℕ). RoomCommits g.N.Nv j bytes k.room room k.nv c.commit_room.new.nv (Err c.in-Err.fail)) c.cell_of-cell.ensures c.in-Err.ensures in
+    absurd (not_found_worn k x (sym c.if-is_worn.ensures) c.in-Err.fail _ _ e.causes is)

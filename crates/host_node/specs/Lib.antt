@@ -1,0 +1,9 @@
+pub mod Payloads
+pub mod Cells
+pub mod Unique
+pub mod Sound
+pub mod Boots
+pub mod NodeView
+pub mod Knows
+pub mod NodeLaws
+pub mod HostView

@@ -1,0 +1,82 @@
+//! The calls of the host. Postage is in mills.
+//!
+//! A call that commits answers `Store` with `Failed`, before every refusal, exactly where an earlier call of this value
+//! answered Power or Fault; after every refusal it answers Power or Fault where its commit failed, and Worn where the cell
+//! of the job has 4,294,967,295 commits. A refusal and Worn leave the host and its storage as they were. The others never
+//! answer `Store`.
+ghost use Rattle.std.specs.Prelude.{◌≡◌};
+ghost use Rattle.node_acts.specs.Results.{answer_of};
+ghost use Rattle.host_jobs.specs.ActLaws.{IsPrice};
+ghost use Rattle.host_jobs.specs.Acts as act_of;
+
+use crate::host::Host;
+use bench_base::bytes::Note;
+use bench_base::numbers::DevNo;
+use bench_base::refusals::{Fail, HostFail, RateRefusal};
+use host_jobs::{HostAct, Ordered};
+use node_acts::Act;
+use nv_model::Nv;
+
+// What a call that commits nothing answers.
+fn answer<A: Copy>(act: HostAct<A>) -> Result<A, HostFail>
+    ensures { result ≡ answer_of act }
+{
+    match act {
+        Act::Refuse(refusal) => Err(Fail::Refused(refusal)),
+        Act::Tell(answer) => Ok(answer),
+        Act::Commits(_, _, answer) => Ok(answer),
+    }
+}
+
+impl<N: Nv> Host<N> {
+    ghost use Rattle.host_node.specs.HostView.{rows_of, Performs};
+
+    /// Orders a piece of the device in this class, for what `price` says: there are no rates, they refuse, or the postage,
+    /// which is 1 to 100,000 mills. See `host_jobs::order_act`.
+    pub fn order(
+        &mut self,
+        price: Option<Result<u32, RateRefusal>>,
+        device: DevNo,
+        piece: u32,
+        class: u16,
+    ) -> Result<Ordered, HostFail>
+        requires price { IsPrice price }
+        ensures { Performs (act_of.order_act device piece class price (rows_of self.old)) self.old self.new result }
+    {
+        let act = self.node.order_act(price, device, piece, class);
+        self.perform(act)
+    }
+
+    /// The message that asks the device of the job for its mark. `NoJob` where no cell holds the job; `State` where it is not
+    /// ordered.
+    pub fn debit_message(&self, job: u32) -> Result<Note, HostFail>
+        ensures { result ≡ answer_of (act_of.debit_message_act job (rows_of self.now)) }
+    {
+        answer(self.node.debit_message_act(job))
+    }
+
+    /// Takes a Release, with a mark of either version, and answers the job that holds it: see `host_jobs::take_act`.
+    pub fn take(&mut self, bytes: &[u8]) -> Result<u32, HostFail>
+        ensures { Performs (act_of.take_act bytes.now (rows_of self.old)) self.old self.new result }
+    {
+        let act = self.node.take_act(bytes);
+        self.perform(act)
+    }
+
+    /// Begins the print of the job, and answers the mark that is to be printed. `NoJob` where no cell holds the job;
+    /// `State` where it is not held.
+    pub fn begin_print(&mut self, job: u32) -> Result<[u8; 64], HostFail>
+        ensures { Performs (act_of.begin_print_act job (rows_of self.old)) self.old self.new result }
+    {
+        let act = self.node.begin_print_act(job);
+        self.perform(act)
+    }
+
+    /// Closes the job. `NoJob` where no cell holds it; `State` where it is closed.
+    pub fn close_job(&mut self, job: u32) -> Result<(), HostFail>
+        ensures { Performs (act_of.close_act job (rows_of self.old)) self.old self.new result }
+    {
+        let act = self.node.close_act(job);
+        self.perform(act)
+    }
+}

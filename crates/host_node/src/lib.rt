@@ -1,0 +1,17 @@
+//! The host on storage: each call that changes a job commits it before it answers.
+#![tactic(auto)]
+
+mod acts;
+mod boot;
+mod calls;
+mod host;
+mod kind;
+mod node;
+mod room;
+#[cfg(test)]
+mod tests;
+
+pub use host::Host;
+pub use host_jobs::Ordered;
+pub use node::HostNode;
+pub use room::HostRoom;
