@@ -1,5 +1,5 @@
 -- The acts of a device's calls: whose they are, what they change, and how they are told.
-use Rattle.std.proofs.Common.{◌≡◌, ℕ, ℤ, ◌==◌, ◌&&◌, ◌≤◌, List, [], ◌∷◌, Option, Some, None, Bool, true, false, Result, Ok, Err, if◌then◌else◌, refl, sym, subst, arith}
+use Rattle.std.proofs.Common.{◌≡◌, ℕ, ℤ, ◌==◌, ◌&&◌, ◌≤◌, List, [], ◌∷◌, Option, Some, None, Bool, true, false, Result, Ok, Err, if◌then◌else◌, refl, sym, subst, rules, arith}
 use Rattle.std.specs.List.{AllByRecursion}
 use Rattle.std.proofs.lemmas.Bool.{eqb-true}
 use Rattle.bench_base.specs.declared.words.Node.TheVariants.{Device}
@@ -58,8 +58,8 @@ debit_keeps : (ρ : Rules) (s : State) (c : DebitMsg) (today : ℤ) → Keeps c.
 debit_keeps ρ s c today = either (Keeps c.device) (c.device == s.device) (unless_again (repeated s.mark c.piece) c s.key (new_answer ρ s c today)) (Err (no.WrongDevice c.device))
     (λ same. subst (λ (k : ℕ). Keeps k (unless_again (repeated s.mark c.piece) c s.key (new_answer ρ s c today))) (sym (eqb-true c.device s.device same))
     (again_keeps s.device (repeated s.mark c.piece) c s.key (new_answer ρ s c today)
-    (holding (Keeps s.device) (piece_rows s c) _ (tt, (tt, tt))
-    (unless_keeps s.device (frozen_kind s.pending) _ (holding (Keeps s.device) (debit_rows ρ s c today) _ (tt, (tt, (tt, (tt, tt)))) refl)))))
+    (holding (Keeps s.device) (piece_rows s c) _ (search rules)
+    (unless_keeps s.device (frozen_kind s.pending) _ (holding (Keeps s.device) (debit_rows ρ s c today) _ (search rules) refl)))))
     tt
 
 module _ {K S R : Type 0} (n : Ghosts K S ℕ State R) (from : (d : ℕ) (s : n.Seen) (x : State) → x.device ≡ d → n.IsFrom d s x) where

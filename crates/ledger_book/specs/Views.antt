@@ -11,22 +11,35 @@ use Rattle.ledger_terms.specs.Sums.{adds, takes, loaded, refunded, ascending, pi
 use Rattle.ledger_terms.specs.Devices.{key_of, asked, number, pending, unless_applied, applied_kind, deadline, last_day, customer}
 use Rattle.ledger_terms.specs.Centres.{registered, enrolled, withdrawn, ruled, done, stored_request, opened, suspended, deposits, receipt}
 
+-- what was loaded, given back and spent, in mills, and how many pieces were marked
+pub record DeviceSums : Type 0 where
+  pub loaded : ℕ
+  pub refunded : ℕ
+  pub ascending : ℕ
+  pub pieces : ℕ
+
+-- whether an enrolment, an audit, a withdrawal was granted and applied
+pub record AppliedKinds : Type 0 where
+  pub enrolled : Bool
+  pub inspected : Bool
+  pub withdrawn : Bool
+
 pub record OfDevice : Type 0 where
   pub key : Option (List ℕ)
   pub asked : ℕ
   pub number : ℕ
   pub pending : Option (ℕ × List ℕ)
-  pub loaded : ℕ
-  pub refunded : ℕ
-  pub ascending : ℕ
-  pub pieces : ℕ
-  -- whether an enrolment, an audit, a withdrawal was granted and applied
-  pub enrolled : Bool
-  pub inspected : Bool
-  pub withdrawn : Bool
+  pub sums : DeviceSums
+  pub kinds : AppliedKinds
   pub deadline : ℤ
   pub last_day : ℤ
   pub customer : ℕ
+
+abbrev pub sums_of : ℕ → List Commit → DeviceSums
+sums_of d C = record { loaded = loaded d C; refunded = refunded d C; ascending = ascending d C; pieces = pieces d C }
+
+abbrev pub kinds_of : ℕ → List Commit → AppliedKinds
+kinds_of d C = record { enrolled = applied_kind Enrol d C; inspected = applied_kind Audit d C; withdrawn = applied_kind Withdraw d C }
 
 -- all that a device's commits tell of it, but for the marks
 abbrev pub of_device : ℕ → List Commit → OfDevice
@@ -35,13 +48,8 @@ of_device d C = record {
   asked = asked d C;
   number = number d C;
   pending = pending d C;
-  loaded = loaded d C;
-  refunded = refunded d C;
-  ascending = ascending d C;
-  pieces = pieces d C;
-  enrolled = applied_kind Enrol d C;
-  inspected = applied_kind Audit d C;
-  withdrawn = applied_kind Withdraw d C;
+  sums = sums_of d C;
+  kinds = kinds_of d C;
   deadline = deadline d C;
   last_day = last_day d C;
   customer = customer d C;
@@ -54,21 +62,31 @@ device_made key s = record s { key = Some key }
 abbrev pub device_asked : ℕ → List ℕ → OfDevice → OfDevice
 device_asked n note s = record s { asked = n; pending = Some (n, note); last_day = (request_in note).day }
 
+abbrev pub sums_applied : Verdict → Request → DeviceSums → DeviceSums
+sums_applied v q m = record m { loaded = m.loaded + adds v q; refunded = m.refunded + takes v q }
+
+abbrev pub kinds_applied : Verdict → Request → AppliedKinds → AppliedKinds
+kinds_applied v q k = record {
+  enrolled = (is_granted v && same_kind q.kind Enrol) || k.enrolled;
+  inspected = (is_granted v && same_kind q.kind Audit) || k.inspected;
+  withdrawn = (is_granted v && same_kind q.kind Withdraw) || k.withdrawn;
+}
+
 abbrev pub device_applied : ℕ → Verdict → Request → OfDevice → OfDevice
 device_applied n v q s = record s {
   number = n;
   pending = unless_applied n s.pending;
-  loaded = s.loaded + adds v q;
-  refunded = s.refunded + takes v q;
-  enrolled = (is_granted v && same_kind q.kind Enrol) || s.enrolled;
-  inspected = (is_granted v && same_kind q.kind Audit) || s.inspected;
-  withdrawn = (is_granted v && same_kind q.kind Withdraw) || s.withdrawn;
+  sums = sums_applied v q s.sums;
+  kinds = kinds_applied v q s.kinds;
   deadline = if is_dated v q.kind then q.day +ℤ pos 92 else s.deadline;
   customer = if is_granted v && same_kind q.kind Enrol then q.customer else s.customer;
 }
 
+abbrev pub sums_debited : ℕ → DeviceSums → DeviceSums
+sums_debited postage m = record m { ascending = m.ascending + postage; pieces = m.pieces + 1 }
+
 abbrev pub device_debited : ℕ → ℤ → OfDevice → OfDevice
-device_debited postage day s = record s { ascending = s.ascending + postage; pieces = s.pieces + 1; last_day = day }
+device_debited postage day s = record s { sums = sums_debited postage s.sums; last_day = day }
 
 pub record OfCentre : Type 0 where
   pub registered : Option (ℕ × List ℕ)

@@ -1,5 +1,5 @@
 -- For every list of commits whose record it is: the record afterwards is that of the list and the commit.
-use Rattle.std.proofs.Common.{◌≡◌, ℕ, pos, ◌+◌, ◌≤◌, ◌+ℤ◌, refl, arith, Option, Some, None, IsErr, Result, Ok, Err, Bool, true, false, cond, List, [], ◌∷◌, ap, sym, ◌∙◌, subst, eq-eqb, ◌==◌, if◌then◌else◌, ◌&&◌, true≢false, ltb-false, inl, inr}
+use Rattle.std.proofs.Common.{◌≡◌, ℕ, pos, ◌+◌, ◌≤◌, ◌+ℤ◌, refl, rules, arith, Option, Some, None, IsErr, Result, Ok, Err, Bool, true, false, cond, List, [], ◌∷◌, ap, sym, ◌∙◌, subst, eq-eqb, ◌==◌, if◌then◌else◌, ◌&&◌, true≢false, ltb-false, inl, inr}
 use Rattle.std.proofs.lemmas.Int.{ints}
 use Rattle.bench_base.specs.declared.words.Kind.{Kind}
 use Rattle.bench_base.specs.declared.words.Kind.TheVariants.{Enrol, Reset, Audit, Refund, Withdraw}
@@ -111,7 +111,7 @@ pub asking-keeps : AskingKeeps
 asking-keeps ρ d C s after kind who amount today note order of e holds =
     let q : Request = request_made ρ s kind who amount today in
     let idle = unless-passes (waiting_kind s.pending) no.Busy _ (after, note) e in
-    let through = passes (ask_rows ρ s kind amount today) _ (after, note) (refl, (refl, (refl, (refl, (refl, (refl, tt)))))) idle.1 in
+    let through = passes (ask_rows ρ s kind amount today) _ (after, note) (search rules) idle.1 in
     let same : (after_ask s q, note_for s q) ≡ (after, note) = ok_same through.1 in
     let is : after_ask s q ≡ after = pair_first same in
     let text : note_for s q ≡ note = pair_second same in
@@ -156,9 +156,9 @@ let_through false r e y h = absurd (err_ok h)
 pub debiting-keeps : DebitingKeeps
 debiting-keeps ρ d C s after c today mark order of e =
     let new = is_new (repeated s.mark c.piece) c s.key _ after mark (let_through (c.device == s.device) _ _ _ e) in
-    let piece = passes (piece_rows s c) _ (New after mark) (refl, (refl, tt)) new in
+    let piece = passes (piece_rows s c) _ (New after mark) (search rules) new in
     let free = unless-passes (frozen_kind s.pending) no.Frozen _ (New after mark) piece.1 in
-    let through = passes (debit_rows ρ s c today) _ (New after mark) (refl, (refl, (refl, (refl, tt)))) free.1 in
+    let through = passes (debit_rows ρ s c today) _ (New after mark) (search rules) free.1 in
     let is : after_debit ρ s c today ≡ after = new_same (ok_same through.1) in
     let within : c.postage ≤ s.registers.descending = ltb-false s.registers.descending c.postage through.0.1.1.1.0 in
     let left : s.registers.descending ≡ descending d C = ap (λ (x : State). x.registers.descending) of.state in
@@ -206,7 +206,7 @@ applying-keeps d C s after q r order of holds pends ruling reply e =
     let amount : IsAmount q.kind q.version q.amount (state_of d s.key C).registers = subst (λ (x : State). IsAmount q.kind q.version q.amount x.registers) of.state held.amount in
     let next : List Commit = Applied d n r.verdict ∷ C in
     let answer : apply_answer s (Some q) r ≡ Ok after = ap (λ o. apply_answer s o r) (sym pends) ∙ e in
-    let through = passes (apply_rows r q) _ after (refl, (refl, tt)) answer in
+    let through = passes (apply_rows r q) _ after (search rules) answer in
     let step : state_of d s.key next ≡ after_apply (state_of d s.key C) q r =
     applied-state d n s.key r.verdict q r C (record {
       number = refl;

@@ -17,8 +17,8 @@ use Rattle.bench_base.specs.declared.refusals.ScanRefusal.{ScanRefusal}
 use Rattle.bench_base.specs.declared.refusals.ScanRefusal.TheVariants as scan
 use Rattle.bench_base.specs.declared.refusals.MarkFault.{MarkFault}
 use Rattle.bench_base.specs.declared.refusals.MarkFault.TheVariants as fault
-use Rattle.script_text.specs.Refusals.{phase_word, state_word, unread_word, fault_word, dev_words, centre_words, host_words, scan_words}
-use Rattle.script_text.specs.Told.{IsDevWhole, IsCentreWhole, IsHostWhole, IsScanWhole, told_fault, told_refusal}
+use Rattle.script_text.specs.Refusals.{phase_word, state_word, unread_word, fault_word, dev_parts, centre_parts, host_parts, scan_parts, dev_words, centre_words, host_words, scan_words}
+use Rattle.script_text.specs.Told.{AreWhole, told_fault, told_refusal}
 use Rattle.script_text.proofs.ReadBack.{same, at, number_in, kind_in, signed_in, number_again, word_again, class_again, small_again, kind_again, signed_again}
 use Rattle.script_text.proofs.ReplyWords.{word_small}
 
@@ -84,24 +84,24 @@ dev_in ws =
     (cond (same (at ws 0) (codes "stray")) (dev.Stray (kind_in (at ws 1)))
     (dev.Unread (unread_in (at ws 1))))))))))))))))))
 
-pub dev_again : (r : DevRefusal) → IsDevWhole r → dev_in (dev_words r) ≡ r
+pub dev_again : (r : DevRefusal) → AreWhole (dev_parts r) → dev_in (dev_words r) ≡ r
 unfolding dev_words
 dev_again dev.Blank h = refl
 dev_again dev.Made h = refl
-dev_again (dev.WrongDevice d) h = let e0 = word_again d h in cc
-dev_again (dev.Conflict postage class) h = let e0 = word_again postage h.0 in let e1 = class_again class h.1 in cc
-dev_again (dev.WrongPiece pieces) h = let e0 = word_again pieces h in cc
+dev_again (dev.WrongDevice d) h = let e0 = word_again d h.0 in cc
+dev_again (dev.Conflict postage class) h = let e0 = word_again postage h.0 in let e1 = class_again class h.1.0 in cc
+dev_again (dev.WrongPiece pieces) h = let e0 = word_again pieces h.0 in cc
 dev_again (dev.Phase p) h = let e0 = phase_again p in cc
 dev_again (dev.Frozen k) h = let e0 = kind_again k in cc
-dev_again (dev.ClockBack t) h = let e0 = signed_again t (word_small t h) in cc
-dev_again (dev.Due t) h = let e0 = signed_again t (word_small t h) in cc
-dev_again (dev.BadAmount amount) h = let e0 = word_again amount h in cc
-dev_again (dev.NoFunds descending) h = let e0 = number_again descending h in cc
+dev_again (dev.ClockBack t) h = let e0 = signed_again t (word_small t h.0) in cc
+dev_again (dev.Due t) h = let e0 = signed_again t (word_small t h.0) in cc
+dev_again (dev.BadAmount amount) h = let e0 = word_again amount h.0 in cc
+dev_again (dev.NoFunds descending) h = let e0 = number_again descending h.0 in cc
 dev_again (dev.Busy k) h = let e0 = kind_again k in cc
-dev_again (dev.TotalFull total) h = let e0 = number_again total h in cc
+dev_again (dev.TotalFull total) h = let e0 = number_again total h.0 in cc
 dev_again dev.NumberFull h = refl
 dev_again dev.NothingPending h = refl
-dev_again (dev.Stale number) h = let e0 = word_again number h in cc
+dev_again (dev.Stale number) h = let e0 = word_again number h.0 in cc
 dev_again (dev.Stray k) h = let e0 = kind_again k in cc
 dev_again dev.NothingDone h = refl
 dev_again dev.BadCode h = refl
@@ -120,20 +120,20 @@ centre_in ws =
     (cond (same (at ws 0) (codes "conflict")) (centre.Conflict (number_in (at ws 1)))
     (centre.DepositsFull (number_in (at ws 2)))))))))))
 
-pub centre_again : (r : CentreRefusal) → IsCentreWhole r → centre_in (centre_words r) ≡ r
+pub centre_again : (r : CentreRefusal) → AreWhole (centre_parts r) → centre_in (centre_words r) ≡ r
 unfolding centre_words
 centre_again (centre.Unread cause) h = let e0 = unread_again cause in cc
-centre_again (centre.UnknownDevice d) h = let e0 = word_again d h in cc
-centre_again (centre.UnknownCustomer c) h = let e0 = small_again c 64 (omega arith) h in cc
+centre_again (centre.UnknownDevice d) h = let e0 = word_again d h.0 in cc
+centre_again (centre.UnknownCustomer c) h = let e0 = small_again c 64 (omega arith) h.0 in cc
 centre_again centre.BadCode h = refl
-centre_again (centre.Old number) h = let e0 = word_again number h in cc
-centre_again (centre.Ahead number) h = let e0 = word_again number h in cc
-centre_again (centre.Changed number) h = let e0 = word_again number h in cc
+centre_again (centre.Old number) h = let e0 = word_again number h.0 in cc
+centre_again (centre.Ahead number) h = let e0 = word_again number h.0 in cc
+centre_again (centre.Changed number) h = let e0 = word_again number h.0 in cc
 centre_again centre.Known h = refl
-centre_again (centre.WrongReceipt receipt) h = let e0 = word_again receipt h in cc
-centre_again (centre.Conflict amount) h = let e0 = word_again amount h in cc
-centre_again (centre.BadAmount amount) h = let e0 = word_again amount h in cc
-centre_again (centre.DepositsFull total) h = let e0 = number_again total h in cc
+centre_again (centre.WrongReceipt receipt) h = let e0 = word_again receipt h.0 in cc
+centre_again (centre.Conflict amount) h = let e0 = word_again amount h.0 in cc
+centre_again (centre.BadAmount amount) h = let e0 = word_again amount h.0 in cc
+centre_again (centre.DepositsFull total) h = let e0 = number_again total h.0 in cc
 
 abbrev pub host_in : List (List ℕ) → HostRefusal
 host_in ws =
@@ -147,22 +147,22 @@ host_in ws =
     (cond (same (at ws 0) (codes "other")) (cond (same (at ws 1) (codes "piece")) (host.OtherPiece (number_in (at ws 2))) (cond (same (at ws 1) (codes "postage")) (host.OtherPostage (number_in (at ws 2))) (host.OtherClass (number_in (at ws 2)))))
     (host.Rate (rate.TooHeavy (number_in (at ws 2)))))))))))
 
-pub host_again : (r : HostRefusal) → IsHostWhole r → host_in (host_words r) ≡ r
+pub host_again : (r : HostRefusal) → AreWhole (host_parts r) → host_in (host_words r) ≡ r
 unfolding host_words
 host_again host.NoRates h = refl
-host_again (host.OpenJob j) h = let e0 = word_again j h in cc
-host_again (host.Used piece) h = let e0 = word_again piece h in cc
-host_again (host.JobsFull j) h = let e0 = word_again j h in cc
+host_again (host.OpenJob j) h = let e0 = word_again j h.0 in cc
+host_again (host.Used piece) h = let e0 = word_again piece h.0 in cc
+host_again (host.JobsFull j) h = let e0 = word_again j h.0 in cc
 host_again host.NumberFull h = refl
 host_again host.NoJob h = refl
 host_again (host.State s) h = let e0 = state_again s in cc
 host_again (host.Unread cause) h = let e0 = unread_again cause in cc
-host_again (host.OtherPiece piece) h = let e0 = word_again piece h in cc
-host_again (host.OtherPostage postage) h = let e0 = word_again postage h in cc
-host_again (host.OtherClass class) h = let e0 = class_again class h in cc
+host_again (host.OtherPiece piece) h = let e0 = word_again piece h.0 in cc
+host_again (host.OtherPostage postage) h = let e0 = word_again postage h.0 in cc
+host_again (host.OtherClass class) h = let e0 = class_again class h.0 in cc
 host_again (host.Rate rate.NoClass) h = refl
-host_again (host.Rate (rate.NoZone zones)) h = ap (λ (n : ℕ). host.Rate (rate.NoZone n)) (word_again zones h)
-host_again (host.Rate (rate.TooHeavy grams)) h = ap (λ (n : ℕ). host.Rate (rate.TooHeavy n)) (word_again grams h)
+host_again (host.Rate (rate.NoZone zones)) h = ap (λ (n : ℕ). host.Rate (rate.NoZone n)) (word_again zones h.0)
+host_again (host.Rate (rate.TooHeavy grams)) h = ap (λ (n : ℕ). host.Rate (rate.TooHeavy n)) (word_again grams h.0)
 
 abbrev pub scan_in : List (List ℕ) → ScanRefusal
 scan_in ws =
@@ -175,13 +175,13 @@ scan_in ws =
     (cond (same (at ws 0) (codes "blocks")) scan.BlocksFull
     scan.Known))))))
 
-pub scan_again : (r : ScanRefusal) → IsScanWhole r → scan_in (scan_words r) ≡ told_refusal r
+pub scan_again : (r : ScanRefusal) → AreWhole (scan_parts r) → scan_in (scan_words r) ≡ told_refusal r
 unfolding scan_words
 scan_again (scan.Unread fault) h = let e0 = fault_again fault in cc
-scan_again (scan.Unknown d) h = let e0 = word_again d h in cc
+scan_again (scan.Unknown d) h = let e0 = word_again d h.0 in cc
 scan_again scan.BadCode h = refl
-scan_again (scan.Duplicate scan) h = let e0 = word_again scan h in cc
-scan_again (scan.Future t) h = let e0 = signed_again t (word_small t h) in cc
-scan_again (scan.TooOld t) h = let e0 = signed_again t (word_small t h) in cc
+scan_again (scan.Duplicate scan) h = let e0 = word_again scan h.0 in cc
+scan_again (scan.Future t) h = let e0 = signed_again t (word_small t h.0) in cc
+scan_again (scan.TooOld t) h = let e0 = signed_again t (word_small t h.0) in cc
 scan_again scan.BlocksFull h = refl
 scan_again scan.Known h = refl

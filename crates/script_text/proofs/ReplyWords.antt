@@ -1,5 +1,6 @@
 -- The words of a reply have no spaces.
-use Rattle.std.proofs.Common.{◌≡◌, ◌≢◌, ℕ, suc, ℤ, pos, negsuc, List, [], ◌∷◌, Bool, true, false, Option, Some, None, refl, arith, codes}
+use Rattle.std.proofs.Common.{◌≡◌, ◌≢◌, ℕ, suc, ℤ, pos, negsuc, List, [], ◌∷◌, Bool, true, false, Option, Some, None, map, ◌&&◌, refl, arith, codes}
+use Rattle.std.proofs.lemmas.Bool.{and_parts}
 use Rattle.std.specs.Fmt.{signed_decimal}
 use Rattle.std.specs.Prelude.{FitsSigned}
 use Rattle.std.specs.Int.{w32}
@@ -28,11 +29,11 @@ use Rattle.bench_base.specs.declared.refusals.MarkFault.TheVariants as fault
 use Rattle.bench_base.specs.declared.events.Reply.{Reply}
 use Rattle.bench_base.specs.declared.events.Reply.TheVariants as reply
 use Rattle.bench_base.specs.Ranges.{IsDay}
-use Rattle.script_text.specs.Refusals.{phase_word, state_word, unread_word, fault_word, dev_words, centre_words, rate_words, host_words, scan_words}
+use Rattle.script_text.specs.Refusals.{Part, said, of_number, of_short, of_sum, of_customer, of_day, of_kind, of_phase, of_state, of_cause, of_fault, part_word, phase_word, state_word, unread_word, fault_word, dev_parts, centre_parts, rate_parts, host_parts, scan_parts, dev_words, centre_words, host_words, scan_words}
 use Rattle.script_text.specs.Texts.{verdict_word, flagged_word, pending_word, flight_words, reply_words, text_of}
-use Rattle.script_text.specs.Told.{IsDevWhole, IsCentreWhole, IsRateWhole, IsHostWhole, IsScanWhole, IsFlight, IsWholeReply}
+use Rattle.script_text.specs.Told.{AreWhole, IsFlight, IsWholeReply}
 use Rattle.script_text.specs.Words.{words_in, joined, new_word}
-use Rattle.script_text.proofs.EventWords.{literal, number, word, class_word, customer, device, node, digits, kind}
+use Rattle.script_text.proofs.EventWords.{literal, is_solid, number, word, class_word, customer, device, node, digits, kind}
 use Rattle.script_text.proofs.Numbers.{Solid-decimal}
 use Rattle.script_text.proofs.ReadBack.{IsSmall}
 use Rattle.script_text.proofs.Splits.{Solid, AreSolid, words_in-joined}
@@ -105,74 +106,66 @@ flight_solid : (f : Option (Kind × ℕ)) → IsFlight f → AreSolid (flight_wo
 flight_solid None h = (literal (codes "none") refl, tt)
 flight_solid (Some flight) h = (kind flight.0, (number flight.1 h, tt))
 
-dev_solid : (r : DevRefusal) → IsDevWhole r → AreSolid (dev_words r)
+-- == refusals ==
+
+-- the words that stand in each text have no spaces
+abbrev are_plain : List Part → Bool
+are_plain [] = true
+are_plain (said w ∷ parts) = is_solid w && are_plain parts
+are_plain (p ∷ parts) = are_plain parts
+
+parts_solid : (parts : List Part) → are_plain parts ≡ true → AreWhole parts → AreSolid (map part_word parts)
+parts_solid [] plain h = tt
+parts_solid (said w ∷ parts) plain h =
+    let (first, rest) = and_parts (is_solid w) (are_plain parts) plain in
+    (literal w first, parts_solid parts rest h)
+parts_solid (of_number n ∷ parts) plain h = (word n h.0, parts_solid parts plain h.1)
+parts_solid (of_short n ∷ parts) plain h = (class_word n h.0, parts_solid parts plain h.1)
+parts_solid (of_sum n ∷ parts) plain h = (number n h.0, parts_solid parts plain h.1)
+parts_solid (of_customer c ∷ parts) plain h = (customer c h.0, parts_solid parts plain h.1)
+parts_solid (of_day t ∷ parts) plain h = (signed t (word_small t h.0), parts_solid parts plain h.1)
+parts_solid (of_kind k ∷ parts) plain h = (kind k, parts_solid parts plain h)
+parts_solid (of_phase p ∷ parts) plain h = (phase_solid p, parts_solid parts plain h)
+parts_solid (of_state s ∷ parts) plain h = (state_solid s, parts_solid parts plain h)
+parts_solid (of_cause cause ∷ parts) plain h = (unread_solid cause, parts_solid parts plain h)
+parts_solid (of_fault fault ∷ parts) plain h = (fault_solid fault, parts_solid parts plain h)
+
+-- the last line of each of these stands for all variants that no line above it names
+dev_plain : (r : DevRefusal) → are_plain (dev_parts r) ≡ true
+dev_plain dev.Blank = refl
+dev_plain r = refl
+
+centre_plain : (r : CentreRefusal) → are_plain (centre_parts r) ≡ true
+centre_plain centre.BadCode = refl
+centre_plain r = refl
+
+rate_plain : (r : RateRefusal) → are_plain (rate_parts r) ≡ true
+rate_plain rate.NoClass = refl
+rate_plain r = refl
+
+host_plain : (r : HostRefusal) → are_plain (host_parts r) ≡ true
+host_plain (host.Rate r) = rate_plain r
+host_plain r = refl
+
+scan_plain : (r : ScanRefusal) → are_plain (scan_parts r) ≡ true
+scan_plain scan.BadCode = refl
+scan_plain r = refl
+
+dev_solid : (r : DevRefusal) → AreWhole (dev_parts r) → AreSolid (dev_words r)
 unfolding dev_words
-dev_solid dev.Blank h = (literal (codes "blank") refl, tt)
-dev_solid dev.Made h = (literal (codes "made") refl, tt)
-dev_solid (dev.WrongDevice d) h = (literal (codes "wrong") refl, (literal (codes "device") refl, (word d h, tt)))
-dev_solid (dev.Conflict postage class) h = (literal (codes "conflict") refl, (word postage h.0, (class_word class h.1, tt)))
-dev_solid (dev.WrongPiece pieces) h = (literal (codes "wrong") refl, (literal (codes "piece") refl, (word pieces h, tt)))
-dev_solid (dev.Phase p) h = (literal (codes "phase") refl, (phase_solid p, tt))
-dev_solid (dev.Frozen k) h = (literal (codes "frozen") refl, (kind k, tt))
-dev_solid (dev.ClockBack t) h = (literal (codes "clock") refl, (literal (codes "back") refl, (signed t (word_small t h), tt)))
-dev_solid (dev.Due t) h = (literal (codes "due") refl, (signed t (word_small t h), tt))
-dev_solid (dev.BadAmount amount) h = (literal (codes "bad") refl, (literal (codes "amount") refl, (word amount h, tt)))
-dev_solid (dev.NoFunds descending) h = (literal (codes "no") refl, (literal (codes "funds") refl, (number descending h, tt)))
-dev_solid (dev.Busy k) h = (literal (codes "busy") refl, (kind k, tt))
-dev_solid (dev.TotalFull total) h = (literal (codes "total") refl, (literal (codes "full") refl, (number total h, tt)))
-dev_solid dev.NumberFull h = (literal (codes "number") refl, (literal (codes "full") refl, tt))
-dev_solid dev.NothingPending h = (literal (codes "nothing") refl, (literal (codes "pending") refl, tt))
-dev_solid (dev.Stale number) h = (literal (codes "stale") refl, (word number h, tt))
-dev_solid (dev.Stray k) h = (literal (codes "stray") refl, (kind k, tt))
-dev_solid dev.NothingDone h = (literal (codes "nothing") refl, (literal (codes "done") refl, tt))
-dev_solid dev.BadCode h = (literal (codes "bad") refl, (literal (codes "code") refl, tt))
-dev_solid (dev.Unread cause) h = (literal (codes "unread") refl, (unread_solid cause, tt))
+dev_solid r h = parts_solid (dev_parts r) (dev_plain r) h
 
-centre_solid : (r : CentreRefusal) → IsCentreWhole r → AreSolid (centre_words r)
+centre_solid : (r : CentreRefusal) → AreWhole (centre_parts r) → AreSolid (centre_words r)
 unfolding centre_words
-centre_solid (centre.Unread cause) h = (literal (codes "unread") refl, (unread_solid cause, tt))
-centre_solid (centre.UnknownDevice d) h = (literal (codes "unknown") refl, (literal (codes "device") refl, (word d h, tt)))
-centre_solid (centre.UnknownCustomer c) h = (literal (codes "unknown") refl, (literal (codes "customer") refl, (customer c h, tt)))
-centre_solid centre.BadCode h = (literal (codes "bad") refl, (literal (codes "code") refl, tt))
-centre_solid (centre.Old number) h = (literal (codes "old") refl, (word number h, tt))
-centre_solid (centre.Ahead number) h = (literal (codes "ahead") refl, (word number h, tt))
-centre_solid (centre.Changed number) h = (literal (codes "changed") refl, (word number h, tt))
-centre_solid centre.Known h = (literal (codes "known") refl, tt)
-centre_solid (centre.WrongReceipt receipt) h = (literal (codes "wrong") refl, (literal (codes "receipt") refl, (word receipt h, tt)))
-centre_solid (centre.Conflict amount) h = (literal (codes "conflict") refl, (word amount h, tt))
-centre_solid (centre.BadAmount amount) h = (literal (codes "bad") refl, (literal (codes "amount") refl, (word amount h, tt)))
-centre_solid (centre.DepositsFull total) h = (literal (codes "deposits") refl, (literal (codes "full") refl, (number total h, tt)))
+centre_solid r h = parts_solid (centre_parts r) (centre_plain r) h
 
-rate_solid : (r : RateRefusal) → IsRateWhole r → AreSolid (rate_words r)
-rate_solid rate.NoClass h = (literal (codes "no") refl, (literal (codes "class") refl, tt))
-rate_solid (rate.NoZone zones) h = (literal (codes "no") refl, (literal (codes "zone") refl, (word zones h, tt)))
-rate_solid (rate.TooHeavy grams) h = (literal (codes "too") refl, (literal (codes "heavy") refl, (word grams h, tt)))
-
-host_solid : (r : HostRefusal) → IsHostWhole r → AreSolid (host_words r)
+host_solid : (r : HostRefusal) → AreWhole (host_parts r) → AreSolid (host_words r)
 unfolding host_words
-host_solid host.NoRates h = (literal (codes "no") refl, (literal (codes "rates") refl, tt))
-host_solid (host.Rate r) h = rate_solid r h
-host_solid (host.OpenJob j) h = (literal (codes "open") refl, (literal (codes "job") refl, (word j h, tt)))
-host_solid (host.Used piece) h = (literal (codes "piece") refl, (literal (codes "used") refl, (word piece h, tt)))
-host_solid (host.JobsFull j) h = (literal (codes "jobs") refl, (literal (codes "full") refl, (word j h, tt)))
-host_solid host.NumberFull h = (literal (codes "number") refl, (literal (codes "full") refl, tt))
-host_solid host.NoJob h = (literal (codes "no") refl, (literal (codes "job") refl, tt))
-host_solid (host.State s) h = (literal (codes "state") refl, (state_solid s, tt))
-host_solid (host.Unread cause) h = (literal (codes "unread") refl, (unread_solid cause, tt))
-host_solid (host.OtherPiece piece) h = (literal (codes "other") refl, (literal (codes "piece") refl, (word piece h, tt)))
-host_solid (host.OtherPostage postage) h = (literal (codes "other") refl, (literal (codes "postage") refl, (word postage h, tt)))
-host_solid (host.OtherClass class) h = (literal (codes "other") refl, (literal (codes "class") refl, (class_word class h, tt)))
+host_solid r h = parts_solid (host_parts r) (host_plain r) h
 
-scan_solid : (r : ScanRefusal) → IsScanWhole r → AreSolid (scan_words r)
+scan_solid : (r : ScanRefusal) → AreWhole (scan_parts r) → AreSolid (scan_words r)
 unfolding scan_words
-scan_solid (scan.Unread fault) h = (literal (codes "unread") refl, (fault_solid fault, tt))
-scan_solid (scan.Unknown d) h = (literal (codes "unknown") refl, (literal (codes "device") refl, (word d h, tt)))
-scan_solid scan.BadCode h = (literal (codes "bad") refl, (literal (codes "code") refl, tt))
-scan_solid (scan.Duplicate scan) h = (literal (codes "duplicate") refl, (word scan h, tt))
-scan_solid (scan.Future t) h = (literal (codes "future") refl, (signed t (word_small t h), tt))
-scan_solid (scan.TooOld t) h = (literal (codes "too") refl, (literal (codes "old") refl, (signed t (word_small t h), tt)))
-scan_solid scan.BlocksFull h = (literal (codes "blocks") refl, (literal (codes "full") refl, tt))
-scan_solid scan.Known h = (literal (codes "known") refl, tt)
+scan_solid r h = parts_solid (scan_parts r) (scan_plain r) h
 
 -- there is a first word, and no word has a space
 abbrev AreWords : List (List ℕ) → Type 0

@@ -1,6 +1,7 @@
 -- The words of refusals.
-use Rattle.std.specs.Prelude.{ℕ, List, ◌∷◌, [], codes, decimal}
+use Rattle.std.specs.Prelude.{ℕ, ℤ, List, ◌∷◌, [], map, codes, decimal}
 use Rattle.std.specs.Fmt.{signed_decimal}
+use Rattle.bench_base.specs.declared.words.Kind.{Kind}
 use Rattle.bench_base.specs.declared.words.Phase.{Phase}
 use Rattle.bench_base.specs.declared.words.Phase.TheVariants as phase
 use Rattle.bench_base.specs.declared.words.JobState.{JobState}
@@ -50,67 +51,114 @@ fault_word (fault.Length n) = codes "length"
 fault_word (fault.Version n) = codes "version"
 fault_word (fault.Algorithm n) = codes "algorithm"
 
+-- a word of a refusal: one that stands in each text of it, or the word of what it carries
+pub data Part : Type 0 where
+  said : List ℕ → Part
+  -- a number of 32, of 16 and of 64 bits
+  of_number : ℕ → Part
+  of_short : ℕ → Part
+  of_sum : ℕ → Part
+  of_customer : ℕ → Part
+  of_day : ℤ → Part
+  of_kind : Kind → Part
+  of_phase : Phase → Part
+  of_state : JobState → Part
+  of_cause : Unread → Part
+  of_fault : MarkFault → Part
+
+abbrev pub part_word : Part → List ℕ
+part_word (said w) = w
+part_word (of_number n) = decimal n
+part_word (of_short n) = decimal n
+part_word (of_sum n) = decimal n
+part_word (of_customer c) = decimal c
+part_word (of_day t) = signed_decimal t
+part_word (of_kind k) = kind_word k
+part_word (of_phase p) = phase_word p
+part_word (of_state s) = state_word s
+part_word (of_cause cause) = unread_word cause
+part_word (of_fault fault) = fault_word fault
+
+-- == the refusals ==
+
+abbrev pub dev_parts : DevRefusal → List Part
+dev_parts dev.Blank = said (codes "blank") ∷ []
+dev_parts dev.Made = said (codes "made") ∷ []
+dev_parts (dev.WrongDevice d) = said (codes "wrong") ∷ said (codes "device") ∷ of_number d ∷ []
+dev_parts (dev.Conflict postage class) = said (codes "conflict") ∷ of_number postage ∷ of_short class ∷ []
+dev_parts (dev.WrongPiece pieces) = said (codes "wrong") ∷ said (codes "piece") ∷ of_number pieces ∷ []
+dev_parts (dev.Phase p) = said (codes "phase") ∷ of_phase p ∷ []
+dev_parts (dev.Frozen k) = said (codes "frozen") ∷ of_kind k ∷ []
+dev_parts (dev.ClockBack t) = said (codes "clock") ∷ said (codes "back") ∷ of_day t ∷ []
+dev_parts (dev.Due t) = said (codes "due") ∷ of_day t ∷ []
+dev_parts (dev.BadAmount amount) = said (codes "bad") ∷ said (codes "amount") ∷ of_number amount ∷ []
+dev_parts (dev.NoFunds descending) = said (codes "no") ∷ said (codes "funds") ∷ of_sum descending ∷ []
+dev_parts (dev.Busy k) = said (codes "busy") ∷ of_kind k ∷ []
+dev_parts (dev.TotalFull total) = said (codes "total") ∷ said (codes "full") ∷ of_sum total ∷ []
+dev_parts dev.NumberFull = said (codes "number") ∷ said (codes "full") ∷ []
+dev_parts dev.NothingPending = said (codes "nothing") ∷ said (codes "pending") ∷ []
+dev_parts (dev.Stale number) = said (codes "stale") ∷ of_number number ∷ []
+dev_parts (dev.Stray k) = said (codes "stray") ∷ of_kind k ∷ []
+dev_parts dev.NothingDone = said (codes "nothing") ∷ said (codes "done") ∷ []
+dev_parts dev.BadCode = said (codes "bad") ∷ said (codes "code") ∷ []
+dev_parts (dev.Unread cause) = said (codes "unread") ∷ of_cause cause ∷ []
+
+abbrev pub centre_parts : CentreRefusal → List Part
+centre_parts (centre.Unread cause) = said (codes "unread") ∷ of_cause cause ∷ []
+centre_parts (centre.UnknownDevice d) = said (codes "unknown") ∷ said (codes "device") ∷ of_number d ∷ []
+centre_parts (centre.UnknownCustomer c) = said (codes "unknown") ∷ said (codes "customer") ∷ of_customer c ∷ []
+centre_parts centre.BadCode = said (codes "bad") ∷ said (codes "code") ∷ []
+centre_parts (centre.Old number) = said (codes "old") ∷ of_number number ∷ []
+centre_parts (centre.Ahead number) = said (codes "ahead") ∷ of_number number ∷ []
+centre_parts (centre.Changed number) = said (codes "changed") ∷ of_number number ∷ []
+centre_parts centre.Known = said (codes "known") ∷ []
+centre_parts (centre.WrongReceipt receipt) = said (codes "wrong") ∷ said (codes "receipt") ∷ of_number receipt ∷ []
+centre_parts (centre.Conflict amount) = said (codes "conflict") ∷ of_number amount ∷ []
+centre_parts (centre.BadAmount amount) = said (codes "bad") ∷ said (codes "amount") ∷ of_number amount ∷ []
+centre_parts (centre.DepositsFull total) = said (codes "deposits") ∷ said (codes "full") ∷ of_sum total ∷ []
+
+abbrev pub rate_parts : RateRefusal → List Part
+rate_parts rate.NoClass = said (codes "no") ∷ said (codes "class") ∷ []
+rate_parts (rate.NoZone zones) = said (codes "no") ∷ said (codes "zone") ∷ of_number zones ∷ []
+rate_parts (rate.TooHeavy grams) = said (codes "too") ∷ said (codes "heavy") ∷ of_number grams ∷ []
+
+abbrev pub host_parts : HostRefusal → List Part
+host_parts host.NoRates = said (codes "no") ∷ said (codes "rates") ∷ []
+host_parts (host.Rate r) = rate_parts r
+host_parts (host.OpenJob j) = said (codes "open") ∷ said (codes "job") ∷ of_number j ∷ []
+host_parts (host.Used piece) = said (codes "piece") ∷ said (codes "used") ∷ of_number piece ∷ []
+host_parts (host.JobsFull j) = said (codes "jobs") ∷ said (codes "full") ∷ of_number j ∷ []
+host_parts host.NumberFull = said (codes "number") ∷ said (codes "full") ∷ []
+host_parts host.NoJob = said (codes "no") ∷ said (codes "job") ∷ []
+host_parts (host.State s) = said (codes "state") ∷ of_state s ∷ []
+host_parts (host.Unread cause) = said (codes "unread") ∷ of_cause cause ∷ []
+host_parts (host.OtherPiece piece) = said (codes "other") ∷ said (codes "piece") ∷ of_number piece ∷ []
+host_parts (host.OtherPostage postage) = said (codes "other") ∷ said (codes "postage") ∷ of_number postage ∷ []
+host_parts (host.OtherClass class) = said (codes "other") ∷ said (codes "class") ∷ of_short class ∷ []
+
+abbrev pub scan_parts : ScanRefusal → List Part
+scan_parts (scan.Unread fault) = said (codes "unread") ∷ of_fault fault ∷ []
+scan_parts (scan.Unknown d) = said (codes "unknown") ∷ said (codes "device") ∷ of_number d ∷ []
+scan_parts scan.BadCode = said (codes "bad") ∷ said (codes "code") ∷ []
+scan_parts (scan.Duplicate scan) = said (codes "duplicate") ∷ of_number scan ∷ []
+scan_parts (scan.Future t) = said (codes "future") ∷ of_day t ∷ []
+scan_parts (scan.TooOld t) = said (codes "too") ∷ said (codes "old") ∷ of_day t ∷ []
+scan_parts scan.BlocksFull = said (codes "blocks") ∷ said (codes "full") ∷ []
+scan_parts scan.Known = said (codes "known") ∷ []
+
+-- == their words ==
+
 unfoldable pub dev_words : DevRefusal → List (List ℕ)
-dev_words dev.Blank = codes "blank" ∷ []
-dev_words dev.Made = codes "made" ∷ []
-dev_words (dev.WrongDevice d) = codes "wrong" ∷ codes "device" ∷ decimal d ∷ []
-dev_words (dev.Conflict postage class) = codes "conflict" ∷ decimal postage ∷ decimal class ∷ []
-dev_words (dev.WrongPiece pieces) = codes "wrong" ∷ codes "piece" ∷ decimal pieces ∷ []
-dev_words (dev.Phase p) = codes "phase" ∷ phase_word p ∷ []
-dev_words (dev.Frozen k) = codes "frozen" ∷ kind_word k ∷ []
-dev_words (dev.ClockBack t) = codes "clock" ∷ codes "back" ∷ signed_decimal t ∷ []
-dev_words (dev.Due t) = codes "due" ∷ signed_decimal t ∷ []
-dev_words (dev.BadAmount amount) = codes "bad" ∷ codes "amount" ∷ decimal amount ∷ []
-dev_words (dev.NoFunds descending) = codes "no" ∷ codes "funds" ∷ decimal descending ∷ []
-dev_words (dev.Busy k) = codes "busy" ∷ kind_word k ∷ []
-dev_words (dev.TotalFull total) = codes "total" ∷ codes "full" ∷ decimal total ∷ []
-dev_words dev.NumberFull = codes "number" ∷ codes "full" ∷ []
-dev_words dev.NothingPending = codes "nothing" ∷ codes "pending" ∷ []
-dev_words (dev.Stale number) = codes "stale" ∷ decimal number ∷ []
-dev_words (dev.Stray k) = codes "stray" ∷ kind_word k ∷ []
-dev_words dev.NothingDone = codes "nothing" ∷ codes "done" ∷ []
-dev_words dev.BadCode = codes "bad" ∷ codes "code" ∷ []
-dev_words (dev.Unread cause) = codes "unread" ∷ unread_word cause ∷ []
+dev_words r = map part_word (dev_parts r)
 
 unfoldable pub centre_words : CentreRefusal → List (List ℕ)
-centre_words (centre.Unread cause) = codes "unread" ∷ unread_word cause ∷ []
-centre_words (centre.UnknownDevice d) = codes "unknown" ∷ codes "device" ∷ decimal d ∷ []
-centre_words (centre.UnknownCustomer c) = codes "unknown" ∷ codes "customer" ∷ decimal c ∷ []
-centre_words centre.BadCode = codes "bad" ∷ codes "code" ∷ []
-centre_words (centre.Old number) = codes "old" ∷ decimal number ∷ []
-centre_words (centre.Ahead number) = codes "ahead" ∷ decimal number ∷ []
-centre_words (centre.Changed number) = codes "changed" ∷ decimal number ∷ []
-centre_words centre.Known = codes "known" ∷ []
-centre_words (centre.WrongReceipt receipt) = codes "wrong" ∷ codes "receipt" ∷ decimal receipt ∷ []
-centre_words (centre.Conflict amount) = codes "conflict" ∷ decimal amount ∷ []
-centre_words (centre.BadAmount amount) = codes "bad" ∷ codes "amount" ∷ decimal amount ∷ []
-centre_words (centre.DepositsFull total) = codes "deposits" ∷ codes "full" ∷ decimal total ∷ []
+centre_words r = map part_word (centre_parts r)
 
 abbrev pub rate_words : RateRefusal → List (List ℕ)
-rate_words rate.NoClass = codes "no" ∷ codes "class" ∷ []
-rate_words (rate.NoZone zones) = codes "no" ∷ codes "zone" ∷ decimal zones ∷ []
-rate_words (rate.TooHeavy grams) = codes "too" ∷ codes "heavy" ∷ decimal grams ∷ []
+rate_words r = map part_word (rate_parts r)
 
 unfoldable pub host_words : HostRefusal → List (List ℕ)
-host_words host.NoRates = codes "no" ∷ codes "rates" ∷ []
-host_words (host.Rate r) = rate_words r
-host_words (host.OpenJob j) = codes "open" ∷ codes "job" ∷ decimal j ∷ []
-host_words (host.Used piece) = codes "piece" ∷ codes "used" ∷ decimal piece ∷ []
-host_words (host.JobsFull j) = codes "jobs" ∷ codes "full" ∷ decimal j ∷ []
-host_words host.NumberFull = codes "number" ∷ codes "full" ∷ []
-host_words host.NoJob = codes "no" ∷ codes "job" ∷ []
-host_words (host.State s) = codes "state" ∷ state_word s ∷ []
-host_words (host.Unread cause) = codes "unread" ∷ unread_word cause ∷ []
-host_words (host.OtherPiece piece) = codes "other" ∷ codes "piece" ∷ decimal piece ∷ []
-host_words (host.OtherPostage postage) = codes "other" ∷ codes "postage" ∷ decimal postage ∷ []
-host_words (host.OtherClass class) = codes "other" ∷ codes "class" ∷ decimal class ∷ []
+host_words r = map part_word (host_parts r)
 
 unfoldable pub scan_words : ScanRefusal → List (List ℕ)
-scan_words (scan.Unread fault) = codes "unread" ∷ fault_word fault ∷ []
-scan_words (scan.Unknown d) = codes "unknown" ∷ codes "device" ∷ decimal d ∷ []
-scan_words scan.BadCode = codes "bad" ∷ codes "code" ∷ []
-scan_words (scan.Duplicate scan) = codes "duplicate" ∷ decimal scan ∷ []
-scan_words (scan.Future t) = codes "future" ∷ signed_decimal t ∷ []
-scan_words (scan.TooOld t) = codes "too" ∷ codes "old" ∷ signed_decimal t ∷ []
-scan_words scan.BlocksFull = codes "blocks" ∷ codes "full" ∷ []
-scan_words scan.Known = codes "known" ∷ []
+scan_words r = map part_word (scan_parts r)

@@ -1,15 +1,7 @@
 -- The ranges of the numbers in a reply, and what its text tells of it.
-use Rattle.std.specs.Prelude.{◌≡◌, ℕ, ◌<◌, ◌^◌, length, Option, Some, None, FitsSigned}
+use Rattle.std.specs.Prelude.{◌≡◌, ℕ, ◌<◌, ◌^◌, List, [], ◌∷◌, length, Option, Some, None, FitsSigned}
 use Rattle.std.specs.Int.{w32}
 use Rattle.bench_base.specs.declared.words.Kind.{Kind}
-use Rattle.bench_base.specs.declared.refusals.DevRefusal.{DevRefusal}
-use Rattle.bench_base.specs.declared.refusals.DevRefusal.TheVariants as dev
-use Rattle.bench_base.specs.declared.refusals.CentreRefusal.{CentreRefusal}
-use Rattle.bench_base.specs.declared.refusals.CentreRefusal.TheVariants as centre
-use Rattle.bench_base.specs.declared.refusals.RateRefusal.{RateRefusal}
-use Rattle.bench_base.specs.declared.refusals.RateRefusal.TheVariants as rate
-use Rattle.bench_base.specs.declared.refusals.HostRefusal.{HostRefusal}
-use Rattle.bench_base.specs.declared.refusals.HostRefusal.TheVariants as host
 use Rattle.bench_base.specs.declared.refusals.ScanRefusal.{ScanRefusal}
 use Rattle.bench_base.specs.declared.refusals.ScanRefusal.TheVariants as scan
 use Rattle.bench_base.specs.declared.refusals.MarkFault.{MarkFault}
@@ -18,71 +10,22 @@ use Rattle.bench_base.specs.declared.events.Reply.{Reply}
 use Rattle.bench_base.specs.declared.events.Reply.TheVariants as reply
 use Rattle.bench_base.specs.Ranges.{IsDevice, IsCustomer, IsNode, IsWord, IsDay}
 use Rattle.bench_base.specs.Table.{IsBytes}
+use Rattle.script_text.specs.Refusals.{Part, said, of_number, of_short, of_sum, of_customer, of_day, of_kind, of_phase, of_state, of_cause, of_fault, dev_parts, centre_parts, host_parts, scan_parts}
 
-abbrev pub IsDevWhole : DevRefusal → Type 0
-IsDevWhole dev.Blank = Unit {0}
-IsDevWhole dev.Made = Unit {0}
-IsDevWhole (dev.WrongDevice d) = IsWord d
-IsDevWhole (dev.Conflict postage class) = IsWord postage × (class < 2 ^ 16)
-IsDevWhole (dev.WrongPiece pieces) = IsWord pieces
-IsDevWhole (dev.Phase p) = Unit {0}
-IsDevWhole (dev.Frozen k) = Unit {0}
-IsDevWhole (dev.ClockBack t) = FitsSigned w32 t
-IsDevWhole (dev.Due t) = FitsSigned w32 t
-IsDevWhole (dev.BadAmount amount) = IsWord amount
-IsDevWhole (dev.NoFunds descending) = descending < 2 ^ 64
-IsDevWhole (dev.Busy k) = Unit {0}
-IsDevWhole (dev.TotalFull total) = total < 2 ^ 64
-IsDevWhole dev.NumberFull = Unit {0}
-IsDevWhole dev.NothingPending = Unit {0}
-IsDevWhole (dev.Stale number) = IsWord number
-IsDevWhole (dev.Stray k) = Unit {0}
-IsDevWhole dev.NothingDone = Unit {0}
-IsDevWhole dev.BadCode = Unit {0}
-IsDevWhole (dev.Unread cause) = Unit {0}
-
-abbrev pub IsCentreWhole : CentreRefusal → Type 0
-IsCentreWhole (centre.Unread cause) = Unit {0}
-IsCentreWhole (centre.UnknownDevice d) = IsWord d
-IsCentreWhole (centre.UnknownCustomer c) = IsCustomer c
-IsCentreWhole centre.BadCode = Unit {0}
-IsCentreWhole (centre.Old number) = IsWord number
-IsCentreWhole (centre.Ahead number) = IsWord number
-IsCentreWhole (centre.Changed number) = IsWord number
-IsCentreWhole centre.Known = Unit {0}
-IsCentreWhole (centre.WrongReceipt receipt) = IsWord receipt
-IsCentreWhole (centre.Conflict amount) = IsWord amount
-IsCentreWhole (centre.BadAmount amount) = IsWord amount
-IsCentreWhole (centre.DepositsFull total) = total < 2 ^ 64
-
-abbrev pub IsRateWhole : RateRefusal → Type 0
-IsRateWhole rate.NoClass = Unit {0}
-IsRateWhole (rate.NoZone zones) = IsWord zones
-IsRateWhole (rate.TooHeavy grams) = IsWord grams
-
-abbrev pub IsHostWhole : HostRefusal → Type 0
-IsHostWhole host.NoRates = Unit {0}
-IsHostWhole (host.Rate r) = IsRateWhole r
-IsHostWhole (host.OpenJob j) = IsWord j
-IsHostWhole (host.Used piece) = IsWord piece
-IsHostWhole (host.JobsFull j) = IsWord j
-IsHostWhole host.NumberFull = Unit {0}
-IsHostWhole host.NoJob = Unit {0}
-IsHostWhole (host.State s) = Unit {0}
-IsHostWhole (host.Unread cause) = Unit {0}
-IsHostWhole (host.OtherPiece piece) = IsWord piece
-IsHostWhole (host.OtherPostage postage) = IsWord postage
-IsHostWhole (host.OtherClass class) = class < 2 ^ 16
-
-abbrev pub IsScanWhole : ScanRefusal → Type 0
-IsScanWhole (scan.Unread fault) = Unit {0}
-IsScanWhole (scan.Unknown d) = IsWord d
-IsScanWhole scan.BadCode = Unit {0}
-IsScanWhole (scan.Duplicate scan) = IsWord scan
-IsScanWhole (scan.Future t) = FitsSigned w32 t
-IsScanWhole (scan.TooOld t) = FitsSigned w32 t
-IsScanWhole scan.BlocksFull = Unit {0}
-IsScanWhole scan.Known = Unit {0}
+-- each number that a refusal carries fits its type
+abbrev pub AreWhole : List Part → Type 0
+AreWhole [] = Unit {0}
+AreWhole (said w ∷ parts) = AreWhole parts
+AreWhole (of_number n ∷ parts) = IsWord n × AreWhole parts
+AreWhole (of_short n ∷ parts) = (n < 2 ^ 16) × AreWhole parts
+AreWhole (of_sum n ∷ parts) = (n < 2 ^ 64) × AreWhole parts
+AreWhole (of_customer c ∷ parts) = IsCustomer c × AreWhole parts
+AreWhole (of_day t ∷ parts) = FitsSigned w32 t × AreWhole parts
+AreWhole (of_kind k ∷ parts) = AreWhole parts
+AreWhole (of_phase p ∷ parts) = AreWhole parts
+AreWhole (of_state s ∷ parts) = AreWhole parts
+AreWhole (of_cause cause ∷ parts) = AreWhole parts
+AreWhole (of_fault fault ∷ parts) = AreWhole parts
 
 -- the amount in flight fits
 abbrev pub IsFlight : Option (Kind × ℕ) → Type 0
@@ -133,10 +76,10 @@ IsWholeReply (reply.Status d v) = IsDevice d × (v.ascending < 2 ^ 64) × (v.des
     × IsWord v.pieces × IsWord v.number × FitsSigned w32 v.deadline
 IsWholeReply (reply.Flagged c suspended) = IsCustomer c
 IsWholeReply (reply.Reconciled d own centre flight) = IsDevice d × (own < 2 ^ 64) × (centre < 2 ^ 64) × IsFlight flight
-IsWholeReply (reply.DevRefused d r) = IsDevice d × IsDevWhole r
-IsWholeReply (reply.CentreRefused r) = IsCentreWhole r
-IsWholeReply (reply.HostRefused r) = IsHostWhole r
-IsWholeReply (reply.ScanRefused r) = IsScanWhole r
+IsWholeReply (reply.DevRefused d r) = IsDevice d × AreWhole (dev_parts r)
+IsWholeReply (reply.CentreRefused r) = AreWhole (centre_parts r)
+IsWholeReply (reply.HostRefused r) = AreWhole (host_parts r)
+IsWholeReply (reply.ScanRefused r) = AreWhole (scan_parts r)
 
 -- a fault of a mark without its number
 abbrev pub told_fault : MarkFault → MarkFault

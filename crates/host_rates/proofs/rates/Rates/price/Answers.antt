@@ -1,0 +1,20 @@
+use Rattle.std.proofs.Common.{subst, sym, ap, ◌≡◌, arith}
+use Rattle.host_rates.specs.Tables.{RateTable, IsClass, IsRates, class_numbered}
+use Rattle.host_rates.proofs.Sound.{IfSome-at, IfSome-find}
+use Rattle.host_rates.proofs.rates.Rates.price.Goals as goal
+use Rattle.host_rates.proofs.rates.Rates.price.Goals.{Else-zone-self}
+
+-- the class that was found is one of these rates
+found : (c : Else-zone-self) → IsClass c.args.self.now.zones c.in-Some.class.now
+found c =
+    let sound = subst IsRates c.self.view_is c.self.invariant in
+    IfSome-at (IsClass c.args.self.now.zones) (class_numbered c.args.class c.args.self.now) c.in-Some.class.now (sym c.in-Some.ensures.exact)
+    (IfSome-find _ (IsClass c.args.self.now.zones) c.args.self.now.classes sound.classes)
+
+pub price-requires-clause-some : goal.price-requires-clause-some
+price-requires-clause-some c = (found c).few.0
+
+pub price-requires-clause-priced : goal.price-requires-clause-priced
+price-requires-clause-priced c k d within =
+    let same : c.self.inside.zones ≡ c.args.self.now.zones = ap (λ (r : RateTable). r.zones) c.self.view_is in
+    omega (arith, ((found c).steps k d within).each_zone)

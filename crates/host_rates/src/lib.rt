@@ -1,0 +1,12 @@
+//! The host's rates: read from a TOML text, and what a piece costs by them.
+#![tactic(auto)]
+
+mod parts;
+mod rates;
+mod reading;
+#[cfg(test)]
+mod tests;
+pub mod theorems;
+
+pub use rates::Rates;
+pub use reading::{RatesFail, read_rates};
