@@ -1,5 +1,5 @@
 //! The record of a device: what it keeps, and what it shows of it.
-ghost use Rattle.std.specs.Prelude.{◌≡◌};
+ghost use Rattle.std.specs.Prelude.{◌≡◌, ◌+◌};
 ghost use Rattle.ledger_terms.specs.Devices.{lock};
 ghost use Rattle.psd_state.specs.State.{Holds};
 ghost use Rattle.psd_state.specs.Answers.{made_state, status_of, waiting_kind};
@@ -36,7 +36,7 @@ pub struct DevRec {
 }
 
 impl Model for DevRec {
-    ghost use Rattle.std.specs.Prelude.{◌≡◌};
+    ghost use Rattle.std.specs.Prelude.{◌+◌, ◌≡◌};
     ghost use Rattle.psd_state.specs.State.{State, Holds, kept_code};
 
     ghost Value = { State };
@@ -70,6 +70,13 @@ impl DevRec {
             mark: None,
             code: [0; 32],
         }
+    }
+
+    /// What the device has franked and holds, in mills.
+    pub fn held(&self) -> u64
+        ensures { result ≡ self.now.registers.ascending + self.now.registers.descending }
+    {
+        self.registers.held()
     }
 
     /// What the device shows on that day: in service it is locked after its deadline.

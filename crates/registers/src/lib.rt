@@ -96,6 +96,13 @@ impl Registers {
         self.pieces
     }
 
+    /// What was franked and what is left, in mills.
+    pub fn held(&self) -> u64
+        ensures { result ≡ self.now.ascending + self.now.descending }
+    {
+        self.ascending + self.descending
+    }
+
     /// All three sums together.
     pub fn total(&self) -> u64
         ensures value { result ≡ total self.now }
