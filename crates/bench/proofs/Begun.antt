@@ -57,9 +57,9 @@ module _ {K S N C R : Type 0} (n : Ghosts K S N C R) (g : nv.Ghosts S) where
   all_stopped k old new all stopping = pairs_of (IsStopped n g) old new stopping.size (λ i s t lt was is. stopping.stopped i s t (omega arith) was is)
 
 pub begun_stands : {D C S XD XC RD RC : Type 0} (n : Nodes D C S XD XC RD RC) (g : nv.Ghosts S) (old new : Bench D C) (H : Ledger)
-    → new.day ≡ None → Begun n g old new → Stands n g old H → Stands n g new (Begin ∷ H)
-begun_stands n g old new H no_day begun stands = record {
-  day = subst (λ o. HasDay o (Begin ∷ H)) (sym no_day) (none_day H);
+    → new.day ≡ None → new.messages ≡ [] → Begun n g old new → Stands n g old H → Stands n g new (Begin ∷ H)
+begun_stands n g old new H no_day no_messages begun stands = record {
+  day = subst (λ o. HasDay o new.messages (Begin ∷ H)) (sym no_day) (subst (λ l. HasDay None l (Begin ∷ H)) (sym no_messages) (none_day H));
   devices = λ i t is.
       let lt : i < length new.devices = slice_get_within new.devices i t is in
       let s = get_some old.devices i (omega (arith, pairs_length (IsStopped n.devices g) old.devices new.devices begun.devices)) in

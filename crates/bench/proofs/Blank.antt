@@ -51,7 +51,7 @@ pub blank_stand : {D C S XD XC RD RC N : Type 0} (n : Nodes D C S XD XC RD RC) (
     → ((d : ℕ) → n.devices.IsSound d (n.kinds.devices.seen d [])) → ((d : ℕ) → n.devices.IsShown (n.kinds.devices.seen d []) (replicate DEVICE_BYTES 0))
     → n.centre.IsSound tt (n.kinds.centre.seen tt []) → n.centre.IsShown (n.kinds.centre.seen tt []) (replicate CENTRE_BYTES 0) → AreBlank h stores → StoresStand n h stores []
 blank_stand n h stores device_size centre_size sound shown centre_sound centre_shown blank = record {
-  day = record { day = refl; rates = refl; messages = refl; host = refl; verifier = refl };
+  day = record { day = refl; messages = refl; rates = refl; host = refl; verifier = refl };
   off = λ i store is. refl;
   devices = λ i store is. blank_store n.devices h (i + 1) (n.kinds.devices.seen (i + 1) []) DEVICE_BYTES store device_size (sound (i + 1)) (shown (i + 1)) (blank.devices i store is);
   centre_off = refl;

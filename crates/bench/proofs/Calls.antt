@@ -1,27 +1,66 @@
--- A call of a node by its act: how it is told, and what it costs at most.
-use Rattle.std.proofs.Common.{◌≤◌, Err, sym, subst, arith}
+-- The act of a call, and what it says: what an event that makes the call may get.
+use Rattle.std.proofs.Common.{◌≡◌, ◌≤◌, List, [], ◌∷◌, Bool, true, false, if◌then◌else◌, refl}
+use Rattle.std.specs.List.{AllByRecursion}
 use Rattle.bench_base.specs.declared.words.Node.{Node}
+use Rattle.bench_base.specs.declared.events.Event.{Event}
 use Rattle.bench_base.specs.declared.events.Reply.{Reply}
-use Rattle.bench_base.specs.Ledger.{Ledger}
+use Rattle.bench_base.specs.Events.{may_commit, calls_of}
+use Rattle.bench_base.specs.Rows.{first_holding}
 use Rattle.node_acts.specs.declared.act.Act.{Act}
 use Rattle.node_acts.specs.declared.act.Act.TheVariants.{Refuse, Tell, Commits}
-use Rattle.node_acts.specs.declared.act.Outcome.{Outcome}
-use Rattle.node_acts.specs.Acts.{cost}
-use Rattle.node_turns.specs.declared.node.Undone.{Undone}
-use Rattle.node_turns.specs.declared.node.Undone.TheVariants as undone
-use Rattle.node_turns.specs.declared.turn.Turn.{Turn}
-use Rattle.node_turns.specs.Done.{IsDone}
-use Rattle.node_turns.specs.Turns.{call_turn}
-use Rattle.bench.specs.Calls.{TellsUndone}
+use Rattle.node_acts.specs.declared.said.Said.{Said}
+use Rattle.node_acts.specs.Plans.{IsOfNode}
+use Rattle.node_acts.specs.Said.{saying}
+use Rattle.node_seat.specs.declared.node.Node.{Ghosts}
+use Rattle.node_seat.specs.Shown.{IsFitting}
+use Rattle.node_turns.proofs.Calls.{IsToldBy, MayRefuse, MaySay}
 
-pub undone_tells : {T F A : Type 0} (IsOf : T → Turn → Type 0) (m : Node) (refusal : F → Reply) (reply : A → Reply) (done : A → Ledger) (outcome : Outcome F A) (fail : Undone F T) (told : T)
-    → IsDone IsOf m outcome (Err fail) → TellsUndone IsOf refusal fail told → IsOf told (call_turn m refusal reply done outcome)
-undone_tells {T} {F} {A} IsOf m refusal reply done outcome (undone.Refused x) told is tells =
-    subst (λ (y : Outcome F A). IsOf told (call_turn m refusal reply done y)) (sym is) tells
-undone_tells {T} {F} {A} IsOf m refusal reply done outcome (undone.Told t) told is tells =
-    subst (λ (u : T). IsOf u (call_turn m refusal reply done outcome)) (sym tells) (is refusal reply done)
+-- its refusals and what it says are ones that the event may get
+abbrev pub IsPolite : {X : Type 0} → Node → Event → Act X Reply Said → Type 0
+IsPolite m e (Refuse x) = MayRefuse m e x
+IsPolite m e (Tell a) = MaySay e a
+IsPolite m e (Commits c x a) = MaySay e a
 
-pub few_calls : {X F A : Type 0} (act : Act X F A) → cost act ≤ 6
-few_calls (Refuse x) = omega arith
-few_calls (Tell a) = omega arith
-few_calls (Commits c x a) = omega arith
+pub polite_says : {X F A : Type 0} (m : Node) (e : Event) (refusal : F → Reply) (say : A → Said) → ((x : F) → MayRefuse m e (refusal x)) → ((a : A) → MaySay e (say a)) → (act : Act X F A)
+    → IsPolite m e (saying refusal say act)
+polite_says m e refusal say refuses says (Refuse x) = refuses x
+polite_says m e refusal say refuses says (Tell a) = says a
+polite_says m e refusal say refuses says (Commits c x a) = says a
+
+-- it commits nothing
+abbrev pub CommitsNone : {X F A : Type 0} → Act X F A → Type 0
+CommitsNone (Refuse x) = Unit {0}
+CommitsNone (Tell a) = Unit {0}
+CommitsNone (Commits c x a) = ⊥
+
+pub none_says : {X F A : Type 0} (refusal : F → Reply) (say : A → Said) (act : Act X F A) → CommitsNone act → CommitsNone (saying refusal say act)
+none_says refusal say (Refuse x) none = tt
+none_says refusal say (Tell a) none = tt
+none_says refusal say (Commits c x a) none = none
+
+-- what the event may get by it, where it may commit, and where it commits nothing
+pub told_made : {X : Type 0} (m : Node) (e : Event) → may_commit e ≡ true → 6 ≤ calls_of e → (act : Act X Reply Said) → IsOfNode m act → IsPolite m e act → IsToldBy m e act
+told_made m e commits costs (Refuse x) own polite = polite
+told_made m e commits costs (Tell a) own polite = polite
+told_made m e commits costs (Commits c x a) own polite = (record { commits = commits; own = own; costs = costs }, polite)
+
+pub told_none : {X : Type 0} (m : Node) (e : Event) (act : Act X Reply Said) → CommitsNone act → IsPolite m e act → IsToldBy m e act
+told_none m e (Refuse x) none polite = polite
+told_none m e (Tell a) none polite = polite
+told_none m e (Commits c x a) none polite = absurd none
+
+-- saying what it answers leaves what it changes
+pub fits_says : {K S N C R F A : Type 0} (n : Ghosts K S N C R) (d : N) (s : n.Seen) (refusal : F → Reply) (say : A → Said) (act : Act C F A) → IsFitting n d s act → IsFitting n d s (saying refusal say act)
+fits_says n d s refusal say (Refuse x) fits = tt
+fits_says n d s refusal say (Tell a) fits = tt
+fits_says n d s refusal say (Commits c x a) fits = fits
+
+-- == the first that holds ==
+
+pub either : {A : Type 0} (P : A → Type 0) (b : Bool) (x y : A) → (b ≡ true → P x) → P y → P (if b then x else y)
+either P true x y p q = p refl
+either P false x y p q = q
+
+pub holding : {A : Type 0} (P : A → Type 0) (rows : List (Bool × A)) (otherwise : A) → AllByRecursion (λ row. P row.1) rows → P otherwise → P (first_holding rows otherwise)
+holding P [] otherwise each p = p
+holding P (row ∷ rows) otherwise each p = either P row.0 row.1 (first_holding rows otherwise) (λ _. each.0) (holding P rows otherwise each.1 p)

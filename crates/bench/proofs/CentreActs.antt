@@ -1,153 +1,168 @@
--- The acts of the centre's calls: whose they are, and how they are told.
-use Rattle.std.proofs.Common.{ℕ, ◌≤◌, List, [], ◌∷◌, Bool, Option, Some, None, Result, Ok, Err, refl, inl, arith}
+-- The acts of the centre's calls: what they change, and how they are told.
+use Rattle.std.proofs.Common.{◌≢◌, ℕ, List, Option, Some, None, Result, Ok, Err, Bool, true, false, refl, inl, inr, arith}
+use Rattle.bench_base.specs.declared.words.Verdict.{Verdict}
 use Rattle.bench_base.specs.declared.words.Node.TheVariants.{Centre}
-use Rattle.bench_base.specs.declared.ledger.Commit.TheVariants as c
-use Rattle.bench_base.specs.declared.ledger.Entry.TheVariants as entry
+use Rattle.bench_base.specs.declared.refusals.CentreRefusal.{CentreRefusal}
 use Rattle.bench_base.specs.declared.events.Event.TheVariants as ev
 use Rattle.bench_base.specs.declared.events.Reply.TheVariants as r
-use Rattle.bench_base.specs.declared.refusals.CentreRefusal.{CentreRefusal}
-use Rattle.node_acts.specs.Acts.{cost, CommitsSome}
 use Rattle.node_acts.specs.Plans.{IsOfNode}
-use Rattle.node_turns.proofs.Calls.{IsToldBy, Agrees}
+use Rattle.node_seat.specs.declared.node.Node.{Ghosts}
+use Rattle.node_seat.specs.Shown.{IsFitting}
+use Rattle.centre_ledger.specs.declared.rows.Row.{Row}
 use Rattle.centre_ledger.specs.declared.rows.CustomerRow.{CustomerRow}
 use Rattle.centre_ledger.specs.declared.rows.DeviceRow.{DeviceRow}
-use Rattle.centre_ledger.specs.declared.acts.Deposit.{Deposit}
-use Rattle.centre_ledger.specs.Acts.{registered_act, opened_act, flagged_act, taken_act, deposited_act, left_act}
+use Rattle.centre_ledger.specs.Standing.{ruling_in}
+use Rattle.psd_wire.specs.declared.message.Request.{Request}
+use Rattle.psd_wire.specs.declared.message.DoneMsg.{DoneMsg}
+use Rattle.psd_wire.specs.declared.message.Message.{Message}
+use Rattle.psd_wire.specs.declared.message.Message.TheVariants as m
+use Rattle.psd_wire.specs.Grammar.{read}
+use Rattle.psd_wire.specs.Codes.{has_code}
+use Rattle.bench_base.specs.declared.refusals.Unread.{Unread}
+use Rattle.centre_ledger.specs.declared.taking.CentreAnswer.{CentreAnswer}
+use Rattle.centre_ledger.specs.declared.taking.CentreAnswer.TheVariants as answer
+use Rattle.centre_ledger.specs.Acts as acts
+use Rattle.centre_ledger.specs.Acts.{CentreAct, left_act}
+use Rattle.centre_ledger.specs.ActLaws.{LeavesSound, SoundActs}
+use Rattle.centre_ledger.specs.Books.{Books, AreSound, device_at, customer_at, left_in, put_row}
+use Rattle.centre_ledger.proofs.SoundActs.{leaves}
+use Rattle.bench_views.specs.declared.taken.CentreCall.{CentreCall}
+use Rattle.bench_views.specs.declared.taken.CentreCall.TheVariants as call
 use Rattle.bench_views.specs.Centre as views
-use Rattle.bench.specs.Calls.{deposited_entries}
+use Rattle.bench_views.specs.Centre.{centre_act, IsBytesCall}
+use Rattle.bench_views.proofs.Calling.{own_says}
+use Rattle.bench.specs.Calls.{centre_call_event, IsRangedCall}
+use Rattle.bench.proofs.Calls.{polite_says, CommitsNone, none_says, told_made, told_none, fits_says, either}
+use Rattle.node_turns.proofs.Calls.{IsCallOf, IsToldBy, MayRefuse, MaySay}
+use Rattle.bench.proofs.CentreFits.{act_fits}
+
+-- == what a call changes ==
+
+module _ {K S R : Type 0} (n : Ghosts K S (Unit {0}) Row R) (b : Books) (sound : AreSound b) (s : n.Seen) (from : (x : Row) → AreSound (put_row b x) → n.IsFrom tt s x) where
+  sound_acts : SoundActs b
+  sound_acts = leaves b sound
+
+  by : {A : Type 0} (act : CentreAct A) → LeavesSound b act → IsFitting n tt s act
+  by act left = act_fits n b s from act left
+
+  -- it leaves sound rows
+  pub call_fits : (c : CentreCall) → IsRangedCall c → IsBytesCall c → IsFitting n tt s (centre_act c b)
+  call_fits (call.Register d origin key) ranged bytes = fits_says n tt s _ _ (acts.register_act d origin key b) (by (acts.register_act d origin key b) (sound_acts.registered d origin key ranged.0 ranged.1))
+  call_fits (call.Open w) ranged bytes = fits_says n tt s _ _ (acts.open_act w b) (by (acts.open_act w b) (sound_acts.opened w ranged))
+  call_fits (call.Deposit w receipt amount) ranged bytes = fits_says n tt s _ _ (acts.deposit_act w receipt amount b) (by (acts.deposit_act w receipt amount b) (sound_acts.deposited w receipt amount))
+  call_fits (call.Flag w flag) ranged bytes = fits_says n tt s _ _ (acts.flag_act w flag b) (by (acts.flag_act w flag b) (sound_acts.flagged w flag))
+  call_fits (call.Balance w) ranged bytes = fits_says n tt s _ _ (acts.balance_act w b) (by (acts.balance_act w b) (sound_acts.balanced w))
+  call_fits (call.Take given k) ranged bytes = fits_says n tt s _ _ (acts.take_act given b) (by (acts.take_act given b) (sound_acts.taken given bytes))
 
 -- == whose the commit is ==
 
-pub register_own : (d origin : ℕ) (key : List ℕ) (o : Option DeviceRow) → IsOfNode Centre (registered_act d origin key o)
+register_own : (d origin : ℕ) (key : List ℕ) (o : Option DeviceRow) → IsOfNode Centre (acts.registered_act d origin key o)
 register_own d origin key None = refl
 register_own d origin key (Some x) = tt
 
-pub open_own : (w : ℕ) (o : Option CustomerRow) → IsOfNode Centre (opened_act w o)
+open_own : (w : ℕ) (o : Option CustomerRow) → IsOfNode Centre (acts.opened_act w o)
 open_own w None = refl
 open_own w (Some x) = tt
 
-pub flag_own : (w : ℕ) (flag : Bool) (o : Option CustomerRow) → IsOfNode Centre (flagged_act w flag o)
+flag_own : (w : ℕ) (flag : Bool) (o : Option CustomerRow) → IsOfNode Centre (acts.flagged_act w flag o)
 flag_own w flag None = tt
 flag_own w flag (Some x) = refl
 
-taken_own : (w n a : ℕ) (x : CustomerRow) (result : Result (Option CustomerRow) CentreRefusal) → IsOfNode Centre (taken_act w n a x result)
+taken_own : (w n a : ℕ) (x : CustomerRow) (result : Result (Option CustomerRow) CentreRefusal) → IsOfNode Centre (acts.taken_act w n a x result)
 taken_own w n a x (Err y) = tt
 taken_own w n a x (Ok None) = tt
 taken_own w n a x (Ok (Some next)) = refl
 
-pub deposit_own : (w n a : ℕ) (o : Option CustomerRow) → IsOfNode Centre (deposited_act w n a o)
+deposit_own : (w n a : ℕ) (o : Option CustomerRow) → IsOfNode Centre (acts.deposited_act w n a o)
 deposit_own w n a None = tt
 deposit_own w n a (Some x) = taken_own w n a x _
 
-pub balance_own : (w left : ℕ) (o : Option CustomerRow) → IsOfNode Centre (left_act w left o)
-balance_own w left None = tt
-balance_own w left (Some x) = tt
+left_own : (w left : ℕ) (o : Option CustomerRow) → IsOfNode Centre (left_act w left o)
+left_own w left None = tt
+left_own w left (Some x) = tt
 
--- == what is added ==
+settled_own : (x : DeviceRow) (n : ℕ) (result : Result (Option DeviceRow) CentreRefusal) → IsOfNode Centre (acts.settled_act x n result)
+settled_own x n (Err y) = tt
+settled_own x n (Ok None) = tt
+settled_own x n (Ok (Some next)) = refl
 
-pub register_agrees : (d origin : ℕ) (key : List ℕ) (o : Option DeviceRow) → Agrees (λ u. []) (λ u. entry.Commit (c.Registered d origin key) ∷ []) (registered_act d origin key o)
-register_agrees d origin key None = refl
-register_agrees d origin key (Some x) = tt
+again_own : (x : DeviceRow) (o : Option (Verdict × List ℕ)) → IsOfNode Centre (acts.repeated_act x o)
+again_own x None = tt
+again_own x (Some y) = tt
 
-pub open_agrees : (w : ℕ) (o : Option CustomerRow) → Agrees (λ u. []) (λ u. entry.Commit (c.Opened w) ∷ []) (opened_act w o)
-open_agrees w None = refl
-open_agrees w (Some x) = tt
+turn_own : (bytes : List ℕ) (q : Request) (x : DeviceRow) (b : Books) (result : Result Bool CentreRefusal) → IsOfNode Centre (acts.turn_act bytes q x b result)
+turn_own bytes q x b (Err y) = tt
+turn_own bytes q x b (Ok true) = again_own x (ruling_in x)
+turn_own bytes q x b (Ok false) = refl
 
-pub flag_agrees : (w : ℕ) (flag : Bool) (o : Option CustomerRow) → Agrees (λ u. []) (λ u. entry.Commit (c.Flagged w flag) ∷ []) (flagged_act w flag o)
-flag_agrees w flag None = tt
-flag_agrees w flag (Some x) = refl
+request_own : (bytes : List ℕ) (q : Request) (o : Option DeviceRow) (b : Books) → IsOfNode Centre (acts.request_act bytes q o b)
+request_own bytes q None b = tt
+request_own bytes q (Some x) b = either (λ (a : CentreAct CentreAnswer). IsOfNode Centre a) (has_code x.key bytes) _ _ (λ _. turn_own bytes q x b _) tt
 
-taken_agrees : (w n a : ℕ) (x : CustomerRow) (result : Result (Option CustomerRow) CentreRefusal) → Agrees (λ (done : Deposit). []) (deposited_entries w n a) (taken_act w n a x result)
-taken_agrees w n a x (Err y) = tt
-taken_agrees w n a x (Ok None) = refl
-taken_agrees w n a x (Ok (Some next)) = refl
+done_own : (bytes : List ℕ) (q : DoneMsg) (o : Option DeviceRow) → IsOfNode Centre (acts.done_act bytes q o)
+done_own bytes q None = tt
+done_own bytes q (Some x) = either (λ (a : CentreAct CentreAnswer). IsOfNode Centre a) (has_code x.key bytes) _ _ (λ _. settled_own x q.number _) tt
 
-pub deposit_agrees : (w n a : ℕ) (o : Option CustomerRow) → Agrees (λ (done : Deposit). []) (deposited_entries w n a) (deposited_act w n a o)
-deposit_agrees w n a None = tt
-deposit_agrees w n a (Some x) = taken_agrees w n a x _
+take_own : (bytes : List ℕ) (b : Books) (x : Result Message Unread) → IsOfNode Centre (acts.message_act bytes b x)
+take_own bytes b (Ok (m.Request q)) = request_own bytes q (device_at b q.device) b
+take_own bytes b (Ok (m.Done q)) = done_own bytes q (device_at b q.device)
+take_own bytes b (Ok (m.Reply p)) = tt
+take_own bytes b (Ok (m.Debit q)) = tt
+take_own bytes b (Ok (m.Release x)) = tt
+take_own bytes b (Err x) = tt
 
-pub balance_agrees : (w left : ℕ) (o : Option CustomerRow) → Agrees (λ (n : ℕ). []) (λ n. []) (left_act w left o)
-balance_agrees w left None = tt
-balance_agrees w left (Some x) = refl
-
--- == what it costs ==
-
-pub balance_free : (w left : ℕ) (o : Option CustomerRow) → cost (left_act w left o) ≤ 0
-balance_free w left None = omega arith
-balance_free w left (Some x) = omega arith
-
-pub balance_none : (w left : ℕ) (o : Option CustomerRow) → CommitsSome (λ c. Unit {0}) (left_act w left o) → ⊥
-balance_none w left None some = some
-balance_none w left (Some x) some = some
+call_own : (c : CentreCall) (b : Books) → IsOfNode Centre (centre_act c b)
+call_own (call.Register d origin key) b = own_says Centre _ _ (acts.register_act d origin key b) (register_own d origin key (device_at b d))
+call_own (call.Open w) b = own_says Centre _ _ (acts.open_act w b) (open_own w (customer_at b w))
+call_own (call.Deposit w receipt amount) b = own_says Centre _ _ (acts.deposit_act w receipt amount b) (deposit_own w receipt amount (customer_at b w))
+call_own (call.Flag w flag) b = own_says Centre _ _ (acts.flag_act w flag b) (flag_own w flag (customer_at b w))
+call_own (call.Balance w) b = own_says Centre _ _ (acts.balance_act w b) (left_own w (left_in b w) (customer_at b w))
+call_own (call.Take bytes k) b = own_says Centre _ _ (acts.take_act bytes b) (take_own bytes b (read bytes))
 
 -- == how they are told ==
 
-pub register_told : (d origin : ℕ) (key : List ℕ) → IsToldBy {A = Unit {0}} Centre (ev.Register d origin key) r.CentreRefused (λ u. r.Registered d)
-register_told d origin key = record {
-  on = refl;
-  node = refl;
-  no_switch = λ e. cc;
-  no_cut = λ calls keep byte e. cc;
-  refuses = λ x. refl;
-  did = λ u. refl;
-  on_day = λ x e. cc;
-  not_off = λ x e. cc;
-  refused_gets = λ x. inl (record { on = refl; at = refl; no_switch = λ e. cc });
-  done_gets = λ u. (origin, key, refl);
+pub call_of : (c : CentreCall) → IsCallOf Centre (centre_call_event c)
+call_of (call.Register d origin key) = record { on = refl; at = refl; no_switch = λ e. cc; no_cut = λ calls keep byte e. cc }
+call_of (call.Open w) = record { on = refl; at = refl; no_switch = λ e. cc; no_cut = λ calls keep byte e. cc }
+call_of (call.Deposit w receipt amount) = record { on = refl; at = refl; no_switch = λ e. cc; no_cut = λ calls keep byte e. cc }
+call_of (call.Flag w flag) = record { on = refl; at = refl; no_switch = λ e. cc; no_cut = λ calls keep byte e. cc }
+call_of (call.Balance w) = record { on = refl; at = refl; no_switch = λ e. cc; no_cut = λ calls keep byte e. cc }
+call_of (call.Take bytes k) = record { on = refl; at = refl; no_switch = λ e. cc; no_cut = λ calls keep byte e. cc }
+
+no_off : (c : CentreCall) → centre_call_event c ≢ ev.Off Centre
+no_off (call.Register d origin key) = λ e. cc
+no_off (call.Open w) = λ e. cc
+no_off (call.Deposit w receipt amount) = λ e. cc
+no_off (call.Flag w flag) = λ e. cc
+no_off (call.Balance w) = λ e. cc
+no_off (call.Take bytes k) = λ e. cc
+
+refused : (c : CentreCall) (x : CentreRefusal) → MayRefuse Centre (centre_call_event c) (r.CentreRefused x)
+refused c x = record {
+  told = refl;
+  on_day = λ e. cc;
+  not_off = λ e. cc;
+  gets = inl (record { on = (call_of c).on; at = (call_of c).at; no_switch = no_off c });
 }
 
-pub open_told : (w : ℕ) → IsToldBy {A = Unit {0}} Centre (ev.OpenCustomer w) r.CentreRefused (λ u. r.Opened w)
-open_told w = record {
-  on = refl;
-  node = refl;
-  no_switch = λ e. cc;
-  no_cut = λ calls keep byte e. cc;
-  refuses = λ x. refl;
-  did = λ u. refl;
-  on_day = λ x e. cc;
-  not_off = λ x e. cc;
-  refused_gets = λ x. inl (record { on = refl; at = refl; no_switch = λ e. cc });
-  done_gets = λ u. refl;
-}
+took_said : (k : ℕ) (bytes : List ℕ) (a : CentreAnswer) → MaySay (ev.Give Centre bytes) (views.took k a)
+took_said k bytes (answer.Ruled d n v note again) = record { told = refl; gets = inr (bytes, refl) }
+took_said k bytes (answer.Settled d n again) = record { told = refl; gets = inr (bytes, refl) }
 
-pub flag_told : (w : ℕ) (flag : Bool) → IsToldBy {A = Unit {0}} Centre (ev.Flag w flag) r.CentreRefused (λ u. r.Flagged w flag)
-flag_told w flag = record {
-  on = refl;
-  node = refl;
-  no_switch = λ e. cc;
-  no_cut = λ calls keep byte e. cc;
-  refuses = λ x. refl;
-  did = λ u. refl;
-  on_day = λ x e. cc;
-  not_off = λ x e. cc;
-  refused_gets = λ x. inl (record { on = refl; at = refl; no_switch = λ e. cc });
-  done_gets = λ u. refl;
-}
+balance_free : (w left : ℕ) (o : Option CustomerRow) → CommitsNone (left_act w left o)
+balance_free w left None = tt
+balance_free w left (Some x) = tt
 
-pub deposit_told : (w n a : ℕ) → IsToldBy Centre (ev.Deposit w n a) r.CentreRefused (views.deposited w n)
-deposit_told w n a = record {
-  on = refl;
-  node = refl;
-  no_switch = λ e. cc;
-  no_cut = λ calls keep byte e. cc;
-  refuses = λ x. refl;
-  did = λ done. refl;
-  on_day = λ x e. cc;
-  not_off = λ x e. cc;
-  refused_gets = λ x. inl (record { on = refl; at = refl; no_switch = λ e. cc });
-  done_gets = λ done. (a, refl);
-}
-
-pub balance_told : (w : ℕ) → IsToldBy Centre (ev.Balance w) r.CentreRefused (r.Balance w)
-balance_told w = record {
-  on = refl;
-  node = refl;
-  no_switch = λ e. cc;
-  no_cut = λ calls keep byte e. cc;
-  refuses = λ x. refl;
-  did = λ n. refl;
-  on_day = λ x e. cc;
-  not_off = λ x e. cc;
-  refused_gets = λ x. inl (record { on = refl; at = refl; no_switch = λ e. cc });
-  done_gets = λ n. refl;
-}
+pub call_told : (c : CentreCall) (b : Books) → IsToldBy Centre (centre_call_event c) (centre_act c b)
+call_told (call.Register d origin key) b = told_made Centre _ refl (omega arith) _ (call_own (call.Register d origin key) b)
+    (polite_says Centre (ev.Register d origin key) r.CentreRefused (views.done (r.Registered d)) (refused (call.Register d origin key)) (λ u. record { told = refl; gets = (origin, key, refl) }) (acts.register_act d origin key b))
+call_told (call.Open w) b = told_made Centre _ refl (omega arith) _ (call_own (call.Open w) b)
+    (polite_says Centre (ev.OpenCustomer w) r.CentreRefused (views.done (r.Opened w)) (refused (call.Open w)) (λ u. record { told = refl; gets = refl }) (acts.open_act w b))
+call_told (call.Deposit w receipt amount) b = told_made Centre _ refl (omega arith) _ (call_own (call.Deposit w receipt amount) b)
+    (polite_says Centre (ev.Deposit w receipt amount) r.CentreRefused (views.deposited w receipt) (refused (call.Deposit w receipt amount)) (λ done. record { told = refl; gets = (amount, refl) }) (acts.deposit_act w receipt amount b))
+call_told (call.Flag w flag) b = told_made Centre _ refl (omega arith) _ (call_own (call.Flag w flag) b)
+    (polite_says Centre (ev.Flag w flag) r.CentreRefused (views.done (r.Flagged w flag)) (refused (call.Flag w flag)) (λ u. record { told = refl; gets = refl }) (acts.flag_act w flag b))
+call_told (call.Balance w) b = told_none Centre _ _ (none_says _ _ (acts.balance_act w b) (balance_free w (left_in b w) (customer_at b w)))
+    (polite_says Centre (ev.Balance w) r.CentreRefused (views.left w) (refused (call.Balance w)) (λ left. record { told = refl; gets = refl }) (acts.balance_act w b))
+call_told (call.Take bytes k) b = told_made Centre _ refl (omega arith) _ (call_own (call.Take bytes k) b)
+    (polite_says Centre (ev.Give Centre bytes) r.CentreRefused (views.took k) (refused (call.Take bytes k)) (took_said k bytes) (acts.take_act bytes b))

@@ -1,42 +1,47 @@
--- The acts of a device's calls: whose they are, what they change, and how they are told.
-use Rattle.std.proofs.Common.{◌≡◌, ℕ, ℤ, ◌==◌, ◌&&◌, ◌≤◌, List, [], ◌∷◌, Option, Some, None, Bool, true, false, Result, Ok, Err, if◌then◌else◌, refl, sym, subst, rules, arith}
-use Rattle.std.specs.List.{AllByRecursion}
-use Rattle.std.proofs.lemmas.Bool.{eqb-true}
+-- The acts of a device's calls: what they change, and how they are told.
+use Rattle.std.proofs.Common.{◌≡◌, ◌≢◌, ℕ, ℤ, ◌+◌, ◌==◌, ◌&&◌, List, Option, Some, None, Result, Ok, Err, inl, inr, refl, subst, arith}
+use Rattle.std.specs.Prelude.{IfSome}
 use Rattle.bench_base.specs.declared.words.Node.TheVariants.{Device}
-use Rattle.bench_base.specs.declared.ledger.Commit.TheVariants.{Made}
-use Rattle.bench_base.specs.declared.ledger.Entry.TheVariants as entry
+use Rattle.bench_base.specs.declared.words.Kind.{Kind}
+use Rattle.bench_base.specs.declared.words.Kind.TheVariants as kinds
+use Rattle.bench_base.specs.Kinds.{is_granted}
 use Rattle.bench_base.specs.declared.refusals.DevRefusal.{DevRefusal}
 use Rattle.bench_base.specs.declared.refusals.DevRefusal.TheVariants as no
-use Rattle.bench_base.specs.declared.words.Kind.{Kind}
+use Rattle.bench_base.specs.declared.refusals.Unread.{Unread}
 use Rattle.bench_base.specs.declared.events.Event.TheVariants as ev
 use Rattle.bench_base.specs.declared.events.Reply.TheVariants as r
 use Rattle.bench_base.specs.Rules.{Rules, todays_rules}
-use Rattle.bench_base.specs.Rows.{first_holding}
 use Rattle.indicium.specs.declared.Mark.{Mark}
 use Rattle.indicium.specs.Marks as marks
-use Rattle.node_acts.specs.Acts.{cost, CommitsSome}
-use Rattle.node_acts.specs.Plans.{IsOfNode}
+use Rattle.node_acts.specs.declared.act.Act.TheVariants.{Refuse, Tell, Commits}
 use Rattle.node_seat.specs.declared.node.Node.{Ghosts}
 use Rattle.node_seat.specs.Shown.{IsFitting}
-use Rattle.node_turns.proofs.Calls.{IsToldBy, Agrees}
 use Rattle.psd_wire.specs.declared.message.DebitMsg.{DebitMsg}
+use Rattle.psd_wire.specs.declared.message.ReplyMsg.{ReplyMsg}
+use Rattle.psd_wire.specs.declared.message.Request.{Request}
+use Rattle.psd_wire.specs.declared.message.Message.{Message}
+use Rattle.psd_wire.specs.declared.message.Message.TheVariants as m
+use Rattle.psd_wire.specs.Grammar.{read}
 use Rattle.psd_state.specs.State.{State}
-use Rattle.psd_state.specs.Acts.{make_act, franked_act, debit_act, status_act}
-use Rattle.psd_state.specs.Answers.{debit_answer, new_answer, piece_rows, debit_rows, frozen_kind, repeated, unless, unless_again}
+use Rattle.psd_state.specs.Acts.{DeviceAct, make_act, franked_act, debit_act, asked_act, ask_act, applied_act, reply_rows, reply_act, released, message_act, take_act, told_act, resend_act, ack_act, status_act}
+use Rattle.psd_state.specs.Answers.{debit_answer, new_answer, piece_rows, debit_rows, frozen_kind, repeated, unless, unless_again, ask_answer, ask_rows, waiting_kind, apply_answer, apply_rows, after_apply, resend_answer, done_answer}
+use Rattle.psd_state.specs.Answers as answers
 use Rattle.psd_state.specs.declared.debiting.Debited.{Debited}
 use Rattle.psd_state.specs.declared.debiting.Debited.TheVariants.{New, Again}
+use Rattle.psd_state.specs.declared.acts.Franked.{Franked}
+use Rattle.psd_state.specs.declared.acts.Taken.{Taken}
+use Rattle.psd_state.specs.declared.acts.Taken.TheVariants as taken_as
+use Rattle.ledger_moves.specs.Moves.{debit_by}
+use Rattle.bench_views.specs.declared.taken.DeviceCall.{DeviceCall}
+use Rattle.bench_views.specs.declared.taken.DeviceCall.TheVariants.{Make, Debit, Ask, Resend, Ack, Status, Take}
 use Rattle.bench_views.specs.Devices as views
-use Rattle.bench.specs.Calls.{franked_entries}
+use Rattle.bench_views.specs.Devices.{device_act}
+use Rattle.bench_views.proofs.Plans.{call_own}
+use Rattle.bench.specs.Calls.{device_call_event}
+use Rattle.bench.proofs.Calls.{polite_says, CommitsNone, none_says, told_made, told_none, fits_says, either, holding}
+use Rattle.node_turns.proofs.Calls.{IsCallOf, IsToldBy, MayRefuse, MaySay}
 
 -- == what a call changes ==
-
-either : {A : Type 0} (P : A → Type 0) (b : Bool) (x y : A) → (b ≡ true → P x) → P y → P (if b then x else y)
-either P true x y p q = p refl
-either P false x y p q = q
-
-holding : {A : Type 0} (P : A → Type 0) (rows : List (Bool × A)) (otherwise : A) → AllByRecursion (λ row. P row.1) rows → P otherwise → P (first_holding rows otherwise)
-holding P [] otherwise each p = p
-holding P (row ∷ rows) otherwise each p = either P row.0 row.1 (first_holding rows otherwise) (λ _. each.0) (holding P rows otherwise each.1 p)
 
 -- a new record has this number
 abbrev Keeps : ℕ → Result Debited DevRefusal → Type 0
@@ -53,124 +58,182 @@ again_keeps n None c key otherwise keeps = keeps
 again_keeps n (Some k) c key otherwise keeps =
     either (Keeps n) ((k.postage == c.postage) && (k.class == c.class)) (Ok (Again (marks.spell k key))) (Err (no.Conflict k.postage k.class)) (λ _. tt) tt
 
--- a debit is for the device that it names
-debit_keeps : (ρ : Rules) (s : State) (c : DebitMsg) (today : ℤ) → Keeps c.device (debit_answer ρ s c today)
-debit_keeps ρ s c today = either (Keeps c.device) (c.device == s.device) (unless_again (repeated s.mark c.piece) c s.key (new_answer ρ s c today)) (Err (no.WrongDevice c.device))
-    (λ same. subst (λ (k : ℕ). Keeps k (unless_again (repeated s.mark c.piece) c s.key (new_answer ρ s c today))) (sym (eqb-true c.device s.device same))
-    (again_keeps s.device (repeated s.mark c.piece) c s.key (new_answer ρ s c today)
-    (holding (Keeps s.device) (piece_rows s c) _ (search rules)
-    (unless_keeps s.device (frozen_kind s.pending) _ (holding (Keeps s.device) (debit_rows ρ s c today) _ (search rules) refl)))))
+-- a debit leaves the device's number
+debit_keeps : (ρ : Rules) (s : State) (c : DebitMsg) (today : ℤ) → Keeps s.device (debit_answer ρ s c today)
+debit_keeps ρ s c today = either (Keeps s.device) (c.device == s.device) (unless_again (repeated s.mark c.piece) c s.key (new_answer ρ s c today)) (Err (no.WrongDevice c.device))
+    (λ same. again_keeps s.device (repeated s.mark c.piece) c s.key (new_answer ρ s c today)
+    (holding (Keeps s.device) (piece_rows s c) _ (tt, (tt, tt))
+    (unless_keeps s.device (frozen_kind s.pending) _ (holding (Keeps s.device) (debit_rows ρ s c today) _ (tt, (tt, (tt, (tt, tt)))) refl))))
     tt
 
-module _ {K S R : Type 0} (n : Ghosts K S ℕ State R) (from : (d : ℕ) (s : n.Seen) (x : State) → x.device ≡ d → n.IsFrom d s x) where
-  pub make_fits : (d : ℕ) (key : List ℕ) (s : n.Seen) (state : Option State) → IsFitting n d s (make_act d key state)
-  make_fits d key s None = from d s _ refl
-  make_fits d key s (Some t) = tt
+-- so does what is asked
+abbrev KeepsAsked : ℕ → Result (State × List ℕ) DevRefusal → Type 0
+KeepsAsked n (Ok x) = x.0.device ≡ n
+KeepsAsked n (Err x) = Unit {0}
 
-  franked_fits : (d : ℕ) (q : DebitMsg) (today : ℤ) (s : n.Seen) (answer : Result Debited DevRefusal) → Keeps d answer → IsFitting n d s (franked_act todays_rules d q today answer)
-  franked_fits d q today s (Err x) keeps = tt
-  franked_fits d q today s (Ok (New t x)) keeps = from d s t keeps
-  franked_fits d q today s (Ok (Again x)) keeps = tt
+unless_asked : (n : ℕ) (o : Option Kind) (answer : Result (State × List ℕ) DevRefusal) → KeepsAsked n answer → KeepsAsked n (unless o no.Busy answer)
+unless_asked n None answer keeps = keeps
+unless_asked n (Some k) answer keeps = tt
 
-  pub debit_fits : (d : ℕ) (q : DebitMsg) (today : ℤ) (s : n.Seen) (state : Option State) → q.device ≡ d → IsFitting n d s (debit_act todays_rules d q today state)
-  debit_fits d q today s None is = tt
-  debit_fits d q today s (Some t) is =
-      franked_fits d q today s (debit_answer todays_rules t q today) (subst (λ (k : ℕ). Keeps k (debit_answer todays_rules t q today)) is (debit_keeps todays_rules t q today))
+ask_keeps : (s : State) (kind : Kind) (who amount : ℕ) (today : ℤ) → KeepsAsked s.device (ask_answer todays_rules s kind who amount today)
+ask_keeps s kind who amount today =
+    unless_asked s.device (waiting_kind s.pending) _ (holding (KeepsAsked s.device) (ask_rows todays_rules s kind amount today) _ (tt, (tt, (tt, (tt, (tt, (tt, tt)))))) refl)
 
-  pub status_fits : (d : ℕ) (today : ℤ) (s : n.Seen) (state : Option State) → IsFitting n d s (status_act today state)
-  status_fits d today s None = tt
-  status_fits d today s (Some t) = tt
+-- and what is applied
+abbrev KeepsApplied : ℕ → Result State DevRefusal → Type 0
+KeepsApplied n (Ok x) = x.device ≡ n
+KeepsApplied n (Err x) = Unit {0}
 
--- == whose the commit is ==
+granted_keeps : (k : Kind) (s : State) (q : Request) (p : ReplyMsg) → (answers.granted k s q p).device ≡ s.device
+granted_keeps kinds.Enrol s q p = refl
+granted_keeps kinds.Reset s q p = refl
+granted_keeps kinds.Audit s q p = refl
+granted_keeps kinds.Refund s q p = refl
+granted_keeps kinds.Withdraw s q p = refl
 
-pub make_own : (d : ℕ) (key : List ℕ) (state : Option State) → IsOfNode (Device d) (make_act d key state)
-make_own d key None = refl
-make_own d key (Some s) = tt
+apply_keeps : (s : State) (o : Option Request) (p : ReplyMsg) → KeepsApplied s.device (apply_answer s o p)
+apply_keeps s None p = tt
+apply_keeps s (Some q) p = holding (KeepsApplied s.device) (apply_rows p q) (Ok (after_apply s q p)) (tt, (tt, tt))
+    (either (λ (x : State). x.device ≡ s.device) (is_granted p.verdict) _ _ (λ _. granted_keeps q.kind s q p) refl)
 
-franked_own : (d : ℕ) (q : DebitMsg) (today : ℤ) (answer : Result Debited DevRefusal) → IsOfNode (Device d) (franked_act todays_rules d q today answer)
-franked_own d q today (Err x) = tt
-franked_own d q today (Ok (New s x)) = refl
-franked_own d q today (Ok (Again x)) = tt
+module _ {K S R : Type 0} (n : Ghosts K S ℕ State R) (from : (d : ℕ) (s : n.Seen) (x : State) → x.device ≡ d → n.IsFrom d s x) (d : ℕ) (seen : n.Seen) where
+  make_fits : (key : List ℕ) (state : Option State) → IsFitting n d seen (make_act d key state)
+  make_fits key None = from d seen _ refl
+  make_fits key (Some t) = tt
 
-pub debit_own : (d : ℕ) (q : DebitMsg) (today : ℤ) (state : Option State) → IsOfNode (Device d) (debit_act todays_rules d q today state)
-debit_own d q today None = tt
-debit_own d q today (Some s) = franked_own d q today (debit_answer todays_rules s q today)
+  franked_fits : (q : DebitMsg) (today : ℤ) (answer : Result Debited DevRefusal) → Keeps d answer → IsFitting n d seen (franked_act todays_rules d q today answer)
+  franked_fits q today (Err x) keeps = tt
+  franked_fits q today (Ok (New t x)) keeps = from d seen t keeps
+  franked_fits q today (Ok (Again x)) keeps = tt
 
-pub status_own : (d : ℕ) (today : ℤ) (state : Option State) → IsOfNode (Device d) (status_act today state)
-status_own d today None = tt
-status_own d today (Some s) = tt
+  debit_fits : (q : DebitMsg) (today : ℤ) (state : Option State) → IfSome state (λ s. s.device ≡ d) → IsFitting n d seen (debit_act todays_rules d q today state)
+  debit_fits q today None is = tt
+  debit_fits q today (Some t) is = franked_fits q today (debit_answer todays_rules t q today) (subst (λ (k : ℕ). Keeps k (debit_answer todays_rules t q today)) is (debit_keeps todays_rules t q today))
 
--- == what is added ==
+  asked_fits : (k : ℕ) (answer : Result (State × List ℕ) DevRefusal) → KeepsAsked d answer → IsFitting n d seen (asked_act d k answer)
+  asked_fits k (Err x) keeps = tt
+  asked_fits k (Ok x) keeps = from d seen x.0 keeps
 
-pub make_agrees : (d : ℕ) (key : List ℕ) (state : Option State) → Agrees (λ u. []) (λ u. entry.Commit (Made d key) ∷ []) (make_act d key state)
-make_agrees d key None = refl
-make_agrees d key (Some s) = tt
+  ask_fits : (kind : Kind) (who amount : ℕ) (today : ℤ) (state : Option State) → IfSome state (λ s. s.device ≡ d) → IsFitting n d seen (ask_act todays_rules d kind who amount today state)
+  ask_fits kind who amount today None is = tt
+  ask_fits kind who amount today (Some s) is =
+      asked_fits (s.number + 1) (ask_answer todays_rules s kind who amount today) (subst (λ (k : ℕ). KeepsAsked k (ask_answer todays_rules s kind who amount today)) is (ask_keeps s kind who amount today))
 
-franked_agrees : (d : ℕ) (q : DebitMsg) (today : ℤ) (answer : Result Debited DevRefusal)
-    → Agrees (views.released d q.piece) (franked_entries d q today) (franked_act todays_rules d q today answer)
-franked_agrees d q today (Err x) = tt
-franked_agrees d q today (Ok (New s x)) = refl
-franked_agrees d q today (Ok (Again x)) = refl
+  told_fits : {A : Type 0} (answer : Result A DevRefusal) → IsFitting n d seen (told_act answer)
+  told_fits (Ok a) = tt
+  told_fits (Err x) = tt
 
-pub debit_agrees : (d : ℕ) (q : DebitMsg) (today : ℤ) (state : Option State)
-    → Agrees (views.released d q.piece) (franked_entries d q today) (debit_act todays_rules d q today state)
-debit_agrees d q today None = tt
-debit_agrees d q today (Some s) = franked_agrees d q today (debit_answer todays_rules s q today)
+  resend_fits : (state : Option State) → IsFitting n d seen (resend_act state)
+  resend_fits None = tt
+  resend_fits (Some s) = told_fits (resend_answer s s.pending)
 
-pub status_agrees : (today : ℤ) (state : Option State) → Agrees (λ w. []) (λ w. []) (status_act today state)
-status_agrees today None = tt
-status_agrees today (Some s) = refl
+  ack_fits : (state : Option State) → IsFitting n d seen (ack_act state)
+  ack_fits None = tt
+  ack_fits (Some s) = told_fits (done_answer s)
 
--- == what it costs ==
+  status_fits : (today : ℤ) (state : Option State) → IsFitting n d seen (status_act today state)
+  status_fits today None = tt
+  status_fits today (Some s) = tt
 
-pub status_free : (today : ℤ) (state : Option State) → cost (status_act today state) ≤ 0
-status_free today None = omega arith
-status_free today (Some s) = omega arith
+  applied_fits : (p : ReplyMsg) (answer : Result State DevRefusal) → KeepsApplied d answer → IsFitting n d seen (applied_act d p answer)
+  applied_fits p (Err x) keeps = tt
+  applied_fits p (Ok s) keeps = from d seen s keeps
 
-pub status_none : (today : ℤ) (state : Option State) → CommitsSome (λ c. Unit {0}) (status_act today state) → ⊥
-status_none today None some = some
-status_none today (Some s) some = some
+  reply_fits : (bytes : List ℕ) (p : ReplyMsg) (state : Option State) → IfSome state (λ s. s.device ≡ d) → IsFitting n d seen (reply_act d bytes p state)
+  reply_fits bytes p None is = tt
+  reply_fits bytes p (Some s) is =
+      holding (λ (a : DeviceAct Taken). IsFitting n d seen a) (reply_rows d bytes p s.key) (applied_act d p (apply_answer s s.pending p)) (tt, (tt, tt))
+      (applied_fits p (apply_answer s s.pending p) (subst (λ (k : ℕ). KeepsApplied k (apply_answer s s.pending p)) is (apply_keeps s s.pending p)))
+
+  released_fits : (piece : ℕ) (act : DeviceAct Franked) → IsFitting n d seen act → IsFitting n d seen (released piece act)
+  released_fits piece (Refuse x) fits = tt
+  released_fits piece (Tell f) fits = tt
+  released_fits piece (Commits c s f) fits = fits
+
+  message_fits : (bytes : List ℕ) (today : ℤ) (state : Option State) → IfSome state (λ s. s.device ≡ d) → (x : Result Message Unread) → IsFitting n d seen (message_act todays_rules d bytes today state x)
+  message_fits bytes today state is (Ok (m.Reply p)) = reply_fits bytes p state is
+  message_fits bytes today state is (Ok (m.Debit q)) = released_fits q.piece (debit_act todays_rules d q today state) (debit_fits q today state is)
+  message_fits bytes today state is (Ok (m.Request q)) = tt
+  message_fits bytes today state is (Ok (m.Done q)) = tt
+  message_fits bytes today state is (Ok (m.Release x)) = tt
+  message_fits bytes today state is (Err x) = tt
+
+  -- a call of a device changes the record of that device
+  pub call_fits : (today : ℤ) (call : DeviceCall) (state : Option State) → IfSome state (λ s. s.device ≡ d) → IsFitting n d seen (device_act d today call state)
+  call_fits today (Make key) state is = fits_says n d seen _ _ (make_act d key state) (make_fits key state)
+  call_fits today (Debit piece postage class) state is =
+      fits_says n d seen _ _ (debit_act todays_rules d (debit_by d piece postage class) today state) (debit_fits (debit_by d piece postage class) today state is)
+  call_fits today (Ask kind who amount k) state is = fits_says n d seen _ _ (ask_act todays_rules d kind who amount today state) (ask_fits kind who amount today state is)
+  call_fits today (Resend k) state is = fits_says n d seen _ _ (resend_act state) (resend_fits state)
+  call_fits today (Ack k) state is = fits_says n d seen _ _ (ack_act state) (ack_fits state)
+  call_fits today Status state is = fits_says n d seen _ _ (status_act today state) (status_fits today state)
+  call_fits today (Take bytes k) state is = fits_says n d seen _ _ (take_act todays_rules d bytes today state) (message_fits bytes today state is (read bytes))
+
+-- == what commits nothing ==
+
+told_free : {A : Type 0} (answer : Result A DevRefusal) → CommitsNone (told_act answer)
+told_free (Ok a) = tt
+told_free (Err x) = tt
+
+resend_free : (state : Option State) → CommitsNone (resend_act state)
+resend_free None = tt
+resend_free (Some s) = told_free (resend_answer s s.pending)
+
+ack_free : (state : Option State) → CommitsNone (ack_act state)
+ack_free None = tt
+ack_free (Some s) = told_free (done_answer s)
+
+status_free : (today : ℤ) (state : Option State) → CommitsNone (status_act today state)
+status_free today None = tt
+status_free today (Some s) = tt
 
 -- == how they are told ==
 
-pub make_told : (d : ℕ) (key : List ℕ) → IsToldBy {A = Unit {0}} (Device d) (ev.Make d key) (r.DevRefused d) (λ u. r.Made d)
-make_told d key = record {
-  on = refl;
-  node = refl;
-  no_switch = λ e. cc;
-  no_cut = λ calls keep byte e. cc;
-  refuses = λ x. refl;
-  did = λ u. refl;
-  on_day = λ x e. cc;
-  not_off = λ x e. cc;
-  refused_gets = λ x. record { on = refl; at = refl; no_switch = λ e. cc };
-  done_gets = λ u. (key, refl);
+pub call_of : (d : ℕ) (call : DeviceCall) → IsCallOf (Device d) (device_call_event d call)
+call_of d (Make key) = record { on = refl; at = refl; no_switch = λ e. cc; no_cut = λ calls keep byte e. cc }
+call_of d (Debit piece postage class) = record { on = refl; at = refl; no_switch = λ e. cc; no_cut = λ calls keep byte e. cc }
+call_of d (Ask kind who amount k) = record { on = refl; at = refl; no_switch = λ e. cc; no_cut = λ calls keep byte e. cc }
+call_of d (Resend k) = record { on = refl; at = refl; no_switch = λ e. cc; no_cut = λ calls keep byte e. cc }
+call_of d (Ack k) = record { on = refl; at = refl; no_switch = λ e. cc; no_cut = λ calls keep byte e. cc }
+call_of d Status = record { on = refl; at = refl; no_switch = λ e. cc; no_cut = λ calls keep byte e. cc }
+call_of d (Take bytes k) = record { on = refl; at = refl; no_switch = λ e. cc; no_cut = λ calls keep byte e. cc }
+
+no_off : (d : ℕ) (call : DeviceCall) → device_call_event d call ≢ ev.Off (Device d)
+no_off d (Make key) = λ e. cc
+no_off d (Debit piece postage class) = λ e. cc
+no_off d (Ask kind who amount k) = λ e. cc
+no_off d (Resend k) = λ e. cc
+no_off d (Ack k) = λ e. cc
+no_off d Status = λ e. cc
+no_off d (Take bytes k) = λ e. cc
+
+-- a device's refusal
+refused : (d : ℕ) (call : DeviceCall) (x : DevRefusal) → MayRefuse (Device d) (device_call_event d call) (r.DevRefused d x)
+refused d call x = record {
+  told = refl;
+  on_day = λ e. cc;
+  not_off = λ e. cc;
+  gets = record { on = (call_of d call).on; at = (call_of d call).at; no_switch = no_off d call };
 }
 
-pub debit_told : (d piece postage class : ℕ) → IsToldBy (Device d) (ev.Debit d piece postage class) (r.DevRefused d) (views.marked d piece)
-debit_told d piece postage class = record {
-  on = refl;
-  node = refl;
-  no_switch = λ e. cc;
-  no_cut = λ calls keep byte e. cc;
-  refuses = λ x. refl;
-  did = λ f. refl;
-  on_day = λ x e. cc;
-  not_off = λ x e. cc;
-  refused_gets = λ x. record { on = refl; at = refl; no_switch = λ e. cc };
-  done_gets = λ f. (postage, class, refl);
-}
+took_said : (d k : ℕ) (bytes : List ℕ) (a : Taken) → MaySay (ev.Give (Device d) bytes) (views.took d k a)
+took_said d k bytes (taken_as.Applied n v) = record { told = refl; gets = inr (bytes, refl) }
+took_said d k bytes (taken_as.Released piece x again) = record { told = refl; gets = inr (bytes, refl) }
 
-pub status_told : (d : ℕ) → IsToldBy (Device d) (ev.Status d) (r.DevRefused d) (r.Status d)
-status_told d = record {
-  on = refl;
-  node = refl;
-  no_switch = λ e. cc;
-  no_cut = λ calls keep byte e. cc;
-  refuses = λ x. refl;
-  did = λ w. refl;
-  on_day = λ x e. cc;
-  not_off = λ x e. cc;
-  refused_gets = λ x. record { on = refl; at = refl; no_switch = λ e. cc };
-  done_gets = λ w. refl;
-}
+pub call_told : (d : ℕ) (today : ℤ) (call : DeviceCall) (s : Option State) → IsToldBy (Device d) (device_call_event d call) (device_act d today call s)
+call_told d today (Make key) s = told_made (Device d) _ refl (omega arith) (device_act d today (Make key) s) (call_own d today (Make key) s)
+    (polite_says (Device d) (ev.Make d key) (r.DevRefused d) (λ u. views.made d) (refused d (Make key)) (λ u. record { told = refl; gets = (key, refl) }) (make_act d key s))
+call_told d today (Debit piece postage class) s = told_made (Device d) _ refl (omega arith) (device_act d today (Debit piece postage class) s) (call_own d today (Debit piece postage class) s)
+    (polite_says (Device d) (ev.Debit d piece postage class) (r.DevRefused d) (views.marked d piece) (refused d (Debit piece postage class)) (λ f. record { told = refl; gets = (postage, class, refl) })
+    (debit_act todays_rules d (debit_by d piece postage class) today s))
+call_told d today (Ask kind who amount k) s = told_made (Device d) _ refl (omega arith) (device_act d today (Ask kind who amount k) s) (call_own d today (Ask kind who amount k) s)
+    (polite_says (Device d) (ev.Ask d kind who amount) (r.DevRefused d) (views.asked d k s) (refused d (Ask kind who amount k)) (λ note. record { told = refl; gets = inl (kind, who, amount, refl) })
+    (ask_act todays_rules d kind who amount today s))
+call_told d today (Resend k) s = told_none (Device d) _ (device_act d today (Resend k) s) (none_says _ _ (resend_act s) (resend_free s))
+    (polite_says (Device d) (ev.Resend d) (r.DevRefused d) (views.asked d k s) (refused d (Resend k)) (λ note. record { told = refl; gets = inr refl }) (resend_act s))
+call_told d today (Ack k) s = told_none (Device d) _ (device_act d today (Ack k) s) (none_says _ _ (ack_act s) (ack_free s))
+    (polite_says (Device d) (ev.Ack d) (r.DevRefused d) (views.sent (r.SentDone d (views.number_in s) k)) (refused d (Ack k)) (λ note. record { told = refl; gets = refl }) (ack_act s))
+call_told d today Status s = told_none (Device d) _ (device_act d today Status s) (none_says _ _ (status_act today s) (status_free today s))
+    (polite_says (Device d) (ev.Status d) (r.DevRefused d) (views.shown d) (refused d Status) (λ shown. record { told = refl; gets = refl }) (status_act today s))
+call_told d today (Take bytes k) s = told_made (Device d) _ refl (omega arith) (device_act d today (Take bytes k) s) (call_own d today (Take bytes k) s)
+    (polite_says (Device d) (ev.Give (Device d) bytes) (r.DevRefused d) (views.took d k) (refused d (Take bytes k)) (took_said d k bytes) (take_act todays_rules d bytes today s))

@@ -1,3 +1,4 @@
+mod Answered
 mod Begun
 mod Blank
 mod BlankCentre
@@ -9,6 +10,7 @@ mod DeviceActs
 mod DeviceTurns
 pub mod Events
 pub mod Making
+mod Notes
 mod OneNode
 mod OneTurn
 mod Over

@@ -1,6 +1,6 @@
 -- An event of one node, by the ledger, whatever the kind of the node: what the node then stands for, what its storage shows
 -- meanwhile, and what is left of it where the process is stopped.
-use Rattle.std.proofs.Common.{◌≡◌, inl, inr, ⊎_elim, ℕ, ℤ, ◌+◌, List, [], ◌∷◌, Option, Some, None, Bool, true, false, refl, sym, ◌∙◌, ap, subst, true≢false, ◌==◌, if◌then◌else◌}
+use Rattle.std.proofs.Common.{◌≡◌, inl, inr, ⊎_elim, ℕ, ℤ, ◌+◌, List, [], ◌∷◌, ◌++◌, Option, Some, None, Bool, true, false, refl, sym, ◌∙◌, ap, subst, true≢false, ◌==◌, if◌then◌else◌}
 use Rattle.std.specs.Prelude.{option_map, IfSome}
 use Rattle.bench_base.specs.declared.words.Node.{Node}
 use Rattle.bench_base.specs.declared.ledger.Commit.{Commit}
@@ -32,7 +32,9 @@ use Rattle.bench_views.specs.Kinds.{Kinds}
 use Rattle.bench_views.specs.Follows.{OthersStay, Follows, Replied, plan_by, commit_by}
 use Rattle.bench_views.proofs.Events.{some-same}
 use Rattle.bench_views.proofs.Views.{same-self}
-use Rattle.bench.specs.Steps.{ShowsCommit, ShowsLedger, HoldsImage, with_open, after_stop, is_failure, tells_failure}
+use Rattle.bench_views.specs.Messages.{sent_in}
+use Rattle.bench.proofs.Notes.{few_notes}
+use Rattle.bench.specs.Steps.{notes_in, ShowsCommit, ShowsLedger, HoldsImage, with_open, after_stop, is_failure, tells_failure}
 
 own_torn : (m : Node) (c : Commit) (H : Ledger) → torn_of m (entry.Torn m c ∷ H) ≡ Some c
 own_torn m c H = rw (same-self m) refl
@@ -87,8 +89,8 @@ rest_left n g h m d seen H L s store tells stands same size images =
 
 -- == the node of the event ==
 
-module _ {K S N C R X : Type 0} (n : Ghosts K S N C R) (g : nv.Ghosts S) (f : fuse.Ghosts S) (kind : Kind N n.Seen X) (m : Node) (d : N) (today : ℤ) (e : Event) (asked : Asked X)
-    (before now : K) (turn : Turn) (did : NodeTurn n g f kind m d today e asked before now turn) {D E : Type 0} (kinds : Kinds D E) (τ : Tariff) (H : Ledger)
+module _ {K S N C R X : Type 0} (n : Ghosts K S N C R) (g : nv.Ghosts S) (f : fuse.Ghosts S) (kind : Kind N n.Seen X) (m : Node) (d : N) (today : ℤ) (e given : Event) (asked : Asked X)
+    (before now : K) (turn : Turn) (did : NodeTurn n g f kind m d today given asked before now turn) {D E : Type 0} (kinds : Kinds D E) (τ : Tariff) (H : Ledger)
     (st : node.Stands n g d (view_in m (kind.seen d) H) before) (tells : g.tells) (law : Follows n.counting kind m d kinds τ H e today asked) where
   abbrev v : View n.Seen
   v = view_in m (kind.seen d) H
@@ -107,6 +109,10 @@ module _ {K S N C R X : Type 0} (n : Ghosts K S N C R) (g : nv.Ghosts S) (f : fu
 
   pub stands_now : node.Stands n g d (view_in m (kind.seen d) L) now
   stands_now = subst (λ (w : View n.Seen). node.Stands n g d w now) (sym done.here) moved.stands
+
+  -- the messages of the run with what it sent
+  pub sends : sent_in L ≡ sent_in H ++ notes_in turn.entries
+  sends = done.sent ∙ ap (λ (l : List (List ℕ)). sent_in H ++ l) (sym (ap notes_in adds ∙ few_notes (after (plan τ todays_rules H e []) turn.reply []) done.few))
 
   -- the commit of the event
   abbrev made : Option (Commit × n.Seen)

@@ -1,5 +1,5 @@
 -- An event of one node leaves the others as they were; so what it does to the bench follows from what it does to the node.
-use Rattle.std.proofs.Common.{◌≡◌, ◌≢◌, inl, ⊎_elim, ℕ, ◌+◌, List, [], ◌∷◌, length, Option, Some, None, true, false, ◌↔◌, refl, sym, ◌∙◌, ap, subst, arith}
+use Rattle.std.proofs.Common.{◌≡◌, ◌≢◌, inl, ⊎_elim, ℕ, ◌+◌, List, [], ◌∷◌, ◌++◌, length, Option, Some, None, true, false, ◌↔◌, refl, sym, ◌∙◌, ap, subst, arith}
 use Rattle.std.specs.Prelude.{slice_get, option_map}
 use Rattle.std.proofs.lemmas.Option.{slice_get_within}
 use Rattle.bench_base.specs.declared.words.Node.{Node}
@@ -29,14 +29,15 @@ use Rattle.node_turns.specs.Costs.{Charged}
 use Rattle.node_turns.specs.NodeTurns.{Switches}
 use Rattle.node_turns.specs.Turns.{in_order}
 use Rattle.ledger_moves.specs.Tariffs.{Tariff}
-use Rattle.ledger_moves.specs.Histories.{History}
+use Rattle.ledger_moves.specs.Histories.{History, Unforged}
 use Rattle.ledger_moves.specs.Moves as ledger
 use Rattle.ledger_moves.specs.Moves.{Moves, plan}
-use Rattle.bench_views.specs.Taken.{IsTaken}
+use Rattle.bench_views.specs.Taken.{as_given}
+use Rattle.bench_views.specs.Messages.{sent_in}
 use Rattle.bench_views.specs.Follows.{OthersStay, Rests}
 use Rattle.bench.specs.Benches.{Bench, Places, Nodes, At, IsReady, Stands, StoresStand, device_view, centre_view}
-use Rattle.bench.specs.Steps.{Steps, StepsOn, StepsAlone, ShowsLedger, HoldsImage, AreLeft, StayClosed, with_open, after_stop, tells_failure}
-use Rattle.bench.proofs.Events.{IsOfNode, node_is, untold, same_or_not}
+use Rattle.bench.specs.Steps.{Steps, StepsOn, StepsAlone, ShowsLedger, HoldsImage, AreLeft, StayClosed, Leaves, notes_in, with_open, after_stop, tells_failure}
+use Rattle.bench.proofs.Events.{IsOfNode, NeedsAlike, given_alike, node_is, untold, same_or_not}
 use Rattle.bench.proofs.Making.{get_some}
 use Rattle.bench.proofs.OneNode.{rest_left, none_mapped}
 use Rattle.bench.proofs.Over.{none_day}
@@ -79,54 +80,92 @@ module _ {D C : Type 0} (m : Node) (old new : Bench D C) (rest : OthersRest m ol
       by Host differs = tt
       by Verifier differs = tt
 
-module _ {D C S XD XC RD RC : Type 0} (n : Nodes D C S XD XC RD RC) (g : nv.Ghosts S) (f : fuse.Ghosts S) (m : Node) (e : Event) (turn : Turn) (old new : Bench D C) where
-  -- what node m did, whatever the storages tell
+module _ {D C S XD XC RD RC : Type 0} (n : Nodes D C S XD XC RD RC) (g : nv.Ghosts S) (f : fuse.Ghosts S) (m : Node) (e x : Event) (turn : Turn) (old new : Bench D C) where
+  -- what node m did in event e, which is x where it is given, whatever the storages tell
   pub record NodeDid : Type 0 where
-    pub of : IsOfNode m e
+    pub given : as_given old.messages e ≡ x
+    pub of : IsOfNode m x
     pub rest : OthersRest m old new
+    pub sends : new.messages ≡ old.messages ++ notes_in turn.entries
     pub dated : old.day ≡ None → ⊥
-    pub reply : MayGet e turn.reply
+    pub reply : MayGet x turn.reply
     pub on_day : turn.reply ≢ r.NoDay
     pub refused : is_refusal turn.reply ≡ true → (new ≡ old) × (turn.entries ≡ in_order [])
-    pub adds : Adds e (told_by turn.reply) turn.entries
-    pub switches : At (λ d s t. Switches m e turn.reply (n.devices.is_on s) (n.devices.is_on t)) (λ s t. Switches m e turn.reply (n.centre.is_on s) (n.centre.is_on t)) old new m
-    pub charged : At (λ d s t. Charged m e turn.reply (meters_of n.devices g s) (meters_of n.devices g t)) (λ s t. Charged m e turn.reply (meters_of n.centre g s) (meters_of n.centre g t)) old new m
-    pub armed : (calls keep byte : ℕ) → e ≡ ev.Cut m calls keep byte → At (λ d s t. IsArmed n.devices f t calls keep byte) (λ s t. IsArmed n.centre f t calls keep byte) old new m
-    pub unwritten : g.tells → may_commit e ≡ false
+    pub adds : Adds x (told_by turn.reply) turn.entries
+    pub switches : At (λ d s t. Switches m x turn.reply (n.devices.is_on s) (n.devices.is_on t)) (λ s t. Switches m x turn.reply (n.centre.is_on s) (n.centre.is_on t)) old new m
+    pub charged : At (λ d s t. Charged m x turn.reply (meters_of n.devices g s) (meters_of n.devices g t)) (λ s t. Charged m x turn.reply (meters_of n.centre g s) (meters_of n.centre g t)) old new m
+    pub armed : (calls keep byte : ℕ) → x ≡ ev.Cut m calls keep byte → At (λ d s t. IsArmed n.devices f t calls keep byte) (λ s t. IsArmed n.centre f t calls keep byte) old new m
+    pub unwritten : g.tells → may_commit x ≡ false
         → At (λ d s t. Mounts (times_of n.devices g s) (times_of n.devices g t)) (λ s t. Mounts (times_of n.centre g s) (times_of n.centre g t)) old new m
-    pub found : g.tells → e ≡ ev.On m → has_read turn.reply ≡ true
+    pub found : g.tells → x ≡ ev.On m → has_read turn.reply ≡ true
         → At (λ d s t. (turn.reply ≡ r.Damaged m) ↔ HasDamage n.devices d t) (λ s t. (turn.reply ≡ r.Damaged m) ↔ HasDamage n.centre tt t) old new m
 
   module _ (did : NodeDid) where
     -- == whatever the storages tell ==
 
-    charged_at : (k : Node)
-        → At (λ d s t. Charged k e turn.reply (meters_of n.devices g s) (meters_of n.devices g t)) (λ s t. Charged k e turn.reply (meters_of n.centre g s) (meters_of n.centre g t)) old new k
+    abbrev ChargedAt : Node → Type 0
+    ChargedAt k = At (λ d s t. Charged k x turn.reply (meters_of n.devices g s) (meters_of n.devices g t)) (λ s t. Charged k x turn.reply (meters_of n.centre g s) (meters_of n.centre g t)) old new k
+
+    charged_at : (k : Node) → ChargedAt k
     charged_at k = ⊎_elim
-        (λ (same : k ≡ m). subst (λ (j : Node). At (λ d s t. Charged j e turn.reply (meters_of n.devices g s) (meters_of n.devices g t)) (λ s t. Charged j e turn.reply (meters_of n.centre g s) (meters_of n.centre g t)) old new j) (sym same) did.charged)
-        (λ (differs : k ≢ m). let none = untold m e k turn.reply did.of did.reply differs in
-        stays m old new did.rest (λ d s t. Charged k e turn.reply (meters_of n.devices g s) (meters_of n.devices g t)) (λ s t. Charged k e turn.reply (meters_of n.centre g s) (meters_of n.centre g t)) k differs
-        (λ d i s next was. rests_charged k e turn.reply (meters_of n.devices g s) none.0 none.1) (rests_charged k e turn.reply (meters_of n.centre g old.centre) none.0 none.1))
+        (λ (same : k ≡ m). subst (λ (j : Node). ChargedAt j) (sym same) did.charged)
+        (λ (differs : k ≢ m). let none = untold m x k turn.reply did.of did.reply differs in
+        stays m old new did.rest (λ d s t. Charged k x turn.reply (meters_of n.devices g s) (meters_of n.devices g t)) (λ s t. Charged k x turn.reply (meters_of n.centre g s) (meters_of n.centre g t)) k differs
+        (λ d i s next was. rests_charged k x turn.reply (meters_of n.devices g s) none.0 none.1) (rests_charged k x turn.reply (meters_of n.centre g old.centre) none.0 none.1))
         (same_or_not k m)
 
-    pub at_alone : StepsAlone n g f e turn old new
-    at_alone = record {
-      reply = did.reply;
+    alike : NeedsAlike e x
+    alike = subst (NeedsAlike e) did.given (given_alike old.messages e)
+
+    -- an event that is not delivered is the one that is given
+    is_given : (y : Event) → as_given old.messages y ≡ y → e ≡ y → x ≡ y
+    is_given y same is = sym did.given ∙ ap (as_given old.messages) is ∙ same
+
+    -- what holds of what it leaves, of node k
+    abbrev SwitchesAt : Node → Type 0
+    SwitchesAt k = At (λ d s t. Switches k x turn.reply (n.devices.is_on s) (n.devices.is_on t)) (λ s t. Switches k x turn.reply (n.centre.is_on s) (n.centre.is_on t)) old new k
+
+    switches_at : (k : Node) → node_for x ≡ Some k → SwitchesAt k
+    switches_at k is = subst (λ (j : Node). SwitchesAt j) (node_is m x k did.of is) did.switches
+
+    armed_at : (k : Node) (calls keep byte : ℕ) → x ≡ ev.Cut k calls keep byte → At (λ d s t. IsArmed n.devices f t calls keep byte) (λ s t. IsArmed n.centre f t calls keep byte) old new k
+    armed_at k calls keep byte is =
+        let same = node_is m x k did.of (ap node_for is) in
+        subst (λ (j : Node). At (λ d s t. IsArmed n.devices f t calls keep byte) (λ s t. IsArmed n.centre f t calls keep byte) old new j) same
+        (did.armed calls keep byte (is ∙ ap (λ (j : Node). ev.Cut j calls keep byte) (sym same)))
+
+    rests_at : (k : Node) → (node_for x ≡ Some k → ⊥) → At (λ d s t. t ≡ s) (λ s t. t ≡ s) old new k
+    rests_at k not = stays m old new did.rest (λ d s t. t ≡ s) (λ s t. t ≡ s) k (λ same. not (did.of.node ∙ ap (λ (j : Node). Some j) (sym same))) (λ d i s next was. refl) refl
+
+    leaves_at : (k : Node) → At (λ d. Leaves n.devices g f k x old.day turn.reply) (Leaves n.centre g f k x old.day turn.reply) old new k
+    leaves_at k = together k (charged_at k) (switches_at k) (armed_at k) (rests_at k)
+      where
+        together : (j : Node) → ChargedAt j → (node_for x ≡ Some j → SwitchesAt j)
+            → ((calls keep byte : ℕ) → x ≡ ev.Cut j calls keep byte → At (λ d s t. IsArmed n.devices f t calls keep byte) (λ s t. IsArmed n.centre f t calls keep byte) old new j)
+            → ((node_for x ≡ Some j → ⊥) → At (λ d s t. t ≡ s) (λ s t. t ≡ s) old new j)
+            → At (λ d. Leaves n.devices g f j x old.day turn.reply) (Leaves n.centre g f j x old.day turn.reply) old new j
+        together (Device d) charged switches armed rests = λ i s t next was is. record {
+          switches = λ some at. switches at i s t next was is;
+          charged = charged i s t next was is;
+          armed = λ some calls keep byte at. armed calls keep byte at i s t next was is;
+          rests = λ not. rests not i s t next was is;
+        }
+        together Centre charged switches armed rests = record { switches = λ some at. switches at; charged = charged; armed = λ some calls keep byte at. armed calls keep byte at; rests = rests }
+        together Host charged switches armed rests = tt
+        together Verifier charged switches armed rests = tt
+
+    pub at_alone : ((k : ℕ) → e ≡ ev.Deliver k → slice_get old.messages k ≡ None → ⊥) → StepsAlone n g f e turn old new
+    at_alone there = record {
+      reply = subst (λ (y : Event). MayGet y turn.reply) (sym did.given) did.reply;
       day = λ needs. (λ is. absurd (did.on_day is), λ none. absurd (did.dated none));
-      dated = did.rest.day ∙ sym (did.of.leaves old.day);
-      dates = λ t is. absurd (did.of.no_day t is);
-      ends = λ is. absurd (did.of.no_end is);
+      dated = did.rest.day ∙ sym (alike.leaves old.day ∙ did.of.leaves old.day);
+      dates = λ t is. absurd (did.of.no_day t (is_given (ev.Day t) refl is));
+      ends = λ is. absurd (did.of.no_end (is_given ev.End refl is));
+      message = λ k is some none. absurd (there k is none);
+      sends = did.sends;
       refused = did.refused;
-      adds = did.adds;
-      switches = λ some k is.
-          subst (λ (j : Node). At (λ d s t. Switches j e turn.reply (n.devices.is_on s) (n.devices.is_on t)) (λ s t. Switches j e turn.reply (n.centre.is_on s) (n.centre.is_on t)) old new j)
-          (node_is m e k did.of is) did.switches;
-      charged = charged_at;
-      armed = λ some k calls keep byte is.
-          let same = node_is m e k did.of (ap node_for is) in
-          subst (λ (j : Node). At (λ d s t. IsArmed n.devices f t calls keep byte) (λ s t. IsArmed n.centre f t calls keep byte) old new j) same
-          (did.armed calls keep byte (is ∙ ap (λ (j : Node). ev.Cut j calls keep byte) (sym same)));
-      others = λ k not. stays m old new did.rest (λ d s t. t ≡ s) (λ s t. t ≡ s) k (λ same. not (did.of.node ∙ ap (λ (j : Node). Some j) (sym same))) (λ d i s next was. refl) refl;
+      adds = subst (λ (y : Event). Adds y (told_by turn.reply) turn.entries) (sym did.given) did.adds;
+      nodes = λ k. subst (λ (y : Event). At (λ d. Leaves n.devices g f k y old.day turn.reply) (Leaves n.centre g f k y old.day turn.reply) old new k) (sym did.given) (leaves_at k);
     }
 
     -- == by what the storages show ==
@@ -134,12 +173,13 @@ module _ {D C S XD XC RD RC : Type 0} (n : Nodes D C S XD XC RD RC) (g : nv.Ghos
     pub at_unwritten : g.tells → may_commit e ≡ false → (k : Node)
         → At (λ d s t. Mounts (times_of n.devices g s) (times_of n.devices g t)) (λ s t. Mounts (times_of n.centre g s) (times_of n.centre g t)) old new k
     at_unwritten tells none = walk m old new did.rest (λ d s t. Mounts (times_of n.devices g s) (times_of n.devices g t)) (λ s t. Mounts (times_of n.centre g s) (times_of n.centre g t))
-        (did.unwritten tells none) (λ d i s next differs was. mounts_none (times_of n.devices g s)) (λ differs. mounts_none (times_of n.centre g old.centre))
+        (did.unwritten tells (sym alike.commits ∙ none)) (λ d i s next differs was. mounts_none (times_of n.devices g s)) (λ differs. mounts_none (times_of n.centre g old.centre))
 
     pub at_damaged : g.tells → (k : Node) → e ≡ ev.On k → has_read turn.reply ≡ true
         → At (λ d s t. (turn.reply ≡ r.Damaged k) ↔ HasDamage n.devices d t) (λ s t. (turn.reply ≡ r.Damaged k) ↔ HasDamage n.centre tt t) old new k
-    at_damaged tells k on read =
-        let same = node_is m e k did.of (ap node_for on) in
+    at_damaged tells k is read =
+        let on = is_given (ev.On k) refl is in
+        let same = node_is m x k did.of (ap node_for on) in
         subst (λ (j : Node). At (λ d s t. (turn.reply ≡ r.Damaged j) ↔ HasDamage n.devices d t) (λ s t. (turn.reply ≡ r.Damaged j) ↔ HasDamage n.centre tt t) old new j) same
         (did.found tells (on ∙ ap (λ (j : Node). ev.On j) (sym same)) read)
 
@@ -153,13 +193,14 @@ module _ {D C S XD XC RD RC : Type 0} (n : Nodes D C S XD XC RD RC) (g : nv.Ghos
         (λ s t. node.Stands n.centre g tt (centre_view n (ledger.entries τ todays_rules H e [] turn.reply)) t) old new m
     pub others : OthersStay n.kinds m H (ledger.entries τ todays_rules H e [] turn.reply)
     pub rests : Rests H (ledger.entries τ todays_rules H e [] turn.reply)
+    pub sent : sent_in (ledger.entries τ todays_rules H e [] turn.reply) ≡ sent_in H ++ notes_in turn.entries
     pub closes : tells_failure turn.reply ≡ false → torn_of m H ≡ None → torn_of m (ledger.entries τ todays_rules H e [] turn.reply) ≡ None
     pub shows : At (λ d. ShowsLedger n.devices g (n.kinds.devices.seen d) (Device d) τ H e) (ShowsLedger n.centre g (n.kinds.centre.seen tt) Centre τ H e) old new m
     pub open_others : OthersStay n.kinds m H (with_open (plan τ todays_rules H e []).commit H)
     pub left : At (λ d s t. (store : N) → h.size store ≡ n.devices.bytes → HoldsImage n.devices g h s t store → StoreStands n.devices h d (device_view n d (after_stop τ H e)) store)
         (λ s t. (store : N) → h.size store ≡ n.centre.bytes → HoldsImage n.centre g h s t store → StoreStands n.centre h tt (centre_view n (after_stop τ H e)) store) old new m
 
-  module _ (did : NodeDid) {N : Type 0} (h : nv.Ghosts N) (τ : Tariff) (H : Ledger) (on : NodeDidOn h τ H) (history : History τ editions H) (whole : IsWholeEvent e) (of : IsTaken e)
+  module _ (did : NodeDid) {N : Type 0} (h : nv.Ghosts N) (τ : Tariff) (H : Ledger) (on : NodeDidOn h τ H) (history : History τ editions H) (unforged : Unforged e H) (whole : IsWholeEvent e)
       (ready : IsReady old) (stands : Stands n g old H) (tells : g.tells) where
     abbrev L : Ledger
     L = ledger.entries τ todays_rules H e [] turn.reply
@@ -176,7 +217,7 @@ module _ {D C S XD XC RD RC : Type 0} (n : Nodes D C S XD XC RD RC) (g : nv.Ghos
       day = record {
         day = rest.day ∙ stands.day.day ∙ sym on.rests.day;
         rates = on.rests.rates ∙ stands.day.rates;
-        messages = on.rests.messages ∙ stands.day.messages;
+        messages = did.sends ∙ ap (λ (l : List (List ℕ)). l ++ notes_in turn.entries) stands.day.messages ∙ sym on.sent;
         host = on.rests.host ∙ stands.day.host;
         verifier = on.rests.verifier ∙ stands.day.verifier;
       };
@@ -248,7 +289,7 @@ module _ {D C S XD XC RD RC : Type 0} (n : Nodes D C S XD XC RD RC) (g : nv.Ghos
       stands = at_stands;
       closed = at_closed;
       any_moment = at_shows;
-      stopped = λ stores are. (stop_history τ H e history whole of, at_left stores are);
+      stopped = λ stores are. (stop_history τ H e history whole unforged, at_left stores are);
     }
 
 -- what is told of a turn is what it tells

@@ -1,5 +1,5 @@
 -- A bench that is made over storages, and taken apart.
-use Rattle.std.proofs.Common.{◌≡◌, ◌+◌, ◌∷◌, Bool, false, None, refl, sym, ◌∙◌, subst, arith, true≢false}
+use Rattle.std.proofs.Common.{◌≡◌, ◌+◌, [], ◌∷◌, Bool, false, None, refl, sym, ◌∙◌, subst, arith, true≢false}
 use Rattle.std.proofs.lemmas.Option.{slice_get_within}
 use Rattle.bench_base.specs.declared.ledger.Entry.TheVariants.{Begin}
 use Rattle.bench_base.specs.Ledger.{Ledger}
@@ -21,8 +21,8 @@ use Rattle.bench.specs.Places.{IsOver, AreOver, AreInside, IsDeviceOver, IsInDev
 use Rattle.bench.proofs.Making.{get_some, pairs_at, pairs_length}
 
 -- a run that begins has no day, and no node is on
-pub none_day : (L : Ledger) → HasDay None (Begin ∷ L)
-none_day L = record { day = refl; rates = refl; messages = refl; host = refl; verifier = refl }
+pub none_day : (L : Ledger) → HasDay None [] (Begin ∷ L)
+none_day L = record { day = refl; messages = refl; rates = refl; host = refl; verifier = refl }
 
 -- == one storage, with its fuse and without ==
 
@@ -62,10 +62,10 @@ module _ {N XD XC RD RC : Type 0} {h : nv.Ghosts N} (g : nv.Ghosts (Fused N h)) 
     (sizes : (s : Fused N h) → g.size s ≡ h.size (inside s)) (times : (s : Fused N h) → g.times s ≡ h.times (inside s))
     (device_on : (k : DeviceNode (Fused N h) g) → n.devices.is_on k ≡ device.is_on k) (device_storage : (k : DeviceNode (Fused N h) g) → n.devices.storage k ≡ device.storage_in k)
     (centre_on : (k : CentreNode (Fused N h) g) → n.centre.is_on k ≡ centre.is_on k) (centre_storage : (k : CentreNode (Fused N h) g) → n.centre.storage k ≡ centre.storage_in k) where
-  pub over_stands : (g.tells → h.tells) → (stores : benches.Places N) (bench : Bench (DeviceNode (Fused N h) g) (CentreNode (Fused N h) g)) (H : Ledger) → bench.day ≡ None → AreOver stores bench
+  pub over_stands : (g.tells → h.tells) → (stores : benches.Places N) (bench : Bench (DeviceNode (Fused N h) g) (CentreNode (Fused N h) g)) (H : Ledger) → bench.day ≡ None → bench.messages ≡ [] → AreOver stores bench
       → StoresStand n h stores H → Stands n g bench H
-  over_stands told stores bench H no_day over stands = record {
-    day = subst (λ o. HasDay o H) (sym no_day) stands.day;
+  over_stands told stores bench H no_day no_messages over stands = record {
+    day = subst (λ o. HasDay o bench.messages H) (sym no_day) (subst (λ l. HasDay None l H) (sym no_messages) stands.day);
     devices = λ i s is.
         let lt = slice_get_within bench.devices i s is in
         let nv = get_some stores.devices i (omega (arith, pairs_length (λ store k. IsDeviceOver store k) stores.devices bench.devices over.devices)) in

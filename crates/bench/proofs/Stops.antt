@@ -11,18 +11,16 @@ use Rattle.bench_base.specs.Ledger.{Ledger}
 use Rattle.node_acts.specs.Plans.{with_torn}
 use Rattle.ledger_moves.specs.Tariffs.{Tariff}
 use Rattle.ledger_moves.specs.Moves.{plan, entries}
-use Rattle.ledger_moves.specs.Histories.{History, begins, moves}
-use Rattle.bench_views.specs.Taken.{IsTaken}
-use Rattle.bench_views.proofs.Events.{brings_nothing}
+use Rattle.ledger_moves.specs.Histories.{History, Unforged, begins, moves}
 use Rattle.bench.specs.Steps.{with_open, after_stop}
 
 -- a commit that was torn in the event makes a history
-open_history : (τ : Tariff) (H : Ledger) (e : Event) → History τ editions H → IsWholeEvent e → IsTaken e
+open_history : (τ : Tariff) (H : Ledger) (e : Event) → History τ editions H → IsWholeEvent e → Unforged e H
     → (o : Option Commit) → (plan τ todays_rules H e []).commit ≡ o → History τ editions (with_open o H)
-open_history τ H e history whole taken None is = history
-open_history τ H e history whole taken (Some c) is =
+open_history τ H e history whole unforged None is = history
+open_history τ H e history whole unforged (Some c) is =
     let ledger : entries τ todays_rules H e [] (r.Power (node_of c)) ≡ entry.Torn (node_of c) c ∷ H = ap (λ (o : Option Commit). with_torn o (node_of c) H) is in
-    subst (λ (L : Ledger). History τ editions L) ledger (moves e [] (r.Power (node_of c)) history (brings_nothing e H taken) (whole, inr (inr (inl (inr (c, is, refl))))))
+    subst (λ (L : Ledger). History τ editions L) ledger (moves e [] (r.Power (node_of c)) history unforged (whole, inr (inr (inl (inr (c, is, refl))))))
 
-pub stop_history : (τ : Tariff) (H : Ledger) (e : Event) → History τ editions H → IsWholeEvent e → IsTaken e → History τ editions (after_stop τ H e)
-stop_history τ H e history whole taken = begins (open_history τ H e history whole taken (plan τ todays_rules H e []).commit refl)
+pub stop_history : (τ : Tariff) (H : Ledger) (e : Event) → History τ editions H → IsWholeEvent e → Unforged e H → History τ editions (after_stop τ H e)
+stop_history τ H e history whole unforged = begins (open_history τ H e history whole unforged (plan τ todays_rules H e []).commit refl)

@@ -1,11 +1,12 @@
 -- What contracts see of a bench, and when it stands for a ledger. A kind of nodes is a field of `Bench`, of `Stores` and of `Nodes`, a
 -- row of `At`, and what is said of it in `Stands` and `StoresStand`; all else is said of a node by its name.
-use Rattle.std.specs.Prelude.{◌≡◌, ℕ, ℤ, ◌+◌, false, List, Option, Some, None, length, replicate, slice_get}
+use Rattle.std.specs.Prelude.{◌≡◌, ℕ, ℤ, ◌+◌, false, List, [], Option, Some, None, length, replicate, slice_get}
 use Rattle.bench_base.specs.declared.words.Node.{Node}
 use Rattle.bench_base.specs.declared.words.Node.TheVariants.{Device, Centre, Host, Verifier}
 use Rattle.bench_base.specs.declared.sizes.TheConstants.{DEVICE_BYTES, CENTRE_BYTES}
 use Rattle.bench_base.specs.Rules.{editions}
-use Rattle.bench_base.specs.Ledger.{Ledger, day_in, rates_in, messages, is_on}
+use Rattle.bench_base.specs.declared.events.Event.{Event}
+use Rattle.bench_base.specs.Ledger.{Ledger, day_in, rates_in, is_on}
 use Rattle.nv_model.specs.declared.nv.Nv as nv
 use Rattle.nv_model.specs.declared.fuse.Fuse as fuse
 use Rattle.nv_model.specs.declared.fused.Fused.{Fused}
@@ -19,19 +20,21 @@ use Rattle.node_seat.specs.Stands.{StoreStands}
 use Rattle.psd_device.specs.declared.node.DeviceNode.{DeviceNode}
 use Rattle.centre_protocol.specs.declared.node.CentreNode.{CentreNode}
 use Rattle.ledger_moves.specs.Tariffs.{Tariff}
-use Rattle.ledger_moves.specs.Histories.{History}
+use Rattle.ledger_moves.specs.Histories.{History, Unforged}
 use Rattle.bench_views.specs.Kinds.{Kinds}
+use Rattle.bench_views.specs.Messages.{sent_in}
 use Rattle.bench.specs.declared.stores.Stores.{Stores}
 use Rattle.bench.specs.declared.benches.BenchOver.{BenchOver}
 
--- the day, the devices, of which number i is device i + 1, and the centre
+-- the day, the messages of the run, of which the first was sent first, the devices, of which number i is device i + 1, and the centre
 pub record Bench (D C : Type 0) : Type 0 where
   pub day : Option ℤ
+  pub messages : List (List ℕ)
   pub devices : List D
   pub centre : C
 
 abbrev pub bench_of : {M N : Type 0} {g : nv.Ghosts M} → BenchOver M N g → Bench (DeviceNode M g) (CentreNode M g)
-bench_of bench = record { day = bench.day; devices = bench.devices.items; centre = bench.centre }
+bench_of bench = record { day = bench.day; messages = bench.messages.items; devices = bench.devices.items; centre = bench.centre }
 
 -- the storages in their places
 pub record Places (N : Type 0) : Type 0 where
@@ -56,11 +59,11 @@ At P Q old new Verifier = Unit {0}
 pub record IsReady {D C : Type 0} (bench : Bench D C) : Type 0 where
   pub eight : length bench.devices ≡ 8
 
--- The bench has this day. It has no rates and no messages yet, and of the nodes the devices and the centre.
-pub record HasDay (today : Option ℤ) (H : Ledger) : Type 0 where
+-- The bench has this day and these messages. It has no rates yet, and of the nodes the devices and the centre.
+pub record HasDay (today : Option ℤ) (sent : List (List ℕ)) (H : Ledger) : Type 0 where
   pub day : today ≡ day_in H
+  pub messages : sent ≡ sent_in H
   pub rates : rates_in H ≡ None
-  pub messages : messages H ≡ 0
   pub host : is_on Host H ≡ false
   pub verifier : is_on Verifier H ≡ false
 
@@ -92,18 +95,19 @@ module _ {D C S XD XC RD RC : Type 0} (n : Nodes D C S XD XC RD RC) where
 
   -- the bench stands for the ledger: so does each node of it
   pub record Stands (g : nv.Ghosts S) (bench : Bench D C) (H : Ledger) : Type 0 where
-    pub day : HasDay bench.day H
+    pub day : HasDay bench.day bench.messages H
     pub devices : (i : ℕ) (s : D) → slice_get bench.devices i ≡ Some s → node.Stands n.devices g (i + 1) (device_view (i + 1) H) s
     pub centre : node.Stands n.centre g tt (centre_view H) bench.centre
 
   -- the storages stand for the ledger: no node is on, and there is no day
   pub record StoresStand {N : Type 0} (h : nv.Ghosts N) (stores : Places N) (H : Ledger) : Type 0 where
-    pub day : HasDay None H
+    pub day : HasDay None [] H
     pub off : (i : ℕ) (store : N) → slice_get stores.devices i ≡ Some store → is_on (Device (i + 1)) H ≡ false
     pub devices : (i : ℕ) (store : N) → slice_get stores.devices i ≡ Some store → StoreStands n.devices h (i + 1) (device_view (i + 1) H) store
     pub centre_off : is_on Centre H ≡ false
     pub centre : StoreStands n.centre h tt (centre_view H) stores.centre
 
-  -- P holds of each history for which the bench stands, whatever is read as rates, where its storages tell
-  abbrev pub ForEach : nv.Ghosts S → Bench D C → (Tariff → Ledger → Type 0) → Type 0
-  ForEach g bench P = (τ : Tariff) (H : Ledger) → History τ editions H → Stands g bench H → g.tells → P τ H
+  -- P holds of each history for which the bench stands and at which the event is unforged, whatever is read as rates, where its
+  -- storages tell
+  abbrev pub ForEach : nv.Ghosts S → Bench D C → Event → (Tariff → Ledger → Type 0) → Type 0
+  ForEach g bench e P = (τ : Tariff) (H : Ledger) → History τ editions H → Unforged e H → Stands g bench H → g.tells → P τ H

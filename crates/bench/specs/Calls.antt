@@ -1,55 +1,36 @@
--- What an event of one node does to the bench, and how a call is told.
-use Rattle.std.specs.Prelude.{◌≡◌, ℕ, ℤ, ◌+◌, List, [], ◌∷◌, Some, slice_get, slice_set, if◌then◌else◌}
-use Rattle.bench_base.specs.declared.ledger.Commit.TheVariants.{Deposited}
-use Rattle.bench_base.specs.declared.ledger.Entry.TheVariants as entry
+-- What an event of one node does to the bench, and which events ask a node for what.
+use Rattle.std.specs.Prelude.{◌≡◌, ℕ, ℤ, ◌+◌, List, Option, Some, None, slice_get, slice_set}
 use Rattle.bench_base.specs.declared.words.Node.{Node}
 use Rattle.bench_base.specs.declared.words.Node.TheVariants.{Device, Centre}
 use Rattle.bench_base.specs.declared.events.Event.{Event}
 use Rattle.bench_base.specs.declared.events.Event.TheVariants as ev
 use Rattle.bench_base.specs.declared.events.Reply.{Reply}
-use Rattle.bench_base.specs.Rules.{todays_rules}
-use Rattle.bench_base.specs.Ledger.{Ledger}
+use Rattle.bench_base.specs.declared.events.Reply.TheVariants as r
+use Rattle.bench_base.specs.Ranges.{IsDevice, IsCustomer, IsWord}
 use Rattle.nv_model.specs.declared.nv.Nv as nv
 use Rattle.nv_model.specs.declared.fuse.Fuse as fuse
 use Rattle.node_acts.specs.declared.asked.Asked.{Asked}
 use Rattle.node_acts.specs.declared.asked.Asked.TheVariants.{On, Off, Cut, Call}
-use Rattle.node_acts.specs.declared.act.Act.{Act}
-use Rattle.node_acts.specs.declared.act.Outcome.{Outcome}
 use Rattle.node_acts.specs.Kinds.{Kind}
 use Rattle.node_seat.specs.declared.node.Node.{Ghosts}
-use Rattle.node_seat.specs.Calls.{CallDoes}
-use Rattle.node_turns.specs.declared.node.Undone.{Undone}
-use Rattle.node_turns.specs.declared.node.Undone.TheVariants as undone
 use Rattle.node_turns.specs.declared.turn.Turn.{Turn}
-use Rattle.node_turns.specs.Turns.{turn_of, call_turn}
 use Rattle.node_turns.specs.NodeTurns.{NodeTurn}
-use Rattle.psd_wire.specs.declared.message.DebitMsg.{DebitMsg}
-use Rattle.psd_state.specs.Acts.{debit_commit}
-use Rattle.psd_state.specs.declared.acts.Franked.{Franked}
-use Rattle.centre_ledger.specs.declared.acts.Deposit.{Deposit}
 use Rattle.bench_views.specs.declared.taken.DeviceCall.{DeviceCall}
-use Rattle.bench_views.specs.declared.taken.DeviceCall.TheVariants.{Make, Debit, Status}
+use Rattle.bench_views.specs.declared.taken.DeviceCall.TheVariants.{Make, Debit, Ask, Resend, Ack, Status, Take}
 use Rattle.bench_views.specs.declared.taken.CentreCall.{CentreCall}
 use Rattle.bench_views.specs.declared.taken.CentreCall.TheVariants as call
 
--- a mark that is given again was debited before
-abbrev pub franked_entries : ℕ → DebitMsg → ℤ → Franked → Ledger
-franked_entries d q today f =
-    if f.again
-    then entry.Released d q.piece f.mark ∷ []
-    else entry.Released d q.piece f.mark ∷ entry.Commit (debit_commit todays_rules d q today) ∷ []
-
--- a deposit that is told of again was booked before
-abbrev pub deposited_entries : ℕ → ℕ → ℕ → Deposit → Ledger
-deposited_entries w receipt amount done = if done.again then [] else entry.Commit (Deposited w receipt amount) ∷ []
-
 -- == events ==
 
--- the event that asks device d this
+-- the event that asks device d this; what is delivered to it is given
 abbrev pub device_call_event : ℕ → DeviceCall → Event
 device_call_event d (Make key) = ev.Make d key
 device_call_event d (Debit piece postage class) = ev.Debit d piece postage class
+device_call_event d (Ask kind who amount k) = ev.Ask d kind who amount
+device_call_event d (Resend k) = ev.Resend d
+device_call_event d (Ack k) = ev.Ack d
 device_call_event d Status = ev.Status d
+device_call_event d (Take bytes k) = ev.Give (Device d) bytes
 
 -- the event that asks the centre this
 abbrev pub centre_call_event : CentreCall → Event
@@ -58,6 +39,7 @@ centre_call_event (call.Open w) = ev.OpenCustomer w
 centre_call_event (call.Deposit w receipt amount) = ev.Deposit w receipt amount
 centre_call_event (call.Flag w suspended) = ev.Flag w suspended
 centre_call_event (call.Balance w) = ev.Balance w
+centre_call_event (call.Take bytes k) = ev.Give Centre bytes
 
 abbrev pub asked_event : {C : Type 0} → Node → (C → Event) → Asked C → Event
 asked_event m of_call On = ev.On m
@@ -82,16 +64,26 @@ pub record DeviceTurn {K S C R : Type 0} (n : Ghosts K S ℕ C R) (g : nv.Ghosts
   pub set : new ≡ slice_set old place now
   pub did : NodeTurn n g f kind (Device d) d today (device_event d asked) asked before now turn
 
--- == a call, by its act ==
+-- == ranges ==
 
--- how a call that was not done is told
-abbrev pub TellsUndone : {T F : Type 0} → (T → Turn → Type 0) → (F → Reply) → Undone F T → T → Type 0
-TellsUndone IsOf refusal (undone.Refused x) told = IsOf told (turn_of (refusal x) [])
-TellsUndone IsOf refusal (undone.Told told') told = told ≡ told'
+-- the numbers of a call of the centre, as an event brings them
+abbrev pub IsRangedCall : CentreCall → Type 0
+IsRangedCall (call.Register d origin key) = IsDevice d × IsWord origin
+IsRangedCall (call.Open w) = IsCustomer w
+IsRangedCall (call.Deposit w receipt amount) = IsCustomer w
+IsRangedCall (call.Flag w suspended) = IsCustomer w
+IsRangedCall (call.Balance w) = IsCustomer w
+IsRangedCall (call.Take bytes k) = Unit {0}
 
--- node m did what this act says, and it is told by how it refuses, how it replies and what is added where it is done
-pub record TellsCall {K S N C R T F A : Type 0} (n : Ghosts K S N C R) (g : nv.Ghosts S) (IsOf : T → Turn → Type 0) (m : Node)
-    (refusal : F → Reply) (reply : A → Reply) (done : A → Ledger) (by : n.Seen → Act C F A) (s t : K) (told : T) : Type 0 where
-  pub outcome : Outcome F A
-  pub does : CallDoes n g by s t outcome
-  pub tells : IsOf told (call_turn m refusal reply done outcome)
+abbrev pub IsRanged : Asked CentreCall → Type 0
+IsRanged On = Unit {0}
+IsRanged Off = Unit {0}
+IsRanged (Cut calls keep byte) = Unit {0}
+IsRanged (Call c) = IsRangedCall c
+
+-- == the bench's own ==
+
+-- the reply to an event that needs a day
+abbrev pub dated : Option ℤ → Reply → Reply
+dated None reply = r.NoDay
+dated (Some today) reply = reply

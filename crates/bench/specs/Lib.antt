@@ -1,5 +1,6 @@
 pub mod Benches
 pub mod Calls
+pub mod Comparing
 pub mod Costs
 pub mod Places
 pub mod Steps

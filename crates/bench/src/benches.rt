@@ -1,12 +1,15 @@
 //! Eight devices and the centre, each in its place, and the day.
-ghost use Rattle.std.specs.Prelude.{◌≡◌, ◌≤◌, ◌<◌, ◌+◌, [], ◌∷◌, ℕ, Some, None, length, slice_get, IfOk, IfErr};
+ghost use Rattle.std.specs.Prelude.{◌≡◌, ◌≤◌, ◌<◌, ◌+◌, [], ◌∷◌, ◌++◌, ℕ, Some, None, length, slice_get, IfOk, IfErr};
 ghost use Rattle.std.specs.Vec.{vec_capacity};
 ghost use Rattle.bench_base.specs.declared.ledger.Entry.TheVariants.{Begin};
 ghost use Rattle.bench_base.specs.Ledger.{Ledger};
 ghost use Rattle.bench_views.specs.Kinds.{bench_kinds};
+ghost use Rattle.bench.specs.declared.benches.TheConstants.{MOST_MESSAGES};
+ghost use Rattle.std.specs.Option.{option_copied};
 
 use crate::places::{centre_over, centre_storage, device_over, device_storage, stop_all};
 use crate::stores::Stores;
+use bench_base::bytes::Note;
 use bench_base::numbers::DayNo;
 use centre_protocol::{CentreNode, CentreRoom};
 use node_seat::Node;
@@ -14,14 +17,20 @@ use nv_model::{Fuse, Fused, Nv};
 use psd_device::DeviceNode;
 use std::alloc::Global;
 
+/// How many messages a run may send.
+pub const MOST_MESSAGES: usize = 1_000_000;
+
 /// Eight devices and the centre over storages of type M, which are made of storages of type N.
 #[derive(Drop)]
 pub struct BenchOver<M: Nv, N> {
     pub(crate) devices: Vec<DeviceNode<M>>,
     pub(crate) centre: CentreNode<M>,
     pub(crate) day: Option<DayNo>,
+    /// The messages of the run, the first that was sent first.
+    pub(crate) messages: Vec<Note>,
     /// Room to hand the storages back.
     spare: Vec<N>,
+    ghost room: { MOST_MESSAGES ≤ vec_capacity messages },
     ghost roomy: { 8 ≤ vec_capacity spare },
     ghost empty: { length spare.items ≡ 0 },
 }
@@ -33,18 +42,45 @@ impl<M: Fuse + Drop, N> BenchOver<M, N> {
     ghost use Rattle.bench.specs.Benches.{IsReady, Stands, nodes, bench_of};
     ghost use Rattle.bench.specs.Places.{Begun};
 
-    /// Begins a run: each node is switched off, and the day is forgotten. The fuses stay.
+    /// Begins a run: each node is switched off, and the day and the messages are forgotten. The fuses stay.
     pub fn begin(&mut self)
         requires ready { IsReady (bench_of self.old) }
         ensures ready { IsReady (bench_of self.new) }
         ensures no_day { (bench_of self.new).day ≡ None }
+        ensures no_messages { (bench_of self.new).messages ≡ [] }
         ensures stands { (H : Ledger) → Stands (nodes ⟦<DeviceNode<M> as Node>⟧ ⟦<CentreNode<M> as Node>⟧ bench_kinds) M.Nv (bench_of self.old) H
             → Stands (nodes ⟦<DeviceNode<M> as Node>⟧ ⟦<CentreNode<M> as Node>⟧ bench_kinds) M.Nv (bench_of self.new) (Begin ∷ H) }
         ensures begun { Begun (nodes ⟦<DeviceNode<M> as Node>⟧ ⟦<CentreNode<M> as Node>⟧ bench_kinds) M.Nv (bench_of self.old) (bench_of self.new) }
     {
         self.day = None;
+        self.messages.clear();
         stop_all(&mut self.devices);
         let _was_on = node_seat::stop(&mut self.centre);
+    }
+}
+
+impl<M: Nv, N> BenchOver<M, N> {
+    ghost use Rattle.bench.specs.Benches.{bench_of};
+    ghost use Rattle.bench.specs.Steps.{notes_of};
+
+    /// Sends this message, if there is one: it is the next of the run.
+    pub(crate) fn send(&mut self, sent: Option<Note>)
+        requires few { length (bench_of self.old).messages < MOST_MESSAGES }
+        ensures { bench_of self.new ≡ record (bench_of self.old) { messages = (bench_of self.old).messages ++ notes_of sent } }
+    {
+        if let Some(note) = sent {
+            match self.messages.push(note) {
+                Ok(()) => {}
+                Err(_) => unreachable!(),
+            }
+        }
+    }
+
+    /// Message k of this run, counted from 0; None exactly where fewer were sent.
+    pub fn message(&self, k: u32) -> Option<&Note>
+        ensures { option_copied result ≡ slice_get (bench_of self.now).messages k }
+    {
+        self.messages.get(k as usize)
     }
 }
 
@@ -53,8 +89,8 @@ impl<N: Nv + Drop> Bench<N> {
     ghost use Rattle.bench.specs.Benches.{IsReady, Stands, StoresStand, AreBlank, nodes, bench_of, places_of};
     ghost use Rattle.bench.specs.Places.{AreOver, AreInside};
 
-    /// A bench over these storages, which have power and no fuse: all nodes are off, and there is no day. The memory in which the
-    /// centre runs is made here. The bench stands for what the storages stand for, and for the empty ledger where they are blank.
+    /// A bench over these storages, which have power and no fuse: all nodes are off, and there is no day and no message. The memory in
+    /// which the centre runs is made here, and that for a run's messages, 1,000,000 of 88 bytes, so that sending one takes none. The bench stands for what the storages stand for, and for the empty ledger where they are blank.
     /// Where there is no memory, the storages come back.
     pub fn new(alloc: Global, stores: Stores<N>) -> Result<Bench<N>, Stores<N>>
         requires eight { length stores.devices.items ≡ 8 }
@@ -62,6 +98,7 @@ impl<N: Nv + Drop> Bench<N> {
         requires fresh_centre { Works (N.meters stores.centre) }
         ensures ready { IfOk result (λ bench. IsReady (bench_of bench)) }
         ensures no_day { IfOk result (λ bench. (bench_of bench).day ≡ None) }
+        ensures no_messages { IfOk result (λ bench. (bench_of bench).messages ≡ []) }
         ensures over { IfOk result (λ bench. AreOver (places_of stores) (bench_of bench)) }
         ensures stands { IfOk result (λ bench. (H : Ledger) → StoresStand (nodes ⟦<DeviceNode<Fused<N>> as Node>⟧ ⟦<CentreNode<Fused<N>> as Node>⟧ bench_kinds) N.Nv (places_of stores) H
             → Stands (nodes ⟦<DeviceNode<Fused<N>> as Node>⟧ ⟦<CentreNode<Fused<N>> as Node>⟧ bench_kinds) ⟦<Fused<N> as Nv>⟧ (bench_of bench) H) }
@@ -91,6 +128,15 @@ impl<N: Nv + Drop> Bench<N> {
                 });
             }
         };
+        let messages = match Vec::with_capacity(alloc, MOST_MESSAGES) {
+            Ok(messages) => messages,
+            Err(_) => {
+                return Err(Stores {
+                    devices: spare,
+                    centre,
+                });
+            }
+        };
         for _ in 0..8usize {
             match spare.pop() {
                 Some(nv) => match devices.push(device_over(nv)) {
@@ -105,6 +151,7 @@ impl<N: Nv + Drop> Bench<N> {
             devices,
             centre: centre_over(centre, room),
             day: None,
+            messages,
             spare,
         })
     }
@@ -121,6 +168,7 @@ impl<N: Nv + Drop> Bench<N> {
             devices,
             centre,
             day: _,
+            messages: _,
             spare,
         } = self;
         let mut devices = devices;

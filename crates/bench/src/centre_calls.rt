@@ -1,134 +1,142 @@
-//! The calls of the centre: each decides by the centre's record, and is done by the centre in its place. Amounts are in mills.
-ghost use Rattle.std.specs.Prelude.{[], ◌∷◌};
-ghost use Rattle.bench_base.specs.declared.words.Node.TheVariants as node;
-ghost use Rattle.bench_base.specs.declared.ledger.Commit.TheVariants as commits;
-ghost use Rattle.bench_base.specs.declared.ledger.Entry.TheVariants as entry;
-ghost use Rattle.bench_base.specs.declared.events.Reply.TheVariants as reply;
-ghost use Rattle.node_acts.specs.declared.act.Outcome.TheVariants as outcome_of;
-ghost use Rattle.node_turns.specs.Turns.{call_turn};
-ghost use Rattle.centre_ledger.specs.Acts as act_of;
-ghost use Rattle.centre_ledger.specs.Seen.{books_in};
+//! The calls of the centre: what each does by the centre's rows, and what the centre says of it. Amounts are in mills.
+ghost use Rattle.std.specs.Prelude.{◌≡◌};
+ghost use Rattle.bench_base.specs.Table.{IsBytes};
 ghost use Rattle.bench_views.specs.Centre as views;
-ghost use Rattle.bench.specs.Calls.{deposited_entries, TellsUndone, TellsCall};
+ghost use Rattle.bench_views.specs.Centre.{says};
 
 use bench_base::events::Reply;
-use bench_base::ledger::{Commit, Entry};
-use bench_base::numbers::{Customer, DevNo};
-use bench_base::refusals::CentreRefusal;
-use bench_base::words::{Key, Node as NodeNo};
-use centre_ledger::{Deposit, balance_act, deposit_act, flag_act, open_act, register_act};
-use centre_protocol::CentreNode;
-use node_acts::Outcome;
-use node_seat::{Node, perform};
-use node_turns::{Tell, Undone, done};
-use nv_model::Fuse;
+use bench_base::numbers::Customer;
+use bench_views::CentreCall;
+use centre_ledger::{
+    Accounts, CentreAct, CentreAnswer, Deposit, Row, balance_act, deposit_act, flag_act, open_act,
+    register_act, take_act,
+};
+use node_acts::{Act, Said};
 
-fn undone<T: Tell>(undone: Undone<CentreRefusal, T>) -> T
-    ensures { TellsUndone T.IsOf reply.CentreRefused undone result }
+/// What the centre does in a call, with what it says of it.
+pub type CentreSays = Act<Row, Reply, Said>;
+
+// Of a call that answers nothing but that it was done.
+fn done(reply: Reply, act: CentreAct<()>) -> CentreSays
+    ensures { result ≡ says (views.done reply) act }
 {
-    match undone {
-        Undone::Refused(refusal) => T::silent(Reply::CentreRefused(refusal)),
-        Undone::Told(told) => told,
+    match act {
+        Act::Refuse(refusal) => Act::Refuse(Reply::CentreRefused(refusal)),
+        Act::Tell(()) => Act::Tell(Said::of(reply)),
+        Act::Commits(commit, row, ()) => Act::Commits(commit, row, Said::of(reply)),
     }
 }
 
-// How a call is told that makes this commit where it is done.
-fn changed<T: Tell>(outcome: Outcome<CentreRefusal, ()>, told: Reply, commit: Commit) -> T
-    ensures { T.IsOf result (call_turn node.Centre reply.CentreRefused (λ u. told) (λ u. entry.Commit commit ∷ []) outcome) }
+fn booked(customer: Customer, receipt: u32, deposit: &Deposit) -> Said
+    ensures { result ≡ views.deposited customer receipt deposit.now }
 {
-    match done(&NodeNo::Centre, outcome) {
-        Ok(()) => T::one(told, Entry::Commit(commit)),
-        Err(fail) => undone(fail),
+    Said::of(Reply::Deposited(customer, receipt, deposit.again, deposit.total))
+}
+
+fn deposited(customer: Customer, receipt: u32, act: CentreAct<Deposit>) -> CentreSays
+    ensures { result ≡ says (views.deposited customer receipt) act }
+{
+    match act {
+        Act::Refuse(refusal) => Act::Refuse(Reply::CentreRefused(refusal)),
+        Act::Tell(deposit) => Act::Tell(booked(customer, receipt, &deposit)),
+        Act::Commits(commit, row, deposit) => {
+            Act::Commits(commit, row, booked(customer, receipt, &deposit))
+        }
     }
 }
 
-/// Registers a device under a key.
-pub fn register<T: Tell, M: Fuse + Drop>(
-    place: &mut CentreNode<M>,
-    device: DevNo,
-    origin: u32,
-    key: &Key,
-) -> T
-    ensures did { TellsCall ⟦<CentreNode<M> as Node>⟧ M.Nv T.IsOf node.Centre reply.CentreRefused (λ u. reply.Registered device)
-        (λ u. entry.Commit (commits.Registered device origin key.now) ∷ []) (λ s. act_of.register_act device origin key.now (books_in s)) place.old place.new result }
+fn left(customer: Customer, act: CentreAct<u64>) -> CentreSays
+    ensures { result ≡ says (views.left customer) act }
 {
-    let act = register_act(device, origin, key, place.accounts());
-    changed(
-        perform(place, act),
-        Reply::Registered(device),
-        Commit::Registered(device, origin, *key),
-    )
-}
-
-/// Opens the account of a customer.
-pub fn open<T: Tell, M: Fuse + Drop>(place: &mut CentreNode<M>, customer: Customer) -> T
-    ensures did { TellsCall ⟦<CentreNode<M> as Node>⟧ M.Nv T.IsOf node.Centre reply.CentreRefused (λ u. reply.Opened customer)
-        (λ u. entry.Commit (commits.Opened customer) ∷ []) (λ s. act_of.open_act customer (books_in s)) place.old place.new result }
-{
-    let act = open_act(customer, place.accounts());
-    changed(
-        perform(place, act),
-        Reply::Opened(customer),
-        Commit::Opened(customer),
-    )
-}
-
-/// Suspends a customer, or resumes it.
-pub fn flag<T: Tell, M: Fuse + Drop>(
-    place: &mut CentreNode<M>,
-    customer: Customer,
-    suspended: bool,
-) -> T
-    ensures did { TellsCall ⟦<CentreNode<M> as Node>⟧ M.Nv T.IsOf node.Centre reply.CentreRefused (λ u. reply.Flagged customer suspended)
-        (λ u. entry.Commit (commits.Flagged customer suspended) ∷ []) (λ s. act_of.flag_act customer suspended (books_in s)) place.old place.new result }
-{
-    let act = flag_act(customer, suspended, place.accounts());
-    changed(
-        perform(place, act),
-        Reply::Flagged(customer, suspended),
-        Commit::Flagged(customer, suspended),
-    )
-}
-
-// How a deposit that was done is told. One that is told of again was booked before.
-fn deposited<T: Tell>(customer: Customer, receipt: u32, amount: u32, made: &Deposit) -> T
-    ensures { T.IsOf result (call_turn node.Centre reply.CentreRefused (views.deposited customer receipt) (deposited_entries customer receipt amount) (outcome_of.Done made.now)) }
-{
-    let told = Reply::Deposited(customer, receipt, made.again, made.total);
-    if made.again {
-        return T::silent(told);
-    }
-    T::one(
-        told,
-        Entry::Commit(Commit::Deposited(customer, receipt, amount)),
-    )
-}
-
-/// Books a deposit, or tells of the last one again.
-pub fn deposit<T: Tell, M: Fuse + Drop>(
-    place: &mut CentreNode<M>,
-    customer: Customer,
-    receipt: u32,
-    amount: u32,
-) -> T
-    ensures did { TellsCall ⟦<CentreNode<M> as Node>⟧ M.Nv T.IsOf node.Centre reply.CentreRefused (views.deposited customer receipt)
-        (deposited_entries customer receipt amount) (λ s. act_of.deposit_act customer receipt amount (books_in s)) place.old place.new result }
-{
-    let act = deposit_act(customer, receipt, amount, place.accounts());
-    match done(&NodeNo::Centre, perform(place, act)) {
-        Ok(made) => deposited(customer, receipt, amount, &made),
-        Err(fail) => undone(fail),
+    match act {
+        Act::Refuse(refusal) => Act::Refuse(Reply::CentreRefused(refusal)),
+        Act::Tell(left) => Act::Tell(Said::of(Reply::Balance(customer, left))),
+        Act::Commits(commit, row, left) => {
+            Act::Commits(commit, row, Said::of(Reply::Balance(customer, left)))
+        }
     }
 }
 
-/// What a customer has left.
-pub fn balance<T: Tell, M: Fuse + Drop>(place: &mut CentreNode<M>, customer: Customer) -> T
-    ensures did { TellsCall ⟦<CentreNode<M> as Node>⟧ M.Nv T.IsOf node.Centre reply.CentreRefused (reply.Balance customer) (λ n. [])
-        (λ s. act_of.balance_act customer (books_in s)) place.old place.new result }
+fn took_as(message: u32, answer: &CentreAnswer) -> Said
+    ensures { result ≡ views.took message answer.now }
 {
-    let act = balance_act(customer, place.accounts());
-    match done(&NodeNo::Centre, perform(place, act)) {
-        Ok(left) => T::silent(Reply::Balance(customer, left)),
-        Err(fail) => undone(fail),
+    match answer {
+        CentreAnswer::Ruled {
+            device,
+            number,
+            verdict,
+            reply,
+            again,
+        } => Said::sending(
+            Reply::Ruled(*device, *number, *verdict, *again, message),
+            *reply,
+        ),
+        CentreAnswer::Settled {
+            device,
+            number,
+            again,
+        } => Said::of(Reply::Settled(*device, *number, *again)),
+    }
+}
+
+fn took(message: u32, act: CentreAct<CentreAnswer>) -> CentreSays
+    ensures { result ≡ says (views.took message) act }
+{
+    match act {
+        Act::Refuse(refusal) => Act::Refuse(Reply::CentreRefused(refusal)),
+        Act::Tell(answer) => Act::Tell(took_as(message, &answer)),
+        Act::Commits(commit, row, answer) => {
+            Act::Commits(commit, row, took_as(message, &answer))
+        }
+    }
+}
+
+/// What the centre does where it is called for this, by its rows.
+pub fn centre_act(call: &CentreCall, accounts: &Accounts) -> CentreSays
+    ensures { result ≡ views.centre_act call.now accounts.now }
+{
+    match call {
+        CentreCall::Register {
+            device,
+            origin,
+            key,
+        } => done(
+            Reply::Registered(*device),
+            register_act(*device, *origin, key, accounts),
+        ),
+        CentreCall::Open(customer) => {
+            done(Reply::Opened(*customer), open_act(*customer, accounts))
+        }
+        CentreCall::Deposit {
+            customer,
+            receipt,
+            amount,
+        } => deposited(
+            *customer,
+            *receipt,
+            deposit_act(*customer, *receipt, *amount, accounts),
+        ),
+        CentreCall::Flag {
+            customer,
+            suspended,
+        } => done(
+            Reply::Flagged(*customer, *suspended),
+            flag_act(*customer, *suspended, accounts),
+        ),
+        CentreCall::Balance(customer) => left(*customer, balance_act(*customer, accounts)),
+        CentreCall::Take { bytes, message } => took(*message, take_act(bytes.as_slice(), accounts)),
+    }
+}
+
+fn are_bytes(bytes: &[u8])
+    ensures { IsBytes bytes.now }
+{}
+
+/// What a call hands over is a list of bytes.
+pub fn hands_bytes(call: &CentreCall)
+    ensures { views.IsBytesCall call.now }
+{
+    if let CentreCall::Take { bytes, message: _ } = call {
+        are_bytes(bytes.as_slice());
     }
 }

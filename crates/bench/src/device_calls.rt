@@ -1,95 +1,210 @@
-//! The calls of a device: each decides by the device's record, and is done by the device in its place.
-ghost use Rattle.std.specs.Prelude.{[], ◌∷◌};
-ghost use Rattle.bench_base.specs.declared.words.Node.TheVariants as node;
-ghost use Rattle.bench_base.specs.declared.refusals.DevRefusal.{DevRefusal};
-ghost use Rattle.bench_base.specs.declared.ledger.Commit.TheVariants.{Made};
-ghost use Rattle.bench_base.specs.declared.ledger.Entry.TheVariants as entry;
-ghost use Rattle.bench_base.specs.declared.events.Reply.TheVariants as reply;
-ghost use Rattle.bench_base.specs.Rules.{todays_rules};
-ghost use Rattle.node_acts.specs.declared.act.Outcome.{Outcome};
-ghost use Rattle.node_turns.specs.Turns.{call_turn};
-ghost use Rattle.psd_state.specs.Acts as act_of;
-ghost use Rattle.psd_state.specs.declared.acts.Franked.{Franked};
+//! The calls of a device: what each does by the device's record, and what the device says of it. Postage is in mills, days are
+//! since 1970-01-01.
+ghost use Rattle.std.specs.Prelude.{◌≡◌, []};
+ghost use Rattle.psd_wire.specs.declared.message.Message.TheVariants as m;
+ghost use Rattle.psd_wire.specs.Grammar.{spell};
 ghost use Rattle.bench_views.specs.Devices as views;
-ghost use Rattle.bench.specs.Calls.{franked_entries, TellsUndone, TellsCall};
+ghost use Rattle.bench_views.specs.Devices.{says};
 
-use bench_base::events::Reply;
-use bench_base::ledger::{Commit, Entry};
+use bench_base::bytes::Note;
+use bench_base::events::{DevView, Reply};
 use bench_base::numbers::{DayNo, DevNo};
-use bench_base::refusals::DevRefusal;
-use bench_base::words::{Key, Node as NodeNo};
-use node_seat::{Node, perform};
-use node_turns::{Tell, Undone, done};
-use nv_model::Fuse;
-use psd_device::{DeviceNode, Franked};
-use psd_state::acts::{debit_act, debit_commit, make_act, status_act};
+use bench_views::DeviceCall;
+use node_acts::{Act, Released, Said};
+use psd_device::Franked;
+use psd_state::DevRec;
+use psd_state::acts::{
+    DeviceAct, Taken, ack_act, ask_act, debit_act, make_act, resend_act, status_act, take_act,
+};
 use psd_wire::DebitMsg;
 
-fn undone<T: Tell>(device: DevNo, undone: Undone<DevRefusal, T>) -> T
-    ensures { TellsUndone T.IsOf (reply.DevRefused device) undone result }
+/// What a device does in a call, with what it says of it.
+pub type DeviceSays = Act<DevRec, Reply, Said>;
+
+fn made(device: DevNo, act: DeviceAct<()>) -> DeviceSays
+    ensures { result ≡ says device (λ u. views.made device) act }
 {
-    match undone {
-        Undone::Refused(refusal) => T::silent(Reply::DevRefused(device, refusal)),
-        Undone::Told(told) => told,
+    match act {
+        Act::Refuse(refusal) => Act::Refuse(Reply::DevRefused(device, refusal)),
+        Act::Tell(()) => Act::Tell(Said::of(Reply::Made(device))),
+        Act::Commits(commit, next, ()) => {
+            Act::Commits(commit, next, Said::of(Reply::Made(device)))
+        }
     }
 }
 
-/// Makes the device under a key.
-pub fn make<T: Tell, M: Fuse + Drop>(place: &mut DeviceNode<M>, device: DevNo, key: &Key) -> T
-    ensures did { TellsCall ⟦<DeviceNode<M> as Node>⟧ M.Nv T.IsOf (node.Device device) (reply.DevRefused device) (λ u. reply.Made device) (λ u. entry.Commit (Made device key.now) ∷ [])
-        (λ s. act_of.make_act device key.now s.state) place.old place.new result }
+fn marked_as(device: DevNo, piece: u32, franked: &Franked) -> Said
+    ensures { result ≡ views.marked device piece franked.now }
 {
-    let act = make_act(device, key, place.record());
-    match done(&NodeNo::Device(device), perform(place, act)) {
-        Ok(()) => T::one(
-            Reply::Made(device),
-            Entry::Commit(Commit::Made(device, *key)),
-        ),
-        Err(fail) => undone(device, fail),
-    }
-}
-
-// How a debit that was done is told. A mark that is given again was debited before.
-fn franked<T: Tell>(device: DevNo, command: &DebitMsg, day: DayNo, mark: &Franked) -> T
-    ensures { T.IsOf result (call_turn (node.Device device) (reply.DevRefused device) (views.marked device command.now.piece) (franked_entries device command.now day) (Outcome.Done mark.now)) }
-{
-    let marked = Reply::Marked(device, command.piece, mark.again, mark.mark);
-    let released = Entry::Released(device, command.piece, mark.mark);
-    if mark.again {
-        return T::one(marked, released);
-    }
-    T::two(
-        marked,
-        Entry::Commit(debit_commit(device, command, day)),
-        released,
+    let mark = franked.mark;
+    Said::releasing(
+        Reply::Marked(device, piece, franked.again, mark),
+        Released {
+            device,
+            piece,
+            mark,
+        },
     )
 }
 
-/// Debits a piece on that day, or gives the mark of the last piece again.
-pub fn debit<T: Tell, M: Fuse + Drop>(
-    place: &mut DeviceNode<M>,
-    device: DevNo,
-    command: &DebitMsg,
-    day: DayNo,
-) -> T
-    ensures did { TellsCall ⟦<DeviceNode<M> as Node>⟧ M.Nv T.IsOf (node.Device device) (reply.DevRefused device) (views.marked device command.now.piece) (franked_entries device command.now day)
-        (λ s. act_of.debit_act todays_rules device command.now day s.state) place.old place.new result }
+fn marked(device: DevNo, piece: u32, act: DeviceAct<Franked>) -> DeviceSays
+    ensures { result ≡ says device (views.marked device piece) act }
 {
-    let act = debit_act(device, command, day, place.record());
-    match done(&NodeNo::Device(device), perform(place, act)) {
-        Ok(mark) => franked(device, command, day, &mark),
-        Err(fail) => undone(device, fail),
+    match act {
+        Act::Refuse(refusal) => Act::Refuse(Reply::DevRefused(device, refusal)),
+        Act::Tell(franked) => Act::Tell(marked_as(device, piece, &franked)),
+        Act::Commits(commit, next, franked) => {
+            Act::Commits(commit, next, marked_as(device, piece, &franked))
+        }
     }
 }
 
-/// What the device shows on that day.
-pub fn status<T: Tell, M: Fuse + Drop>(place: &mut DeviceNode<M>, device: DevNo, day: DayNo) -> T
-    ensures did { TellsCall ⟦<DeviceNode<M> as Node>⟧ M.Nv T.IsOf (node.Device device) (reply.DevRefused device) (reply.Status device) (λ view. [])
-        (λ s. act_of.status_act day s.state) place.old place.new result }
+fn sent(device: DevNo, reply: Reply, act: DeviceAct<Note>) -> DeviceSays
+    ensures { result ≡ says device (views.sent reply) act }
 {
-    let act = status_act(day, place.record());
-    match done(&NodeNo::Device(device), perform(place, act)) {
-        Ok(shown) => T::silent(Reply::Status(device, shown)),
-        Err(fail) => undone(device, fail),
+    match act {
+        Act::Refuse(refusal) => Act::Refuse(Reply::DevRefused(device, refusal)),
+        Act::Tell(note) => Act::Tell(Said::sending(reply, note)),
+        Act::Commits(commit, next, note) => {
+            Act::Commits(commit, next, Said::sending(reply, note))
+        }
+    }
+}
+
+fn shown(device: DevNo, act: DeviceAct<DevView>) -> DeviceSays
+    ensures { result ≡ says device (views.shown device) act }
+{
+    match act {
+        Act::Refuse(refusal) => Act::Refuse(Reply::DevRefused(device, refusal)),
+        Act::Tell(view) => Act::Tell(Said::of(Reply::Status(device, view))),
+        Act::Commits(commit, next, view) => {
+            Act::Commits(commit, next, Said::of(Reply::Status(device, view)))
+        }
+    }
+}
+
+// The message that carries a mark.
+#[tactic(auto, unfolding(psd_wire::specs::Grammar::spell, psd_wire::specs::Grammar::body))]
+fn release(mark: &[u8; 64]) -> Note
+    ensures { result ≡ spell (m.Release mark.now) [] }
+{
+    let mut bytes = [0; 66];
+    bytes[0] = 1;
+    bytes[1] = 17;
+    bytes[2..].copy_from_slice(mark);
+    Note::of(&bytes)
+}
+
+fn took_as(device: DevNo, message: u32, taken: &Taken) -> Said
+    ensures { result ≡ views.took device message taken.now }
+{
+    match taken {
+        Taken::Applied { number, verdict } => Said::of(Reply::Applied(device, *number, *verdict)),
+        Taken::Released { piece, mark, again } => Said {
+            reply: Reply::Released(device, *piece, *again, message),
+            released: Some(Released {
+                device,
+                piece: *piece,
+                mark: *mark,
+            }),
+            sent: Some(release(mark)),
+        },
+    }
+}
+
+fn took(device: DevNo, message: u32, act: DeviceAct<Taken>) -> DeviceSays
+    ensures { result ≡ says device (views.took device message) act }
+{
+    match act {
+        Act::Refuse(refusal) => Act::Refuse(Reply::DevRefused(device, refusal)),
+        Act::Tell(taken) => Act::Tell(took_as(device, message, &taken)),
+        Act::Commits(commit, next, taken) => {
+            Act::Commits(commit, next, took_as(device, message, &taken))
+        }
+    }
+}
+
+// The number of the last transaction that was applied, and 0 where there is no record.
+fn number_in(day: DayNo, record: &Option<DevRec>) -> u32
+    ensures { result ≡ views.number_in «record».now }
+{
+    match record {
+        Some(record) => record.status(day).number,
+        None => 0,
+    }
+}
+
+// The number of the request that is outstanding, or of the next one.
+fn next_number(day: DayNo, record: &Option<DevRec>) -> u32
+    ensures { result ≡ views.next_number «record».now }
+{
+    match record {
+        Some(record) => {
+            let number = record.status(day).number;
+            if number == u32::MAX {
+                number
+            } else {
+                number + 1
+            }
+        }
+        None => 0,
+    }
+}
+
+/// What the device does where it is called for this on that day, by its record.
+pub fn device_act(
+    device: DevNo,
+    day: DayNo,
+    call: &DeviceCall,
+    record: &Option<DevRec>,
+) -> DeviceSays
+    ensures { result ≡ views.device_act device day call.now «record».now }
+{
+    match call {
+        DeviceCall::Make(key) => made(device, make_act(device, key, record)),
+        DeviceCall::Debit {
+            piece,
+            postage,
+            class,
+        } => {
+            let command = DebitMsg {
+                device: device.get(),
+                piece: *piece,
+                postage: *postage,
+                class: *class,
+            };
+            marked(device, *piece, debit_act(device, &command, day, record))
+        }
+        DeviceCall::Ask {
+            kind,
+            customer,
+            amount,
+            message,
+        } => {
+            let act = ask_act(device, *kind, *customer, *amount, day, record);
+            let number = next_number(day, record);
+            sent(device, Reply::SentRequest(device, number, *message), act)
+        }
+        DeviceCall::Resend { message } => {
+            let number = next_number(day, record);
+            sent(
+                device,
+                Reply::SentRequest(device, number, *message),
+                resend_act(record),
+            )
+        }
+        DeviceCall::Ack { message } => {
+            let number = number_in(day, record);
+            sent(
+                device,
+                Reply::SentDone(device, number, *message),
+                ack_act(record),
+            )
+        }
+        DeviceCall::Status => shown(device, status_act(day, record)),
+        DeviceCall::Take { bytes, message } => {
+            let act = take_act(device, bytes.as_slice(), day, record);
+            took(device, *message, act)
+        }
     }
 }

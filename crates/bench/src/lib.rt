@@ -3,12 +3,14 @@
 
 mod benches;
 mod centre_calls;
+mod comparing;
 mod device_calls;
 mod event;
 mod places;
 mod stores;
 
-pub use benches::{Bench, BenchOver};
-pub use event::{is_taken, react, step};
+pub use bench_views::is_taken;
+pub use benches::{Bench, BenchOver, MOST_MESSAGES};
+pub use event::{react, step};
 pub use node_turns::{Tell, Turn};
 pub use stores::Stores;

@@ -1,82 +1,215 @@
--- What a device is called for goes in one of the steps.
-use Rattle.std.proofs.Common.{◌≡◌, ℕ, ℤ, Bool, true, false, List, [], ◌∷◌, Option, Some, None, Result, Ok, Err, cond, refl, sym, subst}
-use Rattle.std.specs.Prelude.{option_map, ◌+◌}
-use Rattle.std.proofs.lemmas.Bool.{eq-eqb}
+-- After the commit of a call of a device, its record is that of the commits and the new one.
+use Rattle.std.proofs.Common.{◌≡◌, ℕ, ℤ, Bool, true, false, List, ◌∷◌, Option, Some, None, Result, Ok, Err, refl, sym, subst, true≢false, if◌then◌else◌}
+use Rattle.std.specs.Prelude.{◌+◌, ◌==◌, not, IfSome}
+use Rattle.std.proofs.lemmas.Bool.{eq-eqb, eqb-true}
+use Rattle.bench_base.specs.declared.words.Kind.{Kind}
+use Rattle.bench_base.specs.declared.words.Verdict.{Verdict}
 use Rattle.bench_base.specs.declared.words.Node.TheVariants.{Device}
 use Rattle.bench_base.specs.declared.refusals.DevRefusal.{DevRefusal}
+use Rattle.bench_base.specs.declared.refusals.DevRefusal.TheVariants as no
+use Rattle.bench_base.specs.declared.refusals.Unread.{Unread}
 use Rattle.bench_base.specs.declared.ledger.Commit.{Commit}
-use Rattle.bench_base.specs.declared.events.Reply.{Reply}
+use Rattle.bench_base.specs.declared.ledger.Commit.TheVariants as c
 use Rattle.bench_base.specs.declared.events.Reply.TheVariants as r
 use Rattle.bench_base.specs.Rules.{todays_rules}
 use Rattle.bench_base.specs.Nodes.{node_of}
 use Rattle.bench_base.specs.Ledger.{Ledger, is_on, counted, count_of}
+use Rattle.psd_wire.specs.declared.message.Request.{Request}
 use Rattle.psd_wire.specs.declared.message.DebitMsg.{DebitMsg}
+use Rattle.psd_wire.specs.declared.message.ReplyMsg.{ReplyMsg}
+use Rattle.psd_wire.specs.declared.message.Message.{Message}
+use Rattle.psd_wire.specs.declared.message.Message.TheVariants as m
+use Rattle.psd_wire.specs.Grammar.{read}
+use Rattle.psd_wire.specs.Codes.{has_code}
 use Rattle.ledger_terms.specs.Devices.{key_of}
-use Rattle.node_acts.specs.Acts.{commit_in}
-use Rattle.node_acts.specs.Plans.{after, MayReply}
-use Rattle.psd_state.specs.State.{State}
-use Rattle.psd_state.specs.Records.{IsRecordOf, state_of}
-use Rattle.psd_state.specs.Answers.{debit_answer}
-use Rattle.psd_state.specs.Seen.{Seen, counting}
-use Rattle.psd_state.specs.Acts.{make_act, franked_act, debit_act, status_act}
-use Rattle.psd_state.specs.Laws.{MakingStarts, DebitingKeeps}
+use Rattle.ledger_terms.specs.Rulings.{ruled_reply}
+use Rattle.node_acts.specs.declared.act.Act.{Act}
+use Rattle.node_acts.specs.declared.act.Act.TheVariants.{Refuse, Tell, Commits}
+use Rattle.psd_state.specs.State.{State, Holds}
+use Rattle.psd_state.specs.Records.{IsRecordOf, IsRuled as HasRuling, state_of}
+use Rattle.psd_state.specs.Answers.{debit_answer, ask_answer, apply_answer, after_apply, is_stray, resend_answer, done_answer}
+use Rattle.psd_state.specs.Seen.{counting}
+use Rattle.psd_state.specs.Acts.{DeviceAct, make_act, franked_act, debit_act, asked_act, ask_act, applied_act, reply_act, released, message_act, take_act, told_act, resend_act, ack_act, status_act}
+use Rattle.psd_state.specs.Laws.{MakingStarts, DebitingKeeps, AskingKeeps, ApplyingKeeps}
 use Rattle.psd_state.specs.declared.debiting.Debited.{Debited}
 use Rattle.psd_state.specs.declared.debiting.Debited.TheVariants.{New, Again}
+use Rattle.psd_state.specs.declared.acts.Franked.{Franked}
+use Rattle.psd_state.specs.declared.acts.Taken.{Taken}
+use Rattle.psd_state.specs.declared.acts.Taken.TheVariants as taken_as
 use Rattle.ledger_moves.specs.Moves.{debit_by}
 use Rattle.law_orders.specs.Nexts.{AreOrdered}
 use Rattle.bench_views.specs.declared.taken.DeviceCall.{DeviceCall}
-use Rattle.bench_views.specs.declared.taken.DeviceCall.TheVariants.{Make, Debit, Status}
-use Rattle.ledger_moves.specs.Devices.{record_in}
-use Rattle.bench_views.specs.Devices.{seen_in, view_of, marked, released, call_plan, call_commit}
-use Rattle.bench_views.proofs.Steps.{Step, IsQuiet, IsRight, acts}
+use Rattle.bench_views.specs.declared.taken.DeviceCall.TheVariants.{Make, Debit, Ask, Resend, Ack, Status, Take}
+use Rattle.ledger_moves.specs.Devices.{record_in, record_with}
+use Rattle.bench_views.specs.Devices.{seen_in, marked, took, device_act, IsKnown}
+use Rattle.bench_views.proofs.Calling.{IsMade, made_says}
+use Rattle.bench_views.proofs.Genuine.{IsRuled, OfCall}
+use Rattle.bench_views.proofs.Steps.{IsQuiet, IsSaid, IsQuietAct, IsRight, right_says, quiet_says}
 
-module _ (H : Ledger) (ordered : AreOrdered (counted H)) (making : MakingStarts) (debiting : DebitingKeeps) where
-  abbrev kept : ℕ → Option (List ℕ) → Option State
-  kept d k = option_map (λ key. state_of d key (counted H)) k
+-- == what is said ==
+
+refused_quiet : (d : ℕ) (y : DevRefusal) → IsQuiet (r.DevRefused d y)
+refused_quiet d y = record { plain = tt; no_print = λ j e. cc }
+
+took_said : (d k : ℕ) (a : Taken) → IsSaid (took d k a)
+took_said d k (taken_as.Applied n v) = record { did = refl; no_print = λ j e. cc }
+took_said d k (taken_as.Released piece x again) = record { did = refl; no_print = λ j e. cc }
+
+pub call_quiet : (d : ℕ) (today : ℤ) (call : DeviceCall) (s : Option State) → IsQuietAct (device_act d today call s)
+call_quiet d today (Make key) s = quiet_says (r.DevRefused d) _ (refused_quiet d) (λ u. record { did = refl; no_print = λ j e. cc }) (make_act d key s)
+call_quiet d today (Debit piece postage class) s =
+    quiet_says (r.DevRefused d) (marked d piece) (refused_quiet d) (λ f. record { did = refl; no_print = λ j e. cc }) (debit_act todays_rules d (debit_by d piece postage class) today s)
+call_quiet d today (Ask kind who amount k) s = quiet_says (r.DevRefused d) _ (refused_quiet d) (λ note. record { did = refl; no_print = λ j e. cc }) (ask_act todays_rules d kind who amount today s)
+call_quiet d today (Resend k) s = quiet_says (r.DevRefused d) _ (refused_quiet d) (λ note. record { did = refl; no_print = λ j e. cc }) (resend_act s)
+call_quiet d today (Ack k) s = quiet_says (r.DevRefused d) _ (refused_quiet d) (λ note. record { did = refl; no_print = λ j e. cc }) (ack_act s)
+call_quiet d today Status s = quiet_says (r.DevRefused d) _ (refused_quiet d) (λ shown. record { did = refl; no_print = λ j e. cc }) (status_act today s)
+call_quiet d today (Take bytes k) s = quiet_says (r.DevRefused d) (took d k) (refused_quiet d) (took_said d k) (take_act todays_rules d bytes today s)
+
+-- == its record ==
+
+-- what passes the checks of a Reply
+passed : {A F : Type 0} (stale stray : Bool) (x y : F) (a b : A) → (if stale then Err x else if stray then Err y else Ok a) ≡ Ok b → (stale ≡ false) × (a ≡ b)
+passed true stray x y a b is = cc
+passed false true x y a b is = cc
+passed false false x y a b is = (refl, cc)
+
+not_false : (b : Bool) → not b ≡ false → b ≡ true
+not_false true is = refl
+not_false false is = absurd (true≢false is)
+
+module _ (H : Ledger) (ordered : AreOrdered (counted H)) (making : MakingStarts) (debiting : DebitingKeeps) (asking : AskingKeeps) (applying : ApplyingKeeps) (d : ℕ) (known : IsKnown (seen_in d (counted H))) where
+  abbrev C : List Commit
+  C = counted H
+
+  -- what is known of the commit that an act makes, where it is made
+  abbrev pub IsNextMade : {F A : Type 0} → Act State F A → Type 0
+  IsNextMade act = IsMade counting (Device d) (seen_in d) H (λ c s. AreOrdered (c ∷ counted H) × IsKnown s) act
+
+  abbrev pub IsRightAct : {F A : Type 0} → Act State F A → Type 0
+  IsRightAct act = IsRight counting (Device d) (seen_in d) H act
 
   -- after a commit of the device that its record follows
-  seen-is : (d : ℕ) (s : State) (c : Commit) → node_of c ≡ Device d → IsRecordOf s d (c ∷ counted H)
-      → seen_in d (c ∷ counted H) ≡ record { count = count_of (Device d) (counted H) + 1; state = Some s }
-  seen-is d s c own is = rw (own, eq-eqb d d refl, is.made, sym is.state) refl
+  seen_is : (s : State) (c : Commit) → node_of c ≡ Device d → IsRecordOf s d (c ∷ C) → seen_in d (c ∷ C) ≡ record { count = count_of (Device d) C + 1; state = Some s }
+  seen_is s c own is = rw (own, eq-eqb d d refl, is.made, sym is.state) refl
 
-  make-right : (d : ℕ) (key : List ℕ) (k : Option (List ℕ)) → key_of d (counted H) ≡ k → IsRight counting (Device d) (seen_in d) H (make_act d key (kept d k))
-  make-right d key None h = (refl, seen-is d _ _ refl (making d key (counted H) (ordered.devices d) h).0)
-  make-right d key (Some old) h = tt
+  holds_of : (key : List ℕ) → key_of d C ≡ Some key → Holds (state_of d key C)
+  holds_of key is = subst (λ (o : Option (List ℕ)). IfSome (record_with d C o) Holds) is known.holds
 
-  franked-right : (d : ℕ) (q : DebitMsg) (today : ℤ) (s : State) (result : Result Debited DevRefusal) → IsRecordOf s d (counted H) → debit_answer todays_rules s q today ≡ result
-      → IsRight counting (Device d) (seen_in d) H (franked_act todays_rules d q today result)
-  franked-right d q today s (Err x) is h = tt
-  franked-right d q today s (Ok (New t mark)) is h = (refl, seen-is d t _ refl (debiting todays_rules d (counted H) s t q today mark (ordered.devices d) is h).0)
-  franked-right d q today s (Ok (Again mark)) is h = tt
+  make_right : (key : List ℕ) (k : Option (List ℕ)) → key_of d C ≡ k → IsRightAct (make_act d key (record_with d C k))
+  make_right key None h = (refl, λ on fresh. seen_is _ _ refl (making d key C (ordered.devices d) h).0)
+  make_right key (Some old) h = tt
 
-  debit-right : (d : ℕ) (q : DebitMsg) (today : ℤ) (k : Option (List ℕ)) → key_of d (counted H) ≡ k
-      → IsRight counting (Device d) (seen_in d) H (debit_act todays_rules d q today (kept d k))
-  debit-right d q today None h = tt
-  debit-right d q today (Some key) h = franked-right d q today (state_of d key (counted H)) _ (ordered.records d key h) refl
+  franked_right : (q : DebitMsg) (today : ℤ) (s : State) (result : Result Debited DevRefusal) → IsRecordOf s d C → debit_answer todays_rules s q today ≡ result
+      → IsRightAct (franked_act todays_rules d q today result)
+  franked_right q today s (Err x) is h = tt
+  franked_right q today s (Ok (New t mark)) is h = (refl, λ on fresh. seen_is t _ refl (debiting todays_rules d C s t q today mark (ordered.devices d) is h).0)
+  franked_right q today s (Ok (Again mark)) is h = tt
 
-  status-right : (d : ℕ) (today : ℤ) (k : Option (List ℕ)) → IsRight counting (Device d) (seen_in d) H (status_act today (kept d k))
-  status-right d today None = tt
-  status-right d today (Some key) = tt
+  debit_right : (q : DebitMsg) (today : ℤ) (k : Option (List ℕ)) → key_of d C ≡ k → IsRightAct (debit_act todays_rules d q today (record_with d C k))
+  debit_right q today None h = tt
+  debit_right q today (Some key) h = franked_right q today (state_of d key C) _ (ordered.records d key h) refl
 
-  -- to be asked for the status makes no commit
-  status-none : (on : Bool) (s : Seen) (today : ℤ) (t : Option State) → cond on (commit_in counting s (status_act today t)) None ≡ None
-  status-none true s today None = refl
-  status-none true s today (Some t) = refl
-  status-none false s today t = refl
+  asked_right : (kind : Kind) (who amount : ℕ) (today : ℤ) (s : State) (result : Result (State × List ℕ) DevRefusal) → IsRecordOf s d C → ask_answer todays_rules s kind who amount today ≡ result
+      → IsNextMade (asked_act d (s.number + 1) result) → IsRightAct (asked_act d (s.number + 1) result)
+  asked_right kind who amount today s (Err x) is h made = tt
+  asked_right kind who amount today s (Ok x) is h made =
+      (refl, λ on fresh. seen_is x.0 _ refl (asking todays_rules d C s x.0 kind who amount today x.1 (ordered.devices d) is h (made on fresh).1.holds).0)
 
-  refused-quiet : (d : ℕ) (y : DevRefusal) → IsQuiet (r.DevRefused d y)
-  refused-quiet d y = record { plain = tt; no_print = λ j e. cc }
+  ask_right : (kind : Kind) (who amount : ℕ) (today : ℤ) (k : Option (List ℕ)) → key_of d C ≡ k → IsNextMade (ask_act todays_rules d kind who amount today (record_with d C k))
+      → IsRightAct (ask_act todays_rules d kind who amount today (record_with d C k))
+  ask_right kind who amount today None h made = tt
+  ask_right kind who amount today (Some key) h made = asked_right kind who amount today (state_of d key C) _ (ordered.records d key h) refl made
 
-  pub called : (d : ℕ) (today : ℤ) (call : DeviceCall) (x : Reply) → MayReply counting (Device d) (view_of d H) (call_plan d today (view_of d H) call) x
-      → Step counting (Device d) (seen_in d) H x (call_commit d today (view_of d H) call) (after (call_plan d today (view_of d H) call) x H)
-  called d today (Make key) x may =
-      acts counting (Device d) (seen_in d) H (r.DevRefused d) (λ u. r.Made d) (λ u. []) (refused-quiet d) (λ u. refl) (λ u j e. cc) (λ u. tt) (is_on (Device d) H)
-      (make_act d key (record_in d (counted H))) x (make-right d key (key_of d (counted H)) refl) refl may
-  called d today (Debit piece postage class) x may =
-      acts counting (Device d) (seen_in d) H (r.DevRefused d) (marked d piece) (released d piece) (refused-quiet d) (λ f. refl) (λ f j e. cc) (λ f. tt) (is_on (Device d) H)
-      (debit_act todays_rules d (debit_by d piece postage class) today (record_in d (counted H))) x (debit-right d (debit_by d piece postage class) today (key_of d (counted H)) refl) refl may
-  called d today Status x may =
-      subst (λ m. Step counting (Device d) (seen_in d) H x m (after (call_plan d today (view_of d H) Status) x H))
-      (status-none (is_on (Device d) H) (seen_in d (counted H)) today (record_in d (counted H)))
-      (acts counting (Device d) (seen_in d) H (r.DevRefused d) (r.Status d) (λ view. []) (refused-quiet d) (λ view. refl) (λ view j e. cc) (λ view. tt) (is_on (Device d) H)
-      (status_act today (record_in d (counted H))) x (status-right d today (key_of d (counted H))) refl may)
+  told_right : {A : Type 0} (result : Result A DevRefusal) → IsRightAct (told_act result)
+  told_right (Ok a) = tt
+  told_right (Err x) = tt
+
+  resend_right : (k : Option (List ℕ)) → IsRightAct (resend_act (record_with d C k))
+  resend_right None = tt
+  resend_right (Some key) = told_right (resend_answer (state_of d key C) (state_of d key C).pending)
+
+  ack_right : (k : Option (List ℕ)) → IsRightAct (ack_act (record_with d C k))
+  ack_right None = tt
+  ack_right (Some key) = told_right (done_answer (state_of d key C))
+
+  status_right : (today : ℤ) (k : Option (List ℕ)) → IsRightAct (status_act today (record_with d C k))
+  status_right today None = tt
+  status_right today (Some key) = tt
+
+  -- == a Reply ==
+
+  -- it ends what is outstanding
+  ended : (s after : State) (p : ReplyMsg) (o : Option Request) → apply_answer s o p ≡ Ok after → (q : Request) × (o ≡ Some q) × (p.number ≡ q.number)
+  ended s after p None is = cc
+  ended s after p (Some q) is =
+      let through = passed (not (p.number == q.number)) (is_stray p q) (no.Stale q.number) (no.Stray q.kind) (after_apply s q p) after is in
+      (q, refl, eqb-true p.number q.number (not_false (p.number == q.number) through.0))
+
+  -- the Applied comes after a ruling of its number, with its verdict
+  is_ruled : (n : ℕ) (v : Verdict) → AreOrdered (c.Applied d n v ∷ C) → HasRuling d n v C
+  is_ruled n v next = ((next.devices d).0 refl).3
+
+  applied_right : (p : ReplyMsg) (s : State) (result : Result State DevRefusal) → IsRecordOf s d C → Holds s → ruled_reply d p.number C ≡ Some p → apply_answer s s.pending p ≡ result
+      → IsNextMade (applied_act d p result) → IsRightAct (applied_act d p result)
+  applied_right p s (Err x) is holds whole h made = tt
+  applied_right p s (Ok after) is holds whole h made = (refl, λ on fresh. seen_is after _ refl (kept on fresh))
+    where
+      kept : is_on (Device d) H ≡ true → counting.is_worn (seen_in d C) after ≡ false → IsRecordOf after d (c.Applied d p.number p.verdict ∷ C)
+      kept on fresh =
+          let q = ended s after p s.pending h in
+          let ruled = subst (λ (n : ℕ). HasRuling d n p.verdict C) q.2 (is_ruled p.number p.verdict (made on fresh).0) in
+          let reply = subst (λ (n : ℕ). ruled_reply d n C ≡ Some p) q.2 whole in
+          subst (λ (n : ℕ). IsRecordOf after d (c.Applied d n p.verdict ∷ C)) (sym q.2) (applying d C s after q.0 p (ordered.devices d) is holds q.1 ruled reply h).0
+
+  -- the rows before it
+  checked : {A : Type 0} (P : A → Type 0) (other bad : Bool) (x y act : A) → P x → P y → (other ≡ false → bad ≡ false → P act) → P (if other then x else if bad then y else act)
+  checked P true bad x y act p q f = p
+  checked P false true x y act p q f = q
+  checked P false false x y act p q f = f refl refl
+
+  module _ (bytes : List ℕ) (genuine : IsRuled H d bytes) where
+    made_where : {A : Type 0} (other bad : Bool) (x y : DevRefusal) (act : DeviceAct A) → IsNextMade (if other then Refuse x else if bad then Refuse y else act) → other ≡ false → bad ≡ false → IsNextMade act
+    made_where true bad x y act made no_other no_bad = absurd (true≢false no_other)
+    made_where false true x y act made no_other no_bad = absurd (true≢false no_bad)
+    made_where false false x y act made no_other no_bad = made
+
+    reply_right : (p : ReplyMsg) → read bytes ≡ Ok (m.Reply p) → (k : Option (List ℕ)) → key_of d C ≡ k → IsNextMade (reply_act d bytes p (record_with d C k)) → IsRightAct (reply_act d bytes p (record_with d C k))
+    reply_right p reads None h made = tt
+    reply_right p reads (Some key) h made =
+        let s = state_of d key C in
+        let act = applied_act d p (apply_answer s s.pending p) in
+        checked (λ (a : DeviceAct Taken). IsRightAct a) (not (p.device == d)) (not (has_code key bytes)) _ _ act tt tt
+        (λ own coded.
+        let same : p.device ≡ d = eqb-true p.device d (not_false (p.device == d) own) in
+        let whole = genuine p reads same key h (not_false (has_code key bytes) coded) in
+        applied_right p s (apply_answer s s.pending p) (ordered.records d key h) (holds_of key h) (subst (λ (e : ℕ). ruled_reply e p.number C ≡ Some p) same whole) refl
+        (made_where (not (p.device == d)) (not (has_code key bytes)) (no.WrongDevice p.device) no.BadCode act made own coded))
+
+    released_right : (piece : ℕ) (act : DeviceAct Franked) → IsRightAct act → IsRightAct (released piece act)
+    released_right piece (Refuse x) right = tt
+    released_right piece (Tell f) right = tt
+    released_right piece (Commits c s f) right = right
+
+    message_right : (today : ℤ) (x : Result Message Unread) → read bytes ≡ x → IsNextMade (message_act todays_rules d bytes today (record_in d C) x) → IsRightAct (message_act todays_rules d bytes today (record_in d C) x)
+    message_right today (Ok (m.Reply p)) reads made = reply_right p reads (key_of d C) refl made
+    message_right today (Ok (m.Debit q)) reads made = released_right q.piece (debit_act todays_rules d q today (record_in d C)) (debit_right q today (key_of d C) refl)
+    message_right today (Ok (m.Request q)) reads made = tt
+    message_right today (Ok (m.Done q)) reads made = tt
+    message_right today (Ok (m.Release x)) reads made = tt
+    message_right today (Err x) reads made = tt
+
+  -- == each call ==
+
+  pub call_right : (today : ℤ) (call : DeviceCall) → OfCall H d call → IsNextMade (device_act d today call (record_in d C)) → IsRightAct (device_act d today call (record_in d C))
+  call_right today (Make key) genuine made = right_says counting (Device d) (seen_in d) H _ _ (make_act d key (record_in d C)) (make_right key (key_of d C) refl)
+  call_right today (Debit piece postage class) genuine made =
+      right_says counting (Device d) (seen_in d) H _ _ (debit_act todays_rules d (debit_by d piece postage class) today (record_in d C)) (debit_right (debit_by d piece postage class) today (key_of d C) refl)
+  call_right today (Ask kind who amount k) genuine made =
+      let act = ask_act todays_rules d kind who amount today (record_in d C) in
+      right_says counting (Device d) (seen_in d) H _ _ act (ask_right kind who amount today (key_of d C) refl (made_says counting (Device d) (seen_in d) H (λ c s. AreOrdered (c ∷ counted H) × IsKnown s) _ _ act made))
+  call_right today (Resend k) genuine made = right_says counting (Device d) (seen_in d) H _ _ (resend_act (record_in d C)) (resend_right (key_of d C))
+  call_right today (Ack k) genuine made = right_says counting (Device d) (seen_in d) H _ _ (ack_act (record_in d C)) (ack_right (key_of d C))
+  call_right today Status genuine made = right_says counting (Device d) (seen_in d) H _ _ (status_act today (record_in d C)) (status_right today (key_of d C))
+  call_right today (Take bytes k) genuine made =
+      let act = take_act todays_rules d bytes today (record_in d C) in
+      right_says counting (Device d) (seen_in d) H _ _ act (message_right bytes genuine today (read bytes) refl (made_says counting (Device d) (seen_in d) H (λ c s. AreOrdered (c ∷ counted H) × IsKnown s) _ _ act made))

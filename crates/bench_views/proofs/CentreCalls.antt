@@ -1,54 +1,66 @@
--- What the centre is called for: its plan, its commit, and how it goes.
-use Rattle.std.proofs.Common.{◌≡◌, ℕ, ℤ, ◌+◌, List, [], ◌∷◌, Option, Some, None, Bool, true, false, Result, Ok, Err, cond, option_map, refl, sym, ◌∙◌, ap, subst, arith}
-use Rattle.std.specs.Prelude.{◌-◌, IfSome, if◌then◌else◌}
-use Rattle.bench_base.specs.declared.words.Node.TheVariants.{Centre}
+-- What the centre is called for: its plan, its commit, and what is seen of it afterwards.
+use Rattle.std.proofs.Common.{◌≡◌, ℕ, ℤ, ◌+◌, List, [], Option, Some, None, Bool, true, false, Result, Ok, Err, refl, sym, ◌∙◌, ap, subst, arith}
+use Rattle.std.specs.Prelude.{◌-◌, ◌&&◌, length, slice_get, nat_le, IfSome, if◌then◌else◌}
+use Rattle.bench_base.specs.declared.words.Verdict.{Verdict}
+use Rattle.bench_base.specs.declared.words.Node.TheVariants.{Centre, Verifier}
 use Rattle.bench_base.specs.declared.refusals.CentreRefusal.{CentreRefusal}
+use Rattle.bench_base.specs.declared.refusals.Unread.{Unread}
 use Rattle.bench_base.specs.declared.ledger.Commit.{Commit}
 use Rattle.bench_base.specs.declared.events.Event.{Event}
-use Rattle.bench_base.specs.declared.events.Reply.{Reply}
 use Rattle.bench_base.specs.declared.events.Reply.TheVariants as r
 use Rattle.bench_base.specs.Rules.{todays_rules}
 use Rattle.bench_base.specs.Nodes.{node_of}
-use Rattle.bench_base.specs.Plans.{Plan, refuse, made}
+use Rattle.bench_base.specs.Plans.{Plan}
+use Rattle.bench_base.specs.Table.{IsBytes}
 use Rattle.bench_base.specs.Ranges.{IsWholeEvent, IsDevice, IsCustomer}
 use Rattle.bench_base.specs.Cells.{place_of}
 use Rattle.bench_base.specs.Cells as cells
-use Rattle.bench_base.specs.Ledger.{Ledger, day_in, is_on, count_of, counted}
+use Rattle.bench_base.specs.Ledger.{Ledger, day_in, count_of, counted, message}
 use Rattle.node_acts.specs.declared.act.Act.TheVariants.{Refuse, Tell, Commits}
-use Rattle.node_acts.specs.Views.{View}
-use Rattle.node_acts.specs.Acts.{commit_in}
-use Rattle.node_acts.specs.Plans.{after, MayReply, IsOfNode, when_on}
+use Rattle.node_acts.specs.declared.said.Said.{Said}
+use Rattle.node_acts.specs.Plans.{IsOfNode}
 use Rattle.node_acts.specs.Kinds.{node_plan}
-use Rattle.node_acts.specs.RowList.{commits_in, put}
-use Rattle.node_acts.specs.RowList as rows
-use Rattle.node_acts.proofs.Told as told_of
+use Rattle.node_acts.specs.RowList.{commits_in}
+use Rattle.node_acts.specs.Said.{tells, said_plan, seen_plan}
+use Rattle.psd_wire.specs.declared.message.Request.{Request}
+use Rattle.psd_wire.specs.declared.message.DoneMsg.{DoneMsg}
+use Rattle.psd_wire.specs.declared.message.Message.{Message}
+use Rattle.psd_wire.specs.declared.message.Message.TheVariants as m
+use Rattle.psd_wire.specs.Grammar.{read}
+use Rattle.psd_wire.specs.Codes.{has_code}
 use Rattle.ledger_moves.specs.Tariffs.{Tariff}
-use Rattle.ledger_moves.specs.Moves.{plan, at_node}
-use Rattle.centre_ledger.specs.declared.rows.Row.{Row}
-use Rattle.centre_ledger.specs.declared.rows.Row.TheVariants as row
+use Rattle.ledger_moves.specs.Moves.{plan, at_node, centre_plan, deliver_to, deliver_plan}
 use Rattle.centre_ledger.specs.declared.rows.DeviceRow.{DeviceRow}
 use Rattle.centre_ledger.specs.declared.rows.CustomerRow.{CustomerRow}
-use Rattle.centre_ledger.specs.Rows.{deposited_row}
-use Rattle.centre_ledger.specs.Answers.{deposit_answer}
-use Rattle.centre_ledger.specs.Books.{Books, AreSound, ArePlaced, IsCustomerAt, device_at, customer_at, put_row}
+use Rattle.centre_ledger.specs.declared.taking.CentreAnswer.{CentreAnswer}
+use Rattle.centre_ledger.specs.declared.taking.CentreAnswer.TheVariants as answer
+use Rattle.centre_ledger.specs.Rows.{deposited_row, settled_row}
+use Rattle.centre_ledger.specs.Answers.{deposit_answer, turn_answer, settle_answer, centre_take}
+use Rattle.centre_ledger.specs.Books.{Books, AreSound, IsCustomerAt, device_at, customer_at}
 use Rattle.centre_ledger.specs.Books as books
-use Rattle.centre_ledger.specs.Acts.{CentreAct, registered_act, opened_act, flagged_act, taken_act, deposited_act, left_act}
+use Rattle.centre_ledger.specs.Standing.{ruling_in}
+use Rattle.centre_ledger.specs.Acts.{CentreAct, registered_act, opened_act, flagged_act, taken_act, deposited_act, left_act, settled_act, turn_act, repeated_act, request_act, done_act, message_act}
 use Rattle.centre_ledger.specs.Acts as acts
 use Rattle.centre_ledger.specs.ActLaws as law
 use Rattle.centre_ledger.specs.ActLaws.{AreBooksOf, FollowsCommits, ActsFollow, ActsArePlanned}
-use Rattle.centre_ledger.specs.Seen.{Seen, counting, cell_of, books_in}
+use Rattle.centre_ledger.specs.Seen.{counting, cell_of, books_in}
+use Rattle.centre_ledger.proofs.Payers.{found-device}
 use Rattle.node_acts.specs.declared.asked.Asked.{Asked}
 use Rattle.node_acts.specs.declared.asked.Asked.TheVariants.{On, Off, Cut, Call}
+use Rattle.bench_views.specs.declared.taken.DeviceCall.TheVariants as device
 use Rattle.bench_views.specs.declared.taken.CentreCall.{CentreCall}
 use Rattle.bench_views.specs.declared.taken.CentreCall.TheVariants as call
 use Rattle.bench_views.specs.declared.taken.Taken.TheVariants as take
+use Rattle.bench_views.specs.Taken as takes
 use Rattle.bench_views.specs.Taken.{taken}
-use Rattle.bench_views.specs.Centre.{seen_in, view_of, act_plan, call_plan, call_commit, deposited, place_in, IsKnown}
-use Rattle.bench_views.proofs.Asked.{made_where, none_made}
+use Rattle.bench_views.specs.Centre.{seen_in, view_of, took, says, centre_act, centre_kind, place_in, IsKnown, AreBytes}
+use Rattle.bench_views.specs.Messages.{sent_in}
+use Rattle.bench_views.proofs.Calling.{plan_says, own_says, worn_says, at_seen, IsWornAlike}
 use Rattle.bench_views.proofs.Events.{each_of_centre}
 use Rattle.bench_views.proofs.CentreCommits.{HasCell, seen_put, worn}
 use Rattle.bench_views.proofs.CentreRows.{small, large}
-use Rattle.bench_views.proofs.Steps.{Step, IsQuiet, IsRight, acts as goes_by}
+use Rattle.bench_views.proofs.Sent.{sent_many, sent_at}
+use Rattle.bench_views.proofs.Steps.{IsQuiet, IsSaid, IsQuietAct, IsRight, quiet_says, right_says}
 
 -- == whose the commits are, and where they lie ==
 
@@ -90,68 +102,44 @@ balance_placed : (w left : ℕ) (o : Option CustomerRow) → IsPlacedAct (left_a
 balance_placed w left None = tt
 balance_placed w left (Some x) = tt
 
--- to be asked for a balance makes no commit
-pub balance_none : (on : Bool) (s : Seen) (w left : ℕ) (o : Option CustomerRow) → cond on (commit_in counting s (left_act w left o)) None ≡ None
-balance_none true s w left None = refl
-balance_none true s w left (Some x) = refl
-balance_none false s w left o = refl
+settle_placed : (r : DeviceRow) (n : ℕ) (result : Result (Option ℕ) CentreRefusal) → IsDevice r.device → IsPlacedAct (settled_act r n (settled_row r result))
+settle_placed r n (Err x) is = tt
+settle_placed r n (Ok None) is = tt
+settle_placed r n (Ok (Some now)) is = (refl, is, sym (device_place r.device is))
 
--- == the commit of a call, and whose it is ==
+turn_placed : (b : Books) (bytes : List ℕ) (q : Request) (r : DeviceRow) (result : Result Bool CentreRefusal) → IsDevice r.device → IsPlacedAct (turn_act bytes q r b result)
+turn_placed b bytes q r (Err x) is = tt
+turn_placed b bytes q r (Ok true) is = again (ruling_in r)
+  where
+    again : (o : Option (Verdict × List ℕ)) → IsPlacedAct (repeated_act r o)
+    again None = tt
+    again (Some x) = tt
+turn_placed b bytes q r (Ok false) is = (refl, is, sym (device_place r.device is))
 
-pub call_alike : (v : View Seen) (c : CentreCall) → (call_plan v c).commit ≡ option_map (λ (x : Commit × Seen). x.0) (call_commit v c)
-call_alike v (call.Register d origin key) =
-    told_of.plan_commit counting Centre r.CentreRefused (λ u. r.Registered d) (λ u. []) (λ x. refl) (λ u. refl) v.on v.state (acts.register_act d origin key (books_in v.state))
-call_alike v (call.Open w) = told_of.plan_commit counting Centre r.CentreRefused (λ u. r.Opened w) (λ u. []) (λ x. refl) (λ u. refl) v.on v.state (acts.open_act w (books_in v.state))
-call_alike v (call.Deposit w n a) = told_of.plan_commit counting Centre r.CentreRefused (deposited w n) (λ u. []) (λ x. refl) (λ u. refl) v.on v.state (acts.deposit_act w n a (books_in v.state))
-call_alike v (call.Flag w flag) = told_of.plan_commit counting Centre r.CentreRefused (λ u. r.Flagged w flag) (λ u. []) (λ x. refl) (λ u. refl) v.on v.state (acts.flag_act w flag (books_in v.state))
-call_alike v (call.Balance w) =
-    told_of.plan_commit counting Centre r.CentreRefused (r.Balance w) (λ u. []) (λ x. refl) (λ u. refl) v.on v.state (acts.balance_act w (books_in v.state))
-    ∙ ap (λ (m : Option (Commit × Seen)). option_map (λ (x : Commit × Seen). x.0) m) (balance_none v.on v.state w (books.left_in (books_in v.state) w) (customer_at (books_in v.state) w))
+checked : {A : Type 0} (P : A → Type 0) (t : Bool) (x y : A) → P x → P y → P (if t then x else y)
+checked P true x y p q = p
+checked P false x y p q = q
 
-register_own : (d origin : ℕ) (key : List ℕ) (o : Option DeviceRow) → IsOfNode Centre (registered_act d origin key o)
-register_own d origin key None = refl
-register_own d origin key (Some x) = tt
+module _ (b : Books) (sound : AreSound b) (bytes : List ℕ) where
+  -- a device that has a row is one of its own
+  own_device : (d : ℕ) (r : DeviceRow) → device_at b d ≡ Some r → IsDevice r.device
+  own_device d r at = let found = found-device b d r sound at in subst IsDevice (sym found.0.device) found.1
 
-open_own : (w : ℕ) (o : Option CustomerRow) → IsOfNode Centre (opened_act w o)
-open_own w None = refl
-open_own w (Some x) = tt
+  request_placed : (q : Request) (o : Option DeviceRow) → device_at b q.device ≡ o → IsPlacedAct (request_act bytes q o b)
+  request_placed q None at = tt
+  request_placed q (Some r) at = checked (λ (act : CentreAct CentreAnswer). IsPlacedAct act) (has_code r.key bytes) _ _ (turn_placed b bytes q r (turn_answer r.ruled r.request q.number bytes) (own_device q.device r at)) tt
 
-flag_own : (w : ℕ) (flag : Bool) (o : Option CustomerRow) → IsOfNode Centre (flagged_act w flag o)
-flag_own w flag None = tt
-flag_own w flag (Some x) = refl
+  done_placed : (q : DoneMsg) (o : Option DeviceRow) → device_at b q.device ≡ o → IsPlacedAct (done_act bytes q o)
+  done_placed q None at = tt
+  done_placed q (Some r) at = checked (λ (act : CentreAct CentreAnswer). IsPlacedAct act) (has_code r.key bytes) _ _ (settle_placed r q.number (settle_answer r.settled r.ruled q.number) (own_device q.device r at)) tt
 
-taken_own : (w n a : ℕ) (x : CustomerRow) (result : Result (Option CustomerRow) CentreRefusal) → IsOfNode Centre (taken_act w n a x result)
-taken_own w n a x (Err y) = tt
-taken_own w n a x (Ok None) = tt
-taken_own w n a x (Ok (Some next)) = refl
-
-deposit_own : (w n a : ℕ) (o : Option CustomerRow) → IsOfNode Centre (deposited_act w n a o)
-deposit_own w n a None = tt
-deposit_own w n a (Some x) = taken_own w n a x (deposited_row x n a (deposit_answer (x.receipt, x.amount) x.deposits n a))
-
-pub call_own : (v : View Seen) (c : CentreCall) (x : Commit × Seen) → call_commit v c ≡ Some x → (node_of x.0 ≡ Centre) × (v.on ≡ true)
-call_own v (call.Register d origin key) x is = (
-  told_of.commit_own counting Centre r.CentreRefused (λ u. r.Registered d) (λ u. []) (λ y. refl) (λ u. refl) v.on v.state (acts.register_act d origin key (books_in v.state)) x
-      (register_own d origin key (device_at (books_in v.state) d)) is,
-  made_where v.on _ x is,
-)
-call_own v (call.Open w) x is = (
-  told_of.commit_own counting Centre r.CentreRefused (λ u. r.Opened w) (λ u. []) (λ y. refl) (λ u. refl) v.on v.state (acts.open_act w (books_in v.state)) x (open_own w (customer_at (books_in v.state) w)) is,
-  made_where v.on _ x is,
-)
-call_own v (call.Deposit w n a) x is = (
-  told_of.commit_own counting Centre r.CentreRefused (deposited w n) (λ u. []) (λ y. refl) (λ u. refl) v.on v.state (acts.deposit_act w n a (books_in v.state)) x
-      (deposit_own w n a (customer_at (books_in v.state) w)) is,
-  made_where v.on _ x is,
-)
-call_own v (call.Flag w flag) x is = (
-  told_of.commit_own counting Centre r.CentreRefused (λ u. r.Flagged w flag) (λ u. []) (λ y. refl) (λ u. refl) v.on v.state (acts.flag_act w flag (books_in v.state)) x
-      (flag_own w flag (customer_at (books_in v.state) w)) is,
-  made_where v.on _ x is,
-)
-call_own v (call.Balance w) x is = none_made x is
-
--- == at a ledger ==
+  take_placed : (x : Result Message Unread) → IsPlacedAct (message_act bytes b x)
+  take_placed (Ok (m.Request q)) = request_placed q (device_at b q.device) refl
+  take_placed (Ok (m.Done q)) = done_placed q (device_at b q.device) refl
+  take_placed (Ok (m.Reply p)) = tt
+  take_placed (Ok (m.Debit q)) = tt
+  take_placed (Ok (m.Release x)) = tt
+  take_placed (Err x) = tt
 
 -- the numbers of the call fit their fields
 abbrev pub IsWholeCall : CentreCall → Type 0
@@ -160,12 +148,44 @@ IsWholeCall (call.Open w) = IsCustomer w
 IsWholeCall (call.Deposit w n a) = IsCustomer w
 IsWholeCall (call.Flag w flag) = IsCustomer w
 IsWholeCall (call.Balance w) = IsCustomer w
+IsWholeCall (call.Take bytes k) = IsBytes bytes
 
-abbrev IsWholeAsked : Asked CentreCall → Type 0
-IsWholeAsked On = Unit {0}
-IsWholeAsked Off = Unit {0}
-IsWholeAsked (Cut calls keep byte) = Unit {0}
-IsWholeAsked (Call x) = IsWholeCall x
+-- == what is said ==
+
+refused_quiet : (y : CentreRefusal) → IsQuiet (r.CentreRefused y)
+refused_quiet y = record { plain = tt; no_print = λ j e. cc }
+
+took_said : (k : ℕ) (a : CentreAnswer) → IsSaid (took k a)
+took_said k (answer.Ruled d n v note again) = record { did = refl; no_print = λ j e. cc }
+took_said k (answer.Settled d n again) = record { did = refl; no_print = λ j e. cc }
+
+pub call_quiet : (c : CentreCall) (b : Books) → IsQuietAct (centre_act c b)
+call_quiet (call.Register d origin key) b = quiet_says r.CentreRefused _ refused_quiet (λ u. record { did = refl; no_print = λ j e. cc }) (acts.register_act d origin key b)
+call_quiet (call.Open w) b = quiet_says r.CentreRefused _ refused_quiet (λ u. record { did = refl; no_print = λ j e. cc }) (acts.open_act w b)
+call_quiet (call.Deposit w n a) b = quiet_says r.CentreRefused _ refused_quiet (λ done. record { did = refl; no_print = λ j e. cc }) (acts.deposit_act w n a b)
+call_quiet (call.Flag w flag) b = quiet_says r.CentreRefused _ refused_quiet (λ u. record { did = refl; no_print = λ j e. cc }) (acts.flag_act w flag b)
+call_quiet (call.Balance w) b = quiet_says r.CentreRefused _ refused_quiet (λ left. record { did = refl; no_print = λ j e. cc }) (acts.balance_act w b)
+call_quiet (call.Take bytes k) b = quiet_says r.CentreRefused (took k) refused_quiet (took_said k) (acts.take_act bytes b)
+
+-- == what it is handed ==
+
+-- a message for a device is none for the centre
+not_centre : {P : Type 0} (d : ℕ) (bytes : List ℕ) (k : ℕ) (asked : Asked CentreCall) → takes.for_device d bytes k ≡ take.Centre asked → P
+not_centre {P} d bytes k asked is = by (nat_le 1 d && nat_le d 8) is
+  where
+    by : (t : Bool) → (if t then takes.of_device d (device.Take bytes k) else take.Absent Verifier) ≡ take.Centre asked → P
+    by true same = cc
+    by false same = cc
+
+delivered_asked : (bytes : List ℕ) (k : ℕ) (asked : Asked CentreCall) (x : Result Message Unread) → takes.delivered_as bytes k x ≡ take.Centre asked → asked ≡ Call (call.Take bytes k)
+delivered_asked bytes k asked (Ok (m.Request q)) is = cc
+delivered_asked bytes k asked (Ok (m.Done q)) is = cc
+delivered_asked bytes k asked (Err x) is = cc
+delivered_asked bytes k asked (Ok (m.Release x)) is = cc
+delivered_asked bytes k asked (Ok (m.Reply p)) is = not_centre p.device bytes k asked is
+delivered_asked bytes k asked (Ok (m.Debit q)) is = not_centre q.device bytes k asked is
+
+-- == at a ledger ==
 
 module _ (H : Ledger) (known : IsKnown (seen_in (counted H))) (are : AreBooksOf (books_in (seen_in (counted H))) (counted H)) (follow : ActsFollow) (planned : ActsArePlanned) where
   abbrev C : List Commit
@@ -174,88 +194,155 @@ module _ (H : Ledger) (known : IsKnown (seen_in (counted H))) (are : AreBooksOf 
   abbrev b : Books
   b = books_in (seen_in C)
 
-  abbrev s : Seen
-  s = seen_in C
-
   following : law.FollowingActs b C
   following = follow.each b C known.sound are
 
   plans : law.PlannedActs b C
   plans = planned b C known.sound are
 
-  -- the commit is the centre's, and its record follows from it
-  right : {A : Type 0} (act : CentreAct A) → IsPlacedAct act → FollowsCommits b C act → IsRight counting Centre seen_in H act
-  right (Refuse x) placed follows = tt
-  right (Tell a) placed follows = tt
-  right (Commits c x a) placed follows = (placed.0, seen_put C b are known.sound.placed c x placed.1 follows placed.2)
+  -- an act of these rows whose commit, if it makes one, is the centre's, and leads to the rows after it
+  abbrev IsGood : {A : Type 0} → CentreAct A → Type 0
+  IsGood act = IsPlacedAct act × FollowsCommits b C act
 
-  -- the plan of the act at the centre
-  at : {A : Type 0} (reply : A → Reply) (act : CentreAct A) → IsPlacedAct act → FollowsCommits b C act → at_node Centre H (law.act_plan reply act) ≡ act_plan reply (view_of H) act
-  at reply (Refuse x) placed follows = refl
-  at reply (Tell a) placed follows = refl
-  at reply (Commits c x a) placed follows = rw (worn C b are known.sound.placed c x placed.1 follows placed.2 known, placed.0) refl
+  own : {A : Type 0} (act : CentreAct A) → IsGood act → IsOfNode Centre act
+  own (Refuse x) good = tt
+  own (Tell a) good = tt
+  own (Commits c x a) good = good.0.0
 
-  -- == what it is called for ==
+  right : {A : Type 0} (act : CentreAct A) → IsGood act → IsRight counting Centre seen_in H act
+  right (Refuse x) good = tt
+  right (Tell a) good = tt
+  right (Commits c x a) good = (good.0.0, λ on fresh. seen_put C b are known.sound.placed c x good.0.1 good.1 good.0.2)
 
-  refused_quiet : (y : CentreRefusal) → IsQuiet (r.CentreRefused y)
-  refused_quiet y = record { plain = tt; no_print = λ j e. cc }
+  worn_alike : {A : Type 0} (act : CentreAct A) → IsGood act → IsWornAlike counting Centre seen_in H act
+  worn_alike (Refuse x) good = tt
+  worn_alike (Tell a) good = tt
+  worn_alike (Commits c x a) good = worn C b are known.sound.placed c x good.0.1 good.1 good.0.2 known
 
-  pub called : (c : CentreCall) (x : Reply) → IsWholeCall c → MayReply counting Centre (view_of H) (call_plan (view_of H) c) x
-      → Step counting Centre seen_in H x (call_commit (view_of H) c) (after (call_plan (view_of H) c) x H)
-  called (call.Register d origin key) x whole may =
-      goes_by counting Centre seen_in H r.CentreRefused (λ u. r.Registered d) (λ u. []) refused_quiet (λ u. refl) (λ u j e. cc) (λ u. tt) (is_on Centre H)
-      (acts.register_act d origin key b) x (right (acts.register_act d origin key b) (register_placed d origin key (device_at b d) whole) (following.registered d origin key whole)) refl may
-  called (call.Open w) x whole may =
-      goes_by counting Centre seen_in H r.CentreRefused (λ u. r.Opened w) (λ u. []) refused_quiet (λ u. refl) (λ u j e. cc) (λ u. tt) (is_on Centre H)
-      (acts.open_act w b) x (right (acts.open_act w b) (open_placed w (customer_at b w) whole) (following.opened w whole)) refl may
-  called (call.Deposit w n a) x whole may =
-      goes_by counting Centre seen_in H r.CentreRefused (deposited w n) (λ u. []) refused_quiet (λ u. refl) (λ u j e. cc) (λ u. tt) (is_on Centre H)
-      (acts.deposit_act w n a b) x (right (acts.deposit_act w n a b) (deposit_placed w n a (customer_at b w) whole (known.sound.placed.customers w)) (following.deposited w n a)) refl may
-  called (call.Flag w flag) x whole may =
-      goes_by counting Centre seen_in H r.CentreRefused (λ u. r.Flagged w flag) (λ u. []) refused_quiet (λ u. refl) (λ u j e. cc) (λ u. tt) (is_on Centre H)
-      (acts.flag_act w flag b) x (right (acts.flag_act w flag b) (flag_placed w flag (customer_at b w) whole (known.sound.placed.customers w)) (following.flagged w flag)) refl may
-  called (call.Balance w) x whole may =
-      subst (λ m. Step counting Centre seen_in H x m (after (call_plan (view_of H) (call.Balance w)) x H)) (balance_none (is_on Centre H) s w (books.left_in b w) (customer_at b w))
-      (goes_by counting Centre seen_in H r.CentreRefused (r.Balance w) (λ u. []) refused_quiet (λ u. refl) (λ u j e. cc) (λ u. tt) (is_on Centre H)
-      (acts.balance_act w b) x (right (acts.balance_act w b) (balance_placed w (books.left_in b w) (customer_at b w)) (balance_follows (customer_at b w))) refl may)
-    where
-      balance_follows : (o : Option CustomerRow) → FollowsCommits b C (left_act w (books.left_in b w) o)
-      balance_follows None = tt
-      balance_follows (Some y) = tt
+  -- == each call ==
 
-  -- the numbers of a call are those of its event
-  pub whole_call : (e : Event) (c : CentreCall) → taken e ≡ Some (take.Centre (Call c)) → IsWholeEvent e → IsWholeCall c
-  whole_call e c of = each_of_centre (λ i asked. IsWholeEvent i → IsWholeAsked asked) (record {
-    on = λ whole. tt;
-    off = λ whole. tt;
-    cut = λ calls keep byte whole. tt;
-    register = λ d origin key whole. whole.0;
-    opens = λ w whole. whole;
-    deposit = λ w n a whole. whole.0;
-    flag = λ w flag whole. whole;
-    balance = λ w whole. whole;
-  }) e (Call c) of
+  balance_follows : (w : ℕ) (o : Option CustomerRow) → FollowsCommits b C (left_act w (books.left_in b w) o)
+  balance_follows w None = tt
+  balance_follows w (Some y) = tt
+
+  register_good : (d origin : ℕ) (key : List ℕ) → IsDevice d → IsGood (acts.register_act d origin key b)
+  register_good d origin key is = (register_placed d origin key (device_at b d) is, following.registered d origin key is)
+
+  open_good : (w : ℕ) → IsCustomer w → IsGood (acts.open_act w b)
+  open_good w is = (open_placed w (customer_at b w) is, following.opened w is)
+
+  deposit_good : (w n a : ℕ) → IsCustomer w → IsGood (acts.deposit_act w n a b)
+  deposit_good w n a is = (deposit_placed w n a (customer_at b w) is (known.sound.placed.customers w), following.deposited w n a)
+
+  flag_good : (w : ℕ) (flag : Bool) → IsCustomer w → IsGood (acts.flag_act w flag b)
+  flag_good w flag is = (flag_placed w flag (customer_at b w) is (known.sound.placed.customers w), following.flagged w flag)
+
+  balance_good : (w : ℕ) → IsGood (acts.balance_act w b)
+  balance_good w = (balance_placed w (books.left_in b w) (customer_at b w), balance_follows w (customer_at b w))
+
+  take_good : (bytes : List ℕ) → IsBytes bytes → IsGood (acts.take_act bytes b)
+  take_good bytes is = (take_placed b known.sound bytes (read bytes), following.taken bytes is)
+
+  pub call_own : (c : CentreCall) → IsWholeCall c → IsOfNode Centre (centre_act c b)
+  call_own (call.Register d origin key) whole = own_says Centre _ _ (acts.register_act d origin key b) (own (acts.register_act d origin key b) (register_good d origin key whole))
+  call_own (call.Open w) whole = own_says Centre _ _ (acts.open_act w b) (own (acts.open_act w b) (open_good w whole))
+  call_own (call.Deposit w n a) whole = own_says Centre _ _ (acts.deposit_act w n a b) (own (acts.deposit_act w n a b) (deposit_good w n a whole))
+  call_own (call.Flag w flag) whole = own_says Centre _ _ (acts.flag_act w flag b) (own (acts.flag_act w flag b) (flag_good w flag whole))
+  call_own (call.Balance w) whole = own_says Centre _ _ (acts.balance_act w b) (own (acts.balance_act w b) (balance_good w))
+  call_own (call.Take bytes k) whole = own_says Centre _ _ (acts.take_act bytes b) (own (acts.take_act bytes b) (take_good bytes whole))
+
+  pub call_right : (c : CentreCall) → IsWholeCall c → IsRight counting Centre seen_in H (centre_act c b)
+  call_right (call.Register d origin key) whole = right_says counting Centre seen_in H _ _ (acts.register_act d origin key b) (right (acts.register_act d origin key b) (register_good d origin key whole))
+  call_right (call.Open w) whole = right_says counting Centre seen_in H _ _ (acts.open_act w b) (right (acts.open_act w b) (open_good w whole))
+  call_right (call.Deposit w n a) whole = right_says counting Centre seen_in H _ _ (acts.deposit_act w n a b) (right (acts.deposit_act w n a b) (deposit_good w n a whole))
+  call_right (call.Flag w flag) whole = right_says counting Centre seen_in H _ _ (acts.flag_act w flag b) (right (acts.flag_act w flag b) (flag_good w flag whole))
+  call_right (call.Balance w) whole = right_says counting Centre seen_in H _ _ (acts.balance_act w b) (right (acts.balance_act w b) (balance_good w))
+  call_right (call.Take bytes k) whole = right_says counting Centre seen_in H _ _ (acts.take_act bytes b) (right (acts.take_act bytes b) (take_good bytes whole))
 
   -- == its plan ==
 
-  pub planned_call : (τ : Tariff) (today : ℤ) → day_in H ≡ Some today → commits_in s ≡ count_of Centre C → (e : Event) (asked : Asked CentreCall) → taken e ≡ Some (take.Centre asked) → IsWholeEvent e
-      → plan τ todays_rules H e [] ≡ node_plan counting Centre (call_plan (view_of H)) (view_of H) asked
+  -- at the centre, the plan of an act is what is seen, by how it says what it answers
+  at : {A : Type 0} (p : Plan) (say : A → Said) (act : CentreAct A) → IsGood act → p ≡ said_plan (says say act) → at_node Centre H p ≡ seen_plan counting Centre (view_of H) (says say act)
+  at p say act good is =
+      ap (at_node Centre H) is
+      ∙ at_seen counting Centre seen_in H (says say act) (own_says Centre r.CentreRefused say act (own act good)) (worn_says counting Centre seen_in H r.CentreRefused say act (worn_alike act good))
+
+  took_reply : (k : ℕ) (a : CentreAnswer) → law.taken_reply k a ≡ (took k a).reply
+  took_reply k (answer.Ruled d n v note again) = refl
+  took_reply k (answer.Settled d n again) = refl
+
+  took_tells : (k : ℕ) (a : CentreAnswer) → law.taken_entries a ≡ tells (took k a)
+  took_tells k (answer.Ruled d n v note again) = refl
+  took_tells k (answer.Settled d n again) = refl
+
+  -- what it is handed, by the next message
+  handed : (bytes : List ℕ) → IsBytes bytes → centre_plan bytes H ≡ seen_plan counting Centre (view_of H) (centre_act (call.Take bytes (length (sent_in H))) b)
+  handed bytes is =
+      ap (λ (k : ℕ). at_node Centre H (centre_take k bytes (read bytes) C)) (sym (sent_many H))
+      ∙ at (centre_take (length (sent_in H)) bytes (read bytes) C) (took (length (sent_in H))) (acts.take_act bytes b) (take_good bytes is)
+      (sym (plans.taken (length (sent_in H)) bytes) ∙ plan_says _ _ _ _ (took_reply (length (sent_in H))) (took_tells (length (sent_in H))) (acts.take_act bytes b))
+
+  -- a message that is delivered to the centre
+  delivered : (today : ℤ) (bytes : List ℕ) (k : ℕ) (asked : Asked CentreCall) (x : Result Message Unread) → takes.delivered_as bytes k x ≡ take.Centre asked
+      → deliver_to todays_rules today bytes x H ≡ centre_plan bytes H
+  delivered today bytes k asked (Ok (m.Request q)) is = refl
+  delivered today bytes k asked (Ok (m.Done q)) is = refl
+  delivered today bytes k asked (Err x) is = refl
+  delivered today bytes k asked (Ok (m.Release x)) is = cc
+  delivered today bytes k asked (Ok (m.Reply p)) is = not_centre p.device bytes k asked is
+  delivered today bytes k asked (Ok (m.Debit q)) is = not_centre q.device bytes k asked is
+
+  abbrev ByView : ℤ → Asked CentreCall → Plan
+  ByView today asked = node_plan counting Centre (centre_kind.plan tt today (view_of H)) (view_of H) asked
+
+  delivered_plan : (today : ℤ) (k : ℕ) (asked : Asked CentreCall) (o : Option (List ℕ)) → takes.message_taken k (length (sent_in H)) o ≡ take.Centre asked → AreBytes asked
+      → deliver_plan todays_rules today k o H ≡ ByView today asked
+  delivered_plan today k asked None at bytes_are = cc
+  delivered_plan today k asked (Some bytes) at bytes_are =
+      let to = delivered_asked bytes (length (sent_in H)) asked (read bytes) at in
+      delivered today bytes (length (sent_in H)) asked (read bytes) at ∙ handed bytes (subst AreBytes to bytes_are) ∙ ap (ByView today) (sym to)
+
+  pub planned_call : (τ : Tariff) (today : ℤ) → day_in H ≡ Some today → commits_in (seen_in C) ≡ count_of Centre C → (e : Event) (asked : Asked CentreCall)
+      → taken (sent_in H) e ≡ Some (take.Centre asked) → IsWholeEvent e → AreBytes asked → plan τ todays_rules H e [] ≡ ByView today asked
   unfolding plan
-  planned_call τ today day counts = each_of_centre (λ e asked. IsWholeEvent e → plan τ todays_rules H e [] ≡ node_plan counting Centre (call_plan (view_of H)) (view_of H) asked) (record {
-    on = λ whole. rw (day, sym counts) refl;
-    off = λ whole. rw day refl;
-    cut = λ calls keep byte whole. rw day refl;
-    register = λ d origin key whole.
-        rw day (ap (at_node Centre H) (sym (plans.registered d origin key)) ∙ at (λ u. r.Registered d) (acts.register_act d origin key b) (register_placed d origin key (device_at b d) whole.0) (following.registered d origin key whole.0));
-    opens = λ w whole. rw day (ap (at_node Centre H) (sym (plans.opened w)) ∙ at (λ u. r.Opened w) (acts.open_act w b) (open_placed w (customer_at b w) whole) (following.opened w whole));
-    deposit = λ w n a whole.
-        rw day (ap (at_node Centre H) (sym (plans.deposited w n a))
-        ∙ at (deposited w n) (acts.deposit_act w n a b) (deposit_placed w n a (customer_at b w) whole.0 (known.sound.placed.customers w)) (following.deposited w n a));
-    flag = λ w flag whole.
-        rw day (ap (at_node Centre H) (sym (plans.flagged w flag)) ∙ at (λ u. r.Flagged w flag) (acts.flag_act w flag b) (flag_placed w flag (customer_at b w) whole (known.sound.placed.customers w)) (following.flagged w flag));
-    balance = λ w whole. rw day (ap (at_node Centre H) (sym (plans.balanced w)) ∙ at (r.Balance w) (acts.balance_act w b) (balance_placed w (books.left_in b w) (customer_at b w)) (balance_follows w (customer_at b w)));
+  planned_call τ today day counts = each_of_centre (sent_in H) (λ e asked. IsWholeEvent e → AreBytes asked → plan τ todays_rules H e [] ≡ ByView today asked) (record {
+    on = λ whole bytes. rw (day, sym counts) refl;
+    off = λ whole bytes. rw day refl;
+    cut = λ calls keep byte whole bytes. rw day refl;
+    register = λ d origin key whole bytes. rw day (at _ _ (acts.register_act d origin key b) (register_good d origin key whole.0) (sym (plans.registered d origin key) ∙ plan_says _ _ _ _ (λ u. refl) (λ u. refl) (acts.register_act d origin key b)));
+    opens = λ w whole bytes. rw day (at _ _ (acts.open_act w b) (open_good w whole) (sym (plans.opened w) ∙ plan_says _ _ _ _ (λ u. refl) (λ u. refl) (acts.open_act w b)));
+    deposit = λ w n a whole bytes. rw day (at _ _ (acts.deposit_act w n a b) (deposit_good w n a whole.0) (sym (plans.deposited w n a) ∙ plan_says _ _ _ _ (λ u. refl) (λ u. refl) (acts.deposit_act w n a b)));
+    flag = λ w flag whole bytes. rw day (at _ _ (acts.flag_act w flag b) (flag_good w flag whole) (sym (plans.flagged w flag) ∙ plan_says _ _ _ _ (λ u. refl) (λ u. refl) (acts.flag_act w flag b)));
+    balance = λ w whole bytes. rw day (at _ _ (acts.balance_act w b) (balance_good w) (sym (plans.balanced w) ∙ plan_says _ _ _ _ (λ u. refl) (λ u. refl) (acts.balance_act w b)));
+    give = λ bytes whole are_bytes. rw day (handed bytes are_bytes);
+    deliver = λ k asked is whole bytes. rw day (delivered_plan today k asked (message k H) (subst (λ (o : Option (List ℕ)). takes.message_taken k (length (sent_in H)) o ≡ take.Centre asked) (sent_at H k) is) bytes);
   })
-    where
-      balance_follows : (w : ℕ) (o : Option CustomerRow) → FollowsCommits b C (left_act w (books.left_in b w) o)
-      balance_follows w None = tt
-      balance_follows w (Some y) = tt
+
+-- == the numbers of a call ==
+
+abbrev IsWholeAsked : Asked CentreCall → Type 0
+IsWholeAsked On = Unit {0}
+IsWholeAsked Off = Unit {0}
+IsWholeAsked (Cut calls keep byte) = Unit {0}
+IsWholeAsked (Call x) = IsWholeCall x
+
+delivered_whole : (k next : ℕ) (asked : Asked CentreCall) (o : Option (List ℕ)) → takes.message_taken k next o ≡ take.Centre asked → AreBytes asked → IsWholeAsked asked
+delivered_whole k next asked None is bytes_are = cc
+delivered_whole k next asked (Some bytes) is bytes_are =
+    let to = delivered_asked bytes next asked (read bytes) is in
+    subst IsWholeAsked (sym to) (subst AreBytes to bytes_are)
+
+-- they are those of its event, and of what it hands over
+pub whole_call : (H : Ledger) (e : Event) (c : CentreCall) → taken (sent_in H) e ≡ Some (take.Centre (Call c)) → IsWholeEvent e → AreBytes (Call c) → IsWholeCall c
+whole_call H e c of = each_of_centre (sent_in H) (λ i asked. IsWholeEvent i → AreBytes asked → IsWholeAsked asked) (record {
+  on = λ whole bytes. tt;
+  off = λ whole bytes. tt;
+  cut = λ calls keep byte whole bytes. tt;
+  register = λ d origin key whole bytes. whole.0;
+  opens = λ w whole bytes. whole;
+  deposit = λ w n a whole bytes. whole.0;
+  flag = λ w flag whole bytes. whole;
+  balance = λ w whole bytes. whole;
+  give = λ bytes whole are_bytes. are_bytes;
+  deliver = λ k asked is whole bytes. delivered_whole k (length (sent_in H)) asked (slice_get (sent_in H) k) is bytes;
+}) e (Call c) of

@@ -1,7 +1,7 @@
 -- What one commit of the centre does to what is seen of it.
-use Rattle.std.proofs.Common.{◌≡◌, ◌≢◌, inl, inr, ⊎_elim, ℕ, ◌+◌, ◌-◌, ◌<◌, ◌≤◌, List, [], ◌∷◌, Option, Some, None, Bool, true, false, option_map, cond, refl, sym, ◌∙◌, ap, subst, arith}
-use Rattle.std.specs.Prelude.{◌==◌, nat_lt, nat_le, get_or, set, length, IfSome, if◌then◌else◌}
-use Rattle.std.proofs.lemmas.Bool.{cases_Bool, cases_eq, eq-eqb, ne_eqb}
+use Rattle.std.proofs.Common.{◌≡◌, ◌≢◌, ℕ, ◌+◌, ◌-◌, ◌<◌, ◌≤◌, List, ◌∷◌, Option, Some, None, Bool, true, false, option_map, refl, sym, ◌∙◌, ap, arith}
+use Rattle.std.specs.Prelude.{◌==◌, nat_lt, nat_le, get_or, set, if◌then◌else◌}
+use Rattle.std.proofs.lemmas.Bool.{eq-eqb, ne_eqb}
 use Rattle.std.proofs.lemmas.List.{get_or-set_same, get_or-set_other}
 use Rattle.bench_base.specs.declared.sizes.TheConstants.{CENTRE_CELLS, MOST_COMMITS}
 use Rattle.bench_base.specs.declared.ledger.Commit.{Commit}
@@ -10,15 +10,15 @@ use Rattle.bench_base.specs.Cells.{Place, OfDevice, OfRow, OfCustomer, OfJob, Of
 use Rattle.bench_base.specs.Cells as cells
 use Rattle.node_acts.specs.RowList.{row_at, put, commits_at}
 use Rattle.node_acts.specs.RowList as rows
-use Rattle.node_acts.specs.RowLaws.{put_listed, listed_long}
+use Rattle.node_acts.specs.RowLaws.{put_listed}
 use Rattle.centre_ledger.specs.declared.rows.Row.{Row}
 use Rattle.centre_ledger.specs.declared.rows.Row.TheVariants as row
 use Rattle.centre_ledger.specs.declared.rows.DeviceRow.{DeviceRow}
 use Rattle.centre_ledger.specs.declared.rows.CustomerRow.{CustomerRow}
-use Rattle.centre_ledger.specs.Books.{Books, AreSound, ArePlaced, device_at, customer_at, put_row}
+use Rattle.centre_ledger.specs.Books.{Books, ArePlaced, device_at, customer_at, put_row}
 use Rattle.centre_ledger.specs.ActLaws.{AreBooksOf}
 use Rattle.centre_ledger.specs.Order.{InOrder}
-use Rattle.centre_ledger.specs.Seen.{Seen, cell_of, books_in}
+use Rattle.centre_ledger.specs.Seen.{cell_of}
 use Rattle.ledger_terms.specs.Centres.{registered, opened}
 use Rattle.std.proofs.lemmas.Bool.Decides.{nat_tests}
 use Rattle.bench_views.specs.Centre.{device_row, device_row_by, customer_row, place_in, row_in, cell_after, seen_in, IsKnown}

@@ -1,19 +1,18 @@
 -- The rows of the centre after some commits, by its cells: they are those of the commits, and what one commit of the centre does to them.
-use Rattle.std.proofs.Common.{◌≡◌, ◌≢◌, ◌⊎◌, inl, inr, ⊎_elim, ℕ, zero, suc, ◌+◌, ◌-◌, ◌<◌, ◌≤◌, List, [], ◌∷◌, length, Option, Some, None, Bool, true, false, option_map, cond, refl, sym, ◌∙◌, ap, subst, true≢false, arith}
-use Rattle.std.specs.Prelude.{◌==◌, nat_lt, nat_le, IsSome, IfSome, All, get_or, if◌then◌else◌}
-use Rattle.std.proofs.lemmas.Bool.{cases_Bool, cases_eq, eqb-true, eq-eqb, ne_eqb}
+use Rattle.std.proofs.Common.{◌≡◌, ◌⊎◌, inl, inr, ⊎_elim, ℕ, zero, suc, ◌+◌, ◌-◌, ◌<◌, ◌≤◌, List, [], ◌∷◌, length, Option, Some, None, Bool, true, false, option_map, refl, sym, ◌∙◌, ap, subst, true≢false, arith}
+use Rattle.std.specs.Prelude.{◌==◌, nat_lt, nat_le, IsSome, IfSome, All, if◌then◌else◌}
+use Rattle.std.proofs.lemmas.Bool.{cases_Bool, eqb-true, ne_eqb}
 use Rattle.std.proofs.lemmas.Bool.Decides.{nat_tests}
 use Rattle.std.proofs.lemmas.List.{get_or_past}
 use Rattle.std.proofs.lemmas.List.Elements.{All-head, All-tail}
-use Rattle.bench_base.specs.declared.words.Node.TheVariants.{Centre}
 use Rattle.bench_base.specs.declared.sizes.TheConstants.{CENTRE_CELLS}
 use Rattle.bench_base.specs.declared.ledger.Commit.{Commit}
 use Rattle.bench_base.specs.declared.ledger.Commit.TheVariants as c
 use Rattle.bench_base.specs.Ranges.{InRange, IsDevice, IsCustomer}
 use Rattle.bench_base.specs.Cells.{Place, OfRow, OfCustomer, same_place, place_of}
 use Rattle.bench_base.specs.Cells as cells
-use Rattle.node_acts.specs.RowList.{row_at, put, commits_at, listed}
-use Rattle.node_acts.specs.RowLaws.{listed_long, listed_at, listed_is, put_listed}
+use Rattle.node_acts.specs.RowList.{row_at}
+use Rattle.node_acts.specs.RowLaws.{listed_at}
 use Rattle.ledger_terms.specs.Sums.{bought, returned}
 use Rattle.ledger_terms.specs.Rulings.{own_customer, stored_reply}
 use Rattle.ledger_terms.specs.Centres.{registered, enrolled, withdrawn, ruled, settled, opened, suspended, deposits, receipt}
@@ -28,10 +27,9 @@ use Rattle.centre_ledger.specs.Order.{InOrder, Follows}
 use Rattle.centre_ledger.specs.Laws.{IsSlotOf, IsCustomerSlotOf, touches_device, touches_customer}
 use Rattle.centre_ledger.specs.ActLaws.{AreBooksOf}
 use Rattle.centre_ledger.specs.Records.{IsRowOf, IsCustomerOf, note_or_none}
-use Rattle.centre_ledger.specs.Rows.{enrolled_in}
-use Rattle.centre_ledger.specs.Soundness.{IsSoundDevice, IsSoundCustomer}
-use Rattle.centre_ledger.specs.Seen.{Seen, cell_of, books_in, device_in, customer_in}
-use Rattle.bench_views.specs.Centre.{state_of, device_row, device_row_by, customer_row, place_in, row_in, cell_after, seen_in, IsKnown}
+use Rattle.centre_ledger.specs.Soundness.{IsSoundDevice}
+use Rattle.centre_ledger.specs.Seen.{books_in, device_in, customer_in}
+use Rattle.bench_views.specs.Centre.{state_of, device_row, device_row_by, customer_row, place_in, row_in, cell_after, seen_in}
 
 -- == where there is no row, no commit lies ==
 

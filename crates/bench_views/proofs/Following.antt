@@ -1,5 +1,5 @@
 -- That an event of a node does what the node alone would do follows from its plan, its steps and what it leaves of the others.
-use Rattle.std.proofs.Common.{◌≡◌, ◌≢◌, ℕ, ℤ, [], ◌∷◌, List, Option, Some, true, sym, subst, option_map, ◌∙◌, ap}
+use Rattle.std.proofs.Common.{◌≡◌, ◌≢◌, ℕ, ℤ, [], ◌∷◌, ◌++◌, Option, Some, true, sym, subst, option_map, ◌∙◌, ap}
 use Rattle.bench_base.specs.declared.words.Node.{Node}
 use Rattle.bench_base.specs.declared.words.Node.TheVariants.{Device, Centre, Host, Verifier}
 use Rattle.bench_base.specs.declared.ledger.Commit.{Commit}
@@ -8,6 +8,7 @@ use Rattle.bench_base.specs.declared.events.Reply.{Reply}
 use Rattle.bench_base.specs.Rules.{todays_rules}
 use Rattle.bench_base.specs.Nodes.{node_of}
 use Rattle.bench_base.specs.Plans.{Plan}
+use Rattle.bench_base.specs.Replies.{told_by}
 use Rattle.bench_base.specs.Ranges.{IsWholeEvent}
 use Rattle.bench_base.specs.Ledger.{Ledger, count_of, torn_of, is_on, counted}
 use Rattle.node_acts.specs.declared.asked.Asked.{Asked}
@@ -16,10 +17,13 @@ use Rattle.node_acts.specs.Plans.{MayReply, after}
 use Rattle.node_acts.specs.Kinds.{Kind, view_in}
 use Rattle.law_orders.specs.Nexts.{AreOrdered, IsOpen, IsNext}
 use Rattle.ledger_moves.specs.Tariffs.{Tariff}
-use Rattle.ledger_moves.specs.Moves.{plan, entries}
+use Rattle.ledger_moves.specs.Moves.{plan}
 use Rattle.bench_views.specs.Kinds.{Kinds}
-use Rattle.bench_views.specs.Follows.{OthersStay, Follows, plan_by, commit_by}
+use Rattle.bench_views.specs.Follows.{Follows, plan_by, commit_by}
 use Rattle.bench_views.proofs.Histories.{moves, goes}
+use Rattle.bench_views.specs.Messages.{sent_in, IsFew}
+use Rattle.bench_views.proofs.Asked.{IsTame, few_after}
+use Rattle.bench_views.proofs.Sent.{sent_after}
 use Rattle.bench_views.proofs.Steps.{Step}
 use Rattle.bench_views.proofs.Views.{Apart, here, others, rests}
 
@@ -34,9 +38,9 @@ module _ {N S X C D E : Type 0} (n : Counting S X) (kind : Kind N S C) (m : Node
   made = commit_by n kind m d today asked H
 
   pub followed : plan τ todays_rules H e [] ≡ p → p.commit ≡ option_map (λ (x : Commit × S). x.0) made
-      → ((x : Commit × S) → made ≡ Some x → (node_of x.0 ≡ m) × (is_on m H ≡ true)) → IsWholeEvent e
+      → ((x : Commit × S) → made ≡ Some x → (node_of x.0 ≡ m) × (is_on m H ≡ true)) → IsWholeEvent e → IsTame p
       → ((reply : Reply) → MayReply n m (view_in m (kind.seen d) H) p reply → Step n m (kind.seen d) H reply made (after p reply H)) → Follows n kind m d kinds τ H e today asked
-  followed planned alike own whole steps = record {
+  followed planned alike own whole tame steps = record {
     plan = planned;
     commit = alike;
     own = own;
@@ -50,6 +54,8 @@ module _ {N S X C D E : Type 0} (n : Counting S X) (kind : Kind N S C) (m : Node
             centre = λ differs. others H opens n m (kind.seen d) Centre differs (kinds.centre.seen tt) (centre differs) reply made _ next step;
           };
           rests = rests H opens n m (kind.seen d) host verifier reply made _ step;
+          sent = subst (λ (q : Plan). sent_in (after q reply H) ≡ sent_in H ++ sent_in (after q reply [])) (sym planned) (sent_after p (told_by reply) H tame.none);
+          few = subst (λ (q : Plan). IsFew (after q reply [])) (sym planned) (few_after p (told_by reply) tame);
         };
   }
     where

@@ -1,5 +1,5 @@
 -- An event of a node, in a history: its replies are moves, and what it goes through is one of the steps.
-use Rattle.std.proofs.Common.{◌≡◌, ℕ, [], ◌∷◌, List, Option, Some, None, sym, subst, ◌⊎◌, inl, inr, refl, option_map}
+use Rattle.std.proofs.Common.{◌≡◌, [], ◌∷◌, List, Option, Some, None, sym, subst, ◌⊎◌, inl, inr, refl, option_map}
 use Rattle.std.specs.Prelude.{IsSome}
 use Rattle.bench_base.specs.declared.words.Node.{Node}
 use Rattle.bench_base.specs.declared.ledger.Commit.{Commit}

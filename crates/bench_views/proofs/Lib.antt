@@ -1,17 +1,20 @@
 mod Acts
 pub mod Asked
+pub mod Calling
 pub mod CentreCalls
 mod CentreCommits
 mod CentreCounts
 mod CentreFrames
 pub mod CentreRows
-pub mod Commits
 mod Counts
 pub mod Events
 mod Following
 mod Frames
+mod Genuine
 mod Histories
 mod Origins
-mod Plans
+pub mod Plans
+mod Quiet
 pub mod Steps
+pub mod Sent
 pub mod Views

@@ -1,5 +1,5 @@
 -- A device is registered before it is enrolled: so a commit of the centre does not change what is seen of a device.
-use Rattle.std.proofs.Common.{◌≡◌, ℕ, Bool, true, false, List, [], ◌∷◌, Option, Some, None, refl, ap, ⊎_elim}
+use Rattle.std.proofs.Common.{◌≡◌, ℕ, true, false, List, ◌∷◌, Option, Some, None, refl, ap, ⊎_elim}
 use Rattle.std.specs.Prelude.{◌==◌, ◌+◌, IsSome, option_map, if◌then◌else◌}
 use Rattle.std.proofs.lemmas.Bool.{cases_Bool, eqb-true}
 use Rattle.bench_base.specs.declared.words.Kind.TheVariants.{Enrol}

@@ -14,8 +14,11 @@ use Rattle.bench_base.specs.Replies.{Told, Did, Refused, Armed, LostPower, Fault
 use Rattle.bench_base.specs.Ledger.{Ledger, is_on, counted}
 use Rattle.node_acts.specs.declared.act.Act.{Act}
 use Rattle.node_acts.specs.declared.act.Act.TheVariants.{Refuse, Tell, Commits}
+use Rattle.node_acts.specs.declared.said.Said.{Said}
+use Rattle.node_acts.specs.declared.said.Released.{Released}
+use Rattle.node_acts.specs.Said.{saying, seen_plan, tells, with_sent, with_released}
 use Rattle.node_acts.specs.Views.{Counting, View, committed, torn}
-use Rattle.node_acts.specs.Acts.{commit_in}
+use Rattle.node_acts.specs.Acts.{commit_in, commit_of}
 use Rattle.node_acts.specs.Plans.{with_commit, after, after_told, Fails, FailsTold, MayFail, MayReply, done_plan, view_after, view_told}
 use Rattle.node_acts.specs.Kinds.{view_in}
 use Rattle.bench_views.proofs.Events.{some-same, none-some}
@@ -24,11 +27,19 @@ use Rattle.bench_views.proofs.Events.{some-same, none-some}
 abbrev pub AreTold : List Entry → Type 0
 AreTold [] = Unit {0}
 AreTold (entry.Released d piece mark ∷ T) = AreTold T
+AreTold (entry.Sent note ∷ T) = AreTold T
 AreTold (_ ∷ T) = ⊥
+
+-- what a node says is told so
+pub said_told : (released : Option Released) (sent : Option (List ℕ)) → AreTold (with_sent sent ++ with_released released)
+said_told None None = tt
+said_told None (Some note) = tt
+said_told (Some x) None = tt
+said_told (Some x) (Some note) = tt
 
 -- for the node m and the ledger H: the answer, the commit with the record after it, and the ledger afterwards
 pub data Step {S X : Type 0} (n : Counting S X) (m : Node) (seen : List Commit → S) (H : Ledger) : Reply → Option (Commit × S) → Ledger → Type 0 where
-  tells : {x : Reply} (T : List Entry) → AreTold T → ((v : View S) → view_after n x None v ≡ v) → Step n m seen H x None (T ++ H)
+  does_tell : {x : Reply} (T : List Entry) → AreTold T → ((v : View S) → view_after n x None v ≡ v) → Step n m seen H x None (T ++ H)
   does : {x : Reply} (T : List Entry) (c : Commit) (s : S) → AreTold T → ((v : View S) → view_after n x (Some (c, s)) v ≡ committed s v) → is_on m H ≡ true
       → node_of c ≡ m → seen (c ∷ counted H) ≡ s → Step n m seen H x (Some (c, s)) (T ++ (entry.Commit c ∷ H))
   tears : {x : Reply} (c : Commit) (s : S) → ((v : View S) → view_after n x (Some (c, s)) v ≡ torn s v)
@@ -61,6 +72,26 @@ plain-still n _ v h = absurd h
 pub record IsQuiet (y : Reply) : Type 0 where
   pub plain : IsPlain (told_by y)
   pub no_print : (j : ℕ) → y ≡ r.Printed j → ⊥
+
+-- what is said tells that it was done, and prints nothing
+pub record IsSaid (a : Said) : Type 0 where
+  pub did : told_by a.reply ≡ Did
+  pub no_print : (j : ℕ) → a.reply ≡ r.Printed j → ⊥
+
+-- so what an act says, or refuses
+abbrev pub IsQuietAct : {X : Type 0} → Act X Reply Said → Type 0
+IsQuietAct (Refuse x) = IsQuiet x
+IsQuietAct (Tell a) = IsSaid a
+IsQuietAct (Commits c x a) = IsSaid a
+
+pub quiet_says : {X F A : Type 0} (refusal : F → Reply) (say : A → Said) → ((x : F) → IsQuiet (refusal x)) → ((a : A) → IsSaid (say a)) → (act : Act X F A) → IsQuietAct (saying refusal say act)
+quiet_says refusal say refuses says (Refuse x) = refuses x
+quiet_says refusal say refuses says (Tell a) = says a
+quiet_says refusal say refuses says (Commits c x a) = says a
+
+-- the plan of a node that is on, by its act
+abbrev pub by_act : {S X : Type 0} → Counting S X → Node → S → Act X Reply Said → Plan
+by_act n m s act = done_plan n m (λ x. x) (λ a. a.reply) tells s act
 
 -- == failures ==
 
@@ -104,7 +135,7 @@ module _ {S X : Type 0} (n : Counting S X) (m : Node) (seen : List Commit → S)
   by_answer x y p made is plain goes = subst (λ (z : Reply). Goes z made (after p z H)) (sym is) (subst (Goes y made) (sym (plain-after (told_by y) p H plain)) goes)
 
   pub tells-plain : (x y : Reply) (T : List Entry) → IsQuiet y → AreTold T → Gets (told y T) x → Goes x None (after (told y T) x H)
-  tells-plain x y T quiet are (inl h) = by_answer x y (told y T) None h quiet.plain (tells T are (λ v. plain-still n (told_by y) v quiet.plain))
+  tells-plain x y T quiet are (inl h) = by_answer x y (told y T) None h quiet.plain (does_tell T are (λ v. plain-still n (told_by y) v quiet.plain))
   tells-plain x y T quiet are (inr (inl o)) = absurd (no_boot y quiet.plain m (n.count (seen (counted H))) o.0)
   tells-plain x y T quiet are (inr (inr f)) = none-some (failed (told y T) x (no_boot y quiet.plain) quiet.no_print f).is
 
@@ -128,38 +159,44 @@ module _ {S X : Type 0} (n : Counting S X) (m : Node) (seen : List Commit → S)
 
   -- == a call, by its act ==
 
-  -- the commit is the node's, and its record follows from it
+  -- the commit is the node's, and its record follows from it where it can be made
   abbrev pub IsRight : {F A : Type 0} → Act X F A → Type 0
-  IsRight (Commits c y a) = (node_of c ≡ m) × (seen (c ∷ counted H) ≡ n.after (seen (counted H)) y)
+  IsRight (Commits c y a) = (node_of c ≡ m) × (is_on m H ≡ true → n.is_worn (seen (counted H)) y ≡ false → seen (c ∷ counted H) ≡ n.after (seen (counted H)) y)
   IsRight (Refuse x) = Unit {0}
   IsRight (Tell a) = Unit {0}
 
-  module _ {F A : Type 0} (refusal : F → Reply) (reply : A → Reply) (tell : A → List Entry) (refuses : (y : F) → IsQuiet (refusal y))
-      (did : (a : A) → told_by (reply a) ≡ Did) (no_print : (a : A) (j : ℕ) → reply a ≡ r.Printed j → ⊥) (are : (a : A) → AreTold (tell a)) where
-    worn_quiet : IsQuiet (r.Worn m)
-    worn_quiet = record { plain = tt; no_print = λ j e. cc }
+  -- saying what it answers changes none of this
+  pub right_says : {F A : Type 0} (refusal : F → Reply) (say : A → Said) (act : Act X F A) → IsRight act → IsRight (saying refusal say act)
+  right_says refusal say (Commits c y a) right = right
+  right_says refusal say (Refuse x) right = tt
+  right_says refusal say (Tell a) right = tt
 
-    off_quiet : IsQuiet (r.OffNode m)
-    off_quiet = record { plain = tt; no_print = λ j e. cc }
+  worn_quiet : IsQuiet (r.Worn m)
+  worn_quiet = record { plain = tt; no_print = λ j e. cc }
 
-    commits : (worn : Bool) (c : Commit) (s : S) (a : A) (x : Reply) → is_on m H ≡ true → node_of c ≡ m → seen (c ∷ counted H) ≡ s
-        → Gets (cond worn (refuse (r.Worn m)) (made (reply a) c (tell a))) x
-        → Goes x (cond worn None (Some (c, s))) (after (cond worn (refuse (r.Worn m)) (made (reply a) c (tell a))) x H)
-    commits true c s a x on own is may = tells-plain x (r.Worn m) [] worn_quiet tt may
-    commits false c s a x on own is may = makes x (reply a) c s (tell a) (did a) (no_print a) (are a) on own is may
+  off_quiet : IsQuiet (r.OffNode m)
+  off_quiet = record { plain = tt; no_print = λ j e. cc }
 
-    abbrev by_act : Act X F A → Plan
-    by_act act = done_plan n m refusal reply tell (seen (counted H)) act
+  commits : (worn : Bool) (c : Commit) (s : S) (a : Said) (x : Reply) → IsSaid a → is_on m H ≡ true → node_of c ≡ m → (worn ≡ false → seen (c ∷ counted H) ≡ s)
+      → Gets (cond worn (refuse (r.Worn m)) (made a.reply c (tells a))) x
+      → Goes x (cond worn None (Some (c, s))) (after (cond worn (refuse (r.Worn m)) (made a.reply c (tells a))) x H)
+  commits true c s a x said on own is may = tells-plain x (r.Worn m) [] worn_quiet tt may
+  commits false c s a x said on own is may = makes x a.reply c s (tells a) said.did said.no_print (said_told a.released a.sent) on own (is refl) may
 
-    acts-on : (act : Act X F A) (x : Reply) → IsRight act → is_on m H ≡ true → Gets (by_act act) x → Goes x (commit_in n (seen (counted H)) act) (after (by_act act) x H)
-    acts-on (Refuse y) x right on may = tells-plain x (refusal y) [] (refuses y) tt may
-    acts-on (Tell a) x right on may = tells-plain x (reply a) (tell a) (record { plain = subst IsPlain (sym (did a)) tt; no_print = no_print a }) (are a) may
-    acts-on (Commits c y a) x right on may = commits (n.is_worn (seen (counted H)) y) c (n.after (seen (counted H)) y) a x on right.0 right.1 may
+  acts-on : (act : Act X Reply Said) (x : Reply) → IsQuietAct act → IsRight act → is_on m H ≡ true → Gets (by_act n m (seen (counted H)) act) x
+      → Goes x (commit_in n (seen (counted H)) act) (after (by_act n m (seen (counted H)) act) x H)
+  acts-on (Refuse y) x quiet right on may = tells-plain x y [] quiet tt may
+  acts-on (Tell a) x quiet right on may = tells-plain x a.reply (tells a) (record { plain = subst IsPlain (sym quiet.did) tt; no_print = quiet.no_print }) (said_told a.released a.sent) may
+  acts-on (Commits c y a) x quiet right on may = commits (n.is_worn (seen (counted H)) y) c (n.after (seen (counted H)) y) a x quiet on right.0 (right.1 on) may
 
-    pub acts : (on : Bool) (act : Act X F A) (x : Reply) → IsRight act → is_on m H ≡ on → Gets (cond on (by_act act) (refuse (r.OffNode m))) x
-        → Goes x (cond on (commit_in n (seen (counted H)) act) None) (after (cond on (by_act act) (refuse (r.OffNode m))) x H)
-    acts true act x right is may = acts-on act x right is may
-    acts false act x right is may = tells-plain x (r.OffNode m) [] off_quiet tt may
+  acts_by : (on : Bool) (act : Act X Reply Said) (x : Reply) → IsQuietAct act → IsRight act → is_on m H ≡ on → Gets (cond on (by_act n m (seen (counted H)) act) (refuse (r.OffNode m))) x
+      → Goes x (cond on (commit_in n (seen (counted H)) act) None) (after (cond on (by_act n m (seen (counted H)) act) (refuse (r.OffNode m))) x H)
+  acts_by true act x quiet right is may = acts-on act x quiet right is may
+  acts_by false act x quiet right is may = tells-plain x (r.OffNode m) [] off_quiet tt may
+
+  pub acts : (act : Act X Reply Said) (x : Reply) → IsQuietAct act → IsRight act → Gets (seen_plan n m (view_in m seen H) act) x
+      → Goes x (commit_of n (view_in m seen H) act) (after (seen_plan n m (view_in m seen H) act) x H)
+  acts act x quiet right may = acts_by (is_on m H) act x quiet right refl may
 
   -- == the node that boots, and the one that stops ==
 
@@ -173,8 +210,8 @@ module _ {S X : Type 0} (n : Counting S X) (m : Node) (seen : List Commit → S)
   boot-may k x h = subst (λ z. Goes z None (after boot_plan z H)) (sym h) (boots k)
 
   boot-fails : (x : Reply) (t : Told) → told_by x ≡ t → FailsTold boot_plan t → Goes x None (after_told boot_plan t H)
-  boot-fails x (LostPower i) is h = tells [] tt (λ v. ap (λ (t : Told). view_told n t None v) is)
-  boot-fails x (Faulted i) is h = tells [] tt (λ v. ap (λ (t : Told). view_told n t None v) is)
+  boot-fails x (LostPower i) is h = does_tell [] tt (λ v. ap (λ (t : Told). view_told n t None v) is)
+  boot-fails x (Faulted i) is h = does_tell [] tt (λ v. ap (λ (t : Told). view_told n t None v) is)
   boot-fails x (PrinterFailed j) is h = cc
   boot-fails x _ is h = absurd h
 

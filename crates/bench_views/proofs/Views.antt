@@ -16,7 +16,7 @@ use Rattle.node_acts.specs.Plans.{view_after}
 use Rattle.law_orders.specs.Nexts.{AreOrdered, IsOpen}
 use Rattle.node_acts.specs.Kinds.{view_in}
 use Rattle.bench_views.specs.Follows.{Rests}
-use Rattle.bench_views.proofs.Steps.{AreTold, Step, tells, does, tears, boots, stops}
+use Rattle.bench_views.proofs.Steps.{AreTold, Step, does_tell, does, tears, boots, stops}
 
 pub same-self : (m : Node) → same_node m m ≡ true
 same-self (Device d) = eq-eqb d d refl
@@ -50,12 +50,15 @@ seen-by seen C t on = record { state = seen C; next = option_map (λ c. seen (c 
 told-view : {S : Type 0} (i : Node) (seen : List Commit → S) (T : List Entry) (H : Ledger) → AreTold T → view_in i seen (T ++ H) ≡ view_in i seen H
 told-view i seen [] H h = refl
 told-view i seen (entry.Released d piece mark ∷ T) H h = told-view i seen T H h
+told-view i seen (entry.Sent note ∷ T) H h = told-view i seen T H h
 told-view i seen (_ ∷ T) H h = absurd h
 
 told-rests : (T : List Entry) (old H : Ledger) → AreTold T → Rests old H → Rests old (T ++ H)
 told-rests [] old H h r = r
 told-rests (entry.Released d piece mark ∷ T) old H h r = let is = told-rests T old H h r in
-    record { day = is.day; rates = is.rates; messages = is.messages; host = is.host; verifier = is.verifier }
+    record { day = is.day; rates = is.rates; host = is.host; verifier = is.verifier }
+told-rests (entry.Sent note ∷ T) old H h r = let is = told-rests T old H h r in
+    record { day = is.day; rates = is.rates; host = is.host; verifier = is.verifier }
 told-rests (_ ∷ T) old H h r = absurd h
 
 -- a commit of node m, in order, leaves what is seen of node i as it is, also under an open commit of its own
@@ -84,7 +87,7 @@ module _ (H : Ledger) (opens : (n : Node) (c : Commit) → torn_of n H ≡ Some 
           ∙ ap (λ (l : ℕ). cond (k == l + 1) (started (seen (c ∷ counted H))) (started (seen (counted H)))) (sym counts)
 
       pub here : (x : Reply) (made : Option (Commit × S)) (new : Ledger) → Step n m seen H x made new → view_in m seen new ≡ view_after n x made (view_in m seen H)
-      here x made new (tells T are still) = told-view m seen T H are ∙ sym (still (view_in m seen H))
+      here x made new (does_tell T are still) = told-view m seen T H are ∙ sym (still (view_in m seen H))
       here x made new (does T c s are done on own is) =
           told-view m seen T (entry.Commit c ∷ H) are ∙ rw (settled m on (torn_of m H) refl, is) refl ∙ sym (done (view_in m seen H))
       here x made new (tears c s fails own is) = (rw (same-self m, is) refl) ∙ sym (fails (view_in m seen H))
@@ -117,7 +120,7 @@ module _ (H : Ledger) (opens : (n : Node) (c : Commit) → torn_of n H ≡ Some 
 
       pub others : (x : Reply) (made : Option (Commit × S)) (new : Ledger) → ((c : Commit) (s : S) → made ≡ Some (c, s) → AreOrdered (c ∷ counted H)) → Step n m seen H x made new
           → view_in i other new ≡ view_in i other H
-      others x made new next (tells T are still) = told-view i other T H are
+      others x made new next (does_tell T are still) = told-view i other T H are
       others x made new next (does T c s are done on own is) = told-view i other T (entry.Commit c ∷ H) are ∙ other-commit c own (next c s refl)
       others x made new next (tears c s fails own is) = rw (same-apart m i ne) refl
       others x made new next (boots k) = rw (same-apart m i ne) (other-boot k (torn_of m H) refl)
@@ -127,9 +130,9 @@ module _ (H : Ledger) (opens : (n : Node) (c : Commit) → torn_of n H ≡ Some 
 
   pub rests : {S X : Type 0} (n : Counting S X) (m : Node) (seen : List Commit → S) → Host ≢ m → Verifier ≢ m → (x : Reply) (made : Option (Commit × S)) (new : Ledger) → Step n m seen H x made new
       → Rests H new
-  rests n m seen host verifier x made new (tells T are still) = told-rests T H H are (record { day = refl; rates = refl; messages = refl; host = refl; verifier = refl })
-  rests n m seen host verifier x made new (does T c s are done on own is) = told-rests T H (entry.Commit c ∷ H) are (record { day = refl; rates = refl; messages = refl; host = refl; verifier = refl })
+  rests n m seen host verifier x made new (does_tell T are still) = told-rests T H H are (record { day = refl; rates = refl; host = refl; verifier = refl })
+  rests n m seen host verifier x made new (does T c s are done on own is) = told-rests T H (entry.Commit c ∷ H) are (record { day = refl; rates = refl; host = refl; verifier = refl })
   rests n m seen host verifier x made new (tears c s fails own is) =
-      record { day = refl; rates = refl; messages = refl; host = rw (same-apart m Host host) refl; verifier = rw (same-apart m Verifier verifier) refl }
-  rests n m seen host verifier x made new (boots k) = record { day = refl; rates = refl; messages = refl; host = rw (same-apart m Host host) refl; verifier = rw (same-apart m Verifier verifier) refl }
-  rests n m seen host verifier x made new stops = record { day = refl; rates = refl; messages = refl; host = rw (same-apart m Host host) refl; verifier = rw (same-apart m Verifier verifier) refl }
+      record { day = refl; rates = refl; host = rw (same-apart m Host host) refl; verifier = rw (same-apart m Verifier verifier) refl }
+  rests n m seen host verifier x made new (boots k) = record { day = refl; rates = refl; host = rw (same-apart m Host host) refl; verifier = rw (same-apart m Verifier verifier) refl }
+  rests n m seen host verifier x made new stops = record { day = refl; rates = refl; host = rw (same-apart m Host host) refl; verifier = rw (same-apart m Verifier verifier) refl }

@@ -1,23 +1,26 @@
 -- The centre, as the ledger shows it to the bench, and what a call of it does by that alone. Amounts are in mills.
-use Rattle.std.specs.Prelude.{◌≡◌, ℕ, ◌+◌, ◌-◌, ◌<◌, ◌≤◌, Bool, true, false, List, [], length, Option, Some, None, option_map, nat_lt, if◌then◌else◌}
+use Rattle.std.specs.Prelude.{◌≡◌, ℕ, ◌+◌, ◌-◌, ◌<◌, ◌≤◌, Bool, true, false, List, length, Option, Some, None, option_map, nat_lt, if◌then◌else◌}
 use Rattle.bench_base.specs.declared.words.Node.TheVariants.{Centre}
 use Rattle.bench_base.specs.declared.sizes.TheConstants.{MOST_COMMITS, CENTRE_CELLS}
-use Rattle.bench_base.specs.declared.refusals.CentreRefusal.{CentreRefusal}
 use Rattle.bench_base.specs.declared.ledger.Commit.{Commit}
-use Rattle.bench_base.specs.declared.ledger.Entry.{Entry}
 use Rattle.bench_base.specs.declared.events.Reply.{Reply}
 use Rattle.bench_base.specs.declared.events.Reply.TheVariants as r
-use Rattle.bench_base.specs.Plans.{Plan}
 use Rattle.bench_base.specs.Cells.{Place, OfRow, OfCustomer}
 use Rattle.bench_base.specs.Cells as cells
 use Rattle.bench_base.specs.Ledger.{Ledger}
+use Rattle.bench_base.specs.Table.{IsBytes}
 use Rattle.node_acts.specs.declared.act.Act.{Act}
+use Rattle.node_acts.specs.declared.asked.Asked.{Asked}
+use Rattle.node_acts.specs.declared.asked.Asked.TheVariants.{On, Off, Cut, Call}
 use Rattle.node_acts.specs.Views.{View}
-use Rattle.node_acts.specs.Acts.{commit_of}
-use Rattle.node_acts.specs.Plans.{done_plan, when_on}
+use Rattle.node_acts.specs.declared.said.Said.{Said}
+use Rattle.node_acts.specs.Said.{replies, sends, saying, kind_by}
 use Rattle.node_acts.specs.Kinds.{Kind, view_in}
 use Rattle.node_acts.specs.RowList.{listed, row_at, commits_at}
-use Rattle.centre_ledger.specs.Books.{AreSound}
+use Rattle.centre_ledger.specs.Books.{Books, AreSound}
+use Rattle.centre_ledger.specs.declared.taking.CentreAnswer.{CentreAnswer}
+use Rattle.centre_ledger.specs.declared.taking.CentreAnswer.TheVariants as answer
+use Rattle.centre_ledger.specs.Acts.{CentreAct}
 use Rattle.centre_ledger.specs.declared.rows.Row.{Row}
 use Rattle.centre_ledger.specs.declared.rows.Row.TheVariants as row
 use Rattle.centre_ledger.specs.declared.acts.Deposit.{Deposit}
@@ -92,26 +95,46 @@ view_of H = view_in Centre seen_in H
 
 -- == its calls ==
 
-abbrev pub deposited : ℕ → ℕ → Deposit → Reply
-deposited w receipt done = r.Deposited w receipt done.again done.total
+abbrev pub done : Reply → Unit {0} → Said
+done reply u = replies reply
 
--- the plan of a call of this act, by how it replies; none tells more
-abbrev pub act_plan : {A : Type 0} → (A → Reply) → View Seen → Act Row CentreRefusal A → Plan
-act_plan reply v act = when_on Centre v (done_plan counting Centre r.CentreRefused reply (λ a. []) v.state act)
+abbrev pub deposited : ℕ → ℕ → Deposit → Said
+deposited w receipt deposit = replies (r.Deposited w receipt deposit.again deposit.total)
 
-abbrev pub call_plan : View Seen → CentreCall → Plan
-call_plan v (call.Register d origin key) = act_plan (λ u. r.Registered d) v (acts.register_act d origin key (books_in v.state))
-call_plan v (call.Open w) = act_plan (λ u. r.Opened w) v (acts.open_act w (books_in v.state))
-call_plan v (call.Deposit w n a) = act_plan (deposited w n) v (acts.deposit_act w n a (books_in v.state))
-call_plan v (call.Flag w flag) = act_plan (λ u. r.Flagged w flag) v (acts.flag_act w flag (books_in v.state))
-call_plan v (call.Balance w) = act_plan (r.Balance w) v (acts.balance_act w (books_in v.state))
+abbrev pub left : ℕ → ℕ → Said
+left w n = replies (r.Balance w n)
 
-abbrev pub call_commit : View Seen → CentreCall → Option (Commit × Seen)
-call_commit v (call.Register d origin key) = commit_of counting v (acts.register_act d origin key (books_in v.state))
-call_commit v (call.Open w) = commit_of counting v (acts.open_act w (books_in v.state))
-call_commit v (call.Deposit w n a) = commit_of counting v (acts.deposit_act w n a (books_in v.state))
-call_commit v (call.Flag w flag) = commit_of counting v (acts.flag_act w flag (books_in v.state))
-call_commit v (call.Balance w) = None
+-- what became of a message that it took; a Reply is message k
+abbrev pub took : ℕ → CentreAnswer → Said
+took k (answer.Ruled d n v note again) = sends (r.Ruled d n v again k) note
+took k (answer.Settled d n again) = replies (r.Settled d n again)
+
+-- its act, by how it says what it answers
+abbrev pub says : {A : Type 0} → (A → Said) → CentreAct A → Act Row Reply Said
+says say act = saying r.CentreRefused say act
+
+abbrev pub centre_act : CentreCall → Books → Act Row Reply Said
+centre_act (call.Register d origin key) b = says (done (r.Registered d)) (acts.register_act d origin key b)
+centre_act (call.Open w) b = says (done (r.Opened w)) (acts.open_act w b)
+centre_act (call.Deposit w n a) b = says (deposited w n) (acts.deposit_act w n a b)
+centre_act (call.Flag w flag) b = says (done (r.Flagged w flag)) (acts.flag_act w flag b)
+centre_act (call.Balance w) b = says (left w) (acts.balance_act w b)
+centre_act (call.Take bytes k) b = says (took k) (acts.take_act bytes b)
 
 abbrev pub centre_kind : Kind (Unit {0}) Seen CentreCall
-centre_kind = record { seen = λ u. seen_in; plan = λ u today. call_plan; commit = λ u today. call_commit }
+centre_kind = kind_by counting (λ u. Centre) (λ u. seen_in) (λ u today c s. centre_act c (books_in s))
+
+-- what it is handed is a list of bytes
+abbrev pub IsBytesCall : CentreCall → Type 0
+IsBytesCall (call.Register d origin key) = Unit {0}
+IsBytesCall (call.Open w) = Unit {0}
+IsBytesCall (call.Deposit w n a) = Unit {0}
+IsBytesCall (call.Flag w flag) = Unit {0}
+IsBytesCall (call.Balance w) = Unit {0}
+IsBytesCall (call.Take bytes k) = IsBytes bytes
+
+abbrev pub AreBytes : Asked CentreCall → Type 0
+AreBytes On = Unit {0}
+AreBytes Off = Unit {0}
+AreBytes (Cut calls keep byte) = Unit {0}
+AreBytes (Call c) = IsBytesCall c

@@ -1,33 +1,34 @@
 -- How the ledger and what the bench sees of its nodes go together: by an event of one node.
-use Rattle.std.specs.Prelude.{◌≡◌, ◌≢◌, ℕ, ℤ, ◌≤◌, [], true, Option, Some, option_map}
+use Rattle.std.specs.Prelude.{◌≡◌, ◌≢◌, ℕ, ℤ, ◌++◌, [], true, false, Option, Some, None, IfSome, option_map}
 use Rattle.bench_base.specs.declared.words.Node.{Node}
 use Rattle.bench_base.specs.declared.words.Node.TheVariants.{Device, Centre, Host, Verifier}
 use Rattle.bench_base.specs.declared.ledger.Commit.{Commit}
 use Rattle.bench_base.specs.declared.events.Event.{Event}
 use Rattle.bench_base.specs.declared.events.Reply.{Reply}
-use Rattle.bench_base.specs.declared.sizes.TheConstants.{MOST_COMMITS}
+use Rattle.bench_base.specs.declared.events.Reply.TheVariants as r
 use Rattle.bench_base.specs.Rules.{todays_rules, editions}
 use Rattle.bench_base.specs.Nodes.{node_of}
-use Rattle.bench_base.specs.Plans.{Plan}
+use Rattle.bench_base.specs.Plans.{Plan, refuse}
 use Rattle.bench_base.specs.Ranges.{IsWholeEvent}
-use Rattle.bench_base.specs.Ledger.{Ledger, day_in, rates_in, messages, is_on}
+use Rattle.bench_base.specs.Ledger.{Ledger, day_in, rates_in, is_on}
 use Rattle.node_acts.specs.declared.asked.Asked.{Asked}
 use Rattle.node_acts.specs.Views.{Counting, View}
-use Rattle.node_acts.specs.Plans.{MayReply, view_after}
+use Rattle.node_acts.specs.Plans.{MayReply, view_after, after}
 use Rattle.node_acts.specs.Kinds.{Kind, view_in, node_plan, node_commit}
 use Rattle.ledger_moves.specs.Tariffs.{Tariff}
 use Rattle.ledger_moves.specs.Moves.{Moves, plan, entries}
-use Rattle.ledger_moves.specs.Histories.{History}
+use Rattle.ledger_moves.specs.Histories.{History, Unforged}
 use Rattle.bench_views.specs.declared.taken.Taken.{Taken}
 use Rattle.bench_views.specs.declared.taken.Taken.TheVariants as take
+use Rattle.bench_views.specs.Centre.{AreBytes}
 use Rattle.bench_views.specs.Kinds.{Kinds}
-use Rattle.bench_views.specs.Taken.{taken}
+use Rattle.bench_views.specs.Messages.{sent_in, IsFew}
+use Rattle.bench_views.specs.Taken.{taken, IsTaken}
 
--- nothing that the bench sees beside its nodes was changed
+-- nothing that the bench sees beside its nodes and the messages was changed
 pub record Rests (old new : Ledger) : Type 0 where
   pub day : day_in new ≡ day_in old
   pub rates : rates_in new ≡ rates_in old
-  pub messages : messages new ≡ messages old
   pub host : is_on Host new ≡ is_on Host old
   pub verifier : is_on Verifier new ≡ is_on Verifier old
 
@@ -49,12 +50,14 @@ module _ {N S X C : Type 0} (n : Counting S X) (kind : Kind N S C) (m : Node) (d
 
   module _ {D E : Type 0} (kinds : Kinds D E) (τ : Tariff) (H : Ledger) (e : Event) (today : ℤ) (asked : Asked C) where
     -- By this reply: it is a move of the ledger; what is seen of the node afterwards; of each other node the same is seen as before,
-    -- and so of all else.
+    -- and so of all else; and the messages of the run are those before, and what the event sent.
     pub record Replied (reply : Reply) : Type 0 where
       pub moves : Moves τ todays_rules H e [] reply
       pub here : view_by (entries τ todays_rules H e [] reply) ≡ view_after n reply (commit_by today asked H) (view_by H)
       pub others : OthersStay kinds m H (entries τ todays_rules H e [] reply)
       pub rests : Rests H (entries τ todays_rules H e [] reply)
+      pub sent : sent_in (entries τ todays_rules H e [] reply) ≡ sent_in H ++ sent_in (after (plan τ todays_rules H e []) reply [])
+      pub few : IsFew (after (plan τ todays_rules H e []) reply [])
 
     -- The plan of the event is that of what is seen of the node, its commit is the node's, which is on; and each reply that it may
     -- get by that does what the node alone would do.
@@ -64,14 +67,37 @@ module _ {N S X C : Type 0} (n : Counting S X) (kind : Kind N S C) (m : Node) (d
       pub own : (x : Commit × S) → commit_by today asked H ≡ Some x → (node_of x.0 ≡ m) × (is_on m H ≡ true)
       pub replied : (reply : Reply) → MayReply n m (view_by H) (plan_by today asked H) reply → Replied reply
 
-  -- it follows for each event of the node, on a day, at each history in which its record is one that storage can show
-  abbrev pub FollowsAlways : {D E : Type 0} → Kinds D E → (Asked C → Taken) → (S → Type 0) → Type 0
-  FollowsAlways kinds taken_as Fits = (τ : Tariff) (H : Ledger) (e : Event) (today : ℤ) (asked : Asked C) → History τ editions H → day_in H ≡ Some today
-      → IsWholeEvent e → taken e ≡ Some (taken_as asked) → Fits (view_by H).state → Follows kinds τ H e today asked
+  -- it follows for each event of the node, on a day, at each history in which its record is one that storage can show, and is one
+  -- after the commit too
+  abbrev pub FollowsAlways : {D E : Type 0} → Kinds D E → (Asked C → Taken) → (Asked C → Type 0) → (S → Type 0) → Type 0
+  FollowsAlways kinds taken_as IsWhole Fits = (τ : Tariff) (H : Ledger) (e : Event) (today : ℤ) (asked : Asked C) → History τ editions H → Unforged e H → day_in H ≡ Some today
+      → IsWholeEvent e → taken (sent_in H) e ≡ Some (taken_as asked) → IsWhole asked → Fits (view_by H).state → IfSome (commit_by today asked H) (λ x. Fits x.1)
+      → Follows kinds τ H e today asked
 
 -- an event of a device, or of the centre, does what the node alone would do, and changes that node alone
-abbrev pub DevicesFollow : {D X C : Type 0} → Counting D X → Kinds D C → Type 0
-DevicesFollow n kinds = (d : ℕ) → FollowsAlways n kinds.devices (Device d) d kinds (take.Device d) (λ s. n.count s ≤ MOST_COMMITS)
+abbrev pub DevicesFollow : {D C X : Type 0} → Counting D X → Kinds D C → (D → Type 0) → Type 0
+DevicesFollow n kinds IsSound = (d : ℕ) → FollowsAlways n kinds.devices (Device d) d kinds (take.Device d) (λ asked. Unit {0}) IsSound
 
 abbrev pub CentreFollows : {D C X : Type 0} → Counting C X → Kinds D C → (C → Type 0) → Type 0
-CentreFollows n kinds IsSound = FollowsAlways n kinds.centre Centre tt kinds take.Centre IsSound
+CentreFollows n kinds IsSound = FollowsAlways n kinds.centre Centre tt kinds take.Centre AreBytes IsSound
+
+-- == events of no node ==
+
+-- what an event is answered that changes no node, by what is seen of the nodes
+abbrev pub quiet_reply : {D C : Type 0} → Kinds D C → (ℕ → View D) → View C → Taken → Option Reply
+quiet_reply kinds v w (take.Day t) = None
+quiet_reply kinds v w take.End = None
+quiet_reply kinds v w (take.NoMessage k) = Some (r.NoMessage k)
+quiet_reply kinds v w (take.Absent m) = Some (r.OffNode m)
+quiet_reply kinds v w (take.Reconcile d) = Some (kinds.compare d (v d) w)
+quiet_reply kinds v w (take.Device d asked) = None
+quiet_reply kinds v w (take.Centre asked) = None
+
+-- by the ledger
+abbrev pub quiet_by : {D C : Type 0} → Kinds D C → Ledger → Taken → Option Reply
+quiet_by kinds H x = quiet_reply kinds (λ d. view_in (Device d) (kinds.devices.seen d) H) (view_in Centre (kinds.centre.seen tt) H) x
+
+-- on a day, its plan is that reply alone, where the centre's record is one that storage can show, and the host is off
+abbrev pub OthersAreQuiet : {D C : Type 0} → Kinds D C → (C → Type 0) → Type 0
+OthersAreQuiet kinds IsSound = (τ : Tariff) (H : Ledger) (e : Event) (today : ℤ) (x : Taken) (reply : Reply) → History τ editions H → day_in H ≡ Some today → is_on Host H ≡ false
+    → IsTaken e → taken (sent_in H) e ≡ Some x → IsSound (view_in Centre (kinds.centre.seen tt) H).state → quiet_by kinds H x ≡ Some reply → plan τ todays_rules H e [] ≡ refuse reply

@@ -1,18 +1,21 @@
 //! The laws, each as a contract of a function that takes and answers nothing.
 ghost use Rattle.psd_state.specs.Seen as device;
 ghost use Rattle.centre_ledger.specs.Seen as centre;
+ghost use Rattle.bench_views.specs.Devices as devices;
 ghost use Rattle.bench_views.specs.Centre.{IsKnown};
-ghost use Rattle.bench_views.specs.Follows.{DevicesFollow, CentreFollows};
+ghost use Rattle.bench_views.specs.Follows.{DevicesFollow, CentreFollows, OthersAreQuiet};
 ghost use Rattle.bench_views.specs.Kinds.{bench_kinds};
 
 use centre_ledger::acts_follow_the_commits;
 use ledger_laws::laws::{counts, histories, orders, withdrawals};
 use psd_state::record_follows_the_commits;
 
-/// An event of a node does what the node alone would do, and changes that node alone: see `Follows`.
+/// An event of a node does what the node alone would do, and changes that node alone: see `Follows`. One of no node is answered by
+/// what is seen of the nodes, and changes none.
 pub fn nodes_follow()
-    ensures devices { DevicesFollow device.counting bench_kinds }
+    ensures devices { DevicesFollow device.counting bench_kinds devices.IsKnown }
     ensures centre { CentreFollows centre.counting bench_kinds IsKnown }
+    ensures quiet { OthersAreQuiet bench_kinds IsKnown }
 {
     histories();
     orders();

@@ -52,7 +52,7 @@ use Rattle.law_host.proofs.HostPlans.{order-ok, send-ok, host-ok, print-ok, clos
 none-some : {A : Type 0} {a : A} {P : Type 0} → None ≡ Some a → P
 none-some h = absurd (cc)
 
-message-sent : (k : ℕ) (bytes : List ℕ) (H : Ledger) → message k H ≡ Some bytes → IsSent bytes H
+pub message-sent : (k : ℕ) (bytes : List ℕ) (H : Ledger) → message k H ≡ Some bytes → IsSent bytes H
 message-sent k bytes [] h = none-some h
 message-sent k bytes (e.Sent x ∷ H) h = ⊎_elim
     (λ (t : (k == messages H) ≡ true). inl (some-same (rw t at h)))

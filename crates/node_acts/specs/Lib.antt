@@ -6,3 +6,4 @@ pub mod Results
 pub mod Kinds
 pub mod RowList
 pub mod RowLaws
+pub mod Said

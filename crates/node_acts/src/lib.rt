@@ -4,6 +4,8 @@
 
 mod act;
 mod asked;
+mod said;
 
 pub use act::{Act, Outcome, Started};
 pub use asked::Asked;
+pub use said::{Released, Said};

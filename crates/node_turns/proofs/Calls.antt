@@ -1,18 +1,16 @@
 -- A node that was called, by the act of the call.
-use Rattle.std.proofs.Common.{◌≡◌, ◌≢◌, ◌⊎◌, inl, inr, ℕ, ℤ, ◌≤◌, List, [], ◌∷◌, ◌++◌, Option, Some, None, Bool, true, false, not, ◌&&◌, if◌then◌else◌, ◌↔◌, refl, sym, ◌∙◌, ap, subst, true≢false, arith}
+use Rattle.std.proofs.Common.{◌≡◌, ◌≢◌, ◌⊎◌, inl, inr, ℕ, ℤ, ◌≤◌, [], Option, Some, None, Bool, true, false, not, ◌&&◌, ◌↔◌, refl, sym, ◌∙◌, ap, subst, true≢false, arith, if◌then◌else◌}
 use Rattle.std.specs.Prelude.{IfSome}
 use Rattle.bench_base.specs.declared.words.Node.{Node}
 use Rattle.bench_base.specs.declared.ledger.Commit.{Commit}
-use Rattle.bench_base.specs.declared.ledger.Entry.{Entry}
-use Rattle.bench_base.specs.declared.ledger.Entry.TheVariants as entry
 use Rattle.bench_base.specs.declared.events.Event.{Event}
 use Rattle.bench_base.specs.declared.events.Event.TheVariants as ev
 use Rattle.bench_base.specs.declared.events.Reply.{Reply}
 use Rattle.bench_base.specs.declared.events.Reply.TheVariants as r
 use Rattle.bench_base.specs.Events.{node_for, needs_on, may_commit, calls_of, IsAt}
+use Rattle.bench_base.specs.Nodes.{node_of}
 use Rattle.bench_base.specs.Replies.{Told, Did, Refused, refuses, loses_power, faults, leaves_on, told_by, is_refusal, tells_power, tells_fault, MayGet, Commits as CommitsAt}
 use Rattle.bench_base.specs.Plans.{Plan}
-use Rattle.bench_base.specs.Ledger.{Ledger}
 use Rattle.nv_model.specs.declared.nv.Nv as nv
 use Rattle.nv_model.specs.declared.fuse.Fuse as fuse
 use Rattle.nv_model.specs.Meters.{Meters, Uses}
@@ -23,12 +21,14 @@ use Rattle.node_acts.specs.declared.act.Act.TheVariants.{Refuse, Tell, Commits}
 use Rattle.node_acts.specs.declared.act.Outcome.{Outcome}
 use Rattle.node_acts.specs.declared.act.Outcome.TheVariants as o
 use Rattle.node_acts.specs.declared.asked.Asked.TheVariants.{Call}
-use Rattle.node_acts.specs.Views.{Counting, View}
+use Rattle.node_acts.specs.declared.said.Said.{Said}
+use Rattle.node_acts.specs.Views.{View}
 use Rattle.node_acts.specs.Acts.{cost, has_failed, commit_of, outcome_in, MayCome, TellsOf, CommitsSome, CameOf}
 use Rattle.node_acts.specs.Acts as acts
-use Rattle.node_acts.specs.Plans.{after, MayReply, view_after, when_on, done_plan, call_reply, call_entries, act_entries, IsOfNode}
+use Rattle.node_acts.specs.Plans.{after, MayReply, view_after, IsOfNode}
+use Rattle.node_acts.specs.Said.{IsPlain, seen_plan, said_reply, said_entries}
 use Rattle.node_acts.specs.Kinds.{Kind}
-use Rattle.node_acts.proofs.Told.{Tells, tells}
+use Rattle.node_acts.proofs.Told.{Tells, tells_call}
 use Rattle.node_seat.specs.declared.node.Node.{Ghosts}
 use Rattle.node_seat.specs.Ends.{end_of}
 use Rattle.node_seat.specs.Shown.{Allowed, IsAfter, IsNext, IsFitting}
@@ -38,7 +38,7 @@ use Rattle.node_seat.proofs.Rests.{mounts_none}
 use Rattle.node_turns.specs.Adds.{Adds}
 use Rattle.node_turns.specs.Costs.{Charged}
 use Rattle.node_turns.specs.NodeTurns.{NodeTurn}
-use Rattle.node_turns.specs.Turns.{in_order, added, call_turn}
+use Rattle.node_turns.specs.Turns.{in_order, call_turn}
 
 no : {P : Type 0} → false ≡ true → P
 no is = absurd (true≢false (sym is))
@@ -49,102 +49,107 @@ uses_more few many le None is uses = uses
 uses_more few many le (Some left) None uses = omega arith
 uses_more few many le (Some left) (Some rest) uses = (uses.0, omega (arith, uses.1))
 
--- what is added where the call is done is what its act tells
-abbrev pub Agrees : {X F A : Type 0} → (A → List Entry) → (A → Ledger) → Act X F A → Type 0
-Agrees tell done (Refuse x) = Unit {0}
-Agrees tell done (Tell a) = done a ≡ tell a
-Agrees tell done (Commits c x a) = done a ≡ tell a ++ entry.Commit c ∷ []
+-- == what an event may get by an act ==
 
-done_adds : {X F A : Type 0} (tell : A → List Entry) (done : A → Ledger) (a : A) (act : Act X F A) → Agrees tell done act → TellsOf a act → done a ≡ act_entries tell act
-done_adds tell done a (Refuse x) agrees of = absurd of
-done_adds tell done a (Tell b) agrees of = ap done (sym of) ∙ agrees
-done_adds tell done a (Commits c x b) agrees of = ap done (sym of) ∙ agrees
-
-added_is : {X F A : Type 0} (m : Node) (tell : A → List Entry) (done : A → Ledger) (act : Act X F A) (x : Outcome F A) → Agrees tell done act → ((a : A) → x ≡ o.Done a → TellsOf a act)
-    → added m done x ≡ call_entries m tell act x
-added_is m tell done act o.Off agrees of = refl
-added_is m tell done act (o.Refused y) agrees of = refl
-added_is m tell done act (o.Done a) agrees of = done_adds tell done a act agrees (of a refl)
-added_is m tell done act o.Worn agrees of = refl
-added_is m tell done act (o.Power c) agrees of = refl
-added_is m tell done act (o.Fault c) agrees of = refl
-
--- what a call may come to by a view
-module _ {S X F A : Type 0} (n : Counting S X) where
-  done_where : (worn : Bool) (a b : A) → ◌≡◌ {A = Outcome F A} (o.Done a) (if worn then o.Worn else o.Done b) → b ≡ a
-  done_where true a b is = cc
-  done_where false a b is = cc
-
-  done_in : (s : S) (act : Act X F A) (a : A) → o.Done a ≡ outcome_in n s act → TellsOf a act
-  done_in s (Refuse x) a is = cc
-  done_in s (Tell b) a is = cc
-  done_in s (Commits c x b) a is = done_where (n.is_worn s x) a b is
-
-  done_at : (on : Bool) (s : S) (act : Act X F A) (a : A) → o.Done a ≡ (if on then outcome_in n s act else o.Off) → TellsOf a act
-  done_at true s act a is = done_in s act a is
-  done_at false s act a is = cc
-
-  done_of : (v : View S) (act : Act X F A) (x : Outcome F A) → MayCome n v act x → (a : A) → x ≡ o.Done a → TellsOf a act
-  done_of v act x may a is = done_at v.on v.state act a (subst (λ (y : Outcome F A). MayCome n v act y) is may)
-
--- How a call of node m is told: its refusals are refusals, and its replies tell that it was done; and each is one that its event may get.
-pub record IsToldBy {F A : Type 0} (m : Node) (e : Event) (refusal : F → Reply) (reply : A → Reply) : Type 0 where
+-- the event calls node m
+pub record IsCallOf (m : Node) (e : Event) : Type 0 where
   pub on : needs_on e ≡ true
-  pub node : node_for e ≡ Some m
+  pub at : IsAt (node_for e) m
   pub no_switch : e ≢ ev.On m
   pub no_cut : (calls keep byte : ℕ) → e ≢ ev.Cut m calls keep byte
-  pub refuses : (x : F) → told_by (refusal x) ≡ Refused
-  pub did : (a : A) → told_by (reply a) ≡ Did
-  pub on_day : (x : F) → refusal x ≢ r.NoDay
-  pub not_off : (x : F) → refusal x ≢ r.OffNode m
-  pub refused_gets : (x : F) → MayGet e (refusal x)
-  pub done_gets : (a : A) → MayGet e (reply a)
 
-module _ {F A : Type 0} (m : Node) (e : Event) (refusal : F → Reply) (reply : A → Reply) (told : IsToldBy m e refusal reply) where
-  at_node : IsAt (node_for e) m
-  at_node = subst (λ (o : Option Node). IsAt o m) (sym told.node) refl
+-- it may be refused so
+pub record MayRefuse (m : Node) (e : Event) (x : Reply) : Type 0 where
+  pub told : told_by x ≡ Refused
+  pub on_day : x ≢ r.NoDay
+  pub not_off : x ≢ r.OffNode m
+  pub gets : MayGet e x
 
-  module _ {X : Type 0} (act : Act X F A) (commits : CommitsSome (λ c. Unit {0}) act → may_commit e ≡ true) where
-    commits_at : CommitsSome (λ c. Unit {0}) act → CommitsAt e m
-    commits_at some = record { commits = commits some; at = at_node }
+-- it may be told so
+pub record MaySay (e : Event) (a : Said) : Type 0 where
+  pub told : told_by a.reply ≡ Did
+  pub gets : MayGet e a.reply
 
-    some_commit : (P : Commit → Type 0) (b : Act X F A) → CommitsSome P b → CommitsSome (λ c. Unit {0}) b
-    some_commit P (Refuse x) is = is
-    some_commit P (Tell a) is = is
-    some_commit P (Commits c x a) is = tt
+-- it may make this commit
+pub record MayMake (m : Node) (e : Event) (c : Commit) : Type 0 where
+  pub commits : may_commit e ≡ true
+  pub own : node_of c ≡ m
+  pub costs : 6 ≤ calls_of e
 
-    call_gets : (x : Outcome F A) → CameOf act x → MayGet e (call_reply m refusal reply x)
-    call_gets o.Off came = inl (told.on, at_node)
-    call_gets (o.Refused y) came = told.refused_gets y
-    call_gets (o.Done a) came = told.done_gets a
-    call_gets o.Worn came = commits_at came
-    call_gets (o.Power c) came = inr (commits_at (some_commit (λ made. made ≡ c) act came))
-    call_gets (o.Fault c) came = inr (commits_at (some_commit (λ made. made ≡ c) act came))
+abbrev pub IsToldBy : {X : Type 0} → Node → Event → Act X Reply Said → Type 0
+IsToldBy m e (Refuse x) = MayRefuse m e x
+IsToldBy m e (Tell a) = MaySay e a
+IsToldBy m e (Commits c x a) = MayMake m e c × MaySay e a
 
-  call_on_day : (x : Outcome F A) → call_reply m refusal reply x ≢ r.NoDay
-  call_on_day o.Off is = cc
-  call_on_day (o.Refused y) is = told.on_day y is
-  call_on_day (o.Done a) is = let t : Refused ≡ Did = sym (ap told_by is) ∙ told.did a in cc
-  call_on_day o.Worn is = cc
-  call_on_day (o.Power c) is = cc
-  call_on_day (o.Fault c) is = cc
+module _ {X : Type 0} (m : Node) (e : Event) where
+  pub plain_by : (act : Act X Reply Said) → IsToldBy m e act → IsPlain act
+  plain_by (Refuse x) told = told.told
+  plain_by (Tell a) told = told.told
+  plain_by (Commits c x a) told = told.1.told
 
-  call_refused : (done : A → Ledger) (x : Outcome F A) (P : Type 0) → (acts.is_refusal x ≡ true → P) → is_refusal (call_reply m refusal reply x) ≡ true → P × (in_order (added m done x) ≡ in_order [])
-  call_refused done o.Off P stays is = (stays refl, refl)
-  call_refused done (o.Refused y) P stays is = (stays refl, refl)
-  call_refused done (o.Done a) P stays is = no (sym (ap refuses (told.did a)) ∙ is)
-  call_refused done o.Worn P stays is = (stays refl, refl)
-  call_refused done (o.Power c) P stays is = no is
-  call_refused done (o.Fault c) P stays is = no is
+  pub own_by : (act : Act X Reply Said) → IsToldBy m e act → IsOfNode m act
+  own_by (Refuse x) told = tt
+  own_by (Tell a) told = tt
+  own_by (Commits c x a) told = told.0.own
 
-  call_adds : {X : Type 0} (act : Act X F A) (done : A → Ledger) → (CommitsSome (λ c. Unit {0}) act → may_commit e ≡ true) → (x : Outcome F A) → CameOf act x
-      → Adds e (told_by (call_reply m refusal reply x)) (in_order (added m done x))
-  call_adds act done commits o.Off came = refl
-  call_adds act done commits (o.Refused y) came = subst (λ (t : Told). Adds e t (in_order [])) (sym (told.refuses y)) refl
-  call_adds act done commits (o.Done a) came = subst (λ (t : Told). Adds e t (in_order (done a))) (sym (told.did a)) tt
-  call_adds act done commits o.Worn came = refl
-  call_adds act done commits (o.Power c) came = inr (c, commits (some_commit act commits (λ made. made ≡ c) act came), refl)
-  call_adds act done commits (o.Fault c) came = inr (c, commits (some_commit act commits (λ made. made ≡ c) act came), refl)
+  cost_by : (act : Act X Reply Said) → IsToldBy m e act → cost act ≤ calls_of e
+  cost_by (Refuse x) told = omega arith
+  cost_by (Tell a) told = omega arith
+  cost_by (Commits c x a) told = told.0.costs
+
+  commits_by : (P : Commit → Type 0) (act : Act X Reply Said) → IsToldBy m e act → CommitsSome P act → may_commit e ≡ true
+  commits_by P (Refuse x) told some = absurd some
+  commits_by P (Tell a) told some = absurd some
+  commits_by P (Commits c x a) told some = told.0.commits
+
+  refuses_by : (act : Act X Reply Said) (x : Reply) → IsToldBy m e act → act ≡ Refuse x → MayRefuse m e x
+  refuses_by act x told is = subst (λ (a : Act X Reply Said). IsToldBy m e a) is told
+
+  says_by : (act : Act X Reply Said) (a : Said) → IsToldBy m e act → TellsOf a act → MaySay e a
+  says_by (Refuse x) a told of = absurd of
+  says_by (Tell b) a told of = subst (λ (b : Said). MaySay e b) of told
+  says_by (Commits c x b) a told of = subst (λ (b : Said). MaySay e b) of told.1
+
+module _ {X : Type 0} (m : Node) (e : Event) (of : IsCallOf m e) (act : Act X Reply Said) (told : IsToldBy m e act) where
+  commits_at : (P : Commit → Type 0) → CommitsSome P act → CommitsAt e m
+  commits_at P some = record { commits = commits_by m e P act told some; at = of.at }
+
+  -- what the outcome is told as
+  says : (x : Outcome Reply Said) → CameOf act x → (a : Said) → x ≡ o.Done a → MaySay e a
+  says x came a is = says_by m e act a told (subst (λ (y : Outcome Reply Said). CameOf act y) is came)
+
+  call_gets : (x : Outcome Reply Said) → CameOf act x → MayGet e (said_reply m x)
+  call_gets o.Off came = inl (of.on, of.at)
+  call_gets (o.Refused y) came = (refuses_by m e act y told came).gets
+  call_gets (o.Done a) came = (says_by m e act a told came).gets
+  call_gets o.Worn came = commits_at (λ c. Unit {0}) came
+  call_gets (o.Power c) came = inr (commits_at (λ made. made ≡ c) came)
+  call_gets (o.Fault c) came = inr (commits_at (λ made. made ≡ c) came)
+
+  call_on_day : (x : Outcome Reply Said) → CameOf act x → said_reply m x ≢ r.NoDay
+  call_on_day o.Off came is = cc
+  call_on_day (o.Refused y) came is = (refuses_by m e act y told came).on_day is
+  call_on_day (o.Done a) came is = let t : Refused ≡ Did = sym (ap told_by is) ∙ (says_by m e act a told came).told in cc
+  call_on_day o.Worn came is = cc
+  call_on_day (o.Power c) came is = cc
+  call_on_day (o.Fault c) came is = cc
+
+  call_refused : (x : Outcome Reply Said) → CameOf act x → (P : Type 0) → (acts.is_refusal x ≡ true → P) → is_refusal (said_reply m x) ≡ true
+      → P × (in_order (said_entries m act x) ≡ in_order [])
+  call_refused o.Off came P stays is = (stays refl, refl)
+  call_refused (o.Refused y) came P stays is = (stays refl, refl)
+  call_refused (o.Done a) came P stays is = no (sym (ap refuses (says_by m e act a told came).told) ∙ is)
+  call_refused o.Worn came P stays is = (stays refl, refl)
+  call_refused (o.Power c) came P stays is = no is
+  call_refused (o.Fault c) came P stays is = no is
+
+  call_adds : (x : Outcome Reply Said) → CameOf act x → Adds e (told_by (said_reply m x)) (in_order (said_entries m act x))
+  call_adds o.Off came = refl
+  call_adds (o.Refused y) came = subst (λ (t : Told). Adds e t (in_order [])) (sym (refuses_by m e act y told came).told) refl
+  call_adds (o.Done a) came = subst (λ (t : Told). Adds e t (in_order (said_entries m act (o.Done a)))) (sym (says_by m e act a told came).told) tt
+  call_adds o.Worn came = refl
+  call_adds (o.Power c) came = inr (c, commits_by m e (λ made. made ≡ c) act told came, refl)
+  call_adds (o.Fault c) came = inr (c, commits_by m e (λ made. made ≡ c) act told came, refl)
 
   -- neither a refusal nor that it was done tells of a failure
   no_power : (x : Reply) (t : Told) → told_by x ≡ t → loses_power m t ≡ false → tells_power m x ≡ true → {P : Type 0} → P
@@ -153,36 +158,33 @@ module _ {F A : Type 0} (m : Node) (e : Event) (refusal : F → Reply) (reply : 
   no_fault : (x : Reply) (t : Told) → told_by x ≡ t → faults m t ≡ false → tells_fault m x ≡ true → {P : Type 0} → P
   no_fault x t is isnt claims = no (sym (ap (faults m) is ∙ isnt) ∙ claims)
 
-  call_charged : (x : Outcome F A) (few : ℕ) (was is : Meters) → few ≤ calls_of e → Spent few was is (end_of x) → Charged m e (call_reply m refusal reply x) was is
-  call_charged o.Off few was is le s = record { cuts = s.cuts; faults = s.faults; fuse = λ cut. uses_more few _ le _ _ s.fuse; power = λ claims. no claims; fault = λ claims. no claims }
-  call_charged (o.Refused y) few was is le s = record {
+  call_charged : (x : Outcome Reply Said) → CameOf act x → (was is : Meters) → Spent (cost act) was is (end_of x) → Charged m e (said_reply m x) was is
+  call_charged o.Off came was is s = record { cuts = s.cuts; faults = s.faults; fuse = λ cut. uses_more _ _ (cost_by m e act told) _ _ s.fuse; power = λ claims. no claims; fault = λ claims. no claims }
+  call_charged (o.Refused y) came was is s = record {
     cuts = s.cuts;
     faults = s.faults;
-    fuse = λ cut. uses_more few _ le _ _ s.fuse;
-    power = λ claims. no_power (refusal y) Refused (told.refuses y) refl claims;
-    fault = λ claims. no_fault (refusal y) Refused (told.refuses y) refl claims;
+    fuse = λ cut. uses_more _ _ (cost_by m e act told) _ _ s.fuse;
+    power = λ claims. no_power y Refused (refuses_by m e act y told came).told refl claims;
+    fault = λ claims. no_fault y Refused (refuses_by m e act y told came).told refl claims;
   }
-  call_charged (o.Done a) few was is le s = record {
+  call_charged (o.Done a) came was is s = record {
     cuts = s.cuts;
     faults = s.faults;
-    fuse = λ cut. uses_more few _ le _ _ s.fuse;
-    power = λ claims. no_power (reply a) Did (told.did a) refl claims;
-    fault = λ claims. no_fault (reply a) Did (told.did a) refl claims;
+    fuse = λ cut. uses_more _ _ (cost_by m e act told) _ _ s.fuse;
+    power = λ claims. no_power a.reply Did (says_by m e act a told came).told refl claims;
+    fault = λ claims. no_fault a.reply Did (says_by m e act a told came).told refl claims;
   }
-  call_charged o.Worn few was is le s = record { cuts = s.cuts; faults = s.faults; fuse = λ cut. uses_more few _ le _ _ s.fuse; power = λ claims. no claims; fault = λ claims. no claims }
-  call_charged (o.Power c) few was is le s = record { cuts = s.cuts; faults = s.faults; fuse = λ cut. uses_more few _ le _ _ s.fuse; power = λ claims. s.power refl; fault = λ claims. no claims }
-  call_charged (o.Fault c) few was is le s = record { cuts = s.cuts; faults = s.faults; fuse = λ cut. uses_more few _ le _ _ s.fuse; power = λ claims. no claims; fault = λ claims. s.fault refl }
+  call_charged o.Worn came was is s = record { cuts = s.cuts; faults = s.faults; fuse = λ cut. uses_more _ _ (cost_by m e act told) _ _ s.fuse; power = λ claims. no claims; fault = λ claims. no claims }
+  call_charged (o.Power c) came was is s = record { cuts = s.cuts; faults = s.faults; fuse = λ cut. uses_more _ _ (cost_by m e act told) _ _ s.fuse; power = λ claims. s.power refl; fault = λ claims. no claims }
+  call_charged (o.Fault c) came was is s = record { cuts = s.cuts; faults = s.faults; fuse = λ cut. uses_more _ _ (cost_by m e act told) _ _ s.fuse; power = λ claims. no claims; fault = λ claims. s.fault refl }
 
-  done_not_off : (a : A) → reply a ≢ r.OffNode m
-  done_not_off a is = let t : Refused ≡ Did = sym (ap told_by is) ∙ told.did a in cc
-
-  call_off : (x : Outcome F A) (was : Bool) → (x ≡ o.Off) ↔ (was ≡ false) → (call_reply m refusal reply x ≡ r.OffNode m) ↔ (was ≡ false)
-  call_off o.Off was found = (λ e. found.0 refl, λ off. refl)
-  call_off (o.Refused y) was found = (λ is. absurd (told.not_off y is), λ off. let is = found.1 off in cc)
-  call_off (o.Done a) was found = (λ is. absurd (done_not_off a is), λ off. let is = found.1 off in cc)
-  call_off o.Worn was found = (λ is. cc, λ off. let is = found.1 off in cc)
-  call_off (o.Power c) was found = (λ is. cc, λ off. let is = found.1 off in cc)
-  call_off (o.Fault c) was found = (λ is. cc, λ off. let is = found.1 off in cc)
+  call_off : (x : Outcome Reply Said) → CameOf act x → (was : Bool) → (x ≡ o.Off) ↔ (was ≡ false) → (said_reply m x ≡ r.OffNode m) ↔ (was ≡ false)
+  call_off o.Off came was found = (λ e. found.0 refl, λ off. refl)
+  call_off (o.Refused y) came was found = (λ is. absurd ((refuses_by m e act y told came).not_off is), λ off. let is = found.1 off in cc)
+  call_off (o.Done a) came was found = (λ is. let t : Refused ≡ Did = sym (ap told_by is) ∙ (says_by m e act a told came).told in cc, λ off. let is = found.1 off in cc)
+  call_off o.Worn came was found = (λ is. cc, λ off. let is = found.1 off in cc)
+  call_off (o.Power c) came was found = (λ is. cc, λ off. let is = found.1 off in cc)
+  call_off (o.Fault c) came was found = (λ is. cc, λ off. let is = found.1 off in cc)
 
   and_true : (b : Bool) → (b && true) ≡ b
   and_true true = refl
@@ -192,59 +194,69 @@ module _ {F A : Type 0} (m : Node) (e : Event) (refusal : F → Reply) (reply : 
   and_false true = refl
   and_false false = refl
 
-  call_leaves : (x : Outcome F A) (was : Bool) → (was && not (has_failed x)) ≡ leaves_on (told_by (call_reply m refusal reply x)) was
-  call_leaves o.Off was = and_true was
-  call_leaves (o.Refused y) was = and_true was ∙ sym (ap (λ (t : Told). leaves_on t was) (told.refuses y))
-  call_leaves (o.Done a) was = and_true was ∙ sym (ap (λ (t : Told). leaves_on t was) (told.did a))
-  call_leaves o.Worn was = and_true was
-  call_leaves (o.Power c) was = and_false was
-  call_leaves (o.Fault c) was = and_false was
+  call_leaves : (x : Outcome Reply Said) → CameOf act x → (was : Bool) → (was && not (has_failed x)) ≡ leaves_on (told_by (said_reply m x)) was
+  call_leaves o.Off came was = and_true was
+  call_leaves (o.Refused y) came was = and_true was ∙ sym (ap (λ (t : Told). leaves_on t was) (refuses_by m e act y told came).told)
+  call_leaves (o.Done a) came was = and_true was ∙ sym (ap (λ (t : Told). leaves_on t was) (says_by m e act a told came).told)
+  call_leaves o.Worn came was = and_true was
+  call_leaves (o.Power c) came was = and_false was
+  call_leaves (o.Fault c) came was = and_false was
 
 -- == in its place ==
 
-module _ {K S N C R X F A : Type 0} (n : Ghosts K S N C R) (g : nv.Ghosts S) (f : fuse.Ghosts S) (kind : Kind N n.Seen X) (m : Node) (d : N) (today : ℤ) (e : Event) (call : X)
-    (refusal : F → Reply) (reply : A → Reply) (tell : A → List Entry) (done : A → Ledger) (by : n.Seen → Act C F A)
-    (told : IsToldBy m e refusal reply)
-    (plan_is : (v : View n.Seen) → kind.plan d today v call ≡ when_on m v (done_plan n.counting m refusal reply tell v.state (by v.state)))
+module _ {K S N C R X : Type 0} (n : Ghosts K S N C R) (g : nv.Ghosts S) (f : fuse.Ghosts S) (kind : Kind N n.Seen X) (m : Node) (d : N) (today : ℤ) (e : Event) (call : X)
+    (by : n.Seen → Act C Reply Said) (of : IsCallOf m e) (told : (s : n.Seen) → IsToldBy m e (by s))
+    (plan_is : (v : View n.Seen) → kind.plan d today v call ≡ seen_plan n.counting m v (by v.state))
     (commit_is : (v : View n.Seen) → kind.commit d today v call ≡ commit_of n.counting v (by v.state))
-    (fits : (s : n.Seen) → n.IsSound d s → IsFitting n d s (by s)) (own : (s : n.Seen) → IsOfNode m (by s)) (agrees : (s : n.Seen) → Agrees tell done (by s))
-    (commits : (s : n.Seen) → CommitsSome (λ c. Unit {0}) (by s) → may_commit e ≡ true) (costs : (s : n.Seen) → cost (by s) ≤ calls_of e)
-    (s t : K) where
-  pub turn_call : (x : Outcome F A) → CallDoes n g by s t x → NodeTurn n g f kind m d today e (Call call) s t (call_turn m refusal reply done x)
+    (fits : (s : n.Seen) → n.IsSound d s → IsFitting n d s (by s)) (s t : K) where
+  abbrev act : Act C Reply Said
+  act = by (n.seen s)
+
+  done_on : (on : Bool) (y : Outcome Reply Said) (a : Said) → o.Done a ≡ (if on then y else o.Off) → on ≡ true
+  done_on true y a is = refl
+  done_on false y a is = cc
+
+  -- what is added is what the act adds that is seen
+  same_entries : (v : View n.Seen) → Stands n g d v s → g.tells → (x : Outcome Reply Said) → MayCome n.counting v (by v.state) x → said_entries m act x ≡ said_entries m (by v.state) x
+  same_entries v st tells' o.Off may = refl
+  same_entries v st tells' (o.Refused y) may = refl
+  same_entries v st tells' (o.Done a) may =
+      ap (λ (seen : n.Seen). said_entries m (by seen) (o.Done a)) ((st.runs (done_on v.on (outcome_in n.counting v.state (by v.state)) a may)).seen tells')
+  same_entries v st tells' o.Worn may = refl
+  same_entries v st tells' (o.Power c) may = refl
+  same_entries v st tells' (o.Fault c) may = refl
+
+  pub turn_call : (x : Outcome Reply Said) → CallDoes n g by s t x → NodeTurn n g f kind m d today e (Call call) s t (call_turn m act x)
   turn_call x did = record {
     by_view = λ v st tells'.
-        let it : Tells n.counting m refusal reply tell told.refuses told.did (when_on m v (done_plan n.counting m refusal reply tell v.state (by v.state)))
-        (by v.state) (commit_of n.counting v (by v.state)) x
-        = tells n.counting m refusal reply tell told.refuses told.did v (by v.state) (own v.state) x (did.comes d v st tells') in
+        let it : Tells n.counting m (seen_plan n.counting m v (by v.state)) (by v.state) (commit_of n.counting v (by v.state)) x =
+        tells_call n.counting m v (by v.state) (own_by m e (by v.state) (told v.state)) (plain_by m e (by v.state) (told v.state)) x (did.comes d v st tells') in
         record {
           may = may_by v x it;
-          entries = ap in_order (added_is m tell done (by v.state) x (agrees v.state) (done_of n.counting v (by v.state) x (did.comes d v st tells')) ∙ it.entries_are)
-              ∙ ap (λ (p : Plan). in_order (after p (call_reply m refusal reply x) [])) (sym (plan_is v));
-          stands = subst (λ (made : Option (Commit × n.Seen)). Stands n g d (view_after n.counting (call_reply m refusal reply x) made v) t) (sym (commit_is v))
+          entries = ap in_order (same_entries v st tells' x (did.comes d v st tells') ∙ it.entries_are) ∙ ap (λ (p : Plan). in_order (after p (said_reply m x) [])) (sym (plan_is v));
+          stands = subst (λ (made : Option (Commit × n.Seen)). Stands n g d (view_after n.counting (said_reply m x) made v) t) (sym (commit_is v))
               (subst (λ (w : View n.Seen). Stands n g d w t) (sym (it.view v)) (did.stands d v st tells' (fits v.state (st.store.sound tells').state)));
           any_moment = λ image is. subst (λ (made : Option (Commit × n.Seen)). Allowed n v image ⊎ IsAfter n made image) (sym (commit_is v)) ((did.turn d v st tells').any_moment image is);
         };
     keeps = λ v st tells'. subst (λ (made : Option (Commit × n.Seen)). IfSome made (λ y. IsNext n d v.state y.1)) (sym (commit_is v)) (did.keeps d v st tells' (fits v.state (st.store.sound tells').state));
-    reply = call_gets m e refusal reply told (by (n.seen s)) (commits (n.seen s)) x did.came;
-    on_day = call_on_day m e refusal reply told x;
-    refused = call_refused m e refusal reply told done x (t ≡ s) did.refused;
-    adds = call_adds m e refusal reply told (by (n.seen s)) done (commits (n.seen s)) x did.came;
-    unwritten = λ tells' none. subst (λ (k : K). Mounts (times_of n g s) (times_of n g k)) (sym (did.tells_only (λ some. no (sym none ∙ commits (n.seen s) some)))) (mounts_none (times_of n g s));
-    found = λ tells' on. absurd (told.no_switch on);
-    charged = call_charged m e refusal reply told x (cost (by (n.seen s))) _ _ (costs (n.seen s)) did.spent;
+    reply = call_gets m e of act (told (n.seen s)) x did.came;
+    on_day = call_on_day m e of act (told (n.seen s)) x did.came;
+    refused = call_refused m e of act (told (n.seen s)) x did.came (t ≡ s) did.refused;
+    adds = call_adds m e of act (told (n.seen s)) x did.came;
+    unwritten = λ tells' none. subst (λ (k : K). Mounts (times_of n g s) (times_of n g k)) (sym (did.tells_only (λ some. no (sym none ∙ commits_by m e (λ c. Unit {0}) act (told (n.seen s)) some)))) (mounts_none (times_of n g s));
+    found = λ tells' on. absurd (of.no_switch on);
+    charged = call_charged m e of act (told (n.seen s)) x did.came _ _ did.spent;
     switches = record {
-      off = λ on. call_off m e refusal reply told x (n.is_on s) did.off;
-      already = λ on. absurd (told.no_switch on);
-      leaves = did.leaves ∙ call_leaves m e refusal reply told x (n.is_on s);
+      off = λ on. call_off m e of act (told (n.seen s)) x did.came (n.is_on s) did.off;
+      already = λ on. absurd (of.no_switch on);
+      leaves = did.leaves ∙ call_leaves m e of act (told (n.seen s)) x did.came (n.is_on s);
     };
-    armed = λ calls keep byte is. absurd (told.no_cut calls keep byte is);
+    armed = λ calls keep byte is. absurd (of.no_cut calls keep byte is);
   }
     where
-      may_by : (v : View n.Seen) (x : Outcome F A)
-          → Tells n.counting m refusal reply tell told.refuses told.did (when_on m v (done_plan n.counting m refusal reply tell v.state (by v.state)))
-          (by v.state) (commit_of n.counting v (by v.state)) x
-          → MayReply n.counting m v (kind.plan d today v call) (call_reply m refusal reply x)
-      may_by v x it = subst (λ (p : Plan). MayReply n.counting m v p (call_reply m refusal reply x)) (sym (plan_is v)) (by_may it.may)
+      may_by : (v : View n.Seen) (x : Outcome Reply Said) → Tells n.counting m (seen_plan n.counting m v (by v.state)) (by v.state) (commit_of n.counting v (by v.state)) x
+          → MayReply n.counting m v (kind.plan d today v call) (said_reply m x)
+      may_by v x it = subst (λ (p : Plan). MayReply n.counting m v p (said_reply m x)) (sym (plan_is v)) (by_may it.may)
         where
           by_may : {P Q W : Type 0} → P ⊎ W → P ⊎ (Q ⊎ W)
           by_may (inl p) = inl p

@@ -1,16 +1,17 @@
 -- What an event comes to: its reply and its entries.
-use Rattle.std.specs.Prelude.{List, [], ◌∷◌, Bool, true, false, Option, Some, None}
+use Rattle.std.specs.Prelude.{ℕ, List, [], ◌∷◌, Bool, true, false, Option, Some, None}
 use Rattle.bench_base.specs.declared.words.Node.{Node}
 use Rattle.bench_base.specs.declared.ledger.Entry.{Entry}
 use Rattle.bench_base.specs.declared.ledger.Entry.TheVariants as entry
 use Rattle.bench_base.specs.declared.events.Reply.{Reply}
 use Rattle.bench_base.specs.declared.events.Reply.TheVariants as r
 use Rattle.bench_base.specs.Ledger.{Ledger}
+use Rattle.node_acts.specs.declared.act.Act.{Act}
 use Rattle.node_acts.specs.declared.act.Outcome.{Outcome}
-use Rattle.node_acts.specs.declared.act.Outcome.TheVariants as o
 use Rattle.node_acts.specs.declared.act.Started.{Started}
 use Rattle.node_acts.specs.declared.act.Started.TheVariants as start
-use Rattle.node_acts.specs.Plans.{call_reply}
+use Rattle.node_acts.specs.declared.said.Said.{Said}
+use Rattle.node_acts.specs.Said.{said_reply, said_entries}
 use Rattle.node_turns.specs.declared.turn.Turn.{Turn}
 
 -- entries in the order in which they happened, from a list whose newest comes first
@@ -23,18 +24,14 @@ in_order (z ∷ y ∷ x ∷ more) = Some x ∷ Some y ∷ Some z ∷ []
 abbrev pub turn_of : Reply → Ledger → Turn
 turn_of reply entries = record { reply = reply; entries = in_order entries }
 
--- what is added by a call of node m, by what is added where it is done, the newest first
-abbrev pub added : {F A : Type 0} → Node → (A → Ledger) → Outcome F A → Ledger
-added m done o.Off = []
-added m done (o.Refused x) = []
-added m done (o.Done a) = done a
-added m done o.Worn = []
-added m done (o.Power c) = entry.Torn m c ∷ []
-added m done (o.Fault c) = entry.Torn m c ∷ []
+-- the one entry, or none
+abbrev pub listed : Option Entry → Ledger
+listed None = []
+listed (Some x) = x ∷ []
 
--- the turn of a call of node m, by how the node refuses, how it replies where the call is done, and what is added then
-abbrev pub call_turn : {F A : Type 0} → Node → (F → Reply) → (A → Reply) → (A → Ledger) → Outcome F A → Turn
-call_turn m refusal reply done outcome = turn_of (call_reply m refusal reply outcome) (added m done outcome)
+-- the turn of a call of node m, by its act
+abbrev pub call_turn : {X : Type 0} → Node → Act X Reply Said → Outcome Reply Said → Turn
+call_turn m act outcome = turn_of (said_reply m outcome) (said_entries m act outcome)
 
 abbrev pub start_turn : Node → Started → Turn
 start_turn m start.Already = turn_of (r.OnAlready m) []
@@ -46,3 +43,9 @@ start_turn m start.Damaged = turn_of (r.Damaged m) []
 abbrev pub stop_turn : Node → Bool → Turn
 stop_turn m true = turn_of (r.Down m) (entry.Down m ∷ [])
 stop_turn m false = turn_of (r.OffNode m) []
+
+-- the message among these entries, if one was sent
+abbrev pub sent_in : List (Option Entry) → Option (List ℕ)
+sent_in [] = None
+sent_in (Some (entry.Sent note) ∷ rest) = Some note
+sent_in (_ ∷ rest) = sent_in rest

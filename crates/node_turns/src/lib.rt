@@ -5,6 +5,6 @@ mod node;
 mod tell;
 mod turn;
 
-pub use node::{Undone, cut, done, start, stop};
-pub use tell::Tell;
+pub use node::{call, cut, start, stop};
+pub use tell::{Sending, Tell};
 pub use turn::Turn;

@@ -1,18 +1,23 @@
 //! An event of one node in its place, and how it is told.
-ghost use Rattle.std.specs.Prelude.{Bool, []};
+ghost use Rattle.std.specs.Prelude.{◌≡◌, Bool, true, []};
 ghost use Rattle.bench_base.specs.declared.events.Reply.{Reply};
+ghost use Rattle.node_acts.specs.declared.act.Act.{Act};
+ghost use Rattle.node_acts.specs.declared.act.Outcome.{Outcome};
 ghost use Rattle.node_acts.specs.declared.act.Started.{Started};
+ghost use Rattle.node_acts.specs.declared.said.Said.{Said};
+ghost use Rattle.node_acts.specs.Said.{planned_commit};
+ghost use Rattle.node_seat.specs.Calls.{CallDoes};
+ghost use Rattle.node_seat.specs.Shown.{CanCommit};
 ghost use Rattle.node_seat.specs.Starts.{StartDoes, StopDoes, ArmDoes};
 ghost use Rattle.node_turns.specs.Turns as turns;
-ghost use Rattle.node_turns.specs.Done.{IsDone};
 
 use crate::tell::Tell;
 use bench_base::events::Reply;
-use bench_base::ledger::Entry;
+use bench_base::ledger::{Commit, Entry};
 use bench_base::words::Node as NodeNo;
-use node_acts::{Outcome, Started};
+use node_acts::{Act, Outcome, Said, Started};
 use node_seat as seat;
-use node_seat::Node;
+use node_seat::{Node, perform};
 
 fn started<T: Tell>(node: &NodeNo, started: Started) -> T
     ensures { T.IsOf result (turns.start_turn node.now started) }
@@ -53,34 +58,29 @@ pub fn cut<T: Tell, K: Node>(place: &mut K, node: &NodeNo, calls: u32, keep: u32
     T::silent(Reply::CutSet(*node))
 }
 
-/// A call that was not done.
-#[derive(Drop)]
-pub enum Undone<F, T> {
-    /// The node refused.
-    Refused(F),
-    /// It was off, its cell has all its commits, or it failed: this is how that is told.
-    Told(T),
+// The commit that the act makes.
+fn commit_in<X: Copy>(act: &Act<X, Reply, Said>) -> Option<Commit>
+    ensures { result ≡ planned_commit act.now }
+{
+    match act {
+        Act::Refuse(_) | Act::Tell(_) => None,
+        Act::Commits(commit, _, _) => Some(*commit),
+    }
 }
 
-/// What a call of the node did, or how a call that was not done is told.
-pub fn done<T: Tell, F: Copy, A: Copy>(
-    node: &NodeNo,
-    outcome: Outcome<F, A>,
-) -> Result<A, Undone<F, T>>
-    ensures { IsDone T.IsOf node.now outcome result }
+/// Calls the node by an act of its record, and tells what it came to.
+pub fn call<T: Tell, K: Node>(place: &mut K, node: &NodeNo, act: Act<K::Change, Reply, Said>) -> T
+    requires fits { K.Node.is_on place.old ≡ true → CanCommit K.Node (K.Node.seen place.old) act }
+    ensures did { (by : K.Node.Seen → Act K.Change Reply Said) → by (K.Node.seen place.old) ≡ act
+        → (x : Outcome Reply Said) × CallDoes K.Node K.Storage.Nv by place.old place.new x × T.IsOf result (turns.call_turn node.now act x) }
 {
-    match outcome {
-        Outcome::Done(answer) => Ok(answer),
-        Outcome::Refused(refusal) => Err(Undone::Refused(refusal)),
-        Outcome::Off => Err(Undone::Told(T::silent(Reply::OffNode(*node)))),
-        Outcome::Worn => Err(Undone::Told(T::silent(Reply::Worn(*node)))),
-        Outcome::Power(commit) => Err(Undone::Told(T::one(
-            Reply::Power(*node),
-            Entry::Torn(*node, commit),
-        ))),
-        Outcome::Fault(commit) => Err(Undone::Told(T::one(
-            Reply::Fault(*node),
-            Entry::Torn(*node, commit),
-        ))),
+    let commit = commit_in(&act);
+    match perform(place, act) {
+        Outcome::Off => T::silent(Reply::OffNode(*node)),
+        Outcome::Refused(refusal) => T::silent(refusal),
+        Outcome::Done(said) => T::done(commit, &said),
+        Outcome::Worn => T::silent(Reply::Worn(*node)),
+        Outcome::Power(commit) => T::one(Reply::Power(*node), Entry::Torn(*node, commit)),
+        Outcome::Fault(commit) => T::one(Reply::Fault(*node), Entry::Torn(*node, commit)),
     }
 }

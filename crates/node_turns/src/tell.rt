@@ -1,10 +1,14 @@
 //! How what an event came to is told.
-ghost use Rattle.std.specs.Prelude.{◌≡◌, [], ◌∷◌};
-ghost use Rattle.node_turns.specs.Turns.{turn_of};
+ghost use Rattle.std.specs.Prelude.{◌≡◌, [], ◌∷◌, ◌++◌};
+ghost use Rattle.node_acts.specs.Plans.{with_commit};
+ghost use Rattle.node_acts.specs.Said.{tells, with_released, with_sent};
+ghost use Rattle.node_turns.specs.Turns.{turn_of, sent_in, in_order, listed};
 
 use crate::turn::Turn;
+use bench_base::bytes::Note;
 use bench_base::events::Reply;
-use bench_base::ledger::Entry;
+use bench_base::ledger::{Commit, Entry};
+use node_acts::{Released, Said};
 
 /// How what an event came to is told: whole, or by its reply alone, which costs less.
 pub trait Tell: Drop + Sized {
@@ -21,9 +25,48 @@ pub trait Tell: Drop + Sized {
     fn one(reply: Reply, entry: Entry) -> Self
         ensures { IsOf result (turn_of reply (entry ∷ [])) };
 
-    /// A reply that adds the first entry, and then the second.
-    fn two(reply: Reply, first: Entry, second: Entry) -> Self
-        ensures { IsOf result (turn_of reply (second ∷ first ∷ [])) };
+    /// What a node said, after this commit where it made one.
+    fn done(commit: Option<Commit>, said: &Said) -> Self
+        ensures { IsOf result (turn_of said.now.reply (tells said.now ++ with_commit commit [])) };
+}
+
+fn commit_entry(commit: Option<Commit>) -> Option<Entry>
+    ensures { listed result ≡ with_commit commit [] }
+{
+    match commit {
+        Some(commit) => Some(Entry::Commit(commit)),
+        None => None,
+    }
+}
+
+fn released_entry(released: Option<Released>) -> Option<Entry>
+    ensures { listed result ≡ with_released released }
+{
+    match released {
+        Some(released) => Some(Entry::Released(released.device, released.piece, released.mark)),
+        None => None,
+    }
+}
+
+fn sent_entry(sent: Option<Note>) -> Option<Entry>
+    ensures { listed result ≡ with_sent sent }
+{
+    match sent {
+        Some(note) => Some(Entry::Sent(note)),
+        None => None,
+    }
+}
+
+// The entries that there are stand first, in order.
+fn packed(first: Option<Entry>, second: Option<Entry>, third: Option<Entry>) -> [Option<Entry>; 3]
+    ensures { result ≡ in_order ((listed third ++ listed second) ++ listed first) }
+{
+    match (first, second) {
+        (Some(first), Some(second)) => [Some(first), Some(second), third],
+        (Some(first), None) => [Some(first), third, None],
+        (None, Some(second)) => [Some(second), third, None],
+        (None, None) => [third, None, None],
+    }
 }
 
 impl Tell for Turn {
@@ -43,10 +86,14 @@ impl Tell for Turn {
         }
     }
 
-    fn two(reply: Reply, first: Entry, second: Entry) -> Turn {
+    fn done(commit: Option<Commit>, said: &Said) -> Turn {
         Turn {
-            reply,
-            entries: [Some(first), Some(second), None],
+            reply: said.reply,
+            entries: packed(
+                commit_entry(commit),
+                released_entry(said.released),
+                sent_entry(said.sent),
+            ),
         }
     }
 }
@@ -62,7 +109,43 @@ impl Tell for Reply {
         reply
     }
 
-    fn two(reply: Reply, _first: Entry, _second: Entry) -> Reply {
-        reply
+    fn done(_commit: Option<Commit>, said: &Said) -> Reply {
+        said.reply
+    }
+}
+
+/// What is told of an event, and the message that it sent, if it sent one.
+#[derive(Drop)]
+pub struct Sending<T> {
+    pub told: T,
+    pub sent: Option<Note>,
+}
+
+impl<T: Tell> Tell for Sending<T> {
+    ghost IsOf = { λ told turn. T.IsOf told.told turn × (told.sent ≡ sent_in turn.entries) };
+
+    fn silent(reply: Reply) -> Sending<T> {
+        Sending {
+            told: T::silent(reply),
+            sent: None,
+        }
+    }
+
+    fn one(reply: Reply, entry: Entry) -> Sending<T> {
+        let sent = match &entry {
+            Entry::Sent(note) => Some(*note),
+            _ => None,
+        };
+        Sending {
+            told: T::one(reply, entry),
+            sent,
+        }
+    }
+
+    fn done(commit: Option<Commit>, said: &Said) -> Sending<T> {
+        Sending {
+            told: T::done(commit, said),
+            sent: said.sent,
+        }
     }
 }

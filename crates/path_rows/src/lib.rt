@@ -4,6 +4,8 @@
 #[cfg(test)]
 mod bench_rows;
 #[cfg(test)]
+mod message_rows;
+#[cfg(test)]
 mod stream_rows;
 #[cfg(test)]
 mod worked;

@@ -4,7 +4,6 @@ use bench::step;
 use bench_base::events::Event;
 use bench_base::memory::{MemSink, MemSource};
 use bench_base::numbers::DevNo;
-use bench_base::words::Node;
 use script_replay::run::run;
 use script_replay::status::Status;
 use script_text::write_reply;
@@ -105,19 +104,30 @@ fn words_and_faults_end(rt: HostRuntime) -> Result<(), Fail> {
 #[test]
 fn a_full_report_ends_behind_the_event(rt: HostRuntime) -> Result<(), Fail> {
     let given = Given {
-        room: 12,
+        room: 29,
         ..told(SWITCH_ON.as_bytes(), 1)
     };
     let mut bench = bench_over(rt.alloc(), &[])?;
     let got = outcome(rt.alloc(), &given, &mut bench)?;
     assert!(rt; got.0 == Status::WriteFault);
-    assert_eq!(rt; got.1.as_slice(), b"day 20513\nup".as_slice());
-    let device = DevNo::new(1).expect(&rt, "device");
-    let turn = step(rt.alloc(), &mut bench, &Event::On(Node::Device(device)))?;
     assert_eq!(rt;
-        write_reply(&turn.reply).as_slice(),
-        b"on already d1".as_slice()
+        got.1.as_slice(),
+        b"day 20513\nup d1 commits 0\nmad".as_slice()
     );
+    // The device was made.
+    let script = b"day 2026-03-01\non d1\nend\n".as_slice();
+    let got = outcome(rt.alloc(), &told(script, 600), &mut bench)?;
+    let report = b"day 20513\nup d1 commits 1\nend\n".as_slice();
+    assert_eq!(rt; got.1.as_slice(), report);
+    Ok(())
+}
+
+#[test]
+fn an_event_is_answered_alone(rt: HostRuntime) -> Result<(), Fail> {
+    let mut bench = bench_over(rt.alloc(), &[])?;
+    let device = DevNo::new(1).expect(&rt, "device");
+    let turn = step(rt.alloc(), &mut bench, &Event::Status(device))?;
+    assert_eq!(rt; write_reply(&turn.reply).as_slice(), b"no day".as_slice());
     Ok(())
 }
 

@@ -1,5 +1,5 @@
 //! A bench over storages in memory, and what a run over it answers.
-ghost use Rattle.std.specs.Prelude.{◌≡◌, ◌≤◌, IfOk, length};
+ghost use Rattle.std.specs.Prelude.{◌≡◌, ◌≤◌, [], IfOk, length};
 ghost use Rattle.std.specs.List.{All};
 ghost use Rattle.bench.specs.Benches.{IsReady, bench_of};
 ghost use Rattle.nv_model.specs.Meters.{Works};
@@ -13,7 +13,7 @@ use script_replay::status::Status;
 use std::alloc::{AllocError, Global};
 use std::test::Fail;
 
-/// A piece of a storage of 3,424 bytes: from byte `at` on these bytes stand. What no piece has is zero.
+/// A piece of a storage: from byte `at` on these bytes stand. What no piece has is zero.
 #[derive(Clone, Copy)]
 pub struct Piece {
     pub at: usize,
@@ -44,17 +44,17 @@ fn storage(alloc: Global, bytes: u32, pieces: &[Piece]) -> Result<MemNv, AllocEr
     Ok(nv)
 }
 
-/// The storages of a bench, of which that of device 1 has this content and the others are blank.
-fn stores(alloc: Global, pieces: &[Piece]) -> Result<Stores<MemNv>, AllocError>
+/// The storages of a bench, of which those of device 1 and the centre have this content and the others are blank.
+fn stores(alloc: Global, first: &[Piece], central: &[Piece]) -> Result<Stores<MemNv>, AllocError>
     ensures eight { IfOk result (λ stores. length stores.devices.items ≡ 8) }
     ensures fresh { IfOk result (λ stores. All (λ nv. Works (⟦<MemNv as Nv>⟧.meters nv)) stores.devices.items) }
     ensures fresh_centre { IfOk result (λ stores. Works (⟦<MemNv as Nv>⟧.meters stores.centre)) }
 {
     let mut devices = Vec::with_capacity(alloc, 8)?;
     for i in 0..8_u32 {
-        devices.push(storage(alloc, DEVICE_BYTES, if i == 0 { pieces } else { &[] })?)?;
+        devices.push(storage(alloc, DEVICE_BYTES, if i == 0 { first } else { &[] })?)?;
     }
-    let centre = storage(alloc, CENTRE_BYTES, &[])?;
+    let centre = storage(alloc, CENTRE_BYTES, central)?;
     Ok(Stores { devices, centre })
 }
 
@@ -64,6 +64,7 @@ fn made(alloc: Global, stores: Stores<MemNv>) -> Result<Bench<MemNv>, Fail>
     requires fresh { All (λ nv. Works (⟦<MemNv as Nv>⟧.meters nv)) stores.devices.items }
     requires fresh_centre { Works (⟦<MemNv as Nv>⟧.meters stores.centre) }
     ensures ready { IfOk result (λ bench. IsReady (bench_of bench)) }
+    ensures no_messages { IfOk result (λ bench. (bench_of bench).messages ≡ []) }
 {
     match Bench::new(alloc, stores) {
         Ok(bench) => Ok(bench),
@@ -74,8 +75,17 @@ fn made(alloc: Global, stores: Stores<MemNv>) -> Result<Bench<MemNv>, Fail>
 /// A bench whose device 1 has this storage; the others are blank.
 pub fn bench_over(alloc: Global, pieces: &[Piece]) -> Result<Bench<MemNv>, Fail>
     ensures ready { IfOk result (λ bench. IsReady (bench_of bench)) }
+    ensures no_messages { IfOk result (λ bench. (bench_of bench).messages ≡ []) }
 {
-    made(alloc, stores(alloc, pieces)?)
+    bench_with(alloc, pieces, &[])
+}
+
+/// A bench whose device 1 and centre have these storages; the others are blank.
+pub fn bench_with(alloc: Global, first: &[Piece], central: &[Piece]) -> Result<Bench<MemNv>, Fail>
+    ensures ready { IfOk result (λ bench. IsReady (bench_of bench)) }
+    ensures no_messages { IfOk result (λ bench. (bench_of bench).messages ≡ []) }
+{
+    made(alloc, stores(alloc, first, central)?)
 }
 
 /// A storage that begins again, as a new bench wants it.

@@ -29,21 +29,21 @@ module _ {D C S XD XC RD RC N : Type 0} (n : Nodes D C S XD XC RD RC) (g : nv.Gh
 
   module _ (τ : Tariff) (tells : g.tells) where
     -- what one event does, by its reply
-    pub moved : (old new : Bench D C) (e : Event) (reply : Reply) (H : Ledger) → DidEvent n g f h old new e reply → StandsFor n g τ old H → Moves τ H e reply
-    moved old new e reply H did s = subst (λ (x : Reply). Moves τ H e x) (sym did.told) (did.steps.history τ H s.history s.stands tells).moves
+    pub moved : (old new : Bench D C) (e : Event) (reply : Reply) (H : Ledger) → DidEvent n g f h old new e reply → StandsFor n g τ old H → Unforged H e → Moves τ H e reply
+    moved old new e reply H did s u = subst (λ (x : Reply). Moves τ H e x) (sym did.told) (did.steps.history τ H s.history u s.stands tells).moves
 
     pub stands_then : (old new : Bench D C) (e : Event) (reply : Reply) (H : Ledger) → DidEvent n g f h old new e reply → StandsFor n g τ old H → Unforged H e
         → StandsFor n g τ new (ledger_by τ H e reply)
     stands_then old new e reply H did s u = record {
-      history = History.moves e [] reply s.history u (moved old new e reply H did s);
-      stands = subst (λ (x : Reply). Stands n g new (ledger_by τ H e x)) (sym did.told) (did.steps.history τ H s.history s.stands tells).stands;
+      history = History.moves e [] reply s.history u (moved old new e reply H did s u);
+      stands = subst (λ (x : Reply). Stands n g new (ledger_by τ H e x)) (sym did.told) (did.steps.history τ H s.history u s.stands tells).stands;
     }
 
     pub runs : (old new : Bench D C) (deeds : List Deed) (H : Ledger) → DidDeeds n g f h old new deeds → StandsFor n g τ old H → RunWhile τ Unforged (Moves τ) H deeds
     runs old new [] H did s = tt
     runs old new (Skipped line ∷ rest) H did s = runs old new rest H did s
     runs old new (Did line e reply ∷ rest) H did s = λ u.
-        (moved old did.0 e reply H did.1 s, runs did.0 new rest (ledger_by τ H e reply) did.2 (stands_then old did.0 e reply H did.1 s u))
+        (moved old did.0 e reply H did.1 s u, runs did.0 new rest (ledger_by τ H e reply) did.2 (stands_then old did.0 e reply H did.1 s u))
 
     pub stands_after : (old new : Bench D C) (deeds : List Deed) (H : Ledger) → DidDeeds n g f h old new deeds → StandsFor n g τ old H → AreUnforged τ Unforged H deeds
         → StandsFor n g τ new (ledger_after τ H deeds)

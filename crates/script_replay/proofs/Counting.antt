@@ -15,6 +15,7 @@ use Rattle.nv_model.specs.declared.fuse.Fuse as fuse
 use Rattle.nv_model.specs.Meters.{Meters, Uses}
 use Rattle.node_seat.specs.Stands.{meters_of}
 use Rattle.node_turns.specs.Costs.{Charged}
+use Rattle.bench_views.specs.Taken.{as_given}
 use Rattle.bench.specs.Benches.{Bench, Nodes, IsReady}
 use Rattle.bench.specs.Costs.{Balanced, armed, one_if}
 use Rattle.bench.specs.Places.{Begun, IsStopped}
@@ -126,15 +127,17 @@ module _ {D C S XD XC RD RC N : Type 0} (n : Nodes D C S XD XC RD RC) (g : nv.Gh
       let inside : i < length mid.devices = omega (arith, slice_get_within old.devices i s hs, ready.eight, event.ready.eight) in
       let u = get_or mid.devices i s in
       let there = slice_get-get_or mid.devices i s inside in
-      let charged = event.steps.always.charged (Device d) i s u next hs there in
+      let given = as_given old.messages e in
+      let charged = (event.steps.always.nodes (Device d) i s u next hs there).charged in
       two_balanced _ _ _ _ _ _ (meters_of n.devices g s) (meters_of n.devices g u) (meters_of n.devices g t)
-      (one_balanced (Device d) e reply (meters_of n.devices g s) (meters_of n.devices g u)
-      (subst (λ (x : Reply). Charged (Device d) e x (meters_of n.devices g s) (meters_of n.devices g u)) (sym event.told) charged))
+      (one_balanced (Device d) given reply (meters_of n.devices g s) (meters_of n.devices g u)
+      (subst (λ (x : Reply). Charged (Device d) given x (meters_of n.devices g s) (meters_of n.devices g u)) (sym event.told) charged))
       (others (Device d) i u t next there ht)
   first_done old mid new line e reply rest ready event others Centre =
+      let given = as_given old.messages e in
       two_balanced _ _ _ _ _ _ (meters_of n.centre g old.centre) (meters_of n.centre g mid.centre) (meters_of n.centre g new.centre)
-      (one_balanced Centre e reply (meters_of n.centre g old.centre) (meters_of n.centre g mid.centre)
-      (subst (λ (x : Reply). Charged Centre e x (meters_of n.centre g old.centre) (meters_of n.centre g mid.centre)) (sym event.told) (event.steps.always.charged Centre)))
+      (one_balanced Centre given reply (meters_of n.centre g old.centre) (meters_of n.centre g mid.centre)
+      (subst (λ (x : Reply). Charged Centre given x (meters_of n.centre g old.centre) (meters_of n.centre g mid.centre)) (sym event.told) (event.steps.always.nodes Centre).charged))
       (others Centre)
   first_done old mid new line e reply rest ready event others Host = tt
   first_done old mid new line e reply rest ready event others Verifier = tt

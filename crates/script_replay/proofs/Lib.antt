@@ -4,5 +4,7 @@ mod Counting
 mod Deeds
 mod EndLaws
 mod Held
+mod Outside
 mod Running
+mod Sent
 mod Streams

@@ -6,6 +6,7 @@ pub mod Ends
 pub mod Events
 pub mod Fresh
 pub mod Lines
+pub mod Outside
 pub mod Run
 pub mod Streams
 pub mod Turns

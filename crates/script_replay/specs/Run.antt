@@ -52,12 +52,14 @@ module _ {D C S XD XC RD RC : Type 0} (n : Nodes D C S XD XC RD RC) (g : nv.Ghos
     pub answers : AreUndisturbed n g old new deeds → RunWhile τ Unforged (IsAnswer τ) (Begin ∷ H) deeds
     pub exact : AreUndisturbed n g old new deeds → NoneOpen H → RunWhile τ Unforged (IsTheAnswer τ) (Begin ∷ H) deeds
 
--- The bench began a run and did the deeds: each event by a step, whether or not a history leads to what the storages show.
+-- The bench began a run, without a day and without messages, and did the deeds: each event by a step, whether or not a history
+-- leads to what the storages show.
 pub record DidRun {D C S XD XC RD RC N : Type 0} (n : Nodes D C S XD XC RD RC) (g : nv.Ghosts S) (f : fuse.Ghosts S) (h : nv.Ghosts N)
     (old new : Bench D C) (deeds : List Deed) : Type 0 where
   pub begun : Bench D C
   pub begins : Begun n g old begun
   pub no_day : begun.day ≡ None
+  pub no_messages : begun.messages ≡ []
   pub steps : DidDeeds n g f h begun new deeds
   pub balanced : AreBalanced n g old new deeds
   pub over : (τ : Tariff) (H : Ledger) → StandsFor n g τ old H → g.tells → DidOver n g τ H old new deeds

@@ -1,9 +1,20 @@
 //! Laws of the definitions: each is the contract of a call that does nothing.
 ghost use Rattle.std.specs.Prelude.{◌≡◌, ℕ, List};
+ghost use Rattle.std.specs.List.{AllByRecursion};
+ghost use Rattle.bench_base.specs.Ledger.{Ledger};
+ghost use Rattle.ledger_moves.specs.Tariffs.{Tariff};
+ghost use Rattle.script_replay.specs.Deeds.{Deed, AreUnforged};
 ghost use Rattle.script_replay.specs.Ends.{EndsAs};
+ghost use Rattle.script_replay.specs.Outside.{BringsNone};
+ghost use Rattle.script_replay.specs.Run.{Unforged};
 ghost use Rattle.script_replay.specs.declared.status.Status.{Status};
 
 /// A script ends in one way: two statuses that its bytes allow are one.
 pub fn one_end()
     ensures { (s t : Status) (bytes : List ℕ) → EndsAs s bytes → EndsAs t bytes → s ≡ t }
+{}
+
+/// Where no event gives or scans bytes from outside, nothing is forged: what a run promises by a history holds of it as it is.
+pub fn nothing_forged()
+    ensures { (τ : Tariff) (H : Ledger) (deeds : List Deed) → AllByRecursion BringsNone deeds → AreUnforged τ Unforged H deeds }
 {}

@@ -1,11 +1,12 @@
 //! A run over a whole script: line by line, until it ends.
-ghost use Rattle.std.specs.Prelude.{◌≡◌, ◌≢◌, ◌⊎◌, ◌+◌, ◌≤◌, ◌<◌, ◌∷◌, [], IfNone, IfSome, Some, map, codes, string_bytes, ◌↔◌, IsTrue};
+ghost use Rattle.std.specs.Prelude.{◌≡◌, ◌≢◌, ◌⊎◌, ◌+◌, ◌≤◌, ◌<◌, ◌∷◌, [], length, IfNone, IfSome, Some, map, codes, string_bytes, ◌↔◌, IsTrue};
 ghost use Rattle.bench_base.specs.Causes.{Rose};
 ghost use Rattle.bench_base.specs.Ranges.{IsWholeEvent};
 ghost use Rattle.bench_base.specs.declared.events.Event.TheVariants as ends;
 ghost use Rattle.bench_base.specs.declared.events.Reply.{Reply};
 ghost use Rattle.bench_views.specs.Kinds.{bench_kinds};
 ghost use Rattle.bench_views.specs.Taken.{IsTaken};
+ghost use Rattle.bench.specs.declared.benches.TheConstants.{MOST_MESSAGES};
 ghost use Rattle.bench.specs.Benches.{IsReady, nodes, bench_of, fuse_in};
 ghost use Rattle.script_replay.specs.Chains.{DidEvent, DidDeeds};
 ghost use Rattle.script_replay.specs.Deeds.{line_of};
@@ -21,7 +22,6 @@ use crate::status::Status;
 use bench::{Bench, BenchOver, is_taken, react};
 use bench_base::events::{Event, Reply};
 use bench_base::stream::{Sink, Source};
-use bench_views::{Taken, take};
 use centre_protocol::CentreNode;
 use ledger_laws::laws::histories;
 use node_seat::Node;
@@ -49,6 +49,7 @@ fn reply_to<M: Fuse + Drop, N: Nv>(event: &Event, bench: &mut BenchOver<M, N>) -
     requires whole { IsWholeEvent event.now }
     requires taken { IsTaken event.now }
     requires ready { IsReady (bench_of bench.old) }
+    requires room { length (bench_of bench.old).messages < MOST_MESSAGES }
     ensures ready { IsReady (bench_of bench.new) }
     ensures did { DidEvent (nodes ⟦<DeviceNode<M> as Node>⟧ ⟦<CentreNode<M> as Node>⟧ bench_kinds) M.Nv M.Fuse.own N.Nv (bench_of bench.old) (bench_of bench.new) event.now result }
 {
@@ -60,9 +61,34 @@ fn ended_by(event: &Event) -> Option<Status>
     ensures goes_on { IfNone result (event.now ≢ ends.End) }
     ensures done { IfSome result (λ s. (s ≡ Status.Done) × (event.now ≡ ends.End)) }
 {
-    match take(event) {
-        Some(Taken::End) => Some(Status::Done),
-        Some(Taken::Day(_) | Taken::Device(_, _) | Taken::Centre(_)) | None => None,
+    match event {
+        Event::End => Some(Status::Done),
+        Event::Day(_)
+        | Event::Rates
+        | Event::Make(_, _)
+        | Event::On(_)
+        | Event::Off(_)
+        | Event::Cut(_, _, _, _)
+        | Event::Debit(_, _, _, _)
+        | Event::Ask(_, _, _, _)
+        | Event::Resend(_)
+        | Event::Ack(_)
+        | Event::Status(_)
+        | Event::Register(_, _, _)
+        | Event::OpenCustomer(_)
+        | Event::Deposit(_, _, _)
+        | Event::Flag(_, _)
+        | Event::Balance(_)
+        | Event::Deliver(_)
+        | Event::Give(_, _)
+        | Event::Order(_, _, _, _, _)
+        | Event::Send(_)
+        | Event::Print(_)
+        | Event::Close(_)
+        | Event::Trust(_, _)
+        | Event::ScanMsg(_, _)
+        | Event::ScanHex(_, _)
+        | Event::Reconcile(_) => None,
     }
 }
 
@@ -75,6 +101,7 @@ fn do_event<K: Sink, M: Fuse + Drop, N: Nv>(
     requires whole { IsWholeEvent event.now }
     requires taken { IsTaken event.now }
     requires ready { IsReady (bench_of bench.old) }
+    requires room { length (bench_of bench.old).messages < MOST_MESSAGES }
     ensures ready { IsReady (bench_of bench.new) }
     ensures done { (r : Reply) × DidEvent (nodes ⟦<DeviceNode<M> as Node>⟧ ⟦<CentreNode<M> as Node>⟧ bench_kinds) M.Nv M.Fuse.own N.Nv (bench_of bench.old) (bench_of bench.new) event.now r
         × Reported result (event.now ≢ ends.End) (event.now ≡ ends.End) (line_of r) (K.taken report.old) (K.taken report.new) }
@@ -99,6 +126,7 @@ fn do_line<K: Sink, M: Fuse + Drop, N: Nv>(
     bench: &mut BenchOver<M, N>,
 ) -> Option<Status>
     requires ready { IsReady (bench_of bench.old) }
+    requires room { length (bench_of bench.old).messages < MOST_MESSAGES }
     ensures ready { IsReady (bench_of bench.new) }
     ensures done { DidLine (DidDeeds (nodes ⟦<DeviceNode<M> as Node>⟧ ⟦<CentreNode<M> as Node>⟧ bench_kinds) M.Nv M.Fuse.own N.Nv) line.now result (bench_of bench.old) (bench_of bench.new) (K.taken report.old) (K.taken report.new)
         ⊎ Refused number line.now result (bench_of bench.old) (bench_of bench.new) (K.taken report.old) (K.taken report.new) }
@@ -138,6 +166,7 @@ fn turn<S: Source, K: Sink, M: Fuse + Drop, N: Nv>(
 ) -> Option<Status>
     requires few { number ≤ 1000000 }
     requires ready { IsReady (bench_of bench.old) }
+    requires room { length (bench_of bench.old).messages < MOST_MESSAGES }
     ensures ready { IsReady (bench_of bench.new) }
     ensures goes { IfNone result (Goes (DidDeeds (nodes ⟦<DeviceNode<M> as Node>⟧ ⟦<CentreNode<M> as Node>⟧ bench_kinds) M.Nv M.Fuse.own N.Nv) (bench_of bench.old) (bench_of bench.new) (S.left script.old) (S.left script.new)
         (K.taken report.old) (K.taken report.new)) }
@@ -166,13 +195,14 @@ fn turn<S: Source, K: Sink, M: Fuse + Drop, N: Nv>(
     }
 }
 
-// Does the script's lines up to the run's end.
+// Does the script's lines up to the run's end. A line sends one message at most, so there is room for those of all lines.
 fn replay<S: Source, K: Sink, M: Fuse + Drop, N: Nv>(
     script: &mut S,
     report: &mut K,
     bench: &mut BenchOver<M, N>,
 ) -> Status
     requires ready { IsReady (bench_of bench.old) }
+    requires no_messages { (bench_of bench.old).messages ≡ [] }
     ensures ready { IsReady (bench_of bench.new) }
     ensures ran { Replayed result (DidDeeds (nodes ⟦<DeviceNode<M> as Node>⟧ ⟦<CentreNode<M> as Node>⟧ bench_kinds) M.Nv M.Fuse.own N.Nv (bench_of bench.old) (bench_of bench.new)) (S.left script.old) (S.left script.new)
         (K.taken report.old) (K.taken report.new) }

@@ -1,7 +1,6 @@
 use Rattle.std.proofs.Common.{ℤ, sym, subst, []}
 use Rattle.bench_base.specs.declared.words.Node.TheVariants.{Centre}
 use Rattle.bench_base.specs.declared.events.Reply.TheVariants as r
-use Rattle.bench_base.specs.Ranges.{IsWholeEvent}
 use Rattle.node_acts.specs.declared.asked.Asked.{Asked}
 use Rattle.node_seat.specs.declared.node.Node.{Ghosts}
 use Rattle.node_turns.specs.NodeTurns.{NodeTurn}
@@ -14,7 +13,8 @@ use Rattle.centre_protocol.specs.declared.room.CentreRoom.{CentreRoom}
 use Rattle.centre_protocol.specs.contracts.kind.CentreNodeNode.TheImpl.{ghosts}
 use Rattle.bench_views.specs.declared.taken.CentreCall.{CentreCall}
 use Rattle.bench_views.specs.Centre.{centre_kind}
-use Rattle.bench.specs.Calls.{centre_event}
+use Rattle.bench_views.specs.Centre.{AreBytes}
+use Rattle.bench.specs.Calls.{centre_event, IsRanged}
 use Rattle.bench.proofs.event.centre_turn.Given.{Over}
 use Rattle.bench.proofs.event.centre_turn.Goals as goal
 
@@ -25,12 +25,13 @@ abbrev Comes : (g : Over) (asked : Asked CentreCall) (today : ℤ) (s t : Centre
 Comes g asked today s t turn = NodeTurn (node_of g) g.M.Nv g.M.Fuse centre_kind Centre tt today (centre_event asked) asked s t turn
 
 pub centre_called-requires : goal.centre_called-requires
-centre_called-requires g c = record { whole = subst (λ (a : Asked CentreCall). IsWholeEvent (centre_event a)) c.in-Call.is c.requires.whole }
+centre_called-requires g c = record { ranged = subst IsRanged c.in-Call.is c.requires.ranged }
 
 pub returns-in-On : goal.returns-in-On
 returns-in-On g c =
     let came = c.start.ensures.did in
     record {
+      bytes = subst AreBytes (sym c.in-On.is) tt;
       did = (
         start_turn Centre came.0,
         came.2,
@@ -43,6 +44,7 @@ pub returns-in-Off : goal.returns-in-Off
 returns-in-Off g c =
     let came = c.stop.ensures.did in
     record {
+      bytes = subst AreBytes (sym c.in-Off.is) tt;
       did = (
         stop_turn Centre came.0,
         came.2,
@@ -56,6 +58,7 @@ returns-in-Cut g c =
     let came = c.cut.ensures.did in
     let b = c.in-Cut in
     record {
+      bytes = subst AreBytes (sym c.in-Cut.is) tt;
       did = (
         turn_of (r.CutSet Centre) [],
         came.1,
@@ -68,6 +71,7 @@ pub returns-in-Call : goal.returns-in-Call
 returns-in-Call g c =
     let came = c.centre_called.ensures.did in
     record {
+      bytes = subst AreBytes (sym c.in-Call.is) c.centre_called.ensures.bytes;
       did = (
         came.0,
         came.1,

@@ -1,29 +1,47 @@
-use Rattle.std.proofs.Common.{◌≡◌, ◌≢◌, ℕ, [], Option, Some, None, refl, ap, subst}
-use Rattle.std.specs.Prelude.{IsSome}
+use Rattle.std.proofs.Common.{◌≡◌, ◌≢◌, ℕ, ◌∷◌, [], Option, Some, refl, ◌∙◌, ap, subst}
+use Rattle.std.specs.Prelude.{IfSome}
 use Rattle.bench_base.specs.declared.words.Node.TheVariants.{Device, Centre, Host, Verifier}
-use Rattle.bench_base.specs.declared.events.Event.{Event}
+use Rattle.bench_base.specs.declared.ledger.Commit.{Commit}
+use Rattle.bench_base.specs.declared.events.Reply.{Reply}
+use Rattle.bench_base.specs.Plans.{Plan}
 use Rattle.bench_base.specs.Rules.{todays_rules}
 use Rattle.bench_base.specs.Ledger.{counted}
+use Rattle.node_acts.specs.declared.act.Act.{Act}
+use Rattle.node_acts.specs.declared.said.Said.{Said}
+use Rattle.node_acts.specs.declared.asked.Asked.{Asked}
+use Rattle.node_acts.specs.declared.asked.Asked.TheVariants.{Call}
+use Rattle.node_acts.specs.Acts.{commit_of}
+use Rattle.node_acts.specs.Kinds.{node_plan, node_commit}
+use Rattle.node_acts.specs.Said.{seen_plan}
+use Rattle.node_acts.proofs.Told.{seen_commit, seen_own}
+use Rattle.psd_state.specs.State.{State}
 use Rattle.psd_state.specs.Seen as device
 use Rattle.centre_ledger.specs.Seen as centre
-use Rattle.bench_views.specs.declared.taken.Taken.{Taken}
+use Rattle.centre_ledger.specs.declared.rows.Row.{Row}
+use Rattle.law_orders.specs.Nexts.{AreOrdered}
+use Rattle.bench_views.specs.declared.taken.DeviceCall.{DeviceCall}
+use Rattle.bench_views.specs.declared.taken.CentreCall.{CentreCall}
 use Rattle.bench_views.specs.declared.taken.Taken.TheVariants as take
-use Rattle.bench_views.specs.Taken.{taken, IsTaken}
+use Rattle.bench_views.specs.Taken.{taken}
 use Rattle.bench_views.specs.Devices as devices
 use Rattle.bench_views.specs.Centre as views
+use Rattle.bench_views.specs.Centre.{AreBytes}
 use Rattle.bench_views.specs.Kinds.{bench_kinds}
+use Rattle.bench_views.specs.Messages.{sent_in}
 use Rattle.bench_views.proofs.Acts as acts
-use Rattle.bench_views.proofs.Asked.{plan_alike, commit_own, stepped}
-use Rattle.bench_views.proofs.Commits.{call_alike, call_own}
+use Rattle.bench_views.proofs.Asked.{plan_alike, commit_own, stepped, plan_tame, said_tame}
+use Rattle.bench_views.proofs.Calling.{made_by}
 use Rattle.bench_views.proofs.CentreCalls as calls
 use Rattle.bench_views.proofs.CentreCounts as counting
 use Rattle.bench_views.proofs.CentreFrames.{device_apart}
 use Rattle.bench_views.proofs.CentreRows.{books_of}
-use Rattle.bench_views.proofs.Events.{brings_nothing}
 use Rattle.bench_views.proofs.Following.{followed}
 use Rattle.bench_views.proofs.Frames.{devices_apart}
+use Rattle.bench_views.proofs.Genuine.{genuine, OfAsked}
 use Rattle.bench_views.proofs.Origins.{centre_apart}
-use Rattle.bench_views.proofs.Plans.{planned}
+use Rattle.bench_views.proofs.Plans.{planned, call_own}
+use Rattle.bench_views.proofs.Quiet.{planned_quiet}
+use Rattle.bench_views.proofs.Steps as steps
 use Rattle.bench_views.proofs.laws.nodes_follow.Goals as goal
 
 device_host : (d : ℕ) → Host ≢ Device d
@@ -38,47 +56,67 @@ centre_host is = cc
 centre_verifier : Verifier ≢ Centre
 centre_verifier is = cc
 
-taken_some : (e : Event) (x : Taken) → taken e ≡ Some x → IsTaken e
-taken_some e x is = some (taken e) is
-  where
-    some : (o : Option Taken) → o ≡ Some x → IsSome o
-    some None at = absurd (cc)
-    some (Some y) at = refl
-
 pub returns-clause-devices : goal.returns-clause-devices
-returns-clause-devices c d τ H e today asked h day whole of few =
+returns-clause-devices c d τ H e today asked h unforged day whole of ready known next_known =
     let editions = c.histories.ensures.today in
     let ordered = c.orders.ensures.ordered τ todays_rules _ H editions h in
+    let nexts = c.orders.ensures.next τ todays_rules _ H editions h e [] whole unforged in
     let laws = c.record_follows_the_commits.ensures in
+    let n = device.counting in
     let v = devices.view_of d H in
-    followed device.counting devices.device_kind (Device d) d bench_kinds τ H e today asked
-    (c.orders.ensures.torn τ todays_rules _ H editions h)
-    (c.orders.ensures.next τ todays_rules _ H editions h e [] whole (brings_nothing e H (taken_some e _ of)))
+    let act : DeviceCall → Act State Reply Said = λ k. devices.device_act d today k v.state.state in
+    let call_plan : DeviceCall → Plan = λ k. seen_plan n (Device d) v (act k) in
+    let call_commit : DeviceCall → Option (Commit × device.Seen) = λ k. commit_of n v (act k) in
+    let plan_is = planned H laws.resent τ today day e d asked of (known, ordered.records d) in
+    let real = genuine H (c.histories.ensures.holds τ todays_rules _ H editions h).replied e d asked of unforged in
+    followed n devices.device_kind (Device d) d bench_kinds τ H e today asked
+    (c.orders.ensures.torn τ todays_rules _ H editions h) nexts
     refl (device_host d) (device_verifier d)
     (λ i differs. devices_apart d i (λ same. differs (ap Device same))) (λ differs. device_apart d)
-    (planned H τ today day e d asked of few)
-    (plan_alike device.counting (Device d) (devices.call_plan d today v) (devices.call_commit d today v) v (call_alike d today v) asked)
-    (commit_own device.counting (Device d) (devices.call_plan d today v) (devices.call_commit d today v) v (call_own d today v) asked)
+    plan_is
+    (plan_alike n (Device d) call_plan call_commit v (λ k. seen_commit n (Device d) v (act k)) asked)
+    (commit_own n (Device d) call_plan call_commit v asked (λ k is x made. seen_own n (Device d) v (act k) x (call_own d today k v.state.state) made))
     whole
-    (stepped device.counting (Device d) (devices.seen_in d) H (devices.call_plan d today v) (devices.call_commit d today v) asked (λ k is. acts.called H ordered laws.made laws.debited d today k))
+    (plan_tame n (Device d) call_plan v (λ k. said_tame n (Device d) v (act k)) asked)
+    (stepped n (Device d) (devices.seen_in d) H call_plan call_commit asked
+    (λ k is x may.
+    let made = made_by n (Device d) (devices.seen_in d) H (λ i. AreOrdered (i ∷ counted H)) devices.IsKnown (act k)
+    (λ i at. (nexts i (ap (λ (p : Plan). p.commit) (plan_is ∙ ap (node_plan n (Device d) call_plan v) is) ∙ at)).ordered)
+    (subst (λ (a : Asked DeviceCall). IfSome (node_commit call_commit a) (λ y. devices.IsKnown y.1)) is next_known) in
+    steps.acts n (Device d) (devices.seen_in d) H (act k) x (acts.call_quiet d today k v.state.state)
+    (acts.call_right H ordered laws.made laws.debited laws.asked laws.applied d known today k (subst (OfAsked H d) is real) made) may))
 
 pub returns-clause-centre : goal.returns-clause-centre
-returns-clause-centre c τ H e today asked h day whole of known =
+returns-clause-centre c τ H e today asked h unforged day whole of bytes known next_known =
     let editions = c.histories.ensures.today in
     let ordered = c.orders.ensures.ordered τ todays_rules _ H editions h in
+    let n = centre.counting in
     let v = views.view_of H in
+    let act : CentreCall → Act Row Reply Said = λ k. views.centre_act k (centre.books_in v.state) in
+    let call_plan : CentreCall → Plan = λ k. seen_plan n Centre v (act k) in
+    let call_commit : CentreCall → Option (Commit × centre.Seen) = λ k. commit_of n v (act k) in
     let are = books_of (counted H) ordered.centre (c.counts.ensures.ranges τ todays_rules _ H editions h) (c.withdrawals.ensures τ todays_rules _ H editions h) known.sound in
     let follow = c.acts_follow_the_commits.ensures.follows in
     let are_planned = c.acts_follow_the_commits.ensures.planned in
     let counts = counting.counts (counted H) ordered.centre (c.counts.ensures.cells τ todays_rules _ H editions h) in
-    followed centre.counting views.centre_kind Centre tt bench_kinds τ H e today asked
+    let whole_call : (k : CentreCall) → asked ≡ Call k → calls.IsWholeCall k =
+    λ k is. calls.whole_call H e k (subst (λ a. taken (sent_in H) e ≡ Some (take.Centre a)) is of) whole (subst AreBytes is bytes) in
+    followed n views.centre_kind Centre tt bench_kinds τ H e today asked
     (c.orders.ensures.torn τ todays_rules _ H editions h)
-    (c.orders.ensures.next τ todays_rules _ H editions h e [] whole (brings_nothing e H (taken_some e _ of)))
+    (c.orders.ensures.next τ todays_rules _ H editions h e [] whole unforged)
     counts centre_host centre_verifier
     (λ i differs. centre_apart i) (λ differs. absurd (differs refl))
-    (calls.planned_call H known are follow are_planned τ today day counts e asked of whole)
-    (plan_alike centre.counting Centre (views.call_plan v) (views.call_commit v) v (calls.call_alike v) asked)
-    (commit_own centre.counting Centre (views.call_plan v) (views.call_commit v) v (calls.call_own v) asked)
+    (calls.planned_call H known are follow are_planned τ today day counts e asked of whole bytes)
+    (plan_alike n Centre call_plan call_commit v (λ k. seen_commit n Centre v (act k)) asked)
+    (commit_own n Centre call_plan call_commit v asked (λ k is x made. seen_own n Centre v (act k) x (calls.call_own H known are follow are_planned k (whole_call k is)) made))
     whole
-    (stepped centre.counting Centre views.seen_in H (views.call_plan v) (views.call_commit v) asked
-    (λ k is x. calls.called H known are follow are_planned k x (calls.whole_call H known are follow are_planned e k (subst (λ a. taken e ≡ Some (take.Centre a)) is of) whole)))
+    (plan_tame n Centre call_plan v (λ k. said_tame n Centre v (act k)) asked)
+    (stepped n Centre views.seen_in H call_plan call_commit asked
+    (λ k is x may. steps.acts n Centre views.seen_in H (act k) x (calls.call_quiet k (centre.books_in v.state)) (calls.call_right H known are follow are_planned k (whole_call k is)) may))
+
+pub returns-clause-quiet : goal.returns-clause-quiet
+returns-clause-quiet c τ H e today x reply h day host of is known answers =
+    let editions = c.histories.ensures.today in
+    let ordered = c.orders.ensures.ordered τ todays_rules _ H editions h in
+    let are = books_of (counted H) ordered.centre (c.counts.ensures.ranges τ todays_rules _ H editions h) (c.withdrawals.ensures τ todays_rules _ H editions h) known.sound in
+    planned_quiet H (c.acts_follow_the_commits.ensures.planned (centre.books_in (views.view_of H).state) (counted H) known.sound are) (c.histories.ensures.holds τ todays_rules _ H editions h).sent host τ today day e x is reply of answers

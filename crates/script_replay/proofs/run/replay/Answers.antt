@@ -1,4 +1,4 @@
-use Rattle.std.proofs.Common.{◌≡◌, ℕ, arith, subst}
+use Rattle.std.proofs.Common.{◌≡◌, ℕ, List, length, ap, arith, subst}
 use Rattle.psd_state.specs.declared.record.DevRec.{DevRec}
 use Rattle.psd_device.specs.declared.node.DeviceNode.{DeviceNode}
 use Rattle.psd_device.specs.contracts.kind.DeviceNodeNode.TheImpl as device
@@ -12,6 +12,7 @@ use Rattle.script_replay.specs.Chains.{DidDeeds}
 use Rattle.script_replay.specs.Turns.{Progress}
 use Rattle.script_replay.proofs.Chains.{are_done}
 use Rattle.script_replay.proofs.Deeds.{progress_start, progress_more, replayed, too_long}
+use Rattle.script_replay.proofs.Sent.{sent_few}
 use Rattle.script_replay.proofs.run.replay.Given.{Over}
 use Rattle.script_replay.proofs.run.replay.Goals as goal
 
@@ -25,6 +26,12 @@ loop-count-init g c = record {
   read_later = omega arith;
   write_later = omega arith;
 }
+
+pub turn-requires-clause-room : goal.turn-requires-clause-room
+turn-requires-clause-room g c =
+    let sent = sent_few (nodes_in g) _ _ _ _ _ c.loop-count.invariant.progress.deeds c.loop-count.invariant.progress.did in
+    let none = ap (λ (l : List (List ℕ)). length l) c.requires.no_messages in
+    omega (arith, sent, none, c.loop-count.invariant.progress.number, c.loop-count-test.true)
 
 pub returns-in-Some-clause-ran : goal.returns-in-Some-clause-ran
 returns-in-Some-clause-ran g c =

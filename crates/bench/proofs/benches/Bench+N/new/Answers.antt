@@ -37,6 +37,7 @@ loop-preserved g c = record {
 
 pub invariant_of-result : goal.invariant_of-result
 invariant_of-result g c = record {
+  room = c.in-Ok-with_capacity.ensures.capacity;
   roomy = omega (arith, c.loop.invariant.spare, c.requires.eight, c.args.stores.devices.ok.0, c.args.stores.devices.ok.1);
   empty = moved_none (λ nv s. IsDeviceOver {h = g.N.Nv} {g = ghosts g.row.N g.N.Nv g.N.Nv-dict} nv s) c.loop.counter c.args.stores.devices.items c.loop.spare.items c.loop.devices.items c.loop.invariant.moved (omega (arith, c.loop-test.false, c.loop.invariant.few, c.requires.eight));
 }
@@ -54,7 +55,7 @@ returns-clause-ready g c = record {
 
 pub returns-clause-stands : goal.returns-clause-stands
 returns-clause-stands g c H stands =
-    over_stands (ghosts g.row.N g.N.Nv g.N.Nv-dict) _ (λ f. refl) (λ f. refl) (λ k. refl) (λ k. refl) (λ k. refl) (λ k. refl) (λ t. t) _ _ H refl (returns-clause-over g c) stands
+    over_stands (ghosts g.row.N g.N.Nv g.N.Nv-dict) _ (λ f. refl) (λ f. refl) (λ k. refl) (λ k. refl) (λ k. refl) (λ k. refl) (λ t. t) _ _ H refl c.in-Ok-with_capacity.ensures.items (returns-clause-over g c) stands
 
 pub returns-clause-blank : goal.returns-clause-blank
 returns-clause-blank g c blank =

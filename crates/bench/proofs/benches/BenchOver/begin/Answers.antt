@@ -9,4 +9,4 @@ returns-clause-begun g c = record {
 }
 
 pub returns-clause-stands : goal.returns-clause-stands
-returns-clause-stands g c H stands = begun_stands _ _ _ _ H refl (returns-clause-begun g c) stands
+returns-clause-stands g c H stands = begun_stands _ _ _ _ H refl c.clear.ensures.items (returns-clause-begun g c) stands

@@ -1,0 +1,92 @@
+-- A Reply that a device is handed, with its code, is the one of its ruling: it was sent, since nothing is forged.
+use Rattle.std.proofs.Common.{◌≡◌, ℕ, List, Option, Some, None, true, Bool, false, Result, Ok, Err, refl, subst}
+use Rattle.std.specs.Prelude.{length, nat_le, ◌&&◌, if◌then◌else◌}
+use Rattle.bench_base.specs.declared.words.Node.TheVariants.{Device, Verifier}
+use Rattle.bench_base.specs.declared.refusals.Unread.{Unread}
+use Rattle.bench_base.specs.declared.events.Event.{Event}
+use Rattle.bench_base.specs.Ledger.{Ledger, IsSent, counted, message}
+use Rattle.node_acts.specs.declared.asked.Asked.{Asked}
+use Rattle.node_acts.specs.declared.asked.Asked.TheVariants.{On, Off, Cut, Call}
+use Rattle.psd_wire.specs.declared.message.ReplyMsg.{ReplyMsg}
+use Rattle.psd_wire.specs.declared.message.Message.{Message}
+use Rattle.psd_wire.specs.declared.message.Message.TheVariants as m
+use Rattle.psd_wire.specs.Grammar.{read}
+use Rattle.psd_wire.specs.Codes.{has_code}
+use Rattle.ledger_terms.specs.Devices.{key_of}
+use Rattle.ledger_terms.specs.Rulings.{ruled_reply}
+use Rattle.ledger_lawful.specs.Further.{RepliesAreRuled}
+use Rattle.ledger_laws.proofs.Histories.{message-sent}
+use Rattle.ledger_moves.specs.Histories.{Unforged, IsKnown}
+use Rattle.bench_views.specs.declared.taken.DeviceCall.{DeviceCall}
+use Rattle.bench_views.specs.declared.taken.DeviceCall.TheVariants.{Make, Debit, Ask, Resend, Ack, Status, Take}
+use Rattle.bench_views.specs.declared.taken.Taken.TheVariants as take
+use Rattle.bench_views.specs.Taken as takes
+use Rattle.bench_views.specs.Taken.{taken}
+use Rattle.bench_views.specs.Messages.{sent_in}
+use Rattle.bench_views.proofs.Events.{each_asked}
+use Rattle.bench_views.proofs.Sent.{sent_at}
+
+module _ (H : Ledger) where
+  -- the bytes are, where they read as a Reply to device d with its code, the one of its ruling
+  abbrev pub IsRuled : ℕ → List ℕ → Type 0
+  IsRuled d bytes = (p : ReplyMsg) → read bytes ≡ Ok (m.Reply p) → p.device ≡ d → (key : List ℕ) → key_of d (counted H) ≡ Some key → has_code key bytes ≡ true
+      → ruled_reply p.device p.number (counted H) ≡ Some p
+
+  -- so those that a call hands to the device
+  abbrev pub OfCall : ℕ → DeviceCall → Type 0
+  OfCall d (Make key) = Unit {0}
+  OfCall d (Debit piece postage class) = Unit {0}
+  OfCall d (Ask kind who amount k) = Unit {0}
+  OfCall d (Resend k) = Unit {0}
+  OfCall d (Ack k) = Unit {0}
+  OfCall d Status = Unit {0}
+  OfCall d (Take bytes k) = IsRuled d bytes
+
+  abbrev pub OfAsked : ℕ → Asked DeviceCall → Type 0
+  OfAsked d On = Unit {0}
+  OfAsked d Off = Unit {0}
+  OfAsked d (Cut calls keep byte) = Unit {0}
+  OfAsked d (Call c) = OfCall d c
+
+module _ (H : Ledger) (replied : RepliesAreRuled H) where
+  was_sent : (d : ℕ) (bytes : List ℕ) → IsSent bytes H → IsRuled H d bytes
+  was_sent d bytes sent p reads own key made coded = replied bytes p sent reads
+
+  given : (d : ℕ) (bytes : List ℕ) → IsKnown bytes (read bytes) (Device d) H → IsRuled H d bytes
+  given d bytes known p reads own key made coded =
+      replied bytes p (subst (λ (x : Result Message Unread). IsKnown bytes x (Device d) H) reads known own key made coded) reads
+
+  -- who takes the bytes of a message that was sent
+  for_device : (e d : ℕ) (bytes : List ℕ) (k : ℕ) (asked : Asked DeviceCall) → IsSent bytes H → takes.for_device e bytes k ≡ take.Device d asked → OfAsked H d asked
+  for_device e d bytes k asked sent is = by (nat_le 1 e && nat_le e 8) is
+    where
+      by : (t : Bool) → (if t then takes.of_device e (Take bytes k) else take.Absent Verifier) ≡ take.Device d asked → OfAsked H d asked
+      by true same = let to : Call (Take bytes k) ≡ asked = cc in subst (OfAsked H d) to (was_sent d bytes sent)
+      by false same = cc
+
+  delivered : (d k : ℕ) (bytes : List ℕ) (asked : Asked DeviceCall) (x : Result Message Unread) → IsSent bytes H → takes.delivered_as bytes k x ≡ take.Device d asked → OfAsked H d asked
+  delivered d k bytes asked (Ok (m.Reply p)) sent is = for_device p.device d bytes k asked sent is
+  delivered d k bytes asked (Ok (m.Debit q)) sent is = for_device q.device d bytes k asked sent is
+  delivered d k bytes asked (Ok (m.Release x)) sent is = cc
+  delivered d k bytes asked (Ok (m.Request q)) sent is = cc
+  delivered d k bytes asked (Ok (m.Done q)) sent is = cc
+  delivered d k bytes asked (Err x) sent is = cc
+
+  message_asked : (k d next : ℕ) (asked : Asked DeviceCall) (o : Option (List ℕ)) → message k H ≡ o → takes.message_taken k next o ≡ take.Device d asked → OfAsked H d asked
+  message_asked k d next asked None at is = cc
+  message_asked k d next asked (Some bytes) at is = delivered d next bytes asked (read bytes) (message-sent k bytes H at) is
+
+  pub genuine : (e : Event) (d : ℕ) (asked : Asked DeviceCall) → taken (sent_in H) e ≡ Some (take.Device d asked) → Unforged e H → OfAsked H d asked
+  genuine = each_asked (sent_in H) (λ e d asked. Unforged e H → OfAsked H d asked) (record {
+    on = λ d known. tt;
+    off = λ d known. tt;
+    cut = λ d calls keep byte known. tt;
+    make = λ d key known. tt;
+    debit = λ d piece postage class known. tt;
+    ask = λ d kind who amount known. tt;
+    resend = λ d known. tt;
+    ack = λ d known. tt;
+    status = λ d known. tt;
+    give = λ d bytes known. given d bytes known;
+    deliver = λ k d asked is known. message_asked k d (length (sent_in H)) asked (message k H) refl (subst (λ (o : Option (List ℕ)). takes.message_taken k (length (sent_in H)) o ≡ take.Device d asked) (sent_at H k) is);
+  })

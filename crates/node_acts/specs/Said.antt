@@ -1,0 +1,83 @@
+-- What a node says where a call of it is done, and an act whose answers are said: whatever the kind of the node.
+use Rattle.std.specs.Prelude.{◌≡◌, ℕ, ℤ, List, [], ◌∷◌, ◌++◌, Option, Some, None}
+use Rattle.bench_base.specs.declared.words.Node.{Node}
+use Rattle.bench_base.specs.declared.ledger.Commit.{Commit}
+use Rattle.bench_base.specs.declared.ledger.Entry.{Entry}
+use Rattle.bench_base.specs.declared.ledger.Entry.TheVariants as entry
+use Rattle.bench_base.specs.declared.events.Reply.{Reply}
+use Rattle.bench_base.specs.Plans.{Plan}
+use Rattle.bench_base.specs.Ledger.{Ledger}
+use Rattle.bench_base.specs.Replies.{Did, Refused, told_by}
+use Rattle.node_acts.specs.declared.act.Act.{Act}
+use Rattle.node_acts.specs.declared.act.Act.TheVariants.{Refuse, Tell, Commits}
+use Rattle.node_acts.specs.declared.act.Outcome.{Outcome}
+use Rattle.node_acts.specs.declared.said.Said.{Said}
+use Rattle.node_acts.specs.declared.said.Released.{Released}
+use Rattle.node_acts.specs.Plans.{plan_of, done_plan, when_on, call_reply, call_entries}
+use Rattle.node_acts.specs.Views.{Counting, View}
+use Rattle.node_acts.specs.Acts.{commit_of}
+use Rattle.node_acts.specs.Kinds.{Kind}
+
+-- a reply alone; with a mark that is given out; with a message that is sent
+abbrev pub replies : Reply → Said
+replies reply = record { reply = reply; released = None; sent = None }
+
+abbrev pub releases : Reply → Released → Said
+releases reply x = record { reply = reply; released = Some x; sent = None }
+
+abbrev pub sends : Reply → List ℕ → Said
+sends reply note = record { reply = reply; released = None; sent = Some note }
+
+-- == what is told after the commit, the newest first: a mark is given out before the message that carries it is sent ==
+
+abbrev pub with_released : Option Released → List Entry
+with_released None = []
+with_released (Some x) = entry.Released x.device x.piece x.mark ∷ []
+
+abbrev pub with_sent : Option (List ℕ) → List Entry
+with_sent None = []
+with_sent (Some note) = entry.Sent note ∷ []
+
+abbrev pub tells : Said → List Entry
+tells s = with_sent s.sent ++ with_released s.released
+
+-- the act whose refusals are replied so, and whose answers are said so
+abbrev pub saying : {X F A : Type 0} → (F → Reply) → (A → Said) → Act X F A → Act X Reply Said
+saying refusal say (Refuse x) = Refuse (refusal x)
+saying refusal say (Tell a) = Tell (say a)
+saying refusal say (Commits c x a) = Commits c x (say a)
+
+-- == a call, by such an act ==
+
+-- it refuses, or what was asked for was done
+abbrev pub IsPlain : {X : Type 0} → Act X Reply Said → Type 0
+IsPlain (Refuse x) = told_by x ≡ Refused
+IsPlain (Tell a) = told_by a.reply ≡ Did
+IsPlain (Commits c x a) = told_by a.reply ≡ Did
+
+-- what the ledger plans
+abbrev pub said_plan : {X : Type 0} → Act X Reply Said → Plan
+said_plan act = plan_of (λ x. x) (λ a. a.reply) tells act
+
+-- the plan of the call by what is seen of the node
+abbrev pub seen_plan : {S X : Type 0} → Counting S X → Node → View S → Act X Reply Said → Plan
+seen_plan n m v act = when_on m v (done_plan n m (λ x. x) (λ a. a.reply) tells v.state act)
+
+-- what the call is told as, and what is added, by what it came to
+abbrev pub said_reply : Node → Outcome Reply Said → Reply
+said_reply m outcome = call_reply m (λ x. x) (λ a. a.reply) outcome
+
+abbrev pub said_entries : {X : Type 0} → Node → Act X Reply Said → Outcome Reply Said → Ledger
+said_entries m act outcome = call_entries m tells act outcome
+
+-- the commit that it makes, if it makes one
+abbrev pub planned_commit : {X : Type 0} → Act X Reply Said → Option Commit
+planned_commit act = (said_plan act).commit
+
+-- the kind of nodes whose calls have these acts, by the record of the node
+abbrev pub kind_by : {N S X C : Type 0} → Counting S X → (N → Node) → (N → List Commit → S) → (N → ℤ → C → S → Act X Reply Said) → Kind N S C
+kind_by n node seen act = record {
+  seen = seen;
+  plan = λ d today v c. seen_plan n (node d) v (act d today c v.state);
+  commit = λ d today v c. commit_of n v (act d today c v.state);
+}
