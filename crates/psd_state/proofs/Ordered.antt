@@ -13,8 +13,8 @@ use Rattle.ledger_terms.specs.Requests.{request_in, request_of, note_of}
 use Rattle.ledger_terms.specs.Devices.{asked, number, pending, unless_applied, applied_of, applied_kind}
 use Rattle.ledger_terms.specs.Centres.{registered, origin_in, ruled}
 use Rattle.ledger_terms.specs.InFlight.{ruling_of}
-use Rattle.ledger_terms.specs.Rulings.{reply_to}
-use Rattle.psd_state.specs.Records.{asks, ruled_reply, InOrder}
+use Rattle.ledger_terms.specs.Rulings.{reply_to, ruled_reply}
+use Rattle.psd_state.specs.Records.{asks, InOrder}
 
 -- the two are one, or their test says no
 pub own_or : {P : Type 0} (e d : ℕ) → ((e == d) ≡ true → e ≡ d → P) → ((e == d) ≡ false → P) → P

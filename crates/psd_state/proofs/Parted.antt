@@ -24,7 +24,7 @@ use Rattle.std.proofs.lemmas.Bool.{eqb-true}
 use Rattle.psd_wire.proofs.Readings.{byte_of}
 use Rattle.psd_state.specs.State.{State, Holds, PendingOk, MarkOk, is_stored}
 use Rattle.psd_state.specs.declared.parts.Fields.{Fields}
-use Rattle.psd_state.specs.Payload.{phase_code, phase_byte, flag_of, head_table, head, middle_table, middle, filled, pending_room, pending_part, mark_part, end_part, head_part, middle_part, spelled, bytes_of, RangesIn, Ranges, IsOld, ReadsAs, fields_from, fields_at, fields_of, pending_place, mark_place, Parts, PendingWhole, MarkWhole, IsKeptAt, sums_of}
+use Rattle.psd_state.specs.Payload.{phase_code, phase_byte, flag_of, head_table, head, middle_table, middle, filled, pending_room, pending_part, mark_part, end_part, head_part, middle_part, spelled, bytes_of, RangesIn, Ranges, IsOld, ReadsAs, fields_from, fields_at, fields_of, pending_place, mark_place, Parts, PendingWhole, MarkWhole, IsKeptAt}
 
 length-head : (v : ℕ) (s : State) → RangesIn v s → length (head_part v s) ≡ 5
 unfolding head_part

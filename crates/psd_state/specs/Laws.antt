@@ -14,7 +14,8 @@ use Rattle.psd_state.specs.State.{State, Holds}
 use Rattle.psd_state.specs.Answers.{made_state, ask_answer, debit_answer, apply_answer, resend_answer}
 use Rattle.psd_state.specs.Payload.{bytes_of, spelled, Ranges, IsOld, ReadsAs}
 use Rattle.psd_state.specs.declared.debiting.Debited.TheVariants.{New}
-use Rattle.psd_state.specs.Records.{IsRecordOf, IsRuled, InOrder, ruled_reply}
+use Rattle.ledger_terms.specs.Rulings.{ruled_reply}
+use Rattle.psd_state.specs.Records.{IsRecordOf, IsRuled, InOrder}
 
 -- a new device has the record of its Made, whatever the other nodes did before
 abbrev pub MakingStarts : Type 0

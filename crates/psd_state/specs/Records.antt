@@ -1,11 +1,9 @@
 -- The record of a device after a list of commits, the newest first, and the order in which its commits come.
-use Rattle.std.specs.Prelude.{◌≡◌, ℕ, pos, ◌+◌, ◌<◌, ◌&&◌, List, [], ◌∷◌, Option, Some, None, IsSome, ◌==◌, if◌then◌else◌}
+use Rattle.std.specs.Prelude.{◌≡◌, ℕ, pos, ◌+◌, ◌<◌, List, [], ◌∷◌, Option, Some, None, IsSome, ◌==◌, if◌then◌else◌}
 use Rattle.bench_base.specs.declared.words.Verdict.{Verdict}
 use Rattle.bench_base.specs.declared.ledger.Commit.{Commit}
 use Rattle.bench_base.specs.declared.ledger.Commit.TheVariants.{Made, Asked, Applied, Debited, Registered, Ruled}
-use Rattle.bench_base.specs.Rows.{first_of}
 use Rattle.psd_wire.specs.declared.message.Request.{Request}
-use Rattle.psd_wire.specs.declared.message.ReplyMsg.{ReplyMsg}
 use Rattle.psd_wire.specs.declared.message.Message.TheVariants as m
 use Rattle.psd_wire.specs.Grammar.{spell}
 use Rattle.ledger_terms.specs.Requests.{request_in, note_of}
@@ -14,7 +12,7 @@ use Rattle.ledger_terms.specs.Devices.{key_of, asked, number, applied_of, pendin
 use Rattle.ledger_terms.specs.Centres.{registered, ruled}
 use Rattle.ledger_terms.specs.Franking.{kept}
 use Rattle.ledger_terms.specs.InFlight.{ruling_of}
-use Rattle.ledger_terms.specs.Rulings.{verdict, reply_to}
+use Rattle.ledger_terms.specs.Rulings.{verdict}
 use Rattle.psd_state.specs.State.{State}
 
 -- what follows from the commits for a device with this key
@@ -53,12 +51,6 @@ abbrev pub asks : ℕ → List Commit → ℕ
 asks d [] = 0
 asks d (Asked e n note ∷ C) = if e == d then asks d C + 1 else asks d C
 asks d (_ ∷ C) = asks d C
-
--- the Reply that the first Ruled of number n makes, over the commits before it
-abbrev pub ruled_reply : ℕ → ℕ → List Commit → Option ReplyMsg
-ruled_reply d n [] = None
-ruled_reply d n (Ruled e k v note ∷ C) = if (e == d) && (k == n) then first_of (ruled_reply d n C) (Some (reply_to C (request_in note))) else ruled_reply d n C
-ruled_reply d n (_ ∷ C) = ruled_reply d n C
 
 -- request n of the device was ruled so: the Ruled of that number has the note of the Asked of that number
 pub record IsRuled (d n : ℕ) (v : Verdict) (C : List Commit) : Type 0 where
