@@ -5,6 +5,8 @@ use Rattle.bench_base.specs.declared.events.Reply.{Reply}
 use Rattle.bench_base.specs.Ledger.{Ledger}
 use Rattle.nv_model.specs.declared.nv.Nv as nv
 use Rattle.nv_model.specs.declared.fuse.Fuse as fuse
+use Rattle.bench_base.specs.Rules.{editions}
+use Rattle.ledger_lawful.specs.Sane.{IsSane}
 use Rattle.ledger_moves.specs.Tariffs.{Tariff}
 use Rattle.ledger_moves.specs.Histories.{History}
 use Rattle.bench.specs.Benches.{Bench, Nodes, Stands}
@@ -44,6 +46,14 @@ module _ {D C S XD XC RD RC N : Type 0} (n : Nodes D C S XD XC RD RC) (g : nv.Gh
     runs old new (Skipped line ∷ rest) H did s = runs old new rest H did s
     runs old new (Did line e reply ∷ rest) H did s = λ u.
         (moved old did.0 e reply H did.1 s u, runs did.0 new rest (ledger_by τ H e reply) did.2 (stands_then old did.0 e reply H did.1 s u))
+
+    -- what never comes didn't
+    pub sane_while : ((H : Ledger) (e : Event) (reply : Reply) → History τ editions H → Unforged H e → Moves τ H e reply → IsSane reply) → (old new : Bench D C) (deeds : List Deed) (H : Ledger)
+        → DidDeeds n g f h old new deeds → StandsFor n g τ old H → RunWhile τ Unforged (λ L e r. IsSane r) H deeds
+    sane_while law old new [] H did s = tt
+    sane_while law old new (Skipped line ∷ rest) H did s = sane_while law old new rest H did s
+    sane_while law old new (Did line e reply ∷ rest) H did s = λ u.
+        (law H e reply s.history u (moved old did.0 e reply H did.1 s u), sane_while law did.0 new rest (ledger_by τ H e reply) did.2 (stands_then old did.0 e reply H did.1 s u))
 
     pub stands_after : (old new : Bench D C) (deeds : List Deed) (H : Ledger) → DidDeeds n g f h old new deeds → StandsFor n g τ old H → AreUnforged τ Unforged H deeds
         → StandsFor n g τ new (ledger_after τ H deeds)

@@ -18,7 +18,7 @@ use Rattle.script_replay.specs.Fresh.{RanFresh}
 use Rattle.script_replay.specs.Run.{StandsFor, DidOver, DidRun, Replayed}
 use Rattle.script_replay.specs.declared.status.Status.{Status}
 use Rattle.script_replay.proofs.Answering.{no_failure, all_answered, all_exact}
-use Rattle.script_replay.proofs.Chains.{runs, stands_after}
+use Rattle.script_replay.proofs.Chains.{runs, sane_while, stands_after}
 use Rattle.script_replay.proofs.Counting.{run_balanced}
 use Rattle.script_replay.proofs.Deeds.{said}
 
@@ -41,6 +41,7 @@ module _ {D C S XD XC RD RC N : Type 0} (n : Nodes D C S XD XC RD RC) (g : nv.Gh
         run = runs n g f h τ tells begun new deeds (Begin ∷ H) did s';
         stands = λ u. stands_after n g f h τ tells begun new deeds (Begin ∷ H) did s' u;
         lawful = λ u. (holds τ todays_rules _ _ today (stands_after n g f h τ tells begun new deeds (Begin ∷ H) did s' u).history).lawful;
+        sane = sane_while n g f h τ tells (λ K e r history u may. (holds τ todays_rules _ K today history).sane e [] r u may) begun new deeds (Begin ∷ H) did s';
         answers = λ quiet. all_answered n g f h τ tells (sent_read τ) begun new deeds (Begin ∷ H) did s' (no_failure n g old new deeds ready.eight (still_ready begun new deeds ready' did).eight balanced quiet);
         exact = λ quiet none. all_exact n g f h τ tells (sent_read τ) begun new deeds (Begin ∷ H) did s'
             (no_failure n g old new deeds ready.eight (still_ready begun new deeds ready' did).eight balanced quiet) (λ m here. none m);
@@ -65,5 +66,6 @@ pub from_nothing : {D C S XD XC RD RC N : Type 0} (n : Nodes D C S XD XC RD RC) 
     → DidRun n g f h old new deeds → Stands n g old [] → g.tells → RanFresh deeds
 from_nothing n g f h old new deeds did stands tells = record {
   run = λ τ. (did.over τ [] (record { history = History.nothing; stands = stands }) tells).run;
+  sane = λ τ. (did.over τ [] (record { history = History.nothing; stands = stands }) tells).sane;
   lawful = λ τ. (did.over τ [] (record { history = History.nothing; stands = stands }) tells).lawful;
 }

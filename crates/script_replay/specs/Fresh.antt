@@ -6,6 +6,7 @@ use Rattle.nv_model.specs.declared.nv.Nv as nv
 use Rattle.nv_model.specs.Meters.{Works}
 use Rattle.nv_model.specs.Moments.{Only}
 use Rattle.ledger_lawful.specs.Lawful.{Lawful}
+use Rattle.ledger_lawful.specs.Sane.{IsSane}
 use Rattle.ledger_moves.specs.Tariffs.{Tariff}
 use Rattle.script_replay.specs.Deeds.{Deed, ledger_after, RunWhile, AreUnforged}
 use Rattle.script_replay.specs.Run.{Unforged, Moves}
@@ -17,8 +18,9 @@ pub record IsFresh {N : Type 0} (h : nv.Ghosts N) (bytes : ℕ) (store : N) : Ty
   pub size : h.size store ≡ bytes
   pub blank : Only (h.times store) (replicate bytes 0)
 
--- Each reply in turn is one that its event may get, and what the deeds leave is lawful, as long as nothing is forged, whatever
+-- Each reply in turn is one that its event may get, none is one that never comes, and what the deeds leave is lawful, as long as nothing is forged, whatever
 -- is read as rates.
 pub record RanFresh (deeds : List Deed) : Type 0 where
   pub run : (τ : Tariff) → RunWhile τ Unforged (Moves τ) (Begin ∷ []) deeds
+  pub sane : (τ : Tariff) → RunWhile τ Unforged (λ L e r. IsSane r) (Begin ∷ []) deeds
   pub lawful : (τ : Tariff) → AreUnforged τ Unforged (Begin ∷ []) deeds → Lawful todays_rules (ledger_after τ (Begin ∷ []) deeds)

@@ -9,6 +9,7 @@ use Rattle.bench_base.specs.declared.events.Event.{Event}
 use Rattle.bench_base.specs.declared.events.Reply.{Reply}
 use Rattle.nv_model.specs.declared.nv.Nv as nv
 use Rattle.nv_model.specs.declared.fuse.Fuse as fuse
+use Rattle.ledger_lawful.specs.Sane.{IsSane}
 use Rattle.ledger_lawful.specs.Lawful.{Lawful}
 use Rattle.ledger_moves.specs.Tariffs.{Tariff}
 use Rattle.ledger_moves.specs.Moves as moves
@@ -42,13 +43,15 @@ module _ {D C S XD XC RD RC : Type 0} (n : Nodes D C S XD XC RD RC) (g : nv.Ghos
     pub stands : Stands n g bench H
 
   -- By a history for which the bench stood, with a run begun: each reply is one that its event may get there, and as long as
-  -- nothing from outside is forged the bench stands for what the deeds leave, which is lawful. Where no storage failed and no
+  -- nothing from outside is forged the bench stands for what the deeds leave, which is lawful, and no reply is one that never comes
+  -- where devices and centre are honest. Where no storage failed and no
   -- fuse was armed, each reply is the answer: of a node that comes on with an open commit one of its two, and where no commit
   -- was open at the beginning the answer itself.
   pub record DidOver (τ : Tariff) (H : Ledger) (old new : Bench D C) (deeds : List Deed) : Type 0 where
     pub run : RunWhile τ Unforged (Moves τ) (Begin ∷ H) deeds
     pub stands : AreUnforged τ Unforged (Begin ∷ H) deeds → StandsFor τ new (ledger_after τ (Begin ∷ H) deeds)
     pub lawful : AreUnforged τ Unforged (Begin ∷ H) deeds → Lawful todays_rules (ledger_after τ (Begin ∷ H) deeds)
+    pub sane : RunWhile τ Unforged (λ L e r. IsSane r) (Begin ∷ H) deeds
     pub answers : AreUndisturbed n g old new deeds → RunWhile τ Unforged (IsAnswer τ) (Begin ∷ H) deeds
     pub exact : AreUndisturbed n g old new deeds → NoneOpen H → RunWhile τ Unforged (IsTheAnswer τ) (Begin ∷ H) deeds
 
