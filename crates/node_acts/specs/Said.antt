@@ -12,34 +12,36 @@ use Rattle.node_acts.specs.declared.act.Act.{Act}
 use Rattle.node_acts.specs.declared.act.Act.TheVariants.{Refuse, Tell, Commits}
 use Rattle.node_acts.specs.declared.act.Outcome.{Outcome}
 use Rattle.node_acts.specs.declared.said.Said.{Said}
-use Rattle.node_acts.specs.declared.said.Released.{Released}
+use Rattle.node_acts.specs.declared.said.GivenOut.{GivenOut}
+use Rattle.node_acts.specs.declared.said.GivenOut.TheVariants.{Released, Printed}
 use Rattle.node_acts.specs.Plans.{plan_of, done_plan, when_on, call_reply, call_entries}
 use Rattle.node_acts.specs.Views.{Counting, View}
 use Rattle.node_acts.specs.Acts.{commit_of}
 use Rattle.node_acts.specs.Kinds.{Kind}
 
--- a reply alone; with a mark that is given out; with a message that is sent
+-- a reply alone; with a mark that leaves the node; with a message that is sent
 abbrev pub replies : Reply → Said
-replies reply = record { reply = reply; released = None; sent = None }
+replies reply = record { reply = reply; given = None; sent = None }
 
-abbrev pub releases : Reply → Released → Said
-releases reply x = record { reply = reply; released = Some x; sent = None }
+abbrev pub gives : Reply → GivenOut → Said
+gives reply x = record { reply = reply; given = Some x; sent = None }
 
 abbrev pub sends : Reply → List ℕ → Said
-sends reply note = record { reply = reply; released = None; sent = Some note }
+sends reply note = record { reply = reply; given = None; sent = Some note }
 
--- == what is told after the commit, the newest first: a mark is given out before the message that carries it is sent ==
+-- == what is told after the commit, the newest first: a mark leaves the node before the message that carries it is sent ==
 
-abbrev pub with_released : Option Released → List Entry
-with_released None = []
-with_released (Some x) = entry.Released x.device x.piece x.mark ∷ []
+abbrev pub with_given : Option GivenOut → List Entry
+with_given None = []
+with_given (Some (Released x)) = entry.Released x.device x.piece x.mark ∷ []
+with_given (Some (Printed x)) = entry.Printed x.job x.mark ∷ []
 
 abbrev pub with_sent : Option (List ℕ) → List Entry
 with_sent None = []
 with_sent (Some note) = entry.Sent note ∷ []
 
 abbrev pub tells : Said → List Entry
-tells s = with_sent s.sent ++ with_released s.released
+tells s = with_sent s.sent ++ with_given s.given
 
 -- the act whose refusals are replied so, and whose answers are said so
 abbrev pub saying : {X F A : Type 0} → (F → Reply) → (A → Said) → Act X F A → Act X Reply Said

@@ -8,4 +8,4 @@ mod said;
 
 pub use act::{Act, Outcome, Started};
 pub use asked::Asked;
-pub use said::{Released, Said};
+pub use said::{GivenOut, Printed, Released, Said};

@@ -14,11 +14,25 @@ pub struct Released {
     pub mark: [u8; 64],
 }
 
-/// What a node says where a call of it was done: its reply, a mark that it gives out, and a message that it sends.
+/// A mark that the host prints: of which job, and the mark.
+#[derive(Clone, Copy)]
+pub struct Printed {
+    pub job: u32,
+    pub mark: [u8; 64],
+}
+
+/// A mark that leaves a node.
+#[derive(Clone, Copy)]
+pub enum GivenOut {
+    Released(Released),
+    Printed(Printed),
+}
+
+/// What a node says where a call of it was done: its reply, a mark that leaves it, and a message that it sends.
 #[derive(Clone, Copy)]
 pub struct Said {
     pub reply: Reply,
-    pub released: Option<Released>,
+    pub given: Option<GivenOut>,
     pub sent: Option<Note>,
 }
 
@@ -29,18 +43,18 @@ impl Said {
     {
         Said {
             reply,
-            released: None,
+            given: None,
             sent: None,
         }
     }
 
-    /// A reply, and a mark that is given out.
-    pub fn releasing(reply: Reply, released: Released) -> Said
-        ensures { result ≡ said.releases reply released }
+    /// A reply, and a mark that leaves the node.
+    pub fn giving(reply: Reply, given: GivenOut) -> Said
+        ensures { result ≡ said.gives reply given }
     {
         Said {
             reply,
-            released: Some(released),
+            given: Some(given),
             sent: None,
         }
     }
@@ -51,7 +65,7 @@ impl Said {
     {
         Said {
             reply,
-            released: None,
+            given: None,
             sent: Some(note),
         }
     }

@@ -40,7 +40,7 @@ use Rattle.node_turns.specs.Costs.{Charged}
 use Rattle.node_turns.specs.NodeTurns.{NodeTurn}
 use Rattle.node_turns.specs.Turns.{in_order, call_turn}
 
-no : {P : Type 0} → false ≡ true → P
+pub no : {P : Type 0} → false ≡ true → P
 no is = absurd (true≢false (sym is))
 
 -- what a fuse may use of a smaller number of calls, it may use of a greater one
@@ -102,10 +102,10 @@ module _ {X : Type 0} (m : Node) (e : Event) where
   commits_by P (Tell a) told some = absurd some
   commits_by P (Commits c x a) told some = told.0.commits
 
-  refuses_by : (act : Act X Reply Said) (x : Reply) → IsToldBy m e act → act ≡ Refuse x → MayRefuse m e x
+  pub refuses_by : (act : Act X Reply Said) (x : Reply) → IsToldBy m e act → act ≡ Refuse x → MayRefuse m e x
   refuses_by act x told is = subst (λ (a : Act X Reply Said). IsToldBy m e a) is told
 
-  says_by : (act : Act X Reply Said) (a : Said) → IsToldBy m e act → TellsOf a act → MaySay e a
+  pub says_by : (act : Act X Reply Said) (a : Said) → IsToldBy m e act → TellsOf a act → MaySay e a
   says_by (Refuse x) a told of = absurd of
   says_by (Tell b) a told of = subst (λ (b : Said). MaySay e b) of told
   says_by (Commits c x b) a told of = subst (λ (b : Said). MaySay e b) of told.1
@@ -202,6 +202,11 @@ module _ {X : Type 0} (m : Node) (e : Event) (of : IsCallOf m e) (act : Act X Re
   call_leaves (o.Power c) came was = and_false was
   call_leaves (o.Fault c) came was = and_false was
 
+-- what was done was done by a node that is on
+pub done_on : (on : Bool) (y : Outcome Reply Said) (a : Said) → o.Done a ≡ (if on then y else o.Off) → on ≡ true
+done_on true y a is = refl
+done_on false y a is = cc
+
 -- == in its place ==
 
 module _ {K S N C R X : Type 0} (n : Ghosts K S N C R) (g : nv.Ghosts S) (f : fuse.Ghosts S) (kind : Kind N n.Seen X) (m : Node) (d : N) (today : ℤ) (e : Event) (call : X)
@@ -211,10 +216,6 @@ module _ {K S N C R X : Type 0} (n : Ghosts K S N C R) (g : nv.Ghosts S) (f : fu
     (fits : (s : n.Seen) → n.IsSound d s → IsFitting n d s (by s)) (s t : K) where
   abbrev act : Act C Reply Said
   act = by (n.seen s)
-
-  done_on : (on : Bool) (y : Outcome Reply Said) (a : Said) → o.Done a ≡ (if on then y else o.Off) → on ≡ true
-  done_on true y a is = refl
-  done_on false y a is = cc
 
   -- what is added is what the act adds that is seen
   same_entries : (v : View n.Seen) → Stands n g d v s → g.tells → (x : Outcome Reply Said) → MayCome n.counting v (by v.state) x → said_entries m act x ≡ said_entries m (by v.state) x

@@ -1,3 +1,4 @@
 pub mod Calls
 pub mod Done
+pub mod Printed
 pub mod Switched

@@ -1,4 +1,5 @@
 pub mod Adds
 pub mod Costs
 pub mod NodeTurns
+pub mod Printing
 pub mod Turns

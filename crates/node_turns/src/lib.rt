@@ -5,6 +5,6 @@ mod node;
 mod tell;
 mod turn;
 
-pub use node::{call, cut, start, stop};
+pub use node::{call, call_printing, cut, start, stop};
 pub use tell::{Sending, Tell};
 pub use turn::Turn;

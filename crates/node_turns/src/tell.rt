@@ -1,14 +1,14 @@
 //! How what an event came to is told.
 ghost use Rattle.std.specs.Prelude.{◌≡◌, [], ◌∷◌, ◌++◌};
 ghost use Rattle.node_acts.specs.Plans.{with_commit};
-ghost use Rattle.node_acts.specs.Said.{tells, with_released, with_sent};
+ghost use Rattle.node_acts.specs.Said.{tells, with_given, with_sent};
 ghost use Rattle.node_turns.specs.Turns.{turn_of, sent_in, in_order, listed};
 
 use crate::turn::Turn;
 use bench_base::bytes::Note;
 use bench_base::events::Reply;
 use bench_base::ledger::{Commit, Entry};
-use node_acts::{Released, Said};
+use node_acts::{GivenOut, Said};
 
 /// How what an event came to is told: whole, or by its reply alone, which costs less.
 pub trait Tell: Drop + Sized {
@@ -39,11 +39,14 @@ fn commit_entry(commit: Option<Commit>) -> Option<Entry>
     }
 }
 
-fn released_entry(released: Option<Released>) -> Option<Entry>
-    ensures { listed result ≡ with_released released }
+fn given_entry(given: Option<GivenOut>) -> Option<Entry>
+    ensures { listed result ≡ with_given given }
 {
-    match released {
-        Some(released) => Some(Entry::Released(released.device, released.piece, released.mark)),
+    match given {
+        Some(GivenOut::Released(released)) => {
+            Some(Entry::Released(released.device, released.piece, released.mark))
+        }
+        Some(GivenOut::Printed(printed)) => Some(Entry::Printed(printed.job, printed.mark)),
         None => None,
     }
 }
@@ -91,7 +94,7 @@ impl Tell for Turn {
             reply: said.reply,
             entries: packed(
                 commit_entry(commit),
-                released_entry(said.released),
+                given_entry(said.given),
                 sent_entry(said.sent),
             ),
         }
