@@ -188,7 +188,7 @@ class_price-bounds grams zone zones (Some c) true is sound =
     let there = within zones zone (sym is) in
     rw (← is) (step_price-bounds zone zones c.steps (step_for grams c.steps) there.0 there.1 (IfSome-find _ (IsStep zones) c.steps sound.steps))
 
-price_in-bounds : (class grams zone : ℕ) (r : RateTable) → IsRates r → IfOk (price_in class grams zone r) IsPrice
+pub price_in-bounds : (class grams zone : ℕ) (r : RateTable) → IsRates r → IfOk (price_in class grams zone r) IsPrice
 price_in-bounds class grams zone r sound = class_price-bounds grams zone r.zones (class_numbered class r) _ refl (IfSome-find _ (IsClass r.zones) r.classes sound.classes)
 
 price_by-bounds : (class grams zone : ℕ) (o : Option RateTable) → IfSome o IsRates → IfOk (price_by class grams zone o) IsPrice

@@ -1,6 +1,6 @@
 //! Rates as they are kept, and the price of a piece. Weights are in grams, prices in mills.
-ghost use Rattle.std.specs.Prelude.{◌≡◌, ◌-◌, ◌≤◌, All, length, option_map, slice_index};
-ghost use Rattle.host_rates.specs.Tables.{IsRates, class_numbered, max_grams, price_in, step_for, step_price};
+ghost use Rattle.std.specs.Prelude.{◌≡◌, ◌-◌, ◌≤◌, All, IfOk, length, option_map, slice_index};
+ghost use Rattle.host_rates.specs.Tables.{IsPrice, IsRates, class_numbered, max_grams, price_in, step_for, step_price};
 
 use bench_base::refusals::RateRefusal;
 use std::marker::Model;
@@ -153,6 +153,7 @@ impl Rates {
     /// class's last step exactly where the weight is above them.
     pub fn price(&self, class: u16, grams: u32, zone: u32) -> Result<u32, RateRefusal>
         ensures exact { result ≡ price_in class grams zone self.now }
+        ensures range { IfOk result IsPrice }
     {
         let Some(class) = self.class_numbered(class) else {
             return Err(RateRefusal::NoClass);
