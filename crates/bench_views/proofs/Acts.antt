@@ -49,20 +49,20 @@ use Rattle.bench_views.proofs.Steps.{IsQuiet, IsSaid, IsQuietAct, IsRight, right
 -- == what is said ==
 
 refused_quiet : (d : ℕ) (y : DevRefusal) → IsQuiet (r.DevRefused d y)
-refused_quiet d y = record { plain = tt; no_print = λ j e. cc }
+refused_quiet d y = tt
 
 took_said : (d k : ℕ) (a : Taken) → IsSaid (took d k a)
-took_said d k (taken_as.Applied n v) = record { did = refl; no_print = λ j e. cc }
-took_said d k (taken_as.Released piece x again) = record { did = refl; no_print = λ j e. cc }
+took_said d k (taken_as.Applied n v) = refl
+took_said d k (taken_as.Released piece x again) = refl
 
 pub call_quiet : (d : ℕ) (today : ℤ) (call : DeviceCall) (s : Option State) → IsQuietAct (device_act d today call s)
-call_quiet d today (Make key) s = quiet_says (r.DevRefused d) _ (refused_quiet d) (λ u. record { did = refl; no_print = λ j e. cc }) (make_act d key s)
+call_quiet d today (Make key) s = quiet_says (r.DevRefused d) _ (refused_quiet d) (λ u. refl) (make_act d key s)
 call_quiet d today (Debit piece postage class) s =
-    quiet_says (r.DevRefused d) (marked d piece) (refused_quiet d) (λ f. record { did = refl; no_print = λ j e. cc }) (debit_act todays_rules d (debit_by d piece postage class) today s)
-call_quiet d today (Ask kind who amount k) s = quiet_says (r.DevRefused d) _ (refused_quiet d) (λ note. record { did = refl; no_print = λ j e. cc }) (ask_act todays_rules d kind who amount today s)
-call_quiet d today (Resend k) s = quiet_says (r.DevRefused d) _ (refused_quiet d) (λ note. record { did = refl; no_print = λ j e. cc }) (resend_act s)
-call_quiet d today (Ack k) s = quiet_says (r.DevRefused d) _ (refused_quiet d) (λ note. record { did = refl; no_print = λ j e. cc }) (ack_act s)
-call_quiet d today Status s = quiet_says (r.DevRefused d) _ (refused_quiet d) (λ shown. record { did = refl; no_print = λ j e. cc }) (status_act today s)
+    quiet_says (r.DevRefused d) (marked d piece) (refused_quiet d) (λ f. refl) (debit_act todays_rules d (debit_by d piece postage class) today s)
+call_quiet d today (Ask kind who amount k) s = quiet_says (r.DevRefused d) _ (refused_quiet d) (λ note. refl) (ask_act todays_rules d kind who amount today s)
+call_quiet d today (Resend k) s = quiet_says (r.DevRefused d) _ (refused_quiet d) (λ note. refl) (resend_act s)
+call_quiet d today (Ack k) s = quiet_says (r.DevRefused d) _ (refused_quiet d) (λ note. refl) (ack_act s)
+call_quiet d today Status s = quiet_says (r.DevRefused d) _ (refused_quiet d) (λ shown. refl) (status_act today s)
 call_quiet d today (Take bytes k) s = quiet_says (r.DevRefused d) (took d k) (refused_quiet d) (took_said d k) (take_act todays_rules d bytes today s)
 
 -- == its record ==

@@ -16,8 +16,9 @@ use Rattle.node_acts.specs.Views.{Counting, View}
 use Rattle.node_acts.specs.declared.act.Act.{Act}
 use Rattle.node_acts.specs.declared.act.Act.TheVariants.{Refuse, Tell, Commits}
 use Rattle.node_acts.specs.declared.said.Said.{Said}
-use Rattle.node_acts.specs.declared.said.Released.{Released}
-use Rattle.node_acts.specs.Said.{seen_plan, tells, with_sent, with_released}
+use Rattle.node_acts.specs.declared.said.GivenOut.{GivenOut}
+use Rattle.node_acts.specs.declared.said.GivenOut.TheVariants.{Released, Printed}
+use Rattle.node_acts.specs.Said.{seen_plan, tells, with_sent, with_given}
 use Rattle.node_acts.specs.Plans.{MayReply, after, after_told, with_commit, with_torn, done_plan}
 use Rattle.node_acts.specs.Kinds.{view_in, node_plan, node_commit}
 use Rattle.bench_views.specs.Messages.{IsFew}
@@ -111,29 +112,35 @@ plan_tame n m call_plan v calls (Call c) = calls c
 pub said_tame : {S X : Type 0} (n : Counting S X) (m : Node) (v : View S) (act : Act X Reply Said) → IsTame (seen_plan n m v act)
 said_tame {X = X} n m v act = by_on v.on
   where
-    said_none : (released : Option Released) (sent : Option (List ℕ)) → NoBegin (with_sent sent ++ with_released released)
+    said_none : (given : Option GivenOut) (sent : Option (List ℕ)) → NoBegin (with_sent sent ++ with_given given)
     said_none None None = tt
     said_none None (Some note) = tt
-    said_none (Some x) None = tt
-    said_none (Some x) (Some note) = tt
+    said_none (Some (Released x)) None = tt
+    said_none (Some (Released x)) (Some note) = tt
+    said_none (Some (Printed x)) None = tt
+    said_none (Some (Printed x)) (Some note) = tt
 
-    said_few : (released : Option Released) (sent : Option (List ℕ)) (o : Option Commit) → IsFew ((with_sent sent ++ with_released released) ++ with_commit o [])
+    said_few : (given : Option GivenOut) (sent : Option (List ℕ)) (o : Option Commit) → IsFew ((with_sent sent ++ with_given given) ++ with_commit o [])
     said_few None None None = tt
     said_few None None (Some c) = (omega arith, tt)
     said_few None (Some note) None = (omega arith, tt)
     said_few None (Some note) (Some c) = (omega arith, tt)
-    said_few (Some x) None None = (omega arith, tt)
-    said_few (Some x) None (Some c) = (omega arith, tt)
-    said_few (Some x) (Some note) None = (omega arith, tt)
-    said_few (Some x) (Some note) (Some c) = (omega arith, tt)
+    said_few (Some (Released x)) None None = (omega arith, tt)
+    said_few (Some (Released x)) None (Some c) = (omega arith, tt)
+    said_few (Some (Released x)) (Some note) None = (omega arith, tt)
+    said_few (Some (Released x)) (Some note) (Some c) = (omega arith, tt)
+    said_few (Some (Printed x)) None None = (omega arith, tt)
+    said_few (Some (Printed x)) None (Some c) = (omega arith, tt)
+    said_few (Some (Printed x)) (Some note) None = (omega arith, tt)
+    said_few (Some (Printed x)) (Some note) (Some c) = (omega arith, tt)
 
     by_worn : (worn : Bool) (c : Commit) (a : Said) → IsTame (if worn then refuse (r.Worn m) else made a.reply c (tells a))
     by_worn true c a = quiet_tame (r.Worn m)
-    by_worn false c a = record { none = said_none a.released a.sent; few = said_few a.released a.sent (Some c) }
+    by_worn false c a = record { none = said_none a.given a.sent; few = said_few a.given a.sent (Some c) }
 
     by_act : (b : Act X Reply Said) → IsTame (done_plan n m (λ x. x) (λ a. a.reply) tells v.state b)
     by_act (Refuse x) = quiet_tame x
-    by_act (Tell a) = record { none = said_none a.released a.sent; few = said_few a.released a.sent None }
+    by_act (Tell a) = record { none = said_none a.given a.sent; few = said_few a.given a.sent None }
     by_act (Commits c x a) = by_worn (n.is_worn v.state x) c a
 
     by_on : (on : Bool) → IsTame (if on then done_plan n m (λ x. x) (λ a. a.reply) tells v.state act else refuse (r.OffNode m))

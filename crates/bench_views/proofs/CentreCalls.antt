@@ -2,7 +2,7 @@
 use Rattle.std.proofs.Common.{◌≡◌, ℕ, ℤ, ◌+◌, List, [], Option, Some, None, Bool, true, false, Result, Ok, Err, refl, sym, ◌∙◌, ap, subst, arith}
 use Rattle.std.specs.Prelude.{◌-◌, ◌&&◌, length, slice_get, nat_le, IfSome, if◌then◌else◌}
 use Rattle.bench_base.specs.declared.words.Verdict.{Verdict}
-use Rattle.bench_base.specs.declared.words.Node.TheVariants.{Centre, Verifier}
+use Rattle.bench_base.specs.declared.words.Node.TheVariants.{Centre}
 use Rattle.bench_base.specs.declared.refusals.CentreRefusal.{CentreRefusal}
 use Rattle.bench_base.specs.declared.refusals.Unread.{Unread}
 use Rattle.bench_base.specs.declared.ledger.Commit.{Commit}
@@ -28,6 +28,8 @@ use Rattle.psd_wire.specs.declared.message.Message.{Message}
 use Rattle.psd_wire.specs.declared.message.Message.TheVariants as m
 use Rattle.psd_wire.specs.Grammar.{read}
 use Rattle.psd_wire.specs.Codes.{has_code}
+use Rattle.ledger_lawful.specs.Further.{SentAreRead, IsAddressed}
+use Rattle.ledger_laws.proofs.Histories.{message-sent}
 use Rattle.ledger_moves.specs.Tariffs.{Tariff}
 use Rattle.ledger_moves.specs.Moves.{plan, at_node, centre_plan, deliver_to, deliver_plan}
 use Rattle.centre_ledger.specs.declared.rows.DeviceRow.{DeviceRow}
@@ -47,16 +49,16 @@ use Rattle.centre_ledger.specs.Seen.{counting, cell_of, books_in}
 use Rattle.centre_ledger.proofs.Payers.{found-device}
 use Rattle.node_acts.specs.declared.asked.Asked.{Asked}
 use Rattle.node_acts.specs.declared.asked.Asked.TheVariants.{On, Off, Cut, Call}
-use Rattle.bench_views.specs.declared.taken.DeviceCall.TheVariants as device
 use Rattle.bench_views.specs.declared.taken.CentreCall.{CentreCall}
 use Rattle.bench_views.specs.declared.taken.CentreCall.TheVariants as call
 use Rattle.bench_views.specs.declared.taken.Taken.TheVariants as take
 use Rattle.bench_views.specs.Taken as takes
 use Rattle.bench_views.specs.Taken.{taken}
+use Rattle.bench_views.specs.Tariff.{Quote}
 use Rattle.bench_views.specs.Centre.{seen_in, view_of, took, says, centre_act, centre_kind, place_in, IsKnown, AreBytes}
 use Rattle.bench_views.specs.Messages.{sent_in}
 use Rattle.bench_views.proofs.Calling.{plan_says, own_says, worn_says, at_seen, IsWornAlike}
-use Rattle.bench_views.proofs.Events.{each_of_centre}
+use Rattle.bench_views.proofs.Events.{each_of_centre, one_of_eight}
 use Rattle.bench_views.proofs.CentreCommits.{HasCell, seen_put, worn}
 use Rattle.bench_views.proofs.CentreRows.{small, large}
 use Rattle.bench_views.proofs.Sent.{sent_many, sent_at}
@@ -153,41 +155,45 @@ IsWholeCall (call.Take bytes k) = IsBytes bytes
 -- == what is said ==
 
 refused_quiet : (y : CentreRefusal) → IsQuiet (r.CentreRefused y)
-refused_quiet y = record { plain = tt; no_print = λ j e. cc }
+refused_quiet y = tt
 
 took_said : (k : ℕ) (a : CentreAnswer) → IsSaid (took k a)
-took_said k (answer.Ruled d n v note again) = record { did = refl; no_print = λ j e. cc }
-took_said k (answer.Settled d n again) = record { did = refl; no_print = λ j e. cc }
+took_said k (answer.Ruled d n v note again) = refl
+took_said k (answer.Settled d n again) = refl
 
 pub call_quiet : (c : CentreCall) (b : Books) → IsQuietAct (centre_act c b)
-call_quiet (call.Register d origin key) b = quiet_says r.CentreRefused _ refused_quiet (λ u. record { did = refl; no_print = λ j e. cc }) (acts.register_act d origin key b)
-call_quiet (call.Open w) b = quiet_says r.CentreRefused _ refused_quiet (λ u. record { did = refl; no_print = λ j e. cc }) (acts.open_act w b)
-call_quiet (call.Deposit w n a) b = quiet_says r.CentreRefused _ refused_quiet (λ done. record { did = refl; no_print = λ j e. cc }) (acts.deposit_act w n a b)
-call_quiet (call.Flag w flag) b = quiet_says r.CentreRefused _ refused_quiet (λ u. record { did = refl; no_print = λ j e. cc }) (acts.flag_act w flag b)
-call_quiet (call.Balance w) b = quiet_says r.CentreRefused _ refused_quiet (λ left. record { did = refl; no_print = λ j e. cc }) (acts.balance_act w b)
+call_quiet (call.Register d origin key) b = quiet_says r.CentreRefused _ refused_quiet (λ u. refl) (acts.register_act d origin key b)
+call_quiet (call.Open w) b = quiet_says r.CentreRefused _ refused_quiet (λ u. refl) (acts.open_act w b)
+call_quiet (call.Deposit w n a) b = quiet_says r.CentreRefused _ refused_quiet (λ done. refl) (acts.deposit_act w n a b)
+call_quiet (call.Flag w flag) b = quiet_says r.CentreRefused _ refused_quiet (λ u. refl) (acts.flag_act w flag b)
+call_quiet (call.Balance w) b = quiet_says r.CentreRefused _ refused_quiet (λ left. refl) (acts.balance_act w b)
 call_quiet (call.Take bytes k) b = quiet_says r.CentreRefused (took k) refused_quiet (took_said k) (acts.take_act bytes b)
 
 -- == what it is handed ==
 
--- a message for a device is none for the centre
-not_centre : {P : Type 0} (d : ℕ) (bytes : List ℕ) (k : ℕ) (asked : Asked CentreCall) → takes.for_device d bytes k ≡ take.Centre asked → P
-not_centre {P} d bytes k asked is = by (nat_le 1 d && nat_le d 8) is
-  where
-    by : (t : Bool) → (if t then takes.of_device d (device.Take bytes k) else take.Absent Verifier) ≡ take.Centre asked → P
-    by true same = cc
-    by false same = cc
+-- a message for a device that there can't be
+for_nobody : (bytes : List ℕ) (k : ℕ) (asked : Asked CentreCall) (d : ℕ) (t : Bool) → (if t then takes.to_device d bytes k else takes.to_centre bytes k) ≡ take.Centre asked → asked ≡ Call (call.Take bytes k)
+for_nobody bytes k asked d true is = cc
+for_nobody bytes k asked d false is = cc
 
 delivered_asked : (bytes : List ℕ) (k : ℕ) (asked : Asked CentreCall) (x : Result Message Unread) → takes.delivered_as bytes k x ≡ take.Centre asked → asked ≡ Call (call.Take bytes k)
 delivered_asked bytes k asked (Ok (m.Request q)) is = cc
 delivered_asked bytes k asked (Ok (m.Done q)) is = cc
 delivered_asked bytes k asked (Err x) is = cc
 delivered_asked bytes k asked (Ok (m.Release x)) is = cc
-delivered_asked bytes k asked (Ok (m.Reply p)) is = not_centre p.device bytes k asked is
-delivered_asked bytes k asked (Ok (m.Debit q)) is = not_centre q.device bytes k asked is
+delivered_asked bytes k asked (Ok (m.Reply p)) is = for_nobody bytes k asked p.device (nat_le 1 p.device && nat_le p.device 8) is
+delivered_asked bytes k asked (Ok (m.Debit q)) is = for_nobody bytes k asked q.device (nat_le 1 q.device && nat_le q.device 8) is
+
+-- a message that was sent names a device, and is none for the centre where it is for one
+not_centre : {P : Type 0} (d : ℕ) (bytes : List ℕ) (k : ℕ) (asked : Asked CentreCall) → IsDevice d → takes.for_device d bytes k ≡ take.Centre asked → P
+not_centre {P} d bytes k asked own is = by (subst (λ (t : Bool). (if t then takes.to_device d bytes k else takes.to_centre bytes k) ≡ take.Centre asked) (one_of_eight d own) is)
+  where
+    by : takes.to_device d bytes k ≡ take.Centre asked → P
+    by same = cc
 
 -- == at a ledger ==
 
-module _ (H : Ledger) (known : IsKnown (seen_in (counted H))) (are : AreBooksOf (books_in (seen_in (counted H))) (counted H)) (follow : ActsFollow) (planned : ActsArePlanned) where
+module _ (H : Ledger) (known : IsKnown (seen_in (counted H))) (are : AreBooksOf (books_in (seen_in (counted H))) (counted H)) (follow : ActsFollow) (planned : ActsArePlanned) (sent : SentAreRead H) where
   abbrev C : List Commit
   C = counted H
 
@@ -283,29 +289,31 @@ module _ (H : Ledger) (known : IsKnown (seen_in (counted H))) (are : AreBooksOf 
       (sym (plans.taken (length (sent_in H)) bytes) ∙ plan_says _ _ _ _ (took_reply (length (sent_in H))) (took_tells (length (sent_in H))) (acts.take_act bytes b))
 
   -- a message that is delivered to the centre
-  delivered : (today : ℤ) (bytes : List ℕ) (k : ℕ) (asked : Asked CentreCall) (x : Result Message Unread) → takes.delivered_as bytes k x ≡ take.Centre asked
-      → deliver_to todays_rules today bytes x H ≡ centre_plan bytes H
-  delivered today bytes k asked (Ok (m.Request q)) is = refl
-  delivered today bytes k asked (Ok (m.Done q)) is = refl
-  delivered today bytes k asked (Err x) is = refl
-  delivered today bytes k asked (Ok (m.Release x)) is = cc
-  delivered today bytes k asked (Ok (m.Reply p)) is = not_centre p.device bytes k asked is
-  delivered today bytes k asked (Ok (m.Debit q)) is = not_centre q.device bytes k asked is
+  delivered : (today : ℤ) (bytes : List ℕ) (k : ℕ) (asked : Asked CentreCall) (x : Message) → IsAddressed x → takes.delivered_as bytes k (Ok x) ≡ take.Centre asked
+      → deliver_to todays_rules today bytes (Ok x) H ≡ centre_plan bytes H
+  delivered today bytes k asked (m.Request q) own is = refl
+  delivered today bytes k asked (m.Done q) own is = refl
+  delivered today bytes k asked (m.Release x) own is = cc
+  delivered today bytes k asked (m.Reply p) own is = not_centre p.device bytes k asked own is
+  delivered today bytes k asked (m.Debit q) own is = not_centre q.device bytes k asked own is
 
   abbrev ByView : ℤ → Asked CentreCall → Plan
   ByView today asked = node_plan counting Centre (centre_kind.plan tt today (view_of H)) (view_of H) asked
 
-  delivered_plan : (today : ℤ) (k : ℕ) (asked : Asked CentreCall) (o : Option (List ℕ)) → takes.message_taken k (length (sent_in H)) o ≡ take.Centre asked → AreBytes asked
+  delivered_plan : (today : ℤ) (k : ℕ) (asked : Asked CentreCall) (o : Option (List ℕ)) → message k H ≡ o → takes.message_taken k (length (sent_in H)) o ≡ take.Centre asked → AreBytes asked
       → deliver_plan todays_rules today k o H ≡ ByView today asked
-  delivered_plan today k asked None at bytes_are = cc
-  delivered_plan today k asked (Some bytes) at bytes_are =
+  delivered_plan today k asked None there at bytes_are = cc
+  delivered_plan today k asked (Some bytes) there at bytes_are =
       let to = delivered_asked bytes (length (sent_in H)) asked (read bytes) at in
-      delivered today bytes (length (sent_in H)) asked (read bytes) at ∙ handed bytes (subst AreBytes to bytes_are) ∙ ap (ByView today) (sym to)
+      let x = sent bytes (message-sent k bytes H there) in
+      ap (λ (y : Result Message Unread). deliver_to todays_rules today bytes y H) x.1
+      ∙ delivered today bytes (length (sent_in H)) asked x.0 x.2 (subst (λ (y : Result Message Unread). takes.delivered_as bytes (length (sent_in H)) y ≡ take.Centre asked) x.1 at)
+      ∙ handed bytes (subst AreBytes to bytes_are) ∙ ap (ByView today) (sym to)
 
-  pub planned_call : (τ : Tariff) (today : ℤ) → day_in H ≡ Some today → commits_in (seen_in C) ≡ count_of Centre C → (e : Event) (asked : Asked CentreCall)
-      → taken (sent_in H) e ≡ Some (take.Centre asked) → IsWholeEvent e → AreBytes asked → plan τ todays_rules H e [] ≡ ByView today asked
+  pub planned_call : (τ : Tariff) (today : ℤ) (quote : Quote) → day_in H ≡ Some today → commits_in (seen_in C) ≡ count_of Centre C → (e : Event) (asked : Asked CentreCall)
+      → taken (sent_in H) quote e ≡ Some (take.Centre asked) → IsWholeEvent e → AreBytes asked → plan τ todays_rules H e [] ≡ ByView today asked
   unfolding plan
-  planned_call τ today day counts = each_of_centre (sent_in H) (λ e asked. IsWholeEvent e → AreBytes asked → plan τ todays_rules H e [] ≡ ByView today asked) (record {
+  planned_call τ today quote day counts = each_of_centre (sent_in H) quote (λ e asked. IsWholeEvent e → AreBytes asked → plan τ todays_rules H e [] ≡ ByView today asked) (record {
     on = λ whole bytes. rw (day, sym counts) refl;
     off = λ whole bytes. rw day refl;
     cut = λ calls keep byte whole bytes. rw day refl;
@@ -315,7 +323,7 @@ module _ (H : Ledger) (known : IsKnown (seen_in (counted H))) (are : AreBooksOf 
     flag = λ w flag whole bytes. rw day (at _ _ (acts.flag_act w flag b) (flag_good w flag whole) (sym (plans.flagged w flag) ∙ plan_says _ _ _ _ (λ u. refl) (λ u. refl) (acts.flag_act w flag b)));
     balance = λ w whole bytes. rw day (at _ _ (acts.balance_act w b) (balance_good w) (sym (plans.balanced w) ∙ plan_says _ _ _ _ (λ u. refl) (λ u. refl) (acts.balance_act w b)));
     give = λ bytes whole are_bytes. rw day (handed bytes are_bytes);
-    deliver = λ k asked is whole bytes. rw day (delivered_plan today k asked (message k H) (subst (λ (o : Option (List ℕ)). takes.message_taken k (length (sent_in H)) o ≡ take.Centre asked) (sent_at H k) is) bytes);
+    deliver = λ k asked is whole bytes. rw day (delivered_plan today k asked (message k H) refl (subst (λ (o : Option (List ℕ)). takes.message_taken k (length (sent_in H)) o ≡ take.Centre asked) (sent_at H k) is) bytes);
   })
 
 -- == the numbers of a call ==
@@ -333,8 +341,8 @@ delivered_whole k next asked (Some bytes) is bytes_are =
     subst IsWholeAsked (sym to) (subst AreBytes to bytes_are)
 
 -- they are those of its event, and of what it hands over
-pub whole_call : (H : Ledger) (e : Event) (c : CentreCall) → taken (sent_in H) e ≡ Some (take.Centre (Call c)) → IsWholeEvent e → AreBytes (Call c) → IsWholeCall c
-whole_call H e c of = each_of_centre (sent_in H) (λ i asked. IsWholeEvent i → AreBytes asked → IsWholeAsked asked) (record {
+pub whole_call : (H : Ledger) (quote : Quote) (e : Event) (c : CentreCall) → taken (sent_in H) quote e ≡ Some (take.Centre (Call c)) → IsWholeEvent e → AreBytes (Call c) → IsWholeCall c
+whole_call H quote e c of = each_of_centre (sent_in H) quote (λ i asked. IsWholeEvent i → AreBytes asked → IsWholeAsked asked) (record {
   on = λ whole bytes. tt;
   off = λ whole bytes. tt;
   cut = λ calls keep byte whole bytes. tt;

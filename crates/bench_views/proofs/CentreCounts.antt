@@ -15,7 +15,7 @@ use Rattle.centre_ledger.specs.Order.{InOrder}
 use Rattle.bench_views.specs.Centre.{place_in, cell_after, seen_in}
 use Rattle.bench_views.proofs.CentreCommits.{counted_at}
 
-same_sum : {A B : Type 0} (f : A → ℕ) (g : B → ℕ) (n : ℕ) (a : ℕ → A) (b : ℕ → B) → ((k : ℕ) → k < n → f (a k) ≡ g (b k)) → sum_by f (listed n a) ≡ sum_by g (listed n b)
+pub same_sum : {A B : Type 0} (f : A → ℕ) (g : B → ℕ) (n : ℕ) (a : ℕ → A) (b : ℕ → B) → ((k : ℕ) → k < n → f (a k) ≡ g (b k)) → sum_by f (listed n a) ≡ sum_by g (listed n b)
 unfolding listed
 same_sum f g zero a b same = refl
 same_sum f g (suc n) a b same =

@@ -37,11 +37,11 @@ row_stays d k (Applied e n v) C own = refl
 row_stays d k (Debited e p a t s v) C own = refl
 row_stays d k _ C own = cc
 
-same_cell : (k : ℕ) (C D : List Commit) → cells.commits_at (place_in k) D ≡ cells.commits_at (place_in k) C → row_in k D ≡ row_in k C → cell_after k D ≡ cell_after k C
+pub same_cell : (k : ℕ) (C D : List Commit) → cells.commits_at (place_in k) D ≡ cells.commits_at (place_in k) C → row_in k D ≡ row_in k C → cell_after k D ≡ cell_after k C
 same_cell k C D count row =
     ap (λ (n : ℕ). option_map (λ r. (n, r)) (row_in k D)) count ∙ ap (λ (o : Option Row). option_map (λ r. (cells.commits_at (place_in k) C, r)) o) row
 
-count_under : (k : ℕ) (x : Commit) (C D : List Commit) → cells.commits_at (place_in k) D ≡ cells.commits_at (place_in k) C → cells.commits_at (place_in k) (x ∷ D) ≡ cells.commits_at (place_in k) (x ∷ C)
+pub count_under : (k : ℕ) (x : Commit) (C D : List Commit) → cells.commits_at (place_in k) D ≡ cells.commits_at (place_in k) C → cells.commits_at (place_in k) (x ∷ D) ≡ cells.commits_at (place_in k) (x ∷ C)
 count_under k x C D same = ap (λ (n : ℕ). if same_place (place_of x) (place_in k) then n + 1 else n) same
 
 -- under an open commit of the centre

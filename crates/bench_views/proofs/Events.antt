@@ -1,20 +1,31 @@
--- The events that the bench takes, one after the other.
-use Rattle.std.proofs.Common.{◌≡◌, ℕ, ℤ, Bool, List, Some, None, false, length, refl, subst}
-use Rattle.std.specs.Prelude.{slice_get}
+-- The events of a bench, one after the other.
+use Rattle.std.proofs.Common.{◌≡◌, ℕ, ℤ, Bool, true, false, List, Option, Some, None, Result, Ok, Err, length, drop, refl, ap, subst, if◌then◌else◌, arith}
+use Rattle.std.specs.Prelude.{slice_get, ◌&&◌, nat_le}
+use Rattle.std.proofs.lemmas.Bool.Decides.{nat_tests}
+use Rattle.bench_base.specs.Ranges.{IsDevice}
 use Rattle.bench_base.specs.declared.words.Kind.{Kind}
-use Rattle.bench_base.specs.declared.words.Node.{Node}
 use Rattle.bench_base.specs.declared.words.Node.TheVariants.{Device, Centre, Host, Verifier}
+use Rattle.bench_base.specs.declared.refusals.Unread.{Unread}
 use Rattle.bench_base.specs.declared.events.Event.{Event}
 use Rattle.bench_base.specs.declared.events.Event.TheVariants as ev
 use Rattle.node_acts.specs.declared.asked.Asked.{Asked}
 use Rattle.node_acts.specs.declared.asked.Asked.TheVariants.{On, Off, Cut, Call}
+use Rattle.psd_wire.specs.declared.message.Message.{Message}
+use Rattle.psd_wire.specs.declared.message.Message.TheVariants as m
+use Rattle.psd_wire.specs.Grammar.{read}
 use Rattle.bench_views.specs.declared.taken.DeviceCall.{DeviceCall}
 use Rattle.bench_views.specs.declared.taken.DeviceCall.TheVariants as device
 use Rattle.bench_views.specs.declared.taken.CentreCall.{CentreCall}
 use Rattle.bench_views.specs.declared.taken.CentreCall.TheVariants as call
+use Rattle.bench_views.specs.declared.taken.HostCall.{HostCall}
+use Rattle.bench_views.specs.declared.taken.HostCall.TheVariants as host
+use Rattle.bench_views.specs.declared.taken.VerifierCall.{VerifierCall}
+use Rattle.bench_views.specs.declared.taken.VerifierCall.TheVariants as verifier
 use Rattle.bench_views.specs.declared.taken.Taken.{Taken}
 use Rattle.bench_views.specs.declared.taken.Taken.TheVariants as take
-use Rattle.bench_views.specs.Taken.{taken, message_taken, has_node}
+use Rattle.bench_views.specs.Tariff.{Quote}
+use Rattle.bench_views.specs.Taken as takes
+use Rattle.bench_views.specs.Taken.{taken, message_taken, scanned}
 
 pub some-same : {A : Type 0} {a b : A} → Some a ≡ Some b → a ≡ b
 some-same h = cc
@@ -22,9 +33,13 @@ some-same h = cc
 pub none-some : {A P : Type 0} {a : A} → None ≡ Some a → P
 none-some h = absurd (cc)
 
+-- the number of a device is from 1 to 8
+pub one_of_eight : (d : ℕ) → IsDevice d → (nat_le 1 d && nat_le d 8) ≡ true
+one_of_eight d is = grind (arith, nat_tests, is)
+
 -- == of one kind ==
 
-module _ (pool : List (List ℕ)) where
+module _ (pool : List (List ℕ)) (quote : Quote) where
   abbrev next : ℕ
   next = length pool
 
@@ -55,73 +70,126 @@ module _ (pool : List (List ℕ)) where
     pub give : (bytes : List ℕ) → P (ev.Give Centre bytes) (Call (call.Take bytes next))
     pub deliver : (k : ℕ) (asked : Asked CentreCall) → message_taken k next (slice_get pool k) ≡ take.Centre asked → P (ev.Deliver k) asked
 
+  -- of the host
+  pub record EachOfHost (P : Event → Asked HostCall → Type 0) : Type 0 where
+    pub on : P (ev.On Host) On
+    pub off : P (ev.Off Host) Off
+    pub cut : (calls keep byte : ℕ) → P (ev.Cut Host calls keep byte) (Cut calls keep byte)
+    pub order : (d piece class grams zone : ℕ) → P (ev.Order d piece class grams zone) (Call (host.Order d piece class grams zone (quote class grams zone)))
+    pub send : (j : ℕ) → P (ev.Send j) (Call (host.Send j next))
+    pub print : (j : ℕ) → P (ev.Print j) (Call (host.Print j))
+    pub close : (j : ℕ) → P (ev.Close j) (Call (host.Close j))
+    pub give : (bytes : List ℕ) → P (ev.Give Host bytes) (Call (host.Take bytes))
+    pub deliver : (k : ℕ) (asked : Asked HostCall) → message_taken k next (slice_get pool k) ≡ take.Host asked → P (ev.Deliver k) asked
+
+  -- of the verifier
+  pub record EachOfVerifier (P : Event → Asked VerifierCall → Type 0) : Type 0 where
+    pub on : P (ev.On Verifier) On
+    pub off : P (ev.Off Verifier) Off
+    pub cut : (calls keep byte : ℕ) → P (ev.Cut Verifier calls keep byte) (Cut calls keep byte)
+    pub trust : (d : ℕ) (key : List ℕ) → P (ev.Trust d key) (Call (verifier.Trust d key))
+    pub scan : (n : ℕ) (bytes : List ℕ) → P (ev.ScanHex n bytes) (Call (verifier.Scan n bytes))
+    pub message : (n k : ℕ) (bytes : List ℕ) → slice_get pool k ≡ Some bytes → P (ev.ScanMsg n k) (Call (verifier.Scan n (drop 2 bytes)))
+
   -- and of each event of no node
   pub record EachQuiet (P : Event → Taken → Type 0) : Type 0 where
     pub day : (t : ℤ) → P (ev.Day t) (take.Day t)
     pub end : P ev.End take.End
+    pub rates : P ev.Rates take.Rates
     pub reconcile : (d : ℕ) → P (ev.Reconcile d) (take.Reconcile d)
-    pub on : (m : Node) → has_node m ≡ false → P (ev.On m) (take.Absent m)
-    pub off : (m : Node) → has_node m ≡ false → P (ev.Off m) (take.Absent m)
-    pub cut : (m : Node) (calls keep byte : ℕ) → has_node m ≡ false → P (ev.Cut m calls keep byte) (take.Absent m)
-    pub give : (m : Node) (bytes : List ℕ) → has_node m ≡ false → P (ev.Give m bytes) (take.Absent m)
-    pub deliver : (k : ℕ) (x : Taken) → message_taken k next (slice_get pool k) ≡ x → P (ev.Deliver k) x
+    pub deliver : (k : ℕ) → slice_get pool k ≡ None → P (ev.Deliver k) (take.NoMessage k)
+    pub scan : (n k : ℕ) → slice_get pool k ≡ None → P (ev.ScanMsg n k) (take.NoMessage k)
+
+  -- P of each event, by whom it is for
+  pub record Each (R : Event → Taken → Type 0) (D : Event → ℕ → Asked DeviceCall → Type 0) (C : Event → Asked CentreCall → Type 0) (H : Event → Asked HostCall → Type 0) (V : Event → Asked VerifierCall → Type 0) : Type 0 where
+    pub quiet : EachQuiet R
+    pub devices : EachAsked D
+    pub centre : EachOfCentre C
+    pub host : EachOfHost H
+    pub verifier : EachOfVerifier V
 
   -- what is taken, by whom it is for
-  abbrev ByNode : (Event → Taken → Type 0) → (Event → ℕ → Asked DeviceCall → Type 0) → (Event → Asked CentreCall → Type 0) → Event → Taken → Type 0
-  ByNode R P Q e (take.Day t) = R e (take.Day t)
-  ByNode R P Q e take.End = R e take.End
-  ByNode R P Q e (take.NoMessage k) = R e (take.NoMessage k)
-  ByNode R P Q e (take.Absent m) = R e (take.Absent m)
-  ByNode R P Q e (take.Reconcile d) = R e (take.Reconcile d)
-  ByNode R P Q e (take.Device d asked) = P e d asked
-  ByNode R P Q e (take.Centre asked) = Q e asked
+  abbrev ByNode : (Event → Taken → Type 0) → (Event → ℕ → Asked DeviceCall → Type 0) → (Event → Asked CentreCall → Type 0) → (Event → Asked HostCall → Type 0) → (Event → Asked VerifierCall → Type 0) → Event → Taken → Type 0
+  ByNode R D C H V e (take.Day t) = R e (take.Day t)
+  ByNode R D C H V e take.End = R e take.End
+  ByNode R D C H V e take.Rates = R e take.Rates
+  ByNode R D C H V e (take.NoMessage k) = R e (take.NoMessage k)
+  ByNode R D C H V e (take.Reconcile d) = R e (take.Reconcile d)
+  ByNode R D C H V e (take.Device d asked) = D e d asked
+  ByNode R D C H V e (take.Centre asked) = C e asked
+  ByNode R D C H V e (take.Host asked) = H e asked
+  ByNode R D C H V e (take.Verifier asked) = V e asked
 
-  module _ (R : Event → Taken → Type 0) (P : Event → ℕ → Asked DeviceCall → Type 0) (Q : Event → Asked CentreCall → Type 0) (quiet : EachQuiet R) (devices : EachAsked P) (centre : EachOfCentre Q) where
-    delivered_each : (k : ℕ) (x : Taken) → message_taken k next (slice_get pool k) ≡ x → ByNode R P Q (ev.Deliver k) x
-    delivered_each k (take.Device d asked) is = devices.deliver k d asked is
-    delivered_each k (take.Centre asked) is = centre.deliver k asked is
-    delivered_each k (take.Day t) is = quiet.deliver k (take.Day t) is
-    delivered_each k take.End is = quiet.deliver k take.End is
-    delivered_each k (take.NoMessage j) is = quiet.deliver k (take.NoMessage j) is
-    delivered_each k (take.Absent m) is = quiet.deliver k (take.Absent m) is
-    delivered_each k (take.Reconcile d) is = quiet.deliver k (take.Reconcile d) is
+  module _ (R : Event → Taken → Type 0) (D : Event → ℕ → Asked DeviceCall → Type 0) (C : Event → Asked CentreCall → Type 0) (H : Event → Asked HostCall → Type 0) (V : Event → Asked VerifierCall → Type 0)
+      (each : Each R D C H V) where
+    -- what is delivered is for a node, where the message is there
+    module _ (k : ℕ) (bytes : List ℕ) where
+      abbrev Holds : Taken → Type 0
+      Holds x = message_taken k next (slice_get pool k) ≡ x → ByNode R D C H V (ev.Deliver k) x
 
-    found : (e : Event) (x y : Taken) → Some y ≡ Some x → ByNode R P Q e y → ByNode R P Q e x
-    found e x y is holds = subst (ByNode R P Q e) (some-same is) holds
+      for_device : (d : ℕ) (t : Bool) → Holds (if t then takes.to_device d bytes next else takes.to_centre bytes next)
+      for_device d true is = each.devices.deliver k d (Call (device.Take bytes next)) is
+      for_device d false is = each.centre.deliver k (Call (call.Take bytes next)) is
 
-    pub each_taken : (e : Event) (x : Taken) → taken pool e ≡ Some x → ByNode R P Q e x
-    each_taken (ev.Day t) x h = found (ev.Day t) x (take.Day t) h (quiet.day t)
-    each_taken ev.End x h = found ev.End x take.End h quiet.end
-    each_taken (ev.On (Device d)) x h = found (ev.On (Device d)) x (take.Device d On) h (devices.on d)
-    each_taken (ev.On Centre) x h = found (ev.On Centre) x (take.Centre On) h centre.on
-    each_taken (ev.On Host) x h = found (ev.On Host) x (take.Absent Host) h (quiet.on Host refl)
-    each_taken (ev.On Verifier) x h = found (ev.On Verifier) x (take.Absent Verifier) h (quiet.on Verifier refl)
-    each_taken (ev.Off (Device d)) x h = found (ev.Off (Device d)) x (take.Device d Off) h (devices.off d)
-    each_taken (ev.Off Centre) x h = found (ev.Off Centre) x (take.Centre Off) h centre.off
-    each_taken (ev.Off Host) x h = found (ev.Off Host) x (take.Absent Host) h (quiet.off Host refl)
-    each_taken (ev.Off Verifier) x h = found (ev.Off Verifier) x (take.Absent Verifier) h (quiet.off Verifier refl)
-    each_taken (ev.Cut (Device d) calls keep byte) x h = found (ev.Cut (Device d) calls keep byte) x (take.Device d (Cut calls keep byte)) h (devices.cut d calls keep byte)
-    each_taken (ev.Cut Centre calls keep byte) x h = found (ev.Cut Centre calls keep byte) x (take.Centre (Cut calls keep byte)) h (centre.cut calls keep byte)
-    each_taken (ev.Cut Host calls keep byte) x h = found (ev.Cut Host calls keep byte) x (take.Absent Host) h (quiet.cut Host calls keep byte refl)
-    each_taken (ev.Cut Verifier calls keep byte) x h = found (ev.Cut Verifier calls keep byte) x (take.Absent Verifier) h (quiet.cut Verifier calls keep byte refl)
-    each_taken (ev.Make d key) x h = found (ev.Make d key) x (take.Device d (Call (device.Make key))) h (devices.make d key)
-    each_taken (ev.Debit d piece postage class) x h = found (ev.Debit d piece postage class) x (take.Device d (Call (device.Debit piece postage class))) h (devices.debit d piece postage class)
-    each_taken (ev.Ask d kind who amount) x h = found (ev.Ask d kind who amount) x (take.Device d (Call (device.Ask kind who amount next))) h (devices.ask d kind who amount)
-    each_taken (ev.Resend d) x h = found (ev.Resend d) x (take.Device d (Call (device.Resend next))) h (devices.resend d)
-    each_taken (ev.Ack d) x h = found (ev.Ack d) x (take.Device d (Call (device.Ack next))) h (devices.ack d)
-    each_taken (ev.Status d) x h = found (ev.Status d) x (take.Device d (Call device.Status)) h (devices.status d)
-    each_taken (ev.Register d origin key) x h = found (ev.Register d origin key) x (take.Centre (Call (call.Register d origin key))) h (centre.register d origin key)
-    each_taken (ev.OpenCustomer w) x h = found (ev.OpenCustomer w) x (take.Centre (Call (call.Open w))) h (centre.opens w)
-    each_taken (ev.Deposit w receipt amount) x h = found (ev.Deposit w receipt amount) x (take.Centre (Call (call.Deposit w receipt amount))) h (centre.deposit w receipt amount)
-    each_taken (ev.Flag w suspended) x h = found (ev.Flag w suspended) x (take.Centre (Call (call.Flag w suspended))) h (centre.flag w suspended)
-    each_taken (ev.Balance w) x h = found (ev.Balance w) x (take.Centre (Call (call.Balance w))) h (centre.balance w)
-    each_taken (ev.Deliver k) x h = delivered_each k x (some-same h)
-    each_taken (ev.Give (Device d) bytes) x h = found (ev.Give (Device d) bytes) x (take.Device d (Call (device.Take bytes next))) h (devices.give d bytes)
-    each_taken (ev.Give Centre bytes) x h = found (ev.Give Centre bytes) x (take.Centre (Call (call.Take bytes next))) h (centre.give bytes)
-    each_taken (ev.Give Host bytes) x h = found (ev.Give Host bytes) x (take.Absent Host) h (quiet.give Host bytes refl)
-    each_taken (ev.Give Verifier bytes) x h = found (ev.Give Verifier bytes) x (take.Absent Verifier) h (quiet.give Verifier bytes refl)
-    each_taken (ev.Reconcile d) x h = found (ev.Reconcile d) x (take.Reconcile d) h (quiet.reconcile d)
-    each_taken _ x h = none-some h
+      delivered_as : (x : Result Message Unread) → Holds (takes.delivered_as bytes next x)
+      delivered_as (Ok (m.Reply p)) is = for_device p.device (nat_le 1 p.device && nat_le p.device 8) is
+      delivered_as (Ok (m.Debit q)) is = for_device q.device (nat_le 1 q.device && nat_le q.device 8) is
+      delivered_as (Ok (m.Release x)) is = each.host.deliver k (Call (host.Take bytes)) is
+      delivered_as (Ok (m.Request q)) is = each.centre.deliver k (Call (call.Take bytes next)) is
+      delivered_as (Ok (m.Done q)) is = each.centre.deliver k (Call (call.Take bytes next)) is
+      delivered_as (Err x) is = each.centre.deliver k (Call (call.Take bytes next)) is
+
+    delivered_each : (k : ℕ) (o : Option (List ℕ)) → slice_get pool k ≡ o → ByNode R D C H V (ev.Deliver k) (message_taken k next o)
+    delivered_each k None is = each.quiet.deliver k is
+    delivered_each k (Some bytes) is = delivered_as k bytes (read bytes) (ap (message_taken k next) is)
+
+    scanned_each : (n k : ℕ) (o : Option (List ℕ)) → slice_get pool k ≡ o → ByNode R D C H V (ev.ScanMsg n k) (scanned n k o)
+    scanned_each n k None is = each.quiet.scan n k is
+    scanned_each n k (Some bytes) is = each.verifier.message n k bytes is
+
+    found : (e : Event) (x y : Taken) → Some y ≡ Some x → ByNode R D C H V e y → ByNode R D C H V e x
+    found e x y is holds = subst (ByNode R D C H V e) (some-same is) holds
+
+    pub each_taken : (e : Event) (x : Taken) → taken pool quote e ≡ Some x → ByNode R D C H V e x
+    each_taken (ev.Day t) x h = found (ev.Day t) x (take.Day t) h (each.quiet.day t)
+    each_taken ev.End x h = found ev.End x take.End h each.quiet.end
+    each_taken ev.Rates x h = found ev.Rates x take.Rates h each.quiet.rates
+    each_taken (ev.On (Device d)) x h = found (ev.On (Device d)) x (take.Device d On) h (each.devices.on d)
+    each_taken (ev.On Centre) x h = found (ev.On Centre) x (take.Centre On) h each.centre.on
+    each_taken (ev.On Host) x h = found (ev.On Host) x (take.Host On) h each.host.on
+    each_taken (ev.On Verifier) x h = found (ev.On Verifier) x (take.Verifier On) h each.verifier.on
+    each_taken (ev.Off (Device d)) x h = found (ev.Off (Device d)) x (take.Device d Off) h (each.devices.off d)
+    each_taken (ev.Off Centre) x h = found (ev.Off Centre) x (take.Centre Off) h each.centre.off
+    each_taken (ev.Off Host) x h = found (ev.Off Host) x (take.Host Off) h each.host.off
+    each_taken (ev.Off Verifier) x h = found (ev.Off Verifier) x (take.Verifier Off) h each.verifier.off
+    each_taken (ev.Cut (Device d) calls keep byte) x h = found (ev.Cut (Device d) calls keep byte) x (take.Device d (Cut calls keep byte)) h (each.devices.cut d calls keep byte)
+    each_taken (ev.Cut Centre calls keep byte) x h = found (ev.Cut Centre calls keep byte) x (take.Centre (Cut calls keep byte)) h (each.centre.cut calls keep byte)
+    each_taken (ev.Cut Host calls keep byte) x h = found (ev.Cut Host calls keep byte) x (take.Host (Cut calls keep byte)) h (each.host.cut calls keep byte)
+    each_taken (ev.Cut Verifier calls keep byte) x h = found (ev.Cut Verifier calls keep byte) x (take.Verifier (Cut calls keep byte)) h (each.verifier.cut calls keep byte)
+    each_taken (ev.Make d key) x h = found (ev.Make d key) x (take.Device d (Call (device.Make key))) h (each.devices.make d key)
+    each_taken (ev.Debit d piece postage class) x h = found (ev.Debit d piece postage class) x (take.Device d (Call (device.Debit piece postage class))) h (each.devices.debit d piece postage class)
+    each_taken (ev.Ask d kind who amount) x h = found (ev.Ask d kind who amount) x (take.Device d (Call (device.Ask kind who amount next))) h (each.devices.ask d kind who amount)
+    each_taken (ev.Resend d) x h = found (ev.Resend d) x (take.Device d (Call (device.Resend next))) h (each.devices.resend d)
+    each_taken (ev.Ack d) x h = found (ev.Ack d) x (take.Device d (Call (device.Ack next))) h (each.devices.ack d)
+    each_taken (ev.Status d) x h = found (ev.Status d) x (take.Device d (Call device.Status)) h (each.devices.status d)
+    each_taken (ev.Register d origin key) x h = found (ev.Register d origin key) x (take.Centre (Call (call.Register d origin key))) h (each.centre.register d origin key)
+    each_taken (ev.OpenCustomer w) x h = found (ev.OpenCustomer w) x (take.Centre (Call (call.Open w))) h (each.centre.opens w)
+    each_taken (ev.Deposit w receipt amount) x h = found (ev.Deposit w receipt amount) x (take.Centre (Call (call.Deposit w receipt amount))) h (each.centre.deposit w receipt amount)
+    each_taken (ev.Flag w suspended) x h = found (ev.Flag w suspended) x (take.Centre (Call (call.Flag w suspended))) h (each.centre.flag w suspended)
+    each_taken (ev.Balance w) x h = found (ev.Balance w) x (take.Centre (Call (call.Balance w))) h (each.centre.balance w)
+    each_taken (ev.Deliver k) x h = subst (ByNode R D C H V (ev.Deliver k)) (some-same h) (delivered_each k (slice_get pool k) refl)
+    each_taken (ev.Give (Device d) bytes) x h = found (ev.Give (Device d) bytes) x (take.Device d (Call (device.Take bytes next))) h (each.devices.give d bytes)
+    each_taken (ev.Give Centre bytes) x h = found (ev.Give Centre bytes) x (take.Centre (Call (call.Take bytes next))) h (each.centre.give bytes)
+    each_taken (ev.Give Host bytes) x h = found (ev.Give Host bytes) x (take.Host (Call (host.Take bytes))) h (each.host.give bytes)
+    each_taken (ev.Give Verifier bytes) x h = none-some h
+    each_taken (ev.Order d piece class grams zone) x h = found (ev.Order d piece class grams zone) x (take.Host (Call (host.Order d piece class grams zone (quote class grams zone)))) h (each.host.order d piece class grams zone)
+    each_taken (ev.Send j) x h = found (ev.Send j) x (take.Host (Call (host.Send j next))) h (each.host.send j)
+    each_taken (ev.Print j) x h = found (ev.Print j) x (take.Host (Call (host.Print j))) h (each.host.print j)
+    each_taken (ev.Close j) x h = found (ev.Close j) x (take.Host (Call (host.Close j))) h (each.host.close j)
+    each_taken (ev.Trust d key) x h = found (ev.Trust d key) x (take.Verifier (Call (verifier.Trust d key))) h (each.verifier.trust d key)
+    each_taken (ev.ScanMsg n k) x h = subst (ByNode R D C H V (ev.ScanMsg n k)) (some-same h) (scanned_each n k (slice_get pool k) refl)
+    each_taken (ev.ScanHex n bytes) x h = found (ev.ScanHex n bytes) x (take.Verifier (Call (verifier.Scan n bytes))) h (each.verifier.scan n bytes)
+    each_taken (ev.Reconcile d) x h = found (ev.Reconcile d) x (take.Reconcile d) h (each.quiet.reconcile d)
 
   -- == of one kind alone ==
 
@@ -129,12 +197,10 @@ module _ (pool : List (List ℕ)) where
   no_quiet = record {
     day = λ t. tt;
     end = tt;
+    rates = tt;
     reconcile = λ d. tt;
-    on = λ m no. tt;
-    off = λ m no. tt;
-    cut = λ m calls keep byte no. tt;
-    give = λ m bytes no. tt;
-    deliver = λ k x is. tt;
+    deliver = λ k is. tt;
+    scan = λ n k is. tt;
   }
 
   no_device : EachAsked (λ e d asked. Unit {0})
@@ -166,22 +232,68 @@ module _ (pool : List (List ℕ)) where
     deliver = λ k asked is. tt;
   }
 
-  pub each_asked : (P : Event → ℕ → Asked DeviceCall → Type 0) → EachAsked P → (e : Event) (d : ℕ) (asked : Asked DeviceCall) → taken pool e ≡ Some (take.Device d asked) → P e d asked
-  each_asked P each e d asked h = each_taken (λ i x. Unit {0}) P (λ i a. Unit {0}) no_quiet each no_centre e (take.Device d asked) h
+  no_host : EachOfHost (λ e asked. Unit {0})
+  no_host = record {
+    on = tt;
+    off = tt;
+    cut = λ calls keep byte. tt;
+    order = λ d piece class grams zone. tt;
+    send = λ j. tt;
+    print = λ j. tt;
+    close = λ j. tt;
+    give = λ bytes. tt;
+    deliver = λ k asked is. tt;
+  }
 
-  pub each_of_centre : (Q : Event → Asked CentreCall → Type 0) → EachOfCentre Q → (e : Event) (asked : Asked CentreCall) → taken pool e ≡ Some (take.Centre asked) → Q e asked
-  each_of_centre Q each e asked h = each_taken (λ i x. Unit {0}) (λ i d a. Unit {0}) Q no_quiet no_device each e (take.Centre asked) h
+  no_verifier : EachOfVerifier (λ e asked. Unit {0})
+  no_verifier = record {
+    on = tt;
+    off = tt;
+    cut = λ calls keep byte. tt;
+    trust = λ d key. tt;
+    scan = λ n bytes. tt;
+    message = λ n k bytes is. tt;
+  }
 
-  -- of the events of no node, where P says nothing of those of a node
-  pub each_quiet : (P : Event → Taken → Type 0) → EachQuiet P → (e : Event) (x : Taken) → taken pool e ≡ Some x → ((d : ℕ) (asked : Asked DeviceCall) → P e (take.Device d asked))
-      → ((asked : Asked CentreCall) → P e (take.Centre asked)) → P e x
-  each_quiet P each e x h device centre = by x (each_taken P (λ i d a. Unit {0}) (λ i a. Unit {0}) each no_device no_centre e x h)
+  pub each_asked : (P : Event → ℕ → Asked DeviceCall → Type 0) → EachAsked P → (e : Event) (d : ℕ) (asked : Asked DeviceCall) → taken pool quote e ≡ Some (take.Device d asked) → P e d asked
+  each_asked P each e d asked h = each_taken (λ i x. Unit {0}) P (λ i a. Unit {0}) (λ i a. Unit {0}) (λ i a. Unit {0})
+      (record { quiet = no_quiet; devices = each; centre = no_centre; host = no_host; verifier = no_verifier }) e (take.Device d asked) h
+
+  pub each_of_centre : (P : Event → Asked CentreCall → Type 0) → EachOfCentre P → (e : Event) (asked : Asked CentreCall) → taken pool quote e ≡ Some (take.Centre asked) → P e asked
+  each_of_centre P each e asked h = each_taken (λ i x. Unit {0}) (λ i d a. Unit {0}) P (λ i a. Unit {0}) (λ i a. Unit {0})
+      (record { quiet = no_quiet; devices = no_device; centre = each; host = no_host; verifier = no_verifier }) e (take.Centre asked) h
+
+  pub each_of_host : (P : Event → Asked HostCall → Type 0) → EachOfHost P → (e : Event) (asked : Asked HostCall) → taken pool quote e ≡ Some (take.Host asked) → P e asked
+  each_of_host P each e asked h = each_taken (λ i x. Unit {0}) (λ i d a. Unit {0}) (λ i a. Unit {0}) P (λ i a. Unit {0})
+      (record { quiet = no_quiet; devices = no_device; centre = no_centre; host = each; verifier = no_verifier }) e (take.Host asked) h
+
+  pub each_of_verifier : (P : Event → Asked VerifierCall → Type 0) → EachOfVerifier P → (e : Event) (asked : Asked VerifierCall) → taken pool quote e ≡ Some (take.Verifier asked) → P e asked
+  each_of_verifier P each e asked h = each_taken (λ i x. Unit {0}) (λ i d a. Unit {0}) (λ i a. Unit {0}) (λ i a. Unit {0}) P
+      (record { quiet = no_quiet; devices = no_device; centre = no_centre; host = no_host; verifier = each }) e (take.Verifier asked) h
+
+  -- it is for no node
+  abbrev pub IsOfNone : Taken → Type 0
+  IsOfNone (take.Day t) = Unit {0}
+  IsOfNone take.End = Unit {0}
+  IsOfNone take.Rates = Unit {0}
+  IsOfNone (take.NoMessage k) = Unit {0}
+  IsOfNone (take.Reconcile d) = Unit {0}
+  IsOfNone (take.Device d asked) = ⊥
+  IsOfNone (take.Centre asked) = ⊥
+  IsOfNone (take.Host asked) = ⊥
+  IsOfNone (take.Verifier asked) = ⊥
+
+  pub each_quiet : (P : Event → Taken → Type 0) → EachQuiet P → (e : Event) (x : Taken) → taken pool quote e ≡ Some x → IsOfNone x → P e x
+  each_quiet P each e x h = by x (each_taken P (λ i d a. Unit {0}) (λ i a. Unit {0}) (λ i a. Unit {0}) (λ i a. Unit {0})
+      (record { quiet = each; devices = no_device; centre = no_centre; host = no_host; verifier = no_verifier }) e x h)
     where
-      by : (y : Taken) → ByNode P (λ i d a. Unit {0}) (λ i a. Unit {0}) e y → P e y
-      by (take.Day t) p = p
-      by take.End p = p
-      by (take.NoMessage k) p = p
-      by (take.Absent m) p = p
-      by (take.Reconcile d) p = p
-      by (take.Device d asked) p = device d asked
-      by (take.Centre asked) p = centre asked
+      by : (y : Taken) → ByNode P (λ i d a. Unit {0}) (λ i a. Unit {0}) (λ i a. Unit {0}) (λ i a. Unit {0}) e y → IsOfNone y → P e y
+      by (take.Day t) p of = p
+      by take.End p of = p
+      by take.Rates p of = p
+      by (take.NoMessage k) p of = p
+      by (take.Reconcile d) p of = p
+      by (take.Device d asked) p of = absurd of
+      by (take.Centre asked) p of = absurd of
+      by (take.Host asked) p of = absurd of
+      by (take.Verifier asked) p of = absurd of

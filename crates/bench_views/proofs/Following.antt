@@ -27,10 +27,16 @@ use Rattle.bench_views.proofs.Sent.{sent_after}
 use Rattle.bench_views.proofs.Steps.{Step}
 use Rattle.bench_views.proofs.Views.{Apart, here, others, rests}
 
-module _ {N S X C D E : Type 0} (n : Counting S X) (kind : Kind N S C) (m : Node) (d : N) (kinds : Kinds D E) (τ : Tariff) (H : Ledger) (e : Event) (today : ℤ) (asked : Asked C)
+-- a commit of node m, in order, leaves what is seen of each other node as it is
+pub record AllApart {D E F G : Type 0} (kinds : Kinds D E F G) (m : Node) : Type 0 where
+  pub devices : (i : ℕ) → Device i ≢ m → Apart m (Device i) (kinds.devices.seen i)
+  pub centre : Centre ≢ m → Apart m Centre (kinds.centre.seen tt)
+  pub host : Host ≢ m → Apart m Host (kinds.host.seen tt)
+  pub verifier : Verifier ≢ m → Apart m Verifier (kinds.verifier.seen tt)
+
+module _ {N S X C D E F G : Type 0} (n : Counting S X) (kind : Kind N S C) (m : Node) (d : N) (kinds : Kinds D E F G) (τ : Tariff) (H : Ledger) (e : Event) (today : ℤ) (asked : Asked C)
     (opens : (k : Node) (c : Commit) → torn_of k H ≡ Some c → IsOpen k c H) (nexts : (c : Commit) → (plan τ todays_rules H e []).commit ≡ Some c → IsNext c H)
-    (counts : n.count (kind.seen d (counted H)) ≡ count_of m (counted H)) (host : Host ≢ m) (verifier : Verifier ≢ m)
-    (devices : (i : ℕ) → Device i ≢ m → Apart m (Device i) (kinds.devices.seen i)) (centre : Centre ≢ m → Apart m Centre (kinds.centre.seen tt)) where
+    (counts : n.count (kind.seen d (counted H)) ≡ count_of m (counted H)) (apart : AllApart kinds m) where
   abbrev p : Plan
   p = plan_by n kind m d today asked H
 
@@ -50,10 +56,12 @@ module _ {N S X C D E : Type 0} (n : Counting S X) (kind : Kind N S C) (m : Node
           moves = moves n m (kind.seen d) τ H e p planned whole reply may;
           here = here H opens n m (kind.seen d) counts reply made _ step;
           others = record {
-            devices = λ i differs. others H opens n m (kind.seen d) (Device i) differs (kinds.devices.seen i) (devices i differs) reply made _ next step;
-            centre = λ differs. others H opens n m (kind.seen d) Centre differs (kinds.centre.seen tt) (centre differs) reply made _ next step;
+            devices = λ i differs. others H opens n m (kind.seen d) (Device i) differs (kinds.devices.seen i) (apart.devices i differs) reply made _ next step;
+            centre = λ differs. others H opens n m (kind.seen d) Centre differs (kinds.centre.seen tt) (apart.centre differs) reply made _ next step;
+            host = λ differs. others H opens n m (kind.seen d) Host differs (kinds.host.seen tt) (apart.host differs) reply made _ next step;
+            verifier = λ differs. others H opens n m (kind.seen d) Verifier differs (kinds.verifier.seen tt) (apart.verifier differs) reply made _ next step;
           };
-          rests = rests H opens n m (kind.seen d) host verifier reply made _ step;
+          rests = rests H opens n m (kind.seen d) reply made _ step;
           sent = subst (λ (q : Plan). sent_in (after q reply H) ≡ sent_in H ++ sent_in (after q reply [])) (sym planned) (sent_after p (told_by reply) H tame.none);
           few = subst (λ (q : Plan). IsFew (after q reply [])) (sym planned) (few_after p (told_by reply) tame);
         };

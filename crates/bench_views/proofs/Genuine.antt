@@ -1,7 +1,7 @@
 -- A Reply that a device is handed, with its code, is the one of its ruling: it was sent, since nothing is forged.
 use Rattle.std.proofs.Common.{◌≡◌, ℕ, List, Option, Some, None, true, Bool, false, Result, Ok, Err, refl, subst}
 use Rattle.std.specs.Prelude.{length, nat_le, ◌&&◌, if◌then◌else◌}
-use Rattle.bench_base.specs.declared.words.Node.TheVariants.{Device, Verifier}
+use Rattle.bench_base.specs.declared.words.Node.TheVariants.{Device}
 use Rattle.bench_base.specs.declared.refusals.Unread.{Unread}
 use Rattle.bench_base.specs.declared.events.Event.{Event}
 use Rattle.bench_base.specs.Ledger.{Ledger, IsSent, counted, message}
@@ -22,6 +22,7 @@ use Rattle.bench_views.specs.declared.taken.DeviceCall.TheVariants.{Make, Debit,
 use Rattle.bench_views.specs.declared.taken.Taken.TheVariants as take
 use Rattle.bench_views.specs.Taken as takes
 use Rattle.bench_views.specs.Taken.{taken}
+use Rattle.bench_views.specs.Tariff.{Quote}
 use Rattle.bench_views.specs.Messages.{sent_in}
 use Rattle.bench_views.proofs.Events.{each_asked}
 use Rattle.bench_views.proofs.Sent.{sent_at}
@@ -60,7 +61,7 @@ module _ (H : Ledger) (replied : RepliesAreRuled H) where
   for_device : (e d : ℕ) (bytes : List ℕ) (k : ℕ) (asked : Asked DeviceCall) → IsSent bytes H → takes.for_device e bytes k ≡ take.Device d asked → OfAsked H d asked
   for_device e d bytes k asked sent is = by (nat_le 1 e && nat_le e 8) is
     where
-      by : (t : Bool) → (if t then takes.of_device e (Take bytes k) else take.Absent Verifier) ≡ take.Device d asked → OfAsked H d asked
+      by : (t : Bool) → (if t then takes.to_device e bytes k else takes.to_centre bytes k) ≡ take.Device d asked → OfAsked H d asked
       by true same = let to : Call (Take bytes k) ≡ asked = cc in subst (OfAsked H d) to (was_sent d bytes sent)
       by false same = cc
 
@@ -76,8 +77,8 @@ module _ (H : Ledger) (replied : RepliesAreRuled H) where
   message_asked k d next asked None at is = cc
   message_asked k d next asked (Some bytes) at is = delivered d next bytes asked (read bytes) (message-sent k bytes H at) is
 
-  pub genuine : (e : Event) (d : ℕ) (asked : Asked DeviceCall) → taken (sent_in H) e ≡ Some (take.Device d asked) → Unforged e H → OfAsked H d asked
-  genuine = each_asked (sent_in H) (λ e d asked. Unforged e H → OfAsked H d asked) (record {
+  pub genuine : (quote : Quote) (e : Event) (d : ℕ) (asked : Asked DeviceCall) → taken (sent_in H) quote e ≡ Some (take.Device d asked) → Unforged e H → OfAsked H d asked
+  genuine quote = each_asked (sent_in H) quote (λ e d asked. Unforged e H → OfAsked H d asked) (record {
     on = λ d known. tt;
     off = λ d known. tt;
     cut = λ d calls keep byte known. tt;

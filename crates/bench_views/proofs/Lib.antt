@@ -12,9 +12,16 @@ mod Following
 mod Frames
 mod Genuine
 mod Histories
+pub mod HostCalls
+mod HostCommits
+mod HostFrames
+mod HostStays
 mod Origins
 pub mod Plans
 mod Quiet
 pub mod Steps
 pub mod Sent
+mod VerifierCalls
+mod VerifierFrames
+mod VerifierStays
 pub mod Views

@@ -2,7 +2,7 @@
 use Rattle.std.proofs.Common.{◌≡◌, ◌≢◌, ℕ, ℤ, ◌∷◌, true≢false, arith, List, [], Option, Some, None, Result, Ok, Err, Bool, true, false, refl, sym, ◌∙◌, ap, subst, if◌then◌else◌}
 use Rattle.std.specs.Prelude.{length, ◌+◌, ◌&&◌, not, nat_le, ◌==◌, IfSome}
 use Rattle.bench_base.specs.declared.words.Kind.{Kind}
-use Rattle.bench_base.specs.declared.words.Node.TheVariants.{Device, Verifier}
+use Rattle.bench_base.specs.declared.words.Node.TheVariants.{Device}
 use Rattle.bench_base.specs.declared.refusals.DevRefusal.{DevRefusal}
 use Rattle.bench_base.specs.declared.refusals.DevRefusal.TheVariants as no
 use Rattle.bench_base.specs.declared.ledger.Entry.TheVariants as entry
@@ -52,6 +52,7 @@ use Rattle.bench_views.specs.declared.taken.DeviceCall.TheVariants.{Make, Debit,
 use Rattle.bench_views.specs.declared.taken.Taken.TheVariants as take
 use Rattle.bench_views.specs.Taken as takes
 use Rattle.bench_views.specs.Taken.{taken}
+use Rattle.bench_views.specs.Tariff.{Quote}
 use Rattle.bench_views.specs.Devices.{seen_in, view_of, asked, took, device_act, device_kind, IsKnown}
 use Rattle.bench_views.specs.Messages.{sent_in}
 use Rattle.bench_views.proofs.Calling.{plan_says, own_says, at_seen, IsWornAlike}
@@ -244,7 +245,7 @@ module _ (H : Ledger) (resending : ResendingRepeats) where
   for_device : (today : ℤ) (e d k : ℕ) (bytes : List ℕ) (asked : AskedOf DeviceCall) → takes.for_device e bytes k ≡ take.Device d asked → (e ≡ d) × (asked ≡ Call (Take bytes k))
   for_device today e d k bytes asked is = by (nat_le 1 e && nat_le e 8) is
     where
-      by : (b : Bool) → (if b then takes.of_device e (Take bytes k) else take.Absent Verifier) ≡ take.Device d asked → (e ≡ d) × (asked ≡ Call (Take bytes k))
+      by : (b : Bool) → (if b then takes.to_device e bytes k else takes.to_centre bytes k) ≡ take.Device d asked → (e ≡ d) × (asked ≡ Call (Take bytes k))
       by true same = (cc, cc)
       by false same = cc
 
@@ -271,9 +272,9 @@ module _ (H : Ledger) (resending : ResendingRepeats) where
       to.0 ∙ handed d known.0 known.1 bytes today (length (sent_in H)) (sym (sent_many H))
       ∙ ap (λ (a : AskedOf DeviceCall). node_plan counting (Device d) (device_kind.plan d today (view_of d H)) (view_of d H) a) (sym to.1)
 
-  pub planned : (τ : Tariff) (today : ℤ) → day_in H ≡ Some today → (e : Event) (d : ℕ) (asked : AskedOf DeviceCall) → taken (sent_in H) e ≡ Some (take.Device d asked) → IsPlanned τ today e d asked
+  pub planned : (τ : Tariff) (today : ℤ) (quote : Quote) → day_in H ≡ Some today → (e : Event) (d : ℕ) (asked : AskedOf DeviceCall) → taken (sent_in H) quote e ≡ Some (take.Device d asked) → IsPlanned τ today e d asked
   unfolding plan
-  planned τ today day = each_asked (sent_in H) (IsPlanned τ today) (record {
+  planned τ today quote day = each_asked (sent_in H) quote (IsPlanned τ today) (record {
     on = λ d known. rw day refl;
     off = λ d known. rw day refl;
     cut = λ d calls keep byte known. rw day refl;

@@ -15,8 +15,9 @@ use Rattle.bench_base.specs.Ledger.{Ledger, is_on, counted}
 use Rattle.node_acts.specs.declared.act.Act.{Act}
 use Rattle.node_acts.specs.declared.act.Act.TheVariants.{Refuse, Tell, Commits}
 use Rattle.node_acts.specs.declared.said.Said.{Said}
-use Rattle.node_acts.specs.declared.said.Released.{Released}
-use Rattle.node_acts.specs.Said.{saying, seen_plan, tells, with_sent, with_released}
+use Rattle.node_acts.specs.declared.said.GivenOut.{GivenOut}
+use Rattle.node_acts.specs.declared.said.GivenOut.TheVariants.{Released, Printed}
+use Rattle.node_acts.specs.Said.{saying, seen_plan, tells, with_sent, with_given}
 use Rattle.node_acts.specs.Views.{Counting, View, committed, torn}
 use Rattle.node_acts.specs.Acts.{commit_in, commit_of}
 use Rattle.node_acts.specs.Plans.{with_commit, after, after_told, Fails, FailsTold, MayFail, MayReply, done_plan, view_after, view_told}
@@ -28,14 +29,17 @@ abbrev pub AreTold : List Entry → Type 0
 AreTold [] = Unit {0}
 AreTold (entry.Released d piece mark ∷ T) = AreTold T
 AreTold (entry.Sent note ∷ T) = AreTold T
+AreTold (entry.Printed job mark ∷ T) = AreTold T
 AreTold (_ ∷ T) = ⊥
 
 -- what a node says is told so
-pub said_told : (released : Option Released) (sent : Option (List ℕ)) → AreTold (with_sent sent ++ with_released released)
+pub said_told : (given : Option GivenOut) (sent : Option (List ℕ)) → AreTold (with_sent sent ++ with_given given)
 said_told None None = tt
 said_told None (Some note) = tt
-said_told (Some x) None = tt
-said_told (Some x) (Some note) = tt
+said_told (Some (Released x)) None = tt
+said_told (Some (Released x)) (Some note) = tt
+said_told (Some (Printed x)) None = tt
+said_told (Some (Printed x)) (Some note) = tt
 
 -- for the node m and the ledger H: the answer, the commit with the record after it, and the ledger afterwards
 pub data Step {S X : Type 0} (n : Counting S X) (m : Node) (seen : List Commit → S) (H : Ledger) : Reply → Option (Commit × S) → Ledger → Type 0 where
@@ -68,15 +72,12 @@ plain-still n Refused v h = refl
 plain-still n (Armed m) v h = refl
 plain-still n _ v h = absurd h
 
--- a plan with such a reply prints nothing
-pub record IsQuiet (y : Reply) : Type 0 where
-  pub plain : IsPlain (told_by y)
-  pub no_print : (j : ℕ) → y ≡ r.Printed j → ⊥
+abbrev pub IsQuiet : Reply → Type 0
+IsQuiet y = IsPlain (told_by y)
 
--- what is said tells that it was done, and prints nothing
-pub record IsSaid (a : Said) : Type 0 where
-  pub did : told_by a.reply ≡ Did
-  pub no_print : (j : ℕ) → a.reply ≡ r.Printed j → ⊥
+-- what is said tells that it was done
+abbrev pub IsSaid : Said → Type 0
+IsSaid a = told_by a.reply ≡ Did
 
 -- so what an act says, or refuses
 abbrev pub IsQuietAct : {X : Type 0} → Act X Reply Said → Type 0
@@ -103,20 +104,24 @@ record Failed (p : Plan) (x : Reply) : Type 0 where
   own : node_of c ≡ n
   how : (told_by x ≡ LostPower n) ⊎ (told_by x ≡ Faulted n)
 
-module _ (p : Plan) (x : Reply) (no_up : (n : Node) (k : ℕ) → p.reply ≡ r.Up n k → ⊥) (no_print : (j : ℕ) → p.reply ≡ r.Printed j → ⊥) where
+-- the printer fails after the commit
+abbrev PrinterFails : Reply → Type 0
+PrinterFails x = (j : ℕ) × (told_by x ≡ PrinterFailed j)
+
+module _ (p : Plan) (x : Reply) (no_up : (n : Node) (k : ℕ) → p.reply ≡ r.Up n k → ⊥) where
   failing : (n : Node) → (told_by x ≡ LostPower n) ⊎ (told_by x ≡ Faulted n) → MayFail p n → Failed p x
   failing n how may = ⊎_elim
       (λ (h : (k : ℕ) × (p.reply ≡ r.Up n k)). absurd (no_up n h.0 h.1))
       (λ (h : (c : Commit) × (p.commit ≡ Some c) × (node_of c ≡ n)). record { n = n; c = h.0; is = h.1; own = h.2; how = how })
       may
 
-  failed_told : (t : Told) → told_by x ≡ t → FailsTold p t → Failed p x
-  failed_told (LostPower n) is h = failing n (inl is) h
-  failed_told (Faulted n) is h = failing n (inr is) h
-  failed_told (PrinterFailed j) is h = absurd (no_print j h)
+  failed_told : (t : Told) → told_by x ≡ t → FailsTold p t → Failed p x ⊎ PrinterFails x
+  failed_told (LostPower n) is h = inl (failing n (inl is) h)
+  failed_told (Faulted n) is h = inl (failing n (inr is) h)
+  failed_told (PrinterFailed j) is h = inr (j, is)
   failed_told _ is h = absurd h
 
-  failed : Fails p x → Failed p x
+  failed : Fails p x → Failed p x ⊎ PrinterFails x
   failed h = failed_told (told_by x) refl h
 
 module _ {S X : Type 0} (n : Counting S X) (m : Node) (seen : List Commit → S) (H : Ledger) where
@@ -134,10 +139,19 @@ module _ {S X : Type 0} (n : Counting S X) (m : Node) (seen : List Commit → S)
   by_answer : (x y : Reply) (p : Plan) (made : Option (Commit × S)) → x ≡ y → IsPlain (told_by y) → Goes y made (p.after ++ with_commit p.commit H) → Goes x made (after p x H)
   by_answer x y p made is plain goes = subst (λ (z : Reply). Goes z made (after p z H)) (sym is) (subst (Goes y made) (sym (plain-after (told_by y) p H plain)) goes)
 
+  -- where the printer fails nothing is told, and the commit is as it is
+  unprinted : (x : Reply) (p : Plan) → p.commit ≡ None → PrinterFails x → Goes x None (after p x H)
+  unprinted x p none (j, is) = subst (λ (t : Told). Goes x None (after_told p t H)) (sym is)
+      (subst (λ (o : Option Commit). Goes x None (with_commit o H)) (sym none) (does_tell [] tt (λ v. ap (λ (t : Told). view_told n t None v) is)))
+
+  silent : (x : Reply) (p : Plan) → p.commit ≡ None → Failed p x ⊎ PrinterFails x → Goes x None (after p x H)
+  silent x p none (inl f) = none-some (sym none ∙ f.is)
+  silent x p none (inr f) = unprinted x p none f
+
   pub tells-plain : (x y : Reply) (T : List Entry) → IsQuiet y → AreTold T → Gets (told y T) x → Goes x None (after (told y T) x H)
-  tells-plain x y T quiet are (inl h) = by_answer x y (told y T) None h quiet.plain (does_tell T are (λ v. plain-still n (told_by y) v quiet.plain))
-  tells-plain x y T quiet are (inr (inl o)) = absurd (no_boot y quiet.plain m (n.count (seen (counted H))) o.0)
-  tells-plain x y T quiet are (inr (inr f)) = none-some (failed (told y T) x (no_boot y quiet.plain) quiet.no_print f).is
+  tells-plain x y T quiet are (inl h) = by_answer x y (told y T) None h quiet (does_tell T are (λ v. plain-still n (told_by y) v quiet))
+  tells-plain x y T quiet are (inr (inl o)) = absurd (no_boot y quiet m (n.count (seen (counted H))) o.0)
+  tells-plain x y T quiet are (inr (inr f)) = silent x (told y T) refl (failed (told y T) x (no_boot y quiet) f)
 
   torn-still : (t : Told) (i : Node) (c : Commit) (s : S) (v : View S) → (t ≡ LostPower i) ⊎ (t ≡ Faulted i) → view_told n t (Some (c, s)) v ≡ torn s v
   torn-still t i c s v (inl is) = ap (λ (z : Told). view_told n z (Some (c, s)) v) is
@@ -147,15 +161,18 @@ module _ {S X : Type 0} (n : Counting S X) (m : Node) (seen : List Commit → S)
   torn-after t i y c T at (inl is) = ap (λ (z : Told). after_told (made y c T) z H) is ∙ ap (λ (z : Node). entry.Torn z c ∷ H) at
   torn-after t i y c T at (inr is) = ap (λ (z : Told). after_told (made y c T) z H) is ∙ ap (λ (z : Node). entry.Torn z c ∷ H) at
 
-  makes : (x y : Reply) (c : Commit) (s : S) (T : List Entry) → told_by y ≡ Did → ((j : ℕ) → y ≡ r.Printed j → ⊥) → AreTold T → is_on m H ≡ true → node_of c ≡ m → seen (c ∷ counted H) ≡ s
+  makes : (x y : Reply) (c : Commit) (s : S) (T : List Entry) → told_by y ≡ Did → AreTold T → is_on m H ≡ true → node_of c ≡ m → seen (c ∷ counted H) ≡ s
       → Gets (made y c T) x → Goes x (Some (c, s)) (after (made y c T) x H)
-  makes x y c s T did no_print are on own is (inl h) =
+  makes x y c s T did are on own is (inl h) =
       by_answer x y (made y c T) (Some (c, s)) h (subst IsPlain (sym did) tt) (does T c s are (λ v. ap (λ (t : Told). view_told n t (Some (c, s)) v) did) on own is)
-  makes x y c s T did no_print are on own is (inr (inl o)) = absurd (no_boot y (subst IsPlain (sym did) tt) m (n.count (seen (counted H))) o.0)
-  makes x y c s T did no_print are on own is (inr (inr f)) =
-      let g = failed (made y c T) x (no_boot y (subst IsPlain (sym did) tt)) no_print f in
-      let at : g.n ≡ m = sym g.own ∙ ap node_of (sym (some-same g.is)) ∙ own in
-      subst (λ (new : Ledger). Goes x (Some (c, s)) new) (sym (torn-after (told_by x) g.n y c T at g.how)) (tears c s (λ v. torn-still (told_by x) g.n c s v g.how) own is)
+  makes x y c s T did are on own is (inr (inl o)) = absurd (no_boot y (subst IsPlain (sym did) tt) m (n.count (seen (counted H))) o.0)
+  makes x y c s T did are on own is (inr (inr f)) = by (failed (made y c T) x (no_boot y (subst IsPlain (sym did) tt)) f)
+    where
+      by : Failed (made y c T) x ⊎ PrinterFails x → Goes x (Some (c, s)) (after (made y c T) x H)
+      by (inl g) =
+          let at : g.n ≡ m = sym g.own ∙ ap node_of (sym (some-same g.is)) ∙ own in
+          subst (λ (new : Ledger). Goes x (Some (c, s)) new) (sym (torn-after (told_by x) g.n y c T at g.how)) (tears c s (λ v. torn-still (told_by x) g.n c s v g.how) own is)
+      by (inr g) = subst (λ (t : Told). Goes x (Some (c, s)) (after_told (made y c T) t H)) (sym g.1) (does [] c s tt (λ v. ap (λ (t : Told). view_told n t (Some (c, s)) v) g.1) on own is)
 
   -- == a call, by its act ==
 
@@ -172,21 +189,21 @@ module _ {S X : Type 0} (n : Counting S X) (m : Node) (seen : List Commit → S)
   right_says refusal say (Tell a) right = tt
 
   worn_quiet : IsQuiet (r.Worn m)
-  worn_quiet = record { plain = tt; no_print = λ j e. cc }
+  worn_quiet = tt
 
   off_quiet : IsQuiet (r.OffNode m)
-  off_quiet = record { plain = tt; no_print = λ j e. cc }
+  off_quiet = tt
 
   commits : (worn : Bool) (c : Commit) (s : S) (a : Said) (x : Reply) → IsSaid a → is_on m H ≡ true → node_of c ≡ m → (worn ≡ false → seen (c ∷ counted H) ≡ s)
       → Gets (cond worn (refuse (r.Worn m)) (made a.reply c (tells a))) x
       → Goes x (cond worn None (Some (c, s))) (after (cond worn (refuse (r.Worn m)) (made a.reply c (tells a))) x H)
   commits true c s a x said on own is may = tells-plain x (r.Worn m) [] worn_quiet tt may
-  commits false c s a x said on own is may = makes x a.reply c s (tells a) said.did said.no_print (said_told a.released a.sent) on own (is refl) may
+  commits false c s a x said on own is may = makes x a.reply c s (tells a) said (said_told a.given a.sent) on own (is refl) may
 
   acts-on : (act : Act X Reply Said) (x : Reply) → IsQuietAct act → IsRight act → is_on m H ≡ true → Gets (by_act n m (seen (counted H)) act) x
       → Goes x (commit_in n (seen (counted H)) act) (after (by_act n m (seen (counted H)) act) x H)
   acts-on (Refuse y) x quiet right on may = tells-plain x y [] quiet tt may
-  acts-on (Tell a) x quiet right on may = tells-plain x a.reply (tells a) (record { plain = subst IsPlain (sym quiet.did) tt; no_print = quiet.no_print }) (said_told a.released a.sent) may
+  acts-on (Tell a) x quiet right on may = tells-plain x a.reply (tells a) (subst IsPlain (sym quiet) tt) (said_told a.given a.sent) may
   acts-on (Commits c y a) x quiet right on may = commits (n.is_worn (seen (counted H)) y) c (n.after (seen (counted H)) y) a x quiet on right.0 (right.1 on) may
 
   acts_by : (on : Bool) (act : Act X Reply Said) (x : Reply) → IsQuietAct act → IsRight act → is_on m H ≡ on → Gets (cond on (by_act n m (seen (counted H)) act) (refuse (r.OffNode m))) x
@@ -216,7 +233,7 @@ module _ {S X : Type 0} (n : Counting S X) (m : Node) (seen : List Commit → S)
   boot-fails x _ is h = absurd h
 
   pub turns-on : (on : Bool) (x : Reply) → Gets (cond on (refuse (r.OnAlready m)) boot_plan) x → Goes x None (after (cond on (refuse (r.OnAlready m)) boot_plan) x H)
-  turns-on true x may = tells-plain x (r.OnAlready m) [] (record { plain = tt; no_print = λ j e. cc }) tt may
+  turns-on true x may = tells-plain x (r.OnAlready m) [] tt tt may
   turns-on false x (inl h) = boot-may (n.count (seen (counted H))) x h
   turns-on false x (inr (inl o)) = boot-may (n.count (seen (counted H)) + 1) x o.2
   turns-on false x (inr (inr f)) = boot-fails x (told_by x) refl f
@@ -224,8 +241,8 @@ module _ {S X : Type 0} (n : Counting S X) (m : Node) (seen : List Commit → S)
   pub turns-off : (on : Bool) (x : Reply) → Gets (cond on stop_plan (refuse (r.OffNode m))) x → Goes x None (after (cond on stop_plan (refuse (r.OffNode m))) x H)
   turns-off true x (inl h) = subst (λ z. Goes z None (after stop_plan z H)) (sym h) stops
   turns-off true x (inr (inl o)) = let e = o.0 in cc
-  turns-off true x (inr (inr f)) = none-some (failed stop_plan x (λ i k e. cc) (λ j e. cc) f).is
-  turns-off false x may = tells-plain x (r.OffNode m) [] (record { plain = tt; no_print = λ j e. cc }) tt may
+  turns-off true x (inr (inr f)) = silent x stop_plan refl (failed stop_plan x (λ i k e. cc) f)
+  turns-off false x may = tells-plain x (r.OffNode m) [] tt tt may
 
   pub cuts : (x : Reply) → Gets (refuse (r.CutSet m)) x → Goes x None (after (refuse (r.CutSet m)) x H)
-  cuts x may = tells-plain x (r.CutSet m) [] (record { plain = tt; no_print = λ j e. cc }) tt may
+  cuts x may = tells-plain x (r.CutSet m) [] tt tt may

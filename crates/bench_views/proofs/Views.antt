@@ -50,15 +50,15 @@ seen-by seen C t on = record { state = seen C; next = option_map (λ c. seen (c 
 told-view : {S : Type 0} (i : Node) (seen : List Commit → S) (T : List Entry) (H : Ledger) → AreTold T → view_in i seen (T ++ H) ≡ view_in i seen H
 told-view i seen [] H h = refl
 told-view i seen (entry.Released d piece mark ∷ T) H h = told-view i seen T H h
+told-view i seen (entry.Printed job mark ∷ T) H h = told-view i seen T H h
 told-view i seen (entry.Sent note ∷ T) H h = told-view i seen T H h
 told-view i seen (_ ∷ T) H h = absurd h
 
 told-rests : (T : List Entry) (old H : Ledger) → AreTold T → Rests old H → Rests old (T ++ H)
 told-rests [] old H h r = r
-told-rests (entry.Released d piece mark ∷ T) old H h r = let is = told-rests T old H h r in
-    record { day = is.day; rates = is.rates; host = is.host; verifier = is.verifier }
-told-rests (entry.Sent note ∷ T) old H h r = let is = told-rests T old H h r in
-    record { day = is.day; rates = is.rates; host = is.host; verifier = is.verifier }
+told-rests (entry.Released d piece mark ∷ T) old H h r = let is = told-rests T old H h r in record { day = is.day; rates = is.rates }
+told-rests (entry.Sent note ∷ T) old H h r = let is = told-rests T old H h r in record { day = is.day; rates = is.rates }
+told-rests (entry.Printed job mark ∷ T) old H h r = let is = told-rests T old H h r in record { day = is.day; rates = is.rates }
 told-rests (_ ∷ T) old H h r = absurd h
 
 -- a commit of node m, in order, leaves what is seen of node i as it is, also under an open commit of its own
@@ -128,11 +128,9 @@ module _ (H : Ledger) (opens : (n : Node) (c : Commit) → torn_of n H ≡ Some 
 
   -- == all else ==
 
-  pub rests : {S X : Type 0} (n : Counting S X) (m : Node) (seen : List Commit → S) → Host ≢ m → Verifier ≢ m → (x : Reply) (made : Option (Commit × S)) (new : Ledger) → Step n m seen H x made new
-      → Rests H new
-  rests n m seen host verifier x made new (does_tell T are still) = told-rests T H H are (record { day = refl; rates = refl; host = refl; verifier = refl })
-  rests n m seen host verifier x made new (does T c s are done on own is) = told-rests T H (entry.Commit c ∷ H) are (record { day = refl; rates = refl; host = refl; verifier = refl })
-  rests n m seen host verifier x made new (tears c s fails own is) =
-      record { day = refl; rates = refl; host = rw (same-apart m Host host) refl; verifier = rw (same-apart m Verifier verifier) refl }
-  rests n m seen host verifier x made new (boots k) = record { day = refl; rates = refl; host = rw (same-apart m Host host) refl; verifier = rw (same-apart m Verifier verifier) refl }
-  rests n m seen host verifier x made new stops = record { day = refl; rates = refl; host = rw (same-apart m Host host) refl; verifier = rw (same-apart m Verifier verifier) refl }
+  pub rests : {S X : Type 0} (n : Counting S X) (m : Node) (seen : List Commit → S) → (x : Reply) (made : Option (Commit × S)) (new : Ledger) → Step n m seen H x made new → Rests H new
+  rests n m seen x made new (does_tell T are still) = told-rests T H H are (record { day = refl; rates = refl })
+  rests n m seen x made new (does T c s are done on own is) = told-rests T H (entry.Commit c ∷ H) are (record { day = refl; rates = refl })
+  rests n m seen x made new (tears c s fails own is) = record { day = refl; rates = refl }
+  rests n m seen x made new (boots k) = record { day = refl; rates = refl }
+  rests n m seen x made new stops = record { day = refl; rates = refl }

@@ -10,7 +10,8 @@ use Rattle.bench_base.specs.Rules.{todays_rules}
 use Rattle.bench_base.specs.Ledger.{Ledger, count_of}
 use Rattle.node_acts.specs.declared.act.Act.{Act}
 use Rattle.node_acts.specs.declared.said.Said.{Said}
-use Rattle.node_acts.specs.Said.{replies, releases, sends, saying, kind_by}
+use Rattle.node_acts.specs.declared.said.GivenOut.TheVariants.{Released}
+use Rattle.node_acts.specs.Said.{replies, gives, sends, saying, kind_by}
 use Rattle.node_acts.specs.Views.{View}
 use Rattle.node_acts.specs.Kinds.{Kind, view_in}
 use Rattle.psd_wire.specs.declared.message.Message.TheVariants as m
@@ -49,7 +50,7 @@ abbrev pub made : ℕ → Said
 made d = replies (r.Made d)
 
 abbrev pub marked : ℕ → ℕ → Franked → Said
-marked d piece f = releases (r.Marked d piece f.again f.mark) (record { device = d; piece = piece; mark = f.mark })
+marked d piece f = gives (r.Marked d piece f.again f.mark) (Released (record { device = d; piece = piece; mark = f.mark }))
 
 abbrev pub sent : Reply → List ℕ → Said
 sent reply note = sends reply note
@@ -65,7 +66,7 @@ shown d view = replies (r.Status d view)
 abbrev pub released : ℕ → ℕ → ℕ → List ℕ → Bool → Said
 released d k piece mark again = record {
   reply = r.Released d piece again k;
-  released = Some (record { device = d; piece = piece; mark = mark });
+  given = Some (Released (record { device = d; piece = piece; mark = mark }));
   sent = Some (spell (m.Release mark) []);
 }
 

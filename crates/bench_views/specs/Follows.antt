@@ -1,5 +1,5 @@
 -- How the ledger and what the bench sees of its nodes go together: by an event of one node.
-use Rattle.std.specs.Prelude.{◌≡◌, ◌≢◌, ℕ, ℤ, ◌++◌, [], true, false, Option, Some, None, IfSome, option_map}
+use Rattle.std.specs.Prelude.{◌≡◌, ◌≢◌, ℕ, ℤ, ◌++◌, [], true, Option, Some, None, IfSome, option_map}
 use Rattle.bench_base.specs.declared.words.Node.{Node}
 use Rattle.bench_base.specs.declared.words.Node.TheVariants.{Device, Centre, Host, Verifier}
 use Rattle.bench_base.specs.declared.ledger.Commit.{Commit}
@@ -21,21 +21,23 @@ use Rattle.ledger_moves.specs.Histories.{History, Unforged}
 use Rattle.bench_views.specs.declared.taken.Taken.{Taken}
 use Rattle.bench_views.specs.declared.taken.Taken.TheVariants as take
 use Rattle.bench_views.specs.Centre.{AreBytes}
+use Rattle.bench_views.specs.Verifier as verifier
+use Rattle.bench_views.specs.Tariff.{quote_in}
 use Rattle.bench_views.specs.Kinds.{Kinds}
 use Rattle.bench_views.specs.Messages.{sent_in, IsFew}
-use Rattle.bench_views.specs.Taken.{taken, IsTaken}
+use Rattle.bench_views.specs.Taken.{taken}
 
 -- nothing that the bench sees beside its nodes and the messages was changed
 pub record Rests (old new : Ledger) : Type 0 where
   pub day : day_in new ≡ day_in old
   pub rates : rates_in new ≡ rates_in old
-  pub host : is_on Host new ≡ is_on Host old
-  pub verifier : is_on Verifier new ≡ is_on Verifier old
 
 -- of each node but m the same is seen as before
-pub record OthersStay {D C : Type 0} (kinds : Kinds D C) (m : Node) (old new : Ledger) : Type 0 where
+pub record OthersStay {D C H V : Type 0} (kinds : Kinds D C H V) (m : Node) (old new : Ledger) : Type 0 where
   pub devices : (i : ℕ) → Device i ≢ m → view_in (Device i) (kinds.devices.seen i) new ≡ view_in (Device i) (kinds.devices.seen i) old
   pub centre : Centre ≢ m → view_in Centre (kinds.centre.seen tt) new ≡ view_in Centre (kinds.centre.seen tt) old
+  pub host : Host ≢ m → view_in Host (kinds.host.seen tt) new ≡ view_in Host (kinds.host.seen tt) old
+  pub verifier : Verifier ≢ m → view_in Verifier (kinds.verifier.seen tt) new ≡ view_in Verifier (kinds.verifier.seen tt) old
 
 -- What is seen of node m, which is d of its kind, by the ledger, and what it does by that which is asked this on a day.
 module _ {N S X C : Type 0} (n : Counting S X) (kind : Kind N S C) (m : Node) (d : N) where
@@ -48,7 +50,7 @@ module _ {N S X C : Type 0} (n : Counting S X) (kind : Kind N S C) (m : Node) (d
   abbrev pub commit_by : ℤ → Asked C → Ledger → Option (Commit × S)
   commit_by today asked H = node_commit (kind.commit d today (view_by H)) asked
 
-  module _ {D E : Type 0} (kinds : Kinds D E) (τ : Tariff) (H : Ledger) (e : Event) (today : ℤ) (asked : Asked C) where
+  module _ {D E F G : Type 0} (kinds : Kinds D E F G) (τ : Tariff) (H : Ledger) (e : Event) (today : ℤ) (asked : Asked C) where
     -- By this reply: it is a move of the ledger; what is seen of the node afterwards; of each other node the same is seen as before,
     -- and so of all else; and the messages of the run are those before, and what the event sent.
     pub record Replied (reply : Reply) : Type 0 where
@@ -69,35 +71,43 @@ module _ {N S X C : Type 0} (n : Counting S X) (kind : Kind N S C) (m : Node) (d
 
   -- it follows for each event of the node, on a day, at each history in which its record is one that storage can show, and is one
   -- after the commit too
-  abbrev pub FollowsAlways : {D E : Type 0} → Kinds D E → (Asked C → Taken) → (Asked C → Type 0) → (S → Type 0) → Type 0
+  abbrev pub FollowsAlways : {D E F G : Type 0} → Kinds D E F G → (Asked C → Taken) → (Asked C → Type 0) → (S → Type 0) → Type 0
   FollowsAlways kinds taken_as IsWhole Fits = (τ : Tariff) (H : Ledger) (e : Event) (today : ℤ) (asked : Asked C) → History τ editions H → Unforged e H → day_in H ≡ Some today
-      → IsWholeEvent e → taken (sent_in H) e ≡ Some (taken_as asked) → IsWhole asked → Fits (view_by H).state → IfSome (commit_by today asked H) (λ x. Fits x.1)
+      → IsWholeEvent e → taken (sent_in H) (quote_in τ H) e ≡ Some (taken_as asked) → IsWhole asked → Fits (view_by H).state → IfSome (commit_by today asked H) (λ x. Fits x.1)
       → Follows kinds τ H e today asked
 
--- an event of a device, or of the centre, does what the node alone would do, and changes that node alone
-abbrev pub DevicesFollow : {D C X : Type 0} → Counting D X → Kinds D C → (D → Type 0) → Type 0
+-- an event of a device, of the centre, of the host or of the verifier does what the node alone would do, and changes that node alone
+abbrev pub DevicesFollow : {D C H V X : Type 0} → Counting D X → Kinds D C H V → (D → Type 0) → Type 0
 DevicesFollow n kinds IsSound = (d : ℕ) → FollowsAlways n kinds.devices (Device d) d kinds (take.Device d) (λ asked. Unit {0}) IsSound
 
-abbrev pub CentreFollows : {D C X : Type 0} → Counting C X → Kinds D C → (C → Type 0) → Type 0
+abbrev pub CentreFollows : {D C H V X : Type 0} → Counting C X → Kinds D C H V → (C → Type 0) → Type 0
 CentreFollows n kinds IsSound = FollowsAlways n kinds.centre Centre tt kinds take.Centre AreBytes IsSound
+
+abbrev pub HostFollows : {D C H V X : Type 0} → Counting H X → Kinds D C H V → (H → Type 0) → Type 0
+HostFollows n kinds IsSound = FollowsAlways n kinds.host Host tt kinds take.Host (λ asked. Unit {0}) IsSound
+
+abbrev pub VerifierFollows : {D C H V X : Type 0} → Counting V X → Kinds D C H V → (V → Type 0) → Type 0
+VerifierFollows n kinds IsSound = FollowsAlways n kinds.verifier Verifier tt kinds take.Verifier verifier.AreBytes IsSound
 
 -- == events of no node ==
 
 -- what an event is answered that changes no node, by what is seen of the nodes
-abbrev pub quiet_reply : {D C : Type 0} → Kinds D C → (ℕ → View D) → View C → Taken → Option Reply
+abbrev pub quiet_reply : {D C H V : Type 0} → Kinds D C H V → (ℕ → View D) → View C → Taken → Option Reply
 quiet_reply kinds v w (take.Day t) = None
 quiet_reply kinds v w take.End = None
+quiet_reply kinds v w take.Rates = None
 quiet_reply kinds v w (take.NoMessage k) = Some (r.NoMessage k)
-quiet_reply kinds v w (take.Absent m) = Some (r.OffNode m)
 quiet_reply kinds v w (take.Reconcile d) = Some (kinds.compare d (v d) w)
 quiet_reply kinds v w (take.Device d asked) = None
 quiet_reply kinds v w (take.Centre asked) = None
+quiet_reply kinds v w (take.Host asked) = None
+quiet_reply kinds v w (take.Verifier asked) = None
 
 -- by the ledger
-abbrev pub quiet_by : {D C : Type 0} → Kinds D C → Ledger → Taken → Option Reply
+abbrev pub quiet_by : {D C H V : Type 0} → Kinds D C H V → Ledger → Taken → Option Reply
 quiet_by kinds H x = quiet_reply kinds (λ d. view_in (Device d) (kinds.devices.seen d) H) (view_in Centre (kinds.centre.seen tt) H) x
 
--- on a day, its plan is that reply alone, where the centre's record is one that storage can show, and the host is off
-abbrev pub OthersAreQuiet : {D C : Type 0} → Kinds D C → (C → Type 0) → Type 0
-OthersAreQuiet kinds IsSound = (τ : Tariff) (H : Ledger) (e : Event) (today : ℤ) (x : Taken) (reply : Reply) → History τ editions H → day_in H ≡ Some today → is_on Host H ≡ false
-    → IsTaken e → taken (sent_in H) e ≡ Some x → IsSound (view_in Centre (kinds.centre.seen tt) H).state → quiet_by kinds H x ≡ Some reply → plan τ todays_rules H e [] ≡ refuse reply
+-- on a day, its plan is that reply alone, where the centre's record is one that storage can show
+abbrev pub OthersAreQuiet : {D C H V : Type 0} → Kinds D C H V → (C → Type 0) → Type 0
+OthersAreQuiet kinds IsSound = (τ : Tariff) (H : Ledger) (e : Event) (today : ℤ) (x : Taken) (reply : Reply) → History τ editions H → day_in H ≡ Some today
+    → taken (sent_in H) (quote_in τ H) e ≡ Some x → IsSound (view_in Centre (kinds.centre.seen tt) H).state → quiet_by kinds H x ≡ Some reply → plan τ todays_rules H e [] ≡ refuse reply

@@ -2,6 +2,9 @@ pub mod Centre
 pub mod Comparing
 pub mod Devices
 pub mod Follows
+pub mod Host
 pub mod Kinds
 pub mod Messages
 pub mod Taken
+pub mod Tariff
+pub mod Verifier

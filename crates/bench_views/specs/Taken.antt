@@ -1,6 +1,6 @@
--- The events that this bench takes: of the nodes it has the devices and the centre. The pool is the messages of the run, the first
--- that was sent first.
-use Rattle.std.specs.Prelude.{◌≡◌, ℕ, Bool, true, false, ◌&&◌, List, length, slice_get, Option, Some, None, Result, Ok, Err, nat_le, if◌then◌else◌}
+-- The events that the bench takes: whom each is for, and what it asks. The pool is the messages of the run, the first that was sent
+-- first; the quote is what a piece costs by the rates of the run.
+use Rattle.std.specs.Prelude.{ℕ, ◌&&◌, List, drop, length, slice_get, Option, Some, None, Result, Ok, Err, nat_le, if◌then◌else◌}
 use Rattle.bench_base.specs.declared.words.Node.{Node}
 use Rattle.bench_base.specs.declared.words.Node.TheVariants.{Device, Centre, Host, Verifier}
 use Rattle.bench_base.specs.declared.refusals.Unread.{Unread}
@@ -11,61 +11,27 @@ use Rattle.node_acts.specs.declared.asked.Asked.TheVariants.{On, Off, Cut, Call}
 use Rattle.psd_wire.specs.declared.message.Message.{Message}
 use Rattle.psd_wire.specs.declared.message.Message.TheVariants as m
 use Rattle.psd_wire.specs.Grammar.{read}
+use Rattle.host_jobs.specs.ActLaws.{IsPrice}
+use Rattle.bench_views.specs.Tariff.{Quote}
 use Rattle.bench_views.specs.declared.taken.DeviceCall.{DeviceCall}
 use Rattle.bench_views.specs.declared.taken.DeviceCall.TheVariants as device
 use Rattle.bench_views.specs.declared.taken.CentreCall.{CentreCall}
 use Rattle.bench_views.specs.declared.taken.CentreCall.TheVariants as centre
+use Rattle.bench_views.specs.declared.taken.HostCall.{HostCall}
+use Rattle.bench_views.specs.declared.taken.HostCall.TheVariants as host
+use Rattle.bench_views.specs.declared.taken.VerifierCall.{VerifierCall}
+use Rattle.bench_views.specs.declared.taken.VerifierCall.TheVariants as verifier
 use Rattle.bench_views.specs.declared.taken.Taken.{Taken}
 use Rattle.bench_views.specs.declared.taken.Taken.TheVariants as take
 
--- the nodes that the bench has
-abbrev pub has_node : Node → Bool
-has_node (Device d) = true
-has_node Centre = true
-has_node Host = false
-has_node Verifier = false
-
--- the events that it takes
-abbrev pub is_taken : Event → Bool
-is_taken (ev.Day t) = true
-is_taken ev.Rates = false
-is_taken (ev.Make d key) = true
-is_taken (ev.On n) = has_node n
-is_taken (ev.Off n) = has_node n
-is_taken (ev.Cut n calls keep byte) = has_node n
-is_taken (ev.Debit d piece postage class) = true
-is_taken (ev.Ask d kind who amount) = true
-is_taken (ev.Resend d) = true
-is_taken (ev.Ack d) = true
-is_taken (ev.Status d) = true
-is_taken (ev.Register d origin key) = true
-is_taken (ev.OpenCustomer w) = true
-is_taken (ev.Deposit w receipt amount) = true
-is_taken (ev.Flag w suspended) = true
-is_taken (ev.Balance w) = true
-is_taken (ev.Deliver k) = true
-is_taken (ev.Give n bytes) = has_node n
-is_taken (ev.Order d piece class grams zone) = false
-is_taken (ev.Send j) = false
-is_taken (ev.Print j) = false
-is_taken (ev.Close j) = false
-is_taken (ev.Trust d key) = false
-is_taken (ev.ScanMsg scan k) = false
-is_taken (ev.ScanHex scan bytes) = false
-is_taken (ev.Reconcile d) = true
-is_taken ev.End = true
-
-abbrev pub IsTaken : Event → Type 0
-IsTaken e = is_taken e ≡ true
-
 -- == whom an event is for, and what it asks ==
 
--- what a node is asked, where the bench has it: the one of a device, or the one of the centre
-abbrev pub of_node : Node → Asked DeviceCall → Asked CentreCall → Taken
-of_node (Device d) device centre = take.Device d device
-of_node Centre device centre = take.Centre centre
-of_node Host device centre = take.Absent Host
-of_node Verifier device centre = take.Absent Verifier
+-- what a node is asked: the one of a device, of the centre, of the host, or of the verifier
+abbrev pub of_node : Node → Asked DeviceCall → Asked CentreCall → Asked HostCall → Asked VerifierCall → Taken
+of_node (Device d) device centre host verifier = take.Device d device
+of_node Centre device centre host verifier = take.Centre centre
+of_node Host device centre host verifier = take.Host host
+of_node Verifier device centre host verifier = take.Verifier verifier
 
 abbrev pub of_device : ℕ → DeviceCall → Taken
 of_device d call = take.Device d (Call call)
@@ -73,22 +39,42 @@ of_device d call = take.Device d (Call call)
 abbrev pub of_centre : CentreCall → Taken
 of_centre call = take.Centre (Call call)
 
--- the device of this number; each message that was sent names one of 1 to 8, and another is for nobody
+abbrev pub of_host : HostCall → Taken
+of_host call = take.Host (Call call)
+
+abbrev pub of_verifier : VerifierCall → Taken
+of_verifier call = take.Verifier (Call call)
+
+-- bytes for a device, for the centre, for the host; and bytes that are scanned under number n
+abbrev pub to_device : ℕ → List ℕ → ℕ → Taken
+to_device d bytes k = of_device d (device.Take bytes k)
+
+abbrev pub to_centre : List ℕ → ℕ → Taken
+to_centre bytes k = of_centre (centre.Take bytes k)
+
+abbrev pub to_host : List ℕ → Taken
+to_host bytes = of_host (host.Take bytes)
+
+abbrev pub to_scanner : ℕ → List ℕ → Taken
+to_scanner n bytes = of_verifier (verifier.Scan n bytes)
+
+-- the device of this number; each message that was sent names one of 1 to 8, and what names another goes to the centre, which says
+-- that it takes no such message
 abbrev pub device_node : ℕ → Node
-device_node d = if nat_le 1 d && nat_le d 8 then Device d else Verifier
+device_node d = if nat_le 1 d && nat_le d 8 then Device d else Centre
 
 -- a message for device d
 abbrev pub for_device : ℕ → List ℕ → ℕ → Taken
-for_device d bytes k = if nat_le 1 d && nat_le d 8 then of_device d (device.Take bytes k) else take.Absent Verifier
+for_device d bytes k = if nat_le 1 d && nat_le d 8 then to_device d bytes k else to_centre bytes k
 
 -- a message goes to the node of its tag
 abbrev pub delivered_as : List ℕ → ℕ → Result Message Unread → Taken
 delivered_as bytes k (Ok (m.Reply p)) = for_device p.device bytes k
 delivered_as bytes k (Ok (m.Debit q)) = for_device q.device bytes k
-delivered_as bytes k (Ok (m.Release x)) = take.Absent Host
-delivered_as bytes k (Ok (m.Request q)) = of_centre (centre.Take bytes k)
-delivered_as bytes k (Ok (m.Done q)) = of_centre (centre.Take bytes k)
-delivered_as bytes k (Err x) = of_centre (centre.Take bytes k)
+delivered_as bytes k (Ok (m.Release x)) = to_host bytes
+delivered_as bytes k (Ok (m.Request q)) = to_centre bytes k
+delivered_as bytes k (Ok (m.Done q)) = to_centre bytes k
+delivered_as bytes k (Err x) = to_centre bytes k
 
 abbrev pub delivered : List ℕ → ℕ → Taken
 delivered bytes k = delivered_as bytes k (read bytes)
@@ -97,37 +83,49 @@ abbrev pub message_taken : ℕ → ℕ → Option (List ℕ) → Taken
 message_taken k next None = take.NoMessage k
 message_taken k next (Some bytes) = delivered bytes next
 
--- what an event asks; a message that it sends is the next one
-abbrev pub taken : List (List ℕ) → Event → Option Taken
-taken pool (ev.Day t) = Some (take.Day t)
-taken pool ev.Rates = None
-taken pool (ev.Make d key) = Some (of_device d (device.Make key))
-taken pool (ev.On n) = Some (of_node n On On)
-taken pool (ev.Off n) = Some (of_node n Off Off)
-taken pool (ev.Cut n calls keep byte) = Some (of_node n (Cut calls keep byte) (Cut calls keep byte))
-taken pool (ev.Debit d piece postage class) = Some (of_device d (device.Debit piece postage class))
-taken pool (ev.Ask d kind who amount) = Some (of_device d (device.Ask kind who amount (length pool)))
-taken pool (ev.Resend d) = Some (of_device d (device.Resend (length pool)))
-taken pool (ev.Ack d) = Some (of_device d (device.Ack (length pool)))
-taken pool (ev.Status d) = Some (of_device d device.Status)
-taken pool (ev.Register d origin key) = Some (of_centre (centre.Register d origin key))
-taken pool (ev.OpenCustomer w) = Some (of_centre (centre.Open w))
-taken pool (ev.Deposit w receipt amount) = Some (of_centre (centre.Deposit w receipt amount))
-taken pool (ev.Flag w suspended) = Some (of_centre (centre.Flag w suspended))
-taken pool (ev.Balance w) = Some (of_centre (centre.Balance w))
-taken pool (ev.Deliver k) = Some (message_taken k (length pool) (slice_get pool k))
-taken pool (ev.Give n bytes) = Some (of_node n (Call (device.Take bytes (length pool))) (Call (centre.Take bytes (length pool))))
-taken pool (ev.Order d piece class grams zone) = None
-taken pool (ev.Send j) = None
-taken pool (ev.Print j) = None
-taken pool (ev.Close j) = None
-taken pool (ev.Trust d key) = None
-taken pool (ev.ScanMsg scan k) = None
-taken pool (ev.ScanHex scan bytes) = None
-taken pool (ev.Reconcile d) = Some (take.Reconcile d)
-taken pool ev.End = Some take.End
+-- a message is scanned from its third byte on, where the mark of a Release begins
+abbrev pub scanned : ℕ → ℕ → Option (List ℕ) → Taken
+scanned n k None = take.NoMessage k
+scanned n k (Some bytes) = to_scanner n (drop 2 bytes)
 
--- == what is delivered ==
+-- bytes that are given to a node; the verifier is given none
+abbrev pub given_to : Node → List ℕ → ℕ → Option Taken
+given_to (Device d) bytes k = Some (to_device d bytes k)
+given_to Centre bytes k = Some (to_centre bytes k)
+given_to Host bytes k = Some (to_host bytes)
+given_to Verifier bytes k = None
+
+-- what an event asks; a message that it sends is the next one
+abbrev pub taken : List (List ℕ) → Quote → Event → Option Taken
+taken pool quote (ev.Day t) = Some (take.Day t)
+taken pool quote ev.Rates = Some take.Rates
+taken pool quote (ev.Make d key) = Some (of_device d (device.Make key))
+taken pool quote (ev.On n) = Some (of_node n On On On On)
+taken pool quote (ev.Off n) = Some (of_node n Off Off Off Off)
+taken pool quote (ev.Cut n calls keep byte) = Some (of_node n (Cut calls keep byte) (Cut calls keep byte) (Cut calls keep byte) (Cut calls keep byte))
+taken pool quote (ev.Debit d piece postage class) = Some (of_device d (device.Debit piece postage class))
+taken pool quote (ev.Ask d kind who amount) = Some (of_device d (device.Ask kind who amount (length pool)))
+taken pool quote (ev.Resend d) = Some (of_device d (device.Resend (length pool)))
+taken pool quote (ev.Ack d) = Some (of_device d (device.Ack (length pool)))
+taken pool quote (ev.Status d) = Some (of_device d device.Status)
+taken pool quote (ev.Register d origin key) = Some (of_centre (centre.Register d origin key))
+taken pool quote (ev.OpenCustomer w) = Some (of_centre (centre.Open w))
+taken pool quote (ev.Deposit w receipt amount) = Some (of_centre (centre.Deposit w receipt amount))
+taken pool quote (ev.Flag w suspended) = Some (of_centre (centre.Flag w suspended))
+taken pool quote (ev.Balance w) = Some (of_centre (centre.Balance w))
+taken pool quote (ev.Deliver k) = Some (message_taken k (length pool) (slice_get pool k))
+taken pool quote (ev.Give n bytes) = given_to n bytes (length pool)
+taken pool quote (ev.Order d piece class grams zone) = Some (of_host (host.Order d piece class grams zone (quote class grams zone)))
+taken pool quote (ev.Send j) = Some (of_host (host.Send j (length pool)))
+taken pool quote (ev.Print j) = Some (of_host (host.Print j))
+taken pool quote (ev.Close j) = Some (of_host (host.Close j))
+taken pool quote (ev.Trust d key) = Some (of_verifier (verifier.Trust d key))
+taken pool quote (ev.ScanMsg scan k) = Some (scanned scan k (slice_get pool k))
+taken pool quote (ev.ScanHex scan bytes) = Some (to_scanner scan bytes)
+taken pool quote (ev.Reconcile d) = Some (take.Reconcile d)
+taken pool quote ev.End = Some take.End
+
+-- == what is delivered, and what is scanned ==
 
 -- whom a message is for, by what it reads as
 abbrev pub addressee : Result Message Unread → Node
@@ -142,9 +140,15 @@ abbrev pub as_given_by : ℕ → Option (List ℕ) → Event
 as_given_by k None = ev.Deliver k
 as_given_by k (Some bytes) = ev.Give (addressee (read bytes)) bytes
 
--- to deliver a message is to give its bytes to the node that it is for; of any other event nothing is changed
+abbrev pub as_scanned_by : ℕ → ℕ → Option (List ℕ) → Event
+as_scanned_by n k None = ev.ScanMsg n k
+as_scanned_by n k (Some bytes) = ev.ScanHex n (drop 2 bytes)
+
+-- to deliver a message is to give its bytes to the node that it is for, and to scan one is to scan its bytes; of any other event
+-- nothing is changed
 abbrev pub as_given : List (List ℕ) → Event → Event
 as_given pool (ev.Deliver k) = as_given_by k (slice_get pool k)
+as_given pool (ev.ScanMsg scan k) = as_scanned_by scan k (slice_get pool k)
 as_given pool (ev.Day t) = ev.Day t
 as_given pool ev.Rates = ev.Rates
 as_given pool (ev.Make d key) = ev.Make d key
@@ -167,7 +171,33 @@ as_given pool (ev.Send j) = ev.Send j
 as_given pool (ev.Print j) = ev.Print j
 as_given pool (ev.Close j) = ev.Close j
 as_given pool (ev.Trust d key) = ev.Trust d key
-as_given pool (ev.ScanMsg scan k) = ev.ScanMsg scan k
 as_given pool (ev.ScanHex scan bytes) = ev.ScanHex scan bytes
 as_given pool (ev.Reconcile d) = ev.Reconcile d
 as_given pool ev.End = ev.End
+
+-- == prices ==
+
+-- the price of an order, if it is one, is a postage that a piece may be franked with
+abbrev pub IsPricedCall : HostCall → Type 0
+IsPricedCall (host.Order d piece class grams zone price) = IsPrice price
+IsPricedCall (host.Send j k) = Unit {0}
+IsPricedCall (host.Print j) = Unit {0}
+IsPricedCall (host.Close j) = Unit {0}
+IsPricedCall (host.Take bytes) = Unit {0}
+
+abbrev pub IsPricedAsked : Asked HostCall → Type 0
+IsPricedAsked On = Unit {0}
+IsPricedAsked Off = Unit {0}
+IsPricedAsked (Cut calls keep byte) = Unit {0}
+IsPricedAsked (Call c) = IsPricedCall c
+
+abbrev pub IsPriced : Taken → Type 0
+IsPriced (take.Day t) = Unit {0}
+IsPriced take.End = Unit {0}
+IsPriced take.Rates = Unit {0}
+IsPriced (take.NoMessage k) = Unit {0}
+IsPriced (take.Reconcile d) = Unit {0}
+IsPriced (take.Device d asked) = Unit {0}
+IsPriced (take.Centre asked) = Unit {0}
+IsPriced (take.Host asked) = IsPricedAsked asked
+IsPriced (take.Verifier asked) = Unit {0}

@@ -4,4 +4,4 @@
 pub mod laws;
 mod taken;
 
-pub use taken::{CentreCall, DeviceCall, Handed, Taken, is_taken, take};
+pub use taken::{CentreCall, DeviceCall, Handed, HostCall, Taken, VerifierCall, take};

@@ -1,12 +1,16 @@
-//! The events that this bench takes, each with whom it is for: of the nodes it has the devices and the centre.
-ghost use Rattle.std.specs.Prelude.{◌≡◌, ◌<◌, ◌^◌, length};
+//! The events of a bench, each with whom it is for and what it asks.
+ghost use Rattle.std.specs.Prelude.{◌≡◌, ◌<◌, ◌^◌, length, drop, IfSome};
 ghost use Rattle.std.specs.Option.{option_copied};
+ghost use Rattle.host_jobs.specs.ActLaws.{IsPrice};
 ghost use Rattle.bench_views.specs.Taken as takes;
+ghost use Rattle.bench_views.specs.Tariff as tariff;
 
 use bench_base::bytes::Note;
 use bench_base::events::Event;
 use bench_base::numbers::{Customer, DayNo, DevNo};
+use bench_base::refusals::RateRefusal;
 use bench_base::words::{Key, Kind, Node};
+use host_rates::Rates;
 use node_acts::Asked;
 use psd_wire::{Message, read_message};
 use std::marker::Model;
@@ -96,76 +100,67 @@ pub enum CentreCall<'a> {
     },
 }
 
-/// An event that the bench takes.
+/// A call of the host. Weights are in grams. What it sends becomes the message of this number.
+#[derive(Drop)]
+pub enum HostCall<'a> {
+    /// The price is the postage in mills by the rates of the run, or why they give none; there is none without rates.
+    Order {
+        device: DevNo,
+        piece: u32,
+        class: u16,
+        grams: u32,
+        zone: u32,
+        price: Option<Result<u32, RateRefusal>>,
+    },
+    Send {
+        job: u32,
+        message: u32,
+    },
+    Print(u32),
+    Close(u32),
+    /// A Release.
+    Take(Handed<'a>),
+}
+
+/// A call of the verifier.
+#[derive(Drop)]
+pub enum VerifierCall<'a> {
+    Trust { device: DevNo, key: Key },
+    /// The number of the scan is at least 1.
+    Scan { number: u32, bytes: Handed<'a> },
+}
+
+/// An event, by whom it is for.
 #[derive(Drop)]
 pub enum Taken<'a> {
     Day(DayNo),
     End,
+    Rates,
     /// No message of this number was sent in this run.
     NoMessage(u32),
-    /// For a node that the bench hasn't, which is off.
-    Absent(Node),
     /// Compares the device with the centre.
     Reconcile(DevNo),
     Device(DevNo, Asked<DeviceCall<'a>>),
     Centre(Asked<CentreCall<'a>>),
+    Host(Asked<HostCall<'a>>),
+    Verifier(Asked<VerifierCall<'a>>),
 }
 
-fn has_node(node: Node) -> bool
-    ensures { result ≡ takes.has_node node }
-{
-    match node {
-        Node::Device(_) | Node::Centre => true,
-        Node::Host | Node::Verifier => false,
-    }
-}
-
-/// Whether the bench takes the event: a line of one that it doesn't take is bad.
-pub fn is_taken(event: &Event) -> bool
-    ensures { result ≡ takes.is_taken event.now }
-{
-    match event {
-        Event::Day(_)
-        | Event::End
-        | Event::Make(_, _)
-        | Event::Debit(_, _, _, _)
-        | Event::Ask(_, _, _, _)
-        | Event::Resend(_)
-        | Event::Ack(_)
-        | Event::Status(_)
-        | Event::Register(_, _, _)
-        | Event::OpenCustomer(_)
-        | Event::Deposit(_, _, _)
-        | Event::Flag(_, _)
-        | Event::Balance(_)
-        | Event::Deliver(_)
-        | Event::Reconcile(_) => true,
-        Event::On(node) | Event::Off(node) | Event::Cut(node, _, _, _) | Event::Give(node, _) => {
-            has_node(*node)
-        }
-        Event::Rates
-        | Event::Order(_, _, _, _, _)
-        | Event::Send(_)
-        | Event::Print(_)
-        | Event::Close(_)
-        | Event::Trust(_, _)
-        | Event::ScanMsg(_, _)
-        | Event::ScanHex(_, _) => false,
-    }
-}
-
-// What a node is asked, where the bench has it: the one of a device, or the one of the centre.
+// What a node is asked: the one of a device, of the centre, of the host, or of the verifier.
 fn of_node<'a>(
     node: Node,
     device: Asked<DeviceCall<'a>>,
     centre: Asked<CentreCall<'a>>,
+    host: Asked<HostCall<'a>>,
+    verifier: Asked<VerifierCall<'a>>,
 ) -> Taken<'a>
-    ensures { result ≡ takes.of_node node device.entry centre.entry }
+    ensures { result ≡ takes.of_node node device.entry centre.entry host.entry verifier.entry }
 {
     match node {
         Node::Device(number) => Taken::Device(number, device),
         Node::Centre => Taken::Centre(centre),
-        Node::Host | Node::Verifier => Taken::Absent(node),
+        Node::Host => Taken::Host(host),
+        Node::Verifier => Taken::Verifier(verifier),
     }
 }
 
@@ -181,19 +176,61 @@ fn of_centre(call: CentreCall) -> Taken
     Taken::Centre(Asked::Call(call))
 }
 
-// A message for the device of this number. Each message that was sent names one.
+fn of_host(call: HostCall) -> Taken
+    ensures { result ≡ takes.of_host call.entry }
+{
+    Taken::Host(Asked::Call(call))
+}
+
+fn of_verifier(call: VerifierCall) -> Taken
+    ensures { result ≡ takes.of_verifier call.entry }
+{
+    Taken::Verifier(Asked::Call(call))
+}
+
+fn to_centre<'a>(bytes: &'a [u8], message: u32) -> Taken<'a>
+    ensures { result ≡ takes.to_centre bytes.now message }
+{
+    of_centre(CentreCall::Take {
+        bytes: Handed::new(bytes),
+        message,
+    })
+}
+
+fn to_device<'a>(device: DevNo, bytes: &'a [u8], message: u32) -> Taken<'a>
+    ensures { result ≡ takes.to_device device bytes.now message }
+{
+    of_device(
+        device,
+        DeviceCall::Take {
+            bytes: Handed::new(bytes),
+            message,
+        },
+    )
+}
+
+fn to_host<'a>(bytes: &'a [u8]) -> Taken<'a>
+    ensures { result ≡ takes.to_host bytes.now }
+{
+    of_host(HostCall::Take(Handed::new(bytes)))
+}
+
+fn to_scanner<'a>(number: u32, bytes: &'a [u8]) -> Taken<'a>
+    ensures { result ≡ takes.to_scanner number bytes.now }
+{
+    of_verifier(VerifierCall::Scan {
+        number,
+        bytes: Handed::new(bytes),
+    })
+}
+
+// A message for the device of this number. Each message that was sent names one of 1 to 8.
 fn for_device<'a>(device: u32, bytes: &'a [u8], message: u32) -> Taken<'a>
     ensures { result ≡ takes.for_device device bytes.now message }
 {
     match DevNo::new(device) {
-        Some(device) => of_device(
-            device,
-            DeviceCall::Take {
-                bytes: Handed::new(bytes),
-                message,
-            },
-        ),
-        None => Taken::Absent(Node::Verifier),
+        Some(device) => to_device(device, bytes, message),
+        None => to_centre(bytes, message),
     }
 }
 
@@ -204,11 +241,8 @@ fn delivered<'a>(bytes: &'a [u8], message: u32) -> Taken<'a>
     match read_message(bytes) {
         Ok(Message::Reply(reply)) => for_device(reply.device, bytes, message),
         Ok(Message::Debit(debit)) => for_device(debit.device, bytes, message),
-        Ok(Message::Release(_)) => Taken::Absent(Node::Host),
-        Ok(Message::Request(_) | Message::Done(_)) | Err(_) => of_centre(CentreCall::Take {
-            bytes: Handed::new(bytes),
-            message,
-        }),
+        Ok(Message::Release(_)) => to_host(bytes),
+        Ok(Message::Request(_) | Message::Done(_)) | Err(_) => to_centre(bytes, message),
     }
 }
 
@@ -221,19 +255,71 @@ fn message_taken<'a>(number: u32, next: u32, message: Option<&'a Note>) -> Taken
     }
 }
 
-/// Whom the event is for, and what it asks, where these are the messages of the run; `None` where the bench doesn't take it.
-pub fn take<'a>(event: &'a Event, messages: &'a [Note]) -> Option<Taken<'a>>
+// The bytes of a message from the third on.
+fn behind_tag(message: &[u8]) -> &[u8]
+    ensures { result.now ≡ drop 2 message.now }
+{
+    match message {
+        [_, _, rest @ ..] => rest,
+        _ => &[],
+    }
+}
+
+fn scanned<'a>(scan: u32, number: u32, message: Option<&'a Note>) -> Taken<'a>
+    ensures { result ≡ takes.scanned scan number (option_copied message.entry) }
+{
+    match message {
+        Some(message) => to_scanner(scan, behind_tag(message.as_slice())),
+        None => Taken::NoMessage(number),
+    }
+}
+
+// Bytes that are given to a node; the verifier is given none.
+fn given_to<'a>(node: Node, bytes: &'a [u8], message: u32) -> Option<Taken<'a>>
+    ensures { result ≡ takes.given_to node bytes.now message }
+{
+    match node {
+        Node::Device(device) => Some(to_device(device, bytes, message)),
+        Node::Centre => Some(to_centre(bytes, message)),
+        Node::Host => Some(to_host(bytes)),
+        Node::Verifier => None,
+    }
+}
+
+// What a piece costs by the rates of the run.
+fn quote(
+    rates: &Option<Rates>,
+    class: u16,
+    grams: u32,
+    zone: u32,
+) -> Option<Result<u32, RateRefusal>>
+    ensures exact { result ≡ tariff.quote «rates».now class grams zone }
+    ensures price { IsPrice result }
+{
+    match rates {
+        Some(rates) => Some(rates.price(class, grams, zone)),
+        None => None,
+    }
+}
+
+/// Whom the event is for, and what it asks, where these are the messages and the rates of the run. `None` for bytes that are given to the verifier, which
+/// no line does.
+pub fn take<'a>(event: &'a Event, messages: &'a [Note], rates: &Option<Rates>) -> Option<Taken<'a>>
     requires few { length messages.now < 2 ^ 32 }
-    ensures { result ≡ takes.taken messages.now event.now }
+    ensures exact { result ≡ takes.taken messages.now (tariff.quote «rates».now) event.now }
+    ensures priced { IfSome result takes.IsPriced }
 {
     let next = messages.len() as u32;
     match event {
         Event::Day(day) => Some(Taken::Day(*day)),
         Event::End => Some(Taken::End),
-        Event::On(node) => Some(of_node(*node, Asked::On, Asked::On)),
-        Event::Off(node) => Some(of_node(*node, Asked::Off, Asked::Off)),
+        Event::Rates => Some(Taken::Rates),
+        Event::On(node) => Some(of_node(*node, Asked::On, Asked::On, Asked::On, Asked::On)),
+        Event::Off(node) => Some(of_node(*node, Asked::Off, Asked::Off, Asked::Off, Asked::Off)),
         Event::Cut(node, calls, keep, byte) => Some(of_node(
             *node,
+            Asked::Cut(*calls, *keep, *byte),
+            Asked::Cut(*calls, *keep, *byte),
             Asked::Cut(*calls, *keep, *byte),
             Asked::Cut(*calls, *keep, *byte),
         )),
@@ -279,25 +365,29 @@ pub fn take<'a>(event: &'a Event, messages: &'a [Note]) -> Option<Taken<'a>>
             next,
             messages.get(*number as usize),
         )),
-        Event::Give(node, bytes) => Some(of_node(
-            *node,
-            Asked::Call(DeviceCall::Take {
-                bytes: Handed::new(bytes.as_slice()),
-                message: next,
-            }),
-            Asked::Call(CentreCall::Take {
-                bytes: Handed::new(bytes.as_slice()),
-                message: next,
-            }),
-        )),
+        Event::Give(node, bytes) => given_to(*node, bytes.as_slice(), next),
+        Event::Order(device, piece, class, grams, zone) => Some(of_host(HostCall::Order {
+            device: *device,
+            piece: *piece,
+            class: *class,
+            grams: *grams,
+            zone: *zone,
+            price: quote(rates, *class, *grams, *zone),
+        })),
+        Event::Send(job) => Some(of_host(HostCall::Send {
+            job: *job,
+            message: next,
+        })),
+        Event::Print(job) => Some(of_host(HostCall::Print(*job))),
+        Event::Close(job) => Some(of_host(HostCall::Close(*job))),
+        Event::Trust(device, key) => Some(of_verifier(VerifierCall::Trust {
+            device: *device,
+            key: *key,
+        })),
+        Event::ScanMsg(scan, number) => {
+            Some(scanned(*scan, *number, messages.get(*number as usize)))
+        }
+        Event::ScanHex(scan, bytes) => Some(to_scanner(*scan, bytes.as_slice())),
         Event::Reconcile(device) => Some(Taken::Reconcile(*device)),
-        Event::Rates
-        | Event::Order(_, _, _, _, _)
-        | Event::Send(_)
-        | Event::Print(_)
-        | Event::Close(_)
-        | Event::Trust(_, _)
-        | Event::ScanMsg(_, _)
-        | Event::ScanHex(_, _) => None,
     }
 }

@@ -1,6 +1,6 @@
-use Rattle.std.proofs.Common.{◌≡◌, ◌≢◌, ℕ, ◌∷◌, [], Option, Some, refl, ◌∙◌, ap, subst}
+use Rattle.std.proofs.Common.{◌≡◌, ◌∷◌, [], Option, Some, refl, ◌∙◌, ap, subst}
 use Rattle.std.specs.Prelude.{IfSome}
-use Rattle.bench_base.specs.declared.words.Node.TheVariants.{Device, Centre, Host, Verifier}
+use Rattle.bench_base.specs.declared.words.Node.TheVariants.{Device, Centre}
 use Rattle.bench_base.specs.declared.ledger.Commit.{Commit}
 use Rattle.bench_base.specs.declared.events.Reply.{Reply}
 use Rattle.bench_base.specs.Plans.{Plan}
@@ -27,6 +27,7 @@ use Rattle.bench_views.specs.Devices as devices
 use Rattle.bench_views.specs.Centre as views
 use Rattle.bench_views.specs.Centre.{AreBytes}
 use Rattle.bench_views.specs.Kinds.{bench_kinds}
+use Rattle.bench_views.specs.Tariff.{quote_in}
 use Rattle.bench_views.specs.Messages.{sent_in}
 use Rattle.bench_views.proofs.Acts as acts
 use Rattle.bench_views.proofs.Asked.{plan_alike, commit_own, stepped, plan_tame, said_tame}
@@ -37,24 +38,14 @@ use Rattle.bench_views.proofs.CentreFrames.{device_apart}
 use Rattle.bench_views.proofs.CentreRows.{books_of}
 use Rattle.bench_views.proofs.Following.{followed}
 use Rattle.bench_views.proofs.Frames.{devices_apart}
+use Rattle.bench_views.proofs.HostFrames.{host_apart}
+use Rattle.bench_views.proofs.VerifierFrames.{verifier_apart}
 use Rattle.bench_views.proofs.Genuine.{genuine, OfAsked}
 use Rattle.bench_views.proofs.Origins.{centre_apart}
 use Rattle.bench_views.proofs.Plans.{planned, call_own}
 use Rattle.bench_views.proofs.Quiet.{planned_quiet}
 use Rattle.bench_views.proofs.Steps as steps
 use Rattle.bench_views.proofs.laws.nodes_follow.Goals as goal
-
-device_host : (d : ℕ) → Host ≢ Device d
-device_host d is = cc
-
-device_verifier : (d : ℕ) → Verifier ≢ Device d
-device_verifier d is = cc
-
-centre_host : Host ≢ Centre
-centre_host is = cc
-
-centre_verifier : Verifier ≢ Centre
-centre_verifier is = cc
 
 pub returns-clause-devices : goal.returns-clause-devices
 returns-clause-devices c d τ H e today asked h unforged day whole of ready known next_known =
@@ -67,12 +58,16 @@ returns-clause-devices c d τ H e today asked h unforged day whole of ready know
     let act : DeviceCall → Act State Reply Said = λ k. devices.device_act d today k v.state.state in
     let call_plan : DeviceCall → Plan = λ k. seen_plan n (Device d) v (act k) in
     let call_commit : DeviceCall → Option (Commit × device.Seen) = λ k. commit_of n v (act k) in
-    let plan_is = planned H laws.resent τ today day e d asked of (known, ordered.records d) in
-    let real = genuine H (c.histories.ensures.holds τ todays_rules _ H editions h).replied e d asked of unforged in
+    let plan_is = planned H laws.resent τ today (quote_in τ H) day e d asked of (known, ordered.records d) in
+    let real = genuine H (c.histories.ensures.holds τ todays_rules _ H editions h).replied (quote_in τ H) e d asked of unforged in
     followed n devices.device_kind (Device d) d bench_kinds τ H e today asked
     (c.orders.ensures.torn τ todays_rules _ H editions h) nexts
-    refl (device_host d) (device_verifier d)
-    (λ i differs. devices_apart d i (λ same. differs (ap Device same))) (λ differs. device_apart d)
+    refl (record {
+      devices = λ i differs. devices_apart d i (λ same. differs (ap Device same));
+      centre = λ differs. device_apart d;
+      host = λ differs. host_apart (Device d) (λ same. cc);
+      verifier = λ differs. verifier_apart (Device d) (λ same. cc);
+    })
     plan_is
     (plan_alike n (Device d) call_plan call_commit v (λ k. seen_commit n (Device d) v (act k)) asked)
     (commit_own n (Device d) call_plan call_commit v asked (λ k is x made. seen_own n (Device d) v (act k) x (call_own d today k v.state.state) made))
@@ -98,25 +93,30 @@ returns-clause-centre c τ H e today asked h unforged day whole of bytes known n
     let are = books_of (counted H) ordered.centre (c.counts.ensures.ranges τ todays_rules _ H editions h) (c.withdrawals.ensures τ todays_rules _ H editions h) known.sound in
     let follow = c.acts_follow_the_commits.ensures.follows in
     let are_planned = c.acts_follow_the_commits.ensures.planned in
+    let sent = (c.histories.ensures.holds τ todays_rules _ H editions h).sent in
     let counts = counting.counts (counted H) ordered.centre (c.counts.ensures.cells τ todays_rules _ H editions h) in
     let whole_call : (k : CentreCall) → asked ≡ Call k → calls.IsWholeCall k =
-    λ k is. calls.whole_call H e k (subst (λ a. taken (sent_in H) e ≡ Some (take.Centre a)) is of) whole (subst AreBytes is bytes) in
+    λ k is. calls.whole_call H (quote_in τ H) e k (subst (λ a. taken (sent_in H) (quote_in τ H) e ≡ Some (take.Centre a)) is of) whole (subst AreBytes is bytes) in
     followed n views.centre_kind Centre tt bench_kinds τ H e today asked
     (c.orders.ensures.torn τ todays_rules _ H editions h)
     (c.orders.ensures.next τ todays_rules _ H editions h e [] whole unforged)
-    counts centre_host centre_verifier
-    (λ i differs. centre_apart i) (λ differs. absurd (differs refl))
-    (calls.planned_call H known are follow are_planned τ today day counts e asked of whole bytes)
+    counts (record {
+      devices = λ i differs. centre_apart i;
+      centre = λ differs. absurd (differs refl);
+      host = λ differs. host_apart Centre (λ same. cc);
+      verifier = λ differs. verifier_apart Centre (λ same. cc);
+    })
+    (calls.planned_call H known are follow are_planned sent τ today (quote_in τ H) day counts e asked of whole bytes)
     (plan_alike n Centre call_plan call_commit v (λ k. seen_commit n Centre v (act k)) asked)
-    (commit_own n Centre call_plan call_commit v asked (λ k is x made. seen_own n Centre v (act k) x (calls.call_own H known are follow are_planned k (whole_call k is)) made))
+    (commit_own n Centre call_plan call_commit v asked (λ k is x made. seen_own n Centre v (act k) x (calls.call_own H known are follow are_planned sent k (whole_call k is)) made))
     whole
     (plan_tame n Centre call_plan v (λ k. said_tame n Centre v (act k)) asked)
     (stepped n Centre views.seen_in H call_plan call_commit asked
-    (λ k is x may. steps.acts n Centre views.seen_in H (act k) x (calls.call_quiet k (centre.books_in v.state)) (calls.call_right H known are follow are_planned k (whole_call k is)) may))
+    (λ k is x may. steps.acts n Centre views.seen_in H (act k) x (calls.call_quiet k (centre.books_in v.state)) (calls.call_right H known are follow are_planned sent k (whole_call k is)) may))
 
 pub returns-clause-quiet : goal.returns-clause-quiet
-returns-clause-quiet c τ H e today x reply h day host of is known answers =
+returns-clause-quiet c τ H e today x reply h day is known answers =
     let editions = c.histories.ensures.today in
     let ordered = c.orders.ensures.ordered τ todays_rules _ H editions h in
     let are = books_of (counted H) ordered.centre (c.counts.ensures.ranges τ todays_rules _ H editions h) (c.withdrawals.ensures τ todays_rules _ H editions h) known.sound in
-    planned_quiet H (c.acts_follow_the_commits.ensures.planned (centre.books_in (views.view_of H).state) (counted H) known.sound are) (c.histories.ensures.holds τ todays_rules _ H editions h).sent host τ today day e x is reply of answers
+    planned_quiet H (c.acts_follow_the_commits.ensures.planned (centre.books_in (views.view_of H).state) (counted H) known.sound are) τ today (quote_in τ H) day e x is reply answers

@@ -1,0 +1,273 @@
+-- What the host is called for: its plan, its commit, and what is seen of it afterwards.
+use Rattle.std.proofs.Common.{◌≡◌, ℕ, ℤ, List, [], Option, Some, None, Bool, true, false, Result, Ok, Err, refl, sym, ◌∙◌, ap, subst}
+use Rattle.std.specs.Prelude.{◌&&◌, length, slice_get, nat_le, if◌then◌else◌}
+use Rattle.bench_base.specs.declared.words.Node.TheVariants.{Host}
+use Rattle.bench_base.specs.declared.refusals.HostRefusal.{HostRefusal}
+use Rattle.bench_base.specs.declared.refusals.RateRefusal.{RateRefusal}
+use Rattle.bench_base.specs.declared.refusals.Unread.{Unread}
+use Rattle.bench_base.specs.declared.ledger.Commit.{Commit}
+use Rattle.bench_base.specs.declared.events.Event.{Event}
+use Rattle.bench_base.specs.declared.events.Reply.TheVariants as r
+use Rattle.bench_base.specs.Rules.{todays_rules}
+use Rattle.bench_base.specs.Nodes.{node_of}
+use Rattle.bench_base.specs.Plans.{Plan}
+use Rattle.bench_base.specs.Ranges.{IsWholeEvent, IsDevice}
+use Rattle.bench_base.specs.Cells.{OfJob, place_of}
+use Rattle.bench_base.specs.Jobs.{job_of}
+use Rattle.bench_base.specs.Ledger.{Ledger, day_in, count_of, counted, message}
+use Rattle.node_acts.specs.declared.act.Act.TheVariants.{Refuse, Tell, Commits}
+use Rattle.node_acts.specs.declared.asked.Asked.{Asked}
+use Rattle.node_acts.specs.declared.asked.Asked.TheVariants.{On, Off, Cut, Call}
+use Rattle.node_acts.specs.declared.said.Said.{Said}
+use Rattle.node_acts.specs.Plans.{IsOfNode}
+use Rattle.node_acts.specs.Kinds.{node_plan}
+use Rattle.node_acts.specs.RowList.{commits_in}
+use Rattle.node_acts.specs.Said.{said_plan, seen_plan}
+use Rattle.psd_wire.specs.declared.message.Message.{Message}
+use Rattle.psd_wire.specs.declared.message.Message.TheVariants as m
+use Rattle.psd_wire.specs.Grammar.{read}
+use Rattle.ledger_moves.specs.Tariffs.{Tariff}
+use Rattle.ledger_moves.specs.Moves.{plan, at_node, host_plan, deliver_to, deliver_plan}
+use Rattle.host_jobs.specs.declared.rows.JobRow.{JobRow}
+use Rattle.host_jobs.specs.Answers.{order_answer, send_answer, shown_state, send_plan, host_take}
+use Rattle.host_jobs.specs.Acts.{HostAct, shelf_in, ordered_act, unless, debit_note, sent_act}
+use Rattle.host_jobs.specs.Acts as acts
+use Rattle.host_jobs.specs.ActLaws.{LeavesSound, ActsLeaveSound, AreRowsOf, FollowsCommits, ActsFollow, ActsArePlanned}
+use Rattle.host_jobs.specs.ActLaws as law
+use Rattle.host_jobs.specs.Records.{seen_after}
+use Rattle.host_jobs.specs.Rows.{Jobs, open_in, job_row}
+use Rattle.host_jobs.specs.Seen.{counting, cell_of, rows_in}
+use Rattle.host_jobs.specs.SeenLaws.{SeenLaws}
+use Rattle.host_jobs.specs.Turns.{InTurn}
+use Rattle.bench_views.specs.declared.taken.HostCall.{HostCall}
+use Rattle.bench_views.specs.declared.taken.HostCall.TheVariants as call
+use Rattle.bench_views.specs.declared.taken.Taken.TheVariants as take
+use Rattle.bench_views.specs.Taken as takes
+use Rattle.bench_views.specs.Taken.{taken}
+use Rattle.bench_views.specs.Tariff.{Quote, quote_in}
+use Rattle.bench_views.specs.Host as views
+use Rattle.bench_views.specs.Host.{IsKnown, view_of, says, host_act, host_kind}
+use Rattle.bench_views.specs.Messages.{sent_in}
+use Rattle.bench_views.proofs.Calling.{plan_says, own_says, worn_says, at_seen, IsWornAlike}
+use Rattle.bench_views.proofs.Events.{each_of_host}
+use Rattle.bench_views.proofs.HostCommits.{worn}
+use Rattle.bench_views.proofs.Sent.{sent_many, sent_at}
+use Rattle.bench_views.proofs.Steps.{IsQuiet, IsQuietAct, IsRight, quiet_says, right_says}
+
+-- == whose the commits are, and where they lie ==
+
+-- the commit of the act, if it makes one, is the host's, and lies in the cell of its row
+abbrev IsPlacedAct : {A : Type 0} → HostAct A → Type 0
+IsPlacedAct (Refuse x) = Unit {0}
+IsPlacedAct (Tell a) = Unit {0}
+IsPlacedAct (Commits c x a) = (node_of c ≡ Host) × (place_of c ≡ OfJob (cell_of x))
+
+sound_placed : {A : Type 0} (rows : Jobs) (act : HostAct A) → LeavesSound rows act → IsPlacedAct act
+sound_placed rows (Refuse x) leaves = tt
+sound_placed rows (Tell a) leaves = tt
+sound_placed rows (Commits c x a) leaves = (leaves.1, leaves.2)
+
+-- whatever the price
+order_placed : (d piece class : ℕ) (price : Option (Result ℕ RateRefusal)) (rows : Jobs) → IsPlacedAct (acts.order_act d piece class price rows)
+order_placed d piece class None rows = tt
+order_placed d piece class (Some (Err x)) rows = tt
+order_placed d piece class (Some (Ok postage)) rows = by (order_answer piece (shelf_in d rows) (open_in d rows))
+  where
+    by : (o : Result ℕ HostRefusal) → IsPlacedAct (ordered_act d piece class postage rows o)
+    by (Err x) = tt
+    by (Ok j) = (refl, refl)
+
+-- == what is said ==
+
+refused_quiet : (y : HostRefusal) → IsQuiet (r.HostRefused y)
+refused_quiet y = tt
+
+pub call_quiet : (c : HostCall) (rows : Jobs) → IsQuietAct (host_act c rows)
+call_quiet (call.Order d piece class grams zone price) rows = quiet_says r.HostRefused views.ordered refused_quiet (λ a. refl) (acts.order_act d piece class price rows)
+call_quiet (call.Send j k) rows = quiet_says r.HostRefused (views.sent j k) refused_quiet (λ note. refl) (acts.debit_message_act j rows)
+call_quiet (call.Print j) rows = quiet_says r.HostRefused (views.printed j) refused_quiet (λ mark. refl) (acts.begin_print_act j rows)
+call_quiet (call.Close j) rows = quiet_says r.HostRefused _ refused_quiet (λ u. refl) (acts.close_act j rows)
+call_quiet (call.Take bytes) rows = quiet_says r.HostRefused views.held refused_quiet (λ j. refl) (acts.take_act bytes rows)
+
+-- == what it is handed ==
+
+-- the device of an order is one of 1 to 8
+abbrev pub IsWholeCall : HostCall → Type 0
+IsWholeCall (call.Order d piece class grams zone price) = IsDevice d
+IsWholeCall (call.Send j k) = Unit {0}
+IsWholeCall (call.Print j) = Unit {0}
+IsWholeCall (call.Close j) = Unit {0}
+IsWholeCall (call.Take bytes) = Unit {0}
+
+-- a message for a device is none for the host
+not_host : {P : Type 0} (d : ℕ) (bytes : List ℕ) (k : ℕ) (asked : Asked HostCall) (t : Bool) → (if t then takes.to_device d bytes k else takes.to_centre bytes k) ≡ take.Host asked → P
+not_host d bytes k asked true is = cc
+not_host d bytes k asked false is = cc
+
+delivered_asked : (bytes : List ℕ) (k : ℕ) (asked : Asked HostCall) (x : Result Message Unread) → takes.delivered_as bytes k x ≡ take.Host asked → asked ≡ Call (call.Take bytes)
+delivered_asked bytes k asked (Ok (m.Release x)) is = cc
+delivered_asked bytes k asked (Ok (m.Request q)) is = cc
+delivered_asked bytes k asked (Ok (m.Done q)) is = cc
+delivered_asked bytes k asked (Err x) is = cc
+delivered_asked bytes k asked (Ok (m.Reply p)) is = not_host p.device bytes k asked (nat_le 1 p.device && nat_le p.device 8) is
+delivered_asked bytes k asked (Ok (m.Debit q)) is = not_host q.device bytes k asked (nat_le 1 q.device && nat_le q.device 8) is
+
+-- == at a ledger ==
+
+module _ (H : Ledger) (known : IsKnown (seen_after (counted H))) (turn : InTurn (counted H)) (laws : SeenLaws) (leave : ActsLeaveSound) (follow : ActsFollow) (planned : ActsArePlanned) where
+  abbrev C : List Commit
+  C = counted H
+
+  abbrev rows : Jobs
+  rows = rows_in (seen_after C)
+
+  are : AreRowsOf rows C
+  are = record { order = turn; are = laws.rows C }
+
+  leaving : law.SoundActs rows
+  leaving = leave rows known.sound
+
+  following : law.FollowingActs rows C
+  following = follow.each rows C known.sound are
+
+  plans : law.PlannedActs rows C
+  plans = planned rows C known.sound are
+
+  -- an act of these rows whose commit, if it makes one, is the host's, and leads to the rows after it
+  abbrev IsGood : {A : Type 0} → HostAct A → Type 0
+  IsGood act = IsPlacedAct act × FollowsCommits rows C act
+
+  own : {A : Type 0} (act : HostAct A) → IsGood act → IsOfNode Host act
+  own (Refuse x) good = tt
+  own (Tell a) good = tt
+  own (Commits c x a) good = good.0.0
+
+  right : {A : Type 0} (act : HostAct A) → IsGood act → IsRight counting Host seen_after H act
+  right (Refuse x) good = tt
+  right (Tell a) good = tt
+  right (Commits c x a) good = (good.0.0, λ on fresh. laws.puts rows C c x are good.1 good.0.1)
+
+  worn_alike : {A : Type 0} (act : HostAct A) → IsGood act → IsWornAlike counting Host seen_after H act
+  worn_alike (Refuse x) good = tt
+  worn_alike (Tell a) good = tt
+  worn_alike (Commits c x a) good = worn laws C turn c x good.0.1 known
+
+  -- == each call ==
+
+  -- to send a message commits nothing
+  send_follows : (o : Option JobRow) → FollowsCommits rows C (sent_act o)
+  send_follows None = tt
+  send_follows (Some x) = by (send_answer (Some x.state))
+    where
+      by : (o : Option HostRefusal) → FollowsCommits rows C (unless o (Tell (debit_note x)))
+      by None = tt
+      by (Some y) = tt
+
+  order_good : (d piece class : ℕ) (price : Option (Result ℕ RateRefusal)) → IsDevice d → IsGood (acts.order_act d piece class price rows)
+  order_good d piece class price is = (order_placed d piece class price rows, following.ordered d piece class price is)
+
+  send_good : (j : ℕ) → IsGood (acts.debit_message_act j rows)
+  send_good j = (sound_placed rows (acts.debit_message_act j rows) (leaving.sent j), send_follows (job_row rows j))
+
+  print_good : (j : ℕ) → IsGood (acts.begin_print_act j rows)
+  print_good j = (sound_placed rows (acts.begin_print_act j rows) (leaving.begun j), following.begun j)
+
+  close_good : (j : ℕ) → IsGood (acts.close_act j rows)
+  close_good j = (sound_placed rows (acts.close_act j rows) (leaving.closed j), following.closed j)
+
+  take_good : (bytes : List ℕ) → IsGood (acts.take_act bytes rows)
+  take_good bytes = (sound_placed rows (acts.take_act bytes rows) (leaving.taken bytes), following.taken bytes)
+
+  pub call_own : (c : HostCall) → IsWholeCall c → IsOfNode Host (host_act c rows)
+  call_own (call.Order d piece class grams zone price) whole = own_says Host _ _ (acts.order_act d piece class price rows) (own (acts.order_act d piece class price rows) (order_good d piece class price whole))
+  call_own (call.Send j k) whole = own_says Host _ _ (acts.debit_message_act j rows) (own (acts.debit_message_act j rows) (send_good j))
+  call_own (call.Print j) whole = own_says Host _ _ (acts.begin_print_act j rows) (own (acts.begin_print_act j rows) (print_good j))
+  call_own (call.Close j) whole = own_says Host _ _ (acts.close_act j rows) (own (acts.close_act j rows) (close_good j))
+  call_own (call.Take bytes) whole = own_says Host _ _ (acts.take_act bytes rows) (own (acts.take_act bytes rows) (take_good bytes))
+
+  pub call_right : (c : HostCall) → IsWholeCall c → IsRight counting Host seen_after H (host_act c rows)
+  call_right (call.Order d piece class grams zone price) whole =
+      right_says counting Host seen_after H _ _ (acts.order_act d piece class price rows) (right (acts.order_act d piece class price rows) (order_good d piece class price whole))
+  call_right (call.Send j k) whole = right_says counting Host seen_after H _ _ (acts.debit_message_act j rows) (right (acts.debit_message_act j rows) (send_good j))
+  call_right (call.Print j) whole = right_says counting Host seen_after H _ _ (acts.begin_print_act j rows) (right (acts.begin_print_act j rows) (print_good j))
+  call_right (call.Close j) whole = right_says counting Host seen_after H _ _ (acts.close_act j rows) (right (acts.close_act j rows) (close_good j))
+  call_right (call.Take bytes) whole = right_says counting Host seen_after H _ _ (acts.take_act bytes rows) (right (acts.take_act bytes rows) (take_good bytes))
+
+  -- == its plan ==
+
+  -- at the host, the plan of an act is what is seen, by how it says what it answers
+  at : {A : Type 0} (p : Plan) (say : A → Said) (act : HostAct A) → IsGood act → p ≡ said_plan (says say act) → at_node Host H p ≡ seen_plan counting Host (view_of H) (says say act)
+  at p say act good is =
+      ap (at_node Host H) is
+      ∙ at_seen counting Host seen_after H (says say act) (own_says Host r.HostRefused say act (own act good)) (worn_says counting Host seen_after H r.HostRefused say act (worn_alike act good))
+
+  -- by the next message
+  sends : (j : ℕ) → at_node Host H (send_plan (length (sent_in H)) j (shown_state j C) (job_of j C)) ≡ seen_plan counting Host (view_of H) (host_act (call.Send j (length (sent_in H))) rows)
+  sends j =
+      at _ (views.sent j (length (sent_in H))) (acts.debit_message_act j rows) (send_good j)
+      (sym (plans.sent (length (sent_in H)) j) ∙ plan_says _ _ _ _ (λ note. refl) (λ note. refl) (acts.debit_message_act j rows))
+
+  handed : (bytes : List ℕ) → host_plan bytes H ≡ seen_plan counting Host (view_of H) (host_act (call.Take bytes) rows)
+  handed bytes =
+      at (host_take (read bytes) C) views.held (acts.take_act bytes rows) (take_good bytes)
+      (sym (plans.taken bytes) ∙ plan_says _ _ _ _ (λ j. refl) (λ j. refl) (acts.take_act bytes rows))
+
+  -- a message that is delivered to the host
+  delivered : (today : ℤ) (bytes : List ℕ) (k : ℕ) (asked : Asked HostCall) (x : Result Message Unread) → takes.delivered_as bytes k x ≡ take.Host asked → deliver_to todays_rules today bytes x H ≡ host_plan bytes H
+  delivered today bytes k asked (Ok (m.Release x)) is = refl
+  delivered today bytes k asked (Ok (m.Request q)) is = cc
+  delivered today bytes k asked (Ok (m.Done q)) is = cc
+  delivered today bytes k asked (Err x) is = cc
+  delivered today bytes k asked (Ok (m.Reply p)) is = not_host p.device bytes k asked (nat_le 1 p.device && nat_le p.device 8) is
+  delivered today bytes k asked (Ok (m.Debit q)) is = not_host q.device bytes k asked (nat_le 1 q.device && nat_le q.device 8) is
+
+  abbrev ByView : ℤ → Asked HostCall → Plan
+  ByView today asked = node_plan counting Host (host_kind.plan tt today (view_of H)) (view_of H) asked
+
+  delivered_plan : (today : ℤ) (k : ℕ) (asked : Asked HostCall) (o : Option (List ℕ)) → takes.message_taken k (length (sent_in H)) o ≡ take.Host asked → deliver_plan todays_rules today k o H ≡ ByView today asked
+  delivered_plan today k asked None is = cc
+  delivered_plan today k asked (Some bytes) is =
+      delivered today bytes (length (sent_in H)) asked (read bytes) is ∙ handed bytes ∙ ap (ByView today) (sym (delivered_asked bytes (length (sent_in H)) asked (read bytes) is))
+
+  pub planned_call : (τ : Tariff) (today : ℤ) → day_in H ≡ Some today → commits_in (seen_after C) ≡ count_of Host C → (e : Event) (asked : Asked HostCall)
+      → taken (sent_in H) (quote_in τ H) e ≡ Some (take.Host asked) → IsWholeEvent e → plan τ todays_rules H e [] ≡ ByView today asked
+  unfolding plan
+  planned_call τ today day counts = each_of_host (sent_in H) (quote_in τ H) (λ e asked. IsWholeEvent e → plan τ todays_rules H e [] ≡ ByView today asked) (record {
+    on = λ whole. rw (day, sym counts) refl;
+    off = λ whole. rw day refl;
+    cut = λ calls keep byte whole. rw day refl;
+    order = λ d piece class grams zone whole. rw day (
+        let price = quote_in τ H class grams zone in
+        at _ _ (acts.order_act d piece class price rows) (order_good d piece class price whole.0) (sym (plans.ordered d piece class price whole.0) ∙ plan_says _ _ _ _ (λ a. refl) (λ a. refl) (acts.order_act d piece class price rows)));
+    send = λ j whole. rw (day, sym (sent_many H)) (sends j);
+    print = λ j whole. rw day (at _ _ (acts.begin_print_act j rows) (print_good j) (sym (plans.begun j) ∙ plan_says _ _ _ _ (λ mark. refl) (λ mark. refl) (acts.begin_print_act j rows)));
+    close = λ j whole. rw day (at _ _ (acts.close_act j rows) (close_good j) (sym (plans.closed j) ∙ plan_says _ _ _ _ (λ u. refl) (λ u. refl) (acts.close_act j rows)));
+    give = λ bytes whole. rw day (handed bytes);
+    deliver = λ k asked is whole. rw day (delivered_plan today k asked (message k H) (subst (λ (o : Option (List ℕ)). takes.message_taken k (length (sent_in H)) o ≡ take.Host asked) (sent_at H k) is));
+  })
+
+-- == the numbers of a call ==
+
+abbrev IsWholeAsked : Asked HostCall → Type 0
+IsWholeAsked On = Unit {0}
+IsWholeAsked Off = Unit {0}
+IsWholeAsked (Cut calls keep byte) = Unit {0}
+IsWholeAsked (Call x) = IsWholeCall x
+
+delivered_whole : (k next : ℕ) (asked : Asked HostCall) (o : Option (List ℕ)) → takes.message_taken k next o ≡ take.Host asked → IsWholeAsked asked
+delivered_whole k next asked None is = cc
+delivered_whole k next asked (Some bytes) is = subst IsWholeAsked (sym (delivered_asked bytes next asked (read bytes) is)) tt
+
+-- they are those of its event
+pub whole_call : (H : Ledger) (quote : Quote) (e : Event) (c : HostCall) → taken (sent_in H) quote e ≡ Some (take.Host (Call c)) → IsWholeEvent e → IsWholeCall c
+whole_call H quote e c of = each_of_host (sent_in H) quote (λ i asked. IsWholeEvent i → IsWholeAsked asked) (record {
+  on = λ whole. tt;
+  off = λ whole. tt;
+  cut = λ calls keep byte whole. tt;
+  order = λ d piece class grams zone whole. whole.0;
+  send = λ j whole. tt;
+  print = λ j whole. tt;
+  close = λ j whole. tt;
+  give = λ bytes whole. tt;
+  deliver = λ k asked is whole. delivered_whole k (length (sent_in H)) asked (slice_get (sent_in H) k) is;
+}) e (Call c) of

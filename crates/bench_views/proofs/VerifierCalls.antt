@@ -1,0 +1,162 @@
+-- What the verifier is called for: its plan, its commit, and what is seen of it afterwards.
+use Rattle.std.proofs.Common.{◌≡◌, ℕ, ℤ, List, [], Option, Some, refl, sym, ◌∙◌, ap}
+use Rattle.std.specs.Prelude.{drop, nat_le}
+use Rattle.bench_base.specs.declared.words.Node.TheVariants.{Verifier}
+use Rattle.bench_base.specs.declared.sizes.TheConstants.{MOST_COMMITS}
+use Rattle.bench_base.specs.declared.refusals.ScanRefusal.{ScanRefusal}
+use Rattle.bench_base.specs.declared.ledger.Commit.{Commit}
+use Rattle.bench_base.specs.declared.events.Event.{Event}
+use Rattle.bench_base.specs.declared.events.Reply.TheVariants as r
+use Rattle.bench_base.specs.Rules.{todays_rules}
+use Rattle.bench_base.specs.Plans.{Plan}
+use Rattle.bench_base.specs.Table.{IsBytes}
+use Rattle.bench_base.specs.Ranges.{IsWholeEvent, IsDevice, IsKey, IsCount}
+use Rattle.bench_base.specs.Cells as cells
+use Rattle.bench_base.specs.Ledger.{Ledger, day_in, count_of, counted}
+use Rattle.node_acts.specs.declared.act.Act.TheVariants.{Refuse, Tell, Commits}
+use Rattle.node_acts.specs.declared.asked.Asked.{Asked}
+use Rattle.node_acts.specs.declared.asked.Asked.TheVariants.{On, Off, Cut, Call}
+use Rattle.node_acts.specs.declared.said.Said.{Said}
+use Rattle.node_acts.specs.Plans.{IsOfNode}
+use Rattle.node_acts.specs.Kinds.{node_plan}
+use Rattle.node_acts.specs.RowList.{row_at, commits_at, commits_in}
+use Rattle.node_acts.specs.RowList as rows
+use Rattle.node_acts.specs.Said.{said_plan, seen_plan}
+use Rattle.ledger_moves.specs.Tariffs.{Tariff}
+use Rattle.ledger_moves.specs.Moves.{plan, at_node, scan_plan, scan_sent}
+use Rattle.verifier.specs.declared.acts.Change.{Change}
+use Rattle.verifier.specs.Acts.{ScanAct, trust_act, scan_act}
+use Rattle.verifier.specs.ActLaws.{LeavesSound, SoundActs, ActsLeaveSound, IsNext, FollowsCommits, FollowingActs, ActsFollow, PlannedActs, ActsArePlanned}
+use Rattle.verifier.specs.Records.{seen_after, IsRecorded}
+use Rattle.verifier.specs.Seen.{Seen, cell_of, counting}
+use Rattle.bench_views.specs.declared.taken.VerifierCall.{VerifierCall}
+use Rattle.bench_views.specs.declared.taken.VerifierCall.TheVariants as call
+use Rattle.bench_views.specs.declared.taken.Taken.TheVariants as take
+use Rattle.bench_views.specs.Taken.{taken}
+use Rattle.bench_views.specs.Tariff.{Quote}
+use Rattle.bench_views.specs.Verifier.{view_of, accepted, says, verifier_act, verifier_kind, IsKnown, AreBytes}
+use Rattle.bench_views.specs.Messages.{sent_in}
+use Rattle.bench_views.proofs.Calling.{plan_says, own_says, worn_says, at_seen, IsWornAlike}
+use Rattle.bench_views.proofs.Counts.{top-is}
+use Rattle.bench_views.proofs.Events.{each_of_verifier}
+use Rattle.bench_views.proofs.Sent.{sent_at}
+use Rattle.bench_views.proofs.Steps.{IsQuiet, IsQuietAct, IsRight, quiet_says, right_says}
+
+-- the numbers of the call fit their fields
+abbrev pub IsWholeCall : VerifierCall → Type 0
+IsWholeCall (call.Trust d key) = IsDevice d × IsKey key
+IsWholeCall (call.Scan n bytes) = IsCount n × IsBytes bytes
+
+-- == what is said ==
+
+refused_quiet : (y : ScanRefusal) → IsQuiet (r.ScanRefused y)
+refused_quiet y = tt
+
+pub call_quiet : (today : ℤ) (c : VerifierCall) (s : Seen) → IsQuietAct (verifier_act today c s)
+call_quiet today (call.Trust d key) s = quiet_says r.ScanRefused _ refused_quiet (λ u. refl) (trust_act d key s)
+call_quiet today (call.Scan n bytes) s = quiet_says r.ScanRefused (accepted n) refused_quiet (λ a. refl) (scan_act n bytes today s)
+
+-- == at a ledger ==
+
+module _ (H : Ledger) (recorded : IsRecorded (counted H)) (known : IsKnown (seen_after (counted H))) (sound : ActsLeaveSound) (follow : ActsFollow) (planned : ActsArePlanned) where
+  abbrev C : List Commit
+  C = counted H
+
+  abbrev s : Seen
+  s = seen_after C
+
+  leaving : SoundActs s
+  leaving = sound s known.sound
+
+  following : FollowingActs C
+  following = follow.each C recorded
+
+  plans : PlannedActs C
+  plans = planned C recorded
+
+  -- an act of these rows whose commit, if it makes one, is the verifier's, and leads to the rows after it
+  abbrev IsGood : {A : Type 0} → ScanAct A → Type 0
+  IsGood act = LeavesSound s act × FollowsCommits C act
+
+  own : {A : Type 0} (act : ScanAct A) → IsGood act → IsOfNode Verifier act
+  own (Refuse x) good = tt
+  own (Tell a) good = tt
+  own (Commits c x a) good = good.0.1
+
+  right : {A : Type 0} (act : ScanAct A) → IsGood act → IsRight counting Verifier seen_after H act
+  right (Refuse x) good = tt
+  right (Tell a) good = tt
+  right (Commits c x a) good = (good.0.1, λ on fresh. sym good.1.seen)
+
+  -- the cell of a change is worn where the ledger says so
+  worn : (c : Commit) (x : Change) → IsNext C c x → cells.is_worn c C ≡ rows.is_worn s (cell_of x)
+  unfolding cells.is_worn
+  worn c x next = ap (λ (n : ℕ). nat_le MOST_COMMITS n) (sym next.count) ∙ top-is (commits_at (row_at s (cell_of x))) MOST_COMMITS (known.few (cell_of x))
+
+  worn_alike : {A : Type 0} (act : ScanAct A) → IsGood act → IsWornAlike counting Verifier seen_after H act
+  worn_alike (Refuse x) good = tt
+  worn_alike (Tell a) good = tt
+  worn_alike (Commits c x a) good = worn c x good.1
+
+  -- == each call ==
+
+  trust_good : (d : ℕ) (key : List ℕ) → IsDevice d → IsKey key → IsGood (trust_act d key s)
+  trust_good d key device fits = (leaving.trusted d key device fits, following.trusted d key device fits)
+
+  scan_good : (n : ℕ) (bytes : List ℕ) (today : ℤ) → IsCount n → IsBytes bytes → IsGood (scan_act n bytes today s)
+  scan_good n bytes today count are = (leaving.scanned n bytes today count are, following.scanned n bytes today count are)
+
+  pub call_own : (today : ℤ) (c : VerifierCall) → IsWholeCall c → IsOfNode Verifier (verifier_act today c s)
+  call_own today (call.Trust d key) whole = own_says Verifier _ _ (trust_act d key s) (own (trust_act d key s) (trust_good d key whole.0 whole.1))
+  call_own today (call.Scan n bytes) whole = own_says Verifier _ _ (scan_act n bytes today s) (own (scan_act n bytes today s) (scan_good n bytes today whole.0 whole.1))
+
+  pub call_right : (today : ℤ) (c : VerifierCall) → IsWholeCall c → IsRight counting Verifier seen_after H (verifier_act today c s)
+  call_right today (call.Trust d key) whole = right_says counting Verifier seen_after H _ _ (trust_act d key s) (right (trust_act d key s) (trust_good d key whole.0 whole.1))
+  call_right today (call.Scan n bytes) whole = right_says counting Verifier seen_after H _ _ (scan_act n bytes today s) (right (scan_act n bytes today s) (scan_good n bytes today whole.0 whole.1))
+
+  -- == its plan ==
+
+  -- at the verifier, the plan of an act is what is seen, by how it says what it answers
+  at : {A : Type 0} (p : Plan) (say : A → Said) (act : ScanAct A) → IsGood act → p ≡ said_plan (says say act) → at_node Verifier H p ≡ seen_plan counting Verifier (view_of H) (says say act)
+  at p say act good is =
+      ap (at_node Verifier H) is
+      ∙ at_seen counting Verifier seen_after H (says say act) (own_says Verifier r.ScanRefused say act (own act good)) (worn_says counting Verifier seen_after H r.ScanRefused say act (worn_alike act good))
+
+  -- bytes that are scanned
+  scans : (today : ℤ) (n : ℕ) (bytes : List ℕ) → IsCount n → IsBytes bytes → scan_plan n today bytes H ≡ seen_plan counting Verifier (view_of H) (verifier_act today (call.Scan n bytes) s)
+  scans today n bytes count are = at _ (accepted n) (scan_act n bytes today s) (scan_good n bytes today count are)
+      (sym (plans.scanned n bytes today are) ∙ plan_says _ _ _ _ (λ a. refl) (λ a. refl) (scan_act n bytes today s))
+
+  abbrev ByView : ℤ → Asked VerifierCall → Plan
+  ByView today asked = node_plan counting Verifier (verifier_kind.plan tt today (view_of H)) (view_of H) asked
+
+  pub planned_call : (τ : Tariff) (today : ℤ) (quote : Quote) → day_in H ≡ Some today → commits_in (seen_after C) ≡ count_of Verifier C → (e : Event) (asked : Asked VerifierCall)
+      → taken (sent_in H) quote e ≡ Some (take.Verifier asked) → IsWholeEvent e → AreBytes asked → plan τ todays_rules H e [] ≡ ByView today asked
+  unfolding plan
+  planned_call τ today quote day counts = each_of_verifier (sent_in H) quote (λ e asked. IsWholeEvent e → AreBytes asked → plan τ todays_rules H e [] ≡ ByView today asked) (record {
+    on = λ whole bytes. rw (day, sym counts) refl;
+    off = λ whole bytes. rw day refl;
+    cut = λ calls keep byte whole bytes. rw day refl;
+    trust = λ d key whole bytes. rw day (at _ _ (trust_act d key s) (trust_good d key whole.0 whole.1) (sym (plans.trusted d key whole.0) ∙ plan_says _ _ _ _ (λ u. refl) (λ u. refl) (trust_act d key s)));
+    scan = λ n bytes whole are. rw day (scans today n bytes (whole.0, whole.1) are);
+    message = λ n k bytes there whole are. rw day (ap (λ (o : Option (List ℕ)). scan_sent n today k o H) (sym (sent_at H k) ∙ there) ∙ scans today n (drop 2 bytes) (whole.0, whole.1) are);
+  })
+
+-- == the numbers of a call ==
+
+abbrev IsWholeAsked : Asked VerifierCall → Type 0
+IsWholeAsked On = Unit {0}
+IsWholeAsked Off = Unit {0}
+IsWholeAsked (Cut calls keep byte) = Unit {0}
+IsWholeAsked (Call x) = IsWholeCall x
+
+-- they are those of its event, and of what is scanned
+pub whole_call : (H : Ledger) (quote : Quote) (e : Event) (c : VerifierCall) → taken (sent_in H) quote e ≡ Some (take.Verifier (Call c)) → IsWholeEvent e → AreBytes (Call c) → IsWholeCall c
+whole_call H quote e c of = each_of_verifier (sent_in H) quote (λ i asked. IsWholeEvent i → AreBytes asked → IsWholeAsked asked) (record {
+  on = λ whole bytes. tt;
+  off = λ whole bytes. tt;
+  cut = λ calls keep byte whole bytes. tt;
+  trust = λ d key whole bytes. whole;
+  scan = λ n bytes whole are. ((whole.0, whole.1), are);
+  message = λ n k bytes there whole are. ((whole.0, whole.1), are);
+}) e (Call c) of

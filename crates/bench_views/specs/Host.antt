@@ -1,0 +1,69 @@
+-- The host, as the ledger shows it to the bench, and what a call of it does by that alone. Postage is in mills.
+use Rattle.std.specs.Prelude.{◌≡◌, ℕ, ◌≤◌, List, length}
+use Rattle.bench_base.specs.declared.words.Node.TheVariants.{Host}
+use Rattle.bench_base.specs.declared.sizes.TheConstants.{MOST_COMMITS}
+use Rattle.bench_base.specs.declared.events.Reply.{Reply}
+use Rattle.bench_base.specs.declared.events.Reply.TheVariants as r
+use Rattle.bench_base.specs.Ledger.{Ledger}
+use Rattle.node_acts.specs.declared.act.Act.{Act}
+use Rattle.node_acts.specs.declared.said.Said.{Said}
+use Rattle.node_acts.specs.declared.said.GivenOut.TheVariants.{Printed}
+use Rattle.node_acts.specs.Said.{replies, gives, sends, saying, kind_by}
+use Rattle.node_acts.specs.Views.{View}
+use Rattle.node_acts.specs.Kinds.{Kind, view_in}
+use Rattle.node_acts.specs.RowList.{row_at, commits_at}
+use Rattle.host_jobs.specs.declared.rows.JobRow.{JobRow}
+use Rattle.host_jobs.specs.declared.acts.Ordered.{Ordered}
+use Rattle.host_jobs.specs.declared.sizes.TheConstants.{HOST_CELLS}
+use Rattle.host_jobs.specs.Rows.{Jobs}
+use Rattle.host_jobs.specs.Records.{seen_after}
+use Rattle.host_jobs.specs.Seen.{Seen, counting, rows_in}
+use Rattle.host_jobs.specs.Soundness.{AreSound}
+use Rattle.host_jobs.specs.Acts.{HostAct}
+use Rattle.host_jobs.specs.Acts as acts
+use Rattle.bench_views.specs.declared.taken.HostCall.{HostCall}
+use Rattle.bench_views.specs.declared.taken.HostCall.TheVariants as call
+
+-- == its record ==
+
+-- a record that storage can show: of so many cells, none with more commits than it can count, and jobs that are sound
+pub record IsKnown (s : Seen) : Type 0 where
+  pub long : length s ≡ HOST_CELLS
+  pub few : (k : ℕ) → commits_at (row_at s k) ≤ MOST_COMMITS
+  pub sound : AreSound (rows_in s)
+
+-- what the bench sees of the host
+abbrev pub view_of : Ledger → View Seen
+view_of H = view_in Host seen_after H
+
+-- == its calls ==
+
+abbrev pub done : Reply → Unit {0} → Said
+done reply u = replies reply
+
+abbrev pub ordered : Ordered → Said
+ordered a = replies (r.Ordered a.job a.postage)
+
+-- the message that asks for the mark of a job is message k
+abbrev pub sent : ℕ → ℕ → List ℕ → Said
+sent j k note = sends (r.SentDebit j k) note
+
+abbrev pub printed : ℕ → List ℕ → Said
+printed j mark = gives (r.Printed j) (Printed (record { job = j; mark = mark }))
+
+abbrev pub held : ℕ → Said
+held j = replies (r.Held j)
+
+-- its act, by how it says what it answers
+abbrev pub says : {A : Type 0} → (A → Said) → HostAct A → Act JobRow Reply Said
+says say act = saying r.HostRefused say act
+
+abbrev pub host_act : HostCall → Jobs → Act JobRow Reply Said
+host_act (call.Order d piece class grams zone price) rows = says ordered (acts.order_act d piece class price rows)
+host_act (call.Send j k) rows = says (sent j k) (acts.debit_message_act j rows)
+host_act (call.Print j) rows = says (printed j) (acts.begin_print_act j rows)
+host_act (call.Close j) rows = says (done (r.Closed j)) (acts.close_act j rows)
+host_act (call.Take bytes) rows = says held (acts.take_act bytes rows)
+
+abbrev pub host_kind : Kind (Unit {0}) Seen HostCall
+host_kind = kind_by counting (λ u. Host) (λ u. seen_after) (λ u today c s. host_act c (rows_in s))

@@ -1,0 +1,66 @@
+-- The verifier, as the ledger shows it to the bench, and what a call of it does by that alone.
+use Rattle.std.specs.Prelude.{ℕ, ℤ, ◌≤◌}
+use Rattle.bench_base.specs.declared.words.Node.TheVariants.{Verifier}
+use Rattle.bench_base.specs.declared.sizes.TheConstants.{MOST_COMMITS}
+use Rattle.bench_base.specs.declared.events.Reply.{Reply}
+use Rattle.bench_base.specs.declared.events.Reply.TheVariants as r
+use Rattle.bench_base.specs.Ledger.{Ledger}
+use Rattle.bench_base.specs.Table.{IsBytes}
+use Rattle.node_acts.specs.declared.act.Act.{Act}
+use Rattle.node_acts.specs.declared.asked.Asked.{Asked}
+use Rattle.node_acts.specs.declared.asked.Asked.TheVariants.{On, Off, Cut, Call}
+use Rattle.node_acts.specs.declared.said.Said.{Said}
+use Rattle.node_acts.specs.Said.{replies, saying, kind_by}
+use Rattle.node_acts.specs.Views.{View}
+use Rattle.node_acts.specs.Kinds.{Kind, view_in}
+use Rattle.node_acts.specs.RowList.{row_at, commits_at}
+use Rattle.verifier.specs.declared.acts.Accepted.{Accepted}
+use Rattle.verifier.specs.declared.acts.Change.{Change}
+use Rattle.verifier.specs.Records.{seen_after}
+use Rattle.verifier.specs.Seen.{Seen, AreSound, counting}
+use Rattle.verifier.specs.Acts.{ScanAct, trust_act, scan_act}
+use Rattle.verifier.specs.ActLaws.{accepted_reply}
+use Rattle.bench_views.specs.declared.taken.VerifierCall.{VerifierCall}
+use Rattle.bench_views.specs.declared.taken.VerifierCall.TheVariants as call
+
+-- == its record ==
+
+-- a record that storage can show: rows that are sound, and no cell with more commits than it can count
+pub record IsKnown (s : Seen) : Type 0 where
+  pub sound : AreSound s
+  pub few : (k : ℕ) → commits_at (row_at s k) ≤ MOST_COMMITS
+
+-- what the bench sees of the verifier
+abbrev pub view_of : Ledger → View Seen
+view_of H = view_in Verifier seen_after H
+
+-- == its calls ==
+
+abbrev pub done : Reply → Unit {0} → Said
+done reply u = replies reply
+
+-- of a piece that was scanned under number n
+abbrev pub accepted : ℕ → Accepted → Said
+accepted n a = replies (accepted_reply n a)
+
+-- its act, by how it says what it answers
+abbrev pub says : {A : Type 0} → (A → Said) → ScanAct A → Act Change Reply Said
+says say act = saying r.ScanRefused say act
+
+abbrev pub verifier_act : ℤ → VerifierCall → Seen → Act Change Reply Said
+verifier_act today (call.Trust d key) s = says (done (r.Trusted d)) (trust_act d key s)
+verifier_act today (call.Scan n bytes) s = says (accepted n) (scan_act n bytes today s)
+
+abbrev pub verifier_kind : Kind (Unit {0}) Seen VerifierCall
+verifier_kind = kind_by counting (λ u. Verifier) (λ u. seen_after) (λ u today c s. verifier_act today c s)
+
+-- what is scanned is a list of bytes
+abbrev pub IsBytesCall : VerifierCall → Type 0
+IsBytesCall (call.Trust d key) = Unit {0}
+IsBytesCall (call.Scan n bytes) = IsBytes bytes
+
+abbrev pub AreBytes : Asked VerifierCall → Type 0
+AreBytes On = Unit {0}
+AreBytes Off = Unit {0}
+AreBytes (Cut calls keep byte) = Unit {0}
+AreBytes (Call c) = IsBytesCall c
