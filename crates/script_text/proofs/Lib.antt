@@ -6,8 +6,10 @@ pub mod EventsBack
 pub mod HexDigits
 pub mod LineForms
 pub mod Numbers
+pub mod Programs
 pub mod ReadBack
 pub mod RefusalsBack
 pub mod RepliesBack
 pub mod ReplyWords
 pub mod Splits
+pub mod Tallies

@@ -1,7 +1,9 @@
 pub mod Grammar
 pub mod Keywords
+pub mod Programs
 pub mod Reading
 pub mod Refusals
+pub mod Summaries
 pub mod Texts
 pub mod Told
 pub mod Words

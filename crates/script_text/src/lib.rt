@@ -7,8 +7,10 @@ mod forms;
 mod keyword;
 pub mod laws;
 mod line;
+mod program;
 mod refusals;
 mod replies;
+mod summary;
 #[cfg(test)]
 mod tests;
 mod values;
@@ -16,4 +18,6 @@ mod word;
 
 pub use events::{LineFault, is_skipped, read_event};
 pub use line::Line;
+pub use program::{Words, read_words};
 pub use replies::write_reply;
+pub use summary::{Summary, write_summary};

@@ -1,7 +1,7 @@
 //! Each form of line and of reply once, and lines that are nearly events.
 ghost use Rattle.std.specs.Prelude.{◌≤◌};
 
-use crate::{is_skipped, read_event, write_reply};
+use crate::{Summary, Words, is_skipped, read_event, read_words, write_reply, write_summary};
 use bench_base::bytes::Given;
 use bench_base::events::{DevView, Event, Reply};
 use bench_base::numbers::{Customer, DayNo, DevNo};
@@ -9,6 +9,7 @@ use bench_base::refusals::{
     CentreRefusal, DevRefusal, HostRefusal, MarkFault, RateRefusal, ScanRefusal, Unread,
 };
 use bench_base::words::{JobState, Key, Kind, Node, Phase, Verdict};
+use std::alloc::{AllocError, Global};
 
 fn node_number(node: Node) -> u32 {
     match node {
@@ -545,4 +546,58 @@ fn marks_are_written(rt: HostRuntime) {
                 .all(|pair| pair == digits.as_slice())
         );
     }
+}
+
+#[test]
+fn a_summary(rt: HostRuntime) {
+    let mut summary = Summary::new();
+    summary.count(&Reply::Made(device(1)));
+    summary.count(&Reply::Power(Node::Centre));
+    summary.count(&Reply::Released(device(1), 2, true, 3));
+    summary.count(&Reply::Released(device(1), 3, false, 4));
+    summary.count(&Reply::Accepted(device(1), 2, 1, false));
+    summary.count(&Reply::Accepted(device(1), 2, 1, true));
+    summary.count(&Reply::CentreRefused(CentreRefusal::Known));
+    summary.count(&Reply::NoDay);
+    summary.count(&Reply::Fault(Node::Verifier));
+    let line = write_summary(4_294_967_295, 2, &summary);
+    assert!(rt;
+        line.as_slice()
+            == b"generated 4294967295 2 lines 9 refused 1 power 1 fault 1 released 2 accepted 1".as_slice()
+    );
+}
+
+// What the words of a text call the program for.
+fn called(alloc: Global, text: &str) -> Result<Option<Words>, AllocError> {
+    let mut words = Vec::new(alloc);
+    for word in text.split(' ') {
+        words.push(String::from_str(alloc, word)?)?;
+    }
+    Ok(read_words(&words))
+}
+
+#[test]
+fn the_words_of_a_call(rt: HostRuntime) -> Result<(), AllocError> {
+    for (text, wanted) in [
+        ("replay", Some(Words::Replay)),
+        ("generate 7 2", Some(Words::Generate(7, 2))),
+        (
+            "generate 4294967295 90000",
+            Some(Words::Generate(4_294_967_295, 90_000)),
+        ),
+        ("generate 0 0", Some(Words::Generate(0, 0))),
+        ("generate 4294967296 0", None),
+        ("generate 0 90001", None),
+        ("generate 07 2", None),
+        ("generate 7 02", None),
+        ("generate 7", None),
+        ("generate 7 2 ", None),
+        ("generate", None),
+        ("replay 7 2", None),
+        ("Replay", None),
+        ("", None),
+    ] {
+        assert!(rt; called(rt.alloc(), text)? == wanted, "{text}");
+    }
+    Ok(())
 }

@@ -1,0 +1,4 @@
+pub mod Coming
+pub mod Debits
+pub mod Every
+pub mod Opened

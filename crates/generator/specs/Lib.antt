@@ -1,0 +1,6 @@
+pub mod Draws
+pub mod Events
+pub mod Given
+pub mod Opening
+pub mod Parts
+pub mod Turns

@@ -1,0 +1,13 @@
+//! Runs that are made from a number: the same seed gives the same events.
+#![tactic(auto)]
+
+mod draws;
+mod generated;
+pub mod laws;
+mod opening;
+mod parts;
+#[cfg(test)]
+mod tests;
+mod turns;
+
+pub use generated::Generator;
