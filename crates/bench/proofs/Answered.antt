@@ -1,212 +1,359 @@
--- Events that the bench answers by what it sees of its nodes: a message that nobody sent, one for a node that it hasn't, and a device
--- beside the centre.
-use Rattle.std.proofs.Common.{◌≡◌, ◌≢◌, inl, inr, ℕ, ℤ, ◌+◌, ◌-◌, List, [], ◌++◌, Option, Some, None, Bool, true, false, ◌↔◌, refl, sym, ◌∙◌, ap, subst, append-nil, true≢false, arith, if◌then◌else◌}
-use Rattle.std.specs.Prelude.{slice_get}
-use Rattle.bench_base.specs.declared.words.Kind.{Kind}
+-- Events that leave all as it is but the day: a day, the end, each event without a day, and those that the bench answers by what it
+-- sees: a message that nobody sent, and a device beside the centre.
+use Rattle.std.proofs.Common.{◌≡◌, ◌≢◌, inl, inr, ◌⊎◌, ⊎_elim, ℕ, ℤ, ◌+◌, ◌-◌, List, [], ◌∷◌, Option, Some, None, Bool, true, false, ◌↔◌, refl, sym, ◌∙◌, ap, subst, true≢false, arith}
+use Rattle.std.specs.Prelude.{slice_get, IsSome}
 use Rattle.bench_base.specs.declared.words.Node.{Node}
-use Rattle.bench_base.specs.declared.words.Node.TheVariants.{Device, Centre}
-use Rattle.bench_base.specs.declared.refusals.CentreRefusal.{CentreRefusal}
-use Rattle.bench_base.specs.declared.refusals.DevRefusal.TheVariants.{Blank}
+use Rattle.bench_base.specs.declared.words.Node.TheVariants.{Device, Centre, Host, Verifier}
+use Rattle.bench_base.specs.declared.ledger.Entry.TheVariants as entry
 use Rattle.bench_base.specs.declared.events.Event.{Event}
 use Rattle.bench_base.specs.declared.events.Event.TheVariants as ev
 use Rattle.bench_base.specs.declared.events.Reply.{Reply}
 use Rattle.bench_base.specs.declared.events.Reply.TheVariants as r
-use Rattle.bench_base.specs.Events.{needs_day}
-use Rattle.bench_base.specs.Replies.{on_after}
+use Rattle.bench_base.specs.Events.{needs_day, day_after}
+use Rattle.bench_base.specs.Plans.{Plan, refuse, told}
+use Rattle.bench_base.specs.Replies.{on_after, tells_power, tells_fault, has_read, MayGet, told_by}
+use Rattle.bench_base.specs.Rules.{todays_rules}
 use Rattle.bench_base.specs.Ranges.{IsWholeEvent}
+use Rattle.bench_base.specs.Ledger.{Ledger, day_in}
 use Rattle.nv_model.specs.declared.nv.Nv as nv
 use Rattle.nv_model.specs.declared.fuse.Fuse as fuse
-use Rattle.node_acts.specs.declared.act.Act.TheVariants.{Refuse, Tell, Commits}
-use Rattle.node_acts.specs.declared.asked.Asked.{Asked}
+use Rattle.node_acts.specs.Kinds.{view_in}
+use Rattle.node_acts.specs.Plans.{after}
 use Rattle.node_acts.specs.Views.{View}
+use Rattle.node_seat.specs.declared.node.Node.{Ghosts}
 use Rattle.node_seat.specs.Stands as node
-use Rattle.node_turns.specs.declared.turn.Turn.{Turn}
+use Rattle.node_turns.specs.Adds.{Adds}
 use Rattle.node_turns.specs.NodeTurns.{Switches}
-use Rattle.node_turns.specs.Turns.{turn_of}
-use Rattle.psd_state.specs.State.{State}
-use Rattle.psd_state.specs.Seen as device
-use Rattle.centre_ledger.specs.Acts.{CentreAct, standing_act}
-use Rattle.centre_ledger.specs.Seen as centre
-use Rattle.centre_ledger.specs.Seen.{books_in}
-use Rattle.centre_ledger.specs.declared.standing.Standing.{Standing}
-use Rattle.bench_views.specs.declared.taken.DeviceCall.{DeviceCall}
-use Rattle.bench_views.specs.declared.taken.CentreCall.{CentreCall}
+use Rattle.node_turns.specs.Turns.{turn_of, in_order}
+use Rattle.ledger_moves.specs.Tariffs.{Tariff}
+use Rattle.ledger_moves.specs.Moves.{plan}
+use Rattle.host_rates.specs.Laws.{KeptPrices}
 use Rattle.bench_views.specs.declared.taken.Taken.{Taken}
 use Rattle.bench_views.specs.declared.taken.Taken.TheVariants as take
-use Rattle.bench_views.specs.Comparing.{stood, compared, compare}
-use Rattle.bench_views.specs.Follows.{OthersAreQuiet}
-use Rattle.bench_views.specs.Taken.{IsTaken, taken, as_given, as_given_by, has_node}
-use Rattle.bench.specs.Benches.{Bench, Nodes, IsReady, device_view, centre_view}
+use Rattle.bench_views.specs.Follows.{OthersAreQuiet, quiet_by}
+use Rattle.bench_views.specs.Tariff.{Quote, quote}
+use Rattle.bench_views.specs.Taken.{taken, as_given}
+use Rattle.bench_views.proofs.Events.{each_quiet, IsOfNone, some-same}
+use Rattle.bench.specs.Benches.{Bench, Nodes, OfState, Of, IsReady, Stands}
 use Rattle.bench.specs.Calls.{dated}
-use Rattle.bench.specs.Steps.{Steps, ComparesViews, notes_in, sending}
+use Rattle.bench.specs.Outside.{Outside, ReadsRates}
+use Rattle.bench.specs.Steps.{Steps, DoesAsked, ComparesViews}
+use Rattle.bench.proofs.EachKind.{all_rest, of_all, of_with}
+use Rattle.bench.proofs.Events.{given_alike}
 use Rattle.bench.proofs.Making.{get_some}
-use Rattle.bench.proofs.Quiet.{Answers, quiet_is, steps_none, answered}
+use Rattle.bench.proofs.NodeEvents.{taken_by}
+use Rattle.bench.proofs.Quiet.{SwitchesIs, quiet}
+use Rattle.bench.proofs.Unprinted.{IsUnprinted}
 
--- == where nothing is sent ==
+-- == which events they are ==
 
-unsent : {D C : Type 0} (turn : Turn) (b : Bench D C) → notes_in turn.entries ≡ [] → sending turn b ≡ b
-unsent turn b none = λ k. record b { messages = (ap (λ (l : List (List ℕ)). b.messages ++ l) none ∙ append-nil b.messages) k }
+abbrev pub IsQuietAs : List (List ℕ) → Event → Taken → Type 0
+IsQuietAs pool e (take.Day t) = e ≡ ev.Day t
+IsQuietAs pool e take.End = e ≡ ev.End
+IsQuietAs pool e take.Rates = e ≡ ev.Rates
+IsQuietAs pool e (take.NoMessage k) = (as_given pool e ≡ e) × ((e ≡ ev.Deliver k) ⊎ ((scan : ℕ) × (e ≡ ev.ScanMsg scan k)))
+IsQuietAs pool e (take.Reconcile d) = e ≡ ev.Reconcile d
+IsQuietAs pool e (take.Device d asked) = Unit {0}
+IsQuietAs pool e (take.Centre asked) = Unit {0}
+IsQuietAs pool e (take.Host asked) = Unit {0}
+IsQuietAs pool e (take.Verifier asked) = Unit {0}
 
-pub as_sent : {D C S XD XC RD RC N : Type 0} (n : Nodes D C S XD XC RD RC) (g : nv.Ghosts S) (f : fuse.Ghosts S) (h : nv.Ghosts N) (e : Event) (turn : Turn) (old new : Bench D C)
-    → notes_in turn.entries ≡ [] → Steps n g f h e turn old new → Steps n g f h e turn old (sending turn new)
-as_sent {D} {C} n g f h e turn old new none steps = subst (λ (b : Bench D C). Steps n g f h e turn old b) (sym (unsent turn new none)) steps
+pub quiet_is : (pool : List (List ℕ)) (q : Quote) (e : Event) (x : Taken) → taken pool q e ≡ Some x → IsOfNone pool q x → IsQuietAs pool e x
+quiet_is pool q e x is of = each_quiet pool q (IsQuietAs pool) (record {
+  day = λ t. refl;
+  end = refl;
+  rates = refl;
+  reconcile = λ d. refl;
+  deliver = λ k none. (rw none refl, inl refl);
+  scan = λ j k none. (rw none refl, inr (j, refl));
+}) e x is of
 
--- == comparing ==
+-- == plans ==
 
-each_stood : (P : Reply → Type 0) (d held : ℕ) → ((x : CentreRefusal) → P (r.CentreRefused x)) → ((a b : ℕ) (c : Option (Kind × ℕ)) → P (r.Reconciled d a b c)) → (act : CentreAct Standing) → P (stood d held act)
-each_stood P d held refused fine (Refuse x) = refused x
-each_stood P d held refused fine (Tell a) = fine held a.centre a.in_flight
-each_stood P d held refused fine (Commits c x a) = fine held a.centre a.in_flight
+plan_day : (τ : Tariff) (H : Ledger) (t : ℤ) (text : List ℕ) → plan τ todays_rules H (ev.Day t) text ≡ told (r.Day t) (entry.Day t ∷ [])
+unfolding plan
+plan_day τ H t text = refl
 
-each_compared : (P : Reply → Type 0) (d : ℕ) → P (r.DevRefused d Blank) → ((x : CentreRefusal) → P (r.CentreRefused x)) → ((a b : ℕ) (c : Option (Kind × ℕ)) → P (r.Reconciled d a b c)) → (o : Option State) (act : CentreAct Standing)
-    → P (compared d o act)
-each_compared P d blank refused fine None act = blank
-each_compared P d blank refused fine (Some s) act = each_stood P d (s.registers.ascending + s.registers.descending) refused fine act
+plan_end : (τ : Tariff) (H : Ledger) (text : List ℕ) → plan τ todays_rules H ev.End text ≡ refuse r.End
+unfolding plan
+plan_end τ H text = refl
 
-module _ (d : ℕ) (v : View device.Seen) (w : View centre.Seen) where
-  abbrev shown : Reply
-  shown = compared d v.state.state (standing_act d (books_in w.state))
+plan_none : (τ : Tariff) (H : Ledger) (e : Event) (text : List ℕ) → needs_day e ≡ true → None ≡ day_in H → plan τ todays_rules H e text ≡ refuse r.NoDay
+unfolding plan
+plan_none τ H e text needs none = rw (sym none, needs) refl
 
-  pub compare_answers : Answers (ev.Reconcile d) (compare d v w)
-  compare_answers = by v.on w.on
-    where
-      by : (a b : Bool) → Answers (ev.Reconcile d) (if a then (if b then shown else r.OffNode Centre) else r.OffNode (Device d))
-      by false b = record { gets = inl (refl, refl); says = refl; power = λ i. refl; fault = λ i. refl; not_read = refl; adds = λ H. refl; dated = λ e. cc }
-      by true false = record { gets = inr (refl, (d, refl)); says = refl; power = λ i. refl; fault = λ i. refl; not_read = refl; adds = λ H. refl; dated = λ e. cc }
-      by true true = each_compared (λ x. Answers (ev.Reconcile d) x) d
-          (record { gets = record { on = refl; at = refl; no_switch = λ e. cc }; says = refl; power = λ i. refl; fault = λ i. refl; not_read = refl; adds = λ H. refl; dated = λ e. cc })
-          (λ x. record { gets = inr (d, refl); says = refl; power = λ i. refl; fault = λ i. refl; not_read = refl; adds = λ H. refl; dated = λ e. cc })
-          (λ a b c. record { gets = refl; says = tt; power = λ i. refl; fault = λ i. refl; not_read = refl; adds = λ H. refl; dated = λ e. cc }) v.state.state (standing_act d (books_in w.state))
+-- == days ==
 
-  pub compare_off : (compare d v w ≡ r.OffNode (Device d)) ↔ (v.on ≡ false)
-  compare_off = by v.on w.on
-    where
-      by : (a b : Bool) → ((if a then (if b then shown else r.OffNode Centre) else r.OffNode (Device d)) ≡ r.OffNode (Device d)) ↔ (a ≡ false)
-      by false b = (λ is. refl, λ is. refl)
-      by true false = (λ is. cc, λ is. absurd (true≢false is))
-      by true true = (
-        λ is. absurd (each_compared (λ x. x ≡ r.OffNode (Device d) → ⊥) d (λ e. cc) (λ x e. cc) (λ a b c e. cc) v.state.state (standing_act d (books_in w.state)) is),
-        λ is. absurd (true≢false is),
-      )
+-- an event that needs a day sets none
+pub not_day : (e : Event) → needs_day e ≡ true → (t : ℤ) → e ≢ ev.Day t
+not_day e needs t is = absurd (true≢false (sym needs ∙ ap needs_day is))
 
-  pub compare_leaves : (was : Bool) → was ≡ on_after (compare d v w) was
-  compare_leaves was = by v.on w.on
-    where
-      by : (a b : Bool) → was ≡ on_after (if a then (if b then shown else r.OffNode Centre) else r.OffNode (Device d)) was
-      by false b = refl
-      by true false = refl
-      by true true = each_compared (λ x. was ≡ on_after x was) d refl (λ x. refl) (λ a b c. refl) v.state.state (standing_act d (books_in w.state))
+pub not_end : (e : Event) → needs_day e ≡ true → e ≢ ev.End
+not_end e needs is = absurd (true≢false (sym needs ∙ ap needs_day is))
 
--- what is seen of a node that is off doesn't count
-pub compare_same : (d : ℕ) (v v' : View device.Seen) (w w' : View centre.Seen) → v.on ≡ v'.on → w.on ≡ w'.on → (v'.on ≡ true → v.state ≡ v'.state) → (w'.on ≡ true → w.state ≡ w'.state)
-    → compare d v w ≡ compare d v' w'
-compare_same d v v' w w' on on' state state' =
-    ap (λ (a : Bool). if a then (if w.on then shown d v w else r.OffNode Centre) else r.OffNode (Device d)) on
-    ∙ ap (λ (b : Bool). if v'.on then (if b then shown d v w else r.OffNode Centre) else r.OffNode (Device d)) on'
-    ∙ by v'.on w'.on state state'
-  where
-    by : (a b : Bool) → (a ≡ true → v.state ≡ v'.state) → (b ≡ true → w.state ≡ w'.state)
-        → (if a then (if b then shown d v w else r.OffNode Centre) else r.OffNode (Device d)) ≡ (if a then (if b then shown d v' w' else r.OffNode Centre) else r.OffNode (Device d))
-    by false b same same' = refl
-    by true false same same' = refl
-    by true true same same' =
-        ap (λ (s : device.Seen). compared d s.state (standing_act d (books_in w.state))) (same refl) ∙ ap (λ (s : centre.Seen). compared d v'.state.state (standing_act d (books_in s))) (same' refl)
+pub leaves_day : (e : Event) → needs_day e ≡ true → (o : Option ℤ) → o ≡ day_after e o
+leaves_day (ev.Day t) needs o = absurd (not_day (ev.Day t) needs t refl)
+leaves_day _ needs o = refl
 
--- == what they do to the bench ==
+pub no_some : {X P : Type 0} (x : X) → ◌≡◌ {A = Option X} None (Some x) → P
+no_some x is = cc
 
-module _ {D C S XD XC RD RC N : Type 0} (n : Nodes D C S XD XC RD RC) (g : nv.Ghosts S) (f : fuse.Ghosts S) (h : nv.Ghosts N) (old : Bench D C) (ready : IsReady old)
-    (IsKnown : n.centre.Seen → Type 0) (knows : (s : n.centre.Seen) → n.centre.IsSound tt s → IsKnown s) (law : OthersAreQuiet n.kinds IsKnown) where
-  -- by the day
-  steps_dated : (e : Event) (reply : Reply) → IsWholeEvent e → needs_day e ≡ true → ((today : ℤ) → old.day ≡ Some today → Steps n g f h e (turn_of reply []) old old)
-      → Steps n g f h e (turn_of (dated old.day reply) []) old old
-  steps_dated e reply whole needs on_day = by old.day refl
-    where
-      by : (o : Option ℤ) → old.day ≡ o → Steps n g f h e (turn_of (dated o reply) []) old old
-      by None is = steps_none n g f h old ready e whole needs is
-      by (Some today) is = on_day today is
+is_none : (o : Option ℤ) → IsSome o → o ≡ None → ⊥
+is_none None some same = cc
+is_none (Some t) some same = cc
 
-  no_device : (e : Event) (x : Taken) → taken old.messages e ≡ Some x → ((d : ℕ) (asked : Asked DeviceCall) → x ≢ take.Device d asked) → (d : ℕ) (asked : Asked DeviceCall)
-      → taken old.messages e ≡ Some (take.Device d asked) → ⊥
-  no_device e x is differs d asked at = differs d asked (let same : Some x ≡ Some (take.Device d asked) = sym is ∙ at in cc)
+-- a node that stands for a ledger stands for it on another day
+pub again : {K S N X R : Type 0} (n : Ghosts K S N X R) (g : nv.Ghosts S) (d : N) (v : View n.Seen) (s : K) (w : View n.Seen) → w.state ≡ v.state → w.next ≡ v.next → w.on ≡ v.on
+    → node.Stands n g d v s → node.Stands n g d w s
+again n g d v s w state next on stands = let same : w ≡ v = λ k. record { state = state k; next = next k; on = on k } in subst (λ (u : View n.Seen). node.Stands n g d u s) (sym same) stands
 
-  no_centre : (e : Event) (x : Taken) → taken old.messages e ≡ Some x → ((asked : Asked CentreCall) → x ≢ take.Centre asked) → (asked : Asked CentreCall) → taken old.messages e ≡ Some (take.Centre asked) → ⊥
-  no_centre e x is differs asked at = differs asked (let same : Some x ≡ Some (take.Centre asked) = sym is ∙ at in cc)
+-- nothing is read of the rates but by a `rates` on a day
+reads_nothing : (e : Event) (reply : Reply) (today : Option ℤ) (kept : Option _) (out : Outside) → (e ≡ ev.Rates → IsSome today → ⊥) → ReadsRates e [] (turn_of reply []) today kept kept out.rates out.rates
+reads_nothing e reply today kept out not = record {
+  reads = λ is some. absurd (not is some);
+  no_day = λ none. record { nothing = refl; keeps = refl; rests = refl };
+  others = λ other. record { nothing = refl; keeps = refl; rests = refl };
+  later = omega arith;
+}
 
-  module _ (e : Event) (whole : IsWholeEvent e) (of : IsTaken e) where
-    pub steps_missing : (k : ℕ) → taken old.messages e ≡ Some (take.NoMessage k) → Steps n g f h e (turn_of (dated old.day (r.NoMessage k)) []) old old
-    steps_missing k is =
-        let found = quiet_is old.messages e (take.NoMessage k) is of in
-        let needs : needs_day e ≡ true = ap needs_day found.0 in
-        steps_dated e (r.NoMessage k) whole needs (λ today day. answered n g f h old ready e (ev.Deliver k) today (r.NoMessage k) whole needs day
-        (ap (as_given old.messages) found.0 ∙ ap (as_given_by k) found.1)
-        (record { gets = inl refl; says = refl; power = λ i. refl; fault = λ i. refl; not_read = refl; adds = λ H. refl; dated = λ e. cc })
-        (record {
-          plan_is = λ τ H history stands tells. law τ H e today (take.NoMessage k) (r.NoMessage k) history (sym stands.day.day ∙ day) stands.day.host of
-              (subst (λ (l : List (List ℕ)). taken l e ≡ Some (take.NoMessage k)) stands.day.messages is) (knows _ (stands.centre.store.sound tells).state) refl;
-          no_device = no_device e (take.NoMessage k) is (λ d asked same. cc);
-          no_centre = no_centre e (take.NoMessage k) is (λ asked same. cc);
-          compares = λ tells d i s same. let wrong : ev.Deliver k ≡ ev.Reconcile d = sym found.0 ∙ same in cc;
-          message = λ j same none. let one : ev.Deliver k ≡ ev.Deliver j = sym found.0 ∙ same in cc;
-          devices = λ d i s same. let wrong : ◌≡◌ {A = Option Node} None (Some (Device d)) = same in cc;
-          not_centre = λ same. let wrong : ◌≡◌ {A = Option Node} None (Some Centre) = same in cc;
-          unarmed = λ m calls keep byte same. cc;
-        }))
+-- a reply that tells of no failure, nor of the printer
+pub record Answers (x : Event) (reply : Reply) : Type 0 where
+  pub gets : MayGet x reply
+  pub says : Adds x (told_by reply) (in_order [])
+  pub power : (i : Node) → tells_power i reply ≡ false
+  pub fault : (i : Node) → tells_fault i reply ≡ false
+  pub not_read : has_read reply ≡ false
+  pub adds : (H : Ledger) → after (refuse reply) reply H ≡ H
+  pub dated : reply ≢ r.NoDay
+  pub prints : IsUnprinted reply
 
-    pub steps_absent : (m : Node) → taken old.messages e ≡ Some (take.Absent m) → Steps n g f h e (turn_of (dated old.day (r.OffNode m)) []) old old
-    steps_absent m is =
-        let found = quiet_is old.messages e (take.Absent m) is of in
-        let needs : needs_day e ≡ true = ap needs_day found.is in
-        let given : as_given old.messages e ≡ ev.Give m found.bytes = ap (as_given old.messages) found.is ∙ ap (as_given_by found.number) found.there ∙ ap (λ (k : Node). ev.Give k found.bytes) found.whom in
-        steps_dated e (r.OffNode m) whole needs (λ today day. answered n g f h old ready e (ev.Give m found.bytes) today (r.OffNode m) whole needs day given
-        (record { gets = inl (refl, refl); says = refl; power = λ i. refl; fault = λ i. refl; not_read = refl; adds = λ H. refl; dated = λ e. cc })
-        (record {
-          plan_is = λ τ H history stands tells. law τ H e today (take.Absent m) (r.OffNode m) history (sym stands.day.day ∙ day) stands.day.host of
-              (subst (λ (l : List (List ℕ)). taken l e ≡ Some (take.Absent m)) stands.day.messages is) (knows _ (stands.centre.store.sound tells).state) refl;
-          no_device = no_device e (take.Absent m) is (λ d asked same. cc);
-          no_centre = no_centre e (take.Absent m) is (λ asked same. cc);
-          compares = λ tells d i s same. let wrong : ev.Deliver found.number ≡ ev.Reconcile d = sym found.is ∙ same in cc;
-          message = λ j same none. absurd (there found.number j found.bytes (sym found.is ∙ same) found.there none);
-          devices = λ d i s same. absurd (here m (Device d) same found.absent refl);
-          not_centre = λ same. here m Centre same found.absent refl;
-          unarmed = λ k calls keep byte same. cc;
-        }))
-      where
-        there : (i j : ℕ) (bytes : List ℕ) → ev.Deliver i ≡ ev.Deliver j → slice_get old.messages i ≡ Some bytes → slice_get old.messages j ≡ None → ⊥
-        there i j bytes same some none = let one : i ≡ j = cc in let wrong : Some bytes ≡ None = sym some ∙ ap (slice_get old.messages) one ∙ none in cc
+module _ {D C H V S XD XC XH XV RD RC RH RV N : Type 0} (n : Nodes D C H V S XD XC XH XV RD RC RH RV) (g : nv.Ghosts S) (f : fuse.Ghosts S) (h : nv.Ghosts N) (old : Bench D C H V) (ready : IsReady old) (out : Outside) where
+  abbrev StandsIs : Ledger → OfState S
+  StandsIs L o i d s = node.Stands o.ghosts g d (view_in i (o.kind.seen d) L) s
 
-        here : (a b : Node) → Some a ≡ Some b → has_node a ≡ false → has_node b ≡ true → ⊥
-        here a b same lacks has = let one : a ≡ b = cc in absurd (true≢false (sym has ∙ ap has_node (sym one) ∙ lacks))
+  pub steps_day : (t : ℤ) → IsWholeEvent (ev.Day t) → Steps n g f h (ev.Day t) [] (turn_of (r.Day t) (entry.Day t ∷ [])) old (record old { day = Some t }) out out
+  steps_day t whole = quiet n g f h (ev.Day t) (ev.Day t) [] (r.Day t) (entry.Day t ∷ []) old (record old { day = Some t }) out out
+      (record { devices = refl; centre = refl; host = refl; verifier = refl }) refl ready whole
+      (record {
+        given = refl;
+        power = λ i. refl;
+        fault = λ i. refl;
+        gets = refl;
+        says = tt;
+        day = λ needs. absurd (true≢false (sym needs));
+        dated = refl;
+        dates = λ u is. ap (λ (x : ℤ). turn_of (r.Day x) (entry.Day x ∷ [])) (cc);
+        ends = λ is. cc;
+        message = λ k is. cc;
+        unsent = refl;
+        refused = λ is. absurd (true≢false (sym is));
+        switches = of_all n (SwitchesIs n g f h (ev.Day t) (ev.Day t) [] (r.Day t) (entry.Day t ∷ []) old (record old { day = Some t }) out out) old (λ o i d s some is. no_some i is);
+        unarmed = λ some m calls keep byte is. cc;
+        rates = record {
+          reads = λ is. cc;
+          no_day = λ none. record { nothing = refl; keeps = refl; rests = refl };
+          others = λ other. record { nothing = refl; keeps = refl; rests = refl };
+          later = omega arith;
+        };
+        printer = refl;
+        prints = record { whole = λ j is. cc; cut = λ j is. cc };
+      })
+      (λ τ L texts history stands tells. record {
+        moves = (whole, inl (ap (λ (p : Plan). p.reply) (sym (plan_day τ L t []))));
+        silent = ap (λ (p : Plan). p.commit) (plan_day τ L t []);
+        adds = λ K. ap (λ (p : Plan). after p (r.Day t) K) (plan_day τ L t []);
+        stands = record {
+          day = record { day = refl; rates = stands.day.rates; messages = stands.day.messages };
+          nodes = λ m. of_with n (StandsIs L) (StandsIs (entry.Day t ∷ L)) old
+              (λ o i d s st. again o.ghosts g d (view_in i (o.kind.seen d) L) s (view_in i (o.kind.seen d) (entry.Day t ∷ L)) refl refl refl st) m (stands.nodes m);
+        };
+        still = λ k. refl;
+      })
+      (λ tells. record { asks = take.Day t; taken_is = refl; does = λ today day. tt; not_read = refl })
 
-    pub steps_compared : (d : ℕ) (reply : Reply) → taken old.messages e ≡ Some (take.Reconcile d) → Answers (ev.Reconcile d) reply → ((was : Bool) → was ≡ on_after reply was)
-        → ((i : ℕ) (s : D) → d ≡ i + 1 → slice_get old.devices i ≡ Some s → (reply ≡ r.OffNode (Device d)) ↔ (n.devices.is_on s ≡ false))
-        → ((i : ℕ) (s : D) → d ≡ i + 1 → slice_get old.devices i ≡ Some s → ComparesViews n g d reply old.centre s) → Steps n g f h e (turn_of (dated old.day reply) []) old old
-    steps_compared d reply is answers leaves off compares =
-        let found : e ≡ ev.Reconcile d = quiet_is old.messages e (take.Reconcile d) is of in
-        let needs : needs_day e ≡ true = ap needs_day found in
-        let own = subst IsWholeEvent found whole in
-        let s = get_some old.devices (d - 1) (omega (arith, own.0, own.1, ready.eight)) in
-        let at : d ≡ d - 1 + 1 = omega (arith, own.0) in
-        steps_dated e reply whole needs (λ today day. answered n g f h old ready e (ev.Reconcile d) today reply whole needs day (ap (as_given old.messages) found) answers
-        (record {
-          plan_is = λ τ H history stands tells. law τ H e today (take.Reconcile d) reply history (sym stands.day.day ∙ day) stands.day.host of
-              (subst (λ (l : List (List ℕ)). taken l e ≡ Some (take.Reconcile d)) stands.day.messages is) (knows _ (stands.centre.store.sound tells).state)
-              (ap (λ x. Some x) (sym (compares (d - 1) s.0 at s.1 (device_view n d H) (centre_view n H)
-              (subst (λ (k : ℕ). node.Stands n.devices g k (device_view n k H) s.0) (sym at) (stands.devices (d - 1) s.0 s.1)) stands.centre tells)));
-          no_device = no_device e (take.Reconcile d) is (λ k asked same. cc);
-          no_centre = no_centre e (take.Reconcile d) is (λ asked same. cc);
-          compares = λ tells k i u same. compares_at k i u (let one : ev.Reconcile d ≡ ev.Reconcile k = sym found ∙ same in cc);
-          message = λ j same none. let wrong : ev.Reconcile d ≡ ev.Deliver j = sym found ∙ same in cc;
-          devices = λ k i u same. switches_at k i u (let one : Some (Device d) ≡ Some (Device k) = same in cc);
-          not_centre = λ same. let wrong : Some (Device d) ≡ Some Centre = same in cc;
-          unarmed = λ m calls keep byte same. cc;
-        }))
-      where
-        compares_at : (k i : ℕ) (u : D) → d ≡ k → k ≡ i + 1 → slice_get old.devices i ≡ Some u → ComparesViews n g k reply old.centre u
-        compares_at k i u same next was = subst (λ (j : ℕ). ComparesViews n g j reply old.centre u) same (compares i u (same ∙ next) was)
+  pub steps_end : IsWholeEvent ev.End → Steps n g f h ev.End [] (turn_of r.End []) old old out out
+  steps_end whole = quiet n g f h ev.End ev.End [] r.End [] old old out out (all_rest old) refl ready whole
+      (record {
+        given = refl;
+        power = λ i. refl;
+        fault = λ i. refl;
+        gets = refl;
+        says = tt;
+        day = λ needs. absurd (true≢false (sym needs));
+        dated = refl;
+        dates = λ u is. cc;
+        ends = λ is. refl;
+        message = λ k is. cc;
+        unsent = refl;
+        refused = λ is. absurd (true≢false (sym is));
+        switches = of_all n (SwitchesIs n g f h ev.End ev.End [] r.End [] old old out out) old (λ o i d s some is. no_some i is);
+        unarmed = λ some m calls keep byte is. cc;
+        rates = reads_nothing ev.End r.End old.day old.rates out (λ is. cc);
+        printer = refl;
+        prints = record { whole = λ j is. cc; cut = λ j is. cc };
+      })
+      (λ τ L texts history stands tells. record {
+        moves = (whole, inl (ap (λ (p : Plan). p.reply) (sym (plan_end τ L []))));
+        silent = ap (λ (p : Plan). p.commit) (plan_end τ L []);
+        adds = λ K. ap (λ (p : Plan). after p r.End K) (plan_end τ L []);
+        stands = stands;
+        still = λ k. refl;
+      })
+      (λ tells. record { asks = take.End; taken_is = refl; does = λ today day. tt; not_read = refl })
 
-        switches_at : (k i : ℕ) (u : D) → d ≡ k → k ≡ i + 1 → slice_get old.devices i ≡ Some u → Switches (Device k) (ev.Reconcile d) reply (n.devices.is_on u) (n.devices.is_on u)
-        switches_at k i u same next was = record {
-          off = λ on. subst (λ (j : ℕ). (reply ≡ r.OffNode (Device j)) ↔ (n.devices.is_on u ≡ false)) same (off i u (same ∙ next) was);
-          already = λ is. cc;
-          leaves = leaves (n.devices.is_on u);
-        }
+  pub steps_none : (e : Event) (x : Taken) → IsWholeEvent e → needs_day e ≡ true → taken old.messages (quote old.rates) e ≡ Some x → old.day ≡ None → Steps n g f h e [] (turn_of r.NoDay []) old old out out
+  steps_none e x whole needs taken_is none = quiet n g f h e (as_given old.messages e) [] r.NoDay [] old old out out (all_rest old) refl ready whole
+      (record {
+        given = refl;
+        power = λ i. refl;
+        fault = λ i. refl;
+        gets = sym (given_alike old.messages e).day ∙ needs;
+        says = refl;
+        day = λ dated. (λ same. none, λ same. refl);
+        dated = leaves_day e needs old.day;
+        dates = λ u is. absurd (not_day e needs u is);
+        ends = λ is. absurd (not_end e needs is);
+        message = λ k is some. absurd (is_none old.day some none);
+        unsent = refl;
+        refused = λ is. (refl, refl);
+        switches = of_all n (SwitchesIs n g f h e (as_given old.messages e) [] r.NoDay [] old old out out) old (λ o i d s some. absurd (is_none old.day some none));
+        unarmed = λ some m calls keep byte is. is_none old.day some none;
+        rates = reads_nothing e r.NoDay old.day old.rates out (λ is some. is_none old.day some none);
+        printer = refl;
+        prints = record { whole = λ j is. cc; cut = λ j is. cc };
+      })
+      (λ τ L texts history stands tells.
+      let is = plan_none τ L e [] needs (sym none ∙ stands.day.day) in
+      record {
+        moves = (whole, inl (ap (λ (p : Plan). p.reply) (sym is)));
+        silent = ap (λ (p : Plan). p.commit) is;
+        adds = λ K. ap (λ (p : Plan). after p r.NoDay K) is;
+        stands = stands;
+        still = λ k. refl;
+      })
+      (λ tells. record { asks = x; taken_is = taken_is; does = λ today day. no_some today (sym none ∙ day); not_read = refl })
+
+  -- == on a day, by what is seen ==
+
+  module _ (IsKnown : n.centre.Seen → Type 0) (knows : (s : n.centre.Seen) → n.centre.IsSound tt s → IsKnown s) (law : OthersAreQuiet n.kinds IsKnown) (prices : KeptPrices) where
+    module _ (e : Event) (x : Taken) (reply : Reply) (whole : IsWholeEvent e) (needs : needs_day e ≡ true) (taken_is : taken old.messages (quote old.rates) e ≡ Some x) (given : as_given old.messages e ≡ e)
+        (answers : Answers e reply) where
+      pub record OnDay (today : ℤ) : Type 0 where
+        pub shown : (L : Ledger) → Stands n g old L → g.tells → quiet_by n.kinds L x ≡ Some reply
+        pub does : g.tells → DoesAsked n g today (turn_of reply []) old old out out x
+        pub message : (k : ℕ) → x ≡ take.NoMessage k → reply ≡ r.NoMessage k
+        pub switches : (m : Node) → Of n (SwitchesIs n g f h e e [] reply [] old old out out) old m
+        pub unarmed : (m : Node) (calls keep byte : ℕ) → e ≡ ev.Cut m calls keep byte → ⊥
+        pub not_rates : e ≢ ev.Rates
+
+      -- by the day, or that there is none
+      steps_on : ((today : ℤ) → old.day ≡ Some today → OnDay today) → Steps n g f h e [] (turn_of (dated old.day reply) []) old old out out
+      steps_on each = by old.day refl
+        where
+          answered : (today : ℤ) → old.day ≡ Some today → OnDay today → Steps n g f h e [] (turn_of reply []) old old out out
+          answered today day_is on = quiet n g f h e e [] reply [] old old out out (all_rest old) refl ready whole
+              (record {
+                given = given;
+                power = answers.power;
+                fault = answers.fault;
+                gets = answers.gets;
+                says = answers.says;
+                day = λ dated. (λ is. absurd (answers.dated is), λ none. no_some today (sym none ∙ day_is));
+                dated = leaves_day e needs old.day;
+                dates = λ u is. absurd (not_day e needs u is);
+                ends = λ is. absurd (not_end e needs is);
+                message = λ k is some. on.message k (some-same (sym taken_is ∙ is));
+                unsent = refl;
+                refused = λ is. (refl, refl);
+                switches = on.switches;
+                unarmed = λ some. on.unarmed;
+                rates = reads_nothing e reply old.day old.rates out (λ is some. on.not_rates is);
+                printer = refl;
+                prints = answers.prints;
+              })
+              (λ τ L texts history stands tells.
+              let is : plan τ todays_rules L e [] ≡ refuse reply = law τ L e today x reply history (sym stands.day.day ∙ day_is)
+              (taken_by τ prices texts L old.messages old.rates e x stands.day.messages stands.day.rates taken_is) (knows _ ((stands.nodes Centre).store.sound tells).state) (on.shown L stands tells) in
+              record {
+                moves = (whole, inl (ap (λ (p : Plan). p.reply) (sym is)));
+                silent = ap (λ (p : Plan). p.commit) is;
+                adds = λ K. ap (λ (p : Plan). after p reply K) is ∙ answers.adds K;
+                stands = stands;
+                still = λ k. refl;
+              })
+              (λ tells. record {
+                asks = x;
+                taken_is = taken_is;
+                does = λ u day. subst (λ (t : ℤ). DoesAsked n g t (turn_of reply []) old old out out x) (some-same (sym day_is ∙ day)) (on.does tells);
+                not_read = answers.not_read;
+              })
+
+          by : (o : Option ℤ) → old.day ≡ o → Steps n g f h e [] (turn_of (dated o reply) []) old old out out
+          by None is = steps_none e x whole needs taken_is is
+          by (Some today) is = answered today is (each today is)
+
+    module _ (e : Event) (whole : IsWholeEvent e) where
+      pub steps_missing : (k : ℕ) → taken old.messages (quote old.rates) e ≡ Some (take.NoMessage k) → Steps n g f h e [] (turn_of (dated old.day (r.NoMessage k)) []) old old out out
+      steps_missing k is = ⊎_elim
+          (λ (at : e ≡ ev.Deliver k). steps (ap needs_day at) (inl at) (λ m calls keep byte same. let wrong : ev.Deliver k ≡ ev.Cut m calls keep byte = sym at ∙ same in cc)
+          (λ same. let wrong : ev.Deliver k ≡ ev.Rates = sym at ∙ same in cc))
+          (λ (at : (scan : ℕ) × (e ≡ ev.ScanMsg scan k)). steps (ap needs_day at.1) (inr at) (λ m calls keep byte same. let wrong : ev.ScanMsg at.0 k ≡ ev.Cut m calls keep byte = sym at.1 ∙ same in cc)
+          (λ same. let wrong : ev.ScanMsg at.0 k ≡ ev.Rates = sym at.1 ∙ same in cc))
+          found.1
+        where
+          found : IsQuietAs old.messages e (take.NoMessage k)
+          found = quiet_is old.messages (quote old.rates) e (take.NoMessage k) is tt
+
+          steps : needs_day e ≡ true → MayGet e (r.NoMessage k) → ((m : Node) (calls keep byte : ℕ) → e ≡ ev.Cut m calls keep byte → ⊥) → e ≢ ev.Rates
+              → Steps n g f h e [] (turn_of (dated old.day (r.NoMessage k)) []) old old out out
+          steps needs gets unarmed not_rates = steps_on e (take.NoMessage k) (r.NoMessage k) whole needs is found.0
+              (record {
+                gets = gets;
+                says = refl;
+                power = λ i. refl;
+                fault = λ i. refl;
+                not_read = refl;
+                adds = λ H. refl;
+                dated = λ same. cc;
+                prints = record { whole = λ j same. cc; cut = λ j same. cc };
+              })
+              (λ today day. record {
+                shown = λ L stands tells. refl;
+                does = λ tells. tt;
+                message = λ j same. ap (λ (i : ℕ). r.NoMessage i) (cc);
+                switches = of_all n (SwitchesIs n g f h e e [] (r.NoMessage k) [] old old out out) old (λ o i d s some at there. absurd (there k refl));
+                unarmed = unarmed;
+                not_rates = not_rates;
+              })
+
+      pub steps_compared : (d : ℕ) (reply : Reply) → taken old.messages (quote old.rates) e ≡ Some (take.Reconcile d) → Answers (ev.Reconcile d) reply → ((was : Bool) → was ≡ on_after reply was)
+          → ((i : ℕ) (s : D) → d ≡ i + 1 → slice_get old.devices i ≡ Some s → (reply ≡ r.OffNode (Device d)) ↔ (n.devices.is_on s ≡ false))
+          → ((i : ℕ) (s : D) → d ≡ i + 1 → slice_get old.devices i ≡ Some s → ComparesViews n g d reply old.centre s) → Steps n g f h e [] (turn_of (dated old.day reply) []) old old out out
+      steps_compared d reply is answers leaves off compares =
+          let found : e ≡ ev.Reconcile d = quiet_is old.messages (quote old.rates) e (take.Reconcile d) is tt in
+          let own = subst IsWholeEvent found whole in
+          let s = get_some old.devices (d - 1) (omega (arith, own.0, own.1, ready.eight)) in
+          let at : d ≡ d - 1 + 1 = omega (arith, own.0) in
+          subst (λ (x : Event). Steps n g f h x [] (turn_of (dated old.day reply) []) old old out out) (sym found)
+          (steps_on (ev.Reconcile d) (take.Reconcile d) reply own refl refl refl answers (λ today day. record {
+            shown = λ L stands tells. ap (λ x. Some x) (sym (compares (d - 1) s.0 at s.1 (view_in (Device d) (n.kinds.devices.seen d) L) (view_in Centre (n.kinds.centre.seen tt) L)
+                (stands.nodes (Device d) (d - 1) s.0 at s.1) (stands.nodes Centre) tells));
+            does = λ tells. compares;
+            message = λ j same. cc;
+            switches = λ m. switches_at m;
+            unarmed = λ m calls keep byte same. cc;
+            not_rates = λ same. cc;
+          }))
+        where
+          switches_at : (m : Node) → Of n (SwitchesIs n g f h (ev.Reconcile d) (ev.Reconcile d) [] reply [] old old out out) old m
+          switches_at (Device k) = λ i u next was some at there. switches_of k i u (let one : Some (Device d) ≡ Some (Device k) = at in cc) next was
+            where
+              switches_of : (k i : ℕ) (u : D) → d ≡ k → k ≡ i + 1 → slice_get old.devices i ≡ Some u → Switches (Device k) (ev.Reconcile d) reply (n.devices.is_on u) (n.devices.is_on u)
+              switches_of k i u same next was = record {
+                off = λ on. subst (λ (j : ℕ). (reply ≡ r.OffNode (Device j)) ↔ (n.devices.is_on u ≡ false)) same (off i u (same ∙ next) was);
+                already = λ is. cc;
+                leaves = leaves (n.devices.is_on u);
+              }
+          switches_at Centre = λ some at there. let wrong : Some (Device d) ≡ Some Centre = at in cc
+          switches_at Host = λ some at there. let wrong : Some (Device d) ≡ Some Host = at in cc
+          switches_at Verifier = λ some at there. let wrong : Some (Device d) ≡ Some Verifier = at in cc

@@ -6,13 +6,17 @@ use Rattle.std.proofs.lemmas.List.{length-set}
 use Rattle.std.proofs.lemmas.Option.{slice_get_within}
 use Rattle.bench_base.specs.Ledger.{Ledger}
 use Rattle.bench_base.specs.declared.ledger.Entry.TheVariants.{Begin}
+use Rattle.bench_base.specs.declared.words.Node.{Node}
+use Rattle.bench_base.specs.declared.words.Node.TheVariants.{Device, Centre, Host, Verifier}
 use Rattle.nv_model.specs.declared.nv.Nv as nv
+use Rattle.node_acts.specs.Kinds.{view_in}
 use Rattle.node_seat.specs.declared.node.Node.{Ghosts}
-use Rattle.bench.specs.Benches.{Bench, Nodes, HasDay, Stands, device_view, centre_view}
+use Rattle.node_seat.specs.Stands as node
+use Rattle.bench.specs.Benches.{Bench, Nodes, Of, Stands}
 use Rattle.bench.specs.Places.{Pairs, IsStopped, Begun, StopsAt}
 use Rattle.bench.proofs.Making.{get_some, pairs_at, pairs_length}
 use Rattle.bench.proofs.Sets.{get_set_same, get_set_other, same_some}
-use Rattle.bench.proofs.Over.{none_day}
+use Rattle.bench.proofs.Over.{none_day, no_day_is}
 
 -- the first so many devices were switched off, and the others are as they were
 pub record Stopping {K S N C R : Type 0} (n : Ghosts K S N C R) (g : nv.Ghosts S) (k : ℕ) (old new : List K) : Type 0 where
@@ -56,13 +60,18 @@ module _ {K S N C R : Type 0} (n : Ghosts K S N C R) (g : nv.Ghosts S) where
   pub all_stopped : (k : ℕ) (old new : List K) → k ≡ length old → Stopping n g k old new → Pairs (IsStopped n g) old new
   all_stopped k old new all stopping = pairs_of (IsStopped n g) old new stopping.size (λ i s t lt was is. stopping.stopped i s t (omega arith) was is)
 
-pub begun_stands : {D C S XD XC RD RC : Type 0} (n : Nodes D C S XD XC RD RC) (g : nv.Ghosts S) (old new : Bench D C) (H : Ledger)
-    → new.day ≡ None → new.messages ≡ [] → Begun n g old new → Stands n g old H → Stands n g new (Begin ∷ H)
-begun_stands n g old new H no_day no_messages begun stands = record {
-  day = subst (λ o. HasDay o new.messages (Begin ∷ H)) (sym no_day) (subst (λ l. HasDay None l (Begin ∷ H)) (sym no_messages) (none_day H));
-  devices = λ i t is.
-      let lt : i < length new.devices = slice_get_within new.devices i t is in
-      let s = get_some old.devices i (omega (arith, pairs_length (IsStopped n.devices g) old.devices new.devices begun.devices)) in
-      (pairs_at (IsStopped n.devices g) old.devices new.devices begun.devices i s.0 t s.1 is).stands (i + 1) (device_view n (i + 1) H) (stands.devices i s.0 s.1);
-  centre = begun.centre.stands tt (centre_view n H) stands.centre;
+pub begun_stands : {D C H V S XD XC XH XV RD RC RH RV : Type 0} (n : Nodes D C H V S XD XC XH XV RD RC RH RV) (g : nv.Ghosts S) (old new : Bench D C H V) (L : Ledger)
+    → new.day ≡ None → new.messages ≡ [] → new.rates ≡ None → Begun n g old new → Stands n g old L → Stands n g new (Begin ∷ L)
+begun_stands n g old new L no_day no_messages no_rates begun stands = record {
+  day = no_day_is new.day new.messages new.rates (Begin ∷ L) no_day no_messages no_rates (none_day L);
+  nodes = each;
 }
+  where
+    each : (m : Node) → Of n (λ k i d s. node.Stands k.ghosts g d (view_in i (k.kind.seen d) (Begin ∷ L)) s) new m
+    each (Device d) = λ i t is at.
+        let lt : i < length new.devices = slice_get_within new.devices i t at in
+        let s = get_some old.devices i (omega (arith, pairs_length (IsStopped n.devices g) old.devices new.devices begun.devices)) in
+        (pairs_at (IsStopped n.devices g) old.devices new.devices begun.devices i s.0 t s.1 at).stands d (view_in (Device d) (n.kinds.devices.seen d) L) (stands.nodes (Device d) i s.0 is s.1)
+    each Centre = begun.centre.stands tt (view_in Centre (n.kinds.centre.seen tt) L) (stands.nodes Centre)
+    each Host = begun.host.stands tt (view_in Host (n.kinds.host.seen tt) L) (stands.nodes Host)
+    each Verifier = begun.verifier.stands tt (view_in Verifier (n.kinds.verifier.seen tt) L) (stands.nodes Verifier)

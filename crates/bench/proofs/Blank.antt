@@ -1,14 +1,21 @@
 -- Blank storages, as the first run finds them: they stand for the empty ledger.
-use Rattle.std.proofs.Common.{◌≡◌, inl, ℕ, zero, suc, ◌+◌, ◌*◌, ◌-◌, List, [], take, replicate, None, false, refl, sym, ◌∙◌, ap, subst}
-use Rattle.std.proofs.lemmas.List.{drop-replicate}
+use Rattle.std.proofs.Common.{◌≡◌, inl, inr, ℕ, zero, suc, ◌+◌, ◌*◌, ◌-◌, ◌≤◌, List, [], take, get_or, replicate, Option, Some, None, false, refl, sym, ◌∙◌, ap, subst, arith}
+use Rattle.std.proofs.lemmas.Bool.{cases_lt}
+use Rattle.std.proofs.lemmas.List.{drop-replicate, get_or_past}
+use Rattle.bench_base.specs.declared.words.Node.{Node}
+use Rattle.bench_base.specs.declared.words.Node.TheVariants.{Device, Centre, Host, Verifier}
+use Rattle.bench_base.specs.declared.sizes.TheConstants.{MOST_COMMITS}
+use Rattle.bench_base.specs.Ledger.{is_on}
 use Rattle.nv_model.specs.declared.nv.Nv as nv
-use Rattle.nv_store.specs.Slot.{slot, slots_at}
+use Rattle.nv_store.specs.Slot.{Held, slot, slots_at}
 use Rattle.nv_store.specs.Store.{Shows}
 use Rattle.nv_store.specs.Current.{current_none}
-use Rattle.bench_base.specs.declared.sizes.TheConstants.{DEVICE_BYTES, CENTRE_BYTES}
-use Rattle.node_seat.specs.declared.node.Node.{Ghosts}
+use Rattle.node_acts.specs.Kinds.{view_in}
+use Rattle.node_acts.specs.RowList.{RowList, listed, row_at, commits_at}
+use Rattle.node_acts.specs.RowLaws.{listed_long, listed_at}
 use Rattle.node_seat.specs.Stands.{StoreStands}
-use Rattle.bench.specs.Benches.{Nodes, IsBlank, AreBlank, StoresStand}
+use Rattle.row_table.specs.Shows.{IsHeldAs, ShowsRows}
+use Rattle.bench.specs.Benches.{Nodes, OneKind, IsBlank, AreBlank, StoreStandsOff, StoresStand, store_of, bytes_of}
 use Rattle.bench.specs.Benches as benches
 
 -- a front of zeros is no open slot
@@ -38,22 +45,55 @@ zeros_show size n cells m = record {
   };
 }
 
--- a blank storage stands for a node without commits
-blank_store : {K S N X R T : Type 0} (n : Ghosts K S N X R) (h : nv.Ghosts T) (d : N) (seen : n.Seen) (bytes : ℕ) (store : T) → n.bytes ≡ bytes → n.IsSound d seen → n.IsShown seen (replicate bytes 0)
-    → IsBlank h bytes store → StoreStands n h d (record { state = seen; next = None; on = false }) store
-blank_store n h d seen bytes store size sound shown blank = record {
-  size = blank.size ∙ sym size;
-  sound = λ tells. record { state = sound; next = tt; more = tt };
-  shows = λ tells image held. inl (subst (λ (b : List ℕ). n.IsShown seen b) (sym (blank.zeros tells image held)) shown);
-}
+-- == cells of which nothing is seen ==
 
-pub blank_stand : {D C S XD XC RD RC N : Type 0} (n : Nodes D C S XD XC RD RC) (h : nv.Ghosts N) (stores : benches.Places N) → n.devices.bytes ≡ DEVICE_BYTES → n.centre.bytes ≡ CENTRE_BYTES
-    → ((d : ℕ) → n.devices.IsSound d (n.kinds.devices.seen d [])) → ((d : ℕ) → n.devices.IsShown (n.kinds.devices.seen d []) (replicate DEVICE_BYTES 0))
-    → n.centre.IsSound tt (n.kinds.centre.seen tt []) → n.centre.IsShown (n.kinds.centre.seen tt []) (replicate CENTRE_BYTES 0) → AreBlank h stores → StoresStand n h stores []
-blank_stand n h stores device_size centre_size sound shown centre_sound centre_shown blank = record {
-  day = record { day = refl; messages = refl; rates = refl; host = refl; verifier = refl };
-  off = λ i store is. refl;
-  devices = λ i store is. blank_store n.devices h (i + 1) (n.kinds.devices.seen (i + 1) []) DEVICE_BYTES store device_size (sound (i + 1)) (shown (i + 1)) (blank.devices i store is);
-  centre_off = refl;
-  centre = blank_store n.centre h tt (n.kinds.centre.seen tt []) CENTRE_BYTES stores.centre centre_size centre_sound centre_shown blank.centre;
-}
+-- a list of nothings has nothing in any place
+pub nothing_at : {X : Type 0} (n : ℕ) (item : ℕ → Option X) → ((k : ℕ) → item k ≡ None) → (k : ℕ) → get_or (listed n item) k None ≡ None
+nothing_at n item none k = elim (cases_lt k n) [
+  | inl lt ↦ listed_at n item None k lt ∙ none k
+  | inr past ↦ get_or_past (listed n item) k None (omega (arith, past, listed_long n item))
+]
+
+module _ {R : Type 0} (s : RowList R) (none : (k : ℕ) → row_at s k ≡ None) where
+  pub no_commits : (k : ℕ) → commits_at (row_at s k) ≤ MOST_COMMITS
+  no_commits k = let no : commits_at (row_at s k) ≡ 0 = ap (λ (o : Option (ℕ × R)). commits_at o) (none k) in omega (arith, no)
+
+  -- zeros show them
+  pub blank_shown : (size cells bytes : ℕ) (reads : ℕ → R → List ℕ → Type 0) → ShowsRows size cells reads s (replicate bytes 0)
+  blank_shown size cells bytes reads =
+      let zeros = zeros_show size 2 cells bytes in
+      record {
+        each = λ k lt. subst (λ (h : Option Held). IsHeldAs (reads k) (row_at s k) h) (sym (zeros.each k lt)) (subst (λ (o : Option (ℕ × R)). IsHeldAs (reads k) o None) (sym (none k)) tt);
+        clear = λ k lt. zeros.clear k lt;
+      }
+
+-- == the storages of nodes ==
+
+-- node m before its first commit, which zeros show
+pub record IsBlankNode {S : Type 0} (k : OneKind S) (m : Node) (d : k.Name) : Type 0 where
+  pub size : k.ghosts.bytes ≡ bytes_of m
+  pub sound : k.ghosts.IsSound d (k.kind.seen d [])
+  pub shown : k.ghosts.IsShown (k.kind.seen d []) (replicate (bytes_of m) 0)
+
+-- a blank storage stands for a node without commits, which is off
+blank_store : {S N : Type 0} (h : nv.Ghosts N) (k : OneKind S) (m : Node) (d : k.Name) (store : N) → IsBlankNode k m d → IsBlank h (bytes_of m) store
+    → (is_on m [] ≡ false) × StoreStands k.ghosts h d (view_in m (k.kind.seen d) []) store
+blank_store h k m d store node blank = (
+  refl,
+  record {
+    size = blank.size ∙ sym node.size;
+    sound = λ tells. record { state = node.sound; next = tt; more = tt };
+    shows = λ tells image held. inl (subst (λ (b : List ℕ). k.ghosts.IsShown (k.kind.seen d []) b) (sym (blank.zeros tells image held)) node.shown);
+  },
+)
+
+pub blank_stand : {D C H V S XD XC XH XV RD RC RH RV N : Type 0} (n : Nodes D C H V S XD XC XH XV RD RC RH RV) (h : nv.Ghosts N) (stores : benches.Places N)
+    → ((d : ℕ) → IsBlankNode (benches.devices n) (Device d) d) → IsBlankNode (benches.centre n) Centre tt → IsBlankNode (benches.host n) Host tt → IsBlankNode (benches.verifier n) Verifier tt
+    → AreBlank h stores → StoresStand n h stores []
+blank_stand {N} n h stores devices centre host verifier blank = record { day = record { day = refl; messages = refl; rates = tt }; nodes = each }
+  where
+    each : (m : Node) (store : N) → store_of stores m ≡ Some store → StoreStandsOff n h [] store m
+    each (Device d) store is = blank_store h (benches.devices n) (Device d) d store (devices d) (blank (Device d) store is)
+    each Centre store is = blank_store h (benches.centre n) Centre tt store centre (blank Centre store is)
+    each Host store is = blank_store h (benches.host n) Host tt store host (blank Host store is)
+    each Verifier store is = blank_store h (benches.verifier n) Verifier tt store verifier (blank Verifier store is)

@@ -22,11 +22,17 @@ use Rattle.bench_views.specs.declared.taken.DeviceCall.{DeviceCall}
 use Rattle.bench_views.specs.declared.taken.DeviceCall.TheVariants as device
 use Rattle.bench_views.specs.declared.taken.CentreCall.{CentreCall}
 use Rattle.bench_views.specs.declared.taken.CentreCall.TheVariants as call
+use Rattle.bench_views.specs.declared.taken.HostCall.{HostCall}
+use Rattle.bench_views.specs.declared.taken.HostCall.TheVariants as host
+use Rattle.bench_views.specs.declared.taken.VerifierCall.{VerifierCall}
+use Rattle.bench_views.specs.declared.taken.VerifierCall.TheVariants as verifier
+use Rattle.bench_views.specs.declared.taken.Taken.{Taken}
 use Rattle.bench_views.specs.declared.taken.Taken.TheVariants as take
+use Rattle.bench_views.specs.Tariff.{Quote}
 use Rattle.bench_views.specs.Taken as takes
-use Rattle.bench_views.specs.Taken.{taken, as_given, as_given_by, addressee, device_node}
-use Rattle.bench_views.proofs.Events.{each_asked, each_of_centre, some-same}
-use Rattle.bench.specs.Calls.{asked_event, device_event, centre_event, device_call_event, centre_call_event, IsRanged}
+use Rattle.bench_views.specs.Taken.{taken, as_given, as_given_by, as_scanned_by, addressee, IsPricedAsked}
+use Rattle.bench_views.proofs.Events.{each_asked, each_of_centre, each_of_host, each_of_verifier, some-same}
+use Rattle.bench.specs.Calls.{asked_event, device_event, centre_event, host_event, verifier_event, device_call_event, centre_call_event, host_call_event, verifier_call_event, IsRanged, IsRangedOfHost, IsRangedOfVerifier}
 
 pub no_day : (o : Option ℤ) (t : ℤ) → o ≡ None → o ≡ Some t → ⊥
 no_day o t none some = cc
@@ -69,6 +75,10 @@ given_by : (k : ℕ) (o : Option (List ℕ)) → NeedsAlike (ev.Deliver k) (as_g
 given_by k None = alike (ev.Deliver k)
 given_by k (Some bytes) = record { day = refl; commits = refl; leaves = λ o. refl }
 
+scanned_by : (n k : ℕ) (o : Option (List ℕ)) → NeedsAlike (ev.ScanMsg n k) (as_scanned_by n k o)
+scanned_by n k None = alike (ev.ScanMsg n k)
+scanned_by n k (Some bytes) = record { day = refl; commits = refl; leaves = λ o. refl }
+
 pub given_alike : (pool : List (List ℕ)) (e : Event) → NeedsAlike e (as_given pool e)
 given_alike pool (ev.Deliver k) = given_by k (slice_get pool k)
 given_alike pool (ev.Day t) = alike (ev.Day t)
@@ -93,109 +103,170 @@ given_alike pool (ev.Send j) = alike (ev.Send j)
 given_alike pool (ev.Print j) = alike (ev.Print j)
 given_alike pool (ev.Close j) = alike (ev.Close j)
 given_alike pool (ev.Trust d key) = alike (ev.Trust d key)
-given_alike pool (ev.ScanMsg scan k) = alike (ev.ScanMsg scan k)
+given_alike pool (ev.ScanMsg scan k) = scanned_by scan k (slice_get pool k)
 given_alike pool (ev.ScanHex scan bytes) = alike (ev.ScanHex scan bytes)
 given_alike pool (ev.Reconcile d) = alike (ev.Reconcile d)
 given_alike pool ev.End = alike ev.End
 
 -- == what the bench takes is the event that asks it ==
 
-for_device_event : (e d k : ℕ) (bytes : List ℕ) (asked : Asked DeviceCall) → takes.for_device e bytes k ≡ take.Device d asked → ev.Give (device_node e) bytes ≡ device_event d asked
-for_device_event e d k bytes asked is = by (nat_le 1 e && nat_le e 8) is
-  where
-    by : (t : Bool) → (if t then takes.of_device e (device.Take bytes k) else take.Absent Verifier) ≡ take.Device d asked → ev.Give (if t then Device e else Verifier) bytes ≡ device_event d asked
-    by true same =
-        let which : e ≡ d = cc in
-        let what : Call (device.Take bytes k) ≡ asked = cc in
-        ap (λ (i : ℕ). ev.Give (Device i) bytes) which ∙ ap (device_event d) what
-    by false same = cc
+-- the event is the one that asks a node this
+abbrev GivenAs : Event → Taken → Type 0
+GivenAs x (take.Day t) = Unit {0}
+GivenAs x take.End = Unit {0}
+GivenAs x take.Rates = Unit {0}
+GivenAs x (take.NoMessage k) = Unit {0}
+GivenAs x (take.Reconcile d) = Unit {0}
+GivenAs x (take.Device d asked) = x ≡ device_event d asked
+GivenAs x (take.Centre asked) = x ≡ centre_event asked
+GivenAs x (take.Host asked) = x ≡ host_event asked
+GivenAs x (take.Verifier asked) = x ≡ verifier_event asked
 
-delivered_device : (d k : ℕ) (bytes : List ℕ) (asked : Asked DeviceCall) (x : Result Message Unread) → takes.delivered_as bytes k x ≡ take.Device d asked → ev.Give (addressee x) bytes ≡ device_event d asked
-delivered_device d k bytes asked (Ok (m.Reply p)) is = for_device_event p.device d k bytes asked is
-delivered_device d k bytes asked (Ok (m.Debit q)) is = for_device_event q.device d k bytes asked is
-delivered_device d k bytes asked (Ok (m.Release x)) is = cc
-delivered_device d k bytes asked (Ok (m.Request q)) is = cc
-delivered_device d k bytes asked (Ok (m.Done q)) is = cc
-delivered_device d k bytes asked (Err x) is = cc
+for_device_given : (bytes : List ℕ) (k d : ℕ) (t : Bool) → GivenAs (ev.Give (if t then Device d else Centre) bytes) (if t then takes.to_device d bytes k else takes.to_centre bytes k)
+for_device_given bytes k d true = refl
+for_device_given bytes k d false = refl
 
-message_device : (k next d : ℕ) (asked : Asked DeviceCall) (o : Option (List ℕ)) → takes.message_taken k next o ≡ take.Device d asked → as_given_by k o ≡ device_event d asked
-message_device k next d asked None is = cc
-message_device k next d asked (Some bytes) is = delivered_device d next bytes asked (read bytes) is
+read_given : (bytes : List ℕ) (k : ℕ) (x : Result Message Unread) → GivenAs (ev.Give (addressee x) bytes) (takes.delivered_as bytes k x)
+read_given bytes k (Ok (m.Reply p)) = for_device_given bytes k p.device (nat_le 1 p.device && nat_le p.device 8)
+read_given bytes k (Ok (m.Debit q)) = for_device_given bytes k q.device (nat_le 1 q.device && nat_le q.device 8)
+read_given bytes k (Ok (m.Release x)) = refl
+read_given bytes k (Ok (m.Request q)) = refl
+read_given bytes k (Ok (m.Done q)) = refl
+read_given bytes k (Err x) = refl
 
-pub device_given : (pool : List (List ℕ)) (e : Event) (d : ℕ) (asked : Asked DeviceCall) → taken pool e ≡ Some (take.Device d asked) → as_given pool e ≡ device_event d asked
-device_given pool = each_asked pool (λ e d asked. as_given pool e ≡ device_event d asked) (record {
-  on = λ d. refl;
-  off = λ d. refl;
-  cut = λ d calls keep byte. refl;
-  make = λ d key. refl;
-  debit = λ d piece postage class. refl;
-  ask = λ d kind who amount. refl;
-  resend = λ d. refl;
-  ack = λ d. refl;
-  status = λ d. refl;
-  give = λ d bytes. refl;
-  deliver = λ k d asked is. message_device k (length pool) d asked (slice_get pool k) is;
-})
+message_given : (k next : ℕ) (o : Option (List ℕ)) → GivenAs (as_given_by k o) (takes.message_taken k next o)
+message_given k next None = tt
+message_given k next (Some bytes) = read_given bytes next (read bytes)
 
-not_for_centre : {P : Type 0} (e k : ℕ) (bytes : List ℕ) (asked : Asked CentreCall) → takes.for_device e bytes k ≡ take.Centre asked → P
-not_for_centre {P} e k bytes asked is = by (nat_le 1 e && nat_le e 8) is
-  where
-    by : (t : Bool) → (if t then takes.of_device e (device.Take bytes k) else take.Absent Verifier) ≡ take.Centre asked → P
-    by true same = cc
-    by false same = cc
+module _ (pool : List (List ℕ)) (quote : Quote) where
+  delivered : (k : ℕ) (x : Taken) → takes.message_taken k (length pool) (slice_get pool k) ≡ x → GivenAs (as_given pool (ev.Deliver k)) x
+  delivered k x is = subst (λ (y : Taken). GivenAs (as_given pool (ev.Deliver k)) y) is (message_given k (length pool) (slice_get pool k))
 
-delivered_centre : (k : ℕ) (bytes : List ℕ) (asked : Asked CentreCall) (x : Result Message Unread) → takes.delivered_as bytes k x ≡ take.Centre asked → ev.Give (addressee x) bytes ≡ centre_event asked
-delivered_centre k bytes asked (Ok (m.Reply p)) is = not_for_centre p.device k bytes asked is
-delivered_centre k bytes asked (Ok (m.Debit q)) is = not_for_centre q.device k bytes asked is
-delivered_centre k bytes asked (Ok (m.Release x)) is = cc
-delivered_centre k bytes asked (Ok (m.Request q)) is = let what : Call (call.Take bytes k) ≡ asked = cc in ap centre_event what
-delivered_centre k bytes asked (Ok (m.Done q)) is = let what : Call (call.Take bytes k) ≡ asked = cc in ap centre_event what
-delivered_centre k bytes asked (Err x) is = let what : Call (call.Take bytes k) ≡ asked = cc in ap centre_event what
+  pub device_given : (e : Event) (d : ℕ) (asked : Asked DeviceCall) → taken pool quote e ≡ Some (take.Device d asked) → as_given pool e ≡ device_event d asked
+  device_given = each_asked pool quote (λ e d asked. as_given pool e ≡ device_event d asked) (record {
+    on = λ d. refl;
+    off = λ d. refl;
+    cut = λ d calls keep byte. refl;
+    make = λ d key. refl;
+    debit = λ d piece postage class. refl;
+    ask = λ d kind who amount. refl;
+    resend = λ d. refl;
+    ack = λ d. refl;
+    status = λ d. refl;
+    give = λ d bytes. refl;
+    deliver = λ k d asked is. delivered k (take.Device d asked) is;
+  })
 
-message_centre : (k next : ℕ) (asked : Asked CentreCall) (o : Option (List ℕ)) → takes.message_taken k next o ≡ take.Centre asked → as_given_by k o ≡ centre_event asked
-message_centre k next asked None is = cc
-message_centre k next asked (Some bytes) is = delivered_centre next bytes asked (read bytes) is
+  pub centre_given : (e : Event) (asked : Asked CentreCall) → taken pool quote e ≡ Some (take.Centre asked) → as_given pool e ≡ centre_event asked
+  centre_given = each_of_centre pool quote (λ e asked. as_given pool e ≡ centre_event asked) (record {
+    on = refl;
+    off = refl;
+    cut = λ calls keep byte. refl;
+    register = λ d origin key. refl;
+    opens = λ w. refl;
+    deposit = λ w receipt amount. refl;
+    flag = λ w suspended. refl;
+    balance = λ w. refl;
+    give = λ bytes. refl;
+    deliver = λ k asked is. delivered k (take.Centre asked) is;
+  })
 
-pub centre_given : (pool : List (List ℕ)) (e : Event) (asked : Asked CentreCall) → taken pool e ≡ Some (take.Centre asked) → as_given pool e ≡ centre_event asked
-centre_given pool = each_of_centre pool (λ e asked. as_given pool e ≡ centre_event asked) (record {
-  on = refl;
-  off = refl;
-  cut = λ calls keep byte. refl;
-  register = λ d origin key. refl;
-  opens = λ w. refl;
-  deposit = λ w receipt amount. refl;
-  flag = λ w suspended. refl;
-  balance = λ w. refl;
-  give = λ bytes. refl;
-  deliver = λ k asked is. message_centre k (length pool) asked (slice_get pool k) is;
-})
+  pub host_given : (e : Event) (asked : Asked HostCall) → taken pool quote e ≡ Some (take.Host asked) → as_given pool e ≡ host_event asked
+  host_given = each_of_host pool quote (λ e asked. as_given pool e ≡ host_event asked) (record {
+    on = refl;
+    off = refl;
+    cut = λ calls keep byte. refl;
+    order = λ d piece class grams zone. refl;
+    send = λ j. refl;
+    print = λ j. refl;
+    close = λ j. refl;
+    give = λ bytes. refl;
+    deliver = λ k asked is. delivered k (take.Host asked) is;
+  })
 
--- the numbers of what the centre is asked are those of the event
-handed_ranged : (k next : ℕ) (asked : Asked CentreCall) (o : Option (List ℕ)) → takes.message_taken k next o ≡ take.Centre asked → IsRanged asked
-handed_ranged k next asked None is = cc
-handed_ranged k next asked (Some bytes) is = by (read bytes) is
-  where
-    by : (x : Result Message Unread) → takes.delivered_as bytes next x ≡ take.Centre asked → IsRanged asked
-    by (Ok (m.Reply p)) same = not_for_centre p.device next bytes asked same
-    by (Ok (m.Debit q)) same = not_for_centre q.device next bytes asked same
-    by (Ok (m.Release x)) same = cc
-    by (Ok (m.Request q)) same = let what : Call (call.Take bytes next) ≡ asked = cc in subst IsRanged what tt
-    by (Ok (m.Done q)) same = let what : Call (call.Take bytes next) ≡ asked = cc in subst IsRanged what tt
-    by (Err x) same = let what : Call (call.Take bytes next) ≡ asked = cc in subst IsRanged what tt
+  pub verifier_given : (e : Event) (asked : Asked VerifierCall) → taken pool quote e ≡ Some (take.Verifier asked) → as_given pool e ≡ verifier_event asked
+  verifier_given = each_of_verifier pool quote (λ e asked. as_given pool e ≡ verifier_event asked) (record {
+    on = refl;
+    off = refl;
+    cut = λ calls keep byte. refl;
+    trust = λ d key. refl;
+    scan = λ n bytes. refl;
+    message = λ n k bytes there. ap (as_scanned_by n k) there;
+  })
 
-pub centre_ranged : (pool : List (List ℕ)) (e : Event) (asked : Asked CentreCall) → taken pool e ≡ Some (take.Centre asked) → IsWholeEvent e → IsRanged asked
-centre_ranged pool = each_of_centre pool (λ e asked. IsWholeEvent e → IsRanged asked) (record {
-  on = λ whole. tt;
-  off = λ whole. tt;
-  cut = λ calls keep byte whole. tt;
-  register = λ d origin key whole. (whole.0, whole.1);
-  opens = λ w whole. whole;
-  deposit = λ w receipt amount whole. whole.0;
-  flag = λ w suspended whole. whole;
-  balance = λ w whole. whole;
-  give = λ bytes whole. tt;
-  deliver = λ k asked is whole. handed_ranged k (length pool) asked (slice_get pool k) is;
-})
+  -- == the numbers of what a node is asked are those of the event ==
+
+  abbrev IsRangedTaken : Taken → Type 0
+  IsRangedTaken (take.Day t) = Unit {0}
+  IsRangedTaken take.End = Unit {0}
+  IsRangedTaken take.Rates = Unit {0}
+  IsRangedTaken (take.NoMessage k) = Unit {0}
+  IsRangedTaken (take.Reconcile d) = Unit {0}
+  IsRangedTaken (take.Device d asked) = Unit {0}
+  IsRangedTaken (take.Centre asked) = IsRanged asked
+  IsRangedTaken (take.Host asked) = IsRangedOfHost asked
+  IsRangedTaken (take.Verifier asked) = IsRangedOfVerifier asked
+
+  read_ranged : (bytes : List ℕ) (k : ℕ) (x : Result Message Unread) → IsRangedTaken (takes.delivered_as bytes k x)
+  read_ranged bytes k (Ok (m.Reply p)) = by (nat_le 1 p.device && nat_le p.device 8)
+    where
+      by : (t : Bool) → IsRangedTaken (if t then takes.to_device p.device bytes k else takes.to_centre bytes k)
+      by true = tt
+      by false = tt
+  read_ranged bytes k (Ok (m.Debit q)) = by (nat_le 1 q.device && nat_le q.device 8)
+    where
+      by : (t : Bool) → IsRangedTaken (if t then takes.to_device q.device bytes k else takes.to_centre bytes k)
+      by true = tt
+      by false = tt
+  read_ranged bytes k (Ok (m.Release x)) = tt
+  read_ranged bytes k (Ok (m.Request q)) = tt
+  read_ranged bytes k (Ok (m.Done q)) = tt
+  read_ranged bytes k (Err x) = tt
+
+  message_ranged : (k next : ℕ) (o : Option (List ℕ)) → IsRangedTaken (takes.message_taken k next o)
+  message_ranged k next None = tt
+  message_ranged k next (Some bytes) = read_ranged bytes next (read bytes)
+
+  handed : (k : ℕ) (x : Taken) → takes.message_taken k (length pool) (slice_get pool k) ≡ x → IsRangedTaken x
+  handed k x is = subst IsRangedTaken is (message_ranged k (length pool) (slice_get pool k))
+
+  pub centre_ranged : (e : Event) (asked : Asked CentreCall) → taken pool quote e ≡ Some (take.Centre asked) → IsWholeEvent e → IsRanged asked
+  centre_ranged = each_of_centre pool quote (λ e asked. IsWholeEvent e → IsRanged asked) (record {
+    on = λ whole. tt;
+    off = λ whole. tt;
+    cut = λ calls keep byte whole. tt;
+    register = λ d origin key whole. (whole.0, whole.1);
+    opens = λ w whole. whole;
+    deposit = λ w receipt amount whole. whole.0;
+    flag = λ w suspended whole. whole;
+    balance = λ w whole. whole;
+    give = λ bytes whole. tt;
+    deliver = λ k asked is whole. handed k (take.Centre asked) is;
+  })
+
+  -- a price is one where the quote gives one
+  pub host_ranged : (e : Event) (asked : Asked HostCall) → taken pool quote e ≡ Some (take.Host asked) → IsWholeEvent e → IsPricedAsked asked → IsRangedOfHost asked
+  host_ranged = each_of_host pool quote (λ e asked. IsWholeEvent e → IsPricedAsked asked → IsRangedOfHost asked) (record {
+    on = λ whole priced. tt;
+    off = λ whole priced. tt;
+    cut = λ calls keep byte whole priced. tt;
+    order = λ d piece class grams zone whole priced. (whole.0, priced);
+    send = λ j whole priced. tt;
+    print = λ j whole priced. tt;
+    close = λ j whole priced. tt;
+    give = λ bytes whole priced. tt;
+    deliver = λ k asked is whole priced. handed k (take.Host asked) is;
+  })
+
+  pub verifier_ranged : (e : Event) (asked : Asked VerifierCall) → taken pool quote e ≡ Some (take.Verifier asked) → IsWholeEvent e → IsRangedOfVerifier asked
+  verifier_ranged = each_of_verifier pool quote (λ e asked. IsWholeEvent e → IsRangedOfVerifier asked) (record {
+    on = λ whole. tt;
+    off = λ whole. tt;
+    cut = λ calls keep byte whole. tt;
+    trust = λ d key whole. whole;
+    scan = λ n bytes whole. (whole.0, whole.1);
+    message = λ n k bytes there whole. (whole.0, whole.1);
+  })
 
 -- what an event of node m needs
 pub record IsOfNode (m : Node) (e : Event) : Type 0 where
@@ -228,11 +299,28 @@ centre_call_of (call.Flag w suspended) = record { node = refl; dated = refl; lea
 centre_call_of (call.Balance w) = record { node = refl; dated = refl; leaves = λ o. refl; no_day = λ t e. cc; no_end = λ e. cc }
 centre_call_of (call.Take bytes k) = record { node = refl; dated = refl; leaves = λ o. refl; no_day = λ t e. cc; no_end = λ e. cc }
 
+host_call_of : (c : HostCall) → IsOfNode Host (host_call_event c)
+host_call_of (host.Order d piece class grams zone price) = record { node = refl; dated = refl; leaves = λ o. refl; no_day = λ t e. cc; no_end = λ e. cc }
+host_call_of (host.Send j k) = record { node = refl; dated = refl; leaves = λ o. refl; no_day = λ t e. cc; no_end = λ e. cc }
+host_call_of (host.Print j) = record { node = refl; dated = refl; leaves = λ o. refl; no_day = λ t e. cc; no_end = λ e. cc }
+host_call_of (host.Close j) = record { node = refl; dated = refl; leaves = λ o. refl; no_day = λ t e. cc; no_end = λ e. cc }
+host_call_of (host.Take bytes) = record { node = refl; dated = refl; leaves = λ o. refl; no_day = λ t e. cc; no_end = λ e. cc }
+
+verifier_call_of : (c : VerifierCall) → IsOfNode Verifier (verifier_call_event c)
+verifier_call_of (verifier.Trust d key) = record { node = refl; dated = refl; leaves = λ o. refl; no_day = λ t e. cc; no_end = λ e. cc }
+verifier_call_of (verifier.Scan n bytes) = record { node = refl; dated = refl; leaves = λ o. refl; no_day = λ t e. cc; no_end = λ e. cc }
+
 pub of_device : (d : ℕ) (asked : Asked DeviceCall) → IsOfNode (Device d) (device_event d asked)
 of_device d asked = asked_of (Device d) (device_call_event d) (device_call_of d) asked
 
 pub of_centre : (asked : Asked CentreCall) → IsOfNode Centre (centre_event asked)
 of_centre asked = asked_of Centre centre_call_event centre_call_of asked
+
+pub of_host : (asked : Asked HostCall) → IsOfNode Host (host_event asked)
+of_host asked = asked_of Host host_call_event host_call_of asked
+
+pub of_verifier : (asked : Asked VerifierCall) → IsOfNode Verifier (verifier_event asked)
+of_verifier asked = asked_of Verifier verifier_call_event verifier_call_of asked
 
 pub node_is : (m : Node) (e : Event) (k : Node) → IsOfNode m e → node_for e ≡ Some k → m ≡ k
 node_is m e k of is = some-same (sym of.node ∙ is)

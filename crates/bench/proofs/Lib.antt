@@ -1,19 +1,30 @@
 mod Answered
+mod AskedNodes
 mod Begun
 mod Blank
 mod BlankCentre
+mod BlankHost
+mod BlankVerifier
 mod Calls
 mod CentreActs
 mod CentreFits
-mod CentreTurns
+mod Charges
+mod Compares
 mod DeviceActs
-mod DeviceTurns
+mod EachKind
 pub mod Events
+mod HostActs
+mod HostFits
 pub mod Making
+mod NodeEvents
 mod Notes
 mod OneNode
 mod OneTurn
 mod Over
 mod Quiet
+mod RatesTurns
 mod Sets
 mod Stops
+mod Unprinted
+mod VerifierActs
+mod VerifierFits

@@ -90,7 +90,7 @@ rest_left n g h m d seen H L s store tells stands same size images =
 -- == the node of the event ==
 
 module _ {K S N C R X : Type 0} (n : Ghosts K S N C R) (g : nv.Ghosts S) (f : fuse.Ghosts S) (kind : Kind N n.Seen X) (m : Node) (d : N) (today : ℤ) (e given : Event) (asked : Asked X)
-    (before now : K) (turn : Turn) (did : NodeTurn n g f kind m d today given asked before now turn) {D E : Type 0} (kinds : Kinds D E) (τ : Tariff) (H : Ledger)
+    (before now : K) (turn : Turn) (did : NodeTurn n g f kind m d today given asked before now turn) {D E F G : Type 0} (kinds : Kinds D E F G) (τ : Tariff) (H : Ledger)
     (st : node.Stands n g d (view_in m (kind.seen d) H) before) (tells : g.tells) (law : Follows n.counting kind m d kinds τ H e today asked) where
   abbrev v : View n.Seen
   v = view_in m (kind.seen d) H
@@ -158,11 +158,11 @@ module _ {K S N C R X : Type 0} (n : Ghosts K S N C R) (g : nv.Ghosts S) (f : fu
 
   -- == at any moment ==
 
-  shown_after : (o : Option (Commit × n.Seen)) → made ≡ o → (image : List ℕ) → IsAfter n o image → ShowsCommit n (kind.seen d) m τ H e image
+  shown_after : (o : Option (Commit × n.Seen)) → made ≡ o → (image : List ℕ) → IsAfter n o image → ShowsCommit n (kind.seen d) m τ H e [] image
   shown_after None is image shown = absurd shown
   shown_after (Some x) is image shown = (x.0, planned x is, own x is, subst (λ (s : n.Seen). n.IsShown s image) (sym (record_is x is)) shown)
 
-  pub shows : ShowsLedger n g (kind.seen d) m τ H e before now
+  pub shows : ShowsLedger n g (kind.seen d) m τ H e [] before now
   shows = λ image since. ⊎_elim (λ a. inl a) (λ b. inr (shown_after made refl image b)) (moved.any_moment image since)
 
   -- == where the process is stopped ==
@@ -172,7 +172,7 @@ module _ {K S N C R X : Type 0} (n : Ghosts K S N C R) (g : nv.Ghosts S) (f : fu
   open_others = by made refl
     where
       by : (o : Option (Commit × n.Seen)) → made ≡ o → OthersStay kinds m H (with_open (plan τ todays_rules H e []).commit H)
-      by None is = subst (λ (c : Option Commit). OthersStay kinds m H (with_open c H)) (sym (no_commit is)) (record { devices = λ i ne. refl; centre = λ ne. refl })
+      by None is = subst (λ (c : Option Commit). OthersStay kinds m H (with_open c H)) (sym (no_commit is)) (record { devices = λ i ne. refl; centre = λ ne. refl; host = λ ne. refl; verifier = λ ne. refl })
       by (Some x) is = subst (λ (c : Option Commit). OthersStay kinds m H (with_open c H)) (sym (planned x is))
           (subst (λ (k : Node). OthersStay kinds m H (entry.Torn k x.0 ∷ H)) (sym (own x is)) (others_opened x is))
 
@@ -205,10 +205,10 @@ module _ {K S N C R X : Type 0} (n : Ghosts K S N C R) (g : nv.Ghosts S) (f : fu
       | inr new ↦ absurd (subst (λ (o : Option (Commit × n.Seen)). IsAfter n o image) is new)
     ])
 
-    pub left : StoreStands n h d (view_in m (kind.seen d) (after_stop τ H e)) store
+    pub left : StoreStands n h d (view_in m (kind.seen d) (after_stop τ H e [])) store
     left = by made refl
       where
-        by : (o : Option (Commit × n.Seen)) → made ≡ o → StoreStands n h d (view_in m (kind.seen d) (after_stop τ H e)) store
+        by : (o : Option (Commit × n.Seen)) → made ≡ o → StoreStands n h d (view_in m (kind.seen d) (after_stop τ H e [])) store
         by None is = subst (λ (c : Option Commit). StoreStands n h d (view_in m (kind.seen d) (entry.Begin ∷ with_open c H)) store) (sym (no_commit is)) (none_left is)
         by (Some x) is = subst (λ (c : Option Commit). StoreStands n h d (view_in m (kind.seen d) (entry.Begin ∷ with_open c H)) store) (sym (planned x is))
             (subst (λ (k : Node). StoreStands n h d (view_in m (kind.seen d) (entry.Begin ∷ entry.Torn k x.0 ∷ H)) store) (sym (own x is)) (open_left x is))

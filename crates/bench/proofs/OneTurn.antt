@@ -1,6 +1,6 @@
 -- An event of one node leaves the others as they were; so what it does to the bench follows from what it does to the node.
-use Rattle.std.proofs.Common.{◌≡◌, ◌≢◌, inl, ⊎_elim, ℕ, ◌+◌, List, [], ◌∷◌, ◌++◌, length, Option, Some, None, true, false, ◌↔◌, refl, sym, ◌∙◌, ap, subst, arith}
-use Rattle.std.specs.Prelude.{slice_get, option_map}
+use Rattle.std.proofs.Common.{◌≡◌, ◌≢◌, inl, ⊎_elim, ℕ, zero, suc, List, [], ◌∷◌, ◌++◌, length, Option, Some, None, true, false, ◌↔◌, refl, sym, ◌∙◌, ap, subst, arith}
+use Rattle.std.specs.Prelude.{◌≤◌, option_map, Result, Ok, Err, IfOk}
 use Rattle.std.proofs.lemmas.Option.{slice_get_within}
 use Rattle.bench_base.specs.declared.words.Node.{Node}
 use Rattle.bench_base.specs.declared.words.Node.TheVariants.{Device, Centre, Host, Verifier}
@@ -9,17 +9,16 @@ use Rattle.bench_base.specs.declared.events.Event.{Event}
 use Rattle.bench_base.specs.declared.events.Event.TheVariants as ev
 use Rattle.bench_base.specs.declared.events.Reply.TheVariants as r
 use Rattle.bench_base.specs.Events.{node_for, may_commit}
-use Rattle.bench_base.specs.Replies.{told_by, is_refusal, has_read, MayGet}
+use Rattle.bench_base.specs.Replies.{told_by, is_refusal, has_read, tells_power, tells_fault, MayGet}
 use Rattle.bench_base.specs.Rules.{todays_rules, editions}
 use Rattle.bench_base.specs.Ranges.{IsWholeEvent}
-use Rattle.bench_base.specs.Ledger.{Ledger, torn_of, counted}
+use Rattle.bench_base.specs.Ledger.{Ledger, torn_of, counted, is_on, rates_in}
 use Rattle.nv_model.specs.declared.nv.Nv as nv
 use Rattle.nv_model.specs.declared.fuse.Fuse as fuse
 use Rattle.nv_store.specs.Mounts.{Mounts}
 use Rattle.node_acts.specs.Kinds.{view_in}
 use Rattle.node_acts.specs.Plans.{after}
 use Rattle.node_acts.specs.Views.{View}
-use Rattle.node_seat.specs.Shown.{Allowed}
 use Rattle.node_seat.specs.Stands as node
 use Rattle.node_seat.specs.Stands.{StoreStands, times_of, meters_of, HasDamage, IsArmed}
 use Rattle.node_seat.proofs.Rests.{mounts_none}
@@ -27,21 +26,28 @@ use Rattle.node_turns.specs.declared.turn.Turn.{Turn}
 use Rattle.node_turns.specs.Adds.{Adds}
 use Rattle.node_turns.specs.Costs.{Charged}
 use Rattle.node_turns.specs.NodeTurns.{Switches}
+use Rattle.node_turns.specs.Printing.{PrinterDid, print_of}
 use Rattle.node_turns.specs.Turns.{in_order}
+use Rattle.host_rates.specs.Tables.{RateTable}
+use Rattle.host_rates.specs.Tariffs.{Keeps}
 use Rattle.ledger_moves.specs.Tariffs.{Tariff}
 use Rattle.ledger_moves.specs.Histories.{History, Unforged}
 use Rattle.ledger_moves.specs.Moves as ledger
 use Rattle.ledger_moves.specs.Moves.{Moves, plan}
-use Rattle.bench_views.specs.Taken.{as_given}
+use Rattle.bench_views.specs.declared.taken.Taken.TheVariants as take
+use Rattle.bench_views.specs.Tariff.{quote}
+use Rattle.bench_views.specs.Taken.{taken, as_given}
 use Rattle.bench_views.specs.Messages.{sent_in}
 use Rattle.bench_views.specs.Follows.{OthersStay, Rests}
-use Rattle.bench.specs.Benches.{Bench, Places, Nodes, At, IsReady, Stands, StoresStand, device_view, centre_view}
-use Rattle.bench.specs.Steps.{Steps, StepsOn, StepsAlone, ShowsLedger, HoldsImage, AreLeft, StayClosed, Leaves, notes_in, with_open, after_stop, tells_failure}
+use Rattle.bench.specs.Benches.{Bench, Places, Nodes, OneKind, OfState, OfChange, At, Of, By, IsReady, Stands, StoresStand, StoreStandsOff, store_of, devices, centre, host, verifier}
+use Rattle.bench.specs.Outside.{Feed, Outside}
+use Rattle.bench.specs.Steps.{Steps, StepsOn, StepsAlone, ShowsLedger, HoldsImage, AreLeft, StayClosed, Leaves, notes_in, sending, with_open, after_stop, tells_failure}
 use Rattle.bench.proofs.Events.{IsOfNode, NeedsAlike, given_alike, node_is, untold, same_or_not}
+use Rattle.bench.proofs.EachKind.{OthersRest, of_all, of_with, of_by, at_both, stays, walk}
 use Rattle.bench.proofs.Making.{get_some}
 use Rattle.bench.proofs.OneNode.{rest_left, none_mapped}
 use Rattle.bench.proofs.Over.{none_day}
-use Rattle.bench.proofs.Quiet.{rests_charged}
+use Rattle.bench.proofs.Charges.{rests_charged}
 use Rattle.bench.proofs.Stops.{stop_history}
 
 -- a node of which the same is seen has no more open commits
@@ -49,38 +55,42 @@ still_closed : {S : Type 0} (k : Node) (seen : List Commit → S) (H L : Ledger)
 still_closed {S} k seen H L same none =
     none_mapped (λ c. seen (c ∷ counted L)) (torn_of k L) (ap (λ (w : View S). w.next) same ∙ ap (λ (o : Option Commit). option_map (λ c. seen (c ∷ counted H)) o) none)
 
--- node m was asked, and every other is as it was
-pub record OthersRest {D C : Type 0} (m : Node) (old new : Bench D C) : Type 0 where
-  pub day : new.day ≡ old.day
-  pub size : length new.devices ≡ length old.devices
-  pub devices : (i : ℕ) (s t : D) → Device (i + 1) ≢ m → slice_get old.devices i ≡ Some s → slice_get new.devices i ≡ Some t → t ≡ s
-  pub centre : Centre ≢ m → new.centre ≡ old.centre
+module _ {D C H V S XD XC XH XV RD RC RH RV : Type 0} (n : Nodes D C H V S XD XC XH XV RD RC RH RV) where
+  -- of node k the same is seen as before
+  abbrev pub SeenSame : Ledger → Ledger → Node → Type 0
+  SeenSame L M k = By n (λ o i d. view_in i (o.kind.seen d) M ≡ view_in i (o.kind.seen d) L) k
 
-module _ {D C : Type 0} (m : Node) (old new : Bench D C) (rest : OthersRest m old new) where
-  -- what holds of each node that is as it was holds at each node but m
-  pub stays : (P : ℕ → D → D → Type 0) (Q : C → C → Type 0) (k : Node) → k ≢ m → ((d i : ℕ) (s : D) → d ≡ i + 1 → slice_get old.devices i ≡ Some s → P d s s) → Q old.centre old.centre
-      → At P Q old new k
-  stays P Q (Device d) differs each centre = λ i s t next was is.
-      subst (λ (u : D). P d s u) (sym (rest.devices i s t (λ same. differs (ap Device next ∙ same)) was is)) (each d i s next was)
-  stays P Q Centre differs each centre = subst (λ (u : C). Q old.centre u) (sym (rest.centre differs)) centre
-  stays P Q Host differs each centre = tt
-  stays P Q Verifier differs each centre = tt
+  pub seen_same : (m : Node) (L M : Ledger) → OthersStay n.kinds m L M → (k : Node) → k ≢ m → SeenSame L M k
+  seen_same m L M stay (Device d) differs = stay.devices d differs
+  seen_same m L M stay Centre differs = stay.centre differs
+  seen_same m L M stay Host differs = stay.host differs
+  seen_same m L M stay Verifier differs = stay.verifier differs
 
-  -- and what holds at m too, at each node
-  pub walk : (P : ℕ → D → D → Type 0) (Q : C → C → Type 0) → At P Q old new m → ((d i : ℕ) (s : D) → d ≡ i + 1 → Device d ≢ m → slice_get old.devices i ≡ Some s → P d s s)
-      → (Centre ≢ m → Q old.centre old.centre) → (k : Node) → At P Q old new k
-  walk P Q here each centre k = ⊎_elim
-      (λ (same : k ≡ m). subst (λ (j : Node). At P Q old new j) (sym same) here)
-      (λ (differs : k ≢ m). by k differs)
-      (same_or_not k m)
+  closed_same : (L M : Ledger) (k : Node) → SeenSame L M k → torn_of k L ≡ None → torn_of k M ≡ None
+  closed_same L M (Device d) same none = still_closed (Device d) (n.kinds.devices.seen d) L M same none
+  closed_same L M Centre same none = still_closed Centre (n.kinds.centre.seen tt) L M same none
+  closed_same L M Host same none = still_closed Host (n.kinds.host.seen tt) L M same none
+  closed_same L M Verifier same none = still_closed Verifier (n.kinds.verifier.seen tt) L M same none
+
+  -- what is left of a node in its place
+  pub left_in : {N : Type 0} (h : nv.Ghosts N) (old new : Bench D C H V) (stores : Places N) (L : Ledger) → IsReady old → length new.devices ≡ length old.devices → length stores.devices ≡ 8
+      → (m : Node) (store : N) → store_of stores m ≡ Some store → is_on m L ≡ false → At n (λ o i d s t. StoreStands o.ghosts h d (view_in i (o.kind.seen d) L) store) old new m
+      → StoreStandsOff n h L store m
+  left_in h old new stores L ready size eight (Device zero) store there off at = absurd (none_some there)
     where
-      by : (j : Node) → j ≢ m → At P Q old new j
-      by (Device d) differs = λ i s t next was is. subst (λ (u : D). P d s u) (sym (rest.devices i s t (λ same. differs (ap Device next ∙ same)) was is)) (each d i s next differs was)
-      by Centre differs = subst (λ (u : C). Q old.centre u) (sym (rest.centre differs)) (centre differs)
-      by Host differs = tt
-      by Verifier differs = tt
+      none_some : ◌≡◌ {A = Option _} None (Some store) → ⊥
+      none_some is = cc
+  left_in h old new stores L ready size eight (Device (suc i)) store there off at =
+      let lt = slice_get_within stores.devices i store there in
+      let s = get_some old.devices i (omega (arith, lt, eight, ready.eight)) in
+      let t = get_some new.devices i (omega (arith, lt, eight, ready.eight, size)) in
+      (off, at i s.0 t.0 (omega arith) s.1 t.1)
+  left_in h old new stores L ready size eight Centre store there off at = (off, at)
+  left_in h old new stores L ready size eight Host store there off at = (off, at)
+  left_in h old new stores L ready size eight Verifier store there off at = (off, at)
 
-module _ {D C S XD XC RD RC : Type 0} (n : Nodes D C S XD XC RD RC) (g : nv.Ghosts S) (f : fuse.Ghosts S) (m : Node) (e x : Event) (turn : Turn) (old new : Bench D C) where
+module _ {D C H V S XD XC XH XV RD RC RH RV : Type 0} (n : Nodes D C H V S XD XC XH XV RD RC RH RV) (g : nv.Ghosts S) (f : fuse.Ghosts S) (m : Node) (e x : Event) (turn : Turn) (old new : Bench D C H V)
+    (before now : Outside) where
   -- what node m did in event e, which is x where it is given, whatever the storages tell
   pub record NodeDid : Type 0 where
     pub given : as_given old.messages e ≡ x
@@ -92,27 +102,30 @@ module _ {D C S XD XC RD RC : Type 0} (n : Nodes D C S XD XC RD RC) (g : nv.Ghos
     pub on_day : turn.reply ≢ r.NoDay
     pub refused : is_refusal turn.reply ≡ true → (new ≡ old) × (turn.entries ≡ in_order [])
     pub adds : Adds x (told_by turn.reply) turn.entries
-    pub switches : At (λ d s t. Switches m x turn.reply (n.devices.is_on s) (n.devices.is_on t)) (λ s t. Switches m x turn.reply (n.centre.is_on s) (n.centre.is_on t)) old new m
-    pub charged : At (λ d s t. Charged m x turn.reply (meters_of n.devices g s) (meters_of n.devices g t)) (λ s t. Charged m x turn.reply (meters_of n.centre g s) (meters_of n.centre g t)) old new m
-    pub armed : (calls keep byte : ℕ) → x ≡ ev.Cut m calls keep byte → At (λ d s t. IsArmed n.devices f t calls keep byte) (λ s t. IsArmed n.centre f t calls keep byte) old new m
-    pub unwritten : g.tells → may_commit x ≡ false
-        → At (λ d s t. Mounts (times_of n.devices g s) (times_of n.devices g t)) (λ s t. Mounts (times_of n.centre g s) (times_of n.centre g t)) old new m
-    pub found : g.tells → x ≡ ev.On m → has_read turn.reply ≡ true
-        → At (λ d s t. (turn.reply ≡ r.Damaged m) ↔ HasDamage n.devices d t) (λ s t. (turn.reply ≡ r.Damaged m) ↔ HasDamage n.centre tt t) old new m
+    pub there : (k : ℕ) → taken old.messages (quote old.rates) e ≡ Some (take.NoMessage k) → ⊥
+    pub feed : now.rates ≡ before.rates
+    pub mark : Option (List ℕ)
+    pub printer : PrinterDid turn.reply mark before.printer now.printer
+    pub switches : At n (λ o i d s t. Switches i x turn.reply (o.ghosts.is_on s) (o.ghosts.is_on t)) old new m
+    pub charged : At n (λ o i d s t. Charged i x turn.reply (meters_of o.ghosts g s) (meters_of o.ghosts g t)) old new m
+    pub armed : (calls keep byte : ℕ) → x ≡ ev.Cut m calls keep byte → At n (λ o i d s t. IsArmed o.ghosts f t calls keep byte) old new m
+    pub unwritten : g.tells → may_commit x ≡ false → At n (λ o i d s t. Mounts (times_of o.ghosts g s) (times_of o.ghosts g t)) old new m
+    pub found : g.tells → x ≡ ev.On m → has_read turn.reply ≡ true → At n (λ o i d s t. (turn.reply ≡ r.Damaged i) ↔ HasDamage o.ghosts d t) old new m
 
   module _ (did : NodeDid) where
     -- == whatever the storages tell ==
 
-    abbrev ChargedAt : Node → Type 0
-    ChargedAt k = At (λ d s t. Charged k x turn.reply (meters_of n.devices g s) (meters_of n.devices g t)) (λ s t. Charged k x turn.reply (meters_of n.centre g s) (meters_of n.centre g t)) old new k
+    abbrev ChargedIs : OfChange S
+    ChargedIs o i d s t = Charged i x turn.reply (meters_of o.ghosts g s) (meters_of o.ghosts g t)
 
-    charged_at : (k : Node) → ChargedAt k
-    charged_at k = ⊎_elim
-        (λ (same : k ≡ m). subst (λ (j : Node). ChargedAt j) (sym same) did.charged)
-        (λ (differs : k ≢ m). let none = untold m x k turn.reply did.of did.reply differs in
-        stays m old new did.rest (λ d s t. Charged k x turn.reply (meters_of n.devices g s) (meters_of n.devices g t)) (λ s t. Charged k x turn.reply (meters_of n.centre g s) (meters_of n.centre g t)) k differs
-        (λ d i s next was. rests_charged k x turn.reply (meters_of n.devices g s) none.0 none.1) (rests_charged k x turn.reply (meters_of n.centre g old.centre) none.0 none.1))
-        (same_or_not k m)
+    charged_at : (k : Node) → At n ChargedIs old new k
+    charged_at = walk n m old new did.rest ChargedIs did.charged (λ j differs. let none = untold m x j turn.reply did.of did.reply differs in rests j none.0 none.1)
+      where
+        rests : (j : Node) → tells_power j turn.reply ≡ false → tells_fault j turn.reply ≡ false → Of n (λ o i d s. ChargedIs o i d s s) old j
+        rests (Device d) power fault = λ i s next was. rests_charged (Device d) x turn.reply (meters_of n.devices g s) power fault
+        rests Centre power fault = rests_charged Centre x turn.reply (meters_of n.centre g old.centre) power fault
+        rests Host power fault = rests_charged Host x turn.reply (meters_of n.host g old.host) power fault
+        rests Verifier power fault = rests_charged Verifier x turn.reply (meters_of n.verifier g old.verifier) power fault
 
     alike : NeedsAlike e x
     alike = subst (NeedsAlike e) did.given (given_alike old.messages e)
@@ -121,178 +134,186 @@ module _ {D C S XD XC RD RC : Type 0} (n : Nodes D C S XD XC RD RC) (g : nv.Ghos
     is_given : (y : Event) → as_given old.messages y ≡ y → e ≡ y → x ≡ y
     is_given y same is = sym did.given ∙ ap (as_given old.messages) is ∙ same
 
-    -- what holds of what it leaves, of node k
-    abbrev SwitchesAt : Node → Type 0
-    SwitchesAt k = At (λ d s t. Switches k x turn.reply (n.devices.is_on s) (n.devices.is_on t)) (λ s t. Switches k x turn.reply (n.centre.is_on s) (n.centre.is_on t)) old new k
+    abbrev SwitchesIs : OfChange S
+    SwitchesIs o i d s t = Switches i x turn.reply (o.ghosts.is_on s) (o.ghosts.is_on t)
 
-    switches_at : (k : Node) → node_for x ≡ Some k → SwitchesAt k
-    switches_at k is = subst (λ (j : Node). SwitchesAt j) (node_is m x k did.of is) did.switches
+    abbrev ArmedIs : ℕ → ℕ → ℕ → OfChange S
+    ArmedIs calls keep byte o i d s t = IsArmed o.ghosts f t calls keep byte
 
-    armed_at : (k : Node) (calls keep byte : ℕ) → x ≡ ev.Cut k calls keep byte → At (λ d s t. IsArmed n.devices f t calls keep byte) (λ s t. IsArmed n.centre f t calls keep byte) old new k
+    abbrev RestsIs : OfChange S
+    RestsIs o i d s t = t ≡ s
+
+    switches_at : (k : Node) → node_for x ≡ Some k → At n SwitchesIs old new k
+    switches_at k is = subst (λ (j : Node). At n SwitchesIs old new j) (node_is m x k did.of is) did.switches
+
+    armed_at : (k : Node) (calls keep byte : ℕ) → x ≡ ev.Cut k calls keep byte → At n (ArmedIs calls keep byte) old new k
     armed_at k calls keep byte is =
         let same = node_is m x k did.of (ap node_for is) in
-        subst (λ (j : Node). At (λ d s t. IsArmed n.devices f t calls keep byte) (λ s t. IsArmed n.centre f t calls keep byte) old new j) same
+        subst (λ (j : Node). At n (ArmedIs calls keep byte) old new j) same
         (did.armed calls keep byte (is ∙ ap (λ (j : Node). ev.Cut j calls keep byte) (sym same)))
 
-    rests_at : (k : Node) → (node_for x ≡ Some k → ⊥) → At (λ d s t. t ≡ s) (λ s t. t ≡ s) old new k
-    rests_at k not = stays m old new did.rest (λ d s t. t ≡ s) (λ s t. t ≡ s) k (λ same. not (did.of.node ∙ ap (λ (j : Node). Some j) (sym same))) (λ d i s next was. refl) refl
+    rests_at : (k : Node) → (node_for x ≡ Some k → ⊥) → At n RestsIs old new k
+    rests_at k not = stays n m old new did.rest RestsIs k (λ same. not (did.of.node ∙ ap (λ (j : Node). Some j) (sym same))) (of_all n (λ o i d s. s ≡ s) old (λ o i d s. refl) k)
 
-    leaves_at : (k : Node) → At (λ d. Leaves n.devices g f k x old.day turn.reply) (Leaves n.centre g f k x old.day turn.reply) old new k
+    leaves_at : (k : Node) → At n (λ o i d. Leaves o.ghosts g f i x old.day turn.reply) old new k
     leaves_at k = together k (charged_at k) (switches_at k) (armed_at k) (rests_at k)
       where
-        together : (j : Node) → ChargedAt j → (node_for x ≡ Some j → SwitchesAt j)
-            → ((calls keep byte : ℕ) → x ≡ ev.Cut j calls keep byte → At (λ d s t. IsArmed n.devices f t calls keep byte) (λ s t. IsArmed n.centre f t calls keep byte) old new j)
-            → ((node_for x ≡ Some j → ⊥) → At (λ d s t. t ≡ s) (λ s t. t ≡ s) old new j)
-            → At (λ d. Leaves n.devices g f j x old.day turn.reply) (Leaves n.centre g f j x old.day turn.reply) old new j
-        together (Device d) charged switches armed rests = λ i s t next was is. record {
-          switches = λ some at. switches at i s t next was is;
-          charged = charged i s t next was is;
-          armed = λ some calls keep byte at. armed calls keep byte at i s t next was is;
-          rests = λ not. rests not i s t next was is;
-        }
-        together Centre charged switches armed rests = record { switches = λ some at. switches at; charged = charged; armed = λ some calls keep byte at. armed calls keep byte at; rests = rests }
-        together Host charged switches armed rests = tt
-        together Verifier charged switches armed rests = tt
+        one : (o : OneKind S) (i : Node) (s t : o.Own) → Charged i x turn.reply (meters_of o.ghosts g s) (meters_of o.ghosts g t)
+            → (node_for x ≡ Some i → Switches i x turn.reply (o.ghosts.is_on s) (o.ghosts.is_on t)) → ((calls keep byte : ℕ) → x ≡ ev.Cut i calls keep byte → IsArmed o.ghosts f t calls keep byte)
+            → ((node_for x ≡ Some i → ⊥) → t ≡ s) → Leaves o.ghosts g f i x old.day turn.reply s t
+        one o i s t charged switches armed rests = record { switches = λ some at there. switches at; charged = charged; armed = λ some calls keep byte at. armed calls keep byte at; rests = rests }
 
-    pub at_alone : ((k : ℕ) → e ≡ ev.Deliver k → slice_get old.messages k ≡ None → ⊥) → StepsAlone n g f e turn old new
-    at_alone there = record {
+        together : (j : Node) → At n ChargedIs old new j → (node_for x ≡ Some j → At n SwitchesIs old new j)
+            → ((calls keep byte : ℕ) → x ≡ ev.Cut j calls keep byte → At n (ArmedIs calls keep byte) old new j) → ((node_for x ≡ Some j → ⊥) → At n RestsIs old new j)
+            → At n (λ o i d. Leaves o.ghosts g f i x old.day turn.reply) old new j
+        together (Device d) charged switches armed rests = λ i s t next was is.
+            one (devices n) (Device d) s t (charged i s t next was is) (λ at. switches at i s t next was is) (λ calls keep byte at. armed calls keep byte at i s t next was is) (λ not. rests not i s t next was is)
+        together Centre charged switches armed rests = one (centre n) Centre old.centre new.centre charged switches armed rests
+        together Host charged switches armed rests = one (host n) Host old.host new.host charged switches armed rests
+        together Verifier charged switches armed rests = one (verifier n) Verifier old.verifier new.verifier charged switches armed rests
+
+    no_rates : e ≡ ev.Rates → ⊥
+    no_rates is = let none : ◌≡◌ {A = Option Node} None (Some m) = sym (ap node_for (is_given ev.Rates refl is)) ∙ did.of.node in cc
+
+    pub at_alone : StepsAlone n g f e [] turn old new before now
+    at_alone = record {
       reply = subst (λ (y : Event). MayGet y turn.reply) (sym did.given) did.reply;
       day = λ needs. (λ is. absurd (did.on_day is), λ none. absurd (did.dated none));
       dated = did.rest.day ∙ sym (alike.leaves old.day ∙ did.of.leaves old.day);
       dates = λ t is. absurd (did.of.no_day t (is_given (ev.Day t) refl is));
       ends = λ is. absurd (did.of.no_end (is_given ev.End refl is));
-      message = λ k is some none. absurd (there k is none);
+      message = λ k is some. absurd (did.there k is);
       sends = did.sends;
       refused = did.refused;
       adds = subst (λ (y : Event). Adds y (told_by turn.reply) turn.entries) (sym did.given) did.adds;
-      nodes = λ k. subst (λ (y : Event). At (λ d. Leaves n.devices g f k y old.day turn.reply) (Leaves n.centre g f k y old.day turn.reply) old new k) (sym did.given) (leaves_at k);
+      nodes = λ k. subst (λ (y : Event). At n (λ o i d. Leaves o.ghosts g f i y old.day turn.reply) old new k) (sym did.given) (leaves_at k);
+      rates = record {
+        reads = λ is. absurd (no_rates is);
+        no_day = λ none. absurd (did.dated none);
+        others = λ not. record { nothing = refl; keeps = did.rest.rates; rests = did.feed };
+        later = subst (λ (k : ℕ). before.rates.faults ≤ k) (ap (λ (y : Feed). y.faults) (sym did.feed)) (omega arith);
+      };
+      printer = (did.mark, did.printer);
     }
 
     -- == by what the storages show ==
 
-    pub at_unwritten : g.tells → may_commit e ≡ false → (k : Node)
-        → At (λ d s t. Mounts (times_of n.devices g s) (times_of n.devices g t)) (λ s t. Mounts (times_of n.centre g s) (times_of n.centre g t)) old new k
-    at_unwritten tells none = walk m old new did.rest (λ d s t. Mounts (times_of n.devices g s) (times_of n.devices g t)) (λ s t. Mounts (times_of n.centre g s) (times_of n.centre g t))
-        (did.unwritten tells (sym alike.commits ∙ none)) (λ d i s next differs was. mounts_none (times_of n.devices g s)) (λ differs. mounts_none (times_of n.centre g old.centre))
+    abbrev MountsIs : OfChange S
+    MountsIs o i d s t = Mounts (times_of o.ghosts g s) (times_of o.ghosts g t)
 
-    pub at_damaged : g.tells → (k : Node) → e ≡ ev.On k → has_read turn.reply ≡ true
-        → At (λ d s t. (turn.reply ≡ r.Damaged k) ↔ HasDamage n.devices d t) (λ s t. (turn.reply ≡ r.Damaged k) ↔ HasDamage n.centre tt t) old new k
+    pub at_unwritten : g.tells → may_commit e ≡ false → (k : Node) → At n MountsIs old new k
+    at_unwritten tells none = walk n m old new did.rest MountsIs (did.unwritten tells (sym alike.commits ∙ none)) (λ j differs. of_all n (λ o i d s. MountsIs o i d s s) old (λ o i d s. mounts_none (times_of o.ghosts g s)) j)
+
+    pub at_damaged : g.tells → (k : Node) → e ≡ ev.On k → has_read turn.reply ≡ true → At n (λ o i d s t. (turn.reply ≡ r.Damaged i) ↔ HasDamage o.ghosts d t) old new k
     at_damaged tells k is read =
         let on = is_given (ev.On k) refl is in
         let same = node_is m x k did.of (ap node_for on) in
-        subst (λ (j : Node). At (λ d s t. (turn.reply ≡ r.Damaged j) ↔ HasDamage n.devices d t) (λ s t. (turn.reply ≡ r.Damaged j) ↔ HasDamage n.centre tt t) old new j) same
+        subst (λ (j : Node). At n (λ o i d s t. (turn.reply ≡ r.Damaged i) ↔ HasDamage o.ghosts d t) old new j) same
         (did.found tells (on ∙ ap (λ (j : Node). ev.On j) (sym same)) read)
 
   -- == by the ledger ==
 
   -- what node m did by a ledger for which the bench stood, and that each other node is seen as before
-  pub record NodeDidOn {N : Type 0} (h : nv.Ghosts N) (τ : Tariff) (H : Ledger) : Type 0 where
-    pub moves : Moves τ todays_rules H e [] turn.reply
-    pub entries : turn.entries ≡ in_order (after (plan τ todays_rules H e []) turn.reply [])
-    pub stands : At (λ d s t. node.Stands n.devices g d (device_view n d (ledger.entries τ todays_rules H e [] turn.reply)) t)
-        (λ s t. node.Stands n.centre g tt (centre_view n (ledger.entries τ todays_rules H e [] turn.reply)) t) old new m
-    pub others : OthersStay n.kinds m H (ledger.entries τ todays_rules H e [] turn.reply)
-    pub rests : Rests H (ledger.entries τ todays_rules H e [] turn.reply)
-    pub sent : sent_in (ledger.entries τ todays_rules H e [] turn.reply) ≡ sent_in H ++ notes_in turn.entries
-    pub closes : tells_failure turn.reply ≡ false → torn_of m H ≡ None → torn_of m (ledger.entries τ todays_rules H e [] turn.reply) ≡ None
-    pub shows : At (λ d. ShowsLedger n.devices g (n.kinds.devices.seen d) (Device d) τ H e) (ShowsLedger n.centre g (n.kinds.centre.seen tt) Centre τ H e) old new m
-    pub open_others : OthersStay n.kinds m H (with_open (plan τ todays_rules H e []).commit H)
-    pub left : At (λ d s t. (store : N) → h.size store ≡ n.devices.bytes → HoldsImage n.devices g h s t store → StoreStands n.devices h d (device_view n d (after_stop τ H e)) store)
-        (λ s t. (store : N) → h.size store ≡ n.centre.bytes → HoldsImage n.centre g h s t store → StoreStands n.centre h tt (centre_view n (after_stop τ H e)) store) old new m
+  pub record NodeDidOn {N : Type 0} (h : nv.Ghosts N) (τ : Tariff) (L : Ledger) : Type 0 where
+    pub moves : Moves τ todays_rules L e [] turn.reply
+    pub entries : turn.entries ≡ in_order (after (plan τ todays_rules L e []) turn.reply [])
+    pub stands : At n (λ o i d s t. node.Stands o.ghosts g d (view_in i (o.kind.seen d) (ledger.entries τ todays_rules L e [] turn.reply)) t) old new m
+    pub others : OthersStay n.kinds m L (ledger.entries τ todays_rules L e [] turn.reply)
+    pub rests : Rests L (ledger.entries τ todays_rules L e [] turn.reply)
+    pub sent : sent_in (ledger.entries τ todays_rules L e [] turn.reply) ≡ sent_in L ++ notes_in turn.entries
+    pub closes : tells_failure turn.reply ≡ false → torn_of m L ≡ None → torn_of m (ledger.entries τ todays_rules L e [] turn.reply) ≡ None
+    pub shows : At n (λ o i d. ShowsLedger o.ghosts g (o.kind.seen d) i τ L e []) old new m
+    pub open_others : OthersStay n.kinds m L (with_open (plan τ todays_rules L e []).commit L)
+    pub left : At n (λ o i d s t. (store : N) → h.size store ≡ o.ghosts.bytes → HoldsImage o.ghosts g h s t store → StoreStands o.ghosts h d (view_in i (o.kind.seen d) (after_stop τ L e [])) store) old new m
+    pub printed : PrinterDid turn.reply (print_of (plan τ todays_rules L e []).after) before.printer now.printer
 
-  module _ (did : NodeDid) {N : Type 0} (h : nv.Ghosts N) (τ : Tariff) (H : Ledger) (on : NodeDidOn h τ H) (history : History τ editions H) (unforged : Unforged e H) (whole : IsWholeEvent e)
-      (ready : IsReady old) (stands : Stands n g old H) (tells : g.tells) where
-    abbrev L : Ledger
-    L = ledger.entries τ todays_rules H e [] turn.reply
+  module _ (did : NodeDid) {N : Type 0} (h : nv.Ghosts N) (τ : Tariff) (L : Ledger) (on : NodeDidOn h τ L) (history : History τ editions L) (unforged : Unforged e L) (whole : IsWholeEvent e)
+      (ready : IsReady old) (stands : Stands n g old L) (tells : g.tells) where
+    abbrev M : Ledger
+    M = ledger.entries τ todays_rules L e [] turn.reply
 
-    rest : OthersRest m old new
-    rest = did.rest
+    abbrev StandsIs : Ledger → OfState S
+    StandsIs K o i d s = node.Stands o.ghosts g d (view_in i (o.kind.seen d) K) s
+
+    -- a node of which the same is seen stands for it
+    stands_same : (K : Ledger) (j : Node) → SeenSame n L K j → Of n (StandsIs K) old j
+    stands_same K j same = of_by n (λ o i d. view_in i (o.kind.seen d) K ≡ view_in i (o.kind.seen d) L) (StandsIs L) (StandsIs K) old
+        (λ o i d s is st. subst (λ (w : View o.ghosts.Seen). node.Stands o.ghosts g d w s) (sym is) st) j same (stands.nodes j)
+
+    stands_at : (k : Node) → At n (λ o i d s t. StandsIs M o i d t) old new k
+    stands_at = walk n m old new did.rest (λ o i d s t. StandsIs M o i d t) on.stands (λ j differs. stands_same M j (seen_same n m L M on.others j differs))
 
     -- the device that was in the place of one that is there
-    was_there : (i : ℕ) (t : D) → slice_get new.devices i ≡ Some t → (s : D) × (slice_get old.devices i ≡ Some s)
-    was_there i t is = get_some old.devices i (omega (arith, slice_get_within new.devices i t is, rest.size))
+    now_stands : (k : Node) → At n (λ o i d s t. StandsIs M o i d t) old new k → Of n (StandsIs M) new k
+    now_stands (Device d) at = λ i t next is. let s = get_some old.devices i (omega (arith, slice_get_within new.devices i t is, did.rest.size)) in at i s.0 t next s.1 is
+    now_stands Centre at = at
+    now_stands Host at = at
+    now_stands Verifier at = at
 
-    at_stands : Stands n g new L
+    at_stands : Stands n g new M
     at_stands = record {
       day = record {
-        day = rest.day ∙ stands.day.day ∙ sym on.rests.day;
-        rates = on.rests.rates ∙ stands.day.rates;
+        day = did.rest.day ∙ stands.day.day ∙ sym on.rests.day;
         messages = did.sends ∙ ap (λ (l : List (List ℕ)). l ++ notes_in turn.entries) stands.day.messages ∙ sym on.sent;
-        host = on.rests.host ∙ stands.day.host;
-        verifier = on.rests.verifier ∙ stands.day.verifier;
+        rates = subst (λ (o : Option RateTable). Keeps (rates_in M) o) (sym did.rest.rates) (subst (λ (t : Option (List ℕ)). Keeps t old.rates) (sym on.rests.rates) stands.day.rates);
       };
-      devices = λ i t is. let s = was_there i t is in
-          walk m old new rest (λ d s t. node.Stands n.devices g d (device_view n d L) t) (λ s t. node.Stands n.centre g tt (centre_view n L) t) on.stands
-          (λ d j s next differs was. subst (λ (w : View n.devices.Seen). node.Stands n.devices g d w s) (sym (on.others.devices d differs))
-          (subst (λ (k : ℕ). node.Stands n.devices g k (device_view n k H) s) (sym next) (stands.devices j s was)))
-          (λ differs. subst (λ (w : View n.centre.Seen). node.Stands n.centre g tt w old.centre) (sym (on.others.centre differs)) stands.centre)
-          (Device (i + 1)) i s.0 t refl s.1 is;
-      centre =
-          walk m old new rest (λ d s t. node.Stands n.devices g d (device_view n d L) t) (λ s t. node.Stands n.centre g tt (centre_view n L) t) on.stands
-          (λ d j s next differs was. subst (λ (w : View n.devices.Seen). node.Stands n.devices g d w s) (sym (on.others.devices d differs))
-          (subst (λ (k : ℕ). node.Stands n.devices g k (device_view n k H) s) (sym next) (stands.devices j s was)))
-          (λ differs. subst (λ (w : View n.centre.Seen). node.Stands n.centre g tt w old.centre) (sym (on.others.centre differs)) stands.centre)
-          Centre;
+      nodes = λ k. now_stands k (stands_at k);
     }
 
     -- the commit of another node is as open as it was
-    at_closed : tells_failure turn.reply ≡ false → StayClosed H L
-    at_closed fine = record {
-      devices = λ d none. ⊎_elim
-          (λ (same : Device d ≡ m). subst (λ (k : Node). torn_of k L ≡ None) (sym same) (on.closes fine (subst (λ (k : Node). torn_of k H ≡ None) same none)))
-          (λ (differs : Device d ≢ m). still_closed (Device d) (n.kinds.devices.seen d) H L (on.others.devices d differs) none)
-          (same_or_not (Device d) m);
-      centre = λ none. ⊎_elim
-          (λ (same : Centre ≡ m). subst (λ (k : Node). torn_of k L ≡ None) (sym same) (on.closes fine (subst (λ (k : Node). torn_of k H ≡ None) same none)))
-          (λ (differs : Centre ≢ m). still_closed Centre (n.kinds.centre.seen tt) H L (on.others.centre differs) none)
-          (same_or_not Centre m);
-    }
+    at_closed : tells_failure turn.reply ≡ false → StayClosed L M
+    at_closed fine k none = ⊎_elim
+        (λ (same : k ≡ m). subst (λ (j : Node). torn_of j M ≡ None) (sym same) (on.closes fine (subst (λ (j : Node). torn_of j L ≡ None) same none)))
+        (λ (differs : k ≢ m). closed_same n L M k (seen_same n m L M on.others k differs) none)
+        (same_or_not k m)
 
-    at_shows : (k : Node) → At (λ d. ShowsLedger n.devices g (n.kinds.devices.seen d) (Device d) τ H e) (ShowsLedger n.centre g (n.kinds.centre.seen tt) Centre τ H e) old new k
-    at_shows = walk m old new rest (λ d. ShowsLedger n.devices g (n.kinds.devices.seen d) (Device d) τ H e) (ShowsLedger n.centre g (n.kinds.centre.seen tt) Centre τ H e) on.shows
-        (λ d j s next differs was image since. inl (subst (λ (k : ℕ). Allowed n.devices (device_view n k H) image) (sym next) ((stands.devices j s was).store.shows tells image since)))
-        (λ differs image since. inl (stands.centre.store.shows tells image since))
+    abbrev ShowsIs : OfChange S
+    ShowsIs o i d s t = ShowsLedger o.ghosts g (o.kind.seen d) i τ L e [] s t
+
+    at_shows : (k : Node) → At n ShowsIs old new k
+    at_shows = walk n m old new did.rest ShowsIs on.shows (λ j differs. of_with n (StandsIs L) (λ o i d s. ShowsIs o i d s s) old (λ o i d s st image since. inl (st.store.shows tells image since)) j (stands.nodes j))
 
     module _ (stores : Places N) (are : AreLeft n g h old new stores) where
-      abbrev P : ℕ → D → D → Type 0
-      P d s t = (store : N) → h.size store ≡ n.devices.bytes → HoldsImage n.devices g h s t store → StoreStands n.devices h d (device_view n d (after_stop τ H e)) store
-
-      abbrev Q : C → C → Type 0
-      Q s t = (store : N) → h.size store ≡ n.centre.bytes → HoldsImage n.centre g h s t store → StoreStands n.centre h tt (centre_view n (after_stop τ H e)) store
+      abbrev LeftIs : OfChange S
+      LeftIs o i d s t = (store : N) → h.size store ≡ o.ghosts.bytes → HoldsImage o.ghosts g h s t store → StoreStands o.ghosts h d (view_in i (o.kind.seen d) (after_stop τ L e [])) store
 
       abbrev open_ledger : Ledger
-      open_ledger = with_open (plan τ todays_rules H e []).commit H
+      open_ledger = with_open (plan τ todays_rules L e []).commit L
 
-      left_at : (k : Node) → At P Q old new k
-      left_at = walk m old new rest P Q on.left
-          (λ d j s next differs was store size images. rest_left n.devices g h (Device d) d (n.kinds.devices.seen d) H open_ledger s store tells
-          (subst (λ (k : ℕ). node.Stands n.devices g k (device_view n k H) s) (sym next) (stands.devices j s was)) (on.open_others.devices d differs) size images)
-          (λ differs store size images. rest_left n.centre g h Centre tt (n.kinds.centre.seen tt) H open_ledger old.centre store tells stands.centre (on.open_others.centre differs) size images)
+      left_at : (k : Node) → At n LeftIs old new k
+      left_at = walk n m old new did.rest LeftIs on.left (λ j differs. of_by n (λ o i d. view_in i (o.kind.seen d) open_ledger ≡ view_in i (o.kind.seen d) L) (StandsIs L) (λ o i d s. LeftIs o i d s s) old
+          (λ o i d s same st store size images. rest_left o.ghosts g h i d (o.kind.seen d) L open_ledger s store tells st same size images) j (seen_same n m L open_ledger on.open_others j differs) (stands.nodes j))
 
-      at_left : StoresStand n h stores (after_stop τ H e)
+      at_left : StoresStand n h stores (after_stop τ L e [])
       at_left = record {
         day = none_day _;
-        off = λ i store is. refl;
-        devices = λ i store is.
-            let lt = slice_get_within stores.devices i store is in
-            let s = get_some old.devices i (omega (arith, lt, are.eight, ready.eight)) in
-            let t = get_some new.devices i (omega (arith, lt, are.eight, ready.eight, rest.size)) in
-            left_at (Device (i + 1)) i s.0 t.0 refl s.1 t.1 store (are.size i store is) (are.images i s.0 t.0 store s.1 t.1 is);
-        centre_off = refl;
-        centre = left_at Centre stores.centre are.centre_size are.centre_images;
+        nodes = λ k store there. left_in n h old new stores (after_stop τ L e []) ready did.rest.size are.eight k store there refl
+            (at_both n LeftIs (λ o i d s t. (h.size store ≡ o.ghosts.bytes) × HoldsImage o.ghosts g h s t store)
+            (λ o i d s t. StoreStands o.ghosts h d (view_in i (o.kind.seen d) (after_stop τ L e [])) store) old new (λ o i d s t left held. left store held.0 held.1) k (left_at k) (are.each k store there));
       }
 
-    pub at_on : StepsOn n g h τ H e turn old new
+    pub at_on : StepsOn n g h τ L e [] turn old new before now
     at_on = record {
       moves = on.moves;
       entries = on.entries;
       stands = at_stands;
       closed = at_closed;
       any_moment = at_shows;
-      stopped = λ stores are. (stop_history τ H e history whole unforged, at_left stores are);
+      stopped = λ stores are. (stop_history τ L e [] history whole unforged, at_left stores are);
+      printed = on.printed;
     }
 
 -- what is told of a turn is what it tells
-pub told_steps : {D C S XD XC RD RC N : Type 0} (n : Nodes D C S XD XC RD RC) (g : nv.Ghosts S) (f : fuse.Ghosts S) (h : nv.Ghosts N) (e : Event) (told turn : Turn) (old new : Bench D C)
-    → told ≡ turn → Steps n g f h e turn old new → Steps n g f h e told old new
-told_steps n g f h e told turn old new is steps = subst (λ (t : Turn). Steps n g f h e t old new) (sym is) steps
+pub told_steps : {D C H V S XD XC XH XV RD RC RH RV N : Type 0} (n : Nodes D C H V S XD XC XH XV RD RC RH RV) (g : nv.Ghosts S) (f : fuse.Ghosts S) (h : nv.Ghosts N) (e : Event) (text : List ℕ) (told turn : Turn) (old new : Bench D C H V) (before now : Outside)
+    → told ≡ turn → Steps n g f h e text turn old new before now → Steps n g f h e text told old new before now
+told_steps n g f h e text told turn old new before now is steps = subst (λ (t : Turn). Steps n g f h e text t old new before now) (sym is) steps
+
+-- what is sent, once it was
+pub sent_steps : {D C H V S XD XC XH XV RD RC RH RV N : Type 0} (n : Nodes D C H V S XD XC XH XV RD RC RH RV) (g : nv.Ghosts S) (f : fuse.Ghosts S) (h : nv.Ghosts N) (e : Event) (text : List ℕ) (turn : Turn) (old left new : Bench D C H V) (before now : Outside)
+    → new ≡ sending turn left → Steps n g f h e text turn old (sending turn left) before now → Steps n g f h e text turn old new before now
+sent_steps {D} {C} {H} {V} n g f h e text turn old left new before now is steps = subst (λ (b : Bench D C H V). Steps n g f h e text turn old b before now) (sym is) steps
+
+-- what holds of each value holds of the one that was answered
+pub each_ok : {A E : Type 0} (P Q : A → Type 0) → ((a : A) → P a → Q a) → (x : Result A E) → IfOk x P → IfOk x Q
+each_ok P Q each (Ok a) holds = each a holds
+each_ok P Q each (Err e) holds = tt

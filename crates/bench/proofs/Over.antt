@@ -1,92 +1,129 @@
 -- A bench that is made over storages, and taken apart.
-use Rattle.std.proofs.Common.{◌≡◌, ◌+◌, [], ◌∷◌, Bool, false, None, refl, sym, ◌∙◌, subst, arith, true≢false}
+use Rattle.std.proofs.Common.{◌≡◌, ℕ, ℤ, zero, suc, [], ◌∷◌, List, Option, Some, None, false, refl, sym, ◌∙◌, subst, arith, true≢false}
+use Rattle.std.specs.Prelude.{slice_get}
 use Rattle.std.proofs.lemmas.Option.{slice_get_within}
+use Rattle.bench_base.specs.declared.words.Node.{Node}
+use Rattle.bench_base.specs.declared.words.Node.TheVariants.{Device, Centre, Host, Verifier}
 use Rattle.bench_base.specs.declared.ledger.Entry.TheVariants.{Begin}
-use Rattle.bench_base.specs.Ledger.{Ledger}
+use Rattle.bench_base.specs.Ledger.{Ledger, is_on}
 use Rattle.nv_model.specs.declared.nv.Nv as nv
 use Rattle.nv_model.specs.Moments.{Times, Image}
 use Rattle.nv_model.specs.declared.fused.Fused.{Fused}
 use Rattle.nv_model.specs.Fuses.{inside}
+use Rattle.node_acts.specs.Kinds.{view_in}
 use Rattle.node_acts.specs.Views.{View, stopped}
 use Rattle.node_seat.specs.declared.node.Node.{Ghosts}
 use Rattle.node_seat.specs.Stands as node
 use Rattle.node_seat.specs.Stands.{StoreStands}
-use Rattle.psd_device.specs.declared.node.DeviceNode.{DeviceNode}
-use Rattle.psd_device.specs.NodeView as device
-use Rattle.centre_protocol.specs.declared.node.CentreNode.{CentreNode}
-use Rattle.centre_protocol.specs.NodeView as centre
-use Rattle.bench.specs.Benches.{Bench, Nodes, IsReady, HasDay, Stands, StoresStand, device_view, centre_view}
+use Rattle.host_rates.specs.Tables.{RateTable}
+use Rattle.bench.specs.Benches.{Bench, Nodes, OneKind, Of, HasDay, Stands, StoreStandsOff, StoresStand, store_of}
 use Rattle.bench.specs.Benches as benches
-use Rattle.bench.specs.Places.{IsOver, AreOver, AreInside, IsDeviceOver, IsInDevice}
+use Rattle.bench.specs.Places.{Pairs, IsOver}
 use Rattle.bench.proofs.Making.{get_some, pairs_at, pairs_length}
 
--- a run that begins has no day, and no node is on
-pub none_day : (L : Ledger) → HasDay None [] (Begin ∷ L)
-none_day L = record { day = refl; messages = refl; rates = refl; host = refl; verifier = refl }
+-- a run that begins has no day
+pub none_day : (L : Ledger) → HasDay None [] None (Begin ∷ L)
+none_day L = record { day = refl; messages = refl; rates = tt }
 
--- == one storage, with its fuse and without ==
+-- a bench without day, messages and rates has what such storages have
+pub no_day_is : (today : Option ℤ) (sent : List (List ℕ)) (kept : Option RateTable) (L : Ledger) → today ≡ None → sent ≡ [] → kept ≡ None → HasDay None [] None L → HasDay today sent kept L
+no_day_is today sent kept L no_day no_messages no_rates day =
+    subst (λ o. HasDay o sent kept L) (sym no_day) (subst (λ l. HasDay None l kept L) (sym no_messages) (subst (λ r. HasDay None [] r L) (sym no_rates) day))
 
-module _ {K N D X R : Type 0} {h : nv.Ghosts N} (g : nv.Ghosts (Fused N h)) (n : Ghosts K (Fused N h) D X R) (d : D) (v : View n.Seen) (s : Fused N h)
-    (sizes : g.size s ≡ h.size (inside s)) (times : g.times s ≡ h.times (inside s)) where
-  fused_stands : (g.tells → h.tells) → StoreStands n h d v (inside s) → StoreStands n g d v s
-  fused_stands told st = record {
-    size = sizes ∙ st.size;
-    sound = λ tells. let sound = st.sound (told tells) in record { state = sound.state; next = sound.next; more = sound.more };
-    shows = λ tells image seen. st.shows (told tells) image (subst (λ (t : Times). Image t image) times seen);
-  }
+module _ {N : Type 0} {h : nv.Ghosts N} (g : nv.Ghosts (Fused N h)) (sizes : (s : Fused N h) → g.size s ≡ h.size (inside s)) (times : (s : Fused N h) → g.times s ≡ h.times (inside s)) where
+  -- == one storage, with its fuse and without ==
 
-  unfused_stands : (h.tells → g.tells) → StoreStands n g d v s → StoreStands n h d (stopped v) (inside s)
-  unfused_stands told st = record {
-    size = sym sizes ∙ st.size;
-    sound = λ tells. let sound = st.sound (told tells) in record { state = sound.state; next = sound.next; more = sound.more };
-    shows = λ tells image seen. st.shows (told tells) image (subst (λ (t : Times). Image t image) (sym times) seen);
-  }
+  module _ {K D X R : Type 0} (n : Ghosts K (Fused N h) D X R) (d : D) (v : View n.Seen) where
+    fused_stands : (s : Fused N h) → (g.tells → h.tells) → StoreStands n h d v (inside s) → StoreStands n g d v s
+    fused_stands s told st = record {
+      size = sizes s ∙ st.size;
+      sound = λ tells. let sound = st.sound (told tells) in record { state = sound.state; next = sound.next; more = sound.more };
+      shows = λ tells image seen. st.shows (told tells) image (subst (λ (t : Times). Image t image) (times s) seen);
+    }
 
-  -- a node that is off, over the storage
-  node_over : (k : K) (store : N) (is_on : Bool) → (g.tells → h.tells) → n.is_on k ≡ is_on → n.storage k ≡ s → IsOver store is_on s → v.on ≡ false
-      → StoreStands n h d v store → node.Stands n g d v k
-  node_over k store is_on told on_is storage_is over off st = record {
-    on = on_is ∙ over.off ∙ sym off;
-    store = subst (λ (t : Fused N h). StoreStands n g d v t) (sym storage_is) (fused_stands told (subst (λ (t : N). StoreStands n h d v t) (sym over.within) st));
-    runs = λ on. absurd (true≢false (sym on ∙ off));
-  }
+    unfused_stands : (s : Fused N h) → (h.tells → g.tells) → StoreStands n g d v s → StoreStands n h d (stopped v) (inside s)
+    unfused_stands s told st = record {
+      size = sym (sizes s) ∙ st.size;
+      sound = λ tells. let sound = st.sound (told tells) in record { state = sound.state; next = sound.next; more = sound.more };
+      shows = λ tells image seen. st.shows (told tells) image (subst (λ (t : Times). Image t image) (sym (times s)) seen);
+    }
 
-  -- what is left of a node without its fuse
-  node_inside : (k : K) (store : N) → (h.tells → g.tells) → n.storage k ≡ s → store ≡ inside s → node.Stands n g d v k → StoreStands n h d (stopped v) store
-  node_inside k store told storage_is within st =
-      subst (λ (t : N). StoreStands n h d (stopped v) t) (sym within) (unfused_stands told (subst (λ (t : Fused N h). StoreStands n g d v t) storage_is st.store))
+    -- a node that is off, over the storage
+    node_over : (s : K) (store : N) → (g.tells → h.tells) → IsOver store (n.is_on s) (n.storage s) → v.on ≡ false → StoreStands n h d v store → node.Stands n g d v s
+    node_over s store told over off st = record {
+      on = over.off ∙ sym off;
+      store = fused_stands (n.storage s) told (subst (λ (t : N). StoreStands n h d v t) (sym over.within) st);
+      runs = λ on. absurd (true≢false (sym on ∙ off));
+    }
 
--- == the bench ==
+    -- what is left of a node without its fuse
+    node_inside : (s : K) (store : N) → (h.tells → g.tells) → store ≡ inside (n.storage s) → node.Stands n g d v s → StoreStands n h d (stopped v) store
+    node_inside s store told within st = subst (λ (t : N). StoreStands n h d (stopped v) t) (sym within) (unfused_stands (n.storage s) told st.store)
 
-module _ {N XD XC RD RC : Type 0} {h : nv.Ghosts N} (g : nv.Ghosts (Fused N h)) (n : Nodes (DeviceNode (Fused N h) g) (CentreNode (Fused N h) g) (Fused N h) XD XC RD RC)
-    (sizes : (s : Fused N h) → g.size s ≡ h.size (inside s)) (times : (s : Fused N h) → g.times s ≡ h.times (inside s))
-    (device_on : (k : DeviceNode (Fused N h) g) → n.devices.is_on k ≡ device.is_on k) (device_storage : (k : DeviceNode (Fused N h) g) → n.devices.storage k ≡ device.storage_in k)
-    (centre_on : (k : CentreNode (Fused N h) g) → n.centre.is_on k ≡ centre.is_on k) (centre_storage : (k : CentreNode (Fused N h) g) → n.centre.storage k ≡ centre.storage_in k) where
-  pub over_stands : (g.tells → h.tells) → (stores : benches.Places N) (bench : Bench (DeviceNode (Fused N h) g) (CentreNode (Fused N h) g)) (H : Ledger) → bench.day ≡ None → bench.messages ≡ [] → AreOver stores bench
-      → StoresStand n h stores H → Stands n g bench H
-  over_stands told stores bench H no_day no_messages over stands = record {
-    day = subst (λ o. HasDay o bench.messages H) (sym no_day) (subst (λ l. HasDay None l H) (sym no_messages) stands.day);
-    devices = λ i s is.
-        let lt = slice_get_within bench.devices i s is in
-        let nv = get_some stores.devices i (omega (arith, pairs_length (λ store k. IsDeviceOver store k) stores.devices bench.devices over.devices)) in
-        node_over g n.devices (i + 1) (device_view n (i + 1) H) (device.storage_in s) (sizes (device.storage_in s)) (times (device.storage_in s)) s nv.0 (device.is_on s) told
-        (device_on s) (device_storage s) (pairs_at (λ store k. IsDeviceOver store k) stores.devices bench.devices over.devices i nv.0 s nv.1 is) (stands.off i nv.0 nv.1)
-        (stands.devices i nv.0 nv.1);
-    centre = node_over g n.centre tt (centre_view n H) (centre.storage_in bench.centre) (sizes (centre.storage_in bench.centre)) (times (centre.storage_in bench.centre)) bench.centre stores.centre
-        (centre.is_on bench.centre) told (centre_on bench.centre) (centre_storage bench.centre) over.centre stands.centre_off stands.centre;
-  }
+  -- == a node, whatever its kind ==
 
-  pub inside_stands : (h.tells → g.tells) → (bench : Bench (DeviceNode (Fused N h) g) (CentreNode (Fused N h) g)) (stores : benches.Places N) (H : Ledger) → IsReady bench → AreInside bench stores
-      → Stands n g bench H → StoresStand n h stores (Begin ∷ H)
-  inside_stands told bench stores H ready within stands = record {
-    day = none_day H;
-    off = λ i nv is. refl;
-    devices = λ i nv is.
-        let lt = slice_get_within stores.devices i nv is in
-        let s = get_some bench.devices i (omega (arith, lt, pairs_length (λ k store. IsInDevice k store) bench.devices stores.devices within.devices)) in
-        node_inside g n.devices (i + 1) (device_view n (i + 1) H) (device.storage_in s.0) (sizes (device.storage_in s.0)) (times (device.storage_in s.0)) s.0 nv told
-        (device_storage s.0) (pairs_at (λ k store. IsInDevice k store) bench.devices stores.devices within.devices i s.0 nv s.1 is) (stands.devices i s.0 s.1);
-    centre_off = refl;
-    centre = node_inside g n.centre tt (centre_view n H) (centre.storage_in bench.centre) (sizes (centre.storage_in bench.centre)) (times (centre.storage_in bench.centre)) bench.centre stores.centre told
-        (centre_storage bench.centre) within.centre stands.centre;
-  }
+  module _ (k : OneKind (Fused N h)) (m : Node) (d : k.Name) (s : k.Own) (L : Ledger) where
+    kind_over : (store : N) → (g.tells → h.tells) → IsOver store (k.ghosts.is_on s) (k.ghosts.storage s)
+        → (is_on m L ≡ false) × StoreStands k.ghosts h d (view_in m (k.kind.seen d) L) store → node.Stands k.ghosts g d (view_in m (k.kind.seen d) L) s
+    kind_over store told over st = node_over k.ghosts d (view_in m (k.kind.seen d) L) s store told over st.0 st.1
+
+    kind_inside : (store : N) → (h.tells → g.tells) → store ≡ inside (k.ghosts.storage s) → node.Stands k.ghosts g d (view_in m (k.kind.seen d) L) s
+        → (is_on m (Begin ∷ L) ≡ false) × StoreStands k.ghosts h d (view_in m (k.kind.seen d) (Begin ∷ L)) store
+    kind_inside store told within st = (refl, node_inside k.ghosts d (view_in m (k.kind.seen d) L) s store told within st)
+
+  -- == the bench ==
+
+  module _ {D C H V XD XC XH XV RD RC RH RV : Type 0} (n : Nodes D C H V (Fused N h) XD XC XH XV RD RC RH RV) where
+    -- each node is off over the storage in its place, and each storage the one inside the fuse of the node in its place, as its kind sees it
+    pub record NodesOver (stores : benches.Places N) (bench : Bench D C H V) : Type 0 where
+      pub devices : Pairs (λ store s. IsOver store (n.devices.is_on s) (n.devices.storage s)) stores.devices bench.devices
+      pub centre : IsOver stores.centre (n.centre.is_on bench.centre) (n.centre.storage bench.centre)
+      pub host : IsOver stores.host (n.host.is_on bench.host) (n.host.storage bench.host)
+      pub verifier : IsOver stores.verifier (n.verifier.is_on bench.verifier) (n.verifier.storage bench.verifier)
+
+    pub record NodesInside (bench : Bench D C H V) (stores : benches.Places N) : Type 0 where
+      pub devices : Pairs (λ s store. store ≡ inside (n.devices.storage s)) bench.devices stores.devices
+      pub centre : stores.centre ≡ inside (n.centre.storage bench.centre)
+      pub host : stores.host ≡ inside (n.host.storage bench.host)
+      pub verifier : stores.verifier ≡ inside (n.verifier.storage bench.verifier)
+
+    pub over_stands : (g.tells → h.tells) → (stores : benches.Places N) (bench : Bench D C H V) (L : Ledger) → bench.day ≡ None → bench.messages ≡ [] → bench.rates ≡ None
+        → NodesOver stores bench → StoresStand n h stores L → Stands n g bench L
+    over_stands told stores bench L no_day no_messages no_rates over stands = record {
+      day = no_day_is bench.day bench.messages bench.rates L no_day no_messages no_rates stands.day;
+      nodes = each;
+    }
+      where
+        device : (i : ℕ) (s : D) → slice_get bench.devices i ≡ Some s → node.Stands n.devices g (suc i) (view_in (Device (suc i)) (n.kinds.devices.seen (suc i)) L) s
+        device i s at =
+            let lt = slice_get_within bench.devices i s at in
+            let store = get_some stores.devices i (omega (arith, pairs_length (λ store s. IsOver store (n.devices.is_on s) (n.devices.storage s)) stores.devices bench.devices over.devices)) in
+            kind_over (benches.devices n) (Device (suc i)) (suc i) s L store.0 told
+            (pairs_at (λ store s. IsOver store (n.devices.is_on s) (n.devices.storage s)) stores.devices bench.devices over.devices i store.0 s store.1 at)
+            (stands.nodes (Device (suc i)) store.0 store.1)
+
+        each : (m : Node) → Of n (λ k i d s. node.Stands k.ghosts g d (view_in i (k.kind.seen d) L) s) bench m
+        each (Device d) = λ i s is at.
+            let number : suc i ≡ d = omega (arith, is) in
+            subst (λ (e : ℕ). node.Stands n.devices g e (view_in (Device e) (n.kinds.devices.seen e) L) s) number (device i s at)
+        each Centre = kind_over (benches.centre n) Centre tt bench.centre L stores.centre told over.centre (stands.nodes Centre stores.centre refl)
+        each Host = kind_over (benches.host n) Host tt bench.host L stores.host told over.host (stands.nodes Host stores.host refl)
+        each Verifier = kind_over (benches.verifier n) Verifier tt bench.verifier L stores.verifier told over.verifier (stands.nodes Verifier stores.verifier refl)
+
+    pub inside_stands : (h.tells → g.tells) → (bench : Bench D C H V) (stores : benches.Places N) (L : Ledger) → NodesInside bench stores → Stands n g bench L → StoresStand n h stores (Begin ∷ L)
+    inside_stands told bench stores L within stands = record { day = none_day L; nodes = each }
+      where
+        same : (a b : N) → Some a ≡ Some b → a ≡ b
+        same a b is = cc
+
+        each : (m : Node) (store : N) → store_of stores m ≡ Some store → StoreStandsOff n h (Begin ∷ L) store m
+        each (Device zero) store is = absurd (cc)
+        each (Device (suc i)) store is =
+            let lt = slice_get_within stores.devices i store is in
+            let s = get_some bench.devices i (omega (arith, lt, pairs_length (λ s store. store ≡ inside (n.devices.storage s)) bench.devices stores.devices within.devices)) in
+            kind_inside (benches.devices n) (Device (suc i)) (suc i) s.0 L store told
+            (pairs_at (λ s store. store ≡ inside (n.devices.storage s)) bench.devices stores.devices within.devices i s.0 store s.1 is)
+            (stands.nodes (Device (suc i)) i s.0 (omega arith) s.1)
+        each Centre store is = kind_inside (benches.centre n) Centre tt bench.centre L store told (sym (same stores.centre store is) ∙ within.centre) (stands.nodes Centre)
+        each Host store is = kind_inside (benches.host n) Host tt bench.host L store told (sym (same stores.host store is) ∙ within.host) (stands.nodes Host)
+        each Verifier store is = kind_inside (benches.verifier n) Verifier tt bench.verifier L store told (sym (same stores.verifier store is) ∙ within.verifier) (stands.nodes Verifier)

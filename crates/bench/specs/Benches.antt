@@ -1,9 +1,10 @@
--- What contracts see of a bench, and when it stands for a ledger. A kind of nodes is a field of `Bench`, of `Stores` and of `Nodes`, a
--- row of `At`, and what is said of it in `Stands` and `StoresStand`; all else is said of a node by its name.
-use Rattle.std.specs.Prelude.{◌≡◌, ℕ, ℤ, ◌+◌, false, List, [], Option, Some, None, length, replicate, slice_get}
+-- What contracts see of a bench, and when it stands for a ledger. A kind of nodes is a field of `Bench`, of `Stores` and of `Nodes`, and a row of
+-- `At`, `Of`, `By` and `store_of`; all else is said of a node by its name.
+use Rattle.std.specs.Prelude.{◌≡◌, ℕ, ℤ, ◌+◌, zero, suc, false, List, [], Option, Some, None, length, replicate, slice_get}
 use Rattle.bench_base.specs.declared.words.Node.{Node}
 use Rattle.bench_base.specs.declared.words.Node.TheVariants.{Device, Centre, Host, Verifier}
-use Rattle.bench_base.specs.declared.sizes.TheConstants.{DEVICE_BYTES, CENTRE_BYTES}
+use Rattle.bench_base.specs.declared.sizes.TheConstants.{DEVICE_BYTES, CENTRE_BYTES, VERIFIER_BYTES}
+use Rattle.host_jobs.specs.declared.sizes.TheConstants.{HOST_BYTES}
 use Rattle.bench_base.specs.Rules.{editions}
 use Rattle.bench_base.specs.declared.events.Event.{Event}
 use Rattle.bench_base.specs.Ledger.{Ledger, day_in, rates_in, is_on}
@@ -12,102 +13,180 @@ use Rattle.nv_model.specs.declared.fuse.Fuse as fuse
 use Rattle.nv_model.specs.declared.fused.Fused.{Fused}
 use Rattle.nv_model.specs.Fuses.{state_of}
 use Rattle.nv_model.specs.Moments.{Image}
-use Rattle.node_acts.specs.Views.{View}
-use Rattle.node_acts.specs.Kinds.{view_in}
+use Rattle.node_acts.specs.Kinds.{Kind, view_in}
 use Rattle.node_seat.specs.declared.node.Node.{Ghosts}
 use Rattle.node_seat.specs.Stands as node
 use Rattle.node_seat.specs.Stands.{StoreStands}
 use Rattle.psd_device.specs.declared.node.DeviceNode.{DeviceNode}
 use Rattle.centre_protocol.specs.declared.node.CentreNode.{CentreNode}
+use Rattle.host_node.specs.declared.node.HostNode.{HostNode}
+use Rattle.verifier_node.specs.declared.node.VerifierNode.{VerifierNode}
+use Rattle.host_rates.specs.Tables.{RateTable}
+use Rattle.host_rates.specs.Tariffs.{Keeps}
 use Rattle.ledger_moves.specs.Tariffs.{Tariff}
 use Rattle.ledger_moves.specs.Histories.{History, Unforged}
+use Rattle.bench_views.specs.declared.taken.DeviceCall.{DeviceCall}
+use Rattle.bench_views.specs.declared.taken.CentreCall.{CentreCall}
+use Rattle.bench_views.specs.declared.taken.HostCall.{HostCall}
+use Rattle.bench_views.specs.declared.taken.VerifierCall.{VerifierCall}
 use Rattle.bench_views.specs.Kinds.{Kinds}
 use Rattle.bench_views.specs.Messages.{sent_in}
+use Rattle.bench_views.specs.Tariff.{IsOfTexts}
 use Rattle.bench.specs.declared.stores.Stores.{Stores}
 use Rattle.bench.specs.declared.benches.BenchOver.{BenchOver}
 
--- the day, the messages of the run, of which the first was sent first, the devices, of which number i is device i + 1, and the centre
-pub record Bench (D C : Type 0) : Type 0 where
+-- the day, the messages of the run, of which the first was sent first, the rates that were read last, the devices, of which number i is
+-- device i + 1, and the nodes of which there is one
+pub record Bench (D C H V : Type 0) : Type 0 where
   pub day : Option ℤ
   pub messages : List (List ℕ)
+  pub rates : Option RateTable
   pub devices : List D
   pub centre : C
+  pub host : H
+  pub verifier : V
 
-abbrev pub bench_of : {M N : Type 0} {g : nv.Ghosts M} → BenchOver M N g → Bench (DeviceNode M g) (CentreNode M g)
-bench_of bench = record { day = bench.day; messages = bench.messages.items; devices = bench.devices.items; centre = bench.centre }
+abbrev pub bench_of : {M N : Type 0} {g : nv.Ghosts M} → BenchOver M N g → Bench (DeviceNode M g) (CentreNode M g) (HostNode M g) (VerifierNode M g)
+bench_of bench = record {
+  day = bench.day;
+  messages = bench.messages.items;
+  rates = bench.rates;
+  devices = bench.devices.items;
+  centre = bench.centre;
+  host = bench.host;
+  verifier = bench.verifier;
+}
 
 -- the storages in their places
 pub record Places (N : Type 0) : Type 0 where
   pub devices : List N
   pub centre : N
+  pub host : N
+  pub verifier : N
 
 abbrev pub places_of : {N : Type 0} → Stores N → Places N
-places_of stores = record { devices = stores.devices.items; centre = stores.centre }
+places_of stores = record { devices = stores.devices.items; centre = stores.centre; host = stores.host; verifier = stores.verifier }
+
+-- the storage of this node
+abbrev pub store_of : {N : Type 0} → Places N → Node → Option N
+store_of stores (Device zero) = None
+store_of stores (Device (suc i)) = slice_get stores.devices i
+store_of stores Centre = Some stores.centre
+store_of stores Host = Some stores.host
+store_of stores Verifier = Some stores.verifier
 
 -- the fuse of a storage that has one
 abbrev pub fuse_in : {N : Type 0} {h : nv.Ghosts N} → fuse.Ghosts (Fused N h)
 fuse_in = record { fuse_of = λ s. state_of s }
 
--- P holds of this node, as it was and as it is: where it is a device, with its number, and Q where it is the centre
-abbrev pub At : {D C : Type 0} → (ℕ → D → D → Type 0) → (C → C → Type 0) → Bench D C → Bench D C → Node → Type 0
-At P Q old new (Device d) = (i : ℕ) (s t : _) → d ≡ i + 1 → slice_get old.devices i ≡ Some s → slice_get new.devices i ≡ Some t → P d s t
-At P Q old new Centre = Q old.centre new.centre
-At P Q old new Host = Unit {0}
-At P Q old new Verifier = Unit {0}
-
 -- eight devices
-pub record IsReady {D C : Type 0} (bench : Bench D C) : Type 0 where
+pub record IsReady {D C H V : Type 0} (bench : Bench D C H V) : Type 0 where
   pub eight : length bench.devices ≡ 8
 
--- The bench has this day and these messages. It has no rates yet, and of the nodes the devices and the centre.
-pub record HasDay (today : Option ℤ) (sent : List (List ℕ)) (H : Ledger) : Type 0 where
+-- what the bench has beside its nodes: this day, these messages and these rates
+pub record HasDay (today : Option ℤ) (sent : List (List ℕ)) (kept : Option RateTable) (H : Ledger) : Type 0 where
   pub day : today ≡ day_in H
   pub messages : sent ≡ sent_in H
-  pub rates : rates_in H ≡ None
-  pub host : is_on Host H ≡ false
-  pub verifier : is_on Verifier H ≡ false
+  pub rates : Keeps (rates_in H) kept
 
 -- a storage is blank: so many zero bytes, as it is made
 pub record IsBlank {N : Type 0} (h : nv.Ghosts N) (bytes : ℕ) (store : N) : Type 0 where
   pub size : h.size store ≡ bytes
   pub zeros : h.tells → (image : List ℕ) → Image (h.times store) image → image ≡ replicate bytes 0
 
-pub record AreBlank {N : Type 0} (h : nv.Ghosts N) (stores : Places N) : Type 0 where
-  pub devices : (i : ℕ) (store : N) → slice_get stores.devices i ≡ Some store → IsBlank h DEVICE_BYTES store
-  pub centre : IsBlank h CENTRE_BYTES stores.centre
+-- how many bytes the storage of a node has
+abbrev pub bytes_of : Node → ℕ
+bytes_of (Device d) = DEVICE_BYTES
+bytes_of Centre = CENTRE_BYTES
+bytes_of Host = HOST_BYTES
+bytes_of Verifier = VERIFIER_BYTES
+
+abbrev pub AreBlank : {N : Type 0} → nv.Ghosts N → Places N → Type 0
+AreBlank {N} h stores = (m : Node) (store : N) → store_of stores m ≡ Some store → IsBlank h (bytes_of m) store
 
 -- The nodes of a bench, over storages S: what each kind keeps, and what the ledger shows of it.
-pub record Nodes (D C S XD XC RD RC : Type 0) : Type 1 where
+pub record Nodes (D C H V S XD XC XH XV RD RC RH RV : Type 0) : Type 1 where
   pub devices : Ghosts D S ℕ XD RD
   pub centre : Ghosts C S (Unit {0}) XC RC
-  pub kinds : Kinds devices.Seen centre.Seen
+  pub host : Ghosts H S (Unit {0}) XH RH
+  pub verifier : Ghosts V S (Unit {0}) XV RV
+  pub kinds : Kinds devices.Seen centre.Seen host.Seen verifier.Seen
 
-abbrev pub nodes : {D C S XD XC RD RC : Type 0} (d : Ghosts D S ℕ XD RD) (c : Ghosts C S (Unit {0}) XC RC) → Kinds d.Seen c.Seen → Nodes D C S XD XC RD RC
-nodes d c k = record { devices = d; centre = c; kinds = k }
+abbrev pub nodes : {D C H V S XD XC XH XV RD RC RH RV : Type 0} (d : Ghosts D S ℕ XD RD) (c : Ghosts C S (Unit {0}) XC RC) (h : Ghosts H S (Unit {0}) XH RH) (v : Ghosts V S (Unit {0}) XV RV)
+    → Kinds d.Seen c.Seen h.Seen v.Seen → Nodes D C H V S XD XC XH XV RD RC RH RV
+nodes d c h v k = record { devices = d; centre = c; host = h; verifier = v; kinds = k }
 
-module _ {D C S XD XC RD RC : Type 0} (n : Nodes D C S XD XC RD RC) where
-  -- what the ledger shows of device d, and of the centre
-  abbrev pub device_view : ℕ → Ledger → View n.devices.Seen
-  device_view d H = view_in (Device d) (n.kinds.devices.seen d) H
+-- == what holds of a node, whatever its kind ==
 
-  abbrev pub centre_view : Ledger → View n.centre.Seen
-  centre_view H = view_in Centre (n.kinds.centre.seen tt) H
+-- one kind of nodes, over storages S: the types of its nodes, of their names, of what a commit changes, of the memory that they run in and of
+-- their calls; what they keep, and what the ledger shows of it
+pub record OneKind (S : Type 0) : Type 1 where
+  pub Own : Type 0
+  pub Name : Type 0
+  pub Change : Type 0
+  pub Spare : Type 0
+  pub Call : Type 0
+  pub ghosts : Ghosts Own S Name Change Spare
+  pub kind : Kind Name ghosts.Seen Call
+
+-- of node m, which is d of its kind; of one as it is; of one as it was and as it is
+abbrev pub OfName : Type 0 → Type 1
+OfName S = (k : OneKind S) (m : Node) (d : k.Name) → Type 0
+
+abbrev pub OfState : Type 0 → Type 1
+OfState S = (k : OneKind S) (m : Node) (d : k.Name) (s : k.Own) → Type 0
+
+abbrev pub OfChange : Type 0 → Type 1
+OfChange S = (k : OneKind S) (m : Node) (d : k.Name) (s t : k.Own) → Type 0
+
+module _ {D C H V S XD XC XH XV RD RC RH RV : Type 0} (n : Nodes D C H V S XD XC XH XV RD RC RH RV) where
+  abbrev pub devices : OneKind S
+  devices = record { Own = D; Name = ℕ; Change = XD; Spare = RD; Call = DeviceCall; ghosts = n.devices; kind = n.kinds.devices }
+
+  abbrev pub centre : OneKind S
+  centre = record { Own = C; Name = Unit {0}; Change = XC; Spare = RC; Call = CentreCall; ghosts = n.centre; kind = n.kinds.centre }
+
+  abbrev pub host : OneKind S
+  host = record { Own = H; Name = Unit {0}; Change = XH; Spare = RH; Call = HostCall; ghosts = n.host; kind = n.kinds.host }
+
+  abbrev pub verifier : OneKind S
+  verifier = record { Own = V; Name = Unit {0}; Change = XV; Spare = RV; Call = VerifierCall; ghosts = n.verifier; kind = n.kinds.verifier }
+
+  -- P holds of this node
+  abbrev pub By : OfName S → Node → Type 0
+  By P (Device d) = P devices (Device d) d
+  By P Centre = P centre Centre tt
+  By P Host = P host Host tt
+  By P Verifier = P verifier Verifier tt
+
+  -- as it stands on the bench
+  abbrev pub Of : OfState S → Bench D C H V → Node → Type 0
+  Of P bench (Device d) = (i : ℕ) (s : D) → d ≡ i + 1 → slice_get bench.devices i ≡ Some s → P devices (Device d) d s
+  Of P bench Centre = P centre Centre tt bench.centre
+  Of P bench Host = P host Host tt bench.host
+  Of P bench Verifier = P verifier Verifier tt bench.verifier
+
+  -- as it stood on the one bench, and as it stands on the other
+  abbrev pub At : OfChange S → Bench D C H V → Bench D C H V → Node → Type 0
+  At P old new (Device d) = (i : ℕ) (s t : D) → d ≡ i + 1 → slice_get old.devices i ≡ Some s → slice_get new.devices i ≡ Some t → P devices (Device d) d s t
+  At P old new Centre = P centre Centre tt old.centre new.centre
+  At P old new Host = P host Host tt old.host new.host
+  At P old new Verifier = P verifier Verifier tt old.verifier new.verifier
 
   -- the bench stands for the ledger: so does each node of it
-  pub record Stands (g : nv.Ghosts S) (bench : Bench D C) (H : Ledger) : Type 0 where
-    pub day : HasDay bench.day bench.messages H
-    pub devices : (i : ℕ) (s : D) → slice_get bench.devices i ≡ Some s → node.Stands n.devices g (i + 1) (device_view (i + 1) H) s
-    pub centre : node.Stands n.centre g tt (centre_view H) bench.centre
+  pub record Stands (g : nv.Ghosts S) (bench : Bench D C H V) (L : Ledger) : Type 0 where
+    pub day : HasDay bench.day bench.messages bench.rates L
+    pub nodes : (m : Node) → Of (λ k i d s. node.Stands k.ghosts g d (view_in i (k.kind.seen d) L) s) bench m
+
+  -- a storage stands for the ledger, whose node is off
+  abbrev pub StoreStandsOff : {N : Type 0} → nv.Ghosts N → Ledger → N → Node → Type 0
+  StoreStandsOff h L store m = (is_on m L ≡ false) × By (λ k i d. StoreStands k.ghosts h d (view_in i (k.kind.seen d) L) store) m
 
   -- the storages stand for the ledger: no node is on, and there is no day
-  pub record StoresStand {N : Type 0} (h : nv.Ghosts N) (stores : Places N) (H : Ledger) : Type 0 where
-    pub day : HasDay None [] H
-    pub off : (i : ℕ) (store : N) → slice_get stores.devices i ≡ Some store → is_on (Device (i + 1)) H ≡ false
-    pub devices : (i : ℕ) (store : N) → slice_get stores.devices i ≡ Some store → StoreStands n.devices h (i + 1) (device_view (i + 1) H) store
-    pub centre_off : is_on Centre H ≡ false
-    pub centre : StoreStands n.centre h tt (centre_view H) stores.centre
+  pub record StoresStand {N : Type 0} (h : nv.Ghosts N) (stores : Places N) (L : Ledger) : Type 0 where
+    pub day : HasDay None [] None L
+    pub nodes : (m : Node) (store : N) → store_of stores m ≡ Some store → StoreStandsOff h L store m
 
-  -- P holds of each history for which the bench stands and at which the event is unforged, whatever is read as rates, where its
-  -- storages tell
-  abbrev pub ForEach : nv.Ghosts S → Bench D C → Event → (Tariff → Ledger → Type 0) → Type 0
-  ForEach g bench e P = (τ : Tariff) (H : Ledger) → History τ editions H → Unforged e H → Stands g bench H → g.tells → P τ H
+  -- P holds of each history for which the bench stands and at which the event is unforged, by a tariff of texts, where its storages tell
+  abbrev pub ForEach : nv.Ghosts S → Bench D C H V → Event → (Tariff → Ledger → Type 0) → Type 0
+  ForEach g bench e P = (τ : Tariff) (L : Ledger) → IsOfTexts τ → History τ editions L → Unforged e L → Stands g bench L → g.tells → P τ L

@@ -1,12 +1,12 @@
 -- What an event of one node does to the bench, and which events ask a node for what.
 use Rattle.std.specs.Prelude.{◌≡◌, ℕ, ℤ, ◌+◌, List, Option, Some, None, slice_get, slice_set}
 use Rattle.bench_base.specs.declared.words.Node.{Node}
-use Rattle.bench_base.specs.declared.words.Node.TheVariants.{Device, Centre}
+use Rattle.bench_base.specs.declared.words.Node.TheVariants.{Device, Centre, Host, Verifier}
 use Rattle.bench_base.specs.declared.events.Event.{Event}
 use Rattle.bench_base.specs.declared.events.Event.TheVariants as ev
 use Rattle.bench_base.specs.declared.events.Reply.{Reply}
 use Rattle.bench_base.specs.declared.events.Reply.TheVariants as r
-use Rattle.bench_base.specs.Ranges.{IsDevice, IsCustomer, IsWord}
+use Rattle.bench_base.specs.Ranges.{IsDevice, IsCustomer, IsWord, IsCount, IsKey}
 use Rattle.nv_model.specs.declared.nv.Nv as nv
 use Rattle.nv_model.specs.declared.fuse.Fuse as fuse
 use Rattle.node_acts.specs.declared.asked.Asked.{Asked}
@@ -19,6 +19,11 @@ use Rattle.bench_views.specs.declared.taken.DeviceCall.{DeviceCall}
 use Rattle.bench_views.specs.declared.taken.DeviceCall.TheVariants.{Make, Debit, Ask, Resend, Ack, Status, Take}
 use Rattle.bench_views.specs.declared.taken.CentreCall.{CentreCall}
 use Rattle.bench_views.specs.declared.taken.CentreCall.TheVariants as call
+use Rattle.host_jobs.specs.ActLaws.{IsPrice}
+use Rattle.bench_views.specs.declared.taken.HostCall.{HostCall}
+use Rattle.bench_views.specs.declared.taken.HostCall.TheVariants as host
+use Rattle.bench_views.specs.declared.taken.VerifierCall.{VerifierCall}
+use Rattle.bench_views.specs.declared.taken.VerifierCall.TheVariants as verifier
 
 -- == events ==
 
@@ -41,6 +46,19 @@ centre_call_event (call.Flag w suspended) = ev.Flag w suspended
 centre_call_event (call.Balance w) = ev.Balance w
 centre_call_event (call.Take bytes k) = ev.Give Centre bytes
 
+-- the event that asks the host this
+abbrev pub host_call_event : HostCall → Event
+host_call_event (host.Order d piece class grams zone price) = ev.Order d piece class grams zone
+host_call_event (host.Send j k) = ev.Send j
+host_call_event (host.Print j) = ev.Print j
+host_call_event (host.Close j) = ev.Close j
+host_call_event (host.Take bytes) = ev.Give Host bytes
+
+-- the event that asks the verifier this; a message that is scanned is its bytes
+abbrev pub verifier_call_event : VerifierCall → Event
+verifier_call_event (verifier.Trust d key) = ev.Trust d key
+verifier_call_event (verifier.Scan n bytes) = ev.ScanHex n bytes
+
 abbrev pub asked_event : {C : Type 0} → Node → (C → Event) → Asked C → Event
 asked_event m of_call On = ev.On m
 asked_event m of_call Off = ev.Off m
@@ -52,6 +70,12 @@ device_event d asked = asked_event (Device d) (device_call_event d) asked
 
 abbrev pub centre_event : Asked CentreCall → Event
 centre_event asked = asked_event Centre centre_call_event asked
+
+abbrev pub host_event : Asked HostCall → Event
+host_event asked = asked_event Host host_call_event asked
+
+abbrev pub verifier_event : Asked VerifierCall → Event
+verifier_event asked = asked_event Verifier verifier_call_event asked
 
 -- what the event of a device came to on that day, and where the device stands
 pub record DeviceTurn {K S C R : Type 0} (n : Ghosts K S ℕ C R) (g : nv.Ghosts S) (f : fuse.Ghosts S) (kind : Kind ℕ n.Seen DeviceCall)
@@ -80,6 +104,31 @@ IsRanged On = Unit {0}
 IsRanged Off = Unit {0}
 IsRanged (Cut calls keep byte) = Unit {0}
 IsRanged (Call c) = IsRangedCall c
+
+-- the numbers of a call of the host: a price is a postage that a piece may be franked with
+abbrev pub IsRangedJob : HostCall → Type 0
+IsRangedJob (host.Order d piece class grams zone price) = IsDevice d × IsPrice price
+IsRangedJob (host.Send j k) = Unit {0}
+IsRangedJob (host.Print j) = Unit {0}
+IsRangedJob (host.Close j) = Unit {0}
+IsRangedJob (host.Take bytes) = Unit {0}
+
+abbrev pub IsRangedOfHost : Asked HostCall → Type 0
+IsRangedOfHost On = Unit {0}
+IsRangedOfHost Off = Unit {0}
+IsRangedOfHost (Cut calls keep byte) = Unit {0}
+IsRangedOfHost (Call c) = IsRangedJob c
+
+-- the numbers of a call of the verifier
+abbrev pub IsRangedScan : VerifierCall → Type 0
+IsRangedScan (verifier.Trust d key) = IsDevice d × IsKey key
+IsRangedScan (verifier.Scan n bytes) = IsCount n
+
+abbrev pub IsRangedOfVerifier : Asked VerifierCall → Type 0
+IsRangedOfVerifier On = Unit {0}
+IsRangedOfVerifier Off = Unit {0}
+IsRangedOfVerifier (Cut calls keep byte) = Unit {0}
+IsRangedOfVerifier (Call c) = IsRangedScan c
 
 -- == the bench's own ==
 

@@ -10,6 +10,10 @@ use Rattle.psd_device.specs.declared.node.DeviceNode.{DeviceNode}
 use Rattle.psd_device.specs.NodeView as device
 use Rattle.centre_protocol.specs.declared.node.CentreNode.{CentreNode}
 use Rattle.centre_protocol.specs.NodeView as centre
+use Rattle.host_node.specs.declared.node.HostNode.{HostNode}
+use Rattle.host_node.specs.NodeView as host
+use Rattle.verifier_node.specs.declared.node.VerifierNode.{VerifierNode}
+use Rattle.verifier_node.specs.NodeView as verifier
 use Rattle.bench.specs.Benches.{Bench, Nodes}
 use Rattle.bench.specs.Benches as benches
 
@@ -31,6 +35,12 @@ IsDeviceOver store k = IsOver store (device.is_on k) (device.storage_in k)
 abbrev pub IsCentreOver : {N : Type 0} {h : nv.Ghosts N} {g : nv.Ghosts (Fused N h)} → N → CentreNode (Fused N h) g → Type 0
 IsCentreOver store k = IsOver store (centre.is_on k) (centre.storage_in k)
 
+abbrev pub IsHostOver : {N : Type 0} {h : nv.Ghosts N} {g : nv.Ghosts (Fused N h)} → N → HostNode (Fused N h) g → Type 0
+IsHostOver store k = IsOver store (host.is_on k) (host.storage_in k)
+
+abbrev pub IsVerifierOver : {N : Type 0} {h : nv.Ghosts N} {g : nv.Ghosts (Fused N h)} → N → VerifierNode (Fused N h) g → Type 0
+IsVerifierOver store k = IsOver store (verifier.is_on k) (verifier.storage_in k)
+
 -- the storage is the one inside the node's fuse
 abbrev pub IsInDevice : {N : Type 0} {h : nv.Ghosts N} {g : nv.Ghosts (Fused N h)} → DeviceNode (Fused N h) g → N → Type 0
 IsInDevice k store = store ≡ inside (device.storage_in k)
@@ -38,16 +48,28 @@ IsInDevice k store = store ≡ inside (device.storage_in k)
 abbrev pub IsInCentre : {N : Type 0} {h : nv.Ghosts N} {g : nv.Ghosts (Fused N h)} → CentreNode (Fused N h) g → N → Type 0
 IsInCentre k store = store ≡ inside (centre.storage_in k)
 
+abbrev pub IsInHost : {N : Type 0} {h : nv.Ghosts N} {g : nv.Ghosts (Fused N h)} → HostNode (Fused N h) g → N → Type 0
+IsInHost k store = store ≡ inside (host.storage_in k)
+
+abbrev pub IsInVerifier : {N : Type 0} {h : nv.Ghosts N} {g : nv.Ghosts (Fused N h)} → VerifierNode (Fused N h) g → N → Type 0
+IsInVerifier k store = store ≡ inside (verifier.storage_in k)
+
+-- the nodes of a bench over storages with fuses
+abbrev pub FusedBench : (N : Type 0) (h : nv.Ghosts N) → nv.Ghosts (Fused N h) → Type 0
+FusedBench N h g = Bench (DeviceNode (Fused N h) g) (CentreNode (Fused N h) g) (HostNode (Fused N h) g) (VerifierNode (Fused N h) g)
+
 -- each node of a bench is off, over the storage in its place; each storage is the one inside the fuse of the node in its place
-pub record AreOver {N : Type 0} {h : nv.Ghosts N} {g : nv.Ghosts (Fused N h)} (stores : benches.Places N)
-    (bench : Bench (DeviceNode (Fused N h) g) (CentreNode (Fused N h) g)) : Type 0 where
+pub record AreOver {N : Type 0} {h : nv.Ghosts N} {g : nv.Ghosts (Fused N h)} (stores : benches.Places N) (bench : FusedBench N h g) : Type 0 where
   pub devices : Pairs (λ store k. IsDeviceOver store k) stores.devices bench.devices
   pub centre : IsCentreOver stores.centre bench.centre
+  pub host : IsHostOver stores.host bench.host
+  pub verifier : IsVerifierOver stores.verifier bench.verifier
 
-pub record AreInside {N : Type 0} {h : nv.Ghosts N} {g : nv.Ghosts (Fused N h)} (bench : Bench (DeviceNode (Fused N h) g) (CentreNode (Fused N h) g))
-    (stores : benches.Places N) : Type 0 where
+pub record AreInside {N : Type 0} {h : nv.Ghosts N} {g : nv.Ghosts (Fused N h)} (bench : FusedBench N h g) (stores : benches.Places N) : Type 0 where
   pub devices : Pairs (λ k store. IsInDevice k store) bench.devices stores.devices
   pub centre : IsInCentre bench.centre stores.centre
+  pub host : IsInHost bench.host stores.host
+  pub verifier : IsInVerifier bench.verifier stores.verifier
 
 module _ {K S N C R : Type 0} (n : Ghosts K S N C R) (g : nv.Ghosts S) where
   -- a node after a begin: it is off, over the storage as it was
@@ -68,6 +90,8 @@ module _ {K S N C R : Type 0} (n : Ghosts K S N C R) (g : nv.Ghosts S) where
     pub stops : IsStopped before now
 
 -- a run begins: each node was switched off
-pub record Begun {D C S XD XC RD RC : Type 0} (n : Nodes D C S XD XC RD RC) (g : nv.Ghosts S) (old new : Bench D C) : Type 0 where
+pub record Begun {D C H V S XD XC XH XV RD RC RH RV : Type 0} (n : Nodes D C H V S XD XC XH XV RD RC RH RV) (g : nv.Ghosts S) (old new : Bench D C H V) : Type 0 where
   pub devices : AreStopped n.devices g old.devices new.devices
   pub centre : IsStopped n.centre g old.centre new.centre
+  pub host : IsStopped n.host g old.host new.host
+  pub verifier : IsStopped n.verifier g old.verifier new.verifier

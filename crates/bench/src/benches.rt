@@ -1,31 +1,42 @@
-//! Eight devices and the centre, each in its place, and the day.
+//! Eight devices, the centre, the host and the verifier, each in its place; the day, the rates and the messages of the run.
 ghost use Rattle.std.specs.Prelude.{◌≡◌, ◌≤◌, ◌<◌, ◌+◌, [], ◌∷◌, ◌++◌, ℕ, Some, None, length, slice_get, IfOk, IfErr};
 ghost use Rattle.std.specs.Vec.{vec_capacity};
 ghost use Rattle.bench_base.specs.declared.ledger.Entry.TheVariants.{Begin};
+ghost use Rattle.bench_base.specs.declared.words.Node.{Node as NodeNo};
 ghost use Rattle.bench_base.specs.Ledger.{Ledger};
 ghost use Rattle.bench_views.specs.Kinds.{bench_kinds};
 ghost use Rattle.bench.specs.declared.benches.TheConstants.{MOST_MESSAGES};
 ghost use Rattle.std.specs.Option.{option_copied};
 
-use crate::places::{centre_over, centre_storage, device_over, device_storage, stop_all};
+use crate::places::{
+    centre_over, centre_storage, device_over, device_storage, host_over, host_storage, stop_all,
+    verifier_over, verifier_storage,
+};
 use crate::stores::Stores;
 use bench_base::bytes::Note;
 use bench_base::numbers::DayNo;
 use centre_protocol::{CentreNode, CentreRoom};
+use host_node::{HostNode, HostRoom};
+use host_rates::Rates;
 use node_seat::Node;
 use nv_model::{Fuse, Fused, Nv};
 use psd_device::DeviceNode;
-use std::alloc::Global;
+use std::alloc::{AllocError, Global};
+use verifier_node::{VerifierNode, VerifierRoom};
 
 /// How many messages a run may send.
 pub const MOST_MESSAGES: usize = 1_000_000;
 
-/// Eight devices and the centre over storages of type M, which are made of storages of type N.
+/// Eight devices, the centre, the host and the verifier over storages of type M, which are made of storages of type N.
 #[derive(Drop)]
 pub struct BenchOver<M: Nv, N> {
     pub(crate) devices: Vec<DeviceNode<M>>,
     pub(crate) centre: CentreNode<M>,
+    pub(crate) host: HostNode<M>,
+    pub(crate) verifier: VerifierNode<M>,
     pub(crate) day: Option<DayNo>,
+    /// The rates that were read last in this run.
+    pub(crate) rates: Option<Rates>,
     /// The messages of the run, the first that was sent first.
     pub(crate) messages: Vec<Note>,
     /// Room to hand the storages back.
@@ -35,27 +46,31 @@ pub struct BenchOver<M: Nv, N> {
     ghost empty: { length spare.items ≡ 0 },
 }
 
-/// Eight devices and the centre over storages of type N, each with a fuse.
+/// Eight devices, the centre, the host and the verifier over storages of type N, each with a fuse.
 pub type Bench<N> = BenchOver<Fused<N>, N>;
 
 impl<M: Fuse + Drop, N> BenchOver<M, N> {
     ghost use Rattle.bench.specs.Benches.{IsReady, Stands, nodes, bench_of};
     ghost use Rattle.bench.specs.Places.{Begun};
 
-    /// Begins a run: each node is switched off, and the day and the messages are forgotten. The fuses stay.
+    /// Begins a run: each node is switched off, and the day, the rates and the messages are forgotten. The fuses stay.
     pub fn begin(&mut self)
         requires ready { IsReady (bench_of self.old) }
         ensures ready { IsReady (bench_of self.new) }
         ensures no_day { (bench_of self.new).day ≡ None }
         ensures no_messages { (bench_of self.new).messages ≡ [] }
-        ensures stands { (H : Ledger) → Stands (nodes ⟦<DeviceNode<M> as Node>⟧ ⟦<CentreNode<M> as Node>⟧ bench_kinds) M.Nv (bench_of self.old) H
-            → Stands (nodes ⟦<DeviceNode<M> as Node>⟧ ⟦<CentreNode<M> as Node>⟧ bench_kinds) M.Nv (bench_of self.new) (Begin ∷ H) }
-        ensures begun { Begun (nodes ⟦<DeviceNode<M> as Node>⟧ ⟦<CentreNode<M> as Node>⟧ bench_kinds) M.Nv (bench_of self.old) (bench_of self.new) }
+        ensures no_rates { (bench_of self.new).rates ≡ None }
+        ensures stands { (H : Ledger) → Stands (nodes ⟦<DeviceNode<M> as Node>⟧ ⟦<CentreNode<M> as Node>⟧ ⟦<HostNode<M> as Node>⟧ ⟦<VerifierNode<M> as Node>⟧ bench_kinds) M.Nv (bench_of self.old) H
+            → Stands (nodes ⟦<DeviceNode<M> as Node>⟧ ⟦<CentreNode<M> as Node>⟧ ⟦<HostNode<M> as Node>⟧ ⟦<VerifierNode<M> as Node>⟧ bench_kinds) M.Nv (bench_of self.new) (Begin ∷ H) }
+        ensures begun { Begun (nodes ⟦<DeviceNode<M> as Node>⟧ ⟦<CentreNode<M> as Node>⟧ ⟦<HostNode<M> as Node>⟧ ⟦<VerifierNode<M> as Node>⟧ bench_kinds) M.Nv (bench_of self.old) (bench_of self.new) }
     {
         self.day = None;
+        self.rates = None;
         self.messages.clear();
         stop_all(&mut self.devices);
-        let _was_on = node_seat::stop(&mut self.centre);
+        let _centre_was_on = node_seat::stop(&mut self.centre);
+        let _host_was_on = node_seat::stop(&mut self.host);
+        let _verifier_was_on = node_seat::stop(&mut self.verifier);
     }
 }
 
@@ -84,59 +99,68 @@ impl<M: Nv, N> BenchOver<M, N> {
     }
 }
 
+/// The memory of a bench beside its storages.
+#[derive(Drop)]
+struct Rooms {
+    centre: CentreRoom,
+    host: HostRoom,
+    verifier: VerifierRoom,
+}
+
+impl Rooms {
+    fn new(alloc: Global) -> Result<Rooms, AllocError> {
+        let centre = CentreRoom::new(alloc)?;
+        let host = HostRoom::new(alloc)?;
+        let verifier = VerifierRoom::new(alloc)?;
+        Ok(Rooms {
+            centre,
+            host,
+            verifier,
+        })
+    }
+}
+
 impl<N: Nv + Drop> Bench<N> {
     ghost use Rattle.nv_model.specs.Meters.{Works};
-    ghost use Rattle.bench.specs.Benches.{IsReady, Stands, StoresStand, AreBlank, nodes, bench_of, places_of};
+    ghost use Rattle.bench.specs.Benches.{IsReady, Stands, StoresStand, AreBlank, nodes, bench_of, places_of, store_of};
     ghost use Rattle.bench.specs.Places.{AreOver, AreInside};
 
-    /// A bench over these storages, which have power and no fuse: all nodes are off, and there is no day and no message. The memory in
-    /// which the centre runs is made here, and that for a run's messages, 1,000,000 of 88 bytes, so that sending one takes none. The bench stands for what the storages stand for, and for the empty ledger where they are blank.
-    /// Where there is no memory, the storages come back.
+    /// A bench over these storages, which have power and no fuse: all nodes are off, and there is no day, no rates and no message. The
+    /// memory in which the nodes run is made here, and that for a run's messages, 1,000,000 of 88 bytes, so that sending one takes none.
+    /// The bench stands for what the storages stand for, and for the empty ledger where they are blank. Where there is no memory, the
+    /// storages come back.
     pub fn new(alloc: Global, stores: Stores<N>) -> Result<Bench<N>, Stores<N>>
         requires eight { length stores.devices.items ≡ 8 }
-        requires fresh { (i : ℕ) (nv : N) → slice_get stores.devices.items i ≡ Some nv → Works (N.meters nv) }
-        requires fresh_centre { Works (N.meters stores.centre) }
+        requires fresh { (m : NodeNo) (nv : N) → store_of (places_of stores) m ≡ Some nv → Works (N.meters nv) }
         ensures ready { IfOk result (λ bench. IsReady (bench_of bench)) }
         ensures no_day { IfOk result (λ bench. (bench_of bench).day ≡ None) }
         ensures no_messages { IfOk result (λ bench. (bench_of bench).messages ≡ []) }
+        ensures no_rates { IfOk result (λ bench. (bench_of bench).rates ≡ None) }
         ensures over { IfOk result (λ bench. AreOver (places_of stores) (bench_of bench)) }
-        ensures stands { IfOk result (λ bench. (H : Ledger) → StoresStand (nodes ⟦<DeviceNode<Fused<N>> as Node>⟧ ⟦<CentreNode<Fused<N>> as Node>⟧ bench_kinds) N.Nv (places_of stores) H
-            → Stands (nodes ⟦<DeviceNode<Fused<N>> as Node>⟧ ⟦<CentreNode<Fused<N>> as Node>⟧ bench_kinds) ⟦<Fused<N> as Nv>⟧ (bench_of bench) H) }
+        ensures stands { IfOk result (λ bench. (H : Ledger) → StoresStand (nodes ⟦<DeviceNode<Fused<N>> as Node>⟧ ⟦<CentreNode<Fused<N>> as Node>⟧ ⟦<HostNode<Fused<N>> as Node>⟧ ⟦<VerifierNode<Fused<N>> as Node>⟧ bench_kinds) N.Nv (places_of stores) H
+            → Stands (nodes ⟦<DeviceNode<Fused<N>> as Node>⟧ ⟦<CentreNode<Fused<N>> as Node>⟧ ⟦<HostNode<Fused<N>> as Node>⟧ ⟦<VerifierNode<Fused<N>> as Node>⟧ bench_kinds) ⟦<Fused<N> as Nv>⟧ (bench_of bench) H) }
         ensures blank { IfOk result (λ bench. AreBlank N.Nv (places_of stores)
-            → Stands (nodes ⟦<DeviceNode<Fused<N>> as Node>⟧ ⟦<CentreNode<Fused<N>> as Node>⟧ bench_kinds) ⟦<Fused<N> as Nv>⟧ (bench_of bench) []) }
+            → Stands (nodes ⟦<DeviceNode<Fused<N>> as Node>⟧ ⟦<CentreNode<Fused<N>> as Node>⟧ ⟦<HostNode<Fused<N>> as Node>⟧ ⟦<VerifierNode<Fused<N>> as Node>⟧ bench_kinds) ⟦<Fused<N> as Nv>⟧ (bench_of bench) []) }
         ensures back { IfErr result (λ left. left ≡ stores) }
     {
-        let Stores {
-            devices: mut spare,
-            centre,
-        } = stores;
+        let rooms = match Rooms::new(alloc) {
+            Ok(rooms) => rooms,
+            Err(_) => return Err(stores),
+        };
         let mut devices = match Vec::with_capacity(alloc, 8) {
             Ok(devices) => devices,
-            Err(_) => {
-                return Err(Stores {
-                    devices: spare,
-                    centre,
-                });
-            }
-        };
-        let room = match CentreRoom::new(alloc) {
-            Ok(room) => room,
-            Err(_) => {
-                return Err(Stores {
-                    devices: spare,
-                    centre,
-                });
-            }
+            Err(_) => return Err(stores),
         };
         let messages = match Vec::with_capacity(alloc, MOST_MESSAGES) {
             Ok(messages) => messages,
-            Err(_) => {
-                return Err(Stores {
-                    devices: spare,
-                    centre,
-                });
-            }
+            Err(_) => return Err(stores),
         };
+        let Stores {
+            devices: mut spare,
+            centre,
+            host,
+            verifier,
+        } = stores;
         for _ in 0..8usize {
             match spare.pop() {
                 Some(nv) => match devices.push(device_over(nv)) {
@@ -149,8 +173,11 @@ impl<N: Nv + Drop> Bench<N> {
         devices.reverse();
         Ok(BenchOver {
             devices,
-            centre: centre_over(centre, room),
+            centre: centre_over(centre, rooms.centre),
+            host: host_over(host, rooms.host),
+            verifier: verifier_over(verifier, rooms.verifier),
             day: None,
+            rates: None,
             messages,
             spare,
         })
@@ -161,13 +188,16 @@ impl<N: Nv + Drop> Bench<N> {
     pub fn into_stores(self) -> Stores<N>
         requires ready { IsReady (bench_of self) }
         ensures inside { AreInside (bench_of self) (places_of result) }
-        ensures stands { (H : Ledger) → Stands (nodes ⟦<DeviceNode<Fused<N>> as Node>⟧ ⟦<CentreNode<Fused<N>> as Node>⟧ bench_kinds) ⟦<Fused<N> as Nv>⟧ (bench_of self) H
-            → StoresStand (nodes ⟦<DeviceNode<Fused<N>> as Node>⟧ ⟦<CentreNode<Fused<N>> as Node>⟧ bench_kinds) N.Nv (places_of result) (Begin ∷ H) }
+        ensures stands { (H : Ledger) → Stands (nodes ⟦<DeviceNode<Fused<N>> as Node>⟧ ⟦<CentreNode<Fused<N>> as Node>⟧ ⟦<HostNode<Fused<N>> as Node>⟧ ⟦<VerifierNode<Fused<N>> as Node>⟧ bench_kinds) ⟦<Fused<N> as Nv>⟧ (bench_of self) H
+            → StoresStand (nodes ⟦<DeviceNode<Fused<N>> as Node>⟧ ⟦<CentreNode<Fused<N>> as Node>⟧ ⟦<HostNode<Fused<N>> as Node>⟧ ⟦<VerifierNode<Fused<N>> as Node>⟧ bench_kinds) N.Nv (places_of result) (Begin ∷ H) }
     {
         let BenchOver {
             devices,
             centre,
+            host,
+            verifier,
             day: _,
+            rates: _,
             messages: _,
             spare,
         } = self;
@@ -186,6 +216,8 @@ impl<N: Nv + Drop> Bench<N> {
         Stores {
             devices: stores,
             centre: centre_storage(centre),
+            host: host_storage(host),
+            verifier: verifier_storage(verifier),
         }
     }
 }

@@ -10,7 +10,7 @@ use bench_base::bytes::Note;
 use bench_base::events::{DevView, Reply};
 use bench_base::numbers::{DayNo, DevNo};
 use bench_views::DeviceCall;
-use node_acts::{Act, Released, Said};
+use node_acts::{Act, GivenOut, Released, Said};
 use psd_device::Franked;
 use psd_state::DevRec;
 use psd_state::acts::{
@@ -37,13 +37,13 @@ fn marked_as(device: DevNo, piece: u32, franked: &Franked) -> Said
     ensures { result ≡ views.marked device piece franked.now }
 {
     let mark = franked.mark;
-    Said::releasing(
+    Said::giving(
         Reply::Marked(device, piece, franked.again, mark),
-        Released {
+        GivenOut::Released(Released {
             device,
             piece,
             mark,
-        },
+        }),
     )
 }
 
@@ -102,11 +102,11 @@ fn took_as(device: DevNo, message: u32, taken: &Taken) -> Said
         Taken::Applied { number, verdict } => Said::of(Reply::Applied(device, *number, *verdict)),
         Taken::Released { piece, mark, again } => Said {
             reply: Reply::Released(device, *piece, *again, message),
-            released: Some(Released {
+            given: Some(GivenOut::Released(Released {
                 device,
                 piece: *piece,
                 mark: *mark,
-            }),
+            })),
             sent: Some(release(mark)),
         },
     }

@@ -1,5 +1,5 @@
 //! One event.
-ghost use Rattle.std.specs.Prelude.{◌≡◌, ◌<◌, length, IfOk, IsOk};
+ghost use Rattle.std.specs.Prelude.{◌≡◌, ◌<◌, ℕ, List, length, IfOk, OnErr};
 ghost use Rattle.bench_base.specs.declared.words.Node.TheVariants as node;
 ghost use Rattle.bench_base.specs.Ranges.{IsWholeEvent};
 ghost use Rattle.node_turns.specs.declared.turn.Turn.{Turn};
@@ -7,29 +7,36 @@ ghost use Rattle.node_turns.specs.NodeTurns.{NodeTurn};
 ghost use Rattle.bench_views.specs.Devices.{device_kind};
 ghost use Rattle.bench_views.specs.Centre.{centre_kind, IsBytesCall, AreBytes};
 ghost use Rattle.bench_views.specs.Kinds.{bench_kinds};
-ghost use Rattle.bench_views.specs.Taken.{IsTaken};
 ghost use Rattle.bench.specs.declared.benches.TheConstants.{MOST_MESSAGES};
-ghost use Rattle.bench.specs.Benches.{IsReady, ForEach, nodes, bench_of, fuse_in};
+ghost use Rattle.bench.specs.Benches.{IsReady, nodes, bench_of, fuse_in};
 ghost use Rattle.bench.specs.Calls.{DeviceTurn, IsRangedCall, IsRanged, device_event, centre_event, dated};
-ghost use Rattle.bench.specs.Steps.{Steps, StepsOn, StepsByViews, StepsAlone, sending};
+ghost use Rattle.bench.specs.Outside.{WantsMemory, outside};
+ghost use Rattle.bench.specs.Steps.{Steps, sending};
 
 use crate::benches::{Bench, BenchOver};
 use crate::centre_calls::{centre_act, hands_bytes};
 use crate::comparing::compare;
 use crate::device_calls::device_act;
+use crate::host_turns::host_turn;
+use crate::rates::read_turn;
+use crate::verifier_turns::verifier_turn;
 use bench_base::events::{Event, Reply};
 use bench_base::ledger::Entry;
 use bench_base::numbers::{DayNo, DevNo};
+use bench_base::stream::{Sink, Source};
 use bench_base::words::Node as NodeNo;
-use bench_views::laws::nodes_follow;
+use bench_views::laws::{host_follows, nodes_follow, verifier_follows};
 use bench_views::{CentreCall, DeviceCall, Taken, take};
 use centre_protocol::CentreNode;
+use host_node::HostNode;
+use host_rates::theorems::prices_by_text;
 use node_acts::Asked;
 use node_seat::Node;
 use node_turns::{Sending, Tell, Turn, call, cut, start, stop};
 use nv_model::{Fuse, Fused, Nv};
 use psd_device::DeviceNode;
 use std::alloc::{AllocError, Global};
+use verifier_node::VerifierNode;
 
 // A call of the device in this place, on that day. A device that is off decides nothing.
 fn device_called<T: Tell, M: Fuse + Drop>(
@@ -131,88 +138,111 @@ fn on_day(day: Option<DayNo>, reply: Reply) -> Reply
     }
 }
 
-// What the event does to the nodes and the day, where the messages are left to be sent.
-fn turn_of<T: Tell, M: Fuse + Drop, N: Nv>(bench: &mut BenchOver<M, N>, event: &Event) -> T
+// What the event does to the nodes, the day and the rates, where the messages are left to be sent.
+fn turn_of<T: Tell, M: Fuse + Drop, N: Nv, R: Source, P: Sink>(
+    alloc: Global,
+    bench: &mut BenchOver<M, N>,
+    event: &Event,
+    rates: &mut R,
+    printer: &mut P,
+) -> Result<T, AllocError>
     requires whole { IsWholeEvent event.now }
-    requires taken { IsTaken event.now }
     requires ready { IsReady (bench_of bench.old) }
     requires few { length (bench_of bench.old).messages < MOST_MESSAGES }
-    ensures unsent { (bench_of bench.new).messages ≡ (bench_of bench.old).messages }
     ensures ready { IsReady (bench_of bench.new) }
-    ensures did { (turn : Turn) × T.IsOf result turn
-        × Steps (nodes ⟦<DeviceNode<M> as Node>⟧ ⟦<CentreNode<M> as Node>⟧ bench_kinds) M.Nv M.Fuse.own N.Nv event.now turn (bench_of bench.old) (sending turn (bench_of bench.new)) }
+    ensures did { IfOk result (λ told. (text : List ℕ) × (turn : Turn) × T.IsOf told turn × ((bench_of bench.new).messages ≡ (bench_of bench.old).messages)
+        × Steps (nodes ⟦<DeviceNode<M> as Node>⟧ ⟦<CentreNode<M> as Node>⟧ ⟦<HostNode<M> as Node>⟧ ⟦<VerifierNode<M> as Node>⟧ bench_kinds) M.Nv M.Fuse.own N.Nv event.now text turn (bench_of bench.old) (sending turn (bench_of bench.new)) (outside R.Source rates.old P.Sink printer.old) (outside R.Source rates.new P.Sink printer.new)) }
+    ensures memory { OnErr result ((bench_of bench.new ≡ bench_of bench.old) × WantsMemory event.now (bench_of bench.old).day (outside R.Source rates.old P.Sink printer.old) (outside R.Source rates.new P.Sink printer.new)) }
 {
     // What the bench sees of its nodes follows from the ledger.
     nodes_follow();
+    host_follows();
+    verifier_follows();
+    prices_by_text();
     let today = bench.day;
-    let Some(taken) = take(event, &bench.messages) else {
+    let Some(taken) = take(event, &bench.messages, &bench.rates) else {
         unreachable!();
     };
     match taken {
         Taken::Day(day) => {
             bench.day = Some(day);
-            T::one(Reply::Day(day), Entry::Day(day))
+            Ok(T::one(Reply::Day(day), Entry::Day(day)))
         }
-        Taken::End => T::silent(Reply::End),
-        Taken::NoMessage(number) => T::silent(on_day(today, Reply::NoMessage(number))),
-        Taken::Absent(node) => T::silent(on_day(today, Reply::OffNode(node))),
-        Taken::Reconcile(device) => T::silent(on_day(
+        Taken::End => Ok(T::silent(Reply::End)),
+        Taken::NoMessage(number) => Ok(T::silent(on_day(today, Reply::NoMessage(number)))),
+        Taken::Reconcile(device) => Ok(T::silent(on_day(
             today,
             compare(device, &bench.devices, &bench.centre),
-        )),
+        ))),
+        Taken::Rates => match today {
+            None => Ok(T::silent(Reply::NoDay)),
+            Some(_) => read_turn(alloc, &mut bench.rates, rates),
+        },
         Taken::Device(device, asked) => match today {
-            None => T::silent(Reply::NoDay),
-            Some(day) => device_turn(&mut bench.devices, device, day, &asked),
+            None => Ok(T::silent(Reply::NoDay)),
+            Some(day) => Ok(device_turn(&mut bench.devices, device, day, &asked)),
         },
         Taken::Centre(asked) => match today {
-            None => T::silent(Reply::NoDay),
-            Some(day) => centre_turn(&mut bench.centre, day, &asked),
+            None => Ok(T::silent(Reply::NoDay)),
+            Some(day) => Ok(centre_turn(&mut bench.centre, day, &asked)),
+        },
+        Taken::Host(asked) => match today {
+            None => Ok(T::silent(Reply::NoDay)),
+            Some(day) => Ok(host_turn(&mut bench.host, day, &asked, printer)),
+        },
+        Taken::Verifier(asked) => match today {
+            None => Ok(T::silent(Reply::NoDay)),
+            Some(day) => Ok(verifier_turn(&mut bench.verifier, day, &asked)),
         },
     }
 }
 
 /// Does one event as `step` does, and tells it whole or by its reply alone, which makes no entries.
-pub fn react<T: Tell, M: Fuse + Drop, N: Nv>(bench: &mut BenchOver<M, N>, event: &Event) -> T
+pub fn react<T: Tell, M: Fuse + Drop, N: Nv, R: Source, P: Sink>(
+    alloc: Global,
+    bench: &mut BenchOver<M, N>,
+    event: &Event,
+    rates: &mut R,
+    printer: &mut P,
+) -> Result<T, AllocError>
     requires whole { IsWholeEvent event.now }
-    requires taken { IsTaken event.now }
     requires ready { IsReady (bench_of bench.old) }
     requires few { length (bench_of bench.old).messages < MOST_MESSAGES }
     ensures ready { IsReady (bench_of bench.new) }
-    ensures did { (turn : Turn) × T.IsOf result turn
-        × Steps (nodes ⟦<DeviceNode<M> as Node>⟧ ⟦<CentreNode<M> as Node>⟧ bench_kinds) M.Nv M.Fuse.own N.Nv event.now turn (bench_of bench.old) (bench_of bench.new) }
+    ensures did { IfOk result (λ told. (text : List ℕ) × (turn : Turn) × T.IsOf told turn
+        × Steps (nodes ⟦<DeviceNode<M> as Node>⟧ ⟦<CentreNode<M> as Node>⟧ ⟦<HostNode<M> as Node>⟧ ⟦<VerifierNode<M> as Node>⟧ bench_kinds) M.Nv M.Fuse.own N.Nv event.now text turn (bench_of bench.old) (bench_of bench.new) (outside R.Source rates.old P.Sink printer.old) (outside R.Source rates.new P.Sink printer.new)) }
+    ensures memory { OnErr result ((bench_of bench.new ≡ bench_of bench.old) × WantsMemory event.now (bench_of bench.old).day (outside R.Source rates.old P.Sink printer.old) (outside R.Source rates.new P.Sink printer.new)) }
 {
-    let Sending { told, sent } = turn_of(bench, event);
+    let Sending { told, sent } = turn_of(alloc, bench, event, rates, printer)?;
     bench.send(sent);
-    told
+    Ok(told)
 }
 
-/// Does one event: its reply, and what it adds to the ledger. It takes no memory, so it never answers want of it.
+/// Does one event: its reply, and what it adds to the ledger. Only a `rates` on a day takes memory, for its text and its rates; where
+/// there is none, the bench is as before (`memory`). Else there is a text, what a `rates` took and nothing for every other event, such
+/// that (`did`, see `Steps`):
 ///
 /// - `history`: for every history for which the bench stands, at which nothing that the event brings is forged, and whose storages
-///   tell what they hold, the reply and the entries are those of the event there, and the bench stands for the history with them; so do the storages at every moment meanwhile,
-///   but for the one commit of the event. See `StepsOn`.
+///   tell what they hold, the reply and the entries are those of the event there, and the bench stands for the history with them; so do
+///   the storages at every moment meanwhile, but for the one commit of the event; and the printer takes the mark that the event prints.
 /// - `shown`: where the storages tell, whether the bench stands for a history or not: the event does what any view allows for
-///   which its node stands; only an event that may commit writes; and damage is told exactly where it was found. See
-///   `StepsByViews`.
-/// - `always`: which replies the event may get, what needs a day and a node that is on, what a refusal leaves, and what failures
-///   and fuses cost, whatever the storages tell. See `StepsAlone`.
-pub fn step<N: Nv + Drop>(
-    _alloc: Global,
+///   which its node stands; only an event that may commit writes; and damage is told exactly where it was found.
+/// - `always`: which replies the event may get, what needs a day and a node that is on, what a refusal leaves, what failures
+///   and fuses cost, what is read of the rates and what the printer takes, whatever the storages tell.
+pub fn step<R: Source, P: Sink, N: Nv + Drop>(
+    alloc: Global,
     bench: &mut Bench<N>,
     event: &Event,
+    rates: &mut R,
+    printer: &mut P,
 ) -> Result<Turn, AllocError>
     requires whole { IsWholeEvent event.now }
-    requires taken { IsTaken event.now }
     requires ready { IsReady (bench_of bench.old) }
     requires few { length (bench_of bench.old).messages < MOST_MESSAGES }
     ensures ready { IsReady (bench_of bench.new) }
-    ensures memory { IsOk result }
-    ensures history { ForEach (nodes ⟦<DeviceNode<Fused<N>> as Node>⟧ ⟦<CentreNode<Fused<N>> as Node>⟧ bench_kinds) ⟦<Fused<N> as Nv>⟧ (bench_of bench.old) event.now (λ τ H. IfOk result (λ turn.
-        StepsOn (nodes ⟦<DeviceNode<Fused<N>> as Node>⟧ ⟦<CentreNode<Fused<N>> as Node>⟧ bench_kinds) ⟦<Fused<N> as Nv>⟧ N.Nv τ H event.now turn (bench_of bench.old) (bench_of bench.new))) }
-    ensures shown { N.tells → IfOk result (λ turn.
-        StepsByViews (nodes ⟦<DeviceNode<Fused<N>> as Node>⟧ ⟦<CentreNode<Fused<N>> as Node>⟧ bench_kinds) ⟦<Fused<N> as Nv>⟧ event.now turn (bench_of bench.old) (bench_of bench.new)) }
-    ensures always { IfOk result (λ turn.
-        StepsAlone (nodes ⟦<DeviceNode<Fused<N>> as Node>⟧ ⟦<CentreNode<Fused<N>> as Node>⟧ bench_kinds) ⟦<Fused<N> as Nv>⟧ fuse_in event.now turn (bench_of bench.old) (bench_of bench.new)) }
+    ensures did { IfOk result (λ turn. (text : List ℕ)
+        × Steps (nodes ⟦<DeviceNode<Fused<N>> as Node>⟧ ⟦<CentreNode<Fused<N>> as Node>⟧ ⟦<HostNode<Fused<N>> as Node>⟧ ⟦<VerifierNode<Fused<N>> as Node>⟧ bench_kinds) ⟦<Fused<N> as Nv>⟧ fuse_in N.Nv event.now text turn (bench_of bench.old) (bench_of bench.new) (outside R.Source rates.old P.Sink printer.old) (outside R.Source rates.new P.Sink printer.new)) }
+    ensures memory { OnErr result ((bench_of bench.new ≡ bench_of bench.old) × WantsMemory event.now (bench_of bench.old).day (outside R.Source rates.old P.Sink printer.old) (outside R.Source rates.new P.Sink printer.new)) }
 {
-    Ok(react(bench, event))
+    react(alloc, bench, event, rates, printer)
 }

@@ -1,4 +1,4 @@
-//! The bench: eight devices and the centre on their storages, and the events that change them.
+//! The bench: eight devices, the centre, the host and the verifier on their storages, and the events that change them.
 #![tactic(auto)]
 
 mod benches;
@@ -6,10 +6,14 @@ mod centre_calls;
 mod comparing;
 mod device_calls;
 mod event;
+mod host_calls;
+mod host_turns;
 mod places;
+mod rates;
 mod stores;
+mod verifier_calls;
+mod verifier_turns;
 
-pub use bench_views::is_taken;
 pub use benches::{Bench, BenchOver, MOST_MESSAGES};
 pub use event::{react, step};
 pub use node_turns::{Tell, Turn};

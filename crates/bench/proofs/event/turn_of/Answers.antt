@@ -1,7 +1,7 @@
 use Rattle.std.specs.Prelude.{slice_get, IfSome, ◌+◌, ◌-◌}
 use Rattle.std.proofs.Common.{◌≡◌, ◌↔◌, ℕ, List, [], ◌∷◌, Option, Some, None, true, false, refl, sym, ◌∙◌, ap, subst, arith}
 use Rattle.bench_base.specs.declared.words.Node.{Node}
-use Rattle.bench_base.specs.declared.words.Node.TheVariants.{Device, Centre}
+use Rattle.bench_base.specs.declared.words.Node.TheVariants.{Device, Centre, Host, Verifier}
 use Rattle.bench_base.specs.declared.ledger.Entry.TheVariants as entry
 use Rattle.bench_base.specs.declared.events.Event.{Event}
 use Rattle.bench_base.specs.declared.events.Event.TheVariants as ev
@@ -17,108 +17,130 @@ use Rattle.psd_state.specs.declared.record.DevRec.{DevRec}
 use Rattle.psd_device.specs.Boots.{IsOwn}
 use Rattle.psd_device.specs.declared.node.DeviceNode.{DeviceNode}
 use Rattle.psd_device.specs.contracts.kind.DeviceNodeNode.TheImpl as device
+use Rattle.psd_device.specs.NodeView as device_view
 use Rattle.centre_ledger.specs.declared.rows.Row.{Row}
 use Rattle.centre_protocol.specs.declared.node.CentreNode.{CentreNode}
 use Rattle.centre_protocol.specs.declared.room.CentreRoom.{CentreRoom}
 use Rattle.centre_protocol.specs.contracts.kind.CentreNodeNode.TheImpl as centre
+use Rattle.host_jobs.specs.declared.rows.JobRow.{JobRow}
+use Rattle.host_node.specs.declared.node.HostNode.{HostNode}
+use Rattle.host_node.specs.declared.room.HostRoom.{HostRoom}
+use Rattle.host_node.specs.contracts.kind.HostNodeNode.TheImpl as host
+use Rattle.verifier.specs.declared.acts.Change.{Change}
+use Rattle.verifier_node.specs.declared.node.VerifierNode.{VerifierNode}
+use Rattle.verifier_node.specs.declared.room.VerifierRoom.{VerifierRoom}
+use Rattle.verifier_node.specs.contracts.kind.VerifierNodeNode.TheImpl as verifier
 use Rattle.bench_views.specs.declared.taken.Taken.{Taken}
 use Rattle.bench_views.specs.declared.taken.Taken.TheVariants as take
-use Rattle.bench_views.specs.Devices as devices
-use Rattle.bench_views.specs.Centre.{IsKnown}
+use Rattle.bench_views.specs.Devices as device_kinds
+use Rattle.bench_views.specs.Centre as centres
+use Rattle.bench_views.specs.Host as hosts
+use Rattle.bench_views.specs.Verifier as verifiers
 use Rattle.bench_views.specs.Kinds.{bench_kinds}
-use Rattle.bench_views.specs.Taken.{taken}
 use Rattle.bench_views.specs.Comparing.{compare}
-use Rattle.bench_views.specs.Taken.{as_given}
-use Rattle.psd_device.specs.NodeView as device_view
-use Rattle.bench.specs.Benches.{Nodes, Bench, IsReady, nodes, bench_of}
-use Rattle.bench.specs.Calls.{dated, device_event, centre_event}
+use Rattle.bench_views.specs.Tariff.{Quote, quote}
+use Rattle.bench_views.specs.Taken.{taken, as_given, IsPriced}
+use Rattle.bench.specs.Benches.{Bench, Nodes, IsReady, nodes, bench_of, devices, centre as centre_of, host as host_of, verifier as verifier_of}
+use Rattle.bench.specs.Calls.{dated, device_event, centre_event, host_event, verifier_event}
 use Rattle.bench.specs.Comparing.{ShowsAt, running_device, running_centre}
+use Rattle.bench.specs.Outside.{Outside, outside}
 use Rattle.bench.specs.Steps.{Steps, ComparesViews, sending}
-use Rattle.bench.proofs.Answered.{as_sent, compare_answers, compare_off, compare_leaves, compare_same, steps_missing, steps_absent, steps_compared}
-use Rattle.bench.proofs.DeviceTurns as device_turns
-use Rattle.bench.proofs.CentreTurns as centre_turns
-use Rattle.bench.proofs.Events.{IsOfNode, given_alike, of_device, of_centre, device_given, centre_given, centre_ranged}
+use Rattle.bench.proofs.Answered.{Answers, quiet_is, steps_day, steps_end, steps_none, steps_missing, steps_compared}
+use Rattle.bench.proofs.AskedNodes.{device_asked, centre_asked, host_asked, verifier_asked}
+use Rattle.bench.proofs.Compares.{compare_answers, compare_off, compare_leaves, compare_same}
+use Rattle.bench.proofs.Events.{IsOfNode, given_alike, of_device, of_centre, of_host, of_verifier, device_given, centre_given, host_given, verifier_given, centre_ranged, host_ranged, verifier_ranged}
 use Rattle.bench.proofs.Making.{get_some}
-use Rattle.bench.proofs.Quiet.{Answers, steps_day, steps_end, steps_none, quiet_is}
+use Rattle.bench.proofs.NodeEvents.{steps}
+use Rattle.bench.proofs.OneTurn.{each_ok}
+use Rattle.bench.proofs.Quiet.{as_sent}
+use Rattle.bench.proofs.RatesTurns.{steps_rates}
 use Rattle.bench.proofs.event.turn_of.Given.{Over}
 use Rattle.bench.proofs.event.turn_of.Goals as goal
 
-abbrev nodes_in : (g : Over) → Nodes (DeviceNode g.row.M.Denot g.M.Nv) (CentreNode g.row.M.Denot g.M.Nv) g.row.M.Denot DevRec Row (Unit {0}) CentreRoom
-nodes_in g = nodes (device.ghosts g.row.M g.M.Fuse g.M.Fuse-dict g.M.Nv g.M.Nv-dict g.M.Destruct-dict) (centre.ghosts g.row.M g.M.Fuse g.M.Fuse-dict g.M.Nv g.M.Nv-dict g.M.Destruct-dict) bench_kinds
+abbrev nodes_in : (g : Over) → Nodes (DeviceNode g.row.M.Denot g.M.Nv) (CentreNode g.row.M.Denot g.M.Nv) (HostNode g.row.M.Denot g.M.Nv) (VerifierNode g.row.M.Denot g.M.Nv) g.row.M.Denot DevRec Row JobRow Change (Unit {0}) CentreRoom
+    HostRoom VerifierRoom
+nodes_in g = nodes (device.ghosts g.row.M g.M.Fuse g.M.Fuse-dict g.M.Nv g.M.Nv-dict g.M.Destruct-dict) (centre.ghosts g.row.M g.M.Fuse g.M.Fuse-dict g.M.Nv g.M.Nv-dict g.M.Destruct-dict)
+    (host.ghosts g.row.M g.M.Fuse g.M.Fuse-dict g.M.Nv g.M.Nv-dict g.M.Destruct-dict) (verifier.ghosts g.row.M g.M.Fuse g.M.Fuse-dict g.M.Nv g.M.Nv-dict g.M.Destruct-dict) bench_kinds
 
 module _ (g : Over) where
   abbrev B : Type 0
-  B = Bench (DeviceNode g.row.M.Denot g.M.Nv) (CentreNode g.row.M.Denot g.M.Nv)
+  B = Bench (DeviceNode g.row.M.Denot g.M.Nv) (CentreNode g.row.M.Denot g.M.Nv) (HostNode g.row.M.Denot g.M.Nv) (VerifierNode g.row.M.Denot g.M.Nv)
 
-  abbrev Stepped : Event → Turn → B → B → Type 0
-  Stepped e turn old new = Steps (nodes_in g) g.M.Nv g.M.Fuse g.N.Nv e turn old new
+  abbrev Stepped : Event → Turn → B → B → Outside → Type 0
+  Stepped e turn old new out = Steps (nodes_in g) g.M.Nv g.M.Fuse g.N.Nv e [] turn old new out out
 
   -- what the laws ask of a record
-  known_device : (k : ℕ) (s : (nodes_in g).devices.Seen) → (nodes_in g).devices.IsSound k s → devices.IsKnown s
+  known_device : (k : ℕ) (s : (nodes_in g).devices.Seen) → (nodes_in g).devices.IsSound k s → device_kinds.IsKnown s
   known_device k s sound = record { few = sound.few; holds = holds s.state sound.own }
     where
       holds : (o : Option State) → IfSome o (IsOwn k) → IfSome o Holds
       holds None own = tt
       holds (Some x) own = own.kept.holds
 
-  known_centre : (s : (nodes_in g).centre.Seen) → (nodes_in g).centre.IsSound tt s → IsKnown s
+  known_centre : (s : (nodes_in g).centre.Seen) → (nodes_in g).centre.IsSound tt s → centres.IsKnown s
   known_centre s sound = record { long = sound.long; few = λ k lt. sound.few k; sound = sound.books }
 
+  known_host : (s : (nodes_in g).host.Seen) → (nodes_in g).host.IsSound tt s → hosts.IsKnown s
+  known_host s sound = record { long = sound.long; few = sound.few; sound = sound.rows }
+
+  known_verifier : (s : (nodes_in g).verifier.Seen) → (nodes_in g).verifier.IsSound tt s → verifiers.IsKnown s
+  known_verifier s sound = record { sound = sound.rows; few = sound.few }
+
 -- what is taken
-module _ (g : Over) where
-  taken_as : (pool given : List (List ℕ)) (e : Event) (o : Option Taken) (x : Taken) → given ≡ pool → o ≡ taken given e → o ≡ Some x → taken pool e ≡ Some x
-  taken_as pool given e o x same is some = ap (λ (l : List (List ℕ)). taken l e) (sym same) ∙ sym is ∙ some
+taken_as : (pool given : List (List ℕ)) (q : Quote) (e : Event) (o : Option Taken) (x y : Taken) → given ≡ pool → o ≡ taken given q e → o ≡ Some x → x ≡ y → taken pool q e ≡ Some y
+taken_as pool given q e o x y same is some named = ap (λ (l : List (List ℕ)). taken l q e) (sym same) ∙ sym is ∙ some ∙ ap (λ z. Some z) named
 
 pub returns-in-Day-clause-did : goal.returns-in-Day-clause-did
 returns-in-Day-clause-did g c =
     let old = bench_of c.args.bench.now in
+    let out = outside g.R.Source c.args.rates.now g.P.Sink c.args.printer.now in
     let t = c.in-Day.day in
-    let is = taken_as g old.messages c.deref.result.now c.args.event.now c.take.result (take.Day t) c.deref.ensures.value c.take.ensures (c.in-Some.is ∙ ap (λ x. Some x) c.in-Day.is) in
-    let e_is : c.args.event.now ≡ ev.Day t = quiet_is old.messages c.args.event.now (take.Day t) is c.requires.taken in (
-      turn_of (r.Day t) (entry.Day t ∷ []),
+    let turn = turn_of (r.Day t) (entry.Day t ∷ []) in
+    let is = taken_as old.messages c.deref.result.now (quote old.rates) c.args.event.now c.take.result c.in-Some.taken (take.Day t) c.deref.ensures.value c.take.ensures.exact c.in-Some.is c.in-Day.is in
+    let e_is : c.args.event.now ≡ ev.Day t = quiet_is old.messages (quote old.rates) c.args.event.now (take.Day t) is tt in (
+      [],
+      turn,
       c.one.ensures,
-      as_sent (nodes_in g) g.M.Nv g.M.Fuse g.N.Nv c.args.event.now (turn_of (r.Day t) (entry.Day t ∷ [])) old (record old { day = Some t }) refl
-          (subst (λ (e : Event). Stepped g e (turn_of (r.Day t) (entry.Day t ∷ [])) old (record old { day = Some t })) (sym e_is)
-          (steps_day (nodes_in g) g.M.Nv g.M.Fuse g.N.Nv old c.requires.ready t (subst IsWholeEvent e_is c.requires.whole))),
+      refl,
+      as_sent (nodes_in g) g.M.Nv g.M.Fuse g.N.Nv c.args.event.now [] turn old (record old { day = Some t }) out out refl
+          (subst (λ (e : Event). Stepped g e turn old (record old { day = Some t }) out) (sym e_is)
+          (steps_day (nodes_in g) g.M.Nv g.M.Fuse g.N.Nv old c.requires.ready out t (subst IsWholeEvent e_is c.requires.whole))),
     )
 
 pub returns-in-End-clause-did : goal.returns-in-End-clause-did
 returns-in-End-clause-did g c =
     let old = bench_of c.args.bench.now in
-    let is = taken_as g old.messages c.deref.result.now c.args.event.now c.take.result take.End c.deref.ensures.value c.take.ensures (c.in-Some.is ∙ ap (λ x. Some x) c.in-End.is) in
-    let e_is : c.args.event.now ≡ ev.End = quiet_is old.messages c.args.event.now take.End is c.requires.taken in (
+    let out = outside g.R.Source c.args.rates.now g.P.Sink c.args.printer.now in
+    let is = taken_as old.messages c.deref.result.now (quote old.rates) c.args.event.now c.take.result c.in-Some.taken take.End c.deref.ensures.value c.take.ensures.exact c.in-Some.is c.in-End.is in
+    let e_is : c.args.event.now ≡ ev.End = quiet_is old.messages (quote old.rates) c.args.event.now take.End is tt in (
+      [],
       turn_of r.End [],
       c.silent.ensures,
-      as_sent (nodes_in g) g.M.Nv g.M.Fuse g.N.Nv c.args.event.now (turn_of r.End []) old old refl
-          (subst (λ (e : Event). Stepped g e (turn_of r.End []) old old) (sym e_is) (steps_end (nodes_in g) g.M.Nv g.M.Fuse g.N.Nv old c.requires.ready (subst IsWholeEvent e_is c.requires.whole))),
+      refl,
+      as_sent (nodes_in g) g.M.Nv g.M.Fuse g.N.Nv c.args.event.now [] (turn_of r.End []) old old out out refl
+          (subst (λ (e : Event). Stepped g e (turn_of r.End []) old old out) (sym e_is) (steps_end (nodes_in g) g.M.Nv g.M.Fuse g.N.Nv old c.requires.ready out (subst IsWholeEvent e_is c.requires.whole))),
     )
 
 -- == what the bench answers by what it sees ==
 
 -- by the reply of a day, or that there is none
-dated_as : (g : Over) (e : Event) (told reply : Reply) (old : B g) → told ≡ dated old.day reply → Stepped g e (turn_of (dated old.day reply) []) old old → Stepped g e (turn_of told []) old (sending (turn_of told []) old)
-dated_as g e told reply old is steps = as_sent (nodes_in g) g.M.Nv g.M.Fuse g.N.Nv e (turn_of told []) old old refl (subst (λ (x : Reply). Stepped g e (turn_of x []) old old) (sym is) steps)
+dated_as : (g : Over) (e : Event) (told reply : Reply) (old : B g) (out : Outside) → told ≡ dated old.day reply → Stepped g e (turn_of (dated old.day reply) []) old old out
+    → Stepped g e (turn_of told []) old (sending (turn_of told []) old) out
+dated_as g e told reply old out is steps =
+    as_sent (nodes_in g) g.M.Nv g.M.Fuse g.N.Nv e [] (turn_of told []) old old out out refl (subst (λ (x : Reply). Stepped g e (turn_of x []) old old out) (sym is) steps)
 
 pub returns-in-NoMessage-clause-did : goal.returns-in-NoMessage-clause-did
 returns-in-NoMessage-clause-did g c =
     let old = bench_of c.args.bench.now in
+    let out = outside g.R.Source c.args.rates.now g.P.Sink c.args.printer.now in
     let k = c.in-NoMessage.number in
-    let is = taken_as g old.messages c.deref.result.now c.args.event.now c.take.result (take.NoMessage k) c.deref.ensures.value c.take.ensures (c.in-Some.is ∙ ap (λ x. Some x) c.in-NoMessage.is) in (
+    let is = taken_as old.messages c.deref.result.now (quote old.rates) c.args.event.now c.take.result c.in-Some.taken (take.NoMessage k) c.deref.ensures.value c.take.ensures.exact c.in-Some.is c.in-NoMessage.is in (
+      [],
       turn_of c.on_day.result [],
       c.silent-in-NoMessage.ensures,
-      dated_as g c.args.event.now c.on_day.result (r.NoMessage k) old c.on_day.ensures
-          (steps_missing (nodes_in g) g.M.Nv g.M.Fuse g.N.Nv old c.requires.ready IsKnown (known_centre g) c.nodes_follow.ensures.quiet c.args.event.now c.requires.whole c.requires.taken k is),
-    )
-
-pub returns-in-Absent-clause-did : goal.returns-in-Absent-clause-did
-returns-in-Absent-clause-did g c =
-    let old = bench_of c.args.bench.now in
-    let m = c.in-Absent.node in
-    let is = taken_as g old.messages c.deref.result.now c.args.event.now c.take.result (take.Absent m) c.deref.ensures.value c.take.ensures (c.in-Some.is ∙ ap (λ x. Some x) c.in-Absent.is) in (
-      turn_of c.on_day-in-Absent.result [],
-      c.silent-in-Absent.ensures,
-      dated_as g c.args.event.now c.on_day-in-Absent.result (r.OffNode m) old c.on_day-in-Absent.ensures
-          (steps_absent (nodes_in g) g.M.Nv g.M.Fuse g.N.Nv old c.requires.ready IsKnown (known_centre g) c.nodes_follow.ensures.quiet c.args.event.now c.requires.whole c.requires.taken m is),
+      refl,
+      dated_as g c.args.event.now c.on_day.result (r.NoMessage k) old out c.on_day.ensures
+          (steps_missing (nodes_in g) g.M.Nv g.M.Fuse g.N.Nv old c.requires.ready out centres.IsKnown (known_centre g) c.nodes_follow.ensures.quiet c.prices_by_text.ensures.kept c.args.event.now c.requires.whole k is),
     )
 
 -- what a device and the centre show, as they run, is what any two views show for which they stand
@@ -130,83 +152,225 @@ compares g d reply old shows i s next is v w device centre tells =
 pub returns-in-Reconcile-clause-did : goal.returns-in-Reconcile-clause-did
 returns-in-Reconcile-clause-did g c =
     let old = bench_of c.args.bench.now in
+    let out = outside g.R.Source c.args.rates.now g.P.Sink c.args.printer.now in
     let d = c.in-Reconcile.device in
-    let is = taken_as g old.messages c.deref.result.now c.args.event.now c.take.result (take.Reconcile d) c.deref.ensures.value c.take.ensures (c.in-Some.is ∙ ap (λ x. Some x) c.in-Reconcile.is) in
+    let is = taken_as old.messages c.deref.result.now (quote old.rates) c.args.event.now c.take.result c.in-Some.taken (take.Reconcile d) c.deref.ensures.value c.take.ensures.exact c.in-Some.is c.in-Reconcile.is in
     let shows : ShowsAt d old.devices old.centre c.compare.result =
     subst (λ (l : List (DeviceNode g.row.M.Denot g.M.Nv)). ShowsAt d l old.centre c.compare.result) c.deref-in-Reconcile.ensures.value c.compare.ensures in
-    let e_is : c.args.event.now ≡ ev.Reconcile d = quiet_is old.messages c.args.event.now (take.Reconcile d) is c.requires.taken in
+    let e_is : c.args.event.now ≡ ev.Reconcile d = quiet_is old.messages (quote old.rates) c.args.event.now (take.Reconcile d) is tt in
     let own = subst IsWholeEvent e_is c.requires.whole in
     let s = get_some old.devices (d - 1) (omega (arith, own.0, own.1, c.requires.ready.eight)) in
     let one : c.compare.result ≡ compare d (running_device s.0) (running_centre old.centre) = shows (d - 1) s.0 (omega (arith, own.0)) s.1 in (
+      [],
       turn_of c.on_day-in-Reconcile.result [],
       c.silent-in-Reconcile.ensures,
-      dated_as g c.args.event.now c.on_day-in-Reconcile.result c.compare.result old c.on_day-in-Reconcile.ensures
-          (steps_compared (nodes_in g) g.M.Nv g.M.Fuse g.N.Nv old c.requires.ready IsKnown (known_centre g) c.nodes_follow.ensures.quiet c.args.event.now c.requires.whole c.requires.taken d c.compare.result is
+      refl,
+      dated_as g c.args.event.now c.on_day-in-Reconcile.result c.compare.result old out c.on_day-in-Reconcile.ensures
+          (steps_compared (nodes_in g) g.M.Nv g.M.Fuse g.N.Nv old c.requires.ready out centres.IsKnown (known_centre g) c.nodes_follow.ensures.quiet c.prices_by_text.ensures.kept c.args.event.now c.requires.whole d
+          c.compare.result is
           (subst (λ (x : Reply). Answers (ev.Reconcile d) x) (sym one) (compare_answers d (running_device s.0) (running_centre old.centre)))
           (λ was. subst (λ (x : Reply). was ≡ on_after x was) (sym one) (compare_leaves d (running_device s.0) (running_centre old.centre) was))
           (λ i u next was. subst (λ (x : Reply). (x ≡ r.OffNode (Device d)) ↔ (device_view.is_on u ≡ false)) (sym (shows i u next was)) (compare_off d (running_device u) (running_centre old.centre)))
           (compares g d c.compare.result old shows)),
     )
 
--- == a node ==
+-- == without a day ==
 
--- what it needs
+-- an event of a node needs one
 needs : (pool : List (List ℕ)) (e x : Event) (m : Node) → as_given pool e ≡ x → IsOfNode m x → needs_day e ≡ true
 needs pool e x m given of = (given_alike pool e).day ∙ ap needs_day given ∙ of.dated
 
-none_told : (g : Over) (e : Event) (old : B g) → IsReady old → IsWholeEvent e → needs_day e ≡ true → old.day ≡ None → Stepped g e (turn_of r.NoDay []) old (sending (turn_of r.NoDay []) old)
-none_told g e old ready whole needs none = as_sent (nodes_in g) g.M.Nv g.M.Fuse g.N.Nv e (turn_of r.NoDay []) old old refl (steps_none (nodes_in g) g.M.Nv g.M.Fuse g.N.Nv old ready e whole needs none)
+none_told : (g : Over) (e : Event) (x : Taken) (old : B g) (out : Outside) → IsReady old → IsWholeEvent e → needs_day e ≡ true → taken old.messages (quote old.rates) e ≡ Some x → old.day ≡ None
+    → Stepped g e (turn_of r.NoDay []) old (sending (turn_of r.NoDay []) old) out
+none_told g e x old out ready whole needs is none = as_sent (nodes_in g) g.M.Nv g.M.Fuse g.N.Nv e [] (turn_of r.NoDay []) old old out out refl (steps_none (nodes_in g) g.M.Nv g.M.Fuse g.N.Nv old ready out e x whole needs is none)
 
 pub returns-in-None-clause-did : goal.returns-in-None-clause-did
 returns-in-None-clause-did g c =
-    let b = c.in-Device in
     let old = bench_of c.args.bench.now in
-    let is = taken_as g old.messages c.deref.result.now c.args.event.now c.take.result (take.Device b.device b.asked) c.deref.ensures.value c.take.ensures (c.in-Some.is ∙ ap (λ x. Some x) b.is) in (
+    let out = outside g.R.Source c.args.rates.now g.P.Sink c.args.printer.now in
+    let is = taken_as old.messages c.deref.result.now (quote old.rates) c.args.event.now c.take.result c.in-Some.taken take.Rates c.deref.ensures.value c.take.ensures.exact c.in-Some.is c.in-Rates.is in
+    let e_is : c.args.event.now ≡ ev.Rates = quiet_is old.messages (quote old.rates) c.args.event.now take.Rates is tt in (
+      [],
       turn_of r.NoDay [],
       c.silent-in-None.ensures,
-      none_told g c.args.event.now old c.requires.ready c.requires.whole
-          (needs old.messages c.args.event.now (device_event b.device b.asked) (Device b.device) (device_given old.messages c.args.event.now b.device b.asked is) (of_device b.device b.asked)) c.in-None.is,
+      refl,
+      none_told g c.args.event.now take.Rates old out c.requires.ready c.requires.whole (ap needs_day e_is) is c.in-None.is,
     )
 
-pub returns-in-Some-today-clause-did : goal.returns-in-Some-today-clause-did
-returns-in-Some-today-clause-did g c =
+pub returns-in-None-today-clause-did : goal.returns-in-None-today-clause-did
+returns-in-None-today-clause-did g c =
     let b = c.in-Device in
     let old = bench_of c.args.bench.now in
-    let at = c.device_turn.ensures.did in
-    let is = taken_as g old.messages c.deref.result.now c.args.event.now c.take.result (take.Device b.device b.asked) c.deref.ensures.value c.take.ensures (c.in-Some.is ∙ ap (λ x. Some x) b.is) in
-    let new = sending at.0 (record old { devices = c.device_turn.new.devices.items }) in (
-      at.0,
-      at.1,
-      device_turns.steps (nodes_in g) g.M.Nv g.M.Fuse c.args.event.now b.device c.in-Some-today.day b.asked old new at.0 at.2 c.in-Some-today.is refl refl refl is g.N.Nv
-          c.requires.whole c.requires.ready devices.IsKnown (known_device g) c.nodes_follow.ensures.devices,
+    let out = outside g.R.Source c.args.rates.now g.P.Sink c.args.printer.now in
+    let is = taken_as old.messages c.deref.result.now (quote old.rates) c.args.event.now c.take.result c.in-Some.taken (take.Device b.device b.asked) c.deref.ensures.value c.take.ensures.exact c.in-Some.is b.is in (
+      [],
+      turn_of r.NoDay [],
+      c.silent-in-None-today.ensures,
+      refl,
+      none_told g c.args.event.now (take.Device b.device b.asked) old out c.requires.ready c.requires.whole
+          (needs old.messages c.args.event.now (device_event b.device b.asked) (Device b.device) (device_given old.messages (quote old.rates) c.args.event.now b.device b.asked is) (of_device b.device b.asked)) is
+          c.in-None-today.is,
+    )
+
+pub returns-in-None-today-2-clause-did : goal.returns-in-None-today-2-clause-did
+returns-in-None-today-2-clause-did g c =
+    let b = c.in-Centre in
+    let old = bench_of c.args.bench.now in
+    let out = outside g.R.Source c.args.rates.now g.P.Sink c.args.printer.now in
+    let is = taken_as old.messages c.deref.result.now (quote old.rates) c.args.event.now c.take.result c.in-Some.taken (take.Centre b.asked) c.deref.ensures.value c.take.ensures.exact c.in-Some.is b.is in (
+      [],
+      turn_of r.NoDay [],
+      c.silent-in-None-today-2.ensures,
+      refl,
+      none_told g c.args.event.now (take.Centre b.asked) old out c.requires.ready c.requires.whole
+          (needs old.messages c.args.event.now (centre_event b.asked) Centre (centre_given old.messages (quote old.rates) c.args.event.now b.asked is) (of_centre b.asked)) is c.in-None-today-2.is,
+    )
+
+pub returns-in-None-today-3-clause-did : goal.returns-in-None-today-3-clause-did
+returns-in-None-today-3-clause-did g c =
+    let b = c.in-Host in
+    let old = bench_of c.args.bench.now in
+    let out = outside g.R.Source c.args.rates.now g.P.Sink c.args.printer.now in
+    let is = taken_as old.messages c.deref.result.now (quote old.rates) c.args.event.now c.take.result c.in-Some.taken (take.Host b.asked) c.deref.ensures.value c.take.ensures.exact c.in-Some.is b.is in (
+      [],
+      turn_of r.NoDay [],
+      c.silent-in-None-today-3.ensures,
+      refl,
+      none_told g c.args.event.now (take.Host b.asked) old out c.requires.ready c.requires.whole
+          (needs old.messages c.args.event.now (host_event b.asked) Host (host_given old.messages (quote old.rates) c.args.event.now b.asked is) (of_host b.asked)) is c.in-None-today-3.is,
+    )
+
+pub returns-in-None-today-4-clause-did : goal.returns-in-None-today-4-clause-did
+returns-in-None-today-4-clause-did g c =
+    let b = c.in-Verifier in
+    let old = bench_of c.args.bench.now in
+    let out = outside g.R.Source c.args.rates.now g.P.Sink c.args.printer.now in
+    let is = taken_as old.messages c.deref.result.now (quote old.rates) c.args.event.now c.take.result c.in-Some.taken (take.Verifier b.asked) c.deref.ensures.value c.take.ensures.exact c.in-Some.is b.is in (
+      [],
+      turn_of r.NoDay [],
+      c.silent-in-None-today-4.ensures,
+      refl,
+      none_told g c.args.event.now (take.Verifier b.asked) old out c.requires.ready c.requires.whole
+          (needs old.messages c.args.event.now (verifier_event b.asked) Verifier (verifier_given old.messages (quote old.rates) c.args.event.now b.asked is) (of_verifier b.asked)) is c.in-None-today-4.is,
+    )
+
+-- == on a day ==
+
+pub returns-in-Some-today-2-clause-did : goal.returns-in-Some-today-2-clause-did
+returns-in-Some-today-2-clause-did g c =
+    let b = c.in-Device in
+    let e = c.args.event.now in
+    let old = bench_of c.args.bench.now in
+    let out = outside g.R.Source c.args.rates.now g.P.Sink c.args.printer.now in
+    let did = c.device_turn.ensures.did in
+    let today = c.in-Some-today-2.day in
+    let is = taken_as old.messages c.deref.result.now (quote old.rates) e c.take.result c.in-Some.taken (take.Device b.device b.asked) c.deref.ensures.value c.take.ensures.exact c.in-Some.is b.is in
+    let new = sending did.0 (record old { devices = c.device_turn.new.devices.items }) in (
+      [],
+      did.0,
+      did.1,
+      refl,
+      steps (nodes_in g) g.M.Nv g.M.Fuse e (device_event b.device b.asked) today old new did.0 out out (Device b.device) (devices (nodes_in g)) b.device b.asked did.2.before did.2.now (take.Device b.device)
+          (device_asked (nodes_in g) g.M.Nv g.M.Fuse e today old new did.0 out out c.in-Some-today-2.is refl refl refl refl b.device b.asked did.2 refl refl refl refl is) g.N.Nv
+          c.requires.whole c.requires.ready c.prices_by_text.ensures.kept (λ asked. Unit {0}) tt device_kinds.IsKnown (known_device g b.device) (c.nodes_follow.ensures.devices b.device),
     )
 
 pub centre_turn-requires : goal.centre_turn-requires
 centre_turn-requires g c =
     let old = bench_of c.args.bench.now in
-    let is = taken_as g old.messages c.deref.result.now c.args.event.now c.take.result (take.Centre c.in-Centre.asked) c.deref.ensures.value c.take.ensures (c.in-Some.is ∙ ap (λ x. Some x) c.in-Centre.is) in
-    record { ranged = centre_ranged old.messages c.args.event.now c.in-Centre.asked is c.requires.whole }
-
-pub returns-in-None-today-clause-did : goal.returns-in-None-today-clause-did
-returns-in-None-today-clause-did g c =
     let b = c.in-Centre in
+    let is = taken_as old.messages c.deref.result.now (quote old.rates) c.args.event.now c.take.result c.in-Some.taken (take.Centre b.asked) c.deref.ensures.value c.take.ensures.exact c.in-Some.is b.is in
+    record { ranged = centre_ranged old.messages (quote old.rates) c.args.event.now b.asked is c.requires.whole }
+
+pub returns-in-Some-today-3-clause-did : goal.returns-in-Some-today-3-clause-did
+returns-in-Some-today-3-clause-did g c =
+    let b = c.in-Centre in
+    let e = c.args.event.now in
     let old = bench_of c.args.bench.now in
-    let is = taken_as g old.messages c.deref.result.now c.args.event.now c.take.result (take.Centre b.asked) c.deref.ensures.value c.take.ensures (c.in-Some.is ∙ ap (λ x. Some x) b.is) in (
-      turn_of r.NoDay [],
-      c.silent-in-None-today.ensures,
-      none_told g c.args.event.now old c.requires.ready c.requires.whole
-          (needs old.messages c.args.event.now (centre_event b.asked) Centre (centre_given old.messages c.args.event.now b.asked is) (of_centre b.asked)) c.in-None-today.is,
+    let out = outside g.R.Source c.args.rates.now g.P.Sink c.args.printer.now in
+    let did = c.centre_turn.ensures.did in
+    let today = c.in-Some-today-3.day in
+    let is = taken_as old.messages c.deref.result.now (quote old.rates) e c.take.result c.in-Some.taken (take.Centre b.asked) c.deref.ensures.value c.take.ensures.exact c.in-Some.is b.is in
+    let new = sending did.0 (record old { centre = c.centre_turn.new.place }) in (
+      [],
+      did.0,
+      did.1,
+      refl,
+      steps (nodes_in g) g.M.Nv g.M.Fuse e (centre_event b.asked) today old new did.0 out out Centre (centre_of (nodes_in g)) tt b.asked old.centre new.centre take.Centre
+          (centre_asked (nodes_in g) g.M.Nv g.M.Fuse e today old new did.0 out out c.in-Some-today-3.is refl refl refl refl b.asked did.2 refl refl refl refl is) g.N.Nv
+          c.requires.whole c.requires.ready c.prices_by_text.ensures.kept centres.AreBytes c.centre_turn.ensures.bytes centres.IsKnown (known_centre g) c.nodes_follow.ensures.centre,
     )
 
-pub returns-in-Some-today-2-clause-did : goal.returns-in-Some-today-2-clause-did
-returns-in-Some-today-2-clause-did g c =
-    let b = c.in-Centre in
+pub host_turn-requires : goal.host_turn-requires
+host_turn-requires g c =
     let old = bench_of c.args.bench.now in
-    let at = c.centre_turn.ensures.did in
-    let is = taken_as g old.messages c.deref.result.now c.args.event.now c.take.result (take.Centre b.asked) c.deref.ensures.value c.take.ensures (c.in-Some.is ∙ ap (λ x. Some x) b.is) in
-    let new = sending at.0 (record old { centre = c.centre_turn.new.place }) in (
-      at.0,
-      at.1,
-      centre_turns.steps (nodes_in g) g.M.Nv g.M.Fuse c.args.event.now c.in-Some-today-2.day b.asked old new at.0 at.2 c.in-Some-today-2.is refl refl refl is g.N.Nv
-          c.requires.whole c.requires.ready c.centre_turn.ensures.bytes IsKnown (known_centre g) c.nodes_follow.ensures.centre,
+    let b = c.in-Host in
+    let is = taken_as old.messages c.deref.result.now (quote old.rates) c.args.event.now c.take.result c.in-Some.taken (take.Host b.asked) c.deref.ensures.value c.take.ensures.exact c.in-Some.is b.is in
+    let priced = subst (λ (o : Option Taken). IfSome o IsPriced) (c.in-Some.is ∙ ap (λ x. Some x) b.is) c.take.ensures.priced in
+    record { ranged = host_ranged old.messages (quote old.rates) c.args.event.now b.asked is c.requires.whole priced }
+
+pub returns-in-Some-today-4-clause-did : goal.returns-in-Some-today-4-clause-did
+returns-in-Some-today-4-clause-did g c =
+    let b = c.in-Host in
+    let e = c.args.event.now in
+    let old = bench_of c.args.bench.now in
+    let before = outside g.R.Source c.args.rates.now g.P.Sink c.args.printer.now in
+    let now = outside g.R.Source c.args.rates.now g.P.Sink c.host_turn.new.printer in
+    let did = c.host_turn.ensures.did in
+    let today = c.in-Some-today-4.day in
+    let is = taken_as old.messages c.deref.result.now (quote old.rates) e c.take.result c.in-Some.taken (take.Host b.asked) c.deref.ensures.value c.take.ensures.exact c.in-Some.is b.is in
+    let new = sending did.0 (record old { host = c.host_turn.new.place }) in (
+      [],
+      did.0,
+      did.1,
+      refl,
+      steps (nodes_in g) g.M.Nv g.M.Fuse e (host_event b.asked) today old new did.0 before now Host (host_of (nodes_in g)) tt b.asked old.host new.host take.Host
+          (host_asked (nodes_in g) g.M.Nv g.M.Fuse e today old new did.0 before now c.in-Some-today-4.is refl refl refl refl b.asked did.2 did.3 refl refl refl is) g.N.Nv
+          c.requires.whole c.requires.ready c.prices_by_text.ensures.kept (λ asked. Unit {0}) tt hosts.IsKnown (known_host g) c.host_follows.ensures,
     )
+
+pub verifier_turn-requires : goal.verifier_turn-requires
+verifier_turn-requires g c =
+    let old = bench_of c.args.bench.now in
+    let b = c.in-Verifier in
+    let is = taken_as old.messages c.deref.result.now (quote old.rates) c.args.event.now c.take.result c.in-Some.taken (take.Verifier b.asked) c.deref.ensures.value c.take.ensures.exact c.in-Some.is b.is in
+    record { ranged = verifier_ranged old.messages (quote old.rates) c.args.event.now b.asked is c.requires.whole }
+
+pub returns-in-Some-today-5-clause-did : goal.returns-in-Some-today-5-clause-did
+returns-in-Some-today-5-clause-did g c =
+    let b = c.in-Verifier in
+    let e = c.args.event.now in
+    let old = bench_of c.args.bench.now in
+    let out = outside g.R.Source c.args.rates.now g.P.Sink c.args.printer.now in
+    let did = c.verifier_turn.ensures.did in
+    let today = c.in-Some-today-5.day in
+    let is = taken_as old.messages c.deref.result.now (quote old.rates) e c.take.result c.in-Some.taken (take.Verifier b.asked) c.deref.ensures.value c.take.ensures.exact c.in-Some.is b.is in
+    let new = sending did.0 (record old { verifier = c.verifier_turn.new.place }) in (
+      [],
+      did.0,
+      did.1,
+      refl,
+      steps (nodes_in g) g.M.Nv g.M.Fuse e (verifier_event b.asked) today old new did.0 out out Verifier (verifier_of (nodes_in g)) tt b.asked old.verifier new.verifier take.Verifier
+          (verifier_asked (nodes_in g) g.M.Nv g.M.Fuse e today old new did.0 out out c.in-Some-today-5.is refl refl refl refl b.asked did.2 refl refl refl refl is) g.N.Nv
+          c.requires.whole c.requires.ready c.prices_by_text.ensures.kept verifiers.AreBytes c.verifier_turn.ensures.bytes verifiers.IsKnown (known_verifier g) c.verifier_follows.ensures,
+    )
+
+-- == rates ==
+
+pub returns-in-Some-today-clause-did : goal.returns-in-Some-today-clause-did
+returns-in-Some-today-clause-did g c =
+    let e = c.args.event.now in
+    let old = bench_of c.args.bench.now in
+    let before = outside g.R.Source c.args.rates.now g.P.Sink c.args.printer.now in
+    let now = outside g.R.Source c.read_turn.new.source g.P.Sink c.args.printer.now in
+    let kept = c.read_turn.new.kept in
+    let is = taken_as old.messages c.deref.result.now (quote old.rates) e c.take.result c.in-Some.taken take.Rates c.deref.ensures.value c.take.ensures.exact c.in-Some.is c.in-Rates.is in
+    let e_is : e ≡ ev.Rates = quiet_is old.messages (quote old.rates) e take.Rates is tt in
+    each_ok _ _ (λ told did. (
+      did.0,
+      did.1,
+      did.2,
+      refl,
+      subst (λ (x : Event). Steps (nodes_in g) g.M.Nv g.M.Fuse g.N.Nv x did.0 did.1 old (sending did.1 (record old { rates = kept })) before now) (sym e_is)
+          (steps_rates (nodes_in g) g.M.Nv g.M.Fuse g.N.Nv did.0 did.1 c.in-Some-today.field-0 old kept before now c.requires.ready c.in-Some-today.is refl c.read_turn.ensures.later did.3),
+    )) c.read_turn.result c.read_turn.ensures.ok

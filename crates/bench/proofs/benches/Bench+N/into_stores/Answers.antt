@@ -31,8 +31,12 @@ pub returns-clause-inside : goal.returns-clause-inside
 returns-clause-inside g c = record {
   devices = moved_done (λ s nv. IsInDevice {h = g.N.Nv} {g = ghosts g.row.N g.N.Nv g.N.Nv-dict} s nv) c.loop.counter c.args.self.devices.items c.loop.devices.items c.loop.stores.items c.reverse.new.self.items c.loop.invariant.moved (omega (arith, c.loop-test.false, c.loop.invariant.few, c.requires.ready.eight)) c.reverse.ensures.items;
   centre = c.centre_storage.ensures.inside;
+  host = c.host_storage.ensures.inside;
+  verifier = c.verifier_storage.ensures.inside;
 }
 
 pub returns-clause-stands : goal.returns-clause-stands
-returns-clause-stands g c H stands =
-    inside_stands (ghosts g.row.N g.N.Nv g.N.Nv-dict) _ (λ f. refl) (λ f. refl) (λ k. refl) (λ k. refl) (λ k. refl) (λ k. refl) (λ t. t) _ _ H c.requires.ready (returns-clause-inside g c) stands
+returns-clause-stands g c L stands =
+    let within = returns-clause-inside g c in
+    inside_stands (ghosts g.row.N g.N.Nv g.N.Nv-dict) (λ f. refl) (λ f. refl) _ (λ t. t) _ _ L
+    (record { devices = within.devices; centre = within.centre; host = within.host; verifier = within.verifier }) stands

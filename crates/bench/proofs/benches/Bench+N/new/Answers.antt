@@ -1,25 +1,46 @@
-use Rattle.std.proofs.Common.{[], None, replicate, true, false, ◌≡◌, length, refl, arith, subst, sym, ◌∙◌}
+use Rattle.std.proofs.Common.{[], None, suc, replicate, true, false, ◌≡◌, length, refl, arith, subst, sym, ◌∙◌}
+use Rattle.bench_base.specs.declared.words.Node.TheVariants.{Device, Centre, Host, Verifier}
+use Rattle.bench_base.specs.declared.sizes.TheConstants.{RECORD_BYTES, SLOTS, DEVICE_BYTES, ROW_BYTES, CENTRE_CELLS, CENTRE_BYTES, BLOCK_BYTES, VERIFIER_CELLS, VERIFIER_BYTES}
 use Rattle.nv_model.specs.contracts.fused.FusedNv.TheImpl.{ghosts}
 use Rattle.psd_device.specs.Knows.{shown_as}
+use Rattle.centre_protocol.specs.Payloads as centre
+use Rattle.host_jobs.specs.declared.sizes.TheConstants.{JOB_BYTES, HOST_CELLS, HOST_BYTES}
+use Rattle.host_node.specs.Payloads as host
+use Rattle.verifier.specs.Payload as verifier
+use Rattle.verifier.proofs.LawActs.{follows}
+use Rattle.bench_views.specs.Centre.{seen_in}
+use Rattle.host_jobs.specs.Records as jobs
+use Rattle.verifier.specs.Records as scans
 use Rattle.bench.specs.Places.{IsDeviceOver}
 use Rattle.bench.proofs.Making.{Moved, moved_start, moved_more, moved_some, moved_done, moved_from, moved_none, pairs_length}
-use Rattle.bench.proofs.Blank.{blank_stand, zeros_show}
-use Rattle.bench.proofs.BlankCentre.{centre_sound, centre_shown}
+use Rattle.bench.proofs.Blank.{blank_stand, blank_shown, zeros_show}
+use Rattle.bench.proofs.BlankCentre.{centre_nothing, centre_sound}
+use Rattle.bench.proofs.BlankHost.{host_nothing, host_sound}
+use Rattle.bench.proofs.BlankVerifier.{verifier_sound}
 use Rattle.bench.proofs.Over.{over_stands}
 use Rattle.bench.proofs.benches.Bench+N.new.Goals as goal
 
 pub loop-init : goal.loop-init
 loop-init g c = record {
   few = omega arith;
-  moved = subst (λ made. Moved (λ nv s. IsDeviceOver {h = g.N.Nv} {g = ghosts g.row.N g.N.Nv g.N.Nv-dict} nv s) 0 c.args.stores.devices.items c.args.stores.devices.items made) (sym c.in-Ok.ensures.items) (moved_start (λ nv s. IsDeviceOver {h = g.N.Nv} {g = ghosts g.row.N g.N.Nv g.N.Nv-dict} nv s) c.args.stores.devices.items);
-  room = c.in-Ok.ensures.capacity;
+  moved = subst (λ made. Moved (λ nv s. IsDeviceOver {h = g.N.Nv} {g = ghosts g.row.N g.N.Nv g.N.Nv-dict} nv s) 0 c.args.stores.devices.items c.args.stores.devices.items made) (sym c.in-Ok-with_capacity.ensures.items) (moved_start (λ nv s. IsDeviceOver {h = g.N.Nv} {g = ghosts g.row.N g.N.Nv g.N.Nv-dict} nv s) c.args.stores.devices.items);
+  room = c.in-Ok-with_capacity.ensures.capacity;
   spare = refl;
 }
 
 pub device_over-requires : goal.device_over-requires
 device_over-requires g c = record {
-  fresh = c.requires.fresh (length c.pop.new.self.items) c.in-Some.nv (moved_from (λ nv s. IsDeviceOver {h = g.N.Nv} {g = ghosts g.row.N g.N.Nv g.N.Nv-dict} nv s) c.loop.counter c.args.stores.devices.items c.loop.spare.items c.pop.new.self.items c.loop.devices.items c.in-Some.nv c.loop.invariant.moved c.in-Some.ensures.items);
+  fresh = c.requires.fresh (Device (suc (length c.pop.new.self.items))) c.in-Some.nv (moved_from (λ nv s. IsDeviceOver {h = g.N.Nv} {g = ghosts g.row.N g.N.Nv g.N.Nv-dict} nv s) c.loop.counter c.args.stores.devices.items c.loop.spare.items c.pop.new.self.items c.loop.devices.items c.in-Some.nv c.loop.invariant.moved c.in-Some.ensures.items);
 }
+
+pub centre_over-requires : goal.centre_over-requires
+centre_over-requires g c = record { fresh = c.requires.fresh Centre c.args.stores.centre refl }
+
+pub host_over-requires : goal.host_over-requires
+host_over-requires g c = record { fresh = c.requires.fresh Host c.args.stores.host refl }
+
+pub verifier_over-requires : goal.verifier_over-requires
+verifier_over-requires g c = record { fresh = c.requires.fresh Verifier c.args.stores.verifier refl }
 
 pub unreachable-requires-in-None : goal.unreachable-requires-in-None
 unreachable-requires-in-None g c =
@@ -37,7 +58,7 @@ loop-preserved g c = record {
 
 pub invariant_of-result : goal.invariant_of-result
 invariant_of-result g c = record {
-  room = c.in-Ok-with_capacity.ensures.capacity;
+  room = c.in-Ok-with_capacity-2.ensures.capacity;
   roomy = omega (arith, c.loop.invariant.spare, c.requires.eight, c.args.stores.devices.ok.0, c.args.stores.devices.ok.1);
   empty = moved_none (λ nv s. IsDeviceOver {h = g.N.Nv} {g = ghosts g.row.N g.N.Nv g.N.Nv-dict} nv s) c.loop.counter c.args.stores.devices.items c.loop.spare.items c.loop.devices.items c.loop.invariant.moved (omega (arith, c.loop-test.false, c.loop.invariant.few, c.requires.eight));
 }
@@ -46,6 +67,8 @@ pub returns-clause-over : goal.returns-clause-over
 returns-clause-over g c = record {
   devices = moved_done (λ nv s. IsDeviceOver {h = g.N.Nv} {g = ghosts g.row.N g.N.Nv g.N.Nv-dict} nv s) c.loop.counter c.args.stores.devices.items c.loop.spare.items c.loop.devices.items c.reverse.new.self.items c.loop.invariant.moved (omega (arith, c.loop-test.false, c.loop.invariant.few, c.requires.eight)) c.reverse.ensures.items;
   centre = c.centre_over.ensures.over;
+  host = c.host_over.ensures.over;
+  verifier = c.verifier_over.ensures.over;
 }
 
 pub returns-clause-ready : goal.returns-clause-ready
@@ -54,11 +77,20 @@ returns-clause-ready g c = record {
 }
 
 pub returns-clause-stands : goal.returns-clause-stands
-returns-clause-stands g c H stands =
-    over_stands (ghosts g.row.N g.N.Nv g.N.Nv-dict) _ (λ f. refl) (λ f. refl) (λ k. refl) (λ k. refl) (λ k. refl) (λ k. refl) (λ t. t) _ _ H refl c.in-Ok-with_capacity.ensures.items (returns-clause-over g c) stands
+returns-clause-stands g c L stands =
+    let over = returns-clause-over g c in
+    over_stands (ghosts g.row.N g.N.Nv g.N.Nv-dict) (λ f. refl) (λ f. refl) _ (λ t. t) _ _ L refl c.in-Ok-with_capacity-2.ensures.items refl
+    (record { devices = over.devices; centre = over.centre; host = over.host; verifier = over.verifier }) stands
 
 pub returns-clause-blank : goal.returns-clause-blank
 returns-clause-blank g c blank =
-    returns-clause-stands g c [] (blank_stand _ g.N.Nv _ refl refl
-    (λ d. record { few = omega arith; blank = (λ e. refl, λ e. refl); own = tt }) (λ d. shown_as 0 None None (replicate 3424 0) refl (zeros_show 209 16 1 3424))
-    centre_sound centre_shown blank)
+    returns-clause-stands g c [] (blank_stand _ g.N.Nv _
+    (λ d. record {
+      size = refl;
+      sound = record { few = omega arith; blank = (λ e. refl, λ e. refl); own = tt };
+      shown = shown_as 0 None None (replicate DEVICE_BYTES 0) refl (zeros_show RECORD_BYTES SLOTS 1 DEVICE_BYTES);
+    })
+    (record { size = refl; sound = centre_sound; shown = blank_shown (seen_in []) centre_nothing ROW_BYTES CENTRE_CELLS CENTRE_BYTES centre.IsPayloadOf })
+    (record { size = refl; sound = host_sound; shown = blank_shown (jobs.seen_after []) host_nothing JOB_BYTES HOST_CELLS HOST_BYTES host.IsPayloadOf })
+    (record { size = refl; sound = verifier_sound; shown = blank_shown (scans.seen_after []) follows.none BLOCK_BYTES VERIFIER_CELLS VERIFIER_BYTES verifier.IsPayloadOf })
+    blank)

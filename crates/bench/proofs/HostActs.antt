@@ -1,0 +1,201 @@
+-- The acts of the host's calls: what they change, how they are told, and what is printed of them.
+use Rattle.std.proofs.Common.{◌≢◌, ℕ, ℤ, List, Bool, true, false, Option, Some, None, Result, Ok, Err, refl, inr, ap, subst, arith}
+use Rattle.bench_base.specs.declared.words.Node.{Node}
+use Rattle.bench_base.specs.declared.words.Node.TheVariants.{Host}
+use Rattle.bench_base.specs.declared.refusals.HostRefusal.{HostRefusal}
+use Rattle.bench_base.specs.declared.refusals.MarkFault.{MarkFault}
+use Rattle.bench_base.specs.declared.refusals.RateRefusal.{RateRefusal}
+use Rattle.bench_base.specs.declared.refusals.Unread.{Unread}
+use Rattle.bench_base.specs.declared.events.Event.TheVariants as ev
+use Rattle.bench_base.specs.declared.events.Reply.{Reply}
+use Rattle.bench_base.specs.declared.events.Reply.TheVariants as r
+use Rattle.nv_model.specs.declared.nv.Nv as nv
+use Rattle.node_acts.specs.declared.act.Act.TheVariants.{Refuse, Tell, Commits}
+use Rattle.node_acts.specs.declared.act.Started.{Started}
+use Rattle.node_acts.specs.declared.act.Started.TheVariants as start
+use Rattle.node_acts.specs.declared.asked.Asked.{Asked}
+use Rattle.node_acts.specs.declared.said.Said.{Said}
+use Rattle.node_acts.specs.declared.said.Printed.{Printed as Print}
+use Rattle.node_acts.specs.Acts.{TellsOf}
+use Rattle.node_acts.specs.Kinds.{Kind}
+use Rattle.node_acts.specs.Plans.{IsOfNode}
+use Rattle.node_seat.specs.declared.node.Node.{Ghosts}
+use Rattle.node_seat.specs.Shown.{IsFitting}
+use Rattle.node_turns.specs.Printing.{Printer, NodePrints}
+use Rattle.node_turns.specs.Turns.{start_turn, stop_turn}
+use Rattle.node_turns.proofs.Calls.{IsCallOf, IsToldBy, MayRefuse}
+use Rattle.node_turns.proofs.Printed.{PrintsSo}
+use Rattle.indicium.specs.declared.Mark.{Mark}
+use Rattle.indicium.specs.Marks.{read_mark}
+use Rattle.psd_wire.specs.declared.message.Message.{Message}
+use Rattle.psd_wire.specs.declared.message.Message.TheVariants as m
+use Rattle.psd_wire.specs.Grammar.{read}
+use Rattle.host_jobs.specs.declared.rows.JobRow.{JobRow}
+use Rattle.host_jobs.specs.Acts as acts
+use Rattle.host_jobs.specs.Acts.{HostAct, shelf_in}
+use Rattle.host_jobs.specs.ActLaws.{LeavesSound, SoundActs}
+use Rattle.host_jobs.specs.Answers.{order_answer, send_answer, print_answer, close_answer, hold_answer}
+use Rattle.host_jobs.specs.Rows.{Jobs, job_row, open_in}
+use Rattle.host_jobs.specs.Soundness.{AreSound, IsNext}
+use Rattle.host_jobs.proofs.SoundActs.{leaves}
+use Rattle.bench_views.specs.declared.taken.HostCall.{HostCall}
+use Rattle.bench_views.specs.declared.taken.HostCall.TheVariants as call
+use Rattle.bench_views.specs.Host as views
+use Rattle.bench_views.specs.Host.{says, host_act}
+use Rattle.bench_views.proofs.Calling.{own_says}
+use Rattle.bench_views.proofs.Events.{some-same}
+use Rattle.bench.specs.Calls.{host_call_event, IsRangedJob}
+use Rattle.bench.proofs.Calls.{polite_says, CommitsNone, none_says, told_made, told_none, fits_says}
+use Rattle.bench.proofs.HostFits.{act_fits}
+use Rattle.bench.proofs.Unprinted.{IsUnprinted, prints_nothing}
+
+-- == what a call changes ==
+
+module _ {K S R : Type 0} (n : Ghosts K S (Unit {0}) JobRow R) (rows : Jobs) (sound : AreSound rows) (s : n.Seen) (from : (x : JobRow) → IsNext rows x → n.IsFrom tt s x) where
+  sound_acts : SoundActs rows
+  sound_acts = leaves rows sound
+
+  by : {A : Type 0} (act : HostAct A) → LeavesSound rows act → IsFitting n tt s act
+  by act left = act_fits n rows s from act left
+
+  -- it leaves sound jobs
+  pub call_fits : (c : HostCall) → IsRangedJob c → IsFitting n tt s (host_act c rows)
+  call_fits (call.Order d piece class grams zone price) ranged =
+      fits_says n tt s _ _ (acts.order_act d piece class price rows) (by (acts.order_act d piece class price rows) (sound_acts.ordered d piece class price ranged.0 ranged.1))
+  call_fits (call.Send j k) ranged = fits_says n tt s _ _ (acts.debit_message_act j rows) (by (acts.debit_message_act j rows) (sound_acts.sent j))
+  call_fits (call.Print j) ranged = fits_says n tt s _ _ (acts.begin_print_act j rows) (by (acts.begin_print_act j rows) (sound_acts.begun j))
+  call_fits (call.Close j) ranged = fits_says n tt s _ _ (acts.close_act j rows) (by (acts.close_act j rows) (sound_acts.closed j))
+  call_fits (call.Take bytes) ranged = fits_says n tt s _ _ (acts.take_act bytes rows) (by (acts.take_act bytes rows) (sound_acts.taken bytes))
+
+-- == whose the commit is ==
+
+unless_own : {A : Type 0} (o : Option HostRefusal) (act : HostAct A) → IsOfNode Host act → IsOfNode Host (acts.unless o act)
+unless_own None act own = own
+unless_own (Some x) act own = tt
+
+ordered_own : (d piece class postage : ℕ) (rows : Jobs) (result : Result ℕ HostRefusal) → IsOfNode Host (acts.ordered_act d piece class postage rows result)
+ordered_own d piece class postage rows (Err x) = tt
+ordered_own d piece class postage rows (Ok j) = refl
+
+order_own : (d piece class : ℕ) (price : Option (Result ℕ RateRefusal)) (rows : Jobs) → IsOfNode Host (acts.order_act d piece class price rows)
+order_own d piece class None rows = tt
+order_own d piece class (Some (Err x)) rows = tt
+order_own d piece class (Some (Ok postage)) rows = ordered_own d piece class postage rows (order_answer piece (shelf_in d rows) (open_in d rows))
+
+begun_own : (x : JobRow) (mark : Option (List ℕ)) (rows : Jobs) → IsOfNode Host (acts.begun_act x mark rows)
+begun_own x None rows = tt
+begun_own x (Some mark) rows = refl
+
+print_own : (o : Option JobRow) (rows : Jobs) → IsOfNode Host (acts.printed_act o rows)
+print_own None rows = tt
+print_own (Some x) rows = unless_own (print_answer (Some x.state)) (acts.begun_act x x.indicium rows) (begun_own x x.indicium rows)
+
+close_own : (o : Option JobRow) (rows : Jobs) → IsOfNode Host (acts.closed_act o rows)
+close_own None rows = tt
+close_own (Some x) rows = unless_own (close_answer (Some x.state)) _ refl
+
+held_own : (bytes : List ℕ) (mark : Mark) (o : Option JobRow) (rows : Jobs) → IsOfNode Host (acts.held_act bytes mark o rows)
+held_own bytes mark None rows = tt
+held_own bytes mark (Some x) rows = unless_own (hold_answer mark x.piece x.postage x.class) _ refl
+
+open_own : (bytes : List ℕ) (mark : Mark) (o : Option ℕ) (rows : Jobs) → IsOfNode Host (acts.open_act bytes mark o rows)
+open_own bytes mark None rows = tt
+open_own bytes mark (Some j) rows = held_own bytes mark (job_row rows j) rows
+
+mark_own : (bytes : List ℕ) (result : Result (Mark × List ℕ) MarkFault) (rows : Jobs) → IsOfNode Host (acts.mark_act bytes result rows)
+mark_own bytes (Err fault) rows = tt
+mark_own bytes (Ok mark) rows = open_own bytes mark.0 (open_in mark.0.device rows) rows
+
+take_own : (x : Result Message Unread) (rows : Jobs) → IsOfNode Host (acts.message_act x rows)
+take_own (Ok (m.Release bytes)) rows = mark_own bytes (read_mark bytes) rows
+take_own (Ok (m.Request q)) rows = tt
+take_own (Ok (m.Reply p)) rows = tt
+take_own (Ok (m.Done q)) rows = tt
+take_own (Ok (m.Debit q)) rows = tt
+take_own (Err x) rows = tt
+
+-- == how they are told ==
+
+pub call_of : (c : HostCall) → IsCallOf Host (host_call_event c)
+call_of (call.Order d piece class grams zone price) = record { on = refl; at = refl; no_switch = λ e. cc; no_cut = λ calls keep byte e. cc }
+call_of (call.Send j k) = record { on = refl; at = refl; no_switch = λ e. cc; no_cut = λ calls keep byte e. cc }
+call_of (call.Print j) = record { on = refl; at = refl; no_switch = λ e. cc; no_cut = λ calls keep byte e. cc }
+call_of (call.Close j) = record { on = refl; at = refl; no_switch = λ e. cc; no_cut = λ calls keep byte e. cc }
+call_of (call.Take bytes) = record { on = refl; at = refl; no_switch = λ e. cc; no_cut = λ calls keep byte e. cc }
+
+no_off : (c : HostCall) → host_call_event c ≢ ev.Off Host
+no_off (call.Order d piece class grams zone price) = λ e. cc
+no_off (call.Send j k) = λ e. cc
+no_off (call.Print j) = λ e. cc
+no_off (call.Close j) = λ e. cc
+no_off (call.Take bytes) = λ e. cc
+
+refused : (c : HostCall) (x : HostRefusal) → MayRefuse Host (host_call_event c) (r.HostRefused x)
+refused c x = record {
+  told = refl;
+  on_day = λ e. cc;
+  not_off = λ e. cc;
+  gets = record { on = (call_of c).on; at = (call_of c).at; no_switch = no_off c };
+}
+
+-- to send a message commits nothing
+unless_none : {A : Type 0} (o : Option HostRefusal) (act : HostAct A) → CommitsNone act → CommitsNone (acts.unless o act)
+unless_none None act none = none
+unless_none (Some x) act none = tt
+
+send_free : (o : Option JobRow) → CommitsNone (acts.sent_act o)
+send_free None = tt
+send_free (Some x) = unless_none (send_answer (Some x.state)) (Tell (acts.debit_note x)) tt
+
+pub call_told : (c : HostCall) (rows : Jobs) → IsToldBy Host (host_call_event c) (host_act c rows)
+call_told (call.Order d piece class grams zone price) rows = told_made Host _ refl (omega arith) _ (own_says Host _ _ (acts.order_act d piece class price rows) (order_own d piece class price rows))
+    (polite_says Host (ev.Order d piece class grams zone) r.HostRefused views.ordered (refused (call.Order d piece class grams zone price)) (λ a. record { told = refl; gets = (d, piece, class, grams, zone, refl) })
+    (acts.order_act d piece class price rows))
+call_told (call.Send j k) rows = told_none Host _ _ (none_says _ _ (acts.debit_message_act j rows) (send_free (job_row rows j)))
+    (polite_says Host (ev.Send j) r.HostRefused (views.sent j k) (refused (call.Send j k)) (λ note. record { told = refl; gets = refl }) (acts.debit_message_act j rows))
+call_told (call.Print j) rows = told_made Host _ refl (omega arith) _ (own_says Host _ _ (acts.begin_print_act j rows) (print_own (job_row rows j) rows))
+    (polite_says Host (ev.Print j) r.HostRefused (views.printed j) (refused (call.Print j)) (λ mark. record { told = refl; gets = refl }) (acts.begin_print_act j rows))
+call_told (call.Close j) rows = told_made Host _ refl (omega arith) _ (own_says Host _ _ (acts.close_act j rows) (close_own (job_row rows j) rows))
+    (polite_says Host (ev.Close j) r.HostRefused (views.done (r.Closed j)) (refused (call.Close j)) (λ u. record { told = refl; gets = refl }) (acts.close_act j rows))
+call_told (call.Take bytes) rows = told_made Host _ refl (omega arith) _ (own_says Host _ _ (acts.take_act bytes rows) (take_own (read bytes) rows))
+    (polite_says Host (ev.Give Host bytes) r.HostRefused views.held (refused (call.Take bytes)) (λ j. record { told = refl; gets = inr (bytes, refl) }) (acts.take_act bytes rows))
+
+-- == what is printed of them ==
+
+so_says : {A : Type 0} (say : A → Said) → ((x : A) → PrintsSo (say x)) → (act : HostAct A) (a : Said) → TellsOf a (says say act) → PrintsSo a
+so_says say so (Refuse x) a of = absurd of
+so_says say so (Tell b) a of = subst PrintsSo of (so b)
+so_says say so (Commits c x b) a of = subst PrintsSo of (so b)
+
+printed_so : (j : ℕ) (mark : List ℕ) → PrintsSo (views.printed j mark)
+printed_so j mark = record { given = λ p is. ap (λ (q : Print). r.Printed q.job) (some-same is); says = λ job is. (record { job = j; mark = mark }, refl) }
+
+-- a job is said to be printed where its mark is given to the printer
+pub call_prints : (c : HostCall) (rows : Jobs) (a : Said) → TellsOf a (host_act c rows) → PrintsSo a
+call_prints (call.Order d piece class grams zone price) rows = so_says views.ordered (λ x. record { given = λ p is. cc; says = λ job is. cc }) (acts.order_act d piece class price rows)
+call_prints (call.Send j k) rows = so_says (views.sent j k) (λ note. record { given = λ p is. cc; says = λ job is. cc }) (acts.debit_message_act j rows)
+call_prints (call.Print j) rows = so_says (views.printed j) (printed_so j) (acts.begin_print_act j rows)
+call_prints (call.Close j) rows = so_says (views.done (r.Closed j)) (λ u. record { given = λ p is. cc; says = λ job is. cc }) (acts.close_act j rows)
+call_prints (call.Take bytes) rows = so_says views.held (λ j. record { given = λ p is. cc; says = λ job is. cc }) (acts.take_act bytes rows)
+
+-- == what is printed where the host is switched ==
+
+pub start_quiet : (m : Node) (x : Started) → IsUnprinted (start_turn m x).reply
+start_quiet m start.Already = record { whole = λ job is. cc; cut = λ job is. cc }
+start_quiet m (start.Up k) = record { whole = λ job is. cc; cut = λ job is. cc }
+start_quiet m start.Power = record { whole = λ job is. cc; cut = λ job is. cc }
+start_quiet m start.Fault = record { whole = λ job is. cc; cut = λ job is. cc }
+start_quiet m start.Damaged = record { whole = λ job is. cc; cut = λ job is. cc }
+
+pub stop_quiet : (m : Node) (was : Bool) → IsUnprinted (stop_turn m was).reply
+stop_quiet m true = record { whole = λ job is. cc; cut = λ job is. cc }
+stop_quiet m false = record { whole = λ job is. cc; cut = λ job is. cc }
+
+-- so the printer takes nothing
+pub none_printed : {K S N C R X : Type 0} (n : Ghosts K S N C R) (g : nv.Ghosts S) (kind : Kind N n.Seen X) (m : Node) (d : N) (today : ℤ) (asked : Asked X) (s : K) (reply : Reply) (printer : Printer)
+    → IsUnprinted reply → NodePrints n g kind m d today asked s reply printer printer
+none_printed n g kind m d today asked s reply printer quiet = record {
+  by_view = λ v st tells. prints_nothing reply _ printer printer refl quiet;
+  mark = None;
+  alone = prints_nothing reply None printer printer refl quiet;
+}

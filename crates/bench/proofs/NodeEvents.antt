@@ -1,0 +1,258 @@
+-- What an event of one node does to the bench, whatever the kind of the node.
+use Rattle.std.proofs.Common.{◌≡◌, ◌≢◌, ◌↔◌, ℕ, ℤ, ◌+◌, List, [], ◌++◌, length, Option, Some, None, Result, refl, sym, ◌∙◌, ap, subst, arith, append-nil}
+use Rattle.std.specs.Prelude.{slice_get, slice_set, IfSome}
+use Rattle.std.proofs.lemmas.Option.{slice_get_within}
+use Rattle.std.proofs.lemmas.List.{length-set}
+use Rattle.bench_base.specs.declared.words.Node.{Node}
+use Rattle.bench_base.specs.declared.words.Node.TheVariants.{Device, Centre, Host, Verifier}
+use Rattle.bench_base.specs.declared.refusals.RateRefusal.{RateRefusal}
+use Rattle.bench_base.specs.declared.ledger.Commit.{Commit}
+use Rattle.bench_base.specs.declared.ledger.Entry.{Entry}
+use Rattle.bench_base.specs.declared.events.Event.{Event}
+use Rattle.bench_base.specs.declared.events.Reply.TheVariants as r
+use Rattle.bench_base.specs.Rules.{todays_rules}
+use Rattle.bench_base.specs.Ranges.{IsWholeEvent}
+use Rattle.bench_base.specs.Plans.{Plan}
+use Rattle.bench_base.specs.Ledger.{Ledger, rates_in}
+use Rattle.nv_model.specs.declared.nv.Nv as nv
+use Rattle.nv_model.specs.declared.fuse.Fuse as fuse
+use Rattle.nv_store.specs.Mounts.{Mounts}
+use Rattle.node_acts.specs.declared.asked.Asked.{Asked}
+use Rattle.node_acts.specs.Kinds.{view_in, node_commit}
+use Rattle.node_acts.specs.Views.{View}
+use Rattle.node_seat.specs.Stands as node
+use Rattle.node_seat.specs.Stands.{StoreStands, times_of, meters_of, HasDamage, IsArmed}
+use Rattle.node_turns.specs.declared.turn.Turn.{Turn}
+use Rattle.node_turns.specs.Costs.{Charged}
+use Rattle.node_turns.specs.NodeTurns.{NodeTurn, Switches, plan_by}
+use Rattle.node_turns.specs.Printing.{PrinterDid, print_of}
+use Rattle.host_rates.specs.Tables.{RateTable}
+use Rattle.host_rates.specs.Tariffs.{Keeps}
+use Rattle.host_rates.specs.Laws.{KeptPrices}
+use Rattle.ledger_moves.specs.Tariffs.{Tariff}
+use Rattle.ledger_moves.specs.Moves as ledger
+use Rattle.ledger_moves.specs.Moves.{plan, price_by}
+use Rattle.bench_views.specs.declared.taken.Taken.{Taken}
+use Rattle.bench_views.specs.declared.taken.Taken.TheVariants as take
+use Rattle.bench_views.specs.Messages.{sent_in}
+use Rattle.bench_views.specs.Tariff.{IsOfTexts, Quote, quote, quote_in}
+use Rattle.bench_views.specs.Taken.{taken, as_given}
+use Rattle.bench_views.specs.Follows.{Follows, FollowsAlways}
+use Rattle.bench_views.proofs.Events.{some-same}
+use Rattle.bench.specs.Benches.{Bench, Nodes, OneKind, OfChange, At, IsReady, Stands, devices, centre, host, verifier}
+use Rattle.bench.specs.Outside.{Outside}
+use Rattle.bench.specs.Steps.{notes_in, Steps, StepsByViews, DoesAsked, ShowsLedger, HoldsImage, after_stop}
+use Rattle.bench.proofs.Events.{IsOfNode, no_day}
+use Rattle.bench.proofs.EachKind.{OthersRest}
+use Rattle.bench.proofs.OneNode as one
+use Rattle.bench.proofs.OneTurn.{NodeDid, NodeDidOn, at_alone, at_unwritten, at_damaged, at_on}
+use Rattle.bench.proofs.Sets.{get_set_same, get_set_other, set_there, same_some}
+
+-- == prices ==
+
+priced : (τ : Tariff) → KeptPrices → IsOfTexts τ → (text : Option (List ℕ)) (kept : Option RateTable) → Keeps text kept → (class grams zone : ℕ) → quote kept class grams zone ≡ price_by τ class grams zone text
+priced τ prices texts None kept keeps class grams zone = prices None kept class grams zone keeps
+priced τ prices texts (Some text) kept keeps class grams zone = prices (Some text) kept class grams zone keeps ∙ ap (λ (p : Result ℕ RateRefusal). Some p) (sym (texts.price text class grams zone))
+
+-- what is taken by the rates that are kept is taken by those of the ledger
+pub taken_by : (τ : Tariff) → KeptPrices → IsOfTexts τ → (H : Ledger) (pool : List (List ℕ)) (kept : Option RateTable) (e : Event) (x : Taken) → pool ≡ sent_in H → Keeps (rates_in H) kept
+    → taken pool (quote kept) e ≡ Some x → taken (sent_in H) (quote_in τ H) e ≡ Some x
+taken_by τ prices texts H pool kept e x sent keeps is =
+    let same : quote kept ≡ quote_in τ H = λ k class grams zone. priced τ prices texts (rates_in H) kept keeps class grams zone k in
+    subst (λ (q : Quote). taken (sent_in H) q e ≡ Some x) same (subst (λ (l : List (List ℕ)). taken l (quote kept) e ≡ Some x) sent is)
+
+-- == the node of an event, in its place ==
+
+module _ {D C H V S XD XC XH XV RD RC RH RV : Type 0} (n : Nodes D C H V S XD XC XH XV RD RC RH RV) (g : nv.Ghosts S) (old new : Bench D C H V) where
+  -- node m, which is d of this kind, was s and is t: what holds of that holds at m, and it stands as m does
+  pub record IsAt (m : Node) (o : OneKind S) (d : o.Name) (s t : o.Own) : Type 1 where
+    pub put : (P : OfChange S) → P o m d s t → At n P old new m
+    pub stood : (L : Ledger) → Stands n g old L → node.Stands o.ghosts g d (view_in m (o.kind.seen d) L) s
+    pub rest : OthersRest m old new
+    pub same : t ≡ s → new.messages ≡ old.messages → new ≡ old
+
+  pub at_centre : new.day ≡ old.day → new.rates ≡ old.rates → new.devices ≡ old.devices → new.host ≡ old.host → new.verifier ≡ old.verifier → IsAt Centre (centre n) tt old.centre new.centre
+  at_centre day rates devices host verifier = record {
+    put = λ P p. p;
+    stood = λ L stands. stands.nodes Centre;
+    rest = record {
+      day = day;
+      rates = rates;
+      size = ap length devices;
+      devices = λ i s t differs was is. same_some s t (slice_get old.devices i) (slice_get new.devices i) (ap (λ (l : List D). slice_get l i) (sym devices)) was is;
+      centre = λ differs. absurd (differs refl);
+      host = λ differs. host;
+      verifier = λ differs. verifier;
+    };
+    same = λ same unsent k. record { day = day k; messages = unsent k; rates = rates k; devices = devices k; centre = same k; host = host k; verifier = verifier k };
+  }
+
+  pub at_host : new.day ≡ old.day → new.rates ≡ old.rates → new.devices ≡ old.devices → new.centre ≡ old.centre → new.verifier ≡ old.verifier → IsAt Host (host n) tt old.host new.host
+  at_host day rates devices centre verifier = record {
+    put = λ P p. p;
+    stood = λ L stands. stands.nodes Host;
+    rest = record {
+      day = day;
+      rates = rates;
+      size = ap length devices;
+      devices = λ i s t differs was is. same_some s t (slice_get old.devices i) (slice_get new.devices i) (ap (λ (l : List D). slice_get l i) (sym devices)) was is;
+      centre = λ differs. centre;
+      host = λ differs. absurd (differs refl);
+      verifier = λ differs. verifier;
+    };
+    same = λ same unsent k. record { day = day k; messages = unsent k; rates = rates k; devices = devices k; centre = centre k; host = same k; verifier = verifier k };
+  }
+
+  pub at_verifier : new.day ≡ old.day → new.rates ≡ old.rates → new.devices ≡ old.devices → new.centre ≡ old.centre → new.host ≡ old.host → IsAt Verifier (verifier n) tt old.verifier new.verifier
+  at_verifier day rates devices centre host = record {
+    put = λ P p. p;
+    stood = λ L stands. stands.nodes Verifier;
+    rest = record {
+      day = day;
+      rates = rates;
+      size = ap length devices;
+      devices = λ i s t differs was is. same_some s t (slice_get old.devices i) (slice_get new.devices i) (ap (λ (l : List D). slice_get l i) (sym devices)) was is;
+      centre = λ differs. centre;
+      host = λ differs. host;
+      verifier = λ differs. absurd (differs refl);
+    };
+    same = λ same unsent k. record { day = day k; messages = unsent k; rates = rates k; devices = devices k; centre = centre k; host = host k; verifier = same k };
+  }
+
+  -- the device in a place, which was set
+  module _ (d place : ℕ) (s t : D) (is_device : d ≡ place + 1) (was : slice_get old.devices place ≡ Some s) (set : new.devices ≡ slice_set old.devices place t) where
+    now_is : slice_get new.devices place ≡ Some t
+    now_is = ap (λ (l : List D). slice_get l place) set ∙ get_set_same old.devices place t (slice_get_within old.devices place s was)
+
+    others_stay : (i : ℕ) → i ≢ place → slice_get new.devices i ≡ slice_get old.devices i
+    others_stay i differs = ap (λ (l : List D). slice_get l i) set ∙ get_set_other old.devices place t i differs
+
+    elsewhere : (i : ℕ) → Device (i + 1) ≢ Device d → i ≢ place
+    elsewhere i differs same = differs (ap Device (omega (arith, same, is_device)))
+
+    pub here : (P : D → D → Type 0) → P s t → (i : ℕ) (a b : D) → d ≡ i + 1 → slice_get old.devices i ≡ Some a → slice_get new.devices i ≡ Some b → P a b
+    here P holds = λ i a b next there now.
+        let at : i ≡ place = omega (arith, next, is_device) in
+        let before : s ≡ a = same_some a s (slice_get old.devices i) (slice_get old.devices place) (ap (λ (k : ℕ). slice_get old.devices k) at) there was in
+        let after : t ≡ b = same_some b t (slice_get new.devices i) (slice_get new.devices place) (ap (λ (k : ℕ). slice_get new.devices k) at) now now_is in
+        subst (λ (u : D). P u b) before (subst (λ (u : D). P s u) after holds)
+
+    pub at_device : new.day ≡ old.day → new.rates ≡ old.rates → new.centre ≡ old.centre → new.host ≡ old.host → new.verifier ≡ old.verifier → IsAt (Device d) (devices n) d s t
+    at_device day rates centre host verifier = record {
+      put = λ P p. here (P (devices n) (Device d) d) p;
+      stood = λ L stands. stands.nodes (Device d) place s is_device was;
+      rest = record {
+        day = day;
+        rates = rates;
+        size = ap length set ∙ length-set old.devices place t;
+        devices = λ i a b differs there now. same_some a b (slice_get old.devices i) (slice_get new.devices i) (sym (others_stay i (elsewhere i differs))) there now;
+        centre = λ differs. centre;
+        host = λ differs. host;
+        verifier = λ differs. verifier;
+      };
+      same = λ same unsent k. record {
+        day = day k;
+        messages = unsent k;
+        rates = rates k;
+        devices = (set ∙ ap (λ (u : D). slice_set old.devices place u) same ∙ set_there old.devices place s was) k;
+        centre = centre k;
+        host = host k;
+        verifier = verifier k;
+      };
+    }
+
+-- == what it does to the bench ==
+
+module _ {D C H V S XD XC XH XV RD RC RH RV : Type 0} (n : Nodes D C H V S XD XC XH XV RD RC RH RV) (g : nv.Ghosts S) (f : fuse.Ghosts S) (e x : Event) (today : ℤ) (old new : Bench D C H V) (turn : Turn)
+    (before now : Outside) (m : Node) (o : OneKind S) (d : o.Name) (asked : Asked o.Call) (s t : o.Own) where
+  -- the event asks this of a node that is on the bench, and came to this turn of it
+  pub record IsAsked (taken_as : Asked o.Call → Taken) : Type 1 where
+    pub located : IsAt n g old new m o d s t
+    pub did : NodeTurn o.ghosts g f o.kind m d today x asked s t turn
+    pub given : as_given old.messages e ≡ x
+    pub of : IsOfNode m x
+    pub dated : old.day ≡ Some today
+    pub taken_is : taken old.messages (quote old.rates) e ≡ Some (taken_as asked)
+    pub told : (k : ℕ) → Some (take.NoMessage k) ≡ Some (taken_as asked) → ⊥
+    pub sends : new.messages ≡ old.messages ++ notes_in turn.entries
+    pub feed : now.rates ≡ before.rates
+    pub mark : Option (List ℕ)
+    pub printer : PrinterDid turn.reply mark before.printer now.printer
+    pub prints : (v : View o.ghosts.Seen) → node.Stands o.ghosts g d v s → g.tells → PrinterDid turn.reply (print_of (plan_by o.ghosts o.kind m d today v asked).after) before.printer now.printer
+    pub does : g.tells → DoesAsked n g today turn old new before now (taken_as asked)
+
+  module _ (taken_as : Asked o.Call → Taken) (is : IsAsked taken_as) where
+    did : NodeDid n g f m e x turn old new before now
+    did = record {
+      given = is.given;
+      of = is.of;
+      rest = is.located.rest;
+      sends = is.sends;
+      dated = λ none. no_day old.day today none is.dated;
+      reply = is.did.reply;
+      on_day = is.did.on_day;
+      refused = λ refusal.
+          let left = is.did.refused refusal in
+          let unsent : new.messages ≡ old.messages = is.sends ∙ ap (λ (l : List (Option Entry)). old.messages ++ notes_in l) left.1 ∙ append-nil old.messages in
+          (is.located.same left.0 unsent, left.1);
+      adds = is.did.adds;
+      there = λ k none. is.told k (sym none ∙ is.taken_is);
+      feed = is.feed;
+      mark = is.mark;
+      printer = is.printer;
+      switches = is.located.put (λ o i d s t. Switches i x turn.reply (o.ghosts.is_on s) (o.ghosts.is_on t)) is.did.switches;
+      charged = is.located.put (λ o i d s t. Charged i x turn.reply (meters_of o.ghosts g s) (meters_of o.ghosts g t)) is.did.charged;
+      armed = λ calls keep byte cut. is.located.put (λ o i d s t. IsArmed o.ghosts f t calls keep byte) (is.did.armed calls keep byte cut);
+      unwritten = λ tells none. is.located.put (λ o i d s t. Mounts (times_of o.ghosts g s) (times_of o.ghosts g t)) (is.did.unwritten tells none);
+      found = λ tells on read. is.located.put (λ o i d s t. (turn.reply ≡ r.Damaged i) ↔ HasDamage o.ghosts d t) (is.did.found tells on read);
+    }
+
+    shown : g.tells → StepsByViews n g e turn old new before now
+    shown tells = record {
+      does = λ u y day taken_is.
+          let when : today ≡ u = some-same (sym is.dated ∙ day) in
+          let what : taken_as asked ≡ y = some-same (sym is.taken_is ∙ taken_is) in
+          subst (λ (j : ℤ). DoesAsked n g j turn old new before now y) when (subst (λ (z : Taken). DoesAsked n g today turn old new before now z) what (is.does tells));
+      unwritten = at_unwritten n g f m e x turn old new before now did tells;
+      damaged = at_damaged n g f m e x turn old new before now did tells;
+    }
+
+    module _ {N : Type 0} (h : nv.Ghosts N) (τ : Tariff) (L : Ledger) (stands : Stands n g old L) (tells : g.tells) (law : Follows o.ghosts.counting o.kind m d n.kinds τ L e today asked) where
+      st : node.Stands o.ghosts g d (view_in m (o.kind.seen d) L) s
+      st = is.located.stood L stands
+
+      on : NodeDidOn n g f m e x turn old new before now h τ L
+      on = record {
+        moves = (one.done o.ghosts g f o.kind m d today e x asked s t turn is.did n.kinds τ L st tells law).moves;
+        entries = one.adds o.ghosts g f o.kind m d today e x asked s t turn is.did n.kinds τ L st tells law;
+        stands = is.located.put (λ o i d s t. node.Stands o.ghosts g d (view_in i (o.kind.seen d) (ledger.entries τ todays_rules L e [] turn.reply)) t)
+            (one.stands_now o.ghosts g f o.kind m d today e x asked s t turn is.did n.kinds τ L st tells law);
+        others = (one.done o.ghosts g f o.kind m d today e x asked s t turn is.did n.kinds τ L st tells law).others;
+        rests = (one.done o.ghosts g f o.kind m d today e x asked s t turn is.did n.kinds τ L st tells law).rests;
+        sent = one.sends o.ghosts g f o.kind m d today e x asked s t turn is.did n.kinds τ L st tells law;
+        closes = one.closes o.ghosts g f o.kind m d today e x asked s t turn is.did n.kinds τ L st tells law;
+        shows = is.located.put (λ o i d. ShowsLedger o.ghosts g (o.kind.seen d) i τ L e []) (one.shows o.ghosts g f o.kind m d today e x asked s t turn is.did n.kinds τ L st tells law);
+        open_others = one.open_others o.ghosts g f o.kind m d today e x asked s t turn is.did n.kinds τ L st tells law;
+        left = is.located.put (λ o i d s t. (store : N) → h.size store ≡ o.ghosts.bytes → HoldsImage o.ghosts g h s t store → StoreStands o.ghosts h d (view_in i (o.kind.seen d) (after_stop τ L e [])) store)
+            (λ store size images. one.left o.ghosts g f o.kind m d today e x asked s t turn is.did n.kinds τ L st tells law h store size images);
+        printed = subst (λ (p : Plan). PrinterDid turn.reply (print_of p.after) before.printer now.printer) (sym law.plan) (is.prints (view_in m (o.kind.seen d) L) st tells);
+      }
+
+    each_some : {P Q : o.ghosts.Seen → Type 0} → ((k : o.ghosts.Seen) → P k → Q k) → (c : Option (Commit × o.ghosts.Seen)) → IfSome c (λ y. P y.1) → IfSome c (λ y. Q y.1)
+    each_some f None holds = tt
+    each_some f (Some y) holds = f y.1 holds
+
+    pub steps : {N : Type 0} (h : nv.Ghosts N) → IsWholeEvent e → IsReady old → KeptPrices → (IsWhole : Asked o.Call → Type 0) → IsWhole asked
+        → (IsKnown : o.ghosts.Seen → Type 0) → ((k : o.ghosts.Seen) → o.ghosts.IsSound d k → IsKnown k)
+        → FollowsAlways o.ghosts.counting o.kind m d n.kinds taken_as IsWhole IsKnown → Steps n g f h e [] turn old new before now
+    steps h whole ready prices IsWhole bytes IsKnown knows follows = record {
+      history = λ τ L texts history unforged stands tells.
+          let v = view_in m (o.kind.seen d) L in
+          let st = is.located.stood L stands in
+          let law = follows τ L e today asked history unforged (sym stands.day.day ∙ is.dated) whole
+          (taken_by τ prices texts L old.messages old.rates e (taken_as asked) stands.day.messages stands.day.rates is.taken_is) bytes
+          (knows v.state ((st.store.sound tells).state)) (each_some (λ k next. knows k next.0) (node_commit (o.kind.commit d today v) asked) (is.did.keeps v st tells)) in
+          at_on n g f m e x turn old new before now did h τ L (on h τ L stands tells law) history unforged whole ready stands tells;
+      shown = shown;
+      always = at_alone n g f m e x turn old new before now did;
+    }

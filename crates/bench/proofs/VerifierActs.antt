@@ -1,0 +1,88 @@
+-- The acts of the verifier's calls: what they change, and how they are told.
+use Rattle.std.proofs.Common.{◌≢◌, ℕ, ℤ, List, Bool, true, false, Option, Some, None, Result, Ok, Err, refl, inr, arith}
+use Rattle.std.specs.Prelude.{is_some}
+use Rattle.bench_base.specs.declared.words.Node.TheVariants.{Verifier}
+use Rattle.bench_base.specs.declared.refusals.MarkFault.{MarkFault}
+use Rattle.bench_base.specs.declared.refusals.ScanRefusal.{ScanRefusal}
+use Rattle.bench_base.specs.declared.events.Event.TheVariants as ev
+use Rattle.bench_base.specs.declared.events.Reply.TheVariants as r
+use Rattle.node_acts.specs.Plans.{IsOfNode}
+use Rattle.node_seat.specs.declared.node.Node.{Ghosts}
+use Rattle.node_seat.specs.Shown.{IsFitting}
+use Rattle.node_turns.proofs.Calls.{IsCallOf, IsToldBy, MayRefuse}
+use Rattle.indicium.specs.declared.Mark.{Mark}
+use Rattle.indicium.specs.Marks.{read_mark}
+use Rattle.psd_wire.specs.Codes.{has_code}
+use Rattle.verifier.specs.declared.acts.Accepted.{Accepted}
+use Rattle.verifier.specs.declared.acts.Change.{Change}
+use Rattle.verifier.specs.declared.acts.Spot.{Spot}
+use Rattle.verifier.specs.Acts as acts
+use Rattle.verifier.specs.Acts.{ScanAct}
+use Rattle.verifier.specs.ActLaws.{IsFit, LeavesSound, SoundActs}
+use Rattle.verifier.specs.Seen.{Seen, AreSound, key_at, spot_in}
+use Rattle.verifier.proofs.LawActs.{leaves}
+use Rattle.bench_views.specs.declared.taken.VerifierCall.{VerifierCall}
+use Rattle.bench_views.specs.declared.taken.VerifierCall.TheVariants as call
+use Rattle.bench_views.specs.Verifier as views
+use Rattle.bench_views.specs.Verifier.{verifier_act, IsBytesCall}
+use Rattle.bench_views.proofs.Calling.{own_says}
+use Rattle.bench.specs.Calls.{verifier_call_event, IsRangedScan}
+use Rattle.bench.proofs.Calls.{polite_says, told_made, fits_says, either}
+use Rattle.bench.proofs.VerifierFits.{act_fits}
+
+-- == what a call changes ==
+
+module _ {K S R : Type 0} (n : Ghosts K S (Unit {0}) Change R) (rows : Seen) (sound : AreSound rows) (s : n.Seen) (from : (x : Change) → IsFit rows x → n.IsFrom tt s x) where
+  sound_acts : SoundActs rows
+  sound_acts = leaves rows sound
+
+  by : {A : Type 0} (act : ScanAct A) → LeavesSound rows act → IsFitting n tt s act
+  by act left = act_fits n rows s from act left
+
+  -- it leaves sound rows
+  pub call_fits : (today : ℤ) (c : VerifierCall) → IsRangedScan c → IsBytesCall c → IsFitting n tt s (verifier_act today c rows)
+  call_fits today (call.Trust d key) ranged bytes = fits_says n tt s _ _ (acts.trust_act d key rows) (by (acts.trust_act d key rows) (sound_acts.trusted d key ranged.0 ranged.1))
+  call_fits today (call.Scan i given) ranged bytes = fits_says n tt s _ _ (acts.scan_act i given today rows) (by (acts.scan_act i given today rows) (sound_acts.scanned i given today ranged bytes))
+
+-- == whose the commit is ==
+
+trust_own : (d : ℕ) (key : List ℕ) (known : Bool) → IsOfNode Verifier (acts.trusted_act d key known)
+trust_own d key true = tt
+trust_own d key false = refl
+
+answer_own : (n : ℕ) (k : Mark) (cell : ℕ) (result : Result Bool ScanRefusal) → IsOfNode Verifier (acts.answered_act n k cell result)
+answer_own n k cell (Err x) = tt
+answer_own n k cell (Ok true) = tt
+answer_own n k cell (Ok false) = refl
+
+marked_own : (n : ℕ) (bytes : List ℕ) (k : Mark) (today : ℤ) (key : Option (List ℕ)) (spot : Spot) → IsOfNode Verifier (acts.marked_act n bytes k today key spot)
+marked_own n bytes k today None spot = tt
+marked_own n bytes k today (Some key) spot = either (λ (a : ScanAct Accepted). IsOfNode Verifier a) (has_code key bytes) _ _ (λ _. answer_own n k spot.cell _) tt
+
+read_own : (n : ℕ) (bytes : List ℕ) (today : ℤ) (s : Seen) (result : Result (Mark × List ℕ) MarkFault) → IsOfNode Verifier (acts.read_act n bytes today s result)
+read_own n bytes today s (Err fault) = tt
+read_own n bytes today s (Ok k) = marked_own n bytes k.0 today (key_at s k.0.device) (spot_in s k.0.device k.0.piece)
+
+-- == how they are told ==
+
+pub call_of : (c : VerifierCall) → IsCallOf Verifier (verifier_call_event c)
+call_of (call.Trust d key) = record { on = refl; at = refl; no_switch = λ e. cc; no_cut = λ calls keep byte e. cc }
+call_of (call.Scan n bytes) = record { on = refl; at = refl; no_switch = λ e. cc; no_cut = λ calls keep byte e. cc }
+
+no_off : (c : VerifierCall) → verifier_call_event c ≢ ev.Off Verifier
+no_off (call.Trust d key) = λ e. cc
+no_off (call.Scan n bytes) = λ e. cc
+
+refused : (c : VerifierCall) (x : ScanRefusal) → MayRefuse Verifier (verifier_call_event c) (r.ScanRefused x)
+refused c x = record {
+  told = refl;
+  on_day = λ e. cc;
+  not_off = λ e. cc;
+  gets = record { on = (call_of c).on; at = (call_of c).at; no_switch = no_off c };
+}
+
+pub call_told : (today : ℤ) (c : VerifierCall) (s : Seen) → IsToldBy Verifier (verifier_call_event c) (verifier_act today c s)
+call_told today (call.Trust d key) s = told_made Verifier _ refl (omega arith) _ (own_says Verifier _ _ (acts.trust_act d key s) (trust_own d key (is_some (key_at s d))))
+    (polite_says Verifier (ev.Trust d key) r.ScanRefused (views.done (r.Trusted d)) (refused (call.Trust d key)) (λ u. record { told = refl; gets = (key, refl) }) (acts.trust_act d key s))
+call_told today (call.Scan n bytes) s = told_made Verifier _ refl (omega arith) _ (own_says Verifier _ _ (acts.scan_act n bytes today s) (read_own n bytes today s (read_mark bytes)))
+    (polite_says Verifier (ev.ScanHex n bytes) r.ScanRefused (views.accepted n) (refused (call.Scan n bytes)) (λ a. record { told = refl; gets = inr (bytes, refl) }) (acts.scan_act n bytes today s))
