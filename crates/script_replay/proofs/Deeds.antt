@@ -5,26 +5,24 @@ use Rattle.std.proofs.lemmas.Bool.{cases_lt}
 use Rattle.std.proofs.lemmas.List.{length-drop, length-append, length-take}
 use Rattle.std.proofs.KnownBytes.{Consumes-trans, Consumes-nil, Appends-trans, Appends-nil}
 use Rattle.std.specs.Io.KnownBytes.{Consumes, Appends, IsAtEnd}
-use Rattle.bench_base.specs.declared.events.Event.{Event}
 use Rattle.bench_base.specs.declared.events.Event.TheVariants as event
-use Rattle.bench_base.specs.declared.events.Reply.{Reply}
 use Rattle.script_text.specs.Grammar.{IsSkipped}
 use Rattle.script_replay.specs.declared.lines.LineRead.{LineRead}
 use Rattle.script_replay.specs.declared.lines.LineRead.TheVariants as read
 use Rattle.script_replay.specs.Events.{IsLineOf}
-use Rattle.script_replay.specs.Lines.{IsOneLine, ended, IsLineIn, ReadsLine}
+use Rattle.script_replay.specs.Lines.{IsOneLine, ended, IsLineIn, IsCutOff, ReadsLine}
 use Rattle.script_replay.specs.declared.status.Status.{Status}
 use Rattle.script_replay.specs.declared.status.Status.TheVariants as status
-use Rattle.script_replay.specs.Deeds.{Deed, Did, Skipped, line_in, line_of, text_for, IsOf, Reads, GoesOn}
-use Rattle.script_replay.specs.Run.{IsBadPlace, IsCutOff, DidLast, RanOut, EndsIn, Replayed}
-use Rattle.script_replay.specs.Turns.{DidLine, Refused, Reported, Goes, Stops, Progress}
+use Rattle.script_replay.specs.Deeds.{Done, Deed, Did, Skipped, line_in, line_of, text_for, IsOf, Reads, GoesOn}
+use Rattle.script_replay.specs.Run.{IsBadPlace, DidLast, RanOut, EndsIn, Replayed}
+use Rattle.script_replay.specs.Turns.{DidLine, Refused, Reported, Wanted, LineEnd, Ended, Goes, Stops, Progress}
 
 -- a front of the bytes that isn't all of them
 pub cut_off : (bytes text : List ℕ) (n : ℕ) → n < length bytes → bytes ≡ text → IsCutOff (take n bytes) text
 cut_off bytes text n short is =
     (drop n bytes, sym is ∙ sym (take-append-drop n bytes), omega (arith, length-drop n bytes))
 
-flat-append : {X : Type 0} (f : X → List ℕ) (xs ys : List X) → flat_map f (xs ++ ys) ≡ flat_map f xs ++ flat_map f ys
+pub flat-append : {X : Type 0} (f : X → List ℕ) (xs ys : List X) → flat_map f (xs ++ ys) ≡ flat_map f xs ++ flat_map f ys
 flat-append f [] ys = refl
 flat-append f (x ∷ xs) ys = ap (λ t. f x ++ t) (flat-append f xs ys) ∙ sym (append_assoc (f x) (flat_map f xs) (flat_map f ys))
 
@@ -36,11 +34,12 @@ each-append : (P : Deed → Type 0) (a b : List Deed) → AllByRecursion P a →
 each-append P [] b p q = q
 each-append P (d ∷ a) b p q = (p.0, each-append P a b p.1 q)
 
--- what the turns of a run need of what says that deeds were done
-pub record AreDone {B : Type 0} (Does : B → B → List Deed → Type 0) : Type 0 where
+-- what the turns of a run need of what says that deeds were done, and of what their end leaves
+pub record AreDone {B : Type 0} (Does : B → B → List Deed → Type 0) (Leaves : Status → B → B → Type 0) : Type 0 where
   pub nothing : (b : B) → Does b b []
   pub skipped : (b : B) (line : List ℕ) → Does b b (Skipped line ∷ [])
   pub both : (x y z : B) (a b : List Deed) → Does x y a → Does y z b → Does x z (a ++ b)
+  pub rests : (s : Status) (b : B) → s ≢ status.Memory → Leaves s b b
 
 -- ---- one line
 
@@ -87,6 +86,12 @@ did_last left0 left1 line is_ended d l same is = record {
   line = line_of_deed left0 left1 line is_ended d l same;
 }
 
+not_memory : (outcome : Status) (number : ℕ) → number ≤ 1000000 → (number < 1000000 → outcome ≡ status.Script (number + 1)) → (number ≡ 1000000 → outcome ≡ status.TooLong) → outcome ≢ status.Memory
+not_memory outcome number few missing long is = elim (cases_lt number 1000000) [
+  | inl lt ↦ let other : status.Memory ≡ status.Script (number + 1) = sym is ∙ missing lt in cc
+  | inr le ↦ let other : status.Memory ≡ status.TooLong = sym is ∙ long (omega (arith, few, le)) in cc
+]
+
 ran_out_as : (outcome : Status) (number : ℕ) → number ≤ 1000000 → (number < 1000000 → outcome ≡ status.Script (number + 1)) → (number ≡ 1000000 → outcome ≡ status.TooLong)
     → (bytes : List ℕ) (end : Type 0) (text : List ℕ) (done : List Deed) → RanOut bytes end text done → EndsIn outcome number bytes end text done
 ran_out_as outcome number few missing long bytes end text done out =
@@ -116,23 +121,28 @@ said P Q outcome a b t u more r = record {
   did = more (r.deeds ++ r.done) r.did;
 }
 
-module _ {B : Type 0} (Does : B → B → List Deed → Type 0) (chain : AreDone Does) where
+module _ {B : Type 0} (Does : B → B → List Deed → Type 0) (Leaves : Status → B → B → Type 0) (chain : AreDone Does Leaves) where
+  -- nothing but the deeds was done
+  ended_so : (s : Status) (old new : B) (deeds : List Deed) → s ≢ status.Memory → Does old new deeds → Ended Does Leaves s old new deeds
+  ended_so s old new deeds other did = record { behind = new; did = did; leaves = chain.rests s new other }
+
   -- a line that is skipped is done
   pub line_skipped : (b : B) (line : List ℕ) (taken : Option (List ℕ)) → IsSkipped line → DidLine Does line None b b taken taken
   line_skipped b line taken is =
       record { deed = Skipped line; line_is = refl; is = is; did = chain.skipped b line; reported = (tt, Appends-nil taken) }
 
   -- an event was done for the line
-  pub line_done : (outcome : Option Status) (old new : B) (taken0 taken1 : Option (List ℕ)) (line : List ℕ) (e : Event) (r : Reply)
-      → IsLineOf e line → Does old new (Did line e r ∷ []) → Reported outcome (e ≢ event.End) (e ≡ event.End) (line_of r) taken0 taken1 → DidLine Does line outcome old new taken0 taken1
-  line_done outcome old new taken0 taken1 line e r is did reported =
-      record { deed = Did line e r; line_is = refl; is = is; did = did; reported = reported }
+  pub line_done : (outcome : Option Status) (old new : B) (taken0 taken1 : Option (List ℕ)) (line : List ℕ) (d : Done)
+      → IsLineOf d.event line → Does old new (Did line d ∷ []) → Reported outcome (d.event ≢ event.End) (d.event ≡ event.End) (line_of d.reply) taken0 taken1 → DidLine Does line outcome old new taken0 taken1
+  line_done outcome old new taken0 taken1 line d is did reported =
+      record { deed = Did line d; line_is = refl; is = is; did = did; reported = reported }
 
   -- the run goes on behind a line end
   pub line_goes : (number : ℕ) (old new : B) (left0 left1 taken0 taken1 : Option (List ℕ)) (line : List ℕ)
-      → LineTaken left0 left1 line true → DidLine Does line None old new taken0 taken1 ⊎ Refused number line None old new taken0 taken1 → Goes Does old new left0 left1 taken0 taken1
-  line_goes number old new left0 left1 taken0 taken1 line l (inr r) = cc (r.outcome_is)
-  line_goes number old new left0 left1 taken0 taken1 line l (inl d) = record {
+      → LineTaken left0 left1 line true → LineEnd Does Leaves number line None old new taken0 taken1 → Goes Does old new left0 left1 taken0 taken1
+  line_goes number old new left0 left1 taken0 taken1 line l (LineEnd.refused r) = cc (r.outcome_is)
+  line_goes number old new left0 left1 taken0 taken1 line l (LineEnd.wanted r) = cc (r.outcome_is)
+  line_goes number old new left0 left1 taken0 taken1 line l (LineEnd.did d) = record {
     deed = d.deed;
     reads = reads_of left0 left1 line true d.deed l d.line_is d.is;
     goes_on = d.reported.0;
@@ -143,11 +153,12 @@ module _ {B : Type 0} (Does : B → B → List Deed → Type 0) (chain : AreDone
 
   -- the run ends with what was done in the line
   done_stops : (outcome : Status) (number : ℕ) → number ≤ 1000000 → (old new : B) (left0 left1 taken0 taken1 : Option (List ℕ)) (line : List ℕ) (is_ended : Bool)
-      → LineTaken left0 left1 line is_ended → DidLine Does line (Some outcome) old new taken0 taken1 → Stops Does outcome number old new left0 left1 taken0 taken1
+      → LineTaken left0 left1 line is_ended → DidLine Does line (Some outcome) old new taken0 taken1 → Stops Does Leaves outcome number old new left0 left1 taken0 taken1
   done_stops status.Words number few old new left0 left1 taken0 taken1 line is_ended l d = absurd d.reported
   done_stops (status.Script n) number few old new left0 left1 taken0 taken1 line is_ended l d = absurd d.reported
   done_stops status.ReadFault number few old new left0 left1 taken0 taken1 line is_ended l d = absurd d.reported
   done_stops status.TooLong number few old new left0 left1 taken0 taken1 line is_ended l d = absurd d.reported
+  done_stops status.Memory number few old new left0 left1 taken0 taken1 line is_ended l d = absurd d.reported
   done_stops status.Done number few old new left0 left1 taken0 taken1 line is_ended l d = record {
     bytes = l.bytes;
     done = d.deed ∷ [];
@@ -156,7 +167,7 @@ module _ {B : Type 0} (Does : B → B → List Deed → Type 0) (chain : AreDone
     ends = (did_last left0 left1 line is_ended d.deed l d.line_is d.is, d.reported.0, refl);
     consumed = l.consumed;
     appended = d.reported.1;
-    did = d.did;
+    did = ended_so status.Done old new (d.deed ∷ []) (λ e. cc) d.did;
   }
   done_stops status.WriteFault number few old new left0 left1 taken0 taken1 line is_ended l d = record {
     bytes = l.bytes;
@@ -166,12 +177,12 @@ module _ {B : Type 0} (Does : B → B → List Deed → Type 0) (chain : AreDone
     ends = (did_last left0 left1 line is_ended d.deed l d.line_is d.is, d.reported.2);
     consumed = l.consumed;
     appended = d.reported.1;
-    did = d.did;
+    did = ended_so status.WriteFault old new (d.deed ∷ []) (λ e. cc) d.did;
   }
 
   -- the run ends since what stands in the line's place is bad
   pub stops_bad : (number : ℕ) → number ≤ 1000000 → (b : B) (left0 left1 taken : Option (List ℕ)) (bytes : List ℕ) → Consumes left0 left1 bytes → IsBadPlace bytes (IsAtEnd left1)
-      → Stops Does (status.Script number) number b b left0 left1 taken taken
+      → Stops Does Leaves (status.Script number) number b b left0 left1 taken taken
   stops_bad number few b left0 left1 taken bytes consumed bad = record {
     bytes = bytes;
     done = [];
@@ -180,12 +191,12 @@ module _ {B : Type 0} (Does : B → B → List Deed → Type 0) (chain : AreDone
     ends = (few, inl (refl, refl, refl, bad));
     consumed = consumed;
     appended = Appends-nil taken;
-    did = chain.nothing b;
+    did = ended_so (status.Script number) b b [] (λ e. cc) (chain.nothing b);
   }
 
   -- the run ends since the source failed
   pub stops_failed : (how : LineRead) (number : ℕ) → number ≤ 1000000 → (b : B) (left0 left1 taken : Option (List ℕ)) (buf : List ℕ) → ReadAs left0 left1 buf how
-      → how ≡ read.Fault → Stops Does status.ReadFault number b b left0 left1 taken taken
+      → how ≡ read.Fault → Stops Does Leaves status.ReadFault number b b left0 left1 taken taken
   stops_failed how number few b left0 left1 taken buf took is =
       let reads : ReadsLine read.Fault took.0 buf (IsAtEnd left1) = subst (λ (x : LineRead). ReadsLine x took.0 buf (IsAtEnd left1)) is took.2 in
       record {
@@ -196,32 +207,51 @@ module _ {B : Type 0} (Does : B → B → List Deed → Type 0) (chain : AreDone
         ends = (refl, refl, reads.0, reads.1);
         consumed = took.1;
         appended = Appends-nil taken;
-        did = chain.nothing b;
+        did = ended_so status.ReadFault b b [] (λ e. cc) (chain.nothing b);
       }
 
   refused_stops : (outcome : Status) (number : ℕ) → number ≤ 1000000 → (old new : B) (left0 left1 taken0 taken1 : Option (List ℕ)) (line : List ℕ) (is_ended : Bool)
-      → LineTaken left0 left1 line is_ended → Refused number line (Some outcome) old new taken0 taken1 → Stops Does outcome number old new left0 left1 taken0 taken1
+      → LineTaken left0 left1 line is_ended → Refused number line (Some outcome) old new taken0 taken1 → Stops Does Leaves outcome number old new left0 left1 taken0 taken1
   refused_stops outcome number few old new left0 left1 taken0 taken1 line is_ended l r =
       let is : outcome ≡ status.Script number = cc (r.outcome_is) in
-      subst (λ s. Stops Does s number old new left0 left1 taken0 taken1) (sym is)
-      (subst (λ b. Stops Does (status.Script number) number old b left0 left1 taken0 taken1) (sym r.bench)
-      (subst (λ t. Stops Does (status.Script number) number old old left0 left1 taken0 t) (sym r.report)
+      subst (λ s. Stops Does Leaves s number old new left0 left1 taken0 taken1) (sym is)
+      (subst (λ b. Stops Does Leaves (status.Script number) number old b left0 left1 taken0 taken1) (sym r.bench)
+      (subst (λ t. Stops Does Leaves (status.Script number) number old old left0 left1 taken0 t) (sym r.report)
       (stops_bad number few old left0 left1 taken0 l.bytes l.consumed
       (inl (record { line = line; is_ended = is_ended; one = l.one; short = l.short; is = l.is; bad = r.bad })))))
 
+  -- the run ends since there is no memory for the line's rates
+  wanted_stops : (outcome : Status) (number : ℕ) → number ≤ 1000000 → (old new : B) (left0 left1 taken0 taken1 : Option (List ℕ)) (line : List ℕ) (is_ended : Bool)
+      → LineTaken left0 left1 line is_ended → Wanted Leaves line (Some outcome) old new taken0 taken1 → Stops Does Leaves outcome number old new left0 left1 taken0 taken1
+  wanted_stops outcome number few old new left0 left1 taken0 taken1 line is_ended l w =
+      let is : outcome ≡ status.Memory = cc (w.outcome_is) in
+      subst (λ s. Stops Does Leaves s number old new left0 left1 taken0 taken1) (sym is)
+      (record {
+        bytes = l.bytes;
+        done = [];
+        text = [];
+        few = λ _. few;
+        ends = (refl, refl, record { line = line; is_ended = is_ended; one = l.one; short = l.short; is = l.is; rates = w.rates });
+        consumed = l.consumed;
+        appended = subst (λ (t : Option (List ℕ)). Appends taken0 t []) (sym w.report) (Appends-nil taken0);
+        did = record { behind = old; did = chain.nothing old; leaves = w.leaves };
+      })
+
   -- the run ends in the line
   pub line_stops : (outcome : Status) (number : ℕ) → number ≤ 1000000 → (old new : B) (left0 left1 taken0 taken1 : Option (List ℕ)) (line : List ℕ) (is_ended : Bool)
-      → LineTaken left0 left1 line is_ended → DidLine Does line (Some outcome) old new taken0 taken1 ⊎ Refused number line (Some outcome) old new taken0 taken1
-      → Stops Does outcome number old new left0 left1 taken0 taken1
-  line_stops outcome number few old new left0 left1 taken0 taken1 line is_ended l (inl d) = done_stops outcome number few old new left0 left1 taken0 taken1 line is_ended l d
-  line_stops outcome number few old new left0 left1 taken0 taken1 line is_ended l (inr r) = refused_stops outcome number few old new left0 left1 taken0 taken1 line is_ended l r
+      → LineTaken left0 left1 line is_ended → LineEnd Does Leaves number line (Some outcome) old new taken0 taken1
+      → Stops Does Leaves outcome number old new left0 left1 taken0 taken1
+  line_stops outcome number few old new left0 left1 taken0 taken1 line is_ended l (LineEnd.did d) = done_stops outcome number few old new left0 left1 taken0 taken1 line is_ended l d
+  line_stops outcome number few old new left0 left1 taken0 taken1 line is_ended l (LineEnd.wanted w) = wanted_stops outcome number few old new left0 left1 taken0 taken1 line is_ended l w
+  line_stops outcome number few old new left0 left1 taken0 taken1 line is_ended l (LineEnd.refused r) = refused_stops outcome number few old new left0 left1 taken0 taken1 line is_ended l r
 
   -- the run ends since the script has ended behind the line
   pub line_runs_out : (outcome : Status) (number : ℕ) → number ≤ 1000000 → (number < 1000000 → outcome ≡ status.Script (number + 1)) → (number ≡ 1000000 → outcome ≡ status.TooLong)
       → (old new : B) (left0 left1 taken0 taken1 : Option (List ℕ)) (line : List ℕ)
-      → LineTaken left0 left1 line false → DidLine Does line None old new taken0 taken1 ⊎ Refused number line None old new taken0 taken1 → Stops Does outcome number old new left0 left1 taken0 taken1
-  line_runs_out outcome number few missing long old new left0 left1 taken0 taken1 line l (inr r) = cc (r.outcome_is)
-  line_runs_out outcome number few missing long old new left0 left1 taken0 taken1 line l (inl d) = record {
+      → LineTaken left0 left1 line false → LineEnd Does Leaves number line None old new taken0 taken1 → Stops Does Leaves outcome number old new left0 left1 taken0 taken1
+  line_runs_out outcome number few missing long old new left0 left1 taken0 taken1 line l (LineEnd.refused r) = cc (r.outcome_is)
+  line_runs_out outcome number few missing long old new left0 left1 taken0 taken1 line l (LineEnd.wanted r) = cc (r.outcome_is)
+  line_runs_out outcome number few missing long old new left0 left1 taken0 taken1 line l (LineEnd.did d) = record {
     bytes = l.bytes;
     done = d.deed ∷ [];
     text = text_for d.deed;
@@ -237,12 +267,12 @@ module _ {B : Type 0} (Does : B → B → List Deed → Type 0) (chain : AreDone
         });
     consumed = l.consumed;
     appended = d.reported.1;
-    did = d.did;
+    did = ended_so outcome old new (d.deed ∷ []) (not_memory outcome number few missing long) d.did;
   }
 
   -- the line is too long, or missing
   pub stops_unread : (r : LineRead) (number : ℕ) → number ≤ 1000000 → (b : B) (left0 left1 taken : Option (List ℕ)) (buf : List ℕ) → ReadAs left0 left1 buf r
-      → (r ≡ read.End) ⊎ (r ≡ read.Long) → Stops Does (status.Script number) number b b left0 left1 taken taken
+      → (r ≡ read.End) ⊎ (r ≡ read.Long) → Stops Does Leaves (status.Script number) number b b left0 left1 taken taken
   stops_unread r number few b left0 left1 taken buf t is =
       elim is [
         | inl e ↦
@@ -277,8 +307,8 @@ module _ {B : Type 0} (Does : B → B → List Deed → Type 0) (chain : AreDone
     did = chain.both old mid new p.deeds (n.deed ∷ []) p.did n.did;
   }
 
-  pub replayed : (outcome : Status) (count : ℕ) (old mid new : B) (a b c t u v : Option (List ℕ)) → Progress Does count old mid a b t u → Stops Does outcome (count + 1) mid new b c u v
-      → Replayed outcome (Does old new) a c t v
+  pub replayed : (outcome : Status) (count : ℕ) (old mid new : B) (a b c t u v : Option (List ℕ)) → Progress Does count old mid a b t u → Stops Does Leaves outcome (count + 1) mid new b c u v
+      → Replayed outcome (Ended Does Leaves outcome old new) a c t v
   replayed outcome count old mid new a b c t u v p s = record {
     deeds = p.deeds;
     each = p.each;
@@ -290,10 +320,10 @@ module _ {B : Type 0} (Does : B → B → List Deed → Type 0) (chain : AreDone
     ends = subst (λ (n : ℕ). EndsIn outcome (n + 1) s.bytes (IsAtEnd c) s.text s.done) (sym p.number) s.ends;
     consumed = Consumes-trans a b c _ _ p.consumed s.consumed;
     appended = Appends-trans t u v _ _ p.appended s.appended;
-    did = chain.both old mid new p.deeds s.done p.did s.did;
+    did = record { behind = s.did.behind; did = chain.both old mid s.did.behind p.deeds s.done p.did s.did.did; leaves = s.did.leaves };
   }
 
-  pub too_long : (old new : B) (a b t u : Option (List ℕ)) → Progress Does 1000000 old new a b t u → Replayed status.TooLong (Does old new) a b t u
+  pub too_long : (old new : B) (a b t u : Option (List ℕ)) → Progress Does 1000000 old new a b t u → Replayed status.TooLong (Ended Does Leaves status.TooLong old new) a b t u
   too_long old new a b t u p = replayed status.TooLong 1000000 old new new a b b t u u p (record {
     bytes = [];
     done = [];
@@ -302,20 +332,5 @@ module _ {B : Type 0} (Does : B → B → List Deed → Type 0) (chain : AreDone
     ends = inl (refl, refl, refl, refl);
     consumed = Consumes-nil b;
     appended = Appends-nil u;
-    did = chain.nothing new;
+    did = ended_so status.TooLong new new [] (λ e. cc) (chain.nothing new);
   })
-
-  pub words_only : (b : B) (left taken : Option (List ℕ)) → Replayed status.Words (Does b b) left left taken taken
-  words_only b left taken = record {
-    deeds = [];
-    each = tt;
-    go_on = tt;
-    rest = [];
-    done = [];
-    text = [];
-    few = λ h. omega arith;
-    ends = (refl, refl, refl, refl);
-    consumed = Consumes-nil left;
-    appended = Appends-nil taken;
-    did = chain.nothing b;
-  }

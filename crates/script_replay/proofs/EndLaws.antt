@@ -19,7 +19,7 @@ use Rattle.script_replay.specs.Run.{IsBadPlace, RanOut, EndsIn, Replayed}
 -- ---- one end
 
 end_line : (line : List ℕ) → IsEndLine line → IsLineOf event.End line
-end_line line l = record { whole = tt; taken = refl; spells = l }
+end_line line l = record { whole = tt; spells = l }
 
 passed_not_last : (line : List ℕ) → IsPassed line → IsEndLine line → ⊥
 passed_not_last line p l =
@@ -44,6 +44,7 @@ last_small status.TooLong number rest l = omega (arith, l)
 last_small status.Words number rest l = absurd l
 last_small status.ReadFault number rest l = absurd l
 last_small status.WriteFault number rest l = absurd l
+last_small status.Memory number rest l = absurd l
 
 -- a line that is passed is not the last one
 not_yet : (s : Status) (number : ℕ) (line : List ℕ) (rest : List (List ℕ)) → IsPassed line → EndsAt s number (line ∷ rest) → number ≡ 1000001
@@ -53,6 +54,7 @@ not_yet status.TooLong number line rest p l = l
 not_yet status.Words number line rest p l = absurd l
 not_yet status.ReadFault number line rest p l = absurd l
 not_yet status.WriteFault number line rest p l = absurd l
+not_yet status.Memory number line rest p l = absurd l
 
 end_short : (line : List ℕ) → IsEndLine line → length line ≡ 3
 end_short line l = ap length l.2 ∙ ap (λ (ws : List (List ℕ)). length (joined ws)) l.1
@@ -68,9 +70,11 @@ same_last : (s t : Status) (number : ℕ) (rest : List (List ℕ)) → EndsAt s 
 same_last status.Words t number rest l m = absurd l
 same_last status.ReadFault t number rest l m = absurd l
 same_last status.WriteFault t number rest l m = absurd l
+same_last status.Memory t number rest l m = absurd l
 same_last s status.Words number rest l m = absurd m
 same_last s status.ReadFault number rest l m = absurd m
 same_last s status.WriteFault number rest l m = absurd m
+same_last s status.Memory number rest l m = absurd m
 same_last status.Done status.Done number rest l m = refl
 same_last status.TooLong status.TooLong number rest l m = refl
 same_last status.Done (status.Script n) number [] l m = absurd l
@@ -155,7 +159,7 @@ lines_of-script (d ∷ deeds) more each =
 
 passed_of : (d : Deed) → Reads d → GoesOn d → IsPassed (line_in d)
 passed_of (Skipped line) r g = (r.short, inl r.is)
-passed_of (Did line e reply) r g = (r.short, inr (e, r.is, g))
+passed_of (Did line d) r g = (r.short, inr (d.event, r.is, g))
 
 all_passed : (deeds : List Deed) → AllByRecursion Reads deeds → AllByRecursion GoesOn deeds → AllByRecursion IsPassed (map line_in deeds)
 all_passed [] r g = tt
@@ -167,7 +171,7 @@ passed_append (x ∷ a) b p q = (p.0, passed_append a b p.1 q)
 
 last_of : (d : Deed) → Reads d → IsEnd d → IsEndLine (line_in d)
 last_of (Skipped line) r e = absurd e
-last_of (Did line x reply) r e = subst (λ (y : Event). Spells y line) e r.is.spells
+last_of (Did line d) r e = subst (λ (y : Event). Spells y line) e r.is.spells
 
 -- what follows the lines of the deeds decides
 decided : (outcome : Status) (deeds : List Deed) (bytes : List ℕ) (rest : List (List ℕ)) → AllByRecursion Reads deeds → AllByRecursion GoesOn deeds
@@ -210,6 +214,7 @@ ends_told : (outcome : Status) (deeds : List Deed) (bytes left text : List ℕ) 
 ends_told status.Words deeds bytes left text done reads goes own few ends = absurd own
 ends_told status.ReadFault deeds bytes left text done reads goes own few ends = absurd own
 ends_told status.WriteFault deeds bytes left text done reads goes own few ends = absurd own
+ends_told status.Memory deeds bytes left text done reads goes own few ends = absurd own
 ends_told status.Done deeds bytes left text done reads goes own few ends =
     let did = ends.0 in
     let w = line_first did.is_ended (line_in did.last) bytes left did.reads.one did.line in

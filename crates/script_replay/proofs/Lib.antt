@@ -1,10 +1,15 @@
 mod Answering
+mod Calling
 mod Chains
 mod Counting
 mod Deeds
 mod EndLaws
+mod Faults
+mod Generating
 mod Held
 mod Outside
+mod Printing
+mod Replying
 mod Running
 mod Sent
-mod Streams
+mod Stores

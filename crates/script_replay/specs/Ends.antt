@@ -1,4 +1,4 @@
--- How a script ends by its bytes alone: what a run answers for it while no stream fails.
+-- How a script ends by its bytes alone: what a run answers for it while no stream fails and there is memory.
 use Rattle.std.specs.Prelude.{◌≡◌, ◌≢◌, ℕ, ◌+◌, ◌<◌, ◌≤◌, List, [], ◌∷◌, ◌++◌, length, ◌⊎◌, ◌==◌, if◌then◌else◌}
 use Rattle.std.specs.List.{AllByRecursion}
 use Rattle.bench_base.specs.declared.events.Event.{Event}
@@ -36,8 +36,9 @@ EndsAt status.TooLong number rest = number ≡ 1000001
 EndsAt status.Words number rest = ⊥
 EndsAt status.ReadFault number rest = ⊥
 EndsAt status.WriteFault number rest = ⊥
+EndsAt status.Memory number rest = ⊥
 
--- a run over the script of these bytes ends so, unless a stream fails
+-- a run over the script of these bytes ends so, unless a stream fails or memory is wanting
 pub record EndsAs (outcome : Status) (bytes : List ℕ) : Type 0 where
   pub passed : List (List ℕ)
   pub rest : List (List ℕ)
@@ -53,3 +54,4 @@ IsByScript status.TooLong = Unit {0}
 IsByScript status.Words = ⊥
 IsByScript status.ReadFault = ⊥
 IsByScript status.WriteFault = ⊥
+IsByScript status.Memory = ⊥

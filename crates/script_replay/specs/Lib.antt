@@ -4,8 +4,11 @@ pub mod Counts
 pub mod Deeds
 pub mod Ends
 pub mod Events
+pub mod Faults
 pub mod Fresh
+pub mod Generated
 pub mod Lines
+pub mod Marks
 pub mod Outside
 pub mod Run
 pub mod Streams

@@ -17,6 +17,10 @@ IsOneLine line = Without 10 line
 abbrev pub ended : List ℕ → List ℕ
 ended line = line ++ 10 ∷ []
 
+-- a front of the text that isn't all of it
+abbrev pub IsCutOff : List ℕ → List ℕ → Type 0
+IsCutOff part text = (more : List ℕ) × (text ≡ part ++ more) × (0 < length more)
+
 -- what the next byte took of a stream
 abbrev pub ReadsByte : {E : Type 0} → Result (Option ℕ) E → Option (List ℕ) → Option (List ℕ) → Type 0
 ReadsByte (Ok (Some b)) left0 left1 = Consumes left0 left1 (b ∷ [])

@@ -1,29 +1,50 @@
--- What a run does to the script and the report, by how it ends.
-use Rattle.std.specs.Prelude.{◌≡◌, ◌≢◌, ◌↔◌, ◌≤◌, ℕ, List, [], ◌∷◌, Option, IfSome, codes}
+-- What a run does, by the words that the program is called with, and to its streams, by how it ends.
+use Rattle.std.specs.Prelude.{◌≡◌, ◌≢◌, ◌↔◌, ◌≤◌, ℕ, List, [], Option, IfSome}
 use Rattle.bench_base.specs.Causes.{Rose}
 use Rattle.bench_base.specs.declared.stream.Source as source
 use Rattle.bench_base.specs.declared.stream.Sink as sink
+use Rattle.bench.specs.Outside.{Outside}
+use Rattle.script_text.specs.declared.program.Words.{Words}
+use Rattle.script_text.specs.declared.program.Words.TheVariants.{Replay, Generate}
+use Rattle.script_text.specs.Programs.{program_words, AreInRange}
+use Rattle.script_replay.specs.Deeds.{Deed}
 use Rattle.script_replay.specs.Ends.{EndsAs, IsByScript}
+use Rattle.script_replay.specs.Generated.{Generated}
+use Rattle.script_replay.specs.Run.{Replayed}
 use Rattle.script_replay.specs.declared.status.Status.{Status}
 use Rattle.script_replay.specs.declared.status.Status.TheVariants as status
 
--- the bytes that are left of the script and that the report took, where they are told, and the faults of each
+-- the bytes that are left of the script and that the report took, where they are told, and the faults of each; the rates and the printer
 pub record Streams : Type 0 where
   pub left : Option (List ℕ)
   pub read_faults : ℕ
   pub taken : Option (List ℕ)
   pub write_faults : ℕ
+  pub outside : Outside
 
-abbrev pub streams : {S K : Type 0} → source.Ghosts S → S → sink.Ghosts K → K → Streams
-streams s script k report = record { left = s.left script; read_faults = s.faults script; taken = k.taken report; write_faults = k.faults report }
+abbrev pub streams : {S K : Type 0} → source.Ghosts S → S → sink.Ghosts K → K → Outside → Streams
+streams s script k report outside =
+    record { left = s.left script; read_faults = s.faults script; taken = k.taken report; write_faults = k.faults report; outside = outside }
+
+-- the words are none that the program knows
+abbrev pub AreNone : List (List ℕ) → Type 0
+AreNone given = (w : Words) → AreInRange w → given ≢ program_words w
+
+-- What a run did over the words that were given: it did the script's lines, or all events of a generated run, or nothing.
+pub record Ran (outcome : Status) (given : List (List ℕ)) (WasDone : List Deed → Type 0) (before now : Streams) : Type 0 where
+  pub replays : given ≡ program_words Replay → Replayed outcome WasDone before.left now.left before.taken now.taken
+  pub generates : (seed count : ℕ) → AreInRange (Generate seed count) → given ≡ program_words (Generate seed count) → Generated outcome seed count WasDone before.taken now.taken
+  pub nothing : AreNone given → WasDone []
 
 -- why a run over the words that were given ends so
 pub record EndsRun (outcome : Status) (given : List (List ℕ)) (before now : Streams) : Type 0 where
-  -- Done, Script and TooLong come exactly where the bytes of the script say so, and only a fault of a stream hinders them
-  pub exact : IfSome before.left (λ bytes. IsByScript outcome → (s : Status) → (outcome ≡ s) ↔ EndsAs s bytes)
-  pub words : (outcome ≡ status.Words) ↔ (given ≢ codes "replay" ∷ [])
-  pub untouched : outcome ≡ status.Words → (now.left ≡ before.left) × (now.read_faults ≡ before.read_faults)
-      × (now.taken ≡ before.taken) × (now.write_faults ≡ before.write_faults)
+  -- Done, Script and TooLong come exactly where the bytes of the script say so, and only a fault of a stream and want of memory hinder them
+  pub exact : given ≡ program_words Replay → IfSome before.left (λ bytes. IsByScript outcome → (s : Status) → (outcome ≡ s) ↔ EndsAs s bytes)
+  pub words : (outcome ≡ status.Words) ↔ AreNone given
+  pub untouched : outcome ≡ status.Words → now ≡ before
+  -- nothing is taken of the script and of the rates for a generated run, and nothing is printed
+  pub unread : (seed count : ℕ) → AreInRange (Generate seed count) → given ≡ program_words (Generate seed count)
+      → (now.left ≡ before.left) × (now.read_faults ≡ before.read_faults) × (now.outside ≡ before.outside)
   pub read_fault : outcome ≡ status.ReadFault → Rose before.read_faults now.read_faults
   pub write_fault : outcome ≡ status.WriteFault → Rose before.write_faults now.write_faults
   pub read_later : before.read_faults ≤ now.read_faults

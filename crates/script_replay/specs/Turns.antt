@@ -2,15 +2,17 @@
 use Rattle.std.specs.Prelude.{◌≡◌, ◌≢◌, ℕ, ◌≤◌, List, [], ◌∷◌, length, Option, Some, None}
 use Rattle.std.specs.Io.KnownBytes.{Consumes, Appends, IsAtEnd}
 use Rattle.std.specs.List.{AllByRecursion}
+use Rattle.bench_base.specs.declared.events.Event.TheVariants as ev
 use Rattle.script_replay.specs.Deeds.{Deed, line_in, text_for, IsOf, Reads, IsEnd, GoesOn, script_of, report_of}
-use Rattle.script_replay.specs.Events.{IsBad}
-use Rattle.script_replay.specs.Lines.{ended}
-use Rattle.script_replay.specs.Run.{EndsIn, IsCutOff}
+use Rattle.script_replay.specs.Events.{IsLineOf, IsBad}
+use Rattle.script_replay.specs.Lines.{ended, IsCutOff}
+use Rattle.script_replay.specs.Run.{EndsIn}
 use Rattle.script_replay.specs.declared.status.Status.{Status}
 use Rattle.script_replay.specs.declared.status.Status.TheVariants as status
 
--- Does says that a bench did these deeds. The turns of a run need no more than that none are done by doing nothing, and some by
--- doing one after the other.
+-- Does says that a bench did these deeds, and Leaves what it and its streams are by the end of the run. The turns of a run need no more
+-- than that no deeds are done by doing nothing, and some by doing one after the other; and that all but want of memory leaves all as
+-- it is.
 
 -- what the report took of a text, and whether the run ends with it: GoesOn and IsEnd say of what was done that the run goes on, and that it was `end`
 abbrev pub Reported : Option Status → Type 0 → Type 0 → List ℕ → Option (List ℕ) → Option (List ℕ) → Type 0
@@ -20,6 +22,7 @@ Reported (Some status.WriteFault) GoesOn IsEnd text taken0 taken1 = (part : List
 Reported (Some status.Words) GoesOn IsEnd text taken0 taken1 = ⊥
 Reported (Some (status.Script line)) GoesOn IsEnd text taken0 taken1 = ⊥
 Reported (Some status.ReadFault) GoesOn IsEnd text taken0 taken1 = ⊥
+Reported (Some status.Memory) GoesOn IsEnd text taken0 taken1 = ⊥
 Reported (Some status.TooLong) GoesOn IsEnd text taken0 taken1 = ⊥
 
 -- the line was done, and its text reported
@@ -37,6 +40,26 @@ pub record Refused {B : Type 0} (number : ℕ) (line : List ℕ) (outcome : Opti
   pub bench : new ≡ old
   pub report : taken1 ≡ taken0
 
+-- nothing was done for want of memory, since the line is one of `rates`
+pub record Wanted {B : Type 0} (Leaves : Status → B → B → Type 0) (line : List ℕ) (outcome : Option Status) (old new : B) (taken0 taken1 : Option (List ℕ)) : Type 0 where
+  pub outcome_is : outcome ≡ Some status.Memory
+  pub rates : IsLineOf ev.Rates line
+  pub leaves : Leaves status.Memory old new
+  pub report : taken1 ≡ taken0
+
+-- what became of the line of this number
+pub data LineEnd {B : Type 0} (Does : B → B → List Deed → Type 0) (Leaves : Status → B → B → Type 0) (number : ℕ) (line : List ℕ) (outcome : Option Status) (old new : B)
+    (taken0 taken1 : Option (List ℕ)) : Type 0 where
+  did : DidLine Does line outcome old new taken0 taken1 → LineEnd Does Leaves number line outcome old new taken0 taken1
+  refused : Refused number line outcome old new taken0 taken1 → LineEnd Does Leaves number line outcome old new taken0 taken1
+  wanted : Wanted Leaves line outcome old new taken0 taken1 → LineEnd Does Leaves number line outcome old new taken0 taken1
+
+-- the deeds were done, and the run ended so
+pub record Ended {B : Type 0} (Does : B → B → List Deed → Type 0) (Leaves : Status → B → B → Type 0) (outcome : Status) (old new : B) (deeds : List Deed) : Type 0 where
+  pub behind : B
+  pub did : Does old behind deeds
+  pub leaves : Leaves outcome behind new
+
 -- One line was done, and the run goes on.
 pub record Goes {B : Type 0} (Does : B → B → List Deed → Type 0) (old new : B) (left0 left1 taken0 taken1 : Option (List ℕ)) : Type 0 where
   pub deed : Deed
@@ -47,7 +70,7 @@ pub record Goes {B : Type 0} (Does : B → B → List Deed → Type 0) (old new 
   pub did : Does old new (deed ∷ [])
 
 -- The run ended in the line of this number.
-pub record Stops {B : Type 0} (Does : B → B → List Deed → Type 0) (outcome : Status) (number : ℕ) (old new : B) (left0 left1 taken0 taken1 : Option (List ℕ)) : Type 0 where
+pub record Stops {B : Type 0} (Does : B → B → List Deed → Type 0) (Leaves : Status → B → B → Type 0) (outcome : Status) (number : ℕ) (old new : B) (left0 left1 taken0 taken1 : Option (List ℕ)) : Type 0 where
   pub bytes : List ℕ
   pub done : List Deed
   pub text : List ℕ
@@ -55,7 +78,7 @@ pub record Stops {B : Type 0} (Does : B → B → List Deed → Type 0) (outcome
   pub ends : EndsIn outcome number bytes (IsAtEnd left1) text done
   pub consumed : Consumes left0 left1 bytes
   pub appended : Appends taken0 taken1 text
-  pub did : Does old new done
+  pub did : Ended Does Leaves outcome old new done
 
 -- This many lines were done, and the run goes on.
 pub record Progress {B : Type 0} (Does : B → B → List Deed → Type 0) (count : ℕ) (old new : B) (left0 left1 taken0 taken1 : Option (List ℕ)) : Type 0 where

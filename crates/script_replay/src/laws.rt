@@ -3,11 +3,14 @@ ghost use Rattle.std.specs.Prelude.{◌≡◌, ℕ, List};
 ghost use Rattle.std.specs.List.{AllByRecursion};
 ghost use Rattle.bench_base.specs.Ledger.{Ledger};
 ghost use Rattle.ledger_moves.specs.Tariffs.{Tariff};
+ghost use Rattle.bench_views.specs.Tariff.{IsOfTexts};
 ghost use Rattle.script_replay.specs.Deeds.{Deed, AreUnforged};
 ghost use Rattle.script_replay.specs.Ends.{EndsAs};
 ghost use Rattle.script_replay.specs.Outside.{BringsNone};
 ghost use Rattle.script_replay.specs.Run.{Unforged};
 ghost use Rattle.script_replay.specs.declared.status.Status.{Status};
+
+use host_rates::theorems::prices_by_text;
 
 /// A script ends in one way: two statuses that its bytes allow are one.
 pub fn one_end()
@@ -18,3 +21,10 @@ pub fn one_end()
 pub fn nothing_forged()
     ensures { (τ : Tariff) (H : Ledger) (deeds : List Deed) → AllByRecursion BringsNone deeds → AreUnforged τ Unforged H deeds }
 {}
+
+/// There is a tariff of texts: that what a run promises is by such a one leaves nothing out.
+pub fn texts_have_a_tariff()
+    ensures { (τ : Tariff) × IsOfTexts τ }
+{
+    prices_by_text();
+}

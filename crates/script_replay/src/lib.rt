@@ -2,8 +2,10 @@
 #![tactic(auto)]
 
 pub mod fresh;
+mod generate;
 pub mod laws;
 pub mod lines;
-pub mod report;
 pub mod run;
 pub mod status;
+
+pub use text_streams::put_text;

@@ -1,59 +1,68 @@
 //! A run over a whole script: line by line, until it ends.
-ghost use Rattle.std.specs.Prelude.{◌≡◌, ◌≢◌, ◌⊎◌, ◌+◌, ◌≤◌, ◌<◌, ◌∷◌, [], length, IfNone, IfSome, Some, map, codes, string_bytes, ◌↔◌, IsTrue};
+ghost use Rattle.std.specs.Prelude.{◌≡◌, ◌≢◌, ◌+◌, ◌≤◌, ◌<◌, [], ℕ, List, length, IfNone, IfSome, IfOk, OnErr, Some, map, string_bytes};
 ghost use Rattle.bench_base.specs.Causes.{Rose};
 ghost use Rattle.bench_base.specs.Ranges.{IsWholeEvent};
 ghost use Rattle.bench_base.specs.declared.events.Event.TheVariants as ends;
 ghost use Rattle.bench_base.specs.declared.events.Reply.{Reply};
 ghost use Rattle.bench_views.specs.Kinds.{bench_kinds};
-ghost use Rattle.bench_views.specs.Taken.{IsTaken};
 ghost use Rattle.bench.specs.declared.benches.TheConstants.{MOST_MESSAGES};
 ghost use Rattle.bench.specs.Benches.{IsReady, nodes, bench_of, fuse_in};
-ghost use Rattle.script_replay.specs.Chains.{DidEvent, DidDeeds};
-ghost use Rattle.script_replay.specs.Deeds.{line_of};
+ghost use Rattle.bench.specs.Outside.{outside};
+ghost use Rattle.script_replay.specs.Chains.{scene, DidEvent, DidDeeds};
+ghost use Rattle.script_replay.specs.Deeds.{done, line_of};
 ghost use Rattle.script_replay.specs.Events.{IsLineOf};
-ghost use Rattle.script_replay.specs.Run.{DidRun, Replayed};
-ghost use Rattle.script_replay.specs.Streams.{EndsRun, streams};
-ghost use Rattle.script_replay.specs.Turns.{DidLine, Refused, Reported, Goes, Stops};
+ghost use Rattle.script_replay.specs.Run.{DidRun, Leaves, Replayed};
+ghost use Rattle.script_replay.specs.Streams.{Ran, EndsRun, streams};
+ghost use Rattle.script_replay.specs.Turns.{LineEnd, Reported, Goes, Stops, Ended};
 ghost use Rattle.script_replay.specs.declared.status.Status.{Status};
 
+use crate::generate::generate;
 use crate::lines::{LineRead, read_line};
-use crate::report::put_text;
 use crate::status::Status;
-use bench::{Bench, BenchOver, is_taken, react};
+use bench::{Bench, BenchOver, react};
 use bench_base::events::{Event, Reply};
 use bench_base::stream::{Sink, Source};
 use centre_protocol::CentreNode;
+use host_node::HostNode;
 use ledger_laws::laws::histories;
 use node_seat::Node;
 use nv_model::{Fuse, Fused, Nv};
 use psd_device::DeviceNode;
-use script_text::{is_skipped, read_event, write_reply};
-use std::alloc::Global;
+use script_text::{Words, is_skipped, read_event, read_words, write_reply};
+use std::alloc::{AllocError, Global};
+use text_streams::put_text;
+use verifier_node::VerifierNode;
 
 /// The most lines that are read.
 const LINES: u32 = 1_000_000;
 
-// The event of the line, where it is one that the bench takes.
+// The event of the line.
 fn event_of(line: &[u8]) -> Option<Event>
     ensures found { IfSome result (λ e. IsLineOf e line.now) }
     ensures none { IfNone result ((e : Event) → IsLineOf e line.now → ⊥) }
 {
     match read_event(line) {
-        Ok(event) if is_taken(&event) => Some(event),
-        _ => None,
+        Ok(event) => Some(event),
+        Err(_) => None,
     }
 }
 
-// The bench's reply to one event.
-fn reply_to<M: Fuse + Drop, N: Nv>(event: &Event, bench: &mut BenchOver<M, N>) -> Reply
+// The bench's reply to one event. Only a `rates` may want memory.
+pub(crate) fn reply_to<M: Fuse + Drop, N: Nv, R: Source, P: Sink>(
+    alloc: Global,
+    event: &Event,
+    rates: &mut R,
+    printer: &mut P,
+    bench: &mut BenchOver<M, N>,
+) -> Result<Reply, AllocError>
     requires whole { IsWholeEvent event.now }
-    requires taken { IsTaken event.now }
     requires ready { IsReady (bench_of bench.old) }
     requires room { length (bench_of bench.old).messages < MOST_MESSAGES }
     ensures ready { IsReady (bench_of bench.new) }
-    ensures did { DidEvent (nodes ⟦<DeviceNode<M> as Node>⟧ ⟦<CentreNode<M> as Node>⟧ bench_kinds) M.Nv M.Fuse.own N.Nv (bench_of bench.old) (bench_of bench.new) event.now result }
+    ensures did { IfOk result (λ reply. (text printed : List ℕ) × DidEvent (nodes ⟦<DeviceNode<M> as Node>⟧ ⟦<CentreNode<M> as Node>⟧ ⟦<HostNode<M> as Node>⟧ ⟦<VerifierNode<M> as Node>⟧ bench_kinds) M.Nv M.Fuse.own N.Nv (scene (bench_of bench.old) (outside R.Source rates.old P.Sink printer.old)) (scene (bench_of bench.new) (outside R.Source rates.new P.Sink printer.new)) (done event.now text reply printed)) }
+    ensures memory { OnErr result ((event.now ≡ ends.Rates) × Leaves Status.Memory (scene (bench_of bench.old) (outside R.Source rates.old P.Sink printer.old)) (scene (bench_of bench.new) (outside R.Source rates.new P.Sink printer.new))) }
 {
-    react(bench, event)
+    react(alloc, bench, event, rates, printer)
 }
 
 // The end of the run, with the event that is it.
@@ -93,23 +102,29 @@ fn ended_by(event: &Event) -> Option<Status>
 }
 
 // Does one event and writes its reply's line. A status is the run's end.
-fn do_event<K: Sink, M: Fuse + Drop, N: Nv>(
+fn do_event<K: Sink, M: Fuse + Drop, N: Nv, R: Source, P: Sink>(
+    alloc: Global,
     event: &Event,
+    rates: &mut R,
     report: &mut K,
+    printer: &mut P,
     bench: &mut BenchOver<M, N>,
 ) -> Option<Status>
     requires whole { IsWholeEvent event.now }
-    requires taken { IsTaken event.now }
     requires ready { IsReady (bench_of bench.old) }
     requires room { length (bench_of bench.old).messages < MOST_MESSAGES }
     ensures ready { IsReady (bench_of bench.new) }
-    ensures done { (r : Reply) × DidEvent (nodes ⟦<DeviceNode<M> as Node>⟧ ⟦<CentreNode<M> as Node>⟧ bench_kinds) M.Nv M.Fuse.own N.Nv (bench_of bench.old) (bench_of bench.new) event.now r
+    ensures done { result ≢ Some Status.Memory → (text printed : List ℕ) × (r : Reply) × DidEvent (nodes ⟦<DeviceNode<M> as Node>⟧ ⟦<CentreNode<M> as Node>⟧ ⟦<HostNode<M> as Node>⟧ ⟦<VerifierNode<M> as Node>⟧ bench_kinds) M.Nv M.Fuse.own N.Nv (scene (bench_of bench.old) (outside R.Source rates.old P.Sink printer.old)) (scene (bench_of bench.new) (outside R.Source rates.new P.Sink printer.new)) (done event.now text r printed)
         × Reported result (event.now ≢ ends.End) (event.now ≡ ends.End) (line_of r) (K.taken report.old) (K.taken report.new) }
+    ensures memory { result ≡ Some Status.Memory → (event.now ≡ ends.Rates) × Leaves Status.Memory (scene (bench_of bench.old) (outside R.Source rates.old P.Sink printer.old)) (scene (bench_of bench.new) (outside R.Source rates.new P.Sink printer.new)) × (report.new ≡ report.old) }
     ensures not_words { result ≢ Some Status.Words }
     ensures later { K.faults report.old ≤ K.faults report.new }
     ensures failed { result ≡ Some Status.WriteFault → Rose (K.faults report.old) (K.faults report.new) }
 {
-    let reply = reply_to(event, bench);
+    let reply = match reply_to(alloc, event, rates, printer, bench) {
+        Ok(reply) => reply,
+        Err(_) => return Some(Status::Memory),
+    };
     let mut line = write_reply(&reply);
     line.put(b"\n");
     match put_text(report, line.as_slice()) {
@@ -119,17 +134,19 @@ fn do_event<K: Sink, M: Fuse + Drop, N: Nv>(
 }
 
 // Does the line of this number. A status is the run's end.
-fn do_line<K: Sink, M: Fuse + Drop, N: Nv>(
+fn do_line<K: Sink, M: Fuse + Drop, N: Nv, R: Source, P: Sink>(
+    alloc: Global,
     number: u32,
     line: &[u8],
+    rates: &mut R,
     report: &mut K,
+    printer: &mut P,
     bench: &mut BenchOver<M, N>,
 ) -> Option<Status>
     requires ready { IsReady (bench_of bench.old) }
     requires room { length (bench_of bench.old).messages < MOST_MESSAGES }
     ensures ready { IsReady (bench_of bench.new) }
-    ensures done { DidLine (DidDeeds (nodes ⟦<DeviceNode<M> as Node>⟧ ⟦<CentreNode<M> as Node>⟧ bench_kinds) M.Nv M.Fuse.own N.Nv) line.now result (bench_of bench.old) (bench_of bench.new) (K.taken report.old) (K.taken report.new)
-        ⊎ Refused number line.now result (bench_of bench.old) (bench_of bench.new) (K.taken report.old) (K.taken report.new) }
+    ensures done { LineEnd (DidDeeds (nodes ⟦<DeviceNode<M> as Node>⟧ ⟦<CentreNode<M> as Node>⟧ ⟦<HostNode<M> as Node>⟧ ⟦<VerifierNode<M> as Node>⟧ bench_kinds) M.Nv M.Fuse.own N.Nv) (λ s. Leaves s) number line.now result (scene (bench_of bench.old) (outside R.Source rates.old P.Sink printer.old)) (scene (bench_of bench.new) (outside R.Source rates.new P.Sink printer.new)) (K.taken report.old) (K.taken report.new) }
     ensures not_words { result ≢ Some Status.Words }
     ensures later { K.faults report.old ≤ K.faults report.new }
     ensures failed { result ≡ Some Status.WriteFault → Rose (K.faults report.old) (K.faults report.new) }
@@ -138,7 +155,7 @@ fn do_line<K: Sink, M: Fuse + Drop, N: Nv>(
         return None;
     }
     match event_of(line) {
-        Some(event) => do_event(&event, report, bench),
+        Some(event) => do_event(alloc, &event, rates, report, printer, bench),
         None => Some(Status::Script(number)),
     }
 }
@@ -157,20 +174,23 @@ fn missing_after(number: u32) -> Status
 }
 
 // Reads the line of this number and does it. A status is the run's end.
-fn turn<S: Source, K: Sink, M: Fuse + Drop, N: Nv>(
+fn turn<S: Source, K: Sink, M: Fuse + Drop, N: Nv, R: Source, P: Sink>(
+    alloc: Global,
     number: u32,
     buf: &mut [u8; 600],
     script: &mut S,
+    rates: &mut R,
     report: &mut K,
+    printer: &mut P,
     bench: &mut BenchOver<M, N>,
 ) -> Option<Status>
     requires few { number ≤ 1000000 }
     requires ready { IsReady (bench_of bench.old) }
     requires room { length (bench_of bench.old).messages < MOST_MESSAGES }
     ensures ready { IsReady (bench_of bench.new) }
-    ensures goes { IfNone result (Goes (DidDeeds (nodes ⟦<DeviceNode<M> as Node>⟧ ⟦<CentreNode<M> as Node>⟧ bench_kinds) M.Nv M.Fuse.own N.Nv) (bench_of bench.old) (bench_of bench.new) (S.left script.old) (S.left script.new)
+    ensures goes { IfNone result (Goes (DidDeeds (nodes ⟦<DeviceNode<M> as Node>⟧ ⟦<CentreNode<M> as Node>⟧ ⟦<HostNode<M> as Node>⟧ ⟦<VerifierNode<M> as Node>⟧ bench_kinds) M.Nv M.Fuse.own N.Nv) (scene (bench_of bench.old) (outside R.Source rates.old P.Sink printer.old)) (scene (bench_of bench.new) (outside R.Source rates.new P.Sink printer.new)) (S.left script.old) (S.left script.new)
         (K.taken report.old) (K.taken report.new)) }
-    ensures stops { IfSome result (λ s. Stops (DidDeeds (nodes ⟦<DeviceNode<M> as Node>⟧ ⟦<CentreNode<M> as Node>⟧ bench_kinds) M.Nv M.Fuse.own N.Nv) s number (bench_of bench.old) (bench_of bench.new) (S.left script.old) (S.left script.new)
+    ensures stops { IfSome result (λ s. Stops (DidDeeds (nodes ⟦<DeviceNode<M> as Node>⟧ ⟦<CentreNode<M> as Node>⟧ ⟦<HostNode<M> as Node>⟧ ⟦<VerifierNode<M> as Node>⟧ bench_kinds) M.Nv M.Fuse.own N.Nv) (λ s. Leaves s) s number (scene (bench_of bench.old) (outside R.Source rates.old P.Sink printer.old)) (scene (bench_of bench.new) (outside R.Source rates.new P.Sink printer.new)) (S.left script.old) (S.left script.new)
         (K.taken report.old) (K.taken report.new)) }
     ensures not_words { result ≢ Some Status.Words }
     ensures read_later { S.faults script.old ≤ S.faults script.new }
@@ -182,7 +202,8 @@ fn turn<S: Source, K: Sink, M: Fuse + Drop, N: Nv>(
         LineRead::Fault => Some(Status::ReadFault),
         LineRead::End | LineRead::Long => Some(Status::Script(number)),
         LineRead::Line(len, is_ended) => {
-            match do_line(number, &buf[..len as usize], report, bench) {
+            let line = &buf[..len as usize];
+            match do_line(alloc, number, line, rates, report, printer, bench) {
                 Some(status) => Some(status),
                 None => {
                     if is_ended {
@@ -196,15 +217,18 @@ fn turn<S: Source, K: Sink, M: Fuse + Drop, N: Nv>(
 }
 
 // Does the script's lines up to the run's end. A line sends one message at most, so there is room for those of all lines.
-fn replay<S: Source, K: Sink, M: Fuse + Drop, N: Nv>(
+fn replay<S: Source, K: Sink, M: Fuse + Drop, N: Nv, R: Source, P: Sink>(
+    alloc: Global,
     script: &mut S,
+    rates: &mut R,
     report: &mut K,
+    printer: &mut P,
     bench: &mut BenchOver<M, N>,
 ) -> Status
     requires ready { IsReady (bench_of bench.old) }
     requires no_messages { (bench_of bench.old).messages ≡ [] }
     ensures ready { IsReady (bench_of bench.new) }
-    ensures ran { Replayed result (DidDeeds (nodes ⟦<DeviceNode<M> as Node>⟧ ⟦<CentreNode<M> as Node>⟧ bench_kinds) M.Nv M.Fuse.own N.Nv (bench_of bench.old) (bench_of bench.new)) (S.left script.old) (S.left script.new)
+    ensures ran { Replayed result (Ended (DidDeeds (nodes ⟦<DeviceNode<M> as Node>⟧ ⟦<CentreNode<M> as Node>⟧ ⟦<HostNode<M> as Node>⟧ ⟦<VerifierNode<M> as Node>⟧ bench_kinds) M.Nv M.Fuse.own N.Nv) (λ s. Leaves s) result (scene (bench_of bench.old) (outside R.Source rates.old P.Sink printer.old)) (scene (bench_of bench.new) (outside R.Source rates.new P.Sink printer.new))) (S.left script.old) (S.left script.new)
         (K.taken report.old) (K.taken report.new) }
     ensures not_words { result ≢ Status.Words }
     ensures read_later { S.faults script.old ≤ S.faults script.new }
@@ -214,7 +238,16 @@ fn replay<S: Source, K: Sink, M: Fuse + Drop, N: Nv>(
 {
     let mut buf = [0; 600];
     for count in 0..LINES {
-        match turn(count + 1, &mut buf, script, report, bench) {
+        match turn(
+            alloc,
+            count + 1,
+            &mut buf,
+            script,
+            rates,
+            report,
+            printer,
+            bench,
+        ) {
             Some(status) => return status,
             None => {}
         }
@@ -222,52 +255,40 @@ fn replay<S: Source, K: Sink, M: Fuse + Drop, N: Nv>(
     Status::TooLong
 }
 
-fn is_word(word: &String) -> bool
-    ensures { IsTrue result ↔ (string_bytes word.now ≡ codes "replay") }
-{
-    word.as_str() == "replay"
-}
-
-/// Whether the words are those of a replay: the one word `replay`.
-pub fn is_replay(words: &[String]) -> bool
-    ensures { IsTrue result ↔ (map string_bytes words.now ≡ codes "replay" ∷ []) }
-{
-    match words {
-        [word] => is_word(word),
-        _ => false,
-    }
-}
-
-/// Does all that the program does: where the words are `replay` it does the events of the script, line by line, and writes
-/// a line of the report for each before it reads the next. It takes no memory. The bench begins a new run in any case.
+/// Does all that the program does, as the words call for. For `replay` it does the events of the script, line by line, and writes
+/// a line of the report for each before it reads the next; for `generate` it does the events of a run that is made from a number, and
+/// writes one line about all of them. The bench begins a new run in any case. Only a `rates` of a script takes memory.
 ///
 /// Each event is done by a step of the bench; that holds of each whether or not a history leads to what the storages show. For
 /// every history for which the bench stood, and whose storages tell what they hold, each reply is one that its event may get,
 /// the bench stands for what the events leave, and that ledger is lawful, as long as nothing from outside is forged. Whatever the
-/// storages tell, a failure of power or storage is answered only as often as they and the cuts account for; so where none
+/// storages tell, a failure of power, storage or a stream is answered only as often as they and the cuts account for; so where none
 /// failed, no fuse was armed and no `cut` was answered, each reply is its event's answer.
-pub fn run<S: Source, K: Sink, N: Nv + Drop>(
-    _alloc: Global,
+pub fn run<S: Source, R: Source, K: Sink, P: Sink, N: Nv + Drop>(
+    alloc: Global,
     words: &[String],
     script: &mut S,
+    rates: &mut R,
     report: &mut K,
+    printer: &mut P,
     bench: &mut Bench<N>,
 ) -> Status
     requires ready { IsReady (bench_of bench.old) }
     ensures ready { IsReady (bench_of bench.new) }
 
-    // The deeds, and the status by them: each status has its row in `EndsIn`.
-    ensures ran { Replayed result (DidRun (nodes ⟦<DeviceNode<Fused<N>> as Node>⟧ ⟦<CentreNode<Fused<N>> as Node>⟧ bench_kinds) ⟦<Fused<N> as Nv>⟧ fuse_in N.Nv (bench_of bench.old) (bench_of bench.new)) (S.left script.old) (S.left script.new)
-        (K.taken report.old) (K.taken report.new) }
+    // The deeds, and the status by them: each status has its row in `EndsIn` and in `EndsWith`.
+    ensures ran { Ran result (map string_bytes words.now) (DidRun (nodes ⟦<DeviceNode<Fused<N>> as Node>⟧ ⟦<CentreNode<Fused<N>> as Node>⟧ ⟦<HostNode<Fused<N>> as Node>⟧ ⟦<VerifierNode<Fused<N>> as Node>⟧ bench_kinds) ⟦<Fused<N> as Nv>⟧ fuse_in N.Nv (scene (bench_of bench.old) (outside R.Source rates.old P.Sink printer.old)) (scene (bench_of bench.new) (outside R.Source rates.new P.Sink printer.new)) result) (streams S.Source script.old K.Sink report.old (outside R.Source rates.old P.Sink printer.old)) (streams S.Source script.new K.Sink report.new (outside R.Source rates.new P.Sink printer.new)) }
 
-    // How it ends, and what that says of the script and the report.
-    ensures ends { EndsRun result (map string_bytes words.now) (streams S.Source script.old K.Sink report.old) (streams S.Source script.new K.Sink report.new) }
+    // How it ends, and what that says of the streams.
+    ensures ends { EndsRun result (map string_bytes words.now) (streams S.Source script.old K.Sink report.old (outside R.Source rates.old P.Sink printer.old)) (streams S.Source script.new K.Sink report.new (outside R.Source rates.new P.Sink printer.new)) }
 {
     histories();
     bench.begin();
-    if is_replay(words) {
-        replay(script, report, bench)
-    } else {
-        Status::Words
+    match read_words(words) {
+        Some(Words::Replay) => replay(alloc, script, rates, report, printer, bench),
+        Some(Words::Generate(seed, count)) => {
+            generate(alloc, seed, count, rates, report, printer, bench)
+        }
+        None => Status::Words,
     }
 }

@@ -14,6 +14,8 @@ pub enum Status {
     ReadFault,
     /// The report failed.
     WriteFault,
+    /// There was no memory for the rates. The bench is as before the line in hand.
+    Memory,
     /// The script has 1,000,000 lines and no `end` among them.
     TooLong,
 }
@@ -31,6 +33,7 @@ impl Status {
             Status::Script(_) => 2,
             Status::ReadFault => 3,
             Status::WriteFault => 4,
+            Status::Memory => 5,
             Status::TooLong => 6,
         }
     }

@@ -2,11 +2,14 @@ use Rattle.std.proofs.Common.{◌++◌, ◌∷◌, [], ◌∙◌, ap, List, ℕ,
 use Rattle.script_replay.proofs.Deeds.{cut_off}
 use Rattle.script_replay.proofs.run.do_event.Goals as goal
 
-pub returns-in-Err-clause-done : goal.returns-in-Err-clause-done
-returns-in-Err-clause-done g c =
-    let w = c.in-Err.ensures.err in (
-      c.reply_to-reply.result,
-      c.reply_to-reply.ensures.did,
+pub returns-in-Err-put_text-clause-done : goal.returns-in-Err-put_text-clause-done
+returns-in-Err-put_text-clause-done g c = λ other.
+    let w = c.in-Err-put_text.ensures.err in
+    let d = c.in-Ok.ensures.did in (
+      d.0,
+      d.1,
+      c.in-Ok.reply,
+      d.2,
       (
         take w.0 c.as_slice.result.now,
         w.2,

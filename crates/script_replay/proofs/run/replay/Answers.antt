@@ -6,9 +6,18 @@ use Rattle.centre_ledger.specs.declared.rows.Row.{Row}
 use Rattle.centre_protocol.specs.declared.node.CentreNode.{CentreNode}
 use Rattle.centre_protocol.specs.declared.room.CentreRoom.{CentreRoom}
 use Rattle.centre_protocol.specs.contracts.kind.CentreNodeNode.TheImpl as centre
+use Rattle.host_jobs.specs.declared.rows.JobRow.{JobRow}
+use Rattle.host_node.specs.declared.node.HostNode.{HostNode}
+use Rattle.host_node.specs.declared.room.HostRoom.{HostRoom}
+use Rattle.host_node.specs.contracts.kind.HostNodeNode.TheImpl as host
+use Rattle.verifier.specs.declared.acts.Change.{Change}
+use Rattle.verifier_node.specs.declared.node.VerifierNode.{VerifierNode}
+use Rattle.verifier_node.specs.declared.room.VerifierRoom.{VerifierRoom}
+use Rattle.verifier_node.specs.contracts.kind.VerifierNodeNode.TheImpl as verifier
 use Rattle.bench_views.specs.Kinds.{bench_kinds}
 use Rattle.bench.specs.Benches.{Nodes, nodes, bench_of}
-use Rattle.script_replay.specs.Chains.{DidDeeds}
+use Rattle.bench.specs.Outside.{outside}
+use Rattle.script_replay.specs.Chains.{scene, DidDeeds}
 use Rattle.script_replay.specs.Turns.{Progress}
 use Rattle.script_replay.proofs.Chains.{are_done}
 use Rattle.script_replay.proofs.Deeds.{progress_start, progress_more, replayed, too_long}
@@ -16,13 +25,15 @@ use Rattle.script_replay.proofs.Sent.{sent_few}
 use Rattle.script_replay.proofs.run.replay.Given.{Over}
 use Rattle.script_replay.proofs.run.replay.Goals as goal
 
-abbrev nodes_in : (g : Over) → Nodes (DeviceNode g.row.M.Denot g.M.Nv) (CentreNode g.row.M.Denot g.M.Nv) g.row.M.Denot DevRec Row (Unit {0}) CentreRoom
-nodes_in g = nodes (device.ghosts g.row.M g.M.Fuse g.M.Fuse-dict g.M.Nv g.M.Nv-dict g.M.Destruct-dict) (centre.ghosts g.row.M g.M.Fuse g.M.Fuse-dict g.M.Nv g.M.Nv-dict g.M.Destruct-dict) bench_kinds
+abbrev nodes_in : (g : Over) → Nodes (DeviceNode g.row.M.Denot g.M.Nv) (CentreNode g.row.M.Denot g.M.Nv) (HostNode g.row.M.Denot g.M.Nv) (VerifierNode g.row.M.Denot g.M.Nv) g.row.M.Denot
+    DevRec Row JobRow Change (Unit {0}) CentreRoom HostRoom VerifierRoom
+nodes_in g = nodes (device.ghosts g.row.M g.M.Fuse g.M.Fuse-dict g.M.Nv g.M.Nv-dict g.M.Destruct-dict) (centre.ghosts g.row.M g.M.Fuse g.M.Fuse-dict g.M.Nv g.M.Nv-dict g.M.Destruct-dict)
+    (host.ghosts g.row.M g.M.Fuse g.M.Fuse-dict g.M.Nv g.M.Nv-dict g.M.Destruct-dict) (verifier.ghosts g.row.M g.M.Fuse g.M.Fuse-dict g.M.Nv g.M.Nv-dict g.M.Destruct-dict) bench_kinds
 
 pub loop-count-init : goal.loop-count-init
 loop-count-init g c = record {
   ready = c.requires.ready;
-  progress = progress_start _ (are_done _ _ _ _) (bench_of c.args.bench.now) (g.S.Source.left c.args.script.now) (g.K.Sink.taken c.args.report.now);
+  progress = progress_start _ _ (are_done _ _ _ _) _ (g.S.Source.left c.args.script.now) (g.K.Sink.taken c.args.report.now);
   read_later = omega arith;
   write_later = omega arith;
 }
@@ -35,12 +46,12 @@ turn-requires-clause-room g c =
 
 pub returns-in-Some-clause-ran : goal.returns-in-Some-clause-ran
 returns-in-Some-clause-ran g c =
-    replayed _ (are_done _ _ _ _) c.in-Some.status c.loop-count.count _ _ _ _ _ _ _ _ _ c.loop-count.invariant.progress c.in-Some.ensures.stops
+    replayed _ _ (are_done _ _ _ _) c.in-Some.status c.loop-count.count _ _ _ _ _ _ _ _ _ c.loop-count.invariant.progress c.in-Some.ensures.stops
 
 pub loop-count-preserved : goal.loop-count-preserved
 loop-count-preserved g c = record {
   ready = c.in-None.ensures.ready;
-  progress = progress_more _ (are_done _ _ _ _) c.loop-count.count _ _ _ _ _ _ _ _ _ c.loop-count.invariant.progress c.in-None.ensures.goes;
+  progress = progress_more _ _ (are_done _ _ _ _) c.loop-count.count _ _ _ _ _ _ _ _ _ c.loop-count.invariant.progress c.in-None.ensures.goes;
   read_later = omega (arith, c.loop-count.invariant.read_later, c.in-None.ensures.read_later);
   write_later = omega (arith, c.loop-count.invariant.write_later, c.in-None.ensures.write_later);
 }
@@ -48,5 +59,7 @@ loop-count-preserved g c = record {
 pub returns-clause-ran : goal.returns-clause-ran
 returns-clause-ran g c =
     let all : c.loop-count.count ≡ 1000000 = omega (arith, c.loop-count-test.false, c.loop-count.auto.count-end) in
-    too_long _ (are_done _ _ _ _) _ _ _ _ _ _ (subst (λ (n : ℕ). Progress (DidDeeds (nodes_in g) g.M.Nv g.M.Fuse g.N.Nv) n (bench_of c.args.bench.now) (bench_of c.loop-count.bench) (g.S.Source.left c.args.script.now) (g.S.Source.left c.loop-count.script)
+    too_long _ _ (are_done _ _ _ _) _ _ _ _ _ _
+    (subst (λ (n : ℕ). Progress (DidDeeds (nodes_in g) g.M.Nv g.M.Fuse g.N.Nv) n (scene (bench_of c.args.bench.now) (outside g.R.Source c.args.rates.now g.P.Sink c.args.printer.now))
+    (scene (bench_of c.loop-count.bench) (outside g.R.Source c.loop-count.rates g.P.Sink c.loop-count.printer)) (g.S.Source.left c.args.script.now) (g.S.Source.left c.loop-count.script)
     (g.K.Sink.taken c.args.report.now) (g.K.Sink.taken c.loop-count.report)) all c.loop-count.invariant.progress)

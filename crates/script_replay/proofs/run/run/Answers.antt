@@ -1,29 +1,46 @@
-use Rattle.std.proofs.Common.{rules}
+use Rattle.std.proofs.Common.{[], rules, refl, sym, ◌∙◌}
 use Rattle.bench.specs.Benches.{bench_of}
+use Rattle.bench.specs.Outside.{outside}
+use Rattle.script_text.specs.declared.program.Words.TheVariants.{Replay, Generate}
+use Rattle.script_replay.specs.Chains.{scene}
 use Rattle.script_replay.specs.declared.status.Status.TheVariants as status
-use Rattle.script_replay.proofs.Chains.{are_done}
+use Rattle.script_replay.proofs.Calling.{apart, read_as, ran_replay, ran_generate, ran_nothing, generated_said}
+use Rattle.script_replay.proofs.Deeds.{said}
 use Rattle.script_replay.proofs.EndLaws.{exact_end}
-use Rattle.script_replay.proofs.Deeds.{words_only}
-use Rattle.script_replay.proofs.Running.{ran}
+use Rattle.script_replay.proofs.Running.{did_run}
 use Rattle.script_replay.proofs.run.run.Goals as goal
 
-pub returns-then-is_replay-clause-ran : goal.returns-then-is_replay-clause-ran
-returns-then-is_replay-clause-ran g c =
-    ran _ _ _ _ c.histories.ensures.today c.histories.ensures.holds (bench_of c.args.bench.now) _ c.requires.ready c.begin.ensures.ready c.begin.ensures.begun c.begin.ensures.no_day c.begin.ensures.no_messages c.begin.ensures.stands
-    c.replay.result _ _ _ _ _ c.replay.ensures.ran
+pub returns-in-Some-Replay-clause-ran : goal.returns-in-Some-Replay-clause-ran
+returns-in-Some-Replay-clause-ran g c =
+    ran_replay c.replay.result _ _ _ _ (read_as _ _ Replay c.in-Some-Replay.field-0-is c.in-Some-Replay.ensures.found).1
+    (said _ _ c.replay.result _ _ _ _ (λ deeds e. did_run _ _ _ _ c.histories.ensures.today c.histories.ensures.holds (scene (bench_of c.args.bench.now) (outside g.R.Source c.args.rates.now g.P.Sink c.args.printer.now)) (bench_of c.begin.new.self)
+    c.requires.ready c.begin.ensures.ready c.begin.ensures.begun c.begin.ensures.no_day c.begin.ensures.no_messages c.begin.ensures.no_rates c.begin.ensures.stands
+    c.replay.result _ deeds e) c.replay.ensures.ran)
 
-pub returns-else-is_replay-clause-ran : goal.returns-else-is_replay-clause-ran
-returns-else-is_replay-clause-ran g c =
-    ran _ _ _ _ c.histories.ensures.today c.histories.ensures.holds (bench_of c.args.bench.now) _ c.requires.ready c.begin.ensures.ready c.begin.ensures.begun c.begin.ensures.no_day c.begin.ensures.no_messages c.begin.ensures.stands
-    status.Words _ _ _ _ _ (words_only _ (are_done _ _ _ _) (bench_of c.begin.new.self) (g.S.Source.left c.args.script.now) (g.K.Sink.taken c.args.report.now))
+pub returns-in-Some-Generate-clause-ran : goal.returns-in-Some-Generate-clause-ran
+returns-in-Some-Generate-clause-ran g c =
+    let found = read_as _ _ (Generate c.in-Some-Generate.seed c.in-Some-Generate.count) c.in-Some-Generate.field-0-is c.in-Some-Generate.ensures.found in
+    ran_generate c.generate.result _ _ _ _ c.in-Some-Generate.seed c.in-Some-Generate.count c.read_words.result (rw c.in-Some-Generate.field-0-is at c.in-Some-Generate.is) c.read_words.ensures.only found.0 found.1
+    (generated_said _ _ c.generate.result _ _ _ _ (λ deeds e. did_run _ _ _ _ c.histories.ensures.today c.histories.ensures.holds (scene (bench_of c.args.bench.now) (outside g.R.Source c.args.rates.now g.P.Sink c.args.printer.now)) (bench_of c.begin.new.self)
+    c.requires.ready c.begin.ensures.ready c.begin.ensures.begun c.begin.ensures.no_day c.begin.ensures.no_messages c.begin.ensures.no_rates c.begin.ensures.stands
+    c.generate.result _ deeds e) c.generate.ensures.ran)
 
-pub returns-then-is_replay-clause-ends : goal.returns-then-is_replay-clause-ends
-returns-then-is_replay-clause-ends g c = record {
-  exact = exact_end c.replay.result _ _ _ _ _ c.replay.ensures.ran;
-  words = search rules;
-  untouched = search rules;
-  read_fault = search rules;
-  write_fault = search rules;
-  read_later = search rules;
-  write_later = search rules;
-}
+pub returns-in-None-clause-ran : goal.returns-in-None-clause-ran
+returns-in-None-clause-ran g c =
+    ran_nothing status.Words _ _ _ _ c.in-None.ensures.none (did_run _ _ _ _ c.histories.ensures.today c.histories.ensures.holds (scene (bench_of c.args.bench.now) (outside g.R.Source c.args.rates.now g.P.Sink c.args.printer.now)) (bench_of c.begin.new.self)
+    c.requires.ready c.begin.ensures.ready c.begin.ensures.begun c.begin.ensures.no_day c.begin.ensures.no_messages c.begin.ensures.no_rates c.begin.ensures.stands
+    status.Words _ [] (record { behind = _; did = refl; leaves = refl }))
+
+pub returns-in-Some-Replay-clause-ends : goal.returns-in-Some-Replay-clause-ends
+returns-in-Some-Replay-clause-ends g c =
+    let given = (read_as _ _ Replay c.in-Some-Replay.field-0-is c.in-Some-Replay.ensures.found).1 in
+    record {
+      exact = λ same. exact_end c.replay.result _ _ _ _ _ c.replay.ensures.ran;
+      words = (λ is. absurd (c.replay.ensures.not_words is), λ none. absurd (none Replay tt given));
+      untouched = λ is. absurd (c.replay.ensures.not_words is);
+      unread = λ seed count within is. absurd (apart seed count (sym given ∙ is));
+      read_fault = search rules;
+      write_fault = search rules;
+      read_later = search rules;
+      write_later = search rules;
+    }
