@@ -1,6 +1,8 @@
-//! The meter's program: replays a script from standard input over eight devices and the centre, whose storages are files in the
-//! current folder, and writes the report to standard output.
+//! The meter's program: runs a script from standard input, or generated events, over eight devices, the centre, the host and the
+//! verifier, whose storages are files in the current folder, and writes the report to standard output.
 #![tactic(auto)]
+
+mod rates_file;
 
 ghost use Rattle.std.specs.Prelude.{◌≡◌, IfOk, length};
 ghost use Rattle.std.specs.List.{All};
@@ -8,13 +10,16 @@ ghost use Rattle.nv_model.specs.Meters.{Works};
 ghost use Rattle.bench.specs.Benches.{IsReady, bench_of};
 
 use bench::{Bench, Stores};
-use bench_base::sizes::{CENTRE_BYTES, DEVICE_BYTES};
+use bench_base::sizes::{CENTRE_BYTES, DEVICE_BYTES, VERIFIER_BYTES};
 use bench_base::stream::{IoSink, IoSource};
+use host_jobs::HOST_BYTES;
 use nv_model::{FileNv, Fused, Nv};
+use rates_file::RatesFile;
 use read_ahead::ReadAhead;
-use script_replay::run::{is_replay, run};
+use script_replay::run::run;
 use script_replay::status::Status;
-use std::fs::File;
+use script_text::read_words;
+use std::fs::{File, OpenOptions};
 use std::os::fd::AsRawFd;
 use std::process::ExitCode;
 use std::{env, io};
@@ -32,8 +37,18 @@ const DEVICE_FILES: [&str; 8] = [
     "device-8.nv",
 ];
 
-/// The storage of the centre.
+/// The storages of the centre, of the host and of the verifier.
 const CENTRE_FILE: &str = "centre.nv";
+
+const HOST_FILE: &str = "host.nv";
+
+const VERIFIER_FILE: &str = "verifier.nv";
+
+/// The rates, a TOML document. A missing file is an empty one.
+const RATES_FILE: &str = "rates.toml";
+
+/// The marks that the host printed, a line each. What is there stays.
+const PRINTS_FILE: &str = "prints.txt";
 
 /// How much of the script is read ahead, in bytes.
 const AHEAD: usize = 8192;
@@ -70,6 +85,8 @@ enum RunFault {
     Read,
     #[error("write fault")]
     Write,
+    #[error("no memory")]
+    Memory,
     #[error("script too long")]
     TooLong,
 }
@@ -81,6 +98,7 @@ fn fault_of(status: Status) -> Option<RunFault> {
         Status::Script(line) => Some(RunFault::Script(line)),
         Status::ReadFault => Some(RunFault::Read),
         Status::WriteFault => Some(RunFault::Write),
+        Status::Memory => Some(RunFault::Memory),
         Status::TooLong => Some(RunFault::TooLong),
     }
 }
@@ -136,11 +154,13 @@ fn open_store(rt: &HostRuntime, name: &'static str, bytes: u32) -> Result<FileNv
     }
 }
 
-// The storages of the devices and of the centre.
+// The storages of the devices, of the centre, of the host and of the verifier.
 fn open_stores(rt: &HostRuntime) -> Result<Stores<FileNv>, OpenFault>
     ensures eight { IfOk result (λ stores. length stores.devices.items ≡ 8) }
     ensures fresh { IfOk result (λ stores. All (λ nv. Works (⟦<FileNv as Nv>⟧.meters nv)) stores.devices.items) }
     ensures fresh_centre { IfOk result (λ stores. Works (⟦<FileNv as Nv>⟧.meters stores.centre)) }
+    ensures fresh_host { IfOk result (λ stores. Works (⟦<FileNv as Nv>⟧.meters stores.host)) }
+    ensures fresh_verifier { IfOk result (λ stores. Works (⟦<FileNv as Nv>⟧.meters stores.verifier)) }
 {
     let Ok(mut devices) = Vec::with_capacity(rt.alloc(), 8) else {
         return Err(OpenFault::Memory);
@@ -152,7 +172,14 @@ fn open_stores(rt: &HostRuntime) -> Result<Stores<FileNv>, OpenFault>
         };
     }
     let centre = open_store(rt, CENTRE_FILE, CENTRE_BYTES)?;
-    Ok(Stores { devices, centre })
+    let host = open_store(rt, HOST_FILE, HOST_BYTES)?;
+    let verifier = open_store(rt, VERIFIER_FILE, VERIFIER_BYTES)?;
+    Ok(Stores {
+        devices,
+        centre,
+        host,
+        verifier,
+    })
 }
 
 fn open_bench(rt: &HostRuntime) -> Result<Bench<FileNv>, OpenFault>
@@ -164,27 +191,55 @@ fn open_bench(rt: &HostRuntime) -> Result<Bench<FileNv>, OpenFault>
     }
 }
 
-// Runs the script of standard input over the storages of the current folder.
-fn replay(rt: &HostRuntime) -> Result<Status, OpenFault> {
+fn open_rates(rt: &HostRuntime) -> Result<RatesFile<IoSource<File>>, OpenFault> {
+    match File::open(rt, RATES_FILE) {
+        Ok(file) => Ok(RatesFile::There(IoSource::new(file))),
+        Err(fault) if fault.kind() == io::ErrorKind::NotFound => Ok(RatesFile::Missing),
+        Err(_) => Err(OpenFault::File(RATES_FILE)),
+    }
+}
+
+fn open_printer(rt: &HostRuntime) -> Result<IoSink<File>, OpenFault> {
+    match OpenOptions::new()
+        .append(true)
+        .create(true)
+        .open(rt, PRINTS_FILE)
+    {
+        Ok(file) => Ok(IoSink::new(file)),
+        Err(_) => Err(OpenFault::File(PRINTS_FILE)),
+    }
+}
+
+// Runs what the words say over the storages of the current folder.
+fn run_over_files(rt: &HostRuntime) -> Result<Status, OpenFault> {
     let words = words_of(rt)?;
     // Bad words touch no file.
-    if !is_replay(&words) {
+    if read_words(&words).is_none() {
         return Ok(Status::Words);
     }
     let _folder = hold_folder(rt)?;
     let mut bench = open_bench(rt)?;
+    let mut rates = open_rates(rt)?;
+    let mut printer = open_printer(rt)?;
     let Ok(ahead) = vec![in rt.alloc(); 0; AHEAD] else {
         return Err(OpenFault::Memory);
     };
     let mut script = ReadAhead::new(IoSource::new(rt.reader()), ahead);
     let mut report = IoSink::new(io::writer(rt));
-    let status = run(rt.alloc(), &words, &mut script, &mut report, &mut bench);
-    Ok(status)
+    Ok(run(
+        rt.alloc(),
+        &words,
+        &mut script,
+        &mut rates,
+        &mut report,
+        &mut printer,
+        &mut bench,
+    ))
 }
 
 // Standard error may take no line. The exit status tells the same.
 fn main(rt: HostRuntime) -> ExitCode {
-    match replay(&rt) {
+    match run_over_files(&rt) {
         Ok(status) => {
             if let Some(fault) = fault_of(status) {
                 let _ = eprintln!(rt; "{fault}");
@@ -213,6 +268,7 @@ mod tests {
             (Status::Script(17), "script: line 17"),
             (Status::ReadFault, "read fault"),
             (Status::WriteFault, "write fault"),
+            (Status::Memory, "no memory"),
             (Status::TooLong, "script too long"),
         ];
         for (status, line) in rows {
