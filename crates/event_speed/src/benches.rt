@@ -7,7 +7,8 @@ ghost use Rattle.nv_model.specs.Meters.{Works};
 use crate::{bare, debits};
 use anyhow::{Result, bail};
 use bench::{Bench, Stores};
-use bench_base::sizes::CENTRE_BYTES;
+use bench_base::sizes::{CENTRE_BYTES, VERIFIER_BYTES};
+use host_jobs::HOST_BYTES;
 use nv_model::{FileNv, Fused, MemNv, Nv};
 use std::alloc::{AllocError, Global};
 use std::fs;
@@ -28,6 +29,10 @@ const FILES: [&str; 8] = [
 ];
 
 const CENTRE_FILE: &str = "event_speed-centre.nv";
+
+const HOST_FILE: &str = "event_speed-host.nv";
+
+const VERIFIER_FILE: &str = "event_speed-verifier.nv";
 
 /// Where these bytes stand in the storage of device 1, in service until 2026-06-01 with 1,000,000,000 mills. All others are zero.
 const LOADED: [(usize, &[u8]); 4] = [
@@ -79,22 +84,24 @@ pub fn blank(alloc: Global, commits: u32) -> Result<MemNv, AllocError>
     recorded(alloc, content, commits)
 }
 
-/// A blank storage of the centre in memory.
-fn blank_centre(alloc: Global) -> Result<MemNv, AllocError>
+/// A blank storage in memory of so many bytes, of a node that stays off.
+fn unused(alloc: Global, bytes: u32) -> Result<MemNv, AllocError>
     ensures { IfOk result (λ nv. Works (⟦<MemNv as Nv>⟧.meters nv)) }
 {
-    let content = vec![in alloc; 0; CENTRE_BYTES as usize]?;
+    let content = vec![in alloc; 0; bytes as usize]?;
     recorded(alloc, content, 1)
 }
 
 /// A bench over these storages.
-fn over<N: Nv + Drop>(alloc: Global, devices: Vec<N>, centre: N) -> Result<Bench<N>>
-    requires eight { length devices.items ≡ 8 }
-    requires fresh { All (λ nv. Works (N.meters nv)) devices.items }
-    requires fresh_centre { Works (N.meters centre) }
+fn over<N: Nv + Drop>(alloc: Global, stores: Stores<N>) -> Result<Bench<N>>
+    requires eight { length stores.devices.items ≡ 8 }
+    requires fresh { All (λ nv. Works (N.meters nv)) stores.devices.items }
+    requires fresh_centre { Works (N.meters stores.centre) }
+    requires fresh_host { Works (N.meters stores.host) }
+    requires fresh_verifier { Works (N.meters stores.verifier) }
     ensures ready { IfOk result (λ bench. IsReady (bench_of bench)) }
 {
-    match Bench::new(alloc, Stores { devices, centre }) {
+    match Bench::new(alloc, stores) {
         Ok(bench) => Ok(bench),
         Err(_) => bail!("no memory"),
     }
@@ -115,25 +122,25 @@ pub fn in_memory(alloc: Global, commits: u32) -> Result<Bench<MemNv>>
         blank(alloc, 1)?,
         blank(alloc, 1)?,
     ]?;
-    over(alloc, devices, blank_centre(alloc)?)
+    let centre = unused(alloc, CENTRE_BYTES)?;
+    let host = unused(alloc, HOST_BYTES)?;
+    let verifier = unused(alloc, VERIFIER_BYTES)?;
+    over(
+        alloc,
+        Stores {
+            devices,
+            centre,
+            host,
+            verifier,
+        },
+    )
 }
 
-/// The storage of the device of this number, in the current folder.
-fn file(rt: &HostRuntime, device: usize) -> Result<FileNv>
-    requires inside { 1 ≤ device × (device ≤ 8) }
+/// The storage of so many bytes in the file of this name, in the current folder.
+fn file(rt: &HostRuntime, name: &str, bytes: u32) -> Result<FileNv>
     ensures fresh { IfOk result (λ nv. Works (⟦<FileNv as Nv>⟧.meters nv)) }
 {
-    match FileNv::start(rt, FILES[device - 1], SIZE) {
-        Ok(nv) => Ok(nv),
-        Err(_) => bail!("a file can't be used"),
-    }
-}
-
-/// The storage of the centre, in the current folder.
-fn centre_file(rt: &HostRuntime) -> Result<FileNv>
-    ensures fresh { IfOk result (λ nv. Works (⟦<FileNv as Nv>⟧.meters nv)) }
-{
-    match FileNv::start(rt, CENTRE_FILE, CENTRE_BYTES) {
+    match FileNv::start(rt, name, bytes) {
         Ok(nv) => Ok(nv),
         Err(_) => bail!("a file can't be used"),
     }
@@ -143,16 +150,27 @@ fn over_files(rt: &HostRuntime) -> Result<Bench<FileNv>>
     ensures ready { IfOk result (λ bench. IsReady (bench_of bench)) }
 {
     let devices = vec![in rt.alloc();
-        file(rt, 1)?,
-        file(rt, 2)?,
-        file(rt, 3)?,
-        file(rt, 4)?,
-        file(rt, 5)?,
-        file(rt, 6)?,
-        file(rt, 7)?,
-        file(rt, 8)?,
+        file(rt, FILES[0], SIZE)?,
+        file(rt, FILES[1], SIZE)?,
+        file(rt, FILES[2], SIZE)?,
+        file(rt, FILES[3], SIZE)?,
+        file(rt, FILES[4], SIZE)?,
+        file(rt, FILES[5], SIZE)?,
+        file(rt, FILES[6], SIZE)?,
+        file(rt, FILES[7], SIZE)?,
     ]?;
-    over(rt.alloc(), devices, centre_file(rt)?)
+    let centre = file(rt, CENTRE_FILE, CENTRE_BYTES)?;
+    let host = file(rt, HOST_FILE, HOST_BYTES)?;
+    let verifier = file(rt, VERIFIER_FILE, VERIFIER_BYTES)?;
+    over(
+        rt.alloc(),
+        Stores {
+            devices,
+            centre,
+            host,
+            verifier,
+        },
+    )
 }
 
 /// The time of each tenth of so many debits over files in the current folder.
@@ -165,7 +183,7 @@ pub fn in_files(rt: &HostRuntime, count: u32) -> Result<Vec<Duration>> {
 
 /// The time of the writes and syncs of so many commits alone, over a file in the current folder.
 pub fn bare_file(rt: &HostRuntime, count: u32) -> Result<Duration> {
-    let mut nv = file(rt, 1)?;
+    let mut nv = file(rt, FILES[0], SIZE)?;
     bare::timed(rt, &mut nv, count)
 }
 
@@ -174,5 +192,7 @@ pub fn remove_files(rt: &HostRuntime) {
     for name in FILES {
         let _removed = fs::remove_file(rt, name);
     }
-    let _removed = fs::remove_file(rt, CENTRE_FILE);
+    for name in [CENTRE_FILE, HOST_FILE, VERIFIER_FILE] {
+        let _removed = fs::remove_file(rt, name);
+    }
 }

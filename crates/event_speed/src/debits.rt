@@ -4,7 +4,7 @@ ghost use Rattle.bench.specs.Benches.{IsReady, bench_of};
 use crate::watch::Watch;
 use anyhow::{Result, ensure};
 use bench::Bench;
-use bench_base::memory::MemSource;
+use bench_base::memory::{MemSink, MemSource};
 use nv_model::{Fused, Nv};
 use script_replay::run::run;
 use script_replay::status::Status;
@@ -36,7 +36,18 @@ pub fn timed<N: Nv + Drop>(
     let mut source = MemSource::new(script(alloc, count)?, 4096, Vec::new(alloc));
     let start = vec![in alloc; Instant::now(rt)?]?;
     let mut report = Watch::new(rt, count / 10, start);
-    let status = run(alloc, &words, &mut source, &mut report, bench);
+    // No line wants rates, and none prints.
+    let mut rates = MemSource::new(Vec::new(alloc), 4096, Vec::new(alloc));
+    let mut printer = MemSink::new(Vec::new(alloc), Vec::new(alloc), Vec::new(alloc));
+    let status = run(
+        alloc,
+        &words,
+        &mut source,
+        &mut rates,
+        &mut report,
+        &mut printer,
+        bench,
+    );
     ensure!(status == Status::Done, "the run did not end well");
     ensure!(report.marks() == count, "a debit made no mark");
     ensure!(report.times().len() == 11, "a time was not taken");

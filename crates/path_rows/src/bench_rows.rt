@@ -1,44 +1,7 @@
 //! Rows of devices on storage: what is kept across off and on, and across cuts of power.
-use crate::worked::{FIRST_MARK, KEY, Piece, bench_over, made_again, outcome, told};
+use crate::worked::{FIRST_MARK, Piece, SEVEN_COMMITS, bench_over, made_again, outcome, told};
 use script_replay::status::Status;
 use std::test::Fail;
-
-/// Device 1 in service with 50,000 mills, as seven commits on two slots leave it. The first four pieces are the record after
-/// the last commit, and the others are the one before it.
-const SEVEN_COMMITS: &[Piece] = &[
-    Piece {
-        at: 0,
-        bytes: b"\xa5\0\0\0\x07\0\0\0\x01\x03",
-    },
-    Piece {
-        at: 10,
-        bytes: &KEY,
-    },
-    Piece {
-        at: 48,
-        bytes: b"\xc3\x50",
-    },
-    Piece {
-        at: 61,
-        bytes: b"\x03\0\0\x50\x7d\0\0\x50\x21\0\0\0\x01\0\x01\x6f\x99",
-    },
-    Piece {
-        at: 214,
-        bytes: b"\xa5\0\0\0\x06\0\0\0\x01\x03",
-    },
-    Piece {
-        at: 224,
-        bytes: &KEY,
-    },
-    Piece {
-        at: 275,
-        bytes: b"\x02\0\0\x50\x7d\0\0\x50\x21\0\0\0\x01\0\x01\x6f\x99\x01\x01\x01\0\0\0\x01\0\0\0\x03\x02\0\0\0\x01\0\0\xc3\x50",
-    },
-    Piece {
-        at: 330,
-        bytes: b"\x50\x21\x4f\xcb\x60\x45\x68\xd2\x4c\x5f\xa6\x30\xf7\x04\xd8\x2a\x23\xf3\x53\x57\xef\xea\xb4\x20\x65\xb9\xdd\x00\x9d\x62\xfc\xe3\xca\xa1",
-    },
-];
 
 /// An open slot with a payload that is no device's record.
 const RECORD_OF_ZEROS: &[Piece] = &[Piece {
@@ -84,8 +47,8 @@ fn devices_answer_in_order(rt: HostRuntime) -> Result<(), Fail> {
     for (name, pieces, script, report) in ANSWERS {
         let mut bench = bench_over(rt.alloc(), pieces)?;
         let got = outcome(rt.alloc(), &told(script.as_bytes(), 600), &mut bench)?;
-        assert!(rt; got.0 == Status::Done, "{name}");
-        assert_eq!(rt; got.1.as_slice(), report.as_bytes(), "{name}");
+        assert!(rt; got.status == Status::Done, "{name}");
+        assert_eq!(rt; got.report.as_slice(), report.as_bytes(), "{name}");
     }
     Ok(())
 }
@@ -104,13 +67,13 @@ fn a_device_is_kept_across_off_and_on(rt: HostRuntime) -> Result<(), Fail> {
     )?;
     let mut bench = bench_over(rt.alloc(), &SEVEN_COMMITS[..4])?;
     let got = outcome(rt.alloc(), &told(script.as_bytes(), 600), &mut bench)?;
-    assert!(rt; got.0 == Status::Done);
-    assert_eq!(rt; got.1.as_slice(), report.as_bytes());
+    assert!(rt; got.status == Status::Done);
+    assert_eq!(rt; got.report.as_slice(), report.as_bytes());
     // The next run begins with all devices off, and no day.
     let script = b"status d1\nday 2026-03-01\nstatus d1\non d1\nend\n".as_slice();
     let got = outcome(rt.alloc(), &told(script, 600), &mut bench)?;
     let report = b"no day\nday 20513\noff d1\nup d1 commits 9\nend\n".as_slice();
-    assert_eq!(rt; got.1.as_slice(), report);
+    assert_eq!(rt; got.report.as_slice(), report);
     Ok(())
 }
 
@@ -124,14 +87,14 @@ fn a_device_outlives_its_bench(rt: HostRuntime) -> Result<(), Fail> {
     let report = format!(in rt.alloc();
         "day 20513\nup d1 commits 7\nmark d1 1 new {FIRST_MARK}\ncut d1\nend\n"
     )?;
-    assert_eq!(rt; got.1.as_slice(), report.as_bytes());
+    assert_eq!(rt; got.report.as_slice(), report.as_bytes());
     let mut bench = made_again(rt.alloc(), bench)?;
     let script = format!(in rt.alloc(); "{debit}end\n")?;
     let got = outcome(rt.alloc(), &told(script.as_bytes(), 600), &mut bench)?;
     let report = format!(in rt.alloc();
         "day 20513\nup d1 commits 8\nmark d1 1 again {FIRST_MARK}\nend\n"
     )?;
-    assert_eq!(rt; got.1.as_slice(), report.as_bytes());
+    assert_eq!(rt; got.report.as_slice(), report.as_bytes());
     Ok(())
 }
 
@@ -159,8 +122,8 @@ fn a_debit_is_cut_at_each_call(rt: HostRuntime) -> Result<(), Fail> {
             )?;
             let mut bench = bench_over(rt.alloc(), SEVEN_COMMITS)?;
             let got = outcome(rt.alloc(), &told(script.as_bytes(), 600), &mut bench)?;
-            assert!(rt; got.0 == Status::Done, "call {call}");
-            assert_eq!(rt; got.1.as_slice(), report.as_bytes(), "call {call}");
+            assert!(rt; got.status == Status::Done, "call {call}");
+            assert_eq!(rt; got.report.as_slice(), report.as_bytes(), "call {call}");
         }
     }
     Ok(())

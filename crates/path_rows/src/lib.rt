@@ -6,6 +6,10 @@ mod bench_rows;
 #[cfg(test)]
 mod message_rows;
 #[cfg(test)]
+mod ordinary_path;
+#[cfg(test)]
+mod printer_rows;
+#[cfg(test)]
 mod stream_rows;
 #[cfg(test)]
 mod worked;

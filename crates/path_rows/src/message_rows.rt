@@ -129,8 +129,8 @@ fn messages_answer_in_order(rt: HostRuntime) -> Result<(), Fail> {
     for (name, first, central, script, report) in ANSWERS {
         let mut bench = bench_with(rt.alloc(), first, central)?;
         let got = outcome(rt.alloc(), &told(script.as_bytes(), 600), &mut bench)?;
-        assert!(rt; got.0 == Status::Done, "{name}");
-        assert_eq!(rt; got.1.as_slice(), report.as_bytes(), "{name}");
+        assert!(rt; got.status == Status::Done, "{name}");
+        assert_eq!(rt; got.report.as_slice(), report.as_bytes(), "{name}");
     }
     Ok(())
 }

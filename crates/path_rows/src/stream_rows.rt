@@ -1,12 +1,14 @@
 //! Rows of scripts, words and streams over blank storages: how runs end.
-use crate::worked::{Given, bench_over, outcome, told};
+ghost use Rattle.std.specs.Prelude.{◌≤◌};
+
+use crate::worked::{Given, Outlet, SOUND, bench_over, outcome, sink_of, source_of, told};
 use bench::step;
 use bench_base::events::Event;
-use bench_base::memory::{MemSink, MemSource};
 use bench_base::numbers::DevNo;
-use script_replay::run::run;
 use script_replay::status::Status;
 use script_text::write_reply;
+use std::alloc::Global;
+use std::process::Abort;
 use std::test::Fail;
 
 const SWITCH_ON: &str = "day 2026-03-01\non d1\n\
@@ -14,6 +16,23 @@ const SWITCH_ON: &str = "day 2026-03-01\non d1\n\
 
 const SWITCHED_ON: &str = "day 20513\nup d1 commits 0\nmade d1\n\
     status d1 manufactured ascending 0 descending 0 refunded 0 pieces 0 number 0 deadline 0 pending none\nend\n";
+
+/// Whether this run over blank storages ends so, with this report.
+fn ends_so(
+    rt: &impl Abort,
+    alloc: Global,
+    given: &Given,
+    status: Status,
+    report: &str,
+) -> Result<(), Fail>
+    requires some { 1 ≤ given.now.piece }
+{
+    let mut bench = bench_over(alloc, &[])?;
+    let got = outcome(alloc, given, &mut bench)?;
+    assert!(rt; got.status == status, "of {report}");
+    assert_eq!(rt; got.report.as_slice(), report.as_bytes());
+    Ok(())
+}
 
 #[test]
 fn scripts_end(rt: HostRuntime) -> Result<(), Fail> {
@@ -48,55 +67,59 @@ fn scripts_end(rt: HostRuntime) -> Result<(), Fail> {
         (b"end\nx\n", Status::Done, "end\n"),
         (b"status d1\r\n", Status::Script(1), ""),
         (b"end \n", Status::Script(1), ""),
-        (b"on host\n", Status::Script(1), ""),
-        (b"order d1 1 1 20 1\n", Status::Script(1), ""),
+        (b"on d9\n", Status::Script(1), ""),
+        (b"order d1 1 1 20\n", Status::Script(1), ""),
     ];
     for (script, status, report) in rows {
-        for piece in [1, 3, 600] {
-            let mut bench = bench_over(rt.alloc(), &[])?;
-            let got = outcome(rt.alloc(), &told(script, piece), &mut bench)?;
-            assert!(rt; got.0 == status, "of {report}");
-            assert_eq!(rt; got.1.as_slice(), report.as_bytes());
-        }
+        ends_so(&rt, rt.alloc(), &told(script, 1), status, report)?;
+        ends_so(&rt, rt.alloc(), &told(script, 3), status, report)?;
+        ends_so(&rt, rt.alloc(), &told(script, 600), status, report)?;
     }
     Ok(())
 }
 
+const REPLAY: &[&str] = &["replay"];
+
+/// Words, and the numbers of the reads and writes that fail or take nothing: how the run ends, and its report.
+const ENDS: [(&[&str], &[u64], &[u64], &[u64], Status, &str); 8] = [
+    (&[], &[], &[], &[], Status::Words, ""),
+    (&["replay", "x"], &[], &[], &[], Status::Words, ""),
+    (&["generate", "07", "1"], &[], &[], &[], Status::Words, ""),
+    (
+        &["generate", "7", "90001"],
+        &[],
+        &[],
+        &[],
+        Status::Words,
+        "",
+    ),
+    (REPLAY, &[3], &[], &[], Status::ReadFault, ""),
+    (REPLAY, &[16], &[], &[], Status::ReadFault, "day 20513\n"),
+    (REPLAY, &[], &[1], &[], Status::WriteFault, "day 20513\n"),
+    (REPLAY, &[], &[], &[0], Status::WriteFault, ""),
+];
+
 #[test]
 fn words_and_faults_end(rt: HostRuntime) -> Result<(), Fail> {
     let script = b"day 2026-03-01\nend\n".as_slice();
-    let replay = ["replay"].as_slice();
-    let rows: [(&[&str], &[u64], &[u64], &[u64], Status, &str); 8] = [
-        (&[], &[], &[], &[], Status::Words, ""),
-        (&["replay", "x"], &[], &[], &[], Status::Words, ""),
-        (&["generate", "07", "1"], &[], &[], &[], Status::Words, ""),
-        (
-            &["generate", "7", "90001"],
-            &[],
-            &[],
-            &[],
-            Status::Words,
-            "",
-        ),
-        (replay, &[3], &[], &[], Status::ReadFault, ""),
-        (replay, &[16], &[], &[], Status::ReadFault, "day 20513\n"),
-        (replay, &[], &[1], &[], Status::WriteFault, "day 20513\n"),
-        (replay, &[], &[], &[0], Status::WriteFault, ""),
-    ];
-    for (words, read_fails, write_fails, write_zeros, status, report) in rows {
+    for (words, read_fails, write_fails, write_zeros, status, report) in ENDS {
         let given = Given {
             words,
             script,
             piece: 1,
             read_fails,
-            write_fails,
-            write_zeros,
-            room: 100,
+            rates: &[],
+            report: Outlet {
+                room: 100,
+                fails: write_fails,
+                zeros: write_zeros,
+            },
+            printer: SOUND,
         };
         let mut bench = bench_over(rt.alloc(), &[])?;
         let got = outcome(rt.alloc(), &given, &mut bench)?;
-        assert!(rt; got.0 == status, "of {report}");
-        assert_eq!(rt; got.1.as_slice(), report.as_bytes());
+        assert!(rt; got.status == status, "of {report}");
+        assert_eq!(rt; got.report.as_slice(), report.as_bytes());
     }
     Ok(())
 }
@@ -104,21 +127,21 @@ fn words_and_faults_end(rt: HostRuntime) -> Result<(), Fail> {
 #[test]
 fn a_full_report_ends_behind_the_event(rt: HostRuntime) -> Result<(), Fail> {
     let given = Given {
-        room: 29,
+        report: Outlet { room: 29, ..SOUND },
         ..told(SWITCH_ON.as_bytes(), 1)
     };
     let mut bench = bench_over(rt.alloc(), &[])?;
     let got = outcome(rt.alloc(), &given, &mut bench)?;
-    assert!(rt; got.0 == Status::WriteFault);
+    assert!(rt; got.status == Status::WriteFault);
     assert_eq!(rt;
-        got.1.as_slice(),
+        got.report.as_slice(),
         b"day 20513\nup d1 commits 0\nmad".as_slice()
     );
     // The device was made.
     let script = b"day 2026-03-01\non d1\nend\n".as_slice();
     let got = outcome(rt.alloc(), &told(script, 600), &mut bench)?;
     let report = b"day 20513\nup d1 commits 1\nend\n".as_slice();
-    assert_eq!(rt; got.1.as_slice(), report);
+    assert_eq!(rt; got.report.as_slice(), report);
     Ok(())
 }
 
@@ -126,7 +149,15 @@ fn a_full_report_ends_behind_the_event(rt: HostRuntime) -> Result<(), Fail> {
 fn an_event_is_answered_alone(rt: HostRuntime) -> Result<(), Fail> {
     let mut bench = bench_over(rt.alloc(), &[])?;
     let device = DevNo::new(1).expect(&rt, "device");
-    let turn = step(rt.alloc(), &mut bench, &Event::Status(device))?;
+    let mut rates = source_of(rt.alloc(), &[])?;
+    let mut printer = sink_of(rt.alloc(), &SOUND)?;
+    let turn = step(
+        rt.alloc(),
+        &mut bench,
+        &Event::Status(device),
+        &mut rates,
+        &mut printer,
+    )?;
     assert_eq!(rt; write_reply(&turn.reply).as_slice(), b"no day".as_slice());
     Ok(())
 }
@@ -138,13 +169,16 @@ fn a_million_lines_are_too_long(rt: HostRuntime) -> Result<(), Fail> {
     for _ in 0..1_000_000 {
         script.extend_from_slice(line)?;
     }
-    let words = vec![in rt.alloc(); String::from_str(rt.alloc(), "replay")?]?;
-    let mut source = MemSource::new(script, 4096, Vec::new(rt.alloc()));
-    let room = vec![in rt.alloc(); 0; 10_000_000]?;
-    let mut sink = MemSink::new(room, Vec::new(rt.alloc()), Vec::new(rt.alloc()));
+    let given = Given {
+        report: Outlet {
+            room: 10_000_000,
+            ..SOUND
+        },
+        ..told(script.as_slice(), 4096)
+    };
     let mut bench = bench_over(rt.alloc(), &[])?;
-    let status = run(rt.alloc(), &words, &mut source, &mut sink, &mut bench);
-    assert!(rt; status == Status::TooLong);
-    assert_eq!(rt; sink.taken().len(), 10_000_000);
+    let got = outcome(rt.alloc(), &given, &mut bench)?;
+    assert!(rt; got.status == Status::TooLong);
+    assert_eq!(rt; got.report.len(), 10_000_000);
     Ok(())
 }

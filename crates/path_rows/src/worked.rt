@@ -6,7 +6,8 @@ ghost use Rattle.nv_model.specs.Meters.{Works};
 
 use bench::{Bench, Stores};
 use bench_base::memory::{MemSink, MemSource};
-use bench_base::sizes::{CENTRE_BYTES, DEVICE_BYTES};
+use bench_base::sizes::{CENTRE_BYTES, DEVICE_BYTES, VERIFIER_BYTES};
+use host_jobs::HOST_BYTES;
 use nv_model::{Fused, MemNv, Nv};
 use script_replay::run::run;
 use script_replay::status::Status;
@@ -25,6 +26,43 @@ pub const KEY: [u8; 32] = [1; 32];
 /// The mark of piece 1 with 550 mills on 2026-03-01, by a device that was loaded with 50,000. The code was computed by another program.
 pub const FIRST_MARK: &str =
     "0201000100000001000002260000000226000000c12a0000502100016f990001972e89bbe5ef7c7d7d3378dfbc37e9c0d7c88b86b38857353dfe8a25eef5f2c0";
+
+/// Device 1 in service with 50,000 mills, as seven commits on two slots leave it. The first four pieces are the record after
+/// the last commit, and the others are the one before it.
+pub const SEVEN_COMMITS: &[Piece] = &[
+    Piece {
+        at: 0,
+        bytes: b"\xa5\0\0\0\x07\0\0\0\x01\x03",
+    },
+    Piece {
+        at: 10,
+        bytes: &KEY,
+    },
+    Piece {
+        at: 48,
+        bytes: b"\xc3\x50",
+    },
+    Piece {
+        at: 61,
+        bytes: b"\x03\0\0\x50\x7d\0\0\x50\x21\0\0\0\x01\0\x01\x6f\x99",
+    },
+    Piece {
+        at: 214,
+        bytes: b"\xa5\0\0\0\x06\0\0\0\x01\x03",
+    },
+    Piece {
+        at: 224,
+        bytes: &KEY,
+    },
+    Piece {
+        at: 275,
+        bytes: b"\x02\0\0\x50\x7d\0\0\x50\x21\0\0\0\x01\0\x01\x6f\x99\x01\x01\x01\0\0\0\x01\0\0\0\x03\x02\0\0\0\x01\0\0\xc3\x50",
+    },
+    Piece {
+        at: 330,
+        bytes: b"\x50\x21\x4f\xcb\x60\x45\x68\xd2\x4c\x5f\xa6\x30\xf7\x04\xd8\x2a\x23\xf3\x53\x57\xef\xea\xb4\x20\x65\xb9\xdd\x00\x9d\x62\xfc\xe3\xca\xa1",
+    },
+];
 
 fn lay(content: &mut [u8], pieces: &[Piece]) {
     for piece in pieces {
@@ -49,13 +87,22 @@ fn stores(alloc: Global, first: &[Piece], central: &[Piece]) -> Result<Stores<Me
     ensures eight { IfOk result (λ stores. length stores.devices.items ≡ 8) }
     ensures fresh { IfOk result (λ stores. All (λ nv. Works (⟦<MemNv as Nv>⟧.meters nv)) stores.devices.items) }
     ensures fresh_centre { IfOk result (λ stores. Works (⟦<MemNv as Nv>⟧.meters stores.centre)) }
+    ensures fresh_host { IfOk result (λ stores. Works (⟦<MemNv as Nv>⟧.meters stores.host)) }
+    ensures fresh_verifier { IfOk result (λ stores. Works (⟦<MemNv as Nv>⟧.meters stores.verifier)) }
 {
     let mut devices = Vec::with_capacity(alloc, 8)?;
     for i in 0..8_u32 {
         devices.push(storage(alloc, DEVICE_BYTES, if i == 0 { first } else { &[] })?)?;
     }
     let centre = storage(alloc, CENTRE_BYTES, central)?;
-    Ok(Stores { devices, centre })
+    let host = storage(alloc, HOST_BYTES, &[])?;
+    let verifier = storage(alloc, VERIFIER_BYTES, &[])?;
+    Ok(Stores {
+        devices,
+        centre,
+        host,
+        verifier,
+    })
 }
 
 /// A bench over these storages.
@@ -63,6 +110,8 @@ fn made(alloc: Global, stores: Stores<MemNv>) -> Result<Bench<MemNv>, Fail>
     requires eight { length stores.devices.items ≡ 8 }
     requires fresh { All (λ nv. Works (⟦<MemNv as Nv>⟧.meters nv)) stores.devices.items }
     requires fresh_centre { Works (⟦<MemNv as Nv>⟧.meters stores.centre) }
+    requires fresh_host { Works (⟦<MemNv as Nv>⟧.meters stores.host) }
+    requires fresh_verifier { Works (⟦<MemNv as Nv>⟧.meters stores.verifier) }
     ensures ready { IfOk result (λ bench. IsReady (bench_of bench)) }
     ensures no_messages { IfOk result (λ bench. (bench_of bench).messages ≡ []) }
 {
@@ -103,10 +152,14 @@ fn left(alloc: Global, bench: Bench<MemNv>) -> Result<Stores<MemNv>, Fail>
     ensures eight { IfOk result (λ stores. length stores.devices.items ≡ 8) }
     ensures fresh { IfOk result (λ stores. All (λ nv. Works (⟦<MemNv as Nv>⟧.meters nv)) stores.devices.items) }
     ensures fresh_centre { IfOk result (λ stores. Works (⟦<MemNv as Nv>⟧.meters stores.centre)) }
+    ensures fresh_host { IfOk result (λ stores. Works (⟦<MemNv as Nv>⟧.meters stores.host)) }
+    ensures fresh_verifier { IfOk result (λ stores. Works (⟦<MemNv as Nv>⟧.meters stores.verifier)) }
 {
     let Stores {
         devices: mut storages,
         centre,
+        host,
+        verifier,
     } = bench.into_stores();
     storages.reverse();
     let mut devices = Vec::with_capacity(alloc, 8)?;
@@ -117,7 +170,14 @@ fn left(alloc: Global, bench: Bench<MemNv>) -> Result<Stores<MemNv>, Fail>
         devices.push(restarted(nv)?)?;
     }
     let centre = restarted(centre)?;
-    Ok(Stores { devices, centre })
+    let host = restarted(host)?;
+    let verifier = restarted(verifier)?;
+    Ok(Stores {
+        devices,
+        centre,
+        host,
+        verifier,
+    })
 }
 
 /// Another bench over the storages of this one.
@@ -128,21 +188,36 @@ pub fn made_again(alloc: Global, bench: Bench<MemNv>) -> Result<Bench<MemNv>, Fa
     made(alloc, left(alloc, bench)?)
 }
 
-/// What goes in: the words, the script and the size of its pieces, the numbers of the calls that fail, and the bytes that
-/// the report takes.
+/// A sink: the bytes that it takes, and the numbers of the writes that fail and of those that take nothing.
+#[derive(Clone, Copy)]
+pub struct Outlet<'a> {
+    pub room: usize,
+    pub fails: &'a [u64],
+    pub zeros: &'a [u64],
+}
+
+/// A sink that does not fail.
+pub const SOUND: Outlet<'static> = Outlet {
+    room: 4000,
+    fails: &[],
+    zeros: &[],
+};
+
+/// What a run is given: the words, the script with the size of its pieces and the numbers of the reads that fail, the text of
+/// the rates, and the sinks.
 #[derive(Clone, Copy)]
 pub struct Given<'a> {
     pub words: &'a [&'a str],
     pub script: &'a [u8],
     pub piece: u32,
     pub read_fails: &'a [u64],
-    pub write_fails: &'a [u64],
-    pub write_zeros: &'a [u64],
-    pub room: usize,
+    pub rates: &'a [u8],
+    pub report: Outlet<'a>,
+    pub printer: Outlet<'a>,
 }
 
-/// What a run reads and writes where no stream fails.
-pub fn told<'a>(script: &'a [u8], piece: u32) -> Given<'a>
+/// What a run is given where no stream fails, with these rates.
+pub fn told_rates<'a>(script: &'a [u8], rates: &'a [u8], piece: u32) -> Given<'a>
     requires { 1 ≤ piece }
     ensures { result.piece ≡ piece }
 {
@@ -151,36 +226,78 @@ pub fn told<'a>(script: &'a [u8], piece: u32) -> Given<'a>
         script,
         piece,
         read_fails: &[],
-        write_fails: &[],
-        write_zeros: &[],
-        room: 4000,
+        rates,
+        report: SOUND,
+        printer: SOUND,
     }
 }
 
-/// The status and the report of a run.
-pub fn outcome(
-    alloc: Global,
-    given: &Given,
-    bench: &mut Bench<MemNv>,
-) -> Result<(Status, Vec<u8>), Fail>
+/// What a run is given where no stream fails, with no rates.
+pub fn told<'a>(script: &'a [u8], piece: u32) -> Given<'a>
+    requires { 1 ≤ piece }
+    ensures { result.piece ≡ piece }
+{
+    told_rates(script, &[], piece)
+}
+
+/// What a run came to: its status, its report, and what it printed.
+#[derive(Drop)]
+pub struct RunEnd {
+    pub status: Status,
+    pub report: Vec<u8>,
+    pub prints: Vec<u8>,
+}
+
+/// Words of the program, behind its name.
+pub fn words_of(alloc: Global, given: &[&str]) -> Result<Vec<String>, AllocError> {
+    let mut words = Vec::new(alloc);
+    for word in given {
+        words.push(String::from_str(alloc, word)?)?;
+    }
+    Ok(words)
+}
+
+/// A source of this text that does not fail.
+pub fn source_of(alloc: Global, text: &[u8]) -> Result<MemSource, AllocError> {
+    Ok(MemSource::new(Vec::from_slice(alloc, text)?, 4096, Vec::new(alloc)))
+}
+
+/// This sink, empty.
+pub fn sink_of(alloc: Global, outlet: &Outlet) -> Result<MemSink, AllocError> {
+    Ok(MemSink::new(
+        vec![in alloc; 0; outlet.room]?,
+        Vec::from_slice(alloc, outlet.fails)?,
+        Vec::from_slice(alloc, outlet.zeros)?,
+    ))
+}
+
+/// Runs what is given.
+pub fn outcome(alloc: Global, given: &Given, bench: &mut Bench<MemNv>) -> Result<RunEnd, Fail>
     requires some { 1 ≤ given.now.piece }
     requires ready { IsReady (bench_of bench.old) }
     ensures ready { IsReady (bench_of bench.new) }
 {
-    let mut words = Vec::new(alloc);
-    for word in given.words {
-        words.push(String::from_str(alloc, word)?)?;
-    }
-    let mut source = MemSource::new(
+    let words = words_of(alloc, given.words)?;
+    let mut script = MemSource::new(
         Vec::from_slice(alloc, given.script)?,
         given.piece,
         Vec::from_slice(alloc, given.read_fails)?,
     );
-    let mut sink = MemSink::new(
-        vec![in alloc; 0; given.room]?,
-        Vec::from_slice(alloc, given.write_fails)?,
-        Vec::from_slice(alloc, given.write_zeros)?,
+    let mut rates = source_of(alloc, given.rates)?;
+    let mut report = sink_of(alloc, &given.report)?;
+    let mut printer = sink_of(alloc, &given.printer)?;
+    let status = run(
+        alloc,
+        &words,
+        &mut script,
+        &mut rates,
+        &mut report,
+        &mut printer,
+        bench,
     );
-    let status = run(alloc, &words, &mut source, &mut sink, bench);
-    Ok((status, Vec::from_slice(alloc, sink.taken())?))
+    Ok(RunEnd {
+        status,
+        report: Vec::from_slice(alloc, report.taken())?,
+        prints: Vec::from_slice(alloc, printer.taken())?,
+    })
 }

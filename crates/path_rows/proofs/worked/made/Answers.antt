@@ -1,12 +1,32 @@
-use Rattle.std.proofs.Common.{subst}
+use Rattle.std.proofs.Common.{◌≡◌, zero, suc, Option, Some, None, subst}
 use Rattle.std.proofs.lemmas.Option.{slice_get_within, get_or_from_slice_get}
 use Rattle.std.proofs.lemmas.List.Elements.{All-get_or}
+use Rattle.std.specs.List.{All}
+use Rattle.bench_base.specs.declared.words.Node.{Node}
+use Rattle.bench_base.specs.declared.words.Node.TheVariants.{Device, Centre, Host, Verifier}
 use Rattle.nv_model.specs.Meters.{Works}
+use Rattle.nv_model.specs.declared.memory.MemNv.{MemNv}
 use Rattle.nv_model.specs.contracts.memory.MemNvNv.TheImpl.{ghosts}
+use Rattle.bench.specs.Benches.{Places, store_of}
 use Rattle.path_rows.proofs.worked.made.Goals as goal
 
+abbrev IsWorking : MemNv → Type 0
+IsWorking nv = Works (ghosts.meters nv)
+
+same_some : (a b : MemNv) → Some a ≡ Some b → a ≡ b
+same_some a b is = cc
+
+-- each storage works, in whichever place
+each_works : (stores : Places MemNv) → All (λ nv. IsWorking nv) stores.devices → IsWorking stores.centre → IsWorking stores.host → IsWorking stores.verifier → (m : Node) (nv : MemNv) → store_of stores m ≡ Some nv → IsWorking nv
+each_works stores devices centre host verifier (Device zero) nv at = absurd (none_some at)
+  where
+    none_some : ◌≡◌ {A = Option MemNv} None (Some nv) → ⊥
+    none_some is = cc
+each_works stores devices centre host verifier (Device (suc i)) nv at =
+    subst IsWorking (get_or_from_slice_get stores.devices i nv nv at) (All-get_or IsWorking stores.devices i nv (slice_get_within stores.devices i nv at) devices)
+each_works stores devices centre host verifier Centre nv at = subst IsWorking (same_some stores.centre nv at) centre
+each_works stores devices centre host verifier Host nv at = subst IsWorking (same_some stores.host nv at) host
+each_works stores devices centre host verifier Verifier nv at = subst IsWorking (same_some stores.verifier nv at) verifier
+
 pub new-requires-clause-fresh : goal.new-requires-clause-fresh
-new-requires-clause-fresh c i nv at =
-    let stores = c.args.stores.devices.items in
-    subst (λ n. Works (ghosts.meters n)) (get_or_from_slice_get stores i nv nv at)
-    (All-get_or (λ n. Works (ghosts.meters n)) stores i nv (slice_get_within stores i nv at) c.requires.fresh)
+new-requires-clause-fresh c = each_works _ c.requires.fresh c.requires.fresh_centre c.requires.fresh_host c.requires.fresh_verifier
