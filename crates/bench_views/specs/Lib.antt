@@ -1,10 +1,12 @@
+-- Promised: public contracts name these.
 pub mod Centre
-pub mod Comparing
 pub mod Devices
 pub mod Follows
 pub mod Host
 pub mod Kinds
-pub mod Messages
 pub mod Taken
 pub mod Tariff
 pub mod Verifier
+-- Promised: those rest on these.
+pub mod Comparing
+pub mod Messages

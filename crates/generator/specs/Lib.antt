@@ -1,3 +1,4 @@
+-- Promised: public contracts name these.
 pub mod Draws
 pub mod Events
 pub mod Given

@@ -1,9 +1,11 @@
+-- Promised: public contracts name these.
 pub mod Payloads
-pub mod Cells
 pub mod Unique
 pub mod Sound
-pub mod Boots
 pub mod NodeView
+pub mod HostView
+-- Bookkeeping: private calls and proofs alone name these.
+pub mod Cells
+pub mod Boots
 pub mod Knows
 pub mod NodeLaws
-pub mod HostView

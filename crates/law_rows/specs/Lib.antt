@@ -1,4 +1,6 @@
+-- Promised: public contracts name these.
+pub mod Worked
+-- Promised: those rest on these.
 pub mod Rows
 pub mod TodayRows
 pub mod Runs
-pub mod Worked

@@ -1,5 +1,7 @@
+-- Promised: public contracts name these.
 pub mod Editions
-pub mod Further
 pub mod Lawful
+-- Promised: those rest on these.
+pub mod Further
 pub mod Links
 pub mod Sane

@@ -1,1 +1,2 @@
+-- Promised: public contracts name these.
 pub mod Laws

@@ -1,7 +1,9 @@
+-- Promised: public contracts name these.
 pub mod Centres
-pub mod Devices
-pub mod Franking
-pub mod InFlight
 pub mod Requests
 pub mod Rulings
 pub mod Sums
+-- Promised: those rest on these.
+pub mod Devices
+pub mod Franking
+pub mod InFlight

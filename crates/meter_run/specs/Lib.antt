@@ -1,1 +1,2 @@
+-- Bookkeeping: private calls and proofs alone name these.
 pub mod RatesFile

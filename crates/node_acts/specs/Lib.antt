@@ -1,9 +1,11 @@
+-- Promised: public contracts name these.
 pub mod Views
-pub mod Acts
-pub mod Starts
 pub mod Plans
 pub mod Results
+pub mod Said
+-- Promised: those rest on these.
+pub mod Acts
+pub mod Starts
 pub mod Kinds
 pub mod RowList
 pub mod RowLaws
-pub mod Said

@@ -1,7 +1,9 @@
+-- Promised: public contracts name these.
 pub mod Ends
 pub mod Does
 pub mod Shown
-pub mod Stands
 pub mod Starts
 pub mod Calls
+-- Promised: those rest on these.
+pub mod Stands
 pub mod Performed

@@ -1,3 +1,4 @@
+-- Promised: public contracts name these.
 pub mod Bytes
 pub mod Meters
 pub mod Moments
@@ -5,10 +6,12 @@ pub mod Replay
 pub mod Media
 pub mod Plans
 pub mod Memories
-pub mod Laws
 pub mod Tallies
 pub mod Fuses
-pub mod Ranges
 pub mod Files
 pub mod Still
 pub mod Calls
+-- Promised: those rest on these.
+pub mod Ranges
+-- Bookkeeping: private calls and proofs alone name these.
+pub mod Laws

@@ -1,3 +1,4 @@
+-- Promised: public contracts name these.
 pub mod Turns
 pub mod RingView
 pub mod Mounts

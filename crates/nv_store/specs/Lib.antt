@@ -1,3 +1,4 @@
+-- Promised: public contracts name these.
 pub mod Slot
 pub mod Cells
 pub mod Steps
@@ -7,13 +8,14 @@ pub mod Scans
 pub mod Tables
 pub mod Fails
 pub mod Lent
-pub mod Current
-pub mod Knows
-pub mod TableKnows
 pub mod OneView
-pub mod Clear
 pub mod RoomView
 pub mod Rooms
 pub mod TableView
 pub mod TableMounts
 pub mod Turns
+-- Bookkeeping: private calls and proofs alone name these.
+pub mod Current
+pub mod Knows
+pub mod TableKnows
+pub mod Clear

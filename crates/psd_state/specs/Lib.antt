@@ -1,7 +1,9 @@
+-- Promised: public contracts name these.
 pub mod Acts
 pub mod Answers
 pub mod Laws
 pub mod Payload
-pub mod Records
 pub mod Seen
 pub mod State
+-- Promised: those rest on these.
+pub mod Records

@@ -1,16 +1,19 @@
+-- Promised: public contracts name these.
 pub mod Chains
 pub mod Codes
-pub mod Counts
 pub mod Deeds
 pub mod Ends
-pub mod Events
-pub mod Faults
 pub mod Fresh
-pub mod Generated
-pub mod Lines
-pub mod Marks
 pub mod Outside
 pub mod Run
 pub mod Streams
-pub mod Turns
+-- Promised: those rest on these.
+pub mod Counts
+pub mod Events
+pub mod Faults
+pub mod Generated
+pub mod Lines
+pub mod Marks
 pub mod Undisturbed
+-- Bookkeeping: private calls and proofs alone name these.
+pub mod Turns

@@ -1,3 +1,4 @@
+-- Promised: public contracts name these.
 pub mod Grammar
 pub mod Keywords
 pub mod Programs

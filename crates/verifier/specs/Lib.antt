@@ -1,10 +1,12 @@
+-- Promised: public contracts name these.
 pub mod ActLaws
 pub mod Acts
 pub mod Answers
 pub mod Index
-pub mod Order
 pub mod Payload
 pub mod PayloadLaws
-pub mod Records
 pub mod Rows
 pub mod Seen
+-- Promised: those rest on these.
+pub mod Order
+pub mod Records

@@ -1,10 +1,12 @@
+-- Promised: public contracts name these.
 pub mod Payloads
 pub mod Unique
 pub mod Sound
+pub mod NodeView
+pub mod VerifierView
+-- Bookkeeping: private calls and proofs alone name these.
 pub mod Held
 pub mod Indexes
 pub mod Boots
-pub mod NodeView
 pub mod Knows
 pub mod NodeLaws
-pub mod VerifierView
