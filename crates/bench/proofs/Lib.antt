@@ -11,10 +11,12 @@ mod CentreFits
 mod Charges
 mod Compares
 mod DeviceActs
-mod EachKind
+pub mod EachKind
+pub mod EachStore
 pub mod Events
 mod HostActs
 mod HostFits
+pub mod Left
 pub mod Making
 mod NodeEvents
 mod Notes

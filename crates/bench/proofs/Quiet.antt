@@ -1,6 +1,6 @@
 -- Events that leave the nodes as they are.
 use Rattle.std.proofs.Common.{◌≡◌, ◌≢◌, inl, ℕ, ℤ, List, [], ◌∷◌, ◌++◌, Option, Some, None, true, false, ◌↔◌, refl, sym, ◌∙◌, ap, subst, append-nil, true≢false}
-use Rattle.std.specs.Prelude.{IsSome, length}
+use Rattle.std.specs.Prelude.{IsSome}
 use Rattle.bench_base.specs.declared.words.Node.{Node}
 use Rattle.bench_base.specs.declared.ledger.Commit.{Commit}
 use Rattle.bench_base.specs.declared.ledger.Entry.{Entry}
@@ -20,7 +20,7 @@ use Rattle.nv_store.specs.Mounts.{Mounts}
 use Rattle.node_acts.specs.Kinds.{view_in}
 use Rattle.node_acts.specs.Plans.{after}
 use Rattle.node_seat.specs.Stands as node
-use Rattle.node_seat.specs.Stands.{StoreStands, times_of, meters_of}
+use Rattle.node_seat.specs.Stands.{times_of, meters_of}
 use Rattle.node_seat.proofs.Rests.{mounts_none}
 use Rattle.node_turns.specs.declared.turn.Turn.{Turn}
 use Rattle.node_turns.specs.Adds.{Adds}
@@ -36,12 +36,10 @@ use Rattle.bench_views.specs.Taken.{taken, as_given}
 use Rattle.bench_views.proofs.Events.{some-same}
 use Rattle.bench.specs.Benches.{Bench, Places, Nodes, OfState, OfChange, Of, At, IsReady, Stands, StoresStand}
 use Rattle.bench.specs.Outside.{Outside, ReadsRates}
-use Rattle.bench.specs.Steps.{Steps, StepsOn, StepsByViews, StepsAlone, DoesAsked, ShowsLedger, AreLeft, StayClosed, Leaves, notes_in, sending, with_open, after_stop, HoldsImage}
+use Rattle.bench.specs.Steps.{Steps, StepsOn, StepsByViews, StepsAlone, DoesAsked, ShowsLedger, AreLeft, StayClosed, Leaves, notes_in, sending, with_open, after_stop}
 use Rattle.bench.proofs.Charges.{rests_charged}
-use Rattle.bench.proofs.EachKind.{AllRest, of_all, of_with, at_both, still}
-use Rattle.bench.proofs.OneNode.{rest_left}
-use Rattle.bench.proofs.OneTurn.{left_in}
-use Rattle.bench.proofs.Over.{none_day}
+use Rattle.bench.proofs.EachKind.{AllRest, of_all, of_with, still}
+use Rattle.bench.proofs.Left.{rest_stopped}
 use Rattle.bench.proofs.Stops.{stop_history}
 use Rattle.bench.proofs.Unprinted.{IsUnprinted, prints_nothing}
 
@@ -102,24 +100,8 @@ module _ {D C H V S XD XC XH XV RD RC RH RV N : Type 0} (n : Nodes D C H V S XD 
       shows m = still n old new rest ShowsIs m (of_with n StandsIs (λ o i d s. ShowsIs o i d s s) old (λ o i d s st image since. inl (st.store.shows tells image since)) m (stands.nodes m))
 
       -- where the process is stopped within it
-      module _ (stores : Places N) (are : AreLeft n g h old new stores) where
-        abbrev LeftIs : OfChange S
-        LeftIs o i d s t = (store : N) → h.size store ≡ o.ghosts.bytes → HoldsImage o.ghosts g h s t store → StoreStands o.ghosts h d (view_in i (o.kind.seen d) (entry.Begin ∷ L)) store
-
-        left_at : (k : Node) → At n LeftIs old new k
-        left_at k = still n old new rest LeftIs k (of_with n StandsIs (λ o i d s. LeftIs o i d s s) old
-            (λ o i d s st store size images. rest_left o.ghosts g h i d (o.kind.seen d) L L s store tells st refl size images) k (stands.nodes k))
-
-        stopped : StoresStand n h stores (entry.Begin ∷ L)
-        stopped = record {
-          day = none_day L;
-          nodes = λ k store there. left_in n h old new stores (entry.Begin ∷ L) ready (ap length rest.devices) are.eight k store there refl
-              (at_both n LeftIs (λ o i d s t. (h.size store ≡ o.ghosts.bytes) × HoldsImage o.ghosts g h s t store)
-              (λ o i d s t. StoreStands o.ghosts h d (view_in i (o.kind.seen d) (entry.Begin ∷ L)) store) old new (λ o i d s t left held. left store held.0 held.1) k (left_at k) (are.each k store there));
-        }
-
-        left : StoresStand n h stores (after_stop τ L e text)
-        left = subst (λ (o : Option Commit). StoresStand n h stores (entry.Begin ∷ with_open o L)) (sym on.silent) stopped
+      left : (stores : Places N) → AreLeft n g h old new stores → StoresStand n h stores (after_stop τ L e text)
+      left stores are = subst (λ (o : Option Commit). StoresStand n h stores (entry.Begin ∷ with_open o L)) (sym on.silent) (rest_stopped n g h old new rest ready L stands tells stores are)
 
       quiet_on : Unforged e L → StepsOn n g h τ L e text turn old new before now
       quiet_on unforged = record {

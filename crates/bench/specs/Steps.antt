@@ -132,6 +132,10 @@ module _ {D C H V S XD XC XH XV RD RC RH RV : Type 0} (n : Nodes D C H V S XD XC
     pub eight : length stores.devices ≡ 8
     pub each : (m : Node) (store : N) → store_of stores m ≡ Some store → At n (λ k i d s t. (h.size store ≡ k.ghosts.bytes) × HoldsImage k.ghosts g h s t store) old new m
 
+  -- whatever a stop between these benches leaves stands for this ledger, which is a history
+  abbrev pub LeftFor : {N : Type 0} → nv.Ghosts N → Tariff → Bench D C H V → Bench D C H V → Ledger → Type 0
+  LeftFor {N} h τ old new L = (stores : Places N) → AreLeft h old new stores → History τ editions L × StoresStand n h stores L
+
   -- the reply is what any two views show for which the device and the centre stood
   abbrev pub ComparesViews : ℕ → Reply → C → D → Type 0
   ComparesViews d reply centre device = (v : View n.devices.Seen) (w : View n.centre.Seen) → node.Stands n.devices g d v device → node.Stands n.centre g tt w centre → g.tells
@@ -147,7 +151,7 @@ module _ {D C H V S XD XC XH XV RD RC RH RV : Type 0} (n : Nodes D C H V S XD XC
     pub stands : Stands n g new (ledger.entries τ todays_rules L e text turn.reply)
     pub closed : tells_failure turn.reply ≡ false → StayClosed L (ledger.entries τ todays_rules L e text turn.reply)
     pub any_moment : (m : Node) → At n (λ k i d. ShowsLedger k.ghosts g (k.kind.seen d) i τ L e text) old new m
-    pub stopped : (stores : Places N) → AreLeft h old new stores → History τ editions (after_stop τ L e text) × StoresStand n h stores (after_stop τ L e text)
+    pub stopped : LeftFor h τ old new (after_stop τ L e text)
     pub printed : PrinterDid turn.reply (print_of (plan τ todays_rules L e text).after) before.printer now.printer
 
   -- what this asks on that day was done: of a node as any view allows for which it stood; and two nodes are compared as any two views show

@@ -1,5 +1,5 @@
 //! Eight devices, the centre, the host and the verifier, each in its place; the day, the rates and the messages of the run.
-ghost use Rattle.std.specs.Prelude.{◌≡◌, ◌≤◌, ◌<◌, ◌+◌, [], ◌∷◌, ◌++◌, ℕ, Some, None, length, slice_get, IfOk, IfErr};
+ghost use Rattle.std.specs.Prelude.{◌≡◌, ◌≤◌, ◌<◌, ◌+◌, [], ◌∷◌, ◌++◌, Some, None, length, slice_get, IfOk, IfErr};
 ghost use Rattle.std.specs.Vec.{vec_capacity};
 ghost use Rattle.bench_base.specs.declared.ledger.Entry.TheVariants.{Begin};
 ghost use Rattle.bench_base.specs.declared.words.Node.{Node as NodeNo};

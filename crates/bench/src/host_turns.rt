@@ -1,5 +1,4 @@
 //! An event of the host.
-ghost use Rattle.std.specs.Prelude.{◌≡◌};
 ghost use Rattle.bench_base.specs.declared.words.Node.TheVariants as node;
 ghost use Rattle.node_turns.specs.declared.turn.Turn.{Turn};
 ghost use Rattle.node_turns.specs.NodeTurns.{NodeTurn};

@@ -1,34 +1,9 @@
-use Rattle.std.proofs.Common.{◌≡◌, zero, suc, Option, Some, None, subst}
-use Rattle.std.proofs.lemmas.Option.{slice_get_within, get_or_from_slice_get}
-use Rattle.std.proofs.lemmas.List.Elements.{All-get_or}
-use Rattle.std.specs.List.{All}
-use Rattle.bench_base.specs.declared.words.Node.{Node}
-use Rattle.bench_base.specs.declared.words.Node.TheVariants.{Device, Centre, Host, Verifier}
 use Rattle.nv_model.specs.Meters.{Works}
-use Rattle.nv_model.specs.declared.file.FileNv.{FileNv}
 use Rattle.nv_model.specs.contracts.file.FileNvNv.TheImpl.{ghosts}
-use Rattle.bench.specs.Benches.{Places, store_of}
+use Rattle.bench.proofs.EachStore.{each_store}
 use Rattle.meter_run.proofs.open_bench.Goals as goal
-
-abbrev IsWorking : FileNv → Type 0
-IsWorking nv = Works (ghosts.meters nv)
-
-same_some : (a b : FileNv) → Some a ≡ Some b → a ≡ b
-same_some a b is = cc
-
--- each storage works, in whichever place
-each_works : (stores : Places FileNv) → All (λ nv. IsWorking nv) stores.devices → IsWorking stores.centre → IsWorking stores.host → IsWorking stores.verifier → (m : Node) (nv : FileNv) → store_of stores m ≡ Some nv → IsWorking nv
-each_works stores devices centre host verifier (Device zero) nv at = absurd (none_some at)
-  where
-    none_some : ◌≡◌ {A = Option FileNv} None (Some nv) → ⊥
-    none_some is = cc
-each_works stores devices centre host verifier (Device (suc i)) nv at =
-    subst IsWorking (get_or_from_slice_get stores.devices i nv nv at) (All-get_or IsWorking stores.devices i nv (slice_get_within stores.devices i nv at) devices)
-each_works stores devices centre host verifier Centre nv at = subst IsWorking (same_some stores.centre nv at) centre
-each_works stores devices centre host verifier Host nv at = subst IsWorking (same_some stores.host nv at) host
-each_works stores devices centre host verifier Verifier nv at = subst IsWorking (same_some stores.verifier nv at) verifier
 
 pub new-requires-clause-fresh : goal.new-requires-clause-fresh
 new-requires-clause-fresh c m nv at =
     let e = c.in_ok-open_stores.ensures in
-    each_works _ e.fresh e.fresh_centre e.fresh_host e.fresh_verifier m nv at
+    each_store (λ k nv. Works (ghosts.meters nv)) _ (λ d. e.fresh) e.fresh_centre e.fresh_host e.fresh_verifier m nv at

@@ -1,0 +1,36 @@
+-- Where nothing is committed, the storages that a stop leaves stand for the ledger so far.
+use Rattle.std.proofs.Common.{◌∷◌, refl, ap}
+use Rattle.std.specs.Prelude.{length, ◌≡◌}
+use Rattle.bench_base.specs.declared.words.Node.{Node}
+use Rattle.bench_base.specs.declared.ledger.Entry.TheVariants as entry
+use Rattle.bench_base.specs.Ledger.{Ledger}
+use Rattle.nv_model.specs.declared.nv.Nv as nv
+use Rattle.node_acts.specs.Kinds.{view_in}
+use Rattle.node_seat.specs.Stands as node
+use Rattle.node_seat.specs.Stands.{StoreStands}
+use Rattle.bench.specs.Benches.{Bench, Places, Nodes, OfState, OfChange, At, IsReady, Stands, StoresStand}
+use Rattle.bench.specs.Steps.{AreLeft, HoldsImage}
+use Rattle.bench.proofs.EachKind.{AllRest, of_with, at_both, still}
+use Rattle.bench.proofs.OneNode.{rest_left}
+use Rattle.bench.proofs.OneTurn.{left_in}
+use Rattle.bench.proofs.Over.{none_day}
+
+module _ {D C H V S XD XC XH XV RD RC RH RV N : Type 0} (n : Nodes D C H V S XD XC XH XV RD RC RH RV) (g : nv.Ghosts S) (h : nv.Ghosts N)
+    (old new : Bench D C H V) (rest : AllRest old new) (ready : IsReady old) (L : Ledger) (stands : Stands n g old L) (tells : g.tells) where
+  abbrev StandsIs : OfState S
+  StandsIs o i d s = node.Stands o.ghosts g d (view_in i (o.kind.seen d) L) s
+
+  abbrev LeftIs : OfChange S
+  LeftIs o i d s t = (store : N) → h.size store ≡ o.ghosts.bytes → HoldsImage o.ghosts g h s t store → StoreStands o.ghosts h d (view_in i (o.kind.seen d) (entry.Begin ∷ L)) store
+
+  left_at : (k : Node) → At n LeftIs old new k
+  left_at k = still n old new rest LeftIs k (of_with n StandsIs (λ o i d s. LeftIs o i d s s) old
+      (λ o i d s st store size images. rest_left o.ghosts g h i d (o.kind.seen d) L L s store tells st refl size images) k (stands.nodes k))
+
+  pub rest_stopped : (stores : Places N) → AreLeft n g h old new stores → StoresStand n h stores (entry.Begin ∷ L)
+  rest_stopped stores are = record {
+    day = none_day L;
+    nodes = λ k store there. left_in n h old new stores (entry.Begin ∷ L) ready (ap length rest.devices) are.eight k store there refl
+        (at_both n LeftIs (λ o i d s t. (h.size store ≡ o.ghosts.bytes) × HoldsImage o.ghosts g h s t store)
+        (λ o i d s t. StoreStands o.ghosts h d (view_in i (o.kind.seen d) (entry.Begin ∷ L)) store) old new (λ o i d s t left held. left store held.0 held.1) k (left_at k) (are.each k store there));
+  }
