@@ -11,8 +11,6 @@ mod program;
 mod refusals;
 mod replies;
 mod summary;
-#[cfg(test)]
-mod tests;
 mod values;
 mod word;
 

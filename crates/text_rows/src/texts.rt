@@ -1,7 +1,6 @@
 //! Each form of line and of reply once, and lines that are nearly events.
 ghost use Rattle.std.specs.Prelude.{◌≤◌};
 
-use crate::{Summary, Words, is_skipped, read_event, read_words, write_reply, write_summary};
 use bench_base::bytes::Given;
 use bench_base::events::{DevView, Event, Reply};
 use bench_base::numbers::{Customer, DayNo, DevNo};
@@ -9,6 +8,7 @@ use bench_base::refusals::{
     CentreRefusal, DevRefusal, HostRefusal, MarkFault, RateRefusal, ScanRefusal, Unread,
 };
 use bench_base::words::{JobState, Key, Kind, Node, Phase, Verdict};
+use script_text::{Summary, Words, is_skipped, read_event, read_words, write_reply, write_summary};
 use std::alloc::{AllocError, Global};
 
 fn node_number(node: Node) -> u32 {
