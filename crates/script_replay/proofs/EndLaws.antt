@@ -21,7 +21,7 @@ use Rattle.script_replay.specs.Run.{IsBadPlace, RanOut, EndsIn, Replayed}
 end_line : (line : List ℕ) → IsEndLine line → IsLineOf event.End line
 end_line line l = record { whole = tt; spells = l }
 
-passed_not_last : (line : List ℕ) → IsPassed line → IsEndLine line → ⊥
+pub passed_not_last : (line : List ℕ) → IsPassed line → IsEndLine line → ⊥
 passed_not_last line p l =
     elim p.1 [
       | inl skipped ↦ no_event_skipped event.End line l skipped
@@ -145,11 +145,11 @@ last_alone line bytes left one h =
     ap (λ x. lines_of (bytes ++ x)) h.2 ∙ ap lines_of (append-nil bytes ∙ h.0) ∙ lines_of-last line one h.1
 
 -- a line stands at the front of the bytes
-line_first : (is_ended : Bool) (line bytes left : List ℕ) → IsOneLine line → IsLineIn is_ended line bytes (left ≡ []) → (more : List (List ℕ)) × (lines_of (bytes ++ left) ≡ line ∷ more)
+pub line_first : (is_ended : Bool) (line bytes left : List ℕ) → IsOneLine line → IsLineIn is_ended line bytes (left ≡ []) → (more : List (List ℕ)) × (lines_of (bytes ++ left) ≡ line ∷ more)
 line_first true line bytes left one h = (lines_of left, ap (λ x. lines_of (x ++ left)) h ∙ lines_of-ended line left one)
 line_first false line bytes left one h = ([], last_alone line bytes left one h)
 
-lines_of-script : (deeds : List Deed) (more : List ℕ) → AllByRecursion Reads deeds → lines_of (script_of deeds ++ more) ≡ map line_in deeds ++ lines_of more
+pub lines_of-script : (deeds : List Deed) (more : List ℕ) → AllByRecursion Reads deeds → lines_of (script_of deeds ++ more) ≡ map line_in deeds ++ lines_of more
 lines_of-script [] more each = refl
 lines_of-script (d ∷ deeds) more each =
     ap lines_of (append_assoc (ended (line_in d)) (script_of deeds) more) ∙ lines_of-ended (line_in d) (script_of deeds ++ more) each.0.one
@@ -161,7 +161,7 @@ passed_of : (d : Deed) → Reads d → GoesOn d → IsPassed (line_in d)
 passed_of (Skipped line) r g = (r.short, inl r.is)
 passed_of (Did line d) r g = (r.short, inr (d.event, r.is, g))
 
-all_passed : (deeds : List Deed) → AllByRecursion Reads deeds → AllByRecursion GoesOn deeds → AllByRecursion IsPassed (map line_in deeds)
+pub all_passed : (deeds : List Deed) → AllByRecursion Reads deeds → AllByRecursion GoesOn deeds → AllByRecursion IsPassed (map line_in deeds)
 all_passed [] r g = tt
 all_passed (d ∷ deeds) r g = (passed_of d r.0 g.0, all_passed deeds r.1 g.1)
 

@@ -20,7 +20,7 @@ use Rattle.bench.specs.Benches.{Nodes}
 use Rattle.bench.specs.Outside.{Outside, Feed}
 use Rattle.generator.specs.Events.{generated}
 use Rattle.generator.specs.Given.{GivesOnlyDebits, NeedsNoStream}
-use Rattle.script_text.specs.Summaries.{Tally, tally_of, together, nothing, one_in, column_of, Column}
+use Rattle.script_text.specs.Summaries.{Tally, tally_of, nothing, one_in, column_of, Column}
 use Rattle.script_text.specs.Summaries as sum
 use Rattle.script_replay.specs.Chains.{Scene, DidEvent, DidDeeds}
 use Rattle.script_replay.specs.Deeds.{Done, Deed, Did, ledger_by, AreUnforged}

@@ -1,6 +1,7 @@
 mod Answering
 mod Calling
 mod Chains
+mod Completing
 mod Counting
 mod Deeds
 mod EndLaws
@@ -12,4 +13,5 @@ mod Printing
 mod Replying
 mod Running
 mod Sent
+mod Stopping
 mod Stores

@@ -25,6 +25,7 @@ use Rattle.script_replay.proofs.Answering.{no_failure, all_answered, all_exact}
 use Rattle.script_replay.proofs.Chains.{runs, sane_while, stands_after}
 use Rattle.script_replay.proofs.Counting.{LeftSo, left_so, run_balanced}
 use Rattle.script_replay.proofs.Printing.{all_taken, all_printed, prints_while}
+use Rattle.script_replay.proofs.Stopping.{left_anywhere}
 
 module _ {D C H V S XD XC XH XV RD RC RH RV N : Type 0} (n : Nodes D C H V S XD XC XH XV RD RC RH RV) (g : nv.Ghosts S) (f : fuse.Ghosts S) (h : nv.Ghosts N) (today : Editions editions) (holds : ForHistories Holds)
     (old : Scene D C H V) (begun : Bench D C H V) (ready : IsReady old.bench) (ready' : IsReady begun) (begins : Begun n g old.bench begun) (no_day : begun.day ≡ None)
@@ -34,6 +35,9 @@ module _ {D C H V S XD XC XH XV RD RC RH RV N : Type 0} (n : Nodes D C H V S XD 
   still_ready b new (Skipped line ∷ rest) is did = still_ready b new rest is did
   still_ready b new (Did line d ∷ rest) is did = still_ready did.0 new rest did.1.ready did.2
 
+  begun_for : (τ : Tariff) (L : Ledger) → StandsFor n g τ old.bench L → StandsFor n g τ begun (Begin ∷ L)
+  begun_for τ L s = record { history = History.begins s.history; stands = begins_stands L s.stands }
+
   module _ (behind new : Scene D C H V) (deeds : List Deed) (did : DidDeeds n g f h (scene begun old.outside) behind deeds) (left : LeftSo behind new) where
     ready_now : IsReady new.bench
     ready_now = subst (λ (b : Bench D C H V). IsReady b) (sym left.bench) (still_ready (scene begun old.outside) behind deeds ready' did)
@@ -41,7 +45,7 @@ module _ {D C H V S XD XC XH XV RD RC RH RV N : Type 0} (n : Nodes D C H V S XD 
     over : (τ : Tariff) (L : Ledger) → IsOfTexts τ → StandsFor n g τ old.bench L → g.tells → DidOver n g τ L old new deeds
     over τ L texts s tells =
         let from = scene begun old.outside in
-        let s' : StandsFor n g τ begun (Begin ∷ L) = record { history = History.begins s.history; stands = begins_stands L s.stands } in
+        let s' = begun_for τ L s in
         let balanced = run_balanced n g f h old begun behind new deeds ready ready' begins did left in
         let after : AreUnforged τ Unforged (Begin ∷ L) deeds → StandsFor n g τ new.bench (ledger_after τ (Begin ∷ L) deeds) =
         λ u. subst (λ (b : Bench D C H V). StandsFor n g τ b (ledger_after τ (Begin ∷ L) deeds)) (sym left.bench) (stands_after n g f h τ texts tells from behind deeds (Begin ∷ L) did s' u) in
@@ -72,6 +76,7 @@ module _ {D C H V S XD XC XH XV RD RC RH RV N : Type 0} (n : Nodes D C H V S XD 
         printed = subst (λ (p : Printer). Appends old.outside.printer.taken p.taken (printed_of deeds)) (sym left.printer) (all_printed n g f h (scene begun old.outside) e.behind deeds e.did);
         balanced = run_balanced n g f h old begun e.behind new deeds ready ready' begins e.did left;
         over = over e.behind new deeds e.did left;
+        stopped = λ τ L texts s tells. left_anywhere n g f h τ texts tells (scene begun old.outside) e.behind deeds (Begin ∷ L) e.did ready' (begun_for τ L s);
       }
 
 -- from nothing nothing is asked of a ledger

@@ -1,6 +1,6 @@
 -- How a script ends by its bytes alone: what a run answers for it while no stream fails and there is memory.
 use Rattle.std.specs.Prelude.{◌≡◌, ◌≢◌, ℕ, ◌+◌, ◌<◌, ◌≤◌, List, [], ◌∷◌, ◌++◌, length, ◌⊎◌, ◌==◌, if◌then◌else◌}
-use Rattle.std.specs.List.{AllByRecursion}
+use Rattle.std.specs.List.{AllByRecursion, Contains}
 use Rattle.bench_base.specs.declared.events.Event.{Event}
 use Rattle.bench_base.specs.declared.events.Event.TheVariants as event
 use Rattle.script_text.specs.Grammar.{Spells, IsSkipped}
@@ -55,3 +55,7 @@ IsByScript status.Words = ⊥
 IsByScript status.ReadFault = ⊥
 IsByScript status.WriteFault = ⊥
 IsByScript status.Memory = ⊥
+
+-- The run is done; but one of these lines, which stand before its `end`, may be a `rates` that wanted memory.
+abbrev pub IsComplete : Status → List (List ℕ) → Type 0
+IsComplete outcome passed = (outcome ≡ status.Done) ⊎ ((outcome ≡ status.Memory) × (line : List ℕ) × Contains passed line × IsLineOf event.Rates line)

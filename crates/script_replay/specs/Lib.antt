@@ -14,6 +14,7 @@ pub mod Faults
 pub mod Generated
 pub mod Lines
 pub mod Marks
+pub mod Stopped
 pub mod Undisturbed
 -- Bookkeeping: private calls and proofs alone name these.
 pub mod Turns

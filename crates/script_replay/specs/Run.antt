@@ -28,6 +28,7 @@ use Rattle.script_replay.specs.Deeds.{Done, Deed, line_in, text_for, Reads, IsEn
 use Rattle.script_replay.specs.Events.{IsLineOf, IsBad}
 use Rattle.script_replay.specs.Lines.{IsOneLine, IsLineIn, IsCutOff}
 use Rattle.script_replay.specs.Marks.{IsPrinted}
+use Rattle.script_replay.specs.Stopped.{LeftAnywhere}
 use Rattle.script_replay.specs.Undisturbed.{IsAnswer, IsTheAnswer, NoneOpen, AreUndisturbed}
 use Rattle.script_replay.specs.declared.status.Status.{Status}
 use Rattle.script_replay.specs.declared.status.Status.TheVariants as status
@@ -87,7 +88,8 @@ module _ {D C H V S XD XC XH XV RD RC RH RV : Type 0} (n : Nodes D C H V S XD XC
     pub exact : AreUndisturbed n g old new deeds → NoneOpen L → RunWhile τ Unforged (IsTheAnswer τ) (Begin ∷ L) deeds
 
 -- The bench began a run, without a day, messages and rates, and did the deeds: each event by a step, whether or not a history
--- leads to what the storages show. The rates and the printer are as they took and printed in turn.
+-- leads to what the storages show. The rates and the printer are as they took and printed in turn. By a history for which the bench
+-- stood, so does what is left wherever the process is stopped.
 pub record DidRun {D C H V S XD XC XH XV RD RC RH RV N : Type 0} (n : Nodes D C H V S XD XC XH XV RD RC RH RV) (g : nv.Ghosts S) (f : fuse.Ghosts S) (h : nv.Ghosts N)
     (old new : Scene D C H V) (outcome : Status) (deeds : List Deed) : Type 0 where
   pub begun : Bench D C H V
@@ -102,6 +104,7 @@ pub record DidRun {D C H V S XD XC XH XV RD RC RH RV N : Type 0} (n : Nodes D C 
   pub printed : Appends old.outside.printer.taken new.outside.printer.taken (printed_of deeds)
   pub balanced : AreBalanced n g old new deeds
   pub over : (τ : Tariff) (L : Ledger) → IsOfTexts τ → StandsFor n g τ old.bench L → g.tells → DidOver n g τ L old new deeds
+  pub stopped : (τ : Tariff) (L : Ledger) → IsOfTexts τ → StandsFor n g τ old.bench L → g.tells → LeftAnywhere n g f h τ (Begin ∷ L) (scene begun old.outside) behind deeds steps
 
 -- == how the run ended ==
 

@@ -8,7 +8,7 @@ use Rattle.script_text.specs.declared.program.Words.{Words}
 use Rattle.script_text.specs.declared.program.Words.TheVariants.{Replay, Generate}
 use Rattle.script_text.specs.Programs.{program_words, AreInRange}
 use Rattle.script_replay.specs.Deeds.{Deed}
-use Rattle.script_replay.specs.Ends.{EndsAs, IsByScript}
+use Rattle.script_replay.specs.Ends.{EndsAs, IsByScript, IsComplete}
 use Rattle.script_replay.specs.Generated.{Generated}
 use Rattle.script_replay.specs.Run.{Replayed}
 use Rattle.script_replay.specs.declared.status.Status.{Status}
@@ -49,3 +49,10 @@ pub record EndsRun (outcome : Status) (given : List (List ℕ)) (before now : St
   pub write_fault : outcome ≡ status.WriteFault → Rose before.write_faults now.write_faults
   pub read_later : before.read_faults ≤ now.read_faults
   pub write_later : before.write_faults ≤ now.write_faults
+
+-- A run comes to its end, whatever the nodes, the printer and the rates answer, where no fault of the script or the report was
+-- counted: a script that has an `end` behind lines that are each skipped or an event, and a generated run always.
+pub record Completes (outcome : Status) (given : List (List ℕ)) (before now : Streams) : Type 0 where
+  pub script : given ≡ program_words Replay → (Rose before.read_faults now.read_faults → ⊥) → (Rose before.write_faults now.write_faults → ⊥)
+      → IfSome before.left (λ bytes. (end : EndsAs status.Done bytes) → IsComplete outcome end.passed)
+  pub generated : (seed count : ℕ) → AreInRange (Generate seed count) → given ≡ program_words (Generate seed count) → (Rose before.write_faults now.write_faults → ⊥) → outcome ≡ status.Done

@@ -1,5 +1,5 @@
 //! A run on a bench that is made for it, over blank storages in memory.
-ghost use Rattle.std.specs.Prelude.{◌≡◌, ◌≢◌, [], length, IfSome, map, string_bytes, None};
+ghost use Rattle.std.specs.Prelude.{◌≡◌, [], length, IfSome, map, string_bytes, None};
 ghost use Rattle.std.specs.List.{All};
 ghost use Rattle.bench.specs.Benches.{IsReady, Stands, nodes, bench_of};
 ghost use Rattle.bench.specs.Outside.{outside};

@@ -12,7 +12,7 @@ ghost use Rattle.script_replay.specs.Chains.{scene, DidEvent, DidDeeds};
 ghost use Rattle.script_replay.specs.Deeds.{done, line_of};
 ghost use Rattle.script_replay.specs.Events.{IsLineOf};
 ghost use Rattle.script_replay.specs.Run.{DidRun, Leaves, Replayed};
-ghost use Rattle.script_replay.specs.Streams.{Ran, EndsRun, streams};
+ghost use Rattle.script_replay.specs.Streams.{Ran, EndsRun, Completes, streams};
 ghost use Rattle.script_replay.specs.Turns.{LineEnd, Reported, Goes, Stops, Ended};
 ghost use Rattle.script_replay.specs.declared.status.Status.{Status};
 
@@ -281,6 +281,9 @@ pub fn run<S: Source, R: Source, K: Sink, P: Sink, N: Nv + Drop>(
 
     // How it ends, and what that says of the streams.
     ensures ends { EndsRun result (map string_bytes words.now) (streams S.Source script.old K.Sink report.old (outside R.Source rates.old P.Sink printer.old)) (streams S.Source script.new K.Sink report.new (outside R.Source rates.new P.Sink printer.new)) }
+
+    // That it comes to its end.
+    ensures completes { Completes result (map string_bytes words.now) (streams S.Source script.old K.Sink report.old (outside R.Source rates.old P.Sink printer.old)) (streams S.Source script.new K.Sink report.new (outside R.Source rates.new P.Sink printer.new)) }
 {
     histories();
     bench.begin();

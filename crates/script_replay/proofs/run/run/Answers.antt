@@ -5,6 +5,7 @@ use Rattle.script_text.specs.declared.program.Words.TheVariants.{Replay, Generat
 use Rattle.script_replay.specs.Chains.{scene}
 use Rattle.script_replay.specs.declared.status.Status.TheVariants as status
 use Rattle.script_replay.proofs.Calling.{apart, read_as, ran_replay, ran_generate, ran_nothing, generated_said}
+use Rattle.script_replay.proofs.Completing.{completes}
 use Rattle.script_replay.proofs.Deeds.{said}
 use Rattle.script_replay.proofs.EndLaws.{exact_end}
 use Rattle.script_replay.proofs.Running.{did_run}
@@ -44,3 +45,12 @@ returns-in-Some-Replay-clause-ends g c =
       read_later = search rules;
       write_later = search rules;
     }
+
+pub returns-in-Some-Replay-clause-completes : goal.returns-in-Some-Replay-clause-completes
+returns-in-Some-Replay-clause-completes g c =
+    completes c.replay.result _ _ _ _ (ran_replay c.replay.result _ _ _ _ (read_as _ _ Replay c.in-Some-Replay.field-0-is c.in-Some-Replay.ensures.found).1 c.replay.ensures.ran)
+    c.replay.ensures.read_failed c.replay.ensures.write_failed
+
+pub returns-in-None-clause-completes : goal.returns-in-None-clause-completes
+returns-in-None-clause-completes g c =
+    completes status.Words _ (λ deeds. Unit {0}) _ _ (ran_nothing status.Words _ _ _ _ c.in-None.ensures.none tt) (λ is. cc) (λ is. cc)
