@@ -1,5 +1,7 @@
 //! Rows of devices on storage: what is kept across off and on, and across cuts of power.
-use crate::worked::{FIRST_MARK, Piece, SEVEN_COMMITS, bench_over, made_again, outcome, told};
+use crate::worked::{
+    BLANK, FIRST_MARK, LOADED, Piece, SEVEN_COMMITS, Start, run_again, run_both, run_once, told,
+};
 use script_replay::status::Status;
 use std::test::Fail;
 
@@ -45,8 +47,11 @@ const ANSWERS: [(&str, &[Piece], &str, &str); 4] = [
 #[test]
 fn devices_answer_in_order(rt: HostRuntime) -> Result<(), Fail> {
     for (name, pieces, script, report) in ANSWERS {
-        let mut bench = bench_over(rt.alloc(), pieces)?;
-        let got = outcome(rt.alloc(), &told(script.as_bytes(), 600), &mut bench)?;
+        let start = Start {
+            first: pieces,
+            ..BLANK
+        };
+        let got = run_once(rt.alloc(), &start, &told(script.as_bytes(), 600))?;
         assert!(rt; got.status == Status::Done, "{name}");
         assert_eq!(rt; got.report.as_slice(), report.as_bytes(), "{name}");
     }
@@ -65,36 +70,45 @@ fn a_device_is_kept_across_off_and_on(rt: HostRuntime) -> Result<(), Fail> {
         down d1\nup d1 commits 9\n\
         status d1 in-service ascending 50000 descending 0 refunded 0 pieces 2 number 3 deadline 20605 pending none\nend\n"
     )?;
-    let mut bench = bench_over(rt.alloc(), &SEVEN_COMMITS[..4])?;
-    let got = outcome(rt.alloc(), &told(script.as_bytes(), 600), &mut bench)?;
+    let start = Start {
+        first: &SEVEN_COMMITS[..4],
+        ..BLANK
+    };
+    let then = b"status d1\nday 2026-03-01\nstatus d1\non d1\nend\n".as_slice();
+    let (got, next) = run_both(
+        rt.alloc(),
+        &start,
+        &told(script.as_bytes(), 600),
+        &told(then, 600),
+    )?;
     assert!(rt; got.status == Status::Done);
     assert_eq!(rt; got.report.as_slice(), report.as_bytes());
     // The next run begins with all devices off, and no day.
-    let script = b"status d1\nday 2026-03-01\nstatus d1\non d1\nend\n".as_slice();
-    let got = outcome(rt.alloc(), &told(script, 600), &mut bench)?;
     let report = b"no day\nday 20513\noff d1\nup d1 commits 9\nend\n".as_slice();
-    assert_eq!(rt; got.report.as_slice(), report);
+    assert_eq!(rt; next.report.as_slice(), report);
     Ok(())
 }
 
 #[test]
 fn a_device_outlives_its_bench(rt: HostRuntime) -> Result<(), Fail> {
     let debit = "day 2026-03-01\non d1\ndebit d1 1 550 1\n";
-    let mut bench = bench_over(rt.alloc(), SEVEN_COMMITS)?;
     // The fuse that is armed at the end is the bench's, and not its storage's.
     let script = format!(in rt.alloc(); "{debit}cut d1 0 0 00\nend\n")?;
-    let got = outcome(rt.alloc(), &told(script.as_bytes(), 600), &mut bench)?;
+    let then = format!(in rt.alloc(); "{debit}end\n")?;
+    let (got, next) = run_again(
+        rt.alloc(),
+        &LOADED,
+        &told(script.as_bytes(), 600),
+        &told(then.as_bytes(), 600),
+    )?;
     let report = format!(in rt.alloc();
         "day 20513\nup d1 commits 7\nmark d1 1 new {FIRST_MARK}\ncut d1\nend\n"
     )?;
     assert_eq!(rt; got.report.as_slice(), report.as_bytes());
-    let mut bench = made_again(rt.alloc(), bench)?;
-    let script = format!(in rt.alloc(); "{debit}end\n")?;
-    let got = outcome(rt.alloc(), &told(script.as_bytes(), 600), &mut bench)?;
     let report = format!(in rt.alloc();
         "day 20513\nup d1 commits 8\nmark d1 1 again {FIRST_MARK}\nend\n"
     )?;
-    assert_eq!(rt; got.report.as_slice(), report.as_bytes());
+    assert_eq!(rt; next.report.as_slice(), report.as_bytes());
     Ok(())
 }
 
@@ -120,8 +134,7 @@ fn a_debit_is_cut_at_each_call(rt: HostRuntime) -> Result<(), Fail> {
                 "day 20513\nup d1 commits 7\ncut d1\npower d1\nup d1 commits {commits}\nmark d1 1 {answer} {FIRST_MARK}\n\
                 status d1 in-service ascending 550 descending 49450 refunded 0 pieces 1 number 3 deadline 20605 pending none\nend\n"
             )?;
-            let mut bench = bench_over(rt.alloc(), SEVEN_COMMITS)?;
-            let got = outcome(rt.alloc(), &told(script.as_bytes(), 600), &mut bench)?;
+            let got = run_once(rt.alloc(), &LOADED, &told(script.as_bytes(), 600))?;
             assert!(rt; got.status == Status::Done, "call {call}");
             assert_eq!(rt; got.report.as_slice(), report.as_bytes(), "call {call}");
         }

@@ -4,6 +4,8 @@
 #[cfg(test)]
 mod bench_rows;
 #[cfg(test)]
+mod fault_rows;
+#[cfg(test)]
 mod message_rows;
 #[cfg(test)]
 mod ordinary_path;

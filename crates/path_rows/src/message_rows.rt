@@ -1,5 +1,5 @@
 //! Rows of messages: asked, sent again, delivered, and given as bytes.
-use crate::worked::{KEY, Piece, bench_with, outcome, told};
+use crate::worked::{BLANK, KEY, Piece, Start, run_once, told};
 use script_replay::status::Status;
 use std::test::Fail;
 
@@ -127,8 +127,12 @@ const ANSWERS: [(&str, &[Piece], &[Piece], &str, &str); 3] = [
 #[test]
 fn messages_answer_in_order(rt: HostRuntime) -> Result<(), Fail> {
     for (name, first, central, script, report) in ANSWERS {
-        let mut bench = bench_with(rt.alloc(), first, central)?;
-        let got = outcome(rt.alloc(), &told(script.as_bytes(), 600), &mut bench)?;
+        let start = Start {
+            first,
+            central,
+            ..BLANK
+        };
+        let got = run_once(rt.alloc(), &start, &told(script.as_bytes(), 600))?;
         assert!(rt; got.status == Status::Done, "{name}");
         assert_eq!(rt; got.report.as_slice(), report.as_bytes(), "{name}");
     }

@@ -1,5 +1,6 @@
 //! The ordinary path: a device is made, enrolled and loaded, marks a letter that the host prints, and the verifier accepts it.
-use crate::worked::{FIRST_MARK, bench_over, outcome, told_rates};
+use crate::worked::{BLANK, FIRST_MARK, answer, run_once, told_rates};
+use bench_base::events::Event;
 use script_replay::status::Status;
 use std::test::Fail;
 
@@ -12,7 +13,7 @@ pub const RATES: &str = "zones = 2\n\
     number = 2\n\
     steps = [{ grams = 500, mills = [4100, 9200] }]\n";
 
-const SCRIPT: &str = "day 2026-03-01\n\
+pub const SCRIPT: &str = "day 2026-03-01\n\
     rates\n\
     on centre\n\
     on host\n\
@@ -83,8 +84,7 @@ const REPORT: &str = "day 20513\n\
 #[test]
 fn the_ordinary_path_runs_whole(rt: HostRuntime) -> Result<(), Fail> {
     let given = told_rates(SCRIPT.as_bytes(), RATES.as_bytes(), 600);
-    let mut bench = bench_over(rt.alloc(), &[])?;
-    let got = outcome(rt.alloc(), &given, &mut bench)?;
+    let got = run_once(rt.alloc(), &BLANK, &given)?;
     assert!(rt; got.status == Status::Done);
     assert_eq!(rt; got.report.as_slice(), REPORT.as_bytes());
     let prints = format!(in rt.alloc(); "{FIRST_MARK}\n")?;
@@ -94,13 +94,19 @@ fn the_ordinary_path_runs_whole(rt: HostRuntime) -> Result<(), Fail> {
 
 #[test]
 fn ample_memory_is_enough_for_rates(rt: HostRuntime) -> Result<(), Fail> {
-    let mut bench = bench_over(rt.alloc(), &[])?;
     let given = told_rates(b"day 2026-03-01\nrates\nend\n", RATES.as_bytes(), 600);
-    let got = outcome(rt.alloc(), &given, &mut bench)?;
+    let got = run_once(rt.alloc(), &BLANK, &given)?;
     assert!(rt; got.status == Status::Done);
     assert_eq!(rt;
         got.report.as_slice(),
         b"day 20513\nrates 2 2\nend\n".as_slice()
     );
+    Ok(())
+}
+
+#[test]
+fn rates_without_a_day_are_not_read(rt: HostRuntime) -> Result<(), Fail> {
+    let got = answer(rt.alloc(), &Event::Rates, RATES.as_bytes())?;
+    assert_eq!(rt; got.as_slice(), b"no day".as_slice());
     Ok(())
 }

@@ -1,6 +1,6 @@
 //! Rows of the printer: a job that was begun stays begun where the printer does not take its mark.
 use crate::ordinary_path::RATES;
-use crate::worked::{Given, Outlet, SEVEN_COMMITS, SOUND, bench_over, outcome, told_rates};
+use crate::worked::{Given, LOADED, Outlet, SOUND, run_once, told_rates};
 use script_replay::status::Status;
 use std::alloc::Global;
 use std::process::Abort;
@@ -23,8 +23,7 @@ fn stays_begun(rt: &impl Abort, alloc: Global, printer: Outlet) -> Result<(), Fa
         printer,
         ..told_rates(PRINT_TWICE.as_bytes(), RATES.as_bytes(), 600)
     };
-    let mut bench = bench_over(alloc, SEVEN_COMMITS)?;
-    let got = outcome(alloc, &given, &mut bench)?;
+    let got = run_once(alloc, &LOADED, &given)?;
     assert!(rt; got.status == Status::Done);
     assert_eq!(rt; got.report.as_slice(), STAYS_BEGUN.as_bytes());
     assert!(rt; got.prints.is_empty());

@@ -1,12 +1,10 @@
 //! Rows of scripts, words and streams over blank storages: how runs end.
 ghost use Rattle.std.specs.Prelude.{◌≤◌};
 
-use crate::worked::{Given, Outlet, SOUND, bench_over, outcome, sink_of, source_of, told};
-use bench::step;
+use crate::worked::{BLANK, Given, Outlet, SOUND, answer, run_both, run_once, told};
 use bench_base::events::Event;
 use bench_base::numbers::DevNo;
 use script_replay::status::Status;
-use script_text::write_reply;
 use std::alloc::Global;
 use std::process::Abort;
 use std::test::Fail;
@@ -27,8 +25,7 @@ fn ends_so(
 ) -> Result<(), Fail>
     requires some { 1 ≤ given.now.piece }
 {
-    let mut bench = bench_over(alloc, &[])?;
-    let got = outcome(alloc, given, &mut bench)?;
+    let got = run_once(alloc, &BLANK, given)?;
     assert!(rt; got.status == status, "of {report}");
     assert_eq!(rt; got.report.as_slice(), report.as_bytes());
     Ok(())
@@ -116,8 +113,7 @@ fn words_and_faults_end(rt: HostRuntime) -> Result<(), Fail> {
             },
             printer: SOUND,
         };
-        let mut bench = bench_over(rt.alloc(), &[])?;
-        let got = outcome(rt.alloc(), &given, &mut bench)?;
+        let got = run_once(rt.alloc(), &BLANK, &given)?;
         assert!(rt; got.status == status, "of {report}");
         assert_eq!(rt; got.report.as_slice(), report.as_bytes());
     }
@@ -130,35 +126,24 @@ fn a_full_report_ends_behind_the_event(rt: HostRuntime) -> Result<(), Fail> {
         report: Outlet { room: 29, ..SOUND },
         ..told(SWITCH_ON.as_bytes(), 1)
     };
-    let mut bench = bench_over(rt.alloc(), &[])?;
-    let got = outcome(rt.alloc(), &given, &mut bench)?;
+    let then = b"day 2026-03-01\non d1\nend\n".as_slice();
+    let (got, next) = run_both(rt.alloc(), &BLANK, &given, &told(then, 600))?;
     assert!(rt; got.status == Status::WriteFault);
     assert_eq!(rt;
         got.report.as_slice(),
         b"day 20513\nup d1 commits 0\nmad".as_slice()
     );
     // The device was made.
-    let script = b"day 2026-03-01\non d1\nend\n".as_slice();
-    let got = outcome(rt.alloc(), &told(script, 600), &mut bench)?;
     let report = b"day 20513\nup d1 commits 1\nend\n".as_slice();
-    assert_eq!(rt; got.report.as_slice(), report);
+    assert_eq!(rt; next.report.as_slice(), report);
     Ok(())
 }
 
 #[test]
 fn an_event_is_answered_alone(rt: HostRuntime) -> Result<(), Fail> {
-    let mut bench = bench_over(rt.alloc(), &[])?;
     let device = DevNo::new(1).expect(&rt, "device");
-    let mut rates = source_of(rt.alloc(), &[])?;
-    let mut printer = sink_of(rt.alloc(), &SOUND)?;
-    let turn = step(
-        rt.alloc(),
-        &mut bench,
-        &Event::Status(device),
-        &mut rates,
-        &mut printer,
-    )?;
-    assert_eq!(rt; write_reply(&turn.reply).as_slice(), b"no day".as_slice());
+    let got = answer(rt.alloc(), &Event::Status(device), &[])?;
+    assert_eq!(rt; got.as_slice(), b"no day".as_slice());
     Ok(())
 }
 
@@ -176,8 +161,7 @@ fn a_million_lines_are_too_long(rt: HostRuntime) -> Result<(), Fail> {
         },
         ..told(script.as_slice(), 4096)
     };
-    let mut bench = bench_over(rt.alloc(), &[])?;
-    let got = outcome(rt.alloc(), &given, &mut bench)?;
+    let got = run_once(rt.alloc(), &BLANK, &given)?;
     assert!(rt; got.status == Status::TooLong);
     assert_eq!(rt; got.report.len(), 10_000_000);
     Ok(())

@@ -2,15 +2,18 @@
 ghost use Rattle.std.specs.Prelude.{◌≡◌, ◌≤◌, [], IfOk, length};
 ghost use Rattle.std.specs.List.{All};
 ghost use Rattle.bench.specs.Benches.{IsReady, bench_of};
+ghost use Rattle.bench_base.specs.Ranges.{IsWholeEvent};
 ghost use Rattle.nv_model.specs.Meters.{Works};
 
-use bench::{Bench, Stores};
+use bench::{Bench, Stores, step};
+use bench_base::events::Event;
 use bench_base::memory::{MemSink, MemSource};
 use bench_base::sizes::{CENTRE_BYTES, DEVICE_BYTES, VERIFIER_BYTES};
 use host_jobs::HOST_BYTES;
-use nv_model::{Fused, MemNv, Nv};
+use nv_model::{Failure, Fused, MemNv, Nv};
 use script_replay::run::run;
 use script_replay::status::Status;
+use script_text::write_reply;
 use std::alloc::{AllocError, Global};
 use std::test::Fail;
 
@@ -64,6 +67,28 @@ pub const SEVEN_COMMITS: &[Piece] = &[
     },
 ];
 
+/// What the storages of a bench hold when it is made: those of device 1 and of the centre have these pieces, and all others are blank.
+/// The calls of device 1's storage that are to fail stand beside it.
+#[derive(Clone, Copy)]
+pub struct Start<'a> {
+    pub first: &'a [Piece],
+    pub central: &'a [Piece],
+    pub plan: &'a [Failure],
+}
+
+/// All storages are blank.
+pub const BLANK: Start<'static> = Start {
+    first: &[],
+    central: &[],
+    plan: &[],
+};
+
+/// Device 1 was loaded with 50,000 mills.
+pub const LOADED: Start<'static> = Start {
+    first: SEVEN_COMMITS,
+    ..BLANK
+};
+
 fn lay(content: &mut [u8], pieces: &[Piece]) {
     for piece in pieces {
         for (cell, byte) in content.iter_mut().skip(piece.at).zip(piece.bytes) {
@@ -72,18 +97,34 @@ fn lay(content: &mut [u8], pieces: &[Piece]) {
     }
 }
 
-/// A storage of so many bytes with this content, without a plan.
-fn storage(alloc: Global, bytes: u32, pieces: &[Piece]) -> Result<MemNv, AllocError>
+/// A storage of so many bytes with this content, and the calls of it that are to fail.
+fn storage(
+    alloc: Global,
+    bytes: u32,
+    pieces: &[Piece],
+    plan: &[Failure],
+) -> Result<MemNv, AllocError>
     ensures { IfOk result (λ nv. Works (⟦<MemNv as Nv>⟧.meters nv)) }
 {
     let mut content = vec![in alloc; 0; bytes as usize]?;
     lay(&mut content, pieces);
-    let nv = MemNv::new(alloc, content, Vec::new(alloc), 400, 40_000)?;
+    let nv = MemNv::new(alloc, content, Vec::from_slice(alloc, plan)?, 400, 40_000)?;
     Ok(nv)
 }
 
-/// The storages of a bench, of which those of device 1 and the centre have this content and the others are blank.
-fn stores(alloc: Global, first: &[Piece], central: &[Piece]) -> Result<Stores<MemNv>, AllocError>
+/// The storage of a device, of which number 0 is device 1.
+fn device_storage(alloc: Global, start: &Start, i: u32) -> Result<MemNv, AllocError>
+    ensures { IfOk result (λ nv. Works (⟦<MemNv as Nv>⟧.meters nv)) }
+{
+    if i == 0 {
+        storage(alloc, DEVICE_BYTES, start.first, start.plan)
+    } else {
+        storage(alloc, DEVICE_BYTES, &[], &[])
+    }
+}
+
+/// The storages of a bench at the start.
+fn stores(alloc: Global, start: &Start) -> Result<Stores<MemNv>, AllocError>
     ensures eight { IfOk result (λ stores. length stores.devices.items ≡ 8) }
     ensures fresh { IfOk result (λ stores. All (λ nv. Works (⟦<MemNv as Nv>⟧.meters nv)) stores.devices.items) }
     ensures fresh_centre { IfOk result (λ stores. Works (⟦<MemNv as Nv>⟧.meters stores.centre)) }
@@ -92,11 +133,11 @@ fn stores(alloc: Global, first: &[Piece], central: &[Piece]) -> Result<Stores<Me
 {
     let mut devices = Vec::with_capacity(alloc, 8)?;
     for i in 0..8_u32 {
-        devices.push(storage(alloc, DEVICE_BYTES, if i == 0 { first } else { &[] })?)?;
+        devices.push(device_storage(alloc, start, i)?)?;
     }
-    let centre = storage(alloc, CENTRE_BYTES, central)?;
-    let host = storage(alloc, HOST_BYTES, &[])?;
-    let verifier = storage(alloc, VERIFIER_BYTES, &[])?;
+    let centre = storage(alloc, CENTRE_BYTES, start.central, &[])?;
+    let host = storage(alloc, HOST_BYTES, &[], &[])?;
+    let verifier = storage(alloc, VERIFIER_BYTES, &[], &[])?;
     Ok(Stores {
         devices,
         centre,
@@ -106,7 +147,7 @@ fn stores(alloc: Global, first: &[Piece], central: &[Piece]) -> Result<Stores<Me
 }
 
 /// A bench over these storages.
-fn made(alloc: Global, stores: Stores<MemNv>) -> Result<Bench<MemNv>, Fail>
+fn bench_of_stores(alloc: Global, stores: Stores<MemNv>) -> Result<Bench<MemNv>, Fail>
     requires eight { length stores.devices.items ≡ 8 }
     requires fresh { All (λ nv. Works (⟦<MemNv as Nv>⟧.meters nv)) stores.devices.items }
     requires fresh_centre { Works (⟦<MemNv as Nv>⟧.meters stores.centre) }
@@ -119,22 +160,6 @@ fn made(alloc: Global, stores: Stores<MemNv>) -> Result<Bench<MemNv>, Fail>
         Ok(bench) => Ok(bench),
         Err(_) => Err(Fail::from(AllocError)),
     }
-}
-
-/// A bench whose device 1 has this storage; the others are blank.
-pub fn bench_over(alloc: Global, pieces: &[Piece]) -> Result<Bench<MemNv>, Fail>
-    ensures ready { IfOk result (λ bench. IsReady (bench_of bench)) }
-    ensures no_messages { IfOk result (λ bench. (bench_of bench).messages ≡ []) }
-{
-    bench_with(alloc, pieces, &[])
-}
-
-/// A bench whose device 1 and centre have these storages; the others are blank.
-pub fn bench_with(alloc: Global, first: &[Piece], central: &[Piece]) -> Result<Bench<MemNv>, Fail>
-    ensures ready { IfOk result (λ bench. IsReady (bench_of bench)) }
-    ensures no_messages { IfOk result (λ bench. (bench_of bench).messages ≡ []) }
-{
-    made(alloc, stores(alloc, first, central)?)
 }
 
 /// A storage that begins again, as a new bench wants it.
@@ -178,14 +203,6 @@ fn left(alloc: Global, bench: Bench<MemNv>) -> Result<Stores<MemNv>, Fail>
         host,
         verifier,
     })
-}
-
-/// Another bench over the storages of this one.
-pub fn made_again(alloc: Global, bench: Bench<MemNv>) -> Result<Bench<MemNv>, Fail>
-    requires ready { IsReady (bench_of bench) }
-    ensures ready { IfOk result (λ bench. IsReady (bench_of bench)) }
-{
-    made(alloc, left(alloc, bench)?)
 }
 
 /// A sink: the bytes that it takes, and the numbers of the writes that fail and of those that take nothing.
@@ -249,7 +266,7 @@ pub struct RunEnd {
 }
 
 /// Words of the program, behind its name.
-pub fn words_of(alloc: Global, given: &[&str]) -> Result<Vec<String>, AllocError> {
+fn words_of(alloc: Global, given: &[&str]) -> Result<Vec<String>, AllocError> {
     let mut words = Vec::new(alloc);
     for word in given {
         words.push(String::from_str(alloc, word)?)?;
@@ -258,12 +275,12 @@ pub fn words_of(alloc: Global, given: &[&str]) -> Result<Vec<String>, AllocError
 }
 
 /// A source of this text that does not fail.
-pub fn source_of(alloc: Global, text: &[u8]) -> Result<MemSource, AllocError> {
+fn source_of(alloc: Global, text: &[u8]) -> Result<MemSource, AllocError> {
     Ok(MemSource::new(Vec::from_slice(alloc, text)?, 4096, Vec::new(alloc)))
 }
 
 /// This sink, empty.
-pub fn sink_of(alloc: Global, outlet: &Outlet) -> Result<MemSink, AllocError> {
+fn sink_of(alloc: Global, outlet: &Outlet) -> Result<MemSink, AllocError> {
     Ok(MemSink::new(
         vec![in alloc; 0; outlet.room]?,
         Vec::from_slice(alloc, outlet.fails)?,
@@ -271,8 +288,8 @@ pub fn sink_of(alloc: Global, outlet: &Outlet) -> Result<MemSink, AllocError> {
     ))
 }
 
-/// Runs what is given.
-pub fn outcome(alloc: Global, given: &Given, bench: &mut Bench<MemNv>) -> Result<RunEnd, Fail>
+/// Runs what is given on this bench.
+fn outcome(alloc: Global, given: &Given, bench: &mut Bench<MemNv>) -> Result<RunEnd, Fail>
     requires some { 1 ≤ given.now.piece }
     requires ready { IsReady (bench_of bench.old) }
     ensures ready { IsReady (bench_of bench.new) }
@@ -300,4 +317,65 @@ pub fn outcome(alloc: Global, given: &Given, bench: &mut Bench<MemNv>) -> Result
         report: Vec::from_slice(alloc, report.taken())?,
         prints: Vec::from_slice(alloc, printer.taken())?,
     })
+}
+
+/// Runs what is given on a bench that is made over these storages.
+fn run_over(alloc: Global, stores: Stores<MemNv>, given: &Given) -> Result<RunEnd, Fail>
+    requires some { 1 ≤ given.now.piece }
+    requires eight { length stores.devices.items ≡ 8 }
+    requires fresh { All (λ nv. Works (⟦<MemNv as Nv>⟧.meters nv)) stores.devices.items }
+    requires fresh_centre { Works (⟦<MemNv as Nv>⟧.meters stores.centre) }
+    requires fresh_host { Works (⟦<MemNv as Nv>⟧.meters stores.host) }
+    requires fresh_verifier { Works (⟦<MemNv as Nv>⟧.meters stores.verifier) }
+{
+    let mut bench = bench_of_stores(alloc, stores)?;
+    outcome(alloc, given, &mut bench)
+}
+
+/// Runs what is given on a bench that is made for it.
+pub fn run_once(alloc: Global, start: &Start, given: &Given) -> Result<RunEnd, Fail>
+    requires some { 1 ≤ given.now.piece }
+{
+    run_over(alloc, stores(alloc, start)?, given)
+}
+
+/// Runs one thing and then another, on one bench.
+pub fn run_both(
+    alloc: Global,
+    start: &Start,
+    first: &Given,
+    then: &Given,
+) -> Result<(RunEnd, RunEnd), Fail>
+    requires some { 1 ≤ first.now.piece }
+    requires more { 1 ≤ then.now.piece }
+{
+    let mut bench = bench_of_stores(alloc, stores(alloc, start)?)?;
+    let got = outcome(alloc, first, &mut bench)?;
+    Ok((got, outcome(alloc, then, &mut bench)?))
+}
+
+/// Runs one thing, and then another on another bench, over the storages of the first.
+pub fn run_again(
+    alloc: Global,
+    start: &Start,
+    first: &Given,
+    then: &Given,
+) -> Result<(RunEnd, RunEnd), Fail>
+    requires some { 1 ≤ first.now.piece }
+    requires more { 1 ≤ then.now.piece }
+{
+    let mut bench = bench_of_stores(alloc, stores(alloc, start)?)?;
+    let got = outcome(alloc, first, &mut bench)?;
+    Ok((got, run_over(alloc, left(alloc, bench)?, then)?))
+}
+
+/// The reply to one event on a new bench over blank storages, as a line of the report.
+pub fn answer(alloc: Global, event: &Event, rates: &[u8]) -> Result<Vec<u8>, Fail>
+    requires whole { IsWholeEvent event.now }
+{
+    let mut bench = bench_of_stores(alloc, stores(alloc, &BLANK)?)?;
+    let mut rates = source_of(alloc, rates)?;
+    let mut printer = sink_of(alloc, &SOUND)?;
+    let turn = step(alloc, &mut bench, event, &mut rates, &mut printer)?;
+    Ok(Vec::from_slice(alloc, write_reply(&turn.reply).as_slice())?)
 }

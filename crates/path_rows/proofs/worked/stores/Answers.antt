@@ -11,7 +11,7 @@ loop-i-preserved c =
     let before = c.loop-i.devices.items in
     let more = c.in_ok-push.ensures.items in
     record {
-      count = omega (arith, ap (λ l. length l) more, length_push before c.in_ok-storage.field-0, c.loop-i.invariant.count);
+      count = omega (arith, ap (λ l. length l) more, length_push before c.in_ok-device_storage.field-0, c.loop-i.invariant.count);
       fresh = subst (All (λ nv. Works (ghosts.meters nv))) (sym more)
-          (All-push (λ nv. Works (ghosts.meters nv)) before c.in_ok-storage.field-0 c.loop-i.invariant.fresh c.in_ok-storage.ensures);
+          (All-push (λ nv. Works (ghosts.meters nv)) before c.in_ok-device_storage.field-0 c.loop-i.invariant.fresh c.in_ok-device_storage.ensures);
     }
