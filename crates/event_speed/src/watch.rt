@@ -1,17 +1,23 @@
-//! A report that keeps nothing but times.
+//! A report that keeps nothing but counts and times.
 ghost use Rattle.std.specs.Prelude.{None};
 
 use bench_base::stream::{Sink, WriteFail};
 use std::rt::Clock;
 use std::time::Instant;
 
-/// Takes every line of a report, counts the marks among them, and keeps the time after each `step` of them.
+/// Takes every line of a report, counts the lines and the refusals among them, and keeps the time after each `step` lines.
 #[derive(Drop)]
 pub struct Watch<'a, R: Clock> {
     clock: &'a R,
     step: u32,
-    marks: u32,
+    lines: u32,
+    refusals: u32,
     times: Vec<Instant>,
+}
+
+/// Whether a line of the report says that its event was not done.
+fn is_refusal(line: &[u8]) -> bool {
+    line.starts_with(b"refused") || line.starts_with(b"no ") || line.starts_with(b"off ")
 }
 
 impl<'a, R: Clock> Watch<'a, R> {
@@ -20,14 +26,15 @@ impl<'a, R: Clock> Watch<'a, R> {
         Watch {
             clock,
             step,
-            marks: 0,
+            lines: 0,
+            refusals: 0,
             times,
         }
     }
 
-    /// How many marks there were.
-    pub fn marks(&self) -> u32 {
-        self.marks
+    /// How many refusals there were.
+    pub fn refusals(&self) -> u32 {
+        self.refusals
     }
 
     /// All times so far.
@@ -37,8 +44,8 @@ impl<'a, R: Clock> Watch<'a, R> {
 
     // A time that can't be taken or kept is missing afterwards.
     fn count(&mut self) {
-        self.marks = self.marks.saturating_add(1);
-        if self.marks.is_multiple_of(self.step) {
+        self.lines = self.lines.saturating_add(1);
+        if self.lines.is_multiple_of(self.step) {
             if let Ok(now) = Instant::now(self.clock) {
                 let _kept = self.times.push(now);
             }
@@ -52,9 +59,10 @@ impl<R: Clock> Sink for Watch<'_, R> {
     ghost faults = { λ s. 0 };
 
     fn write(&mut self, bytes: &[u8]) -> Result<usize, WriteFail> {
-        if bytes.starts_with(b"mark") {
-            self.count();
+        if is_refusal(bytes) {
+            self.refusals = self.refusals.saturating_add(1);
         }
+        self.count();
         Ok(bytes.len())
     }
 }
