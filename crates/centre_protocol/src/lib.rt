@@ -8,8 +8,6 @@ mod kind;
 mod node;
 mod room;
 mod rows;
-#[cfg(test)]
-mod tests;
 
 pub use centre::Centre;
 pub use centre_ledger::{CentreAnswer, Deposit, Standing};

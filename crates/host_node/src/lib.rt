@@ -8,8 +8,6 @@ mod host;
 mod kind;
 mod node;
 mod room;
-#[cfg(test)]
-mod tests;
 
 pub use host::Host;
 pub use host_jobs::Ordered;

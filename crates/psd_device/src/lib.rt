@@ -6,8 +6,6 @@ mod calls;
 mod device;
 mod kind;
 mod node;
-#[cfg(test)]
-mod tests;
 
 pub use device::Device;
 pub use node::DeviceNode;

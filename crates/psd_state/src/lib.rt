@@ -9,8 +9,6 @@ mod page;
 mod parts;
 mod payload;
 mod record;
-#[cfg(test)]
-mod tests;
 mod theorems;
 mod words;
 

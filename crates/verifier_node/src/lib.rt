@@ -8,8 +8,6 @@ mod kind;
 mod node;
 mod room;
 mod running;
-#[cfg(test)]
-mod tests;
 
 pub use node::VerifierNode;
 pub use room::VerifierRoom;

@@ -2,13 +2,13 @@
 ghost use Rattle.std.specs.Prelude.{◌≡◌, ◌<◌, ◌^◌, IfOk, length, false};
 ghost use Rattle.nv_model.specs.Fuses.{state_of};
 
-use crate::{Device, Franked, Taken};
 use bench_base::ledger::Commit;
 use bench_base::numbers::{DayNo, DevNo};
 use bench_base::refusals::{BootFail, DevFail, DevRefusal, StoreFail};
 use bench_base::words::{Key, Kind, Verdict};
 use hmac_core::hmac256;
 use nv_model::{Fused, MemNv, Nv};
+use psd_device::{Device, Franked, Taken};
 use psd_wire::{DebitMsg, Message, ReplyMsg, write_message};
 use std::alloc::Global;
 use std::process::Abort;

@@ -5,7 +5,6 @@ ghost use Rattle.bench_base.specs.Rules.{IsVersion};
 ghost use Rattle.indicium.specs.Marks.{IsWhole};
 ghost use Rattle.nv_model.specs.Fuses.{state_of};
 
-use crate::{Accepted, Verifier};
 use bench_base::ledger::Commit;
 use bench_base::numbers::{DayNo, DevNo};
 use bench_base::refusals::{BootFail, MarkFault, ScanFail, ScanRefusal, StoreFail};
@@ -17,6 +16,7 @@ use nv_store::Room;
 use std::alloc::Global;
 use std::process::Abort;
 use std::test::Fail;
+use verifier_node::{Accepted, Verifier};
 
 const KEY: Key = [1; 32];
 

@@ -1,8 +1,8 @@
 //! The device's record against bytes and answers of an independent program.
-use crate::{Debited, DevRec};
 use bench_base::numbers::{DayNo, DevNo};
 use bench_base::refusals::DevRefusal;
 use bench_base::words::{Key, Kind, Phase, Verdict};
+use psd_state::{Debited, DevRec};
 use psd_wire::{DebitMsg, ReplyMsg};
 use std::process::Abort;
 

@@ -3,13 +3,13 @@
 ghost use Rattle.std.specs.Prelude.{◌≡◌, ◌<◌, ◌≤◌, ◌^◌, IfOk, length, false};
 ghost use Rattle.nv_model.specs.Fuses.{state_of};
 
-use crate::{Centre, CentreAnswer};
 use bench_base::bytes::Note;
 use bench_base::ledger::Commit;
 use bench_base::numbers::{Customer, DayNo, DevNo};
 use bench_base::refusals::{BootFail, CentreFail, CentreRefusal, StoreFail};
 use bench_base::sizes::CENTRE_CELLS;
 use bench_base::words::{Key, Kind, Verdict};
+use centre_protocol::{Centre, CentreAnswer};
 use hmac_core::hmac256;
 use nv_model::{Fused, MemNv, Nv};
 use nv_store::Room;

@@ -4,12 +4,12 @@ ghost use Rattle.std.specs.Prelude.{◌≡◌, ◌<◌, ◌^◌, IfOk, length, f
 ghost use Rattle.bench_base.specs.Ranges.{IsPostage};
 ghost use Rattle.nv_model.specs.Fuses.{state_of};
 
-use crate::{Host, HostRoom};
 use bench_base::fields::{put_u16, put_u32};
 use bench_base::ledger::Commit;
 use bench_base::numbers::DevNo;
 use bench_base::refusals::{BootFail, HostFail, HostRefusal, RateRefusal, StoreFail, Unread};
 use bench_base::words::JobState;
+use host_node::{Host, HostRoom};
 use nv_model::{Fused, MemNv, Nv};
 use std::alloc::Global;
 use std::process::Abort;
