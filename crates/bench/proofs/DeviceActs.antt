@@ -1,5 +1,5 @@
 -- The acts of a device's calls: what they change, and how they are told.
-use Rattle.std.proofs.Common.{◌≡◌, ◌≢◌, ℕ, ℤ, ◌+◌, ◌==◌, ◌&&◌, List, Option, Some, None, Result, Ok, Err, inl, inr, refl, subst, arith}
+use Rattle.std.proofs.Common.{rules, ◌≡◌, ◌≢◌, ℕ, ℤ, ◌+◌, ◌==◌, ◌&&◌, List, Option, Some, None, Result, Ok, Err, inl, inr, refl, subst, arith}
 use Rattle.std.specs.Prelude.{IfSome}
 use Rattle.bench_base.specs.declared.words.Node.TheVariants.{Device}
 use Rattle.bench_base.specs.declared.words.Kind.{Kind}
@@ -62,8 +62,8 @@ again_keeps n (Some k) c key otherwise keeps =
 debit_keeps : (ρ : Rules) (s : State) (c : DebitMsg) (today : ℤ) → Keeps s.device (debit_answer ρ s c today)
 debit_keeps ρ s c today = either (Keeps s.device) (c.device == s.device) (unless_again (repeated s.mark c.piece) c s.key (new_answer ρ s c today)) (Err (no.WrongDevice c.device))
     (λ same. again_keeps s.device (repeated s.mark c.piece) c s.key (new_answer ρ s c today)
-    (holding (Keeps s.device) (piece_rows s c) _ (tt, (tt, tt))
-    (unless_keeps s.device (frozen_kind s.pending) _ (holding (Keeps s.device) (debit_rows ρ s c today) _ (tt, (tt, (tt, (tt, tt)))) refl))))
+    (holding (Keeps s.device) (piece_rows s c) _ (search rules)
+    (unless_keeps s.device (frozen_kind s.pending) _ (holding (Keeps s.device) (debit_rows ρ s c today) _ (search rules) refl))))
     tt
 
 -- so does what is asked
@@ -77,7 +77,7 @@ unless_asked n (Some k) answer keeps = tt
 
 ask_keeps : (s : State) (kind : Kind) (who amount : ℕ) (today : ℤ) → KeepsAsked s.device (ask_answer todays_rules s kind who amount today)
 ask_keeps s kind who amount today =
-    unless_asked s.device (waiting_kind s.pending) _ (holding (KeepsAsked s.device) (ask_rows todays_rules s kind amount today) _ (tt, (tt, (tt, (tt, (tt, (tt, tt)))))) refl)
+    unless_asked s.device (waiting_kind s.pending) _ (holding (KeepsAsked s.device) (ask_rows todays_rules s kind amount today) _ (search rules) refl)
 
 -- and what is applied
 abbrev KeepsApplied : ℕ → Result State DevRefusal → Type 0
@@ -93,7 +93,7 @@ granted_keeps kinds.Withdraw s q p = refl
 
 apply_keeps : (s : State) (o : Option Request) (p : ReplyMsg) → KeepsApplied s.device (apply_answer s o p)
 apply_keeps s None p = tt
-apply_keeps s (Some q) p = holding (KeepsApplied s.device) (apply_rows p q) (Ok (after_apply s q p)) (tt, (tt, tt))
+apply_keeps s (Some q) p = holding (KeepsApplied s.device) (apply_rows p q) (Ok (after_apply s q p)) (search rules)
     (either (λ (x : State). x.device ≡ s.device) (is_granted p.verdict) _ _ (λ _. granted_keeps q.kind s q p) refl)
 
 module _ {K S R : Type 0} (n : Ghosts K S ℕ State R) (from : (d : ℕ) (s : n.Seen) (x : State) → x.device ≡ d → n.IsFrom d s x) (d : ℕ) (seen : n.Seen) where
@@ -142,7 +142,7 @@ module _ {K S R : Type 0} (n : Ghosts K S ℕ State R) (from : (d : ℕ) (s : n.
   reply_fits : (bytes : List ℕ) (p : ReplyMsg) (state : Option State) → IfSome state (λ s. s.device ≡ d) → IsFitting n d seen (reply_act d bytes p state)
   reply_fits bytes p None is = tt
   reply_fits bytes p (Some s) is =
-      holding (λ (a : DeviceAct Taken). IsFitting n d seen a) (reply_rows d bytes p s.key) (applied_act d p (apply_answer s s.pending p)) (tt, (tt, tt))
+      holding (λ (a : DeviceAct Taken). IsFitting n d seen a) (reply_rows d bytes p s.key) (applied_act d p (apply_answer s s.pending p)) (search rules)
       (applied_fits p (apply_answer s s.pending p) (subst (λ (k : ℕ). KeepsApplied k (apply_answer s s.pending p)) is (apply_keeps s s.pending p)))
 
   released_fits : (piece : ℕ) (act : DeviceAct Franked) → IsFitting n d seen act → IsFitting n d seen (released piece act)

@@ -66,6 +66,17 @@ passes (row ∷ rows) x y r e =
     let rest = passes rows x y r.1 here.1 in
     ((here.0, rest.0), rest.1)
 
+-- the test of the last row
+abbrev last_test : {A F : Type 0} → List (Bool × Result A F) → Bool
+last_test [] = false
+last_test (row ∷ []) = row.0
+last_test (row ∷ next ∷ rows) = last_test (next ∷ rows)
+
+last_passed : {A F : Type 0} (rows : List (Bool × Result A F)) → Passed rows → last_test rows ≡ false
+last_passed [] p = refl
+last_passed (row ∷ []) p = p.0
+last_passed (row ∷ next ∷ rows) p = last_passed (next ∷ rows) p.1
+
 pub unless-passes : {A : Type 0} (o : Option Kind) (refusal : Kind → DevRefusal) (x : Result A DevRefusal) (y : A) → unless o refusal x ≡ Ok y → (o ≡ None) × (x ≡ Ok y)
 unless-passes None refusal x y h = (refl, h)
 unless-passes (Some k) refusal x y h = absurd (err_ok h)
@@ -160,7 +171,7 @@ debiting-keeps ρ d C s after c today mark order of e =
     let free = unless-passes (frozen_kind s.pending) no.Frozen _ (New after mark) piece.1 in
     let through = passes (debit_rows ρ s c today) _ (New after mark) (search rules) free.1 in
     let is : after_debit ρ s c today ≡ after = new_same (ok_same through.1) in
-    let within : c.postage ≤ s.registers.descending = ltb-false s.registers.descending c.postage through.0.1.1.1.0 in
+    let within : c.postage ≤ s.registers.descending = ltb-false s.registers.descending c.postage (last_passed (debit_rows ρ s c today) through.0) in
     let left : s.registers.descending ≡ descending d C = ap (λ (x : State). x.registers.descending) of.state in
     let funds = funds-of d s C of.descending in
     let own : (d == d) ≡ true = eq-eqb d d refl in
