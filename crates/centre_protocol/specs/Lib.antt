@@ -1,7 +1,6 @@
 -- Promised: public contracts name these.
 pub mod Payloads
 pub mod Cells
-pub mod Unique
 pub mod Sound
 pub mod NodeView
 pub mod CentreView
@@ -9,3 +8,4 @@ pub mod CentreView
 pub mod Boots
 pub mod Knows
 pub mod NodeLaws
+pub mod Unique

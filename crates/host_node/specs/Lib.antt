@@ -1,6 +1,5 @@
 -- Promised: public contracts name these.
 pub mod Payloads
-pub mod Unique
 pub mod Sound
 pub mod NodeView
 pub mod HostView
@@ -9,3 +8,4 @@ pub mod Cells
 pub mod Boots
 pub mod Knows
 pub mod NodeLaws
+pub mod Unique

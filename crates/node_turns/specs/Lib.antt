@@ -1,7 +1,7 @@
 -- Promised: public contracts name these.
+pub mod Printing
 pub mod Turns
 -- Promised: those rest on these.
 pub mod Adds
 pub mod Costs
 pub mod NodeTurns
-pub mod Printing

@@ -1,6 +1,5 @@
 -- Promised: public contracts name these.
 pub mod Shown
-pub mod Unique
 pub mod Boots
 pub mod Sound
 pub mod NodeView
@@ -9,3 +8,4 @@ pub mod DeviceView
 pub mod Knows
 pub mod Finds
 pub mod NodeLaws
+pub mod Unique

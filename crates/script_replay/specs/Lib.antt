@@ -4,6 +4,7 @@ pub mod Codes
 pub mod Deeds
 pub mod Ends
 pub mod Fresh
+pub mod Lines
 pub mod Outside
 pub mod Run
 pub mod Streams
@@ -12,7 +13,6 @@ pub mod Counts
 pub mod Events
 pub mod Faults
 pub mod Generated
-pub mod Lines
 pub mod Marks
 pub mod Stopped
 pub mod Undisturbed

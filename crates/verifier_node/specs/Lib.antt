@@ -1,6 +1,5 @@
 -- Promised: public contracts name these.
 pub mod Payloads
-pub mod Unique
 pub mod Sound
 pub mod NodeView
 pub mod VerifierView
@@ -10,3 +9,4 @@ pub mod Indexes
 pub mod Boots
 pub mod Knows
 pub mod NodeLaws
+pub mod Unique
