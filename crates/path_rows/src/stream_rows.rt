@@ -78,7 +78,7 @@ fn scripts_end(rt: HostRuntime) -> Result<(), Fail> {
 const REPLAY: &[&str] = &["replay"];
 
 /// Words, and the numbers of the reads and writes that fail or take nothing: how the run ends, and its report.
-const ENDS: [(&[&str], &[u64], &[u64], &[u64], Status, &str); 8] = [
+const ENDS: [(&[&str], &[u64], &[u64], &[u64], Status, &str); 9] = [
     (&[], &[], &[], &[], Status::Words, ""),
     (&["replay", "x"], &[], &[], &[], Status::Words, ""),
     (&["generate", "07", "1"], &[], &[], &[], Status::Words, ""),
@@ -90,6 +90,7 @@ const ENDS: [(&[&str], &[u64], &[u64], &[u64], Status, &str); 8] = [
         Status::Words,
         "",
     ),
+    (REPLAY, &[1], &[], &[], Status::ReadFault, ""),
     (REPLAY, &[3], &[], &[], Status::ReadFault, ""),
     (REPLAY, &[16], &[], &[], Status::ReadFault, "day 20513\n"),
     (REPLAY, &[], &[1], &[], Status::WriteFault, "day 20513\n"),
