@@ -1,5 +1,5 @@
 //! The ordinary path: a device is made, enrolled and loaded, marks a letter that the host prints, and the verifier accepts it.
-use crate::worked::{BLANK, FIRST_MARK, answer, run_once, told_rates};
+use crate::worked::{BLANK, FIRST_MARK, answer, run_blank, run_once, told_rates};
 use bench_base::events::Event;
 use script_replay::status::Status;
 use std::test::Fail;
@@ -89,6 +89,15 @@ fn the_ordinary_path_runs_whole(rt: HostRuntime) -> Result<(), Fail> {
     assert_eq!(rt; got.report.as_slice(), REPORT.as_bytes());
     let prints = format!(in rt.alloc(); "{FIRST_MARK}\n")?;
     assert_eq!(rt; got.prints.as_slice(), prints.as_bytes());
+    Ok(())
+}
+
+#[test]
+fn a_fresh_bench_runs_the_ordinary_path(rt: HostRuntime) -> Result<(), Fail> {
+    let given = told_rates(SCRIPT.as_bytes(), RATES.as_bytes(), 600);
+    let got = run_blank(rt.alloc(), &given)?;
+    assert!(rt; got.status == Status::Done);
+    assert_eq!(rt; got.report.as_slice(), REPORT.as_bytes());
     Ok(())
 }
 
