@@ -9,7 +9,7 @@ use Rattle.bench_base.specs.declared.sizes.TheConstants.{CENTRE_CELLS}
 use Rattle.bench_base.specs.declared.ledger.Commit.{Commit}
 use Rattle.bench_base.specs.declared.ledger.Commit.TheVariants as c
 use Rattle.bench_base.specs.Ranges.{InRange, IsDevice, IsCustomer}
-use Rattle.bench_base.specs.Cells.{Place, OfRow, OfCustomer, same_place, place_of}
+use Rattle.bench_base.specs.Cells.{OfRow, OfCustomer, same_place, place_of}
 use Rattle.bench_base.specs.Cells as cells
 use Rattle.node_acts.specs.RowList.{row_at}
 use Rattle.node_acts.specs.RowLaws.{listed_at}
@@ -21,7 +21,7 @@ use Rattle.centre_ledger.specs.declared.rows.DeviceRow.{DeviceRow}
 use Rattle.centre_ledger.specs.declared.rows.CustomerRow.{CustomerRow}
 use Rattle.centre_ledger.specs.declared.rows.Row.{Row}
 use Rattle.centre_ledger.specs.declared.rows.Row.TheVariants as row
-use Rattle.centre_ledger.specs.Books.{Books, AreSound, ArePlaced, IsDeviceOf, IsCustomerAt, device_at, customer_at, put_row}
+use Rattle.centre_ledger.specs.Books.{Books, AreSound, IsDeviceOf, IsCustomerAt, device_at, customer_at}
 use Rattle.centre_ledger.specs.Books as books
 use Rattle.centre_ledger.specs.Order.{InOrder, Follows}
 use Rattle.centre_ledger.specs.Laws.{IsSlotOf, IsCustomerSlotOf, touches_device, touches_customer}

@@ -44,9 +44,6 @@ length-body-reply r w = omega (arith, length-reply r [] w, ap length (spell-code
 pub first-request : (q : Request) (key : List ℕ) → get_or (spell (m.Request q) key) 0 0 ≡ q.version
 first-request q key = ap (λ b. get_or b 0 0) (spell-coded (m.Request q) key refl) ∙ request_version q (hmac key (body (m.Request q)))
 
-pub first-reply : (r : ReplyMsg) (key : List ℕ) → get_or (spell (m.Reply r) key) 0 0 ≡ r.version
-first-reply r key = ap (λ b. get_or b 0 0) (spell-coded (m.Reply r) key refl) ∙ reply_version r (hmac key (body (m.Reply r)))
-
 -- == filled bytes ==
 
 pub length-filled : (size : ℕ) (xs : List ℕ) → length xs ≤ size → length (filled size xs) ≡ size

@@ -5,7 +5,7 @@ ghost use Rattle.bench_base.specs.Ranges.{IsCustomer};
 ghost use Rattle.centre_ledger.specs.declared.rows.Row.TheVariants as row_of;
 ghost use Rattle.centre_ledger.specs.Soundness.{IsSoundDevice};
 ghost use Rattle.centre_ledger.specs.Books as books;
-ghost use Rattle.centre_ledger.specs.Books.{no_rows, device_at, customer_at, left_in, put_row, kept_at, balances_by, spent_in, place_of, IsOwned, ArePlaced, AreJoined, AreSound};
+ghost use Rattle.centre_ledger.specs.Books.{no_rows, device_at, customer_at, left_in, put_row, kept_at, balances_by, spent_in, IsOwned, ArePlaced, AreJoined, AreSound};
 
 use crate::balances::Balances;
 use crate::rows::{CustomerRow, DeviceRow, REGISTERED, Row};

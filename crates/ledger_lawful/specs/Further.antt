@@ -1,12 +1,12 @@
 -- What holds of every history beside that it is lawful.
-use Rattle.std.specs.Prelude.{◌≡◌, ℕ, ◌+◌, ◌≤◌, false, List, [], ◌∷◌, ◌++◌, length, Some, Ok, is_some, ◌==◌, if◌then◌else◌}
+use Rattle.std.specs.Prelude.{◌≡◌, ℕ, ◌+◌, ◌≤◌, false, List, [], ◌∷◌, ◌++◌, length, Option, Some, None, Ok, IsSomeAnd, ◌==◌, ◌&&◌, if◌then◌else◌}
 use Rattle.bench_base.specs.declared.words.Kind.TheVariants.{Enrol}
 use Rattle.bench_base.specs.declared.ledger.Commit.{Commit}
-use Rattle.bench_base.specs.declared.ledger.Commit.TheVariants.{Debited, Ruled}
+use Rattle.bench_base.specs.declared.ledger.Commit.TheVariants.{Debited, Ruled, Accepted}
 use Rattle.bench_base.specs.Kinds.{same_kind}
 use Rattle.bench_base.specs.Ranges.{IsDevice, InRange}
 use Rattle.bench_base.specs.Ledger.{Ledger, IsSent, counted}
-use Rattle.bench_base.specs.Scans.{accepted}
+use Rattle.bench_base.specs.Rows.{first_of}
 use Rattle.psd_wire.specs.declared.message.ReplyMsg.{ReplyMsg}
 use Rattle.psd_wire.specs.declared.message.Message.{Message}
 use Rattle.psd_wire.specs.declared.message.Message.TheVariants as m
@@ -66,18 +66,26 @@ IsCovered C d = acknowledged_refunds d C ≤ acknowledged_resets d C
 
 -- == money to the letter box ==
 
--- the postage of the debits among C whose piece is accepted in the commits A
-abbrev pub postage_in : ℕ → List Commit → List Commit → ℕ
-postage_in d A [] = 0
-postage_in d A (Debited e piece postage class day version ∷ C) = if e == d then (if is_some (accepted d piece A) then postage_in d A C + postage else postage_in d A C) else postage_in d A C
-postage_in d A (_ ∷ C) = postage_in d A C
+-- the postage of the first Debited of this piece
+abbrev pub postage_of : ℕ → ℕ → List Commit → Option ℕ
+postage_of d p [] = None
+postage_of d p (Debited e q postage class day version ∷ C) = if (e == d) && (q == p) then first_of (postage_of d p C) (Some postage) else postage_of d p C
+postage_of d p (_ ∷ C) = postage_of d p C
 
-abbrev pub accepted_postage : ℕ → List Commit → ℕ
-accepted_postage d C = postage_in d C C
+-- the sum of both, where there are both
+abbrev pub sum_of : Option ℕ → Option ℕ → Option ℕ
+sum_of (Some a) (Some b) = Some (a + b)
+sum_of a b = None
+
+-- the postage of each acceptance, by the debits before it: a piece counts as often as it was accepted, and there is no sum where one was accepted without a debit
+abbrev pub accepted_postage : ℕ → List Commit → Option ℕ
+accepted_postage d [] = Some 0
+accepted_postage d (Accepted e piece scan ∷ C) = if e == d then sum_of (accepted_postage d C) (postage_of d piece C) else accepted_postage d C
+accepted_postage d (_ ∷ C) = accepted_postage d C
 
 -- mail that was accepted was franked, and what was franked was bought: by resets that are acknowledged, or by the one that is in flight and applied
-pub record IsPaid (accepted ascending resets flight : ℕ) : Type 0 where
-  pub franked : accepted ≤ ascending
+pub record IsPaid (accepted : Option ℕ) (ascending resets flight : ℕ) : Type 0 where
+  pub franked : IsSomeAnd accepted (λ postage. postage ≤ ascending)
   pub bought : ascending ≤ resets + flight
 
 abbrev pub Paid : List Commit → ℕ → Type 0

@@ -11,17 +11,16 @@ use Rattle.bench_base.specs.declared.ledger.Commit.TheVariants.{Asked, Applied, 
 use Rattle.bench_base.specs.Rules.{Rules}
 use Rattle.bench_base.specs.Kinds.{same_kind, empties, is_granted}
 use Rattle.bench_base.specs.Ledger.{Ledger, counted}
-use Rattle.bench_base.specs.Scans.{accepted}
 use Rattle.psd_wire.specs.declared.message.Request.{Request}
 use Rattle.ledger_terms.specs.Requests.{request_in, note_of, in_note, request_of}
-use Rattle.ledger_terms.specs.Sums.{adds, takes, loaded, ascending, descending}
+use Rattle.ledger_terms.specs.Sums.{adds, takes, loaded, descending}
 use Rattle.ledger_terms.specs.Devices.{asked, number, applied_of, pending}
 use Rattle.ledger_terms.specs.Centres.{ruled, deposits, stored_request}
 use Rattle.ledger_terms.specs.InFlight.{ruling_of}
 use Rattle.centre_ledger.specs.Answers.{last_ruling}
 use Rattle.ledger_lawful.specs.Lawful.{Always, asks, Numbering, NextDebit, Totals, Refunds, AfterApplied, Accounts, Solvent, Days, AcceptedOnce, HeldOnce, held_piece, LawfulAt, Lawful}
 use Rattle.ledger_lawful.specs.Links.{Link}
-use Rattle.ledger_lawful.specs.Further.{HasOwner, NoImbalance, IsFitting, postage_in, Paid}
+use Rattle.ledger_lawful.specs.Further.{HasOwner, NoImbalance, IsFitting}
 use Rattle.law_good.proofs.Basics.{some-same, some-none, either, none-if}
 use Rattle.law_good.proofs.Good.{Good, Fits}
 use Rattle.law_money.proofs.Links.{Waits, link, waits, waits-none, waits-some, ruling-le, note-le, applied-le}
@@ -253,21 +252,3 @@ module _ (ρ : Rules) where
             let last = last-some ρ d C some in
             stored-last d last.0 C last.1 ∙ sym (ruling-asked ρ d (ruled d C) last.0 C g (last-is ρ d last.0 C g last.1));
       }
-
-  postage-le : (d : ℕ) (A C : List Commit) → postage_in d A C ≤ ascending d C
-  postage-le d A [] = omega arith
-  postage-le d A (Debited e p a k t v ∷ C) =
-      let le = postage-le d A C in
-      either e d
-      (λ s y. ⊎_elim
-      (λ (b : is_some (accepted d p A) ≡ true). rw (s, b) (omega arith))
-      (λ (b : is_some (accepted d p A) ≡ false). rw (s, b) (omega arith))
-      (cases_Bool (is_some (accepted d p A))))
-      (λ s. rw s le)
-  postage-le d A (_ ∷ C) = postage-le d A C
-
-  pub paid : (C : List Commit) → Good ρ C → (d : ℕ) → Paid C d
-  paid C g d =
-      let a = account ρ d C g in
-      let equal = a.equal in
-      record { franked = postage-le d C C; bought = omega arith }

@@ -3,4 +3,5 @@ pub mod Centres
 pub mod Histories
 pub mod Lawfulness
 pub mod Nexts
+pub mod Postage
 pub mod Ups

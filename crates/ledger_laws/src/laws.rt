@@ -25,7 +25,7 @@ ghost use Rattle.ledger_laws.specs.Laws.{ForHistories, Holds};
 /// - `sane`: no event is answered `ahead`, `changed`, `stray` or `damaged`;
 /// - `begins`: what a device applied is the beginning of what the centre ruled, but for at most one amount;
 /// - `covered`: no more is acknowledged as refunded than as bought;
-/// - `paid`: the postage of accepted mail was franked, and what was franked was bought;
+/// - `paid`: each accepted piece was debited before, all of them for no more than was franked, and what was franked was bought;
 /// - `fitting` and `sent`: each number of a commit fits its field, and each message that was sent is read
 ///   as one to a device of 1 to 8;
 /// - `replied`: a reply that was sent is, whole, the one to its ruling, its deadline and origin too;

@@ -5,7 +5,7 @@ use Rattle.bench_base.specs.declared.words.Kind.{Kind}
 use Rattle.bench_base.specs.declared.words.Kind.TheVariants.{Enrol, Audit, Withdraw}
 use Rattle.bench_base.specs.declared.words.Verdict.{Verdict}
 use Rattle.bench_base.specs.declared.words.Phase.{Phase}
-use Rattle.bench_base.specs.declared.words.Phase.TheVariants.{Blank, Manufactured, Authorised, InService, Locked, Withdrawn}
+use Rattle.bench_base.specs.declared.words.Phase.TheVariants.{Manufactured, Authorised, InService, Locked, Withdrawn}
 use Rattle.bench_base.specs.declared.ledger.Commit.{Commit}
 use Rattle.bench_base.specs.declared.ledger.Commit.TheVariants.{Made, Asked, Applied, Debited}
 use Rattle.bench_base.specs.Kinds.{same_kind, empties, is_granted, is_dated}
@@ -106,7 +106,3 @@ origin d C = if applied_kind Enrol d C then origin_in (registered d C) else 0
 abbrev pub lock : ℤ → ℤ → Phase → Phase
 lock today deadline InService = if lt_z deadline today then Locked else InService
 lock today deadline p = p
-
-abbrev pub unless_blank : Option (List ℕ) → Phase → Phase
-unless_blank None p = Blank
-unless_blank (Some key) p = p

@@ -47,7 +47,7 @@ Moves τ H d = moves.Moves τ todays_rules H d.event d.text d.reply
 abbrev pub Prints : Tariff → Ledger → Done → Type 0
 Prints τ H d = IsPrinted d.reply (print_of (plan τ todays_rules H d.event d.text).after) d.printed
 
--- at each moment the postage of each device's accepted mail was franked, and what it franked was bought
+-- at each moment each device's accepted mail was franked, and what it franked was bought
 abbrev pub IsAllPaid : Ledger → Type 0
 IsAllPaid H = Always (λ P. (d : ℕ) → Paid (counted P) d) H
 

@@ -2,8 +2,9 @@ use Rattle.std.proofs.Common.{◌∷◌, arith}
 use Rattle.bench_base.specs.Ledger.{counted}
 use Rattle.ledger_moves.specs.Histories.{earlier}
 use Rattle.ledger_laws.proofs.Histories.{histories, allows-same, carried-by}
-use Rattle.ledger_laws.proofs.Lawfulness.{everywhere, lawful, has-owner, no-imbalance, is-fitting, linked, paid}
+use Rattle.ledger_laws.proofs.Lawfulness.{everywhere, lawful, has-owner, no-imbalance, is-fitting, linked}
 use Rattle.law_money.proofs.Standing.{standing, begins}
+use Rattle.ledger_laws.proofs.Postage.{all-paid}
 use Rattle.ledger_laws.proofs.Answered.{moves-sane, sent-read, replies-ruled}
 use Rattle.ledger_laws.proofs.Ups.{either_up}
 use Rattle.ledger_laws.proofs.laws.histories.Goals as goal
@@ -31,7 +32,7 @@ returns-clause-holds c τ ρ ρs H E h =
       sane = moves-sane τ ρ ρs H E h;
       begins = everywhere ρ _ (λ P g t. begins ρ (counted P) g) H kept;
       covered = everywhere ρ _ (λ P g t. standing ρ (counted P) g) H kept;
-      paid = everywhere ρ _ (λ P g t. paid ρ (counted P) g) H kept;
+      paid = all-paid ρ H kept;
       fitting = everywhere ρ _ (λ P g t. is-fitting ρ (counted P) g) H kept;
       sent = sent-read ρ H kept;
       replied = replies-ruled ρ H kept;
