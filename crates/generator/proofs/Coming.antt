@@ -1,9 +1,8 @@
 -- What is still to come, after an event and at a new turn.
-use Rattle.std.proofs.Common.{◌≡◌, ◌≢◌, ℕ, zero, suc, ◌+◌, List, [], ◌∷◌, ◌++◌, drop, ap, ◌∙◌, sym, refl, arith, Some, None, slice_get, add-one}
+use Rattle.std.proofs.Common.{◌≡◌, ℕ, zero, suc, ◌+◌, List, [], ◌∷◌, ◌++◌, drop, ap, ◌∙◌, sym, refl, arith, Some, slice_get, add-one}
 use Rattle.bench_base.specs.declared.events.Event.{Event}
 use Rattle.generator.specs.declared.turns.Counts.{Counts}
 use Rattle.generator.specs.declared.turns.Turn.{Turn}
-use Rattle.generator.specs.declared.turns.Turn.TheVariants.{Scan, Cut, Reset}
 use Rattle.generator.specs.declared.parts.Part.{Part}
 use Rattle.generator.specs.declared.parts.Part.TheVariants.{Turning}
 use Rattle.generator.specs.declared.parts.Place.{Place}
@@ -18,12 +17,6 @@ drop_at [] i x h = absurd (cc h)
 drop_at (y ∷ xs) zero x h = grind arith
 drop_at (y ∷ xs) (suc i) x h = drop_at xs i x h
 
-drop_behind : {X : Type 0} (xs : List X) (i : ℕ) → slice_get xs i ≡ None → drop i xs ≡ []
-drop_behind [] zero h = refl
-drop_behind [] (suc i) h = refl
-drop_behind (y ∷ xs) zero h = absurd (cc h)
-drop_behind (y ∷ xs) (suc i) h = drop_behind xs i h
-
 -- after an event the others are to come
 pub taken : (part : Part) (given : ℕ) (c : Counts) (x n : ℕ) (e : Event) → slice_get (part_events c part) given ≡ Some e
     → to_come (record { part = part; given = given; counts = c; number = x; turns = n }) ≡ e ∷ to_come (record { part = part; given = given + 1; counts = c; number = x; turns = n })
@@ -31,10 +24,6 @@ unfolding to_come
 taken part given c x n e h =
     ap (λ l. l ++ turns n x (part_counted c part)) (drop_at (part_events c part) given e h)
     ∙ ap (λ k. e ∷ (drop k (part_events c part) ++ turns n x (part_counted c part))) (sym (add-one given))
-
--- where no event is, none of the part is left
-pub part_done : (p : Place) → slice_get (part_events p.counts p.part) p.given ≡ None → left_of_part p ≡ []
-part_done p h = drop_behind (part_events p.counts p.part) p.given h
 
 -- at a new turn the same is to come as at the end of the part before it
 pub begun : (p : Place) (t : Turn) (y n : ℕ) → left_of_part p ≡ [] → p.turns ≡ suc n → t ≡ turn_from p.number → y ≡ number_after (draws_of t) p.number
@@ -49,9 +38,3 @@ begun p t y n done more drawn after =
 pub ended : (p : Place) → left_of_part p ≡ [] → p.turns ≡ 0 → to_come p ≡ []
 unfolding to_come
 ended p done last = ap (λ l. l ++ turns p.turns p.number (part_counted p.counts p.part)) done ∙ ap (λ m. turns m p.number (part_counted p.counts p.part)) last
-
--- each turn has an event
-pub has_event : (c : Counts) (t : Turn) → events_of c t ≢ []
-has_event c (Scan postage) h = cc h
-has_event c (Cut postage calls keep byte) h = cc h
-has_event c Reset h = cc h

@@ -1,4 +1,4 @@
-//! The draws and events of seed 7, as they were reckoned elsewhere.
+//! The draws and events of seed 7, computed by an independent program.
 ghost use Rattle.std.specs.Prelude.{◌≤◌};
 
 use crate::Generator;

@@ -118,7 +118,7 @@ one_ending_of s t bytes a b =
 other_byte : (c : ℕ) (a b : List (List ℕ)) → c ≢ 10 → (if c == 10 then a else b) ≡ b
 other_byte c a b h = grind (arith, h)
 
-lines_of-ended : (line more : List ℕ) → IsOneLine line → lines_of (ended line ++ more) ≡ line ∷ lines_of more
+pub lines_of-ended : (line more : List ℕ) → IsOneLine line → lines_of (ended line ++ more) ≡ line ∷ lines_of more
 lines_of-ended [] more one = refl
 lines_of-ended (c ∷ line) more one = other_byte c _ _ one.0 ∙ ap (with_byte c) (lines_of-ended line more one.1)
 

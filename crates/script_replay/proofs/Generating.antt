@@ -20,7 +20,7 @@ use Rattle.bench.specs.Benches.{Nodes}
 use Rattle.bench.specs.Outside.{Outside, Feed}
 use Rattle.generator.specs.Events.{generated}
 use Rattle.generator.specs.Given.{GivesOnlyDebits, NeedsNoStream}
-use Rattle.script_text.specs.Summaries.{Tally, tally_of, nothing, one_in, column_of, Column}
+use Rattle.script_text.specs.Summaries.{Tally, tally_of, one_in, column_of, Column}
 use Rattle.script_text.specs.Summaries as sum
 use Rattle.script_replay.specs.Chains.{Scene, DidEvent, DidDeeds}
 use Rattle.script_replay.specs.Deeds.{Done, Deed, Did, ledger_by, AreUnforged}
@@ -60,9 +60,6 @@ none_forged τ H (d ∷ rest) each = (unforged H d.event each.0, none_forged τ 
 -- == so far ==
 
 module _ {B : Type 0} (Does : B → B → List Deed → Type 0) (Leaves : Status → B → B → Type 0) (chain : AreDone Does Leaves) (seed count : ℕ) where
-  pub midst_start : (b : B) → InTheMidst Does seed count (generated seed count) nothing b b
-  midst_start b = record { done = []; all = refl; did = chain.nothing b; tally_is = refl }
-
   -- the next event is one of them
   pub next_is : (P : Event → Type 0) → AllByRecursion P (generated seed count) → (to_come : List Event) (tally : Tally) (old new : B) → InTheMidst Does seed count to_come tally old new
       → (e : Event) (rest : List Event) → to_come ≡ e ∷ rest → P e

@@ -11,6 +11,7 @@ mod Held
 mod Outside
 mod Printing
 mod Replying
+mod Reports
 mod Running
 mod Sent
 mod Stopping

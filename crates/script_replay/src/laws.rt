@@ -1,10 +1,12 @@
 //! Laws of the definitions: each is the contract of a call that does nothing.
-ghost use Rattle.std.specs.Prelude.{◌≡◌, ℕ, List};
+ghost use Rattle.std.specs.Prelude.{◌≡◌, ℕ, List, map, flat_map};
 ghost use Rattle.std.specs.List.{AllByRecursion};
 ghost use Rattle.bench_base.specs.Ledger.{Ledger};
+ghost use Rattle.bench_base.specs.declared.events.Reply.{Reply};
 ghost use Rattle.ledger_moves.specs.Tariffs.{Tariff};
 ghost use Rattle.bench_views.specs.Tariff.{IsOfTexts};
-ghost use Rattle.script_replay.specs.Deeds.{Deed, AreUnforged};
+ghost use Rattle.script_text.specs.Told.{IsWholeReply, told};
+ghost use Rattle.script_replay.specs.Deeds.{Deed, AreUnforged, line_of};
 ghost use Rattle.script_replay.specs.Ends.{EndsAs};
 ghost use Rattle.script_replay.specs.Outside.{BringsNone};
 ghost use Rattle.script_replay.specs.Run.{Unforged};
@@ -15,6 +17,11 @@ use host_rates::theorems::prices_by_text;
 /// A script ends in one way: two statuses that its bytes allow are one.
 pub fn one_end()
     ensures { (s t : Status) (bytes : List ℕ) → EndsAs s bytes → EndsAs t bytes → s ≡ t }
+{}
+
+/// A report tells its replies: two lists of whole replies whose lines are the same bytes tell the same, reply by reply.
+pub fn one_report()
+    ensures { (a b : List Reply) → AllByRecursion IsWholeReply a → AllByRecursion IsWholeReply b → flat_map line_of a ≡ flat_map line_of b → map told a ≡ map told b }
 {}
 
 /// Where no event gives or scans bytes from outside, nothing is forged: what a run promises by a history holds of it as it is.

@@ -1,6 +1,6 @@
--- The words of an event have no spaces, so a line is told by its words.
-use Rattle.std.proofs.Common.{◌≡◌, ◌≢◌, ℕ, zero, suc, ℤ, ◌+◌, ◌^◌, ◌<◌, List, [], ◌∷◌, Bool, true, false, eqb, cond, refl, sym, ap, ◌∙◌, subst, arith, decimal, codes}
-use Rattle.std.proofs.lemmas.Bool.Decides.{eqb_tells}
+-- The bytes of an event's words are above the space, so a line is told by its words.
+use Rattle.std.proofs.Common.{◌≡◌, ℕ, zero, suc, ℤ, ◌+◌, ◌^◌, ◌<◌, List, [], ◌∷◌, Bool, true, false, leb, cond, refl, sym, ap, ◌∙◌, subst, arith, decimal, codes}
+use Rattle.std.proofs.lemmas.Bool.Decides.{leb_tells}
 use Rattle.std.proofs.Common.{inl, inr}
 use Rattle.psd_audit.specs.Dates.{IsDateText}
 use Rattle.bench_base.specs.declared.words.Kind.{Kind}
@@ -13,91 +13,91 @@ use Rattle.bench_base.specs.Table.{IsBytes}
 use Rattle.bench_base.specs.Ranges.{IsWholeEvent, IsDevice, IsCustomer, IsWord, IsNode, TakesBytes, IsAsk}
 use Rattle.script_text.specs.Grammar.{AreWordsOf, words_of, ask_words, flag_word, Spells}
 use Rattle.script_text.specs.Words.{words_in, joined, device_word, node_word, hex_word, given_word, kind_word}
-use Rattle.script_text.proofs.HexDigits.{AreLower-encode, Solid-are_lower}
-use Rattle.script_text.proofs.Numbers.{Solid-decimal}
-use Rattle.script_text.proofs.Splits.{Solid, AreSolid, HasFirst, words_in-joined, joined-words_in}
+use Rattle.script_text.proofs.HexDigits.{AreLower-encode, Printed-are_lower}
+use Rattle.script_text.proofs.Numbers.{Printed-decimal}
+use Rattle.script_text.proofs.Splits.{Printed, ArePrinted, AreSolid-printed, HasFirst, words_in-joined, joined-words_in}
 
-cell : (n : ℕ) → 48 + n ≢ 32
-cell n e = omega (arith, e)
+cell : (n : ℕ) → 32 < 48 + n
+cell n = omega arith
 
-dash : (n : ℕ) → n ≡ 45 → n ≢ 32
-dash n h e = omega (arith, h, e)
+dash : (n : ℕ) → n ≡ 45 → 32 < n
+dash n h = omega (arith, h)
 
 -- a word of letters, tested
-abbrev pub is_solid : List ℕ → Bool
-is_solid [] = true
-is_solid (c ∷ w) = cond (eqb c 32) false (is_solid w)
+abbrev pub is_printed : List ℕ → Bool
+is_printed [] = true
+is_printed (c ∷ w) = cond (leb c 32) false (is_printed w)
 
-pub literal : (w : List ℕ) → is_solid w ≡ true → Solid w
+pub literal : (w : List ℕ) → is_printed w ≡ true → Printed w
 literal [] h = tt
 literal (c ∷ w) h =
-    elim (eqb_tells c 32) [
-      | inl x ↦ absurd (cc (sym (ap (λ (b : Bool). cond b false (is_solid w)) x.0) ∙ h))
-      | inr x ↦ (x.1, literal w (sym (ap (λ (b : Bool). cond b false (is_solid w)) x.0) ∙ h))
+    elim (leb_tells c 32) [
+      | inl x ↦ absurd (cc (sym (ap (λ (b : Bool). cond b false (is_printed w)) x.0) ∙ h))
+      | inr x ↦ (x.1, literal w (sym (ap (λ (b : Bool). cond b false (is_printed w)) x.0) ∙ h))
     ]
 
-pub number : (n : ℕ) → n < 2 ^ 64 → Solid (decimal n)
-number n h = Solid-decimal n h
+pub number : (n : ℕ) → n < 2 ^ 64 → Printed (decimal n)
+number n h = Printed-decimal n h
 
-pub word : (n : ℕ) → IsWord n → Solid (decimal n)
-word n h = Solid-decimal n (omega (arith, h))
+pub word : (n : ℕ) → IsWord n → Printed (decimal n)
+word n h = Printed-decimal n (omega (arith, h))
 
-pub class_word : (n : ℕ) → n < 2 ^ 16 → Solid (decimal n)
-class_word n h = Solid-decimal n (omega (arith, h))
+pub class_word : (n : ℕ) → n < 2 ^ 16 → Printed (decimal n)
+class_word n h = Printed-decimal n (omega (arith, h))
 
-pub customer : (c : ℕ) → IsCustomer c → Solid (decimal c)
-customer c h = Solid-decimal c (omega (arith, h.1))
+pub customer : (c : ℕ) → IsCustomer c → Printed (decimal c)
+customer c h = Printed-decimal c (omega (arith, h.1))
 
-pub device : (d : ℕ) → IsDevice d → Solid (device_word d)
-device d h = (cell 52, Solid-decimal d (omega (arith, h.1)))
+pub device : (d : ℕ) → IsDevice d → Printed (device_word d)
+device d h = (cell 52, Printed-decimal d (omega (arith, h.1)))
 
-pub node : (n : Node) → IsNode n → Solid (node_word n)
+pub node : (n : Node) → IsNode n → Printed (node_word n)
 node (Device d) h = device d h
 node Centre h = literal (codes "centre") refl
 node Host h = literal (codes "host") refl
 node Verifier h = literal (codes "verifier") refl
 
-taker : (n : Node) → TakesBytes n → Solid (node_word n)
+taker : (n : Node) → TakesBytes n → Printed (node_word n)
 taker (Device d) h = device d h
 taker Centre h = node Centre tt
 taker Host h = node Host tt
 taker Verifier h = absurd h
 
-pub digits : (bytes : List ℕ) → IsBytes bytes → Solid (hex_word bytes)
-digits bytes h = Solid-are_lower (hex_word bytes) (AreLower-encode bytes h)
+pub digits : (bytes : List ℕ) → IsBytes bytes → Printed (hex_word bytes)
+digits bytes h = Printed-are_lower (hex_word bytes) (AreLower-encode bytes h)
 
 one_byte : (b : ℕ) → b < 2 ^ 8 → IsBytes (b ∷ [])
 one_byte b h zero = h
 one_byte b h (suc i) = omega arith
 
-pub given : (bytes : List ℕ) → IsBytes bytes → Solid (given_word bytes)
+pub given : (bytes : List ℕ) → IsBytes bytes → Printed (given_word bytes)
 given [] h = literal (codes "-") refl
 given (b ∷ bytes) h = digits (b ∷ bytes) h
 
-pub kind : (k : Kind) → Solid (kind_word k)
+pub kind : (k : Kind) → Printed (kind_word k)
 kind Enrol = literal (codes "enrol") refl
 kind Reset = literal (codes "reset") refl
 kind Audit = literal (codes "audit") refl
 kind Refund = literal (codes "refund") refl
 kind Withdraw = literal (codes "withdraw") refl
 
-asked : (k : Kind) (c a : ℕ) → IsAsk k c a → AreSolid (ask_words k c a)
+asked : (k : Kind) (c a : ℕ) → IsAsk k c a → ArePrinted (ask_words k c a)
 asked Enrol c a h = (kind Enrol, (word c h.0, tt))
 asked Reset c a h = (kind Reset, (word a h.1, tt))
 asked Audit c a h = (kind Audit, tt)
 asked Refund c a h = (kind Refund, tt)
 asked Withdraw c a h = (kind Withdraw, tt)
 
-flag : (b : Bool) → Solid (flag_word b)
+flag : (b : Bool) → Printed (flag_word b)
 flag true = literal (codes "suspend") refl
 flag false = literal (codes "resume") refl
 
-date : (t : ℤ) (text : List ℕ) → IsDateText t text → Solid text
-date t text h = subst Solid (sym h.spelled) (cell _, (cell _, (cell _, (cell _, (dash 45 refl, (cell _, (cell _, (dash 45 refl, (cell _, (cell _, tt))))))))))
+date : (t : ℤ) (text : List ℕ) → IsDateText t text → Printed text
+date t text h = subst Printed (sym h.spelled) (cell _, (cell _, (cell _, (cell _, (dash 45 refl, (cell _, (cell _, (dash 45 refl, (cell _, (cell _, tt))))))))))
 
--- the words have no spaces, and there are some
+-- the bytes of the words are above the space, and there are some words
 abbrev pub AreSome : List (List ℕ) → Type 0
-AreSome ws = HasFirst ws × AreSolid ws
+AreSome ws = HasFirst ws × ArePrinted ws
 
 told : (e : Event) → IsWholeEvent e → AreSome (words_of e)
 told (ev.Day t) h = (tt, (literal (codes "day") refl, tt))
@@ -159,7 +159,7 @@ all_some ev.End ws h are = subst AreSome (sym are) (told ev.End h)
 
 words_in-some_joined : (ws : List (List ℕ)) → AreSome ws → words_in (joined ws) ≡ ws
 words_in-some_joined [] h = absurd h.0
-words_in-some_joined (w ∷ ws) h = words_in-joined w ws h.1
+words_in-some_joined (w ∷ ws) h = words_in-joined w ws (AreSolid-printed (w ∷ ws) h.1)
 
 -- a line's words are the event's that it spells
 pub words_spelled : (e : Event) (line : List ℕ) → IsWholeEvent e → Spells e line → AreWordsOf e (words_in line)

@@ -8,7 +8,7 @@ use Rattle.hex.specs.declared.error.FromHexError.{FromHexError}
 use Rattle.hex.proofs.HexLemmas.{decode_of-even, decode_sized-twice, decode_sized-ok, decode_sized-encode_lower, length-encode_with}
 use Rattle.bench_base.specs.Table.{IsBytes}
 use Rattle.script_text.specs.Words.{IsLowerDigit, given_word}
-use Rattle.script_text.proofs.Splits.{Solid}
+use Rattle.script_text.proofs.Splits.{Printed}
 
 abbrev pub AreLower : List ℕ → Type 0
 AreLower [] = Unit {0}
@@ -86,13 +86,13 @@ AreLower-encode (b ∷ bytes) h =
     let fits : b < 256 = h 0 in
     (lower_digit (b / 16) (omega (arith, fits)), (lower_digit (b % 16) (omega arith), AreLower-encode bytes (λ i. h (suc i))))
 
-Solid-lower : (c : ℕ) → IsLowerDigit c → c ≢ 32
-Solid-lower c (inl h) e = omega (arith, h.0, e)
-Solid-lower c (inr h) e = omega (arith, h.0, e)
+above_space : (c : ℕ) → IsLowerDigit c → 32 < c
+above_space c (inl h) = omega (arith, h.0)
+above_space c (inr h) = omega (arith, h.0)
 
-pub Solid-are_lower : (cs : List ℕ) → AreLower cs → Solid cs
-Solid-are_lower [] h = tt
-Solid-are_lower (c ∷ cs) h = (Solid-lower c h.0, Solid-are_lower cs h.1)
+pub Printed-are_lower : (cs : List ℕ) → AreLower cs → Printed cs
+Printed-are_lower [] h = tt
+Printed-are_lower (c ∷ cs) h = (above_space c h.0, Printed-are_lower cs h.1)
 
 -- what pairs of lower-case digits read as
 record Decoded (i : ℕ) (text : List ℕ) : Type 0 where

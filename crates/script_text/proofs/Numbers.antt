@@ -3,10 +3,10 @@ use Rattle.std.proofs.Common.{◌≡◌, ◌≢◌, ℕ, zero, suc, ◌^◌, ◌
 use Rattle.std.specs.Prelude.{IfSome, IfNone}
 use Rattle.std.specs.Str.{all_ascii_digits}
 use Rattle.std.proofs.lemmas.Bool.{false≢true}
-use Rattle.std.proofs.lemmas.Str.Parse.{IsNumeralModel, numerals_by_fold, digits_value_short, tells_all_ascii_digits, not_in_digits}
+use Rattle.std.proofs.lemmas.Str.Parse.{IsNumeralModel, numerals_by_fold, digits_value_short, tells_all_ascii_digits}
 use Rattle.std.proofs.lemmas.Fmt.{digits_decimal, decimal-digits_value, decimal_nonempty, length-decimal-le, first_decimal, decimal_digit, decimal_injective}
 use Rattle.psd_audit.specs.Dates.{read_on}
-use Rattle.script_text.proofs.Splits.{Solid}
+use Rattle.script_text.proofs.Splits.{Printed}
 
 pub own : IsNumeralModel (λ ds. all_ascii_digits ds ≡ true) (read_on 0)
 own = numerals_by_fold _ tells_all_ascii_digits read_on (search rules)
@@ -53,12 +53,12 @@ number_none None w h = not_digits w h
 pub same_number : (w : List ℕ) (m n : ℕ) → m < 10 ^ 10 → n < 10 ^ 10 → w ≡ decimal m → w ≡ decimal n → m ≡ n
 same_number w m n h k e f = decimal_injective m n (omega (arith, h)) (omega (arith, k)) (sym e ∙ f)
 
-solid_by_index : (xs : List ℕ) → ((i : ℕ) → i < length xs → get_or xs i 0 ≢ 32) → Solid xs
-solid_by_index [] h = tt
-solid_by_index (x ∷ xs) h = (h 0 (omega arith), solid_by_index xs (λ i lt. h (suc i) (omega (arith, lt))))
-
-pub Solid-decimal : (n : ℕ) → n < 2 ^ 64 → Solid (decimal n)
-Solid-decimal n h = solid_by_index (decimal n) (λ i lt. not_in_digits own (decimal n) 32 (digits_decimal own n h) (λ r. omega (arith, r.0)) i lt)
+pub Printed-decimal : (n : ℕ) → n < 2 ^ 64 → Printed (decimal n)
+Printed-decimal n h = digits_printed (decimal n) (digits_decimal own n h)
+  where
+    digits_printed : (ds : List ℕ) → all_ascii_digits ds ≡ true → Printed ds
+    digits_printed [] h = tt
+    digits_printed (c ∷ ds) h = let at = tells_all_ascii_digits.parts c ds h in (omega (arith, at.0.0), digits_printed ds at.1)
 
 -- ---- numbers in a smaller range
 

@@ -1,5 +1,6 @@
 -- A line and its words: one is told by the other.
 use Rattle.std.proofs.Common.{◌≡◌, ◌≢◌, ℕ, ◌+◌, ◌-◌, ◌<◌, length-drop, List, [], ◌∷◌, ◌++◌, length, get_or, take, drop, refl, sym, ap, ◌∙◌, arith, subst, eqb}
+use Rattle.std.specs.List.{AllByRecursion}
 use Rattle.std.proofs.lemmas.Bool.{ne_eqb, cond-false}
 use Rattle.std.proofs.lemmas.Bool.Decides.{eqb_tells}
 use Rattle.std.proofs.lemmas.List.{take_more, take_all, append-nil}
@@ -20,6 +21,24 @@ HasFirst (w ∷ ws) = Unit {0}
 abbrev pub AreSolid : List (List ℕ) → Type 0
 AreSolid [] = Unit {0}
 AreSolid (w ∷ ws) = Solid w × AreSolid ws
+
+-- each byte is above the space, as a letter, a digit or a dash is: so it is neither the space nor the line end
+abbrev pub Printed : List ℕ → Type 0
+Printed w = AllByRecursion (λ b. 32 < b) w
+
+abbrev pub ArePrinted : List (List ℕ) → Type 0
+ArePrinted ws = AllByRecursion Printed ws
+
+Solid-printed : (w : List ℕ) → Printed w → Solid w
+Solid-printed [] h = tt
+Solid-printed (b ∷ w) h = (above b h.0, Solid-printed w h.1)
+  where
+    above : (c : ℕ) → 32 < c → c ≢ 32
+    above c h e = omega (arith, h, e)
+
+pub AreSolid-printed : (ws : List (List ℕ)) → ArePrinted ws → AreSolid ws
+AreSolid-printed [] h = tt
+AreSolid-printed (w ∷ ws) h = (Solid-printed w h.0, AreSolid-printed ws h.1)
 
 pub Solid-append : (a b : List ℕ) → Solid a → Solid b → Solid (a ++ b)
 Solid-append [] b h k = k

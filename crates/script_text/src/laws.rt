@@ -1,5 +1,5 @@
 //! Laws of the lines: each is the contract of a call that does nothing.
-ghost use Rattle.std.specs.Prelude.{◌≡◌, ℕ, List};
+ghost use Rattle.std.specs.Prelude.{◌≡◌, ◌≢◌, ℕ, List, All};
 ghost use Rattle.bench_base.specs.Ranges.{IsWholeEvent};
 ghost use Rattle.bench_base.specs.declared.events.Event.{Event};
 ghost use Rattle.bench_base.specs.declared.events.Reply.{Reply};
@@ -25,4 +25,9 @@ pub fn no_event_skipped()
 /// A text is that of at most one whole reply, but for the number in a fault of a mark, which it doesn't tell.
 pub fn one_reply()
     ensures law { (r s : Reply) → IsWholeReply r → IsWholeReply s → text_of r ≡ text_of s → told r ≡ told s }
+{}
+
+/// The text of a whole reply is one line: no byte of it is the line end.
+pub fn one_line()
+    ensures law { (r : Reply) → IsWholeReply r → All (λ c. c ≢ 10) (text_of r) }
 {}
