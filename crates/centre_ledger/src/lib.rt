@@ -4,8 +4,6 @@
 mod accounts;
 mod acts;
 mod balances;
-#[cfg(test)]
-mod call_tests;
 mod customers;
 mod messages;
 mod page;
@@ -17,8 +15,6 @@ mod settling;
 mod soundness;
 mod standing;
 mod taking;
-#[cfg(test)]
-mod tests;
 mod theorems;
 
 pub use accounts::Accounts;

@@ -1,50 +1,46 @@
 //! Times scripts in whole runs, over storage in memory and over files; and alone, what runs can't do without: the calls of commits
-//! and reads, and codes.
+//! and reads, codes and marks.
 #![tactic(auto)]
 
-ghost use Rattle.std.specs.Prelude.{◌≤◌, IfOk};
-
-mod alone;
-mod debits;
+mod calls;
+mod codes;
 mod scripts;
 mod stores;
 mod tell;
 mod watch;
 
-use anyhow::{Context, Result, bail, ensure};
+use anyhow::{Context, Result, bail};
 use std::env;
-use stores::{MOST_COMMITS, Place};
+use stores::Place;
 
 const USAGE: &str =
-    "usage: event_speed debits MEMORY FILES, script PLACE, commits PLACE SLOTS BYTES COUNT, reads BYTES COUNT or codes COUNT";
+    "usage: event_speed, and then works: script PLACE, commits PLACE SLOTS BYTES COUNT, reads BYTES COUNT, codes COUNT, digests COUNT, marks COUNT";
 
-/// Takes what is to be timed and its numbers; writes times on standard error.
+/// Takes what is to be timed, one work after the other; writes times on standard error, and what each work came to on standard output.
 fn main(rt: HostRuntime) -> Result<()> {
     let mut words = env::args(&rt)?.skip(1);
-    let work = words.next().context(USAGE)?;
-    match work.as_str() {
-        "debits" => {
-            let memory = count(words.next())?;
-            let files = count(words.next())?;
-            debits::measure(&rt, memory, files)?;
+    for _ in 0..u64::MAX {
+        let Some(work) = words.next() else {
+            break;
+        };
+        match work.as_str() {
+            "script" => scripts::measure(&rt, place(words.next())?)?,
+            "commits" => {
+                let place = place(words.next())?;
+                let slots = number(words.next())?;
+                let bytes = number(words.next())?;
+                calls::measure_commits(&rt, place, slots, bytes, number(words.next())?)?;
+            }
+            "reads" => {
+                let bytes = number(words.next())?;
+                calls::measure_reads(&rt, bytes, number(words.next())?)?;
+            }
+            "codes" => codes::measure_codes(&rt, number(words.next())?)?,
+            "digests" => codes::measure_digests(&rt, number(words.next())?)?,
+            "marks" => codes::measure_marks(&rt, number(words.next())?)?,
+            _ => bail!(USAGE),
         }
-        "script" => scripts::measure_input(&rt, place(words.next())?)?,
-        "commits" => {
-            let place = place(words.next())?;
-            let slots = number(words.next())?;
-            let bytes = number(words.next())?;
-            let count = count(words.next())?;
-            alone::measure_commits(&rt, place, slots, bytes, count)?;
-        }
-        "reads" => {
-            let bytes = number(words.next())?;
-            let count = count(words.next())?;
-            alone::measure_reads(&rt, bytes, count)?;
-        }
-        "codes" => alone::measure_codes(&rt, count(words.next())?)?,
-        _ => bail!(USAGE),
     }
-    println!(rt; "done")?;
     Ok(())
 }
 
@@ -57,15 +53,5 @@ fn place(word: Option<String>) -> Result<Place> {
 }
 
 fn number(word: Option<String>) -> Result<u32> {
-    let word = word.context(USAGE)?;
-    word.parse().context("not a number")
-}
-
-/// How often something is to be done.
-fn count(word: Option<String>) -> Result<u32>
-    ensures few { IfOk result (λ count. count ≤ MOST_COMMITS) }
-{
-    let count = number(word)?;
-    ensure!(count <= MOST_COMMITS, "at most {MOST_COMMITS} times");
-    Ok(count)
+    word.context(USAGE)?.parse().context("not a number")
 }

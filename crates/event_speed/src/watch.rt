@@ -11,8 +11,8 @@ pub struct Watch<'a, R: Clock> {
     clock: &'a R,
     step: u32,
     lines: u32,
-    refusals: u32,
-    times: Vec<Instant>,
+    pub refusals: u32,
+    pub times: Vec<Instant>,
 }
 
 /// Whether a line of the report says that its event was not done.
@@ -21,7 +21,7 @@ fn is_refusal(line: &[u8]) -> bool {
 }
 
 impl<'a, R: Clock> Watch<'a, R> {
-    /// These times come first.
+    /// Times are kept behind these.
     pub fn new(clock: &'a R, step: u32, times: Vec<Instant>) -> Self {
         Watch {
             clock,
@@ -32,23 +32,10 @@ impl<'a, R: Clock> Watch<'a, R> {
         }
     }
 
-    /// How many refusals there were.
-    pub fn refusals(&self) -> u32 {
-        self.refusals
-    }
-
-    /// All times so far.
-    pub fn times(&self) -> &[Instant] {
-        self.times.as_slice()
-    }
-
-    // A time that can't be taken or kept is missing afterwards.
-    fn count(&mut self) {
-        self.lines = self.lines.saturating_add(1);
-        if self.lines.is_multiple_of(self.step) {
-            if let Ok(now) = Instant::now(self.clock) {
-                let _kept = self.times.push(now);
-            }
+    /// Keeps the time. One that can't be taken or kept is missing afterwards.
+    pub fn take_time(&mut self) {
+        if let Ok(now) = Instant::now(self.clock) {
+            let _kept = self.times.push(now);
         }
     }
 }
@@ -62,7 +49,10 @@ impl<R: Clock> Sink for Watch<'_, R> {
         if is_refusal(bytes) {
             self.refusals = self.refusals.saturating_add(1);
         }
-        self.count();
+        self.lines = self.lines.saturating_add(1);
+        if self.lines.is_multiple_of(self.step) {
+            self.take_time();
+        }
         Ok(bytes.len())
     }
 }

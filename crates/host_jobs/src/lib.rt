@@ -10,8 +10,6 @@ mod rows;
 mod sizes;
 mod soundness;
 mod states;
-#[cfg(test)]
-mod tests;
 mod theorems;
 
 pub use acts::{

@@ -4,8 +4,6 @@
 mod parts;
 mod rates;
 mod reading;
-#[cfg(test)]
-mod tests;
 pub mod theorems;
 
 pub use rates::Rates;

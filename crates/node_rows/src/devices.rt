@@ -1,20 +1,18 @@
 //! Worked rows of a device over storage in memory: what it starts from, what it leaves there, and cuts of power at each call.
-ghost use Rattle.std.specs.Prelude.{◌≡◌, ◌<◌, ◌^◌, IfOk, length, false};
-ghost use Rattle.nv_model.specs.Fuses.{state_of};
-
+use crate::worked::{
+    BLANK, KEY, Left, Piece, Told, code_of, content_of, failed, restarted, storage, unstarted,
+};
+use bench_base::bytes::Note;
 use bench_base::ledger::Commit;
 use bench_base::numbers::{DayNo, DevNo};
-use bench_base::refusals::{BootFail, DevFail, DevRefusal, StoreFail};
-use bench_base::words::{Key, Kind, Verdict};
-use hmac_core::hmac256;
-use nv_model::{Fused, MemNv, Nv};
+use bench_base::refusals::{BootFail, DevFail, DevRefusal};
+use bench_base::words::{Kind, Verdict};
+use nv_model::{Fused, MemNv};
 use psd_device::{Device, Franked, Taken};
 use psd_wire::{DebitMsg, Message, ReplyMsg, write_message};
 use std::alloc::Global;
 use std::process::Abort;
 use std::test::Fail;
-
-const KEY: Key = [1; 32];
 
 /// An open slot with count 7, in version 1: device 1 in service with 50,000 mills, after three transactions.
 const READY: [u8; 78] = [
@@ -69,6 +67,62 @@ const FIRST: [u8; 64] = [
     0xd7, 0xc8, 0x8b, 0x86, 0xb3, 0x88, 0x57, 0x35, 0x3d, 0xfe, 0x8a, 0x25, 0xee, 0xf5, 0xf2, 0xc0,
 ];
 
+/// The storage of seven commits on two slots.
+const TWO_SLOTS: &[Piece] = &[
+    Piece {
+        at: 0,
+        bytes: &READY,
+    },
+    Piece {
+        at: 214,
+        bytes: &ASKED,
+    },
+];
+
+/// That storage, where both slots have count 7.
+const EQUAL_COUNTS: &[Piece] = &[
+    Piece {
+        at: 0,
+        bytes: &READY,
+    },
+    Piece {
+        at: 214,
+        bytes: &ASKED,
+    },
+    Piece {
+        at: 218,
+        bytes: b"\x07",
+    },
+];
+
+/// That storage, where the newer slot has as many commits as can be counted.
+const MOST_COMMITS: &[Piece] = &[
+    Piece {
+        at: 0,
+        bytes: &READY,
+    },
+    Piece {
+        at: 214,
+        bytes: &ASKED,
+    },
+    Piece {
+        at: 1,
+        bytes: b"\xff\xff\xff\xff",
+    },
+];
+
+/// An open slot with a payload that is no device's record.
+const RECORD_OF_ZEROS: &[Piece] = &[Piece {
+    at: 0,
+    bytes: b"\xa5\0\0\0\x01",
+}];
+
+/// The request for the reset alone, in version 1.
+const ASKED_BEFORE: &[Piece] = &[Piece {
+    at: 0,
+    bytes: &ASKED,
+}];
+
 /// Power is cut at the first to the second of a commit's calls, with this much of a range kept and its rest filled with the
 /// byte: so many commits count after it.
 type Cut = (u32, u32, u32, u8, u64);
@@ -91,16 +145,117 @@ const FOUR_CALLS: [Cut; 5] = [
     (2, 2, 0, 0x37, 0),
 ];
 
-/// Where a device stands before the debit that is cut.
+/// The reply that a device is given, which grants a request.
 #[derive(Clone, Copy)]
-enum Before {
-    /// After seven commits on two slots, of version 1.
-    TwoSlots,
-    /// After seven commits on sixteen slots.
-    FirstRound,
-    /// After these and ten debits.
-    SecondRound,
+enum Given {
+    /// In version 2: the request's number and kind, the amount and the deadline.
+    New(u32, Kind, u32, i32),
+    /// In version 1, to request 3.
+    Old,
 }
+
+/// What is asked of a device, on 2026-03-01.
+#[derive(Clone, Copy)]
+enum Call {
+    /// It is made under the key.
+    Make,
+    /// For customer 1, with this amount.
+    Ask(Kind, u32),
+    Take(Given),
+    /// Of this piece, with 550 mills.
+    Debit(u32),
+    Ack,
+    Resend,
+    Status,
+    /// How many commits filled this slot.
+    Fills(u32),
+    Commits,
+    /// The fuse is armed: see `Fused::arm`.
+    Arm(u32, u32, u8),
+}
+
+/// A call, and what is wanted of it.
+type Row = (Call, Told);
+
+const DAMAGED: Result<u64, BootFail> = Err(BootFail::Damaged);
+
+/// A device of this number, so many bytes with these pieces, and what a start answers.
+const STARTS: [(u32, usize, &[Piece], Result<u64, BootFail>, &str); 6] = [
+    (1, 3_424, BLANK, Ok(0), "blank"),
+    (1, 3_423, BLANK, DAMAGED, "a byte short"),
+    (1, 3_424, TWO_SLOTS, Ok(7), "two slots"),
+    (2, 3_424, TWO_SLOTS, DAMAGED, "another device"),
+    (1, 3_424, RECORD_OF_ZEROS, DAMAGED, "a record of zeros"),
+    (1, 3_424, EQUAL_COUNTS, DAMAGED, "equal counts"),
+];
+
+/// A refusal comes first.
+const WORN: &[Row] = &[
+    (Call::Debit(1), ("worn", 0)),
+    (Call::Debit(2), ("wrong piece", 0)),
+];
+
+/// The first seven rows make seven commits on blank storage: a device is made, enrolled, inspected, and loaded with 50,000
+/// mills. The others are ten debits.
+const SERVICE: &[Row] = &[
+    (Call::Make, ("made", 0)),
+    (Call::Ask(Kind::Enrol, 0), ("asked", 0)),
+    (Call::Take(Given::New(1, Kind::Enrol, 0, 0)), ("applied", 1)),
+    (Call::Ask(Kind::Audit, 0), ("asked", 0)),
+    (
+        Call::Take(Given::New(2, Kind::Audit, 0, 20_605)),
+        ("applied", 2),
+    ),
+    (Call::Ask(Kind::Reset, 50_000), ("asked", 0)),
+    (
+        Call::Take(Given::New(3, Kind::Reset, 50_000, 20_605)),
+        ("applied", 3),
+    ),
+    (Call::Debit(1), ("the first mark", 0)),
+    (Call::Debit(2), ("another mark", 0)),
+    (Call::Debit(3), ("another mark", 0)),
+    (Call::Debit(4), ("another mark", 0)),
+    (Call::Debit(5), ("another mark", 0)),
+    (Call::Debit(6), ("another mark", 0)),
+    (Call::Debit(7), ("another mark", 0)),
+    (Call::Debit(8), ("another mark", 0)),
+    (Call::Debit(9), ("another mark", 0)),
+    (Call::Debit(10), ("another mark", 0)),
+];
+
+/// What the first seven rows leave.
+const SERVED: &[Row] = &[
+    (Call::Commits, ("commits", 7)),
+    (Call::Fills(0), ("fills", 1)),
+    (Call::Fills(1), ("fills", 1)),
+    (Call::Fills(2), ("fills", 1)),
+    (Call::Fills(3), ("fills", 1)),
+    (Call::Fills(4), ("fills", 1)),
+    (Call::Fills(5), ("fills", 1)),
+    (Call::Fills(6), ("fills", 1)),
+    (Call::Fills(7), ("fills", 0)),
+    (Call::Fills(8), ("fills", 0)),
+    (Call::Fills(9), ("fills", 0)),
+    (Call::Fills(10), ("fills", 0)),
+    (Call::Fills(11), ("fills", 0)),
+    (Call::Fills(12), ("fills", 0)),
+    (Call::Fills(13), ("fills", 0)),
+    (Call::Fills(14), ("fills", 0)),
+    (Call::Fills(15), ("fills", 0)),
+    (Call::Ack, ("acknowledged", 0)),
+    (Call::Resend, ("nothing pending", 0)),
+    (Call::Status, ("status", 50_000)),
+];
+
+const SENT_AGAIN: &[Row] = &[
+    (Call::Commits, ("commits", 6)),
+    (Call::Resend, ("byte for byte", 0)),
+];
+
+const GRANTED_THEN: &[Row] = &[
+    (Call::Take(Given::Old), ("applied", 3)),
+    (Call::Commits, ("commits", 7)),
+];
 
 fn device(rt: &impl Abort, number: u32) -> DevNo {
     DevNo::new(number).expect(rt, "device")
@@ -120,103 +275,61 @@ fn piece(piece: u32) -> DebitMsg {
     }
 }
 
-/// Storage with this content.
-fn storage(alloc: Global, content: Vec<u8>) -> Result<Fused<MemNv>, Fail>
-    requires { length content.items < 2 ^ 32 }
-    ensures { IfOk result (λ nv. (state_of nv).lost ≡ false) }
-{
-    let nv = MemNv::new(alloc, content, Vec::new(alloc), 400, 40_000)?;
-    Ok(Fused::new(nv))
-}
-
-/// The storage of seven commits on two slots.
-fn two_slots(alloc: Global) -> Result<Vec<u8>, Fail>
-    ensures { IfOk result (λ content. length content.items ≡ 3424) }
-{
-    let mut content = vec![in alloc; 0; 3_424]?;
-    content[..78].copy_from_slice(&READY);
-    content[214..364].copy_from_slice(&ASKED);
-    Ok(content)
-}
-
-/// How many commits a device of this number starts with, or why it does not start.
-fn started(rt: &impl Abort, number: u32, nv: Fused<MemNv>) -> Result<u64, BootFail>
-    requires { (state_of nv).lost ≡ false }
-{
-    match Device::boot(device(rt, number), nv) {
-        Ok(device) => Ok(device.commits()),
-        Err((_, fail)) => Err(fail),
+fn fault(fail: DevFail) -> Told {
+    match fail {
+        DevFail::Store(fail) => failed(fail),
+        DevFail::Refused(DevRefusal::WrongPiece(pieces)) => ("wrong piece", u64::from(pieces)),
+        DevFail::Refused(DevRefusal::NothingPending) => ("nothing pending", 0),
+        DevFail::Refused(_) => ("another refusal", 0),
     }
 }
 
-#[test]
-fn starts_from_records_of_its_own(rt: HostRuntime) -> Result<(), Fail> {
-    let alloc = rt.alloc();
-    let damaged = Err(BootFail::Damaged);
-    let nv = storage(alloc, vec![in alloc; 0; 3_424]?)?;
-    assert_eq!(rt; started(&rt, 1, nv), Ok(0), "blank");
-    let nv = storage(alloc, vec![in alloc; 0; 3_423]?)?;
-    assert_eq!(rt; started(&rt, 1, nv), damaged, "a byte short");
-    let nv = storage(alloc, two_slots(alloc)?)?;
-    assert_eq!(rt; started(&rt, 1, nv), Ok(7), "two slots");
-    let nv = storage(alloc, two_slots(alloc)?)?;
-    assert_eq!(rt; started(&rt, 2, nv), damaged, "another device");
-    let mut zeros = vec![in alloc; 0; 3_424]?;
-    zeros[0] = 0xA5;
-    zeros[4] = 1;
-    let nv = storage(alloc, zeros)?;
-    assert_eq!(rt; started(&rt, 1, nv), damaged, "a record of zeros");
-    let mut equal = two_slots(alloc)?;
-    equal[218] = 7;
-    let nv = storage(alloc, equal)?;
-    assert_eq!(rt; started(&rt, 1, nv), damaged, "equal counts");
-    Ok(())
+/// The name, where the call was done.
+fn done<A: Copy>(name: &'static str, answer: Result<A, DevFail>) -> Told {
+    match answer {
+        Ok(_) => (name, 0),
+        Err(fail) => fault(fail),
+    }
 }
 
-#[test]
-fn wears_out(rt: HostRuntime) -> Result<(), Fail> {
-    let mut content = two_slots(rt.alloc())?;
-    content[1..5].copy_from_slice(&[0xFF; 4]);
-    let before = hmac256(&KEY, &content);
-    let mut worn = Device::boot(device(&rt, 1), storage(rt.alloc(), content)?)
-        .ok()
-        .expect(&rt, "boot");
-    let answer = worn.debit(&piece(1), today(&rt));
-    assert!(rt;
-        matches!(answer, Err(DevFail::Store(StoreFail::Worn))),
-        "worn"
-    );
-    let answer = worn.debit(&piece(2), today(&rt));
-    assert!(rt;
-        matches!(answer, Err(DevFail::Refused(DevRefusal::WrongPiece(0)))),
-        "refused first"
-    );
-    assert_eq!(rt; worn.commits(), 4_294_967_295);
-    assert!(rt; worn.torn().is_none());
-    assert!(rt; code_of(&rt, worn.shut()) == before, "the storage stays");
-    Ok(())
+fn taken(answer: Result<Taken, DevFail>) -> Told {
+    match answer {
+        Ok(Taken::Applied { number, verdict: _ }) => ("applied", u64::from(number)),
+        Ok(Taken::Released { piece, .. }) => ("released", u64::from(piece)),
+        Err(fail) => fault(fail),
+    }
 }
 
-/// The code of what a storage of a device holds.
-fn code_of(rt: &impl Abort, nv: Fused<MemNv>) -> [u8; 32] {
-    let mut nv = nv;
-    let mut content = [0; 3_424];
-    assert!(rt; nv.size() == 3_424);
-    assert!(rt; nv.read(0, &mut content).is_ok(), "read");
-    hmac256(&KEY, &content)
+/// Whether the mark is that of piece 1, and whether it was given before.
+fn franked(answer: Result<Franked, DevFail>) -> Told {
+    match answer {
+        Ok(franked) => (
+            if franked.mark == FIRST {
+                "the first mark"
+            } else {
+                "another mark"
+            },
+            u64::from(franked.again),
+        ),
+        Err(fail) => fault(fail),
+    }
 }
 
-/// One transaction from the request to the reply.
-fn transact(
-    rt: &impl Abort,
-    device: &mut Device<Fused<MemNv>>,
-    number: u32,
-    kind: Kind,
-    amount: u32,
-    deadline: i32,
-) {
-    let asked = device.ask(kind, 1, amount, today(rt));
-    assert!(rt; asked.is_ok(), "asked");
+fn resent(answer: Result<Note, DevFail>) -> Told {
+    match answer {
+        Ok(note) => (
+            if note.as_slice() == &ASKED[79..] {
+                "byte for byte"
+            } else {
+                "another request"
+            },
+            0,
+        ),
+        Err(fail) => fault(fail),
+    }
+}
+
+fn granted(number: u32, kind: Kind, amount: u32, deadline: i32) -> Note {
     let reply = ReplyMsg {
         version: 2,
         device: 1,
@@ -227,165 +340,185 @@ fn transact(
         deadline,
         origin: 94_105,
     };
-    let note = write_message(&Message::Reply(reply), &KEY);
-    match device.take(note.as_slice(), today(rt)) {
-        Ok(
-            Taken::Applied {
-                number: taken,
-                verdict: _,
-            },
-        ) => assert_eq!(rt; taken, number),
-        _ => assert!(rt; false, "applied"),
+    write_message(&Message::Reply(reply), &KEY)
+}
+
+/// The bytes of a reply.
+fn bytes_of(given: Given) -> Note {
+    match given {
+        Given::New(number, kind, amount, deadline) => granted(number, kind, amount, deadline),
+        Given::Old => Note::of(&GRANTED),
     }
 }
 
-/// A device that wrote seven commits on blank storage: made, enrolled, inspected, and loaded with 50,000 mills.
-fn loaded(rt: &impl Abort, alloc: Global) -> Result<Device<Fused<MemNv>>, Fail> {
-    let blank = vec![in alloc; 0; 3_424]?;
-    let mut device = Device::boot(device(rt, 1), storage(alloc, blank)?)
-        .ok()
-        .expect(rt, "boot");
-    assert!(rt; device.make(&KEY).is_ok(), "made");
-    transact(rt, &mut device, 1, Kind::Enrol, 0, 0);
-    transact(rt, &mut device, 2, Kind::Audit, 0, 20_605);
-    transact(rt, &mut device, 3, Kind::Reset, 50_000, 20_605);
-    Ok(device)
+/// What the device tells of a call.
+fn told(rt: &impl Abort, device: &mut Device<Fused<MemNv>>, call: Call) -> Told {
+    let day = today(rt);
+    match call {
+        Call::Make => done("made", device.make(&KEY)),
+        Call::Ask(kind, amount) => done("asked", device.ask(kind, 1, amount, day)),
+        Call::Take(given) => taken(device.take(bytes_of(given).as_slice(), day)),
+        Call::Debit(number) => franked(device.debit(&piece(number), day)),
+        Call::Ack => done("acknowledged", device.ack()),
+        Call::Resend => resent(device.resend()),
+        Call::Status => match device.status(day) {
+            Ok(status) => ("status", status.descending),
+            Err(fail) => fault(fail),
+        },
+        Call::Fills(slot) => {
+            assert!(rt; slot < 16);
+            ("fills", u64::from(device.fills(slot)))
+        }
+        Call::Commits => ("commits", device.commits()),
+        Call::Arm(calls, keep, byte) => {
+            device.arm(calls, keep, byte);
+            ("armed", 0)
+        }
+    }
+}
+
+/// Starts a device of this number from this content, and does what the rows ask, those before first.
+fn run(
+    rt: &impl Abort,
+    alloc: Global,
+    number: u32,
+    content: &[u8],
+    before: &[Row],
+    rows: &[Row],
+) -> Result<Left, Fail> {
+    let mut device = match Device::boot(device(rt, number), storage(rt, alloc, content)?) {
+        Ok(device) => device,
+        Err((_, fail)) => {
+            assert!(rt; rows.is_empty(), "boot");
+            return Ok(unstarted(alloc, fail));
+        }
+    };
+    let started = Ok(device.commits());
+    for (i, (call, wanted)) in before.iter().chain(rows).enumerate() {
+        assert_eq!(rt; told(rt, &mut device, *call), *wanted, "row {i}");
+    }
+    Ok(Left {
+        started,
+        commits: device.commits(),
+        torn: device.torn(),
+        content: restarted(rt, alloc, device.shut())?,
+    })
+}
+
+/// What rows come to for device 1, with these pieces in its storage, those before first.
+fn run_over(
+    rt: &impl Abort,
+    alloc: Global,
+    pieces: &[Piece],
+    before: &[Row],
+    rows: &[Row],
+) -> Result<Left, Fail> {
+    run(
+        rt,
+        alloc,
+        1,
+        &content_of(alloc, 3_424, pieces)?,
+        before,
+        rows,
+    )
+}
+
+#[test]
+fn starts_from_records_of_its_own(rt: HostRuntime) -> Result<(), Fail> {
+    for (number, bytes, pieces, wanted, what) in STARTS {
+        let content = content_of(rt.alloc(), bytes, pieces)?;
+        let left = run(&rt, rt.alloc(), number, &content, &[], &[])?;
+        assert_eq!(rt; left.started, wanted, "{what}");
+    }
+    Ok(())
+}
+
+#[test]
+fn wears_out(rt: HostRuntime) -> Result<(), Fail> {
+    let before = code_of(&content_of(rt.alloc(), 3_424, MOST_COMMITS)?);
+    let left = run_over(&rt, rt.alloc(), MOST_COMMITS, &[], WORN)?;
+    assert_eq!(rt; left.commits, 4_294_967_295);
+    assert!(rt; left.torn.is_none());
+    assert!(rt; code_of(&left.content) == before, "the storage stays");
+    Ok(())
 }
 
 #[test]
 fn leaves_seven_records(rt: HostRuntime) -> Result<(), Fail> {
-    let device = loaded(&rt, rt.alloc())?;
-    assert_eq!(rt; device.commits(), 7);
-    for slot in 0..16 {
-        assert_eq!(rt;
-            device.fills(slot),
-            if slot < 7 { 1 } else { 0 },
-            "at {slot}"
-        );
-    }
-    assert!(rt; device.ack().is_ok(), "acknowledged");
-    assert!(rt;
-        matches!(
-            device.resend(),
-            Err(DevFail::Refused(DevRefusal::NothingPending))
-        ),
-        "nothing out"
-    );
-    match device.status(today(&rt)) {
-        Ok(status) => assert_eq!(rt; status.descending, 50_000),
-        Err(_) => assert!(rt; false, "status"),
-    }
-    assert!(rt; code_of(&rt, device.shut()) == SEVEN, "the storage");
+    let left = run_over(&rt, rt.alloc(), BLANK, &SERVICE[..7], SERVED)?;
+    assert!(rt; code_of(&left.content) == SEVEN, "the storage");
     Ok(())
-}
-
-/// A device whose storage has the request for the reset alone, in version 1, and the code of that storage.
-fn asked_before(rt: &impl Abort, alloc: Global) -> Result<(Device<Fused<MemNv>>, [u8; 32]), Fail> {
-    let mut content = vec![in alloc; 0; 3_424]?;
-    content[..150].copy_from_slice(&ASKED);
-    let code = hmac256(&KEY, &content);
-    let asked = Device::boot(device(rt, 1), storage(alloc, content)?)
-        .ok()
-        .expect(rt, "boot");
-    Ok((asked, code))
 }
 
 #[test]
 fn an_old_request_is_sent_again(rt: HostRuntime) -> Result<(), Fail> {
-    let (asked, code) = asked_before(&rt, rt.alloc())?;
-    assert_eq!(rt; asked.commits(), 6);
-    match asked.resend() {
-        Ok(note) => assert!(rt; note.as_slice() == &ASKED[79..], "byte for byte"),
-        Err(_) => assert!(rt; false, "resent"),
-    }
-    assert!(rt;
-        code_of(&rt, asked.shut()) == code,
-        "a start writes nothing"
-    );
-    let (mut asked, _) = asked_before(&rt, rt.alloc())?;
-    assert!(rt; asked.take(&GRANTED, today(&rt)).is_ok(), "applied");
-    assert_eq!(rt; asked.commits(), 7);
-    assert!(rt; code_of(&rt, asked.shut()) == APPLIED, "the storage");
+    let code = code_of(&content_of(rt.alloc(), 3_424, ASKED_BEFORE)?);
+    let left = run_over(&rt, rt.alloc(), ASKED_BEFORE, &[], SENT_AGAIN)?;
+    assert!(rt; code_of(&left.content) == code, "a start writes nothing");
+    let left = run(&rt, rt.alloc(), 1, &left.content, &[], GRANTED_THEN)?;
+    assert!(rt; code_of(&left.content) == APPLIED, "the storage");
     Ok(())
 }
 
-/// A device as it stands before the debit that is cut, and the piece of that.
-fn ready(
+/// Where a device stands before a debit that is cut: what its storage holds, how many rows of its service are done, how many
+/// commits there are then, and the piece.
+type Before = (&'static [Piece<'static>], usize, u64, u32);
+
+/// The debits that are cut: a device with seven commits on two slots, of version 1; with seven on sixteen slots; and with these
+/// and ten debits.
+const CUTS: [(Before, [Cut; 5]); 3] = [
+    ((TWO_SLOTS, 0, 7, 1), SIX_CALLS),
+    ((BLANK, 7, 7, 1), FOUR_CALLS),
+    ((BLANK, 17, 17, 11), SIX_CALLS),
+];
+
+/// Cuts power in a debit of this piece, where there are so many commits.
+fn cut_rows(commits: u64, number: u32, cut: (u32, u32, u8)) -> [Row; 4] {
+    [
+        (Call::Commits, ("commits", commits)),
+        (Call::Arm(cut.0, cut.1, cut.2), ("armed", 0)),
+        (Call::Debit(number), ("power", 0)),
+        (Call::Debit(number), ("failed", 0)),
+    ]
+}
+
+/// Debits it again, where so many commits count for the one that was cut.
+fn rows_again(commits: u64, number: u32, more: u64) -> [Row; 2] {
+    let mark = if number == 1 {
+        "the first mark"
+    } else {
+        "another mark"
+    };
+    [
+        (Call::Commits, ("commits", commits.saturating_add(more))),
+        (Call::Debit(number), (mark, more)),
+    ]
+}
+
+/// Cuts power in a debit, and debits again after a restart; so many commits count for the one that is cut.
+fn cut_short(
     rt: &impl Abort,
     alloc: Global,
     before: Before,
-) -> Result<(Device<Fused<MemNv>>, u32), Fail> {
-    if let Before::TwoSlots = before {
-        let ready = Device::boot(device(rt, 1), storage(alloc, two_slots(alloc)?)?)
-            .ok()
-            .expect(rt, "boot");
-        return Ok((ready, 1));
-    }
-    let mut ready = loaded(rt, alloc)?;
-    if let Before::FirstRound = before {
-        return Ok((ready, 1));
-    }
-    for number in 1..11 {
-        let answer = ready.debit(&piece(number), today(rt));
-        assert!(rt; answer.is_ok(), "debit {number}");
-    }
-    Ok((ready, 11))
-}
-
-/// Cuts power in a debit, and debits again after a restart: how many commits the cut one counts for, and the second answer.
-fn cut_short(
-    rt: &impl Abort,
-    before: Device<Fused<MemNv>>,
-    command: DebitMsg,
-    call: u32,
-    keep: u32,
-    byte: u8,
-) -> (u64, Franked) {
-    let mut first = before;
-    let commits = first.commits();
-    first.arm(call, keep, byte);
-    let answer = first.debit(&command, today(rt));
-    assert!(rt;
-        matches!(answer, Err(DevFail::Store(StoreFail::Power))),
-        "power"
-    );
-    assert!(rt; matches!(first.torn(), Some(Commit::Debited(..))), "torn");
-    let answer = first.debit(&command, today(rt));
-    assert!(rt;
-        matches!(answer, Err(DevFail::Store(StoreFail::Failed))),
-        "failed"
-    );
-    let mut nv = first.shut();
-    assert!(rt; nv.restart().is_ok(), "restart");
-    let mut second = Device::boot(device(rt, 1), nv).ok().expect(rt, "boot");
-    assert!(rt; second.commits() >= commits);
-    let more = second.commits() - commits;
-    let answer = second.debit(&command, today(rt));
-    (more, answer.ok().expect(rt, "the second debit"))
+    cut: (u32, u32, u8),
+    more: u64,
+) -> Result<(), Fail> {
+    let (pieces, done, commits, number) = before;
+    assert!(rt; done <= SERVICE.len(), "done");
+    let rows = cut_rows(commits, number, cut);
+    let first = run_over(rt, alloc, pieces, &SERVICE[..done], &rows)?;
+    assert!(rt; matches!(first.torn, Some(Commit::Debited(..))), "torn");
+    let rows = rows_again(commits, number, more);
+    let _second = run(rt, alloc, 1, &first.content, &[], &rows)?;
+    Ok(())
 }
 
 #[test]
 fn is_cut_at_each_call(rt: HostRuntime) -> Result<(), Fail> {
-    let cases = [
-        (Before::TwoSlots, SIX_CALLS),
-        (Before::FirstRound, FOUR_CALLS),
-        (Before::SecondRound, SIX_CALLS),
-    ];
-    for (before, cuts) in cases {
-        for (from, to, keep, byte, commits) in cuts {
+    for (before, cuts) in CUTS {
+        for (from, to, keep, byte, more) in cuts {
             for call in from..=to {
-                let (device, number) = ready(&rt, rt.alloc(), before)?;
-                let (more, franked) = cut_short(&rt, device, piece(number), call, keep, byte);
-                assert_eq!(rt; more, commits, "commits of {call} {keep} {byte}");
-                assert_eq!(rt;
-                    franked.again,
-                    commits == 1,
-                    "again of {call} {keep} {byte}"
-                );
-                assert!(rt;
-                    number == 11 || franked.mark == FIRST,
-                    "mark of {call} {keep} {byte}"
-                );
+                cut_short(&rt, rt.alloc(), before, (call, keep, byte), more)?;
             }
         }
     }

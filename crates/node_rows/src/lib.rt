@@ -4,10 +4,10 @@
 #[cfg(test)]
 mod centres;
 #[cfg(test)]
-mod device_rules;
-#[cfg(test)]
 mod devices;
 #[cfg(test)]
 mod hosts;
 #[cfg(test)]
 mod verifiers;
+#[cfg(test)]
+mod worked;

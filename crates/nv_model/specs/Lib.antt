@@ -8,10 +8,7 @@ pub mod Plans
 pub mod Memories
 pub mod Tallies
 pub mod Fuses
-pub mod Files
 pub mod Still
 pub mod Calls
--- Promised: those rest on these.
-pub mod Ranges
 -- Bookkeeping: private calls and proofs alone name these.
 pub mod Laws

@@ -1,7 +1,6 @@
 //! Storage that may lose power at any write.
 #![tactic(auto)]
 
-mod file;
 mod fuse;
 mod fused;
 mod lay;
@@ -12,14 +11,9 @@ mod plan;
 mod step;
 mod tally;
 mod tear;
-mod whole;
 
-pub use file::{FileNv, StartFault};
 pub use fuse::Fuse;
 pub use fused::Fused;
 pub use memory::MemNv;
 pub use nv::{Nv, NvFail};
 pub use plan::Failure;
-
-#[cfg(test)]
-mod tests;

@@ -3,8 +3,6 @@
 
 pub mod message;
 mod reading;
-#[cfg(test)]
-mod tests;
 mod theorems;
 mod writing;
 

@@ -5,8 +5,6 @@ mod acts;
 mod index;
 mod payload;
 mod scans;
-#[cfg(test)]
-mod tests;
 mod theorems;
 
 pub use acts::{Accepted, Change, ScanAct, Spot, scan_act, trust_act};

@@ -1,5 +1,5 @@
 use Rattle.nv_model.specs.Meters.{Works}
-use Rattle.nv_model.specs.contracts.file.FileNvNv.TheImpl.{ghosts}
+use Rattle.nv_file.specs.contracts.file.FileNvNv.TheImpl.{ghosts}
 use Rattle.bench.proofs.EachStore.{each_store}
 use Rattle.meter_run.proofs.open_bench.Goals as goal
 

@@ -3,7 +3,7 @@ use Rattle.std.proofs.lemmas.List.{length_push}
 use Rattle.std.proofs.lemmas.List.Elements.{All-push}
 use Rattle.std.specs.List.{All}
 use Rattle.nv_model.specs.Meters.{Works}
-use Rattle.nv_model.specs.contracts.file.FileNvNv.TheImpl.{ghosts}
+use Rattle.nv_file.specs.contracts.file.FileNvNv.TheImpl.{ghosts}
 use Rattle.meter_run.proofs.open_stores.Goals as goal
 
 pub loop-name-preserved : goal.loop-name-preserved

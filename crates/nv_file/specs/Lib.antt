@@ -1,0 +1,4 @@
+-- Promised: public contracts name it.
+pub mod Files
+-- Promised: it rests on this.
+pub mod Ranges

@@ -1,0 +1,227 @@
+//! Storage in a file.
+ghost use Rattle.std.specs.Prelude.{None, false, true, [], ℕ, ◌≡◌, ◌⊎◌, ◌+◌, ◌≤◌, length, Some, IfOk, is_ok};
+ghost use Rattle.nv_model.specs.Meters.{Answers, unharmed};
+ghost use Rattle.nv_file.specs.Ranges.{are_apart, joined, leaves_a_gap};
+
+use crate::whole::open_whole;
+use nv_model::{Nv, NvFail};
+use std::fs::{File, Files};
+use std::io;
+use std::os::unix::fs::FileExt;
+
+/// How many bytes are written again at once.
+const PIECE: u32 = 4096;
+
+/// A call on the file or its folder failed, want of memory in it included; the name is that of a link or of something else
+/// that is no file; or the file has more than 4,294,967,295 bytes.
+#[derive(Clone, Copy, Debug, PartialEq, Eq)]
+pub struct StartFault;
+
+/// Storage in a file. Each call that fails answers Fault and is counted; no power is ever lost, and there is no plan and
+/// no fuse. That the file holds what was written and keeps what was synced is not proved.
+///
+/// After a write or a sync that failed a read may show bytes that the disk hasn't got, and the system takes them for
+/// written. So the next sync or restart writes again what was written since the last sync that succeeded, and until one
+/// has succeeded no write begins.
+#[derive(Drop)]
+pub struct FileNv {
+    file: File,
+    size: u32,
+    faults: u64,
+    /// The range that was written since the last sync that succeeded: its first place, and the place behind it.
+    range: Option<(u32, u32)>,
+    /// Whether a write or a sync failed since then.
+    failed: bool,
+    ghost inside: { (r : ℕ × ℕ) → range ≡ Some r → r.1 ≤ size },
+}
+
+/// Whether places lie between two ranges.
+fn are_apart(old: (u32, u32), new: (u32, u32)) -> bool
+    ensures { result ≡ are_apart old new }
+{
+    old.1 < new.0 || new.1 < old.0
+}
+
+impl FileNv {
+    ghost use Rattle.nv_file.specs.Files.{unsynced, nothing_unsynced};
+
+    /// Uses the file at a path, whatever its length, or makes it with `size` zero bytes where there is none. What was there
+    /// is written to a new file, which takes the name once it is on the disk: so what is read is on the disk too, and power
+    /// may be cut meanwhile.
+    pub fn start<R: Files<File = File> + AllocGlobal>(
+        rt: &R,
+        path: &str,
+        size: u32,
+    ) -> Result<FileNv, StartFault>
+        ensures unharmed { IfOk result (λ nv. ⟦<FileNv as Nv>⟧.meters nv ≡ unharmed) }
+        ensures synced { IfOk result (λ nv. unsynced nv ≡ nothing_unsynced) }
+    {
+        let (file, size) = open_whole(rt, path, size).map_err(|_| StartFault)?;
+        Ok(FileNv {
+            file,
+            size,
+            faults: 0,
+            range: None,
+            failed: false,
+        })
+    }
+
+    /// Answers for a call on the file, and counts it where it failed.
+    fn answer(&mut self, went: bool) -> Result<(), NvFail>
+        ensures size { self.new.size ≡ self.old.size }
+        ensures unsynced { unsynced self.new ≡ unsynced self.old }
+        ensures as_it_went { is_ok result ≡ went }
+        ensures counted { Answers (⟦<FileNv as Nv>⟧.meters self.old) (⟦<FileNv as Nv>⟧.meters self.new) result }
+    {
+        if went {
+            return Ok(());
+        }
+        self.faults = self.faults.saturating_add(1);
+        Err(NvFail::Fault)
+    }
+
+    /// Writes a range, and answers whether that went well. Where places lie between it and what is not synced yet, that is
+    /// synced before.
+    fn put(&mut self, at: u32, bytes: &[u8]) -> bool
+        requires { at + length bytes.now ≤ self.old.size }
+        ensures range { (self.new.range ≡ Some (joined self.old.range (at, at + length bytes.now)))
+            ⊎ ((result ≡ false) × (leaves_a_gap self.old.range (at, at + length bytes.now) ≡ true) × (self.new.range ≡ self.old.range)) }
+        ensures failed { self.new.failed ≡ self.old.failed }
+        ensures counts { (self.new.size ≡ self.old.size) × (self.new.faults ≡ self.old.faults) }
+    {
+        let new = (at, at + bytes.len() as u32);
+        let range = match self.range {
+            None => new,
+            Some(old) if are_apart(old, new) => {
+                if self.file.sync_all().is_err() {
+                    return false;
+                }
+                new
+            }
+            Some(old) => (old.0.min(new.0), old.1.max(new.1)),
+        };
+        self.range = Some(range);
+        self.file.write_all_at(bytes, u64::from(at)).is_ok()
+    }
+
+    /// Writes a range again, as a read gives it now.
+    fn write_again(&self, range: (u32, u32)) -> io::Result<()> {
+        let mut piece = [0; PIECE as usize];
+        for at in (range.0..range.1).step_by(PIECE as usize) {
+            let len = (range.1 - at).min(PIECE);
+            let piece = &mut piece[..len as usize];
+            self.file.read_exact_at(piece, u64::from(at))?;
+            self.file.write_all_at(piece, u64::from(at))?;
+        }
+        Ok(())
+    }
+
+    /// Makes sure of what was written. After a failure a sync alone would leave out what the system takes for written.
+    fn make_sure(&self) -> io::Result<()> {
+        if let (true, Some(range)) = (self.failed, self.range) {
+            self.write_again(range)?;
+        }
+        self.file.sync_all()
+    }
+}
+
+impl Nv for FileNv {
+    ghost use Rattle.nv_file.specs.Files.{unsynced, WriteIs, SyncIs};
+
+    ghost tells = { ⊥ };
+
+    ghost size = { λ s. s.size };
+
+    ghost content = { λ s. [] };
+
+    ghost base = { λ s. [] };
+
+    ghost written = { λ s i. false };
+
+    ghost times = { λ s. record { moment = 0; since = λ t c. ⊥ } };
+
+    ghost meters = { λ s. record { cuts = 0; faults = s.faults; lost = false; fuse = None } };
+
+    ghost read_is = { λ old new result. unsynced new ≡ unsynced old };
+
+    ghost write_is = { λ old new at bytes result. WriteIs (unsynced old) (unsynced new) (at, at + length bytes) result };
+
+    ghost sync_is = { λ old new result. SyncIs (unsynced old) (unsynced new) result };
+
+    ghost restart_is = { λ old new result. SyncIs (unsynced old) (unsynced new) result };
+
+    ghost content_is = { λ s tells. absurd tells };
+
+    ghost image_is = { λ s c tells. absurd tells };
+
+    ghost image_all = { λ s c tells. absurd tells };
+
+    ghost sized = { λ s t c tells. absurd tells };
+
+    ghost nested = { λ s tells. absurd tells };
+
+    fn size(&self) -> u32 {
+        self.size
+    }
+
+    fn read(&mut self, at: u32, buf: &mut [u8]) -> Result<(), NvFail> {
+        let went = self.file.read_exact_at(buf, u64::from(at)).is_ok();
+        self.answer(went)
+    }
+
+    fn write(&mut self, at: u32, bytes: &[u8]) -> Result<(), NvFail> {
+        let went = !self.failed && self.put(at, bytes);
+        self.failed = !went;
+        self.answer(went)
+    }
+
+    fn sync(&mut self) -> Result<(), NvFail> {
+        let done = self.make_sure();
+        if done.is_err() {
+            self.failed = true;
+            return self.answer(false);
+        }
+        self.failed = false;
+        self.range = None;
+        self.answer(true)
+    }
+
+    /// Where nothing is unsynced nothing is asked of the system.
+    fn restart(&mut self) -> Result<(), NvFail> {
+        if self.range.is_none() && !self.failed {
+            return Ok(());
+        }
+        self.sync()
+    }
+}
+
+#[cfg(test)]
+mod tests {
+    use super::*;
+    use std::fs::OpenOptions;
+    use std::test::Fail;
+
+    /// A device takes what is written and can't be synced, so it shows that a sync asks the system.
+    #[test]
+    fn a_failed_sync_is_not_forgotten(rt: HostRuntime) -> Result<(), Fail> {
+        let file = OpenOptions::new()
+            .read(true)
+            .write(true)
+            .open(&rt, "/dev/null")?;
+        let mut nv = FileNv {
+            file,
+            size: 8,
+            faults: 0,
+            range: None,
+            failed: false,
+        };
+        assert_eq!(rt; nv.write(2, b"abc"), Ok(()));
+        assert_eq!(rt; nv.range, Some((2, 5)));
+        assert_eq!(rt; nv.sync(), Err(NvFail::Fault));
+        assert_eq!(rt; nv.write(0, b"a"), Err(NvFail::Fault));
+        assert_eq!(rt; nv.restart(), Err(NvFail::Fault));
+        assert_eq!(rt; nv.range, Some((2, 5)));
+        assert_eq!(rt; nv.faults, 3);
+        Ok(())
+    }
+}

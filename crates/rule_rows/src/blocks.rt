@@ -1,0 +1,145 @@
+//! Payloads against the layout by hand, and the index of a few blocks.
+use bench_base::numbers::DevNo;
+use bench_base::words::Key;
+use std::process::Abort;
+use verifier::{
+    BlockIndex, accept_payload, block_in, key_in, read_block, read_trust, scan_in, trust_payload,
+};
+
+const KEY: Key = [1; 32];
+
+fn device(rt: &impl Abort, number: u32) -> DevNo {
+    DevNo::new(number).expect(rt, "device")
+}
+
+// The payload of a device that is trusted under the key.
+fn trusted(rt: &impl Abort, number: u32) -> [u8; 2_056] {
+    trust_payload(device(rt, number), &KEY)
+}
+
+// Whether the payload is one of this device's trust.
+fn is_trust(rt: &impl Abort, number: u32, payload: &[u8; 2_056]) -> bool {
+    read_trust(device(rt, number), payload)
+}
+
+#[test]
+fn lays_out_trust(rt: HostRuntime) {
+    let trust = trusted(&rt, 2);
+    assert_eq!(rt; &trust[..6], [0, 0, 0, 2, 1, 1].as_slice());
+    assert_eq!(rt; &trust[34..38], [1, 1, 0, 0].as_slice());
+    assert!(rt; is_trust(&rt, 2, &trust));
+    assert!(rt; !is_trust(&rt, 1, &trust), "another device");
+    assert_eq!(rt; key_in(&trust), KEY);
+}
+
+// The payload of a block once the piece at this place is accepted.
+fn accepted(
+    rt: &impl Abort,
+    before: Option<&[u8; 2_056]>,
+    number: u32,
+    block: u32,
+    place: u32,
+    scan: u32,
+) -> [u8; 2_056] {
+    assert!(rt; place < 512, "a place");
+    accept_payload(before, device(rt, number), block, place, scan)
+}
+
+// The scan at this place of a block.
+fn scan_at(rt: &impl Abort, payload: &[u8; 2_056], place: u32) -> Option<u32> {
+    assert!(rt; place < 512, "a place");
+    scan_in(payload, place)
+}
+
+// Piece 1,538 is at place 2 of block 3.
+fn block_3(rt: &impl Abort) -> [u8; 2_056] {
+    accepted(rt, None, 2, 3, 2, 0x0102_0304)
+}
+
+#[test]
+fn lays_out_a_block(rt: HostRuntime) {
+    let block = block_3(&rt);
+    assert_eq!(rt;
+        &block[..20],
+        [0, 0, 0, 2, 0, 0, 0, 3, 0, 0, 0, 0, 0, 0, 0, 0, 1, 2, 3, 4].as_slice()
+    );
+    let block = accepted(&rt, Some(&block), 2, 3, 511, 7);
+    assert_eq!(rt;
+        &block[16..20],
+        [1, 2, 3, 4].as_slice(),
+        "the other place stays"
+    );
+    assert_eq!(rt; &block[2052..], [0, 0, 0, 7].as_slice());
+}
+
+/// Places of the block with two pieces, and their scans.
+const SCANS: &[(u32, Option<u32>)] = &[(0, None), (2, Some(0x0102_0304)), (511, Some(7))];
+
+#[test]
+fn reads_a_block(rt: HostRuntime) {
+    let block = accepted(&rt, Some(&block_3(&rt)), 2, 3, 511, 7);
+    assert_eq!(rt; read_block(&block), Some((2, 3)));
+    assert_eq!(rt; block_in(&block), (2, 3));
+    for (place, scan) in SCANS {
+        assert_eq!(rt; scan_at(&rt, &block, *place), *scan, "place {place}");
+    }
+}
+
+#[test]
+fn reads_no_other_trust(rt: HostRuntime) {
+    assert!(rt; !is_trust(&rt, 1, &[0; 2_056]));
+    let mut trust = trusted(&rt, 1);
+    trust[2055] = 1;
+    assert!(rt; !is_trust(&rt, 1, &trust), "a byte at the end");
+}
+
+#[test]
+fn reads_no_other_blocks(rt: HostRuntime) {
+    assert_eq!(rt; read_block(&[0; 2_056]), None, "no piece");
+    let mut block = accepted(&rt, None, 1, 8_388_607, 0, 1);
+    assert_eq!(rt; read_block(&block), Some((1, 8_388_607)));
+    block[4] = 1;
+    assert_eq!(rt; read_block(&block), None, "no block has this number");
+}
+
+/// Device, number and cell of blocks, in the order in which they come.
+const BLOCKS: &[(u32, u32, u32)] = &[(2, 1, 8), (1, 7, 9), (2, 0, 10), (1, 8_388_607, 11)];
+
+/// The cells of those, and of blocks that did not come.
+const CELLS: &[(u32, u32, Option<u32>)] = &[
+    (2, 1, Some(8)),
+    (1, 7, Some(9)),
+    (2, 0, Some(10)),
+    (1, 8_388_607, Some(11)),
+    (1, 1, None),
+    (2, 7, None),
+    (3, 0, None),
+];
+
+// Puts a block into the index, where it is found.
+fn put(rt: &impl Abort, index: &mut BlockIndex, device: u32, block: u32, cell: u32) {
+    if index.len() < 1_024 && index.find(device, block).is_none() {
+        index.insert(device, block, cell);
+    }
+    assert_eq!(rt; index.find(device, block), Some(cell));
+}
+
+// The blocks of the rows have these cells in the index.
+fn cells_are(rt: &impl Abort, index: &BlockIndex, rows: &[(u32, u32, Option<u32>)]) {
+    for (device, block, cell) in rows {
+        assert_eq!(rt; index.find(*device, *block), *cell, "{device} {block}");
+    }
+}
+
+#[test]
+fn finds_blocks_in_order(rt: HostRuntime) {
+    let mut index = BlockIndex::new();
+    cells_are(&rt, &index, &[(1, 0, None)]);
+    for (device, block, cell) in BLOCKS {
+        put(&rt, &mut index, *device, *block, *cell);
+    }
+    cells_are(&rt, &index, CELLS);
+    assert_eq!(rt; index.len(), 4);
+    index.clear();
+    cells_are(&rt, &index, &[(2, 1, None)]);
+}

@@ -1,0 +1,19 @@
+//! Worked rows of what decides without storage: payloads and messages against bytes of an independent program, and the answers of calls.
+#![tactic(auto)]
+
+#[cfg(test)]
+mod blocks;
+#[cfg(test)]
+mod centre_calls;
+#[cfg(test)]
+mod centre_payloads;
+#[cfg(test)]
+mod device;
+#[cfg(test)]
+mod jobs;
+#[cfg(test)]
+mod marks;
+#[cfg(test)]
+mod messages;
+#[cfg(test)]
+mod rates;

@@ -1,0 +1,243 @@
+//! A plan, a full record and burnt fuses as a caller meets them, and a real file.
+//!
+//! A function that holds a storage gives back what was seen as plain values, since it is dear to prove.
+ghost use Rattle.std.specs.Prelude.{IfOk};
+ghost use Rattle.nv_model.specs.Meters.{Works};
+
+use nv_file::{FileNv, StartFault};
+use nv_model::{Failure, Fused, MemNv, Nv, NvFail};
+use std::alloc::{AllocError, Global};
+use std::fs;
+use std::os::unix::fs::{MetadataExt, symlink};
+use std::test::Fail;
+
+type Answer = Result<(), NvFail>;
+
+/// The first eight bytes.
+type Shown = Result<[u8; 8], NvFail>;
+
+#[derive(Clone, Copy)]
+enum Call {
+    Write,
+    Sync,
+    Restart,
+}
+
+/// A call, which for a write has its place and its bytes; what it answers, and what is shown then.
+type Row = (Call, u32, [u8; 4], Answer, Shown);
+
+/// Makes a call, which for a write has its place and its bytes. None where it would reach past the end.
+fn answer<N: Nv>(nv: &mut N, call: Call, at: u32, bytes: &[u8]) -> Option<Answer> {
+    match call {
+        Call::Write => {
+            if bytes.len() > 8 || at > 8 || at + bytes.len() as u32 > nv.size() {
+                return None;
+            }
+            Some(nv.write(at, bytes))
+        }
+        Call::Sync => Some(nv.sync()),
+        Call::Restart => Some(nv.restart()),
+    }
+}
+
+fn shown<N: Nv>(nv: &mut N) -> Shown {
+    let mut bytes = [0; 8];
+    if nv.size() < 8 {
+        return Err(NvFail::Fault);
+    }
+    nv.read(0, &mut bytes)?;
+    Ok(bytes)
+}
+
+/// Eight dots in memory.
+fn dots(alloc: Global, plan: &[Failure], calls: u32, bytes: u32) -> Result<MemNv, AllocError>
+    ensures { IfOk result (λ nv. Works (⟦<MemNv as Nv>⟧.meters nv)) }
+{
+    let content = vec![in alloc; b'.'; 8]?;
+    MemNv::new(alloc, content, Vec::from_slice(alloc, plan)?, calls, bytes)
+}
+
+/// Writes, syncs and begins again, through the bound alone.
+fn keeps<N: Nv>(nv: &mut N) -> Shown {
+    if nv.size() < 8 {
+        return Err(NvFail::Fault);
+    }
+    nv.write(2, b"abc")?;
+    nv.sync()?;
+    nv.restart()?;
+    shown(nv)
+}
+
+fn memory_keeps(alloc: Global) -> Result<Shown, AllocError> {
+    let mut memory = dots(alloc, &[], 3, 3)?;
+    Ok(keeps(&mut memory))
+}
+
+fn fused_keeps(alloc: Global) -> Result<Shown, AllocError> {
+    let mut fused = Fused::new(dots(alloc, &[], 3, 3)?);
+    Ok(keeps(&mut fused))
+}
+
+/// What the file at this path keeps; one of eight bytes is made where there is none.
+fn file_keeps(rt: &HostRuntime, path: &str) -> Result<Shown, StartFault> {
+    let mut file = FileNv::start(rt, path, 8)?;
+    Ok(keeps(&mut file))
+}
+
+#[test]
+fn each_storage_keeps_what_was_synced(rt: HostRuntime) -> Result<(), Fail> {
+    assert_eq!(rt; memory_keeps(rt.alloc())?, Ok(*b"..abc..."));
+    assert_eq!(rt; fused_keeps(rt.alloc())?, Ok(*b"..abc..."));
+    let path = "each_storage.nv";
+    let kept = file_keeps(&rt, path).expect(&rt, "start");
+    assert_eq!(rt; kept, Ok(*b"\0\0abc\0\0\0"));
+    fs::remove_file(&rt, path)?;
+    Ok(())
+}
+
+/// What dots in memory with this plan answer, and what they show, call by call. Their record has room for five calls.
+fn planned(
+    alloc: Global,
+    plan: &[Failure],
+    rows: &[Row],
+) -> Result<Vec<(Option<Answer>, Shown)>, AllocError> {
+    let mut nv = dots(alloc, plan, 5, 20)?;
+    let mut seen = Vec::new(alloc);
+    for (call, at, bytes, _, _) in rows {
+        let answer = answer(&mut nv, *call, *at, bytes);
+        seen.push((answer, shown(&mut nv)))?;
+    }
+    Ok(seen)
+}
+
+#[test]
+fn fails_by_its_plan_and_its_record(rt: HostRuntime) -> Result<(), Fail> {
+    let mut plan = Vec::new(rt.alloc());
+    let fault = NvFail::Fault;
+    let power = NvFail::Power;
+    for (call, kind) in [(2, fault), (4, power), (2, power), (13, fault)] {
+        plan.push(Failure {
+            call,
+            kind,
+            keep: 2,
+            byte: b'#',
+        })?;
+    }
+    // The record has room for five calls: the second sync and what follows find none left.
+    let rows = [
+        (Call::Write, 1, *b"abcd", Ok(()), Ok(*b".abcd...")),
+        (Call::Sync, 0, *b"    ", Err(fault), Ok(*b".ab##...")),
+        (Call::Write, 4, *b"wxyz", Err(power), Err(power)),
+        (Call::Restart, 0, *b"    ", Ok(()), Ok(*b".ab#wx##")),
+        (Call::Write, 0, *b"last", Ok(()), Ok(*b"lastwx##")),
+        (Call::Sync, 0, *b"    ", Err(fault), Ok(*b"lastwx##")),
+        (Call::Restart, 0, *b"    ", Err(fault), Ok(*b"lastwx##")),
+        (Call::Write, 0, *b"more", Err(fault), Err(fault)),
+    ];
+    let seen = planned(rt.alloc(), &plan, &rows)?;
+    assert_eq!(rt; seen.len(), 8);
+    for ((answer, shown), (_, _, _, want, content)) in seen.iter().zip(&rows) {
+        assert_eq!(rt; *answer, Some(*want));
+        assert_eq!(rt; *shown, *content);
+    }
+    Ok(())
+}
+
+/// A fuse to arm, where there is one: the calls before it burns, what it keeps, and what it fills; a write and its place; whether
+/// the write and a sync behind it go well; and what is shown after a restart.
+type Burning = (Option<(u32, u32, u8)>, u32, [u8; 3], bool, bool, [u8; 8]);
+
+/// What dots in memory behind a fuse answer to a write, a sync and a restart, and what they show, row by row; and what the storage
+/// shows that is taken out.
+fn burnt(
+    alloc: Global,
+    rows: &[Burning],
+) -> Result<(Vec<([Option<Answer>; 3], Shown)>, Shown), AllocError> {
+    let mut nv = Fused::new(dots(alloc, &[], 20, 60)?);
+    let mut seen = Vec::new(alloc);
+    for (fuse, at, bytes, _, _, _) in rows {
+        if let Some((calls, keep, byte)) = *fuse {
+            nv.arm(calls, keep, byte);
+        }
+        let write = answer(&mut nv, Call::Write, *at, bytes);
+        let sync = answer(&mut nv, Call::Sync, 0, b"");
+        let restart = answer(&mut nv, Call::Restart, 0, b"");
+        seen.push(([write, sync, restart], shown(&mut nv)))?;
+    }
+    let mut inside = nv.into_inner();
+    Ok((seen, shown(&mut inside)))
+}
+
+#[test]
+fn burns_its_fuse(rt: HostRuntime) -> Result<(), Fail> {
+    // The last row arms none: the fuse of the row before has no call left, and counts on after the restart.
+    let rows = [
+        (Some((1, 1, b'#')), 0, *b"abc", true, false, *b"a##....."),
+        (Some((0, 2, b'%')), 4, *b"wxy", false, false, *b"a##.wx%."),
+        (Some((2, 0, b'!')), 0, *b"new", true, true, *b"new.wx%."),
+        (None, 5, *b"bye", false, false, *b"new.w!!!"),
+    ];
+    let power = |went: bool| Some(if went { Ok(()) } else { Err(NvFail::Power) });
+    let (seen, inside) = burnt(rt.alloc(), &rows)?;
+    assert_eq!(rt; seen.len(), 4);
+    for ((answers, shown), (_, _, _, write, sync, content)) in seen.iter().zip(&rows) {
+        assert_eq!(rt; answers[0], power(*write));
+        assert_eq!(rt; answers[1], power(*sync));
+        assert_eq!(rt; answers[2], power(true));
+        assert_eq!(rt; *shown, Ok(*content));
+    }
+    assert_eq!(rt; inside, Ok(*b"new.w!!!"));
+    Ok(())
+}
+
+/// The size of the file that is there, what it shows, and what it shows once its bytes are gone.
+fn emptied(rt: &HostRuntime, path: &str) -> Result<(u32, Shown, Shown), Fail> {
+    let Ok(mut nv) = FileNv::start(rt, path, 99) else {
+        return Err(Fail::from("start again"));
+    };
+    let size = nv.size();
+    let before = shown(&mut nv);
+    fs::write(rt, path, b"".as_slice())?;
+    Ok((size, before, shown(&mut nv)))
+}
+
+#[test]
+fn keeps_a_file(rt: HostRuntime) -> Result<(), Fail> {
+    let path = "keeps_a_file.nv";
+    let part = "keeps_a_file.nv.part";
+    // What a start that was cut leaves behind is no file yet, and is in nobody's way.
+    fs::write(&rt, part, b"cut".as_slice())?;
+    let kept = file_keeps(&rt, path).expect(&rt, "start");
+    assert!(rt; fs::metadata(&rt, part).is_err());
+    assert_eq!(rt; fs::metadata(&rt, path)?.mode() & 0o777, 0o600);
+    assert_eq!(rt; kept, Ok(*b"\0\0abc\0\0\0"));
+    assert_eq!(rt; fs::metadata(&rt, path)?.len(), 8);
+    let (size, before, after) = emptied(&rt, path)?;
+    assert_eq!(rt; size, 8);
+    assert_eq!(rt; before, Ok(*b"\0\0abc\0\0\0"));
+    assert_eq!(rt; after, Err(NvFail::Fault));
+    let nv = FileNv::start(&rt, path, 8).expect(&rt, "start with no bytes");
+    assert_eq!(rt; nv.size(), 0);
+    fs::remove_file(&rt, path)?;
+    Ok(())
+}
+
+#[test]
+fn refuses_what_is_no_storage(rt: HostRuntime) -> Result<(), Fail> {
+    let path = "too_long.nv";
+    let file = fs::create(&rt, path)?;
+    file.set_len(u64::from(u32::MAX) + 1)?;
+    drop(file);
+    let link = "link.nv";
+    symlink(&rt, path, link)?;
+    let nowhere = "link_to_nowhere.nv";
+    symlink(&rt, "no_such_file.nv", nowhere)?;
+    for name in ["no/such/folder.nv", path, link, nowhere, ".", "/dev/null"] {
+        assert!(rt; FileNv::start(&rt, name, 8).is_err(), "{name}");
+    }
+    assert!(rt; fs::symlink_metadata(&rt, "no_such_file.nv").is_err());
+    for name in [path, link, nowhere] {
+        fs::remove_file(&rt, name)?;
+    }
+    Ok(())
+}
