@@ -1,4 +1,4 @@
-//! The draws and events of seed 7, computed by an independent program.
+//! The draws and events of seed 7, number by number.
 ghost use Rattle.std.specs.Prelude.{◌≤◌};
 
 use crate::Generator;

@@ -1,5 +1,4 @@
 //! The calls of the centre over its rows, against answers of an independent program.
-ghost use Rattle.std.specs.Prelude.{◌≡◌};
 ghost use Rattle.bench_base.specs.Ranges.{IsDevice, IsCustomer};
 ghost use Rattle.centre_ledger.specs.ActLaws.{LeavesSound};
 ghost use Rattle.centre_ledger.specs.Books.{AreSound};

@@ -1,7 +1,7 @@
 //! Worked rows: a storage that fails, a cell with all its commits, and a ring whose turns begin again.
 //!
 //! A function that holds a store or a storage gives back what was seen as plain values, since it is dear to prove.
-ghost use Rattle.std.specs.Prelude.{◌≡◌, ◌<◌, ◌^◌, IfSome, length};
+ghost use Rattle.std.specs.Prelude.{◌<◌, ◌^◌, IfSome, length};
 ghost use Rattle.nv_model.specs.Meters.{Works};
 
 use bench_base::refusals::StoreFail;
