@@ -20,8 +20,9 @@ use Rattle.bench.specs.Benches.{Nodes}
 use Rattle.bench.specs.Outside.{Outside, Feed}
 use Rattle.generator.specs.Events.{generated}
 use Rattle.generator.specs.Given.{GivesOnlyDebits, NeedsNoStream}
-use Rattle.script_text.specs.Summaries.{Tally, tally_of, one_in, column_of, Column}
-use Rattle.script_text.specs.Summaries as sum
+use Rattle.script_text.specs.Summaries.{Tally, tally_of, one_in, column_of}
+use Rattle.script_text.specs.declared.column.Column.{Column}
+use Rattle.script_text.specs.declared.column.Column.TheVariants as column
 use Rattle.script_replay.specs.Chains.{Scene, DidEvent, DidDeeds}
 use Rattle.script_replay.specs.Deeds.{Done, Deed, Did, ledger_by, AreUnforged}
 use Rattle.script_replay.specs.Generated.{unlined, events_of, replies_of, summary_line, EndsWith, InTheMidst, Generated}
@@ -111,12 +112,12 @@ few_done Does seed count to_come rest tally old new midst e is few =
     omega (arith, all, some, same, few)
 
 one_event : (c : Column) → (one_in c).events ≡ 1
-one_event sum.Refused = refl
-one_event sum.Power = refl
-one_event sum.Fault = refl
-one_event sum.Released = refl
-one_event sum.Accepted = refl
-one_event sum.Uncounted = refl
+one_event column.Refused = refl
+one_event column.Power = refl
+one_event column.Fault = refl
+one_event column.Released = refl
+one_event column.Accepted = refl
+one_event column.Uncounted = refl
 
 -- the tally tells how many replies there were
 pub tally_events : (replies : List Reply) → (tally_of replies).events ≡ length replies

@@ -3,15 +3,8 @@ use Rattle.std.specs.Prelude.{ℕ, ◌+◌, ◌≤◌, List, [], ◌∷◌, Bool
 use Rattle.bench_base.specs.declared.events.Reply.{Reply}
 use Rattle.bench_base.specs.declared.events.Reply.TheVariants as r
 use Rattle.script_text.specs.Words.{joined}
-
--- what a reply is counted as, beside its event
-pub data Column : Type 0 where
-  Refused : Column
-  Power : Column
-  Fault : Column
-  Released : Column
-  Accepted : Column
-  Uncounted : Column
+use Rattle.script_text.specs.declared.column.Column.{Column}
+use Rattle.script_text.specs.declared.column.Column.TheVariants.{Refused, Power, Fault, Released, Accepted, Uncounted}
 
 -- an acceptance counts where it is new
 abbrev pub accepted_as : Bool → Column

@@ -1,6 +1,7 @@
 //! The lines of a script and the lines of a report: what events and replies are written as.
 #![tactic(auto)]
 
+mod column;
 mod digits;
 mod events;
 mod forms;

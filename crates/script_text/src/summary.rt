@@ -3,6 +3,7 @@ ghost use Rattle.std.specs.Prelude.{◌≡◌, ◌≤◌, ◌<◌, ◌-◌, ◌^
 ghost use Rattle.bench_base.specs.declared.events.Reply.{Reply};
 ghost use Rattle.script_text.specs.Summaries.{column_of, nothing, one_in, together, tally_of, summary_text};
 
+use crate::column::{Column, column_of};
 use crate::line::{Line, numbered};
 use bench_base::events::Reply;
 use std::marker::Model;
@@ -52,52 +53,13 @@ impl Summary {
         ensures added { self.new ≡ together self.old (one_in (column_of reply.now)) }
     {
         self.events += 1;
-        match reply {
-            Reply::DevRefused(_, _)
-            | Reply::CentreRefused(_)
-            | Reply::HostRefused(_)
-            | Reply::ScanRefused(_) => self.refused += 1,
-            Reply::Power(_) => self.power += 1,
-            Reply::Fault(_) => self.fault += 1,
-            Reply::Released(_, _, _, _) => self.released += 1,
-            Reply::Accepted(_, _, _, again) => self.accepted += u32::from(!*again),
-            Reply::Day(_)
-            | Reply::Rates(_, _)
-            | Reply::RatesFault
-            | Reply::RatesLength
-            | Reply::RatesToml
-            | Reply::RatesForm
-            | Reply::Made(_)
-            | Reply::Up(_, _)
-            | Reply::Down(_)
-            | Reply::CutSet(_)
-            | Reply::Marked(_, _, _, _)
-            | Reply::SentRequest(_, _, _)
-            | Reply::SentDone(_, _, _)
-            | Reply::Status(_, _)
-            | Reply::Registered(_)
-            | Reply::Opened(_)
-            | Reply::Deposited(_, _, _, _)
-            | Reply::Flagged(_, _)
-            | Reply::Balance(_, _)
-            | Reply::Ruled(_, _, _, _, _)
-            | Reply::Settled(_, _, _)
-            | Reply::Applied(_, _, _)
-            | Reply::Held(_)
-            | Reply::Ordered(_, _)
-            | Reply::SentDebit(_, _)
-            | Reply::Printed(_)
-            | Reply::PrinterFault(_)
-            | Reply::Closed(_)
-            | Reply::Trusted(_)
-            | Reply::Reconciled(_, _, _, _)
-            | Reply::End
-            | Reply::NoDay
-            | Reply::NoMessage(_)
-            | Reply::OffNode(_)
-            | Reply::OnAlready(_)
-            | Reply::Worn(_)
-            | Reply::Damaged(_) => {}
+        match column_of(reply) {
+            Column::Refused => self.refused += 1,
+            Column::Power => self.power += 1,
+            Column::Fault => self.fault += 1,
+            Column::Released => self.released += 1,
+            Column::Accepted => self.accepted += 1,
+            Column::Uncounted => {}
         }
     }
 
