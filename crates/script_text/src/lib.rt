@@ -18,5 +18,5 @@ mod word;
 pub use events::{LineFault, is_skipped, read_event};
 pub use line::Line;
 pub use program::{Words, read_words};
-pub use replies::write_reply;
+pub use replies::{put_reply, write_reply};
 pub use summary::{Summary, write_summary};

@@ -52,13 +52,22 @@ impl Line {
         self.len = end;
     }
 
+    /// Adds this byte, which there is room for.
+    pub fn push(&mut self, byte: u8)
+        requires { length self.old ≤ 255 }
+        ensures { self.new ≡ self.old ++ byte ∷ [] }
+    {
+        self.bytes[self.len] = byte;
+        self.len += 1;
+    }
+
     // Adds a space and the words.
     pub(crate) fn word(&mut self, words: &[u8])
         requires { length self.old + length words.now ≤ 255 }
         ensures value { self.new ≡ self.old ++ 32 ∷ words.now }
         ensures long { length self.new ≡ length self.old + 1 + length words.now }
     {
-        self.put(b" ");
+        self.push(b' ');
         self.put(words);
     }
 
@@ -90,7 +99,8 @@ impl Line {
         ensures short { length self.new ≤ length self.old + 12 }
     {
         let mut buffer = Buffer::new();
-        self.put(b" d");
+        self.push(b' ');
+        self.push(b'd');
         self.put(buffer.format(device.get()).as_bytes());
     }
 
@@ -133,45 +143,44 @@ impl Line {
     }
 }
 
-// A line that begins with these words.
-pub fn starting(words: &[u8]) -> Line
-    requires { length words.now ≤ 20 }
-    ensures value { result ≡ words.now }
+// Begins a line with these words.
+pub fn starting(line: &mut Line, words: &[u8])
+    requires empty { line.old ≡ [] }
+    requires short { length words.now ≤ 20 }
+    ensures value { line.new ≡ words.now }
 {
-    let mut line = Line::new();
     line.put(words);
-    line
 }
 
-// A line of these words and a number.
-pub fn numbered<I: Integer>(words: &[u8], number: I) -> Line
-    requires { length words.now ≤ 20 }
-    ensures value { result ≡ words.now ++ 32 ∷ I.text number }
-    ensures short { length result ≤ 61 }
+// Begins a line with these words and a number.
+pub fn numbered<I: Integer>(line: &mut Line, words: &[u8], number: I)
+    requires empty { line.old ≡ [] }
+    requires short { length words.now ≤ 20 }
+    ensures value { line.new ≡ words.now ++ 32 ∷ I.text number }
+    ensures short { length line.new ≤ 61 }
 {
-    let mut line = starting(words);
+    line.put(words);
     line.number(number);
-    line
 }
 
-// A line of these words and a device.
-pub fn of_device(words: &[u8], device: DevNo) -> Line
-    requires { length words.now ≤ 20 }
-    ensures value { result ≡ words.now ++ 32 ∷ device_word device }
-    ensures short { length result ≤ 40 }
+// Begins a line with these words and a device.
+pub fn of_device(line: &mut Line, words: &[u8], device: DevNo)
+    requires empty { line.old ≡ [] }
+    requires short { length words.now ≤ 20 }
+    ensures value { line.new ≡ words.now ++ 32 ∷ device_word device }
+    ensures short { length line.new ≤ 40 }
 {
-    let mut line = starting(words);
+    line.put(words);
     line.device(device);
-    line
 }
 
-// A line of these words and a node.
-pub fn of_node(words: &[u8], node: Node) -> Line
-    requires { length words.now ≤ 20 }
-    ensures value { result ≡ words.now ++ 32 ∷ node_word node }
-    ensures short { length result ≤ 40 }
+// Begins a line with these words and a node.
+pub fn of_node(line: &mut Line, words: &[u8], node: Node)
+    requires empty { line.old ≡ [] }
+    requires short { length words.now ≤ 20 }
+    ensures value { line.new ≡ words.now ++ 32 ∷ node_word node }
+    ensures short { length line.new ≤ 40 }
 {
-    let mut line = starting(words);
+    line.put(words);
     line.node(node);
-    line
 }

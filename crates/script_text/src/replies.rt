@@ -1,5 +1,5 @@
 //! The text that stands in the report for a reply.
-ghost use Rattle.std.specs.Prelude.{◌≡◌, ◌+◌, ◌≤◌, ◌++◌, ◌∷◌, length, codes};
+ghost use Rattle.std.specs.Prelude.{◌≡◌, ◌+◌, ◌≤◌, ◌++◌, ◌∷◌, [], length, codes};
 ghost use Rattle.std.specs.Fmt.{signed_decimal};
 ghost use Rattle.script_text.specs.Words.{spaced};
 ghost use Rattle.script_text.specs.Texts.{text_of, verdict_number, pending_word, flight_words};
@@ -30,172 +30,172 @@ fn verdict_code(verdict: Verdict) -> u8
 }
 
 #[tactic(auto, unfolding(crate::specs::Texts::reply_words))]
-fn rates_line(classes: u32, zones: u32) -> Line
-    ensures value { result ≡ text_of (Reply.Rates classes zones) }
-    ensures short { length result ≤ 255 }
+fn put_rates(line: &mut Line, classes: u32, zones: u32)
+    requires empty { line.old ≡ [] }
+    ensures value { line.new ≡ text_of (Reply.Rates classes zones) }
+    ensures short { length line.new ≤ 255 }
 {
-    let mut line = numbered(b"rates", classes);
+    numbered(line, b"rates", classes);
     line.number(zones);
-    line
 }
 
 #[tactic(auto, unfolding(crate::specs::Texts::reply_words))]
-fn up_line(node: Node, commits: u64) -> Line
-    ensures value { result ≡ text_of (Reply.Up node commits) }
-    ensures short { length result ≤ 255 }
+fn put_up(line: &mut Line, node: Node, commits: u64)
+    requires empty { line.old ≡ [] }
+    ensures value { line.new ≡ text_of (Reply.Up node commits) }
+    ensures short { length line.new ≤ 255 }
 {
-    let mut line = of_node(b"up", node);
+    of_node(line, b"up", node);
     line.word(b"commits");
     line.number(commits);
-    line
 }
 
 #[tactic(auto, unfolding(crate::specs::Texts::reply_words))]
-fn marked_line(device: DevNo, piece: u32, again: bool, mark: &[u8; 64]) -> Line
-    ensures value { result ≡ text_of (Reply.Marked device piece again mark.now) }
-    ensures short { length result ≤ 255 }
+fn put_marked(line: &mut Line, device: DevNo, piece: u32, again: bool, mark: &[u8; 64])
+    requires empty { line.old ≡ [] }
+    ensures value { line.new ≡ text_of (Reply.Marked device piece again mark.now) }
+    ensures short { length line.new ≤ 255 }
 {
-    let mut line = of_device(b"mark", device);
+    of_device(line, b"mark", device);
     line.number(piece);
     line.again(again);
     let mut digits = [0; 128];
     let _ = hex::encode_to_slice(mark.as_slice(), &mut digits);
     line.word(&digits);
-    line
 }
 
 #[tactic(auto, unfolding(crate::specs::Texts::reply_words))]
-fn sent_request_line(device: DevNo, number: u32, msg: u32) -> Line
-    ensures value { result ≡ text_of (Reply.SentRequest device number msg) }
-    ensures short { length result ≤ 255 }
+fn put_sent_request(line: &mut Line, device: DevNo, number: u32, msg: u32)
+    requires empty { line.old ≡ [] }
+    ensures value { line.new ≡ text_of (Reply.SentRequest device number msg) }
+    ensures short { length line.new ≤ 255 }
 {
-    let mut line = of_device(b"sent", device);
+    of_device(line, b"sent", device);
     line.word(b"request");
     line.number(number);
     line.word(b"msg");
     line.number(msg);
-    line
 }
 
 #[tactic(auto, unfolding(crate::specs::Texts::reply_words))]
-fn sent_done_line(device: DevNo, number: u32, msg: u32) -> Line
-    ensures value { result ≡ text_of (Reply.SentDone device number msg) }
-    ensures short { length result ≤ 255 }
+fn put_sent_done(line: &mut Line, device: DevNo, number: u32, msg: u32)
+    requires empty { line.old ≡ [] }
+    ensures value { line.new ≡ text_of (Reply.SentDone device number msg) }
+    ensures short { length line.new ≤ 255 }
 {
-    let mut line = of_device(b"sent", device);
+    of_device(line, b"sent", device);
     line.word(b"done");
     line.number(number);
     line.word(b"msg");
     line.number(msg);
-    line
 }
 
 #[tactic(auto, unfolding(crate::specs::Texts::reply_words))]
-fn deposited_line(customer: Customer, receipt: u32, again: bool, total: u64) -> Line
-    ensures value { result ≡ text_of (Reply.Deposited customer receipt again total) }
-    ensures short { length result ≤ 255 }
+fn put_deposited(line: &mut Line, customer: Customer, receipt: u32, again: bool, total: u64)
+    requires empty { line.old ≡ [] }
+    ensures value { line.new ≡ text_of (Reply.Deposited customer receipt again total) }
+    ensures short { length line.new ≤ 255 }
 {
-    let mut line = numbered(b"deposited", customer.get());
+    numbered(line, b"deposited", customer.get());
     line.number(receipt);
     line.again(again);
     line.number(total);
-    line
 }
 
 #[tactic(auto, unfolding(crate::specs::Texts::reply_words))]
-fn balance_line(customer: Customer, total: u64) -> Line
-    ensures value { result ≡ text_of (Reply.Balance customer total) }
-    ensures short { length result ≤ 255 }
+fn put_balance(line: &mut Line, customer: Customer, total: u64)
+    requires empty { line.old ≡ [] }
+    ensures value { line.new ≡ text_of (Reply.Balance customer total) }
+    ensures short { length line.new ≤ 255 }
 {
-    let mut line = numbered(b"balance", customer.get());
+    numbered(line, b"balance", customer.get());
     line.number(total);
-    line
 }
 
 #[tactic(auto, unfolding(crate::specs::Texts::reply_words))]
-fn ruled_line(device: DevNo, number: u32, verdict: Verdict, again: bool, msg: u32) -> Line
-    ensures value { result ≡ text_of (Reply.Ruled device number verdict again msg) }
-    ensures short { length result ≤ 255 }
+fn put_ruled(line: &mut Line, device: DevNo, number: u32, verdict: Verdict, again: bool, msg: u32)
+    requires empty { line.old ≡ [] }
+    ensures value { line.new ≡ text_of (Reply.Ruled device number verdict again msg) }
+    ensures short { length line.new ≤ 255 }
 {
-    let mut line = of_device(b"ruled", device);
+    of_device(line, b"ruled", device);
     line.number(number);
     line.word(b"verdict");
     line.number(verdict_code(verdict));
     line.again(again);
     line.word(b"msg");
     line.number(msg);
-    line
 }
 
 #[tactic(auto, unfolding(crate::specs::Texts::reply_words))]
-fn settled_line(device: DevNo, number: u32, again: bool) -> Line
-    ensures value { result ≡ text_of (Reply.Settled device number again) }
-    ensures short { length result ≤ 255 }
+fn put_settled(line: &mut Line, device: DevNo, number: u32, again: bool)
+    requires empty { line.old ≡ [] }
+    ensures value { line.new ≡ text_of (Reply.Settled device number again) }
+    ensures short { length line.new ≤ 255 }
 {
-    let mut line = of_device(b"settled", device);
+    of_device(line, b"settled", device);
     line.number(number);
     line.again(again);
-    line
 }
 
 #[tactic(auto, unfolding(crate::specs::Texts::reply_words))]
-fn applied_line(device: DevNo, number: u32, verdict: Verdict) -> Line
-    ensures value { result ≡ text_of (Reply.Applied device number verdict) }
-    ensures short { length result ≤ 255 }
+fn put_applied(line: &mut Line, device: DevNo, number: u32, verdict: Verdict)
+    requires empty { line.old ≡ [] }
+    ensures value { line.new ≡ text_of (Reply.Applied device number verdict) }
+    ensures short { length line.new ≤ 255 }
 {
-    let mut line = of_device(b"applied", device);
+    of_device(line, b"applied", device);
     line.number(number);
     line.word(b"verdict");
     line.number(verdict_code(verdict));
-    line
 }
 
 #[tactic(auto, unfolding(crate::specs::Texts::reply_words))]
-fn released_line(device: DevNo, piece: u32, again: bool, msg: u32) -> Line
-    ensures value { result ≡ text_of (Reply.Released device piece again msg) }
-    ensures short { length result ≤ 255 }
+fn put_released(line: &mut Line, device: DevNo, piece: u32, again: bool, msg: u32)
+    requires empty { line.old ≡ [] }
+    ensures value { line.new ≡ text_of (Reply.Released device piece again msg) }
+    ensures short { length line.new ≤ 255 }
 {
-    let mut line = of_device(b"released", device);
+    of_device(line, b"released", device);
     line.number(piece);
     line.again(again);
     line.word(b"msg");
     line.number(msg);
-    line
 }
 
 #[tactic(auto, unfolding(crate::specs::Texts::reply_words))]
-fn ordered_line(job: u32, postage: u32) -> Line
-    ensures value { result ≡ text_of (Reply.Ordered job postage) }
-    ensures short { length result ≤ 255 }
+fn put_ordered(line: &mut Line, job: u32, postage: u32)
+    requires empty { line.old ≡ [] }
+    ensures value { line.new ≡ text_of (Reply.Ordered job postage) }
+    ensures short { length line.new ≤ 255 }
 {
-    let mut line = numbered(b"ordered", job);
+    numbered(line, b"ordered", job);
     line.word(b"postage");
     line.number(postage);
-    line
 }
 
 #[tactic(auto, unfolding(crate::specs::Texts::reply_words))]
-fn sent_debit_line(job: u32, msg: u32) -> Line
-    ensures value { result ≡ text_of (Reply.SentDebit job msg) }
-    ensures short { length result ≤ 255 }
+fn put_sent_debit(line: &mut Line, job: u32, msg: u32)
+    requires empty { line.old ≡ [] }
+    ensures value { line.new ≡ text_of (Reply.SentDebit job msg) }
+    ensures short { length line.new ≤ 255 }
 {
-    let mut line = numbered(b"sent host debit", job);
+    numbered(line, b"sent host debit", job);
     line.word(b"msg");
     line.number(msg);
-    line
 }
 
 #[tactic(auto, unfolding(crate::specs::Texts::reply_words))]
-fn accepted_line(device: DevNo, piece: u32, scan: u32, again: bool) -> Line
-    ensures value { result ≡ text_of (Reply.Accepted device piece scan again) }
-    ensures short { length result ≤ 255 }
+fn put_accepted(line: &mut Line, device: DevNo, piece: u32, scan: u32, again: bool)
+    requires empty { line.old ≡ [] }
+    ensures value { line.new ≡ text_of (Reply.Accepted device piece scan again) }
+    ensures short { length line.new ≤ 255 }
 {
-    let mut line = of_device(b"accepted", device);
+    of_device(line, b"accepted", device);
     line.number(piece);
     line.word(b"scan");
     line.number(scan);
     line.again(again);
-    line
 }
 
 // Adds the kind of what is outstanding.
@@ -220,32 +220,33 @@ fn put_deadline(line: &mut Line, view: DevView)
 }
 
 #[tactic(auto, unfolding(crate::specs::Texts::reply_words))]
-fn status_line(device: DevNo, view: DevView) -> Line
-    ensures value { result ≡ text_of (Reply.Status device view) }
-    ensures short { length result ≤ 255 }
+fn put_status(line: &mut Line, device: DevNo, view: DevView)
+    requires empty { line.old ≡ [] }
+    ensures value { line.new ≡ text_of (Reply.Status device view) }
+    ensures short { length line.new ≤ 255 }
 {
-    let mut line = of_device(b"status", device);
+    of_device(line, b"status", device);
     line.word(phase_word(view.phase));
     line.named(b"ascending", view.ascending);
     line.named(b"descending", view.descending);
     line.named(b"refunded", view.refunded);
     line.named(b"pieces", view.pieces);
     line.named(b"number", view.number);
-    put_deadline(&mut line, view);
+    put_deadline(line, view);
     line.word(b"pending");
-    put_pending(&mut line, view.pending);
-    line
+    put_pending(line, view.pending);
 }
 
 #[tactic(auto, unfolding(crate::specs::Texts::reply_words))]
-fn flagged_line(customer: Customer, suspended: bool) -> Line
-    ensures value { result ≡ text_of (Reply.Flagged customer suspended) }
-    ensures short { length result ≤ 255 }
+fn put_flagged(line: &mut Line, customer: Customer, suspended: bool)
+    requires empty { line.old ≡ [] }
+    ensures value { line.new ≡ text_of (Reply.Flagged customer suspended) }
+    ensures short { length line.new ≤ 255 }
 {
     if suspended {
-        numbered(b"suspended", customer.get())
+        numbered(line, b"suspended", customer.get())
     } else {
-        numbered(b"resumed", customer.get())
+        numbered(line, b"resumed", customer.get())
     }
 }
 
@@ -265,117 +266,138 @@ fn put_flight(line: &mut Line, flight: Option<(Kind, u64)>)
 }
 
 #[tactic(auto, unfolding(crate::specs::Texts::reply_words))]
-fn reconciled_line(device: DevNo, own: u64, centre: u64, flight: Option<(Kind, u64)>) -> Line
-    ensures value { result ≡ text_of (Reply.Reconciled device own centre flight) }
-    ensures short { length result ≤ 255 }
+fn put_reconciled(
+    line: &mut Line,
+    device: DevNo,
+    own: u64,
+    centre: u64,
+    flight: Option<(Kind, u64)>,
+)
+    requires empty { line.old ≡ [] }
+    ensures value { line.new ≡ text_of (Reply.Reconciled device own centre flight) }
+    ensures short { length line.new ≤ 255 }
 {
-    let mut line = of_device(b"reconcile", device);
+    of_device(line, b"reconcile", device);
     line.named(b"device", own);
     line.named(b"centre", centre);
     line.word(b"in-flight");
-    put_flight(&mut line, flight);
-    line
+    put_flight(line, flight);
 }
 
 #[tactic(auto, unfolding(crate::specs::Texts::reply_words))]
-fn dev_refused_line(device: DevNo, refusal: DevRefusal) -> Line
-    ensures value { result ≡ text_of (Reply.DevRefused device refusal) }
-    ensures short { length result ≤ 255 }
+fn put_dev_refused(line: &mut Line, device: DevNo, refusal: DevRefusal)
+    requires empty { line.old ≡ [] }
+    ensures value { line.new ≡ text_of (Reply.DevRefused device refusal) }
+    ensures short { length line.new ≤ 255 }
 {
-    let mut line = of_device(b"refused", device);
-    put_dev_refusal(&mut line, refusal);
-    line
+    of_device(line, b"refused", device);
+    put_dev_refusal(line, refusal);
 }
 
 #[tactic(auto, unfolding(crate::specs::Texts::reply_words))]
-fn centre_refused_line(refusal: CentreRefusal) -> Line
-    ensures value { result ≡ text_of (Reply.CentreRefused refusal) }
-    ensures short { length result ≤ 255 }
+fn put_centre_refused(line: &mut Line, refusal: CentreRefusal)
+    requires empty { line.old ≡ [] }
+    ensures value { line.new ≡ text_of (Reply.CentreRefused refusal) }
+    ensures short { length line.new ≤ 255 }
 {
-    let mut line = starting(b"refused centre");
-    put_centre_refusal(&mut line, refusal);
-    line
+    starting(line, b"refused centre");
+    put_centre_refusal(line, refusal);
 }
 
 #[tactic(auto, unfolding(crate::specs::Texts::reply_words))]
-fn host_refused_line(refusal: HostRefusal) -> Line
-    ensures value { result ≡ text_of (Reply.HostRefused refusal) }
-    ensures short { length result ≤ 255 }
+fn put_host_refused(line: &mut Line, refusal: HostRefusal)
+    requires empty { line.old ≡ [] }
+    ensures value { line.new ≡ text_of (Reply.HostRefused refusal) }
+    ensures short { length line.new ≤ 255 }
 {
-    let mut line = starting(b"refused host");
-    put_host_refusal(&mut line, refusal);
-    line
+    starting(line, b"refused host");
+    put_host_refusal(line, refusal);
 }
 
 #[tactic(auto, unfolding(crate::specs::Texts::reply_words))]
-fn scan_refused_line(refusal: ScanRefusal) -> Line
-    ensures value { result ≡ text_of (Reply.ScanRefused refusal) }
-    ensures short { length result ≤ 255 }
+fn put_scan_refused(line: &mut Line, refusal: ScanRefusal)
+    requires empty { line.old ≡ [] }
+    ensures value { line.new ≡ text_of (Reply.ScanRefused refusal) }
+    ensures short { length line.new ≤ 255 }
 {
-    let mut line = starting(b"refused verifier");
-    put_scan_refusal(&mut line, refusal);
-    line
+    starting(line, b"refused verifier");
+    put_scan_refusal(line, refusal);
+}
+
+/// Puts the text of the reply into an empty line, with room for a line end.
+#[tactic(auto, unfolding(crate::specs::Texts::reply_words))]
+pub fn put_reply(line: &mut Line, reply: &Reply)
+    requires empty { line.old ≡ [] }
+    ensures value { line.new ≡ text_of reply.now }
+    ensures short { length line.new ≤ 255 }
+{
+    match reply {
+        Reply::Day(day) => numbered(line, b"day", day.get()),
+        Reply::Rates(classes, zones) => put_rates(line, *classes, *zones),
+        Reply::RatesFault => starting(line, b"rates fault"),
+        Reply::RatesLength => starting(line, b"rates length"),
+        Reply::RatesToml => starting(line, b"rates toml"),
+        Reply::RatesForm => starting(line, b"rates form"),
+        Reply::Made(device) => of_device(line, b"made", *device),
+        Reply::Up(node, commits) => put_up(line, *node, *commits),
+        Reply::Down(node) => of_node(line, b"down", *node),
+        Reply::CutSet(node) => of_node(line, b"cut", *node),
+        Reply::Marked(device, piece, again, mark) => put_marked(
+            line, *device, *piece, *again, mark,
+        ),
+        Reply::SentRequest(device, number, msg) => put_sent_request(line, *device, *number, *msg),
+        Reply::SentDone(device, number, msg) => put_sent_done(line, *device, *number, *msg),
+        Reply::Registered(device) => of_device(line, b"registered", *device),
+        Reply::Opened(customer) => numbered(line, b"opened", customer.get()),
+        Reply::Deposited(customer, receipt, again, total) => {
+            put_deposited(line, *customer, *receipt, *again, *total)
+        }
+        Reply::Balance(customer, total) => put_balance(line, *customer, *total),
+        Reply::Ruled(device, number, verdict, again, msg) => {
+            put_ruled(line, *device, *number, *verdict, *again, *msg)
+        }
+        Reply::Settled(device, number, again) => put_settled(line, *device, *number, *again),
+        Reply::Applied(device, number, verdict) => put_applied(line, *device, *number, *verdict),
+        Reply::Released(device, piece, again, msg) => put_released(
+            line, *device, *piece, *again, *msg,
+        ),
+        Reply::Held(job) => numbered(line, b"held", *job),
+        Reply::Ordered(job, postage) => put_ordered(line, *job, *postage),
+        Reply::SentDebit(job, msg) => put_sent_debit(line, *job, *msg),
+        Reply::Printed(job) => numbered(line, b"printed", *job),
+        Reply::PrinterFault(job) => numbered(line, b"printer fault", *job),
+        Reply::Closed(job) => numbered(line, b"closed", *job),
+        Reply::Trusted(device) => of_device(line, b"trusted", *device),
+        Reply::Accepted(device, piece, scan, again) => {
+            put_accepted(line, *device, *piece, *scan, *again)
+        }
+        Reply::End => starting(line, b"end"),
+        Reply::NoDay => starting(line, b"no day"),
+        Reply::NoMessage(msg) => numbered(line, b"no message", *msg),
+        Reply::OffNode(node) => of_node(line, b"off", *node),
+        Reply::OnAlready(node) => of_node(line, b"on already", *node),
+        Reply::Power(node) => of_node(line, b"power", *node),
+        Reply::Fault(node) => of_node(line, b"fault", *node),
+        Reply::Worn(node) => of_node(line, b"worn", *node),
+        Reply::Damaged(node) => of_node(line, b"damaged", *node),
+        Reply::Status(device, view) => put_status(line, *device, *view),
+        Reply::Flagged(customer, suspended) => put_flagged(line, *customer, *suspended),
+        Reply::Reconciled(device, own, centre, flight) => {
+            put_reconciled(line, *device, *own, *centre, *flight)
+        }
+        Reply::DevRefused(device, refusal) => put_dev_refused(line, *device, *refusal),
+        Reply::CentreRefused(refusal) => put_centre_refused(line, *refusal),
+        Reply::HostRefused(refusal) => put_host_refused(line, *refusal),
+        Reply::ScanRefused(refusal) => put_scan_refused(line, *refusal),
+    }
 }
 
 /// The text of the reply, with room for a line end.
-#[tactic(auto, unfolding(crate::specs::Texts::reply_words))]
 pub fn write_reply(reply: &Reply) -> Line
     ensures value { result ≡ text_of reply.now }
     ensures short { length result ≤ 255 }
 {
-    match reply {
-        Reply::Day(day) => numbered(b"day", day.get()),
-        Reply::Rates(classes, zones) => rates_line(*classes, *zones),
-        Reply::RatesFault => starting(b"rates fault"),
-        Reply::RatesLength => starting(b"rates length"),
-        Reply::RatesToml => starting(b"rates toml"),
-        Reply::RatesForm => starting(b"rates form"),
-        Reply::Made(device) => of_device(b"made", *device),
-        Reply::Up(node, commits) => up_line(*node, *commits),
-        Reply::Down(node) => of_node(b"down", *node),
-        Reply::CutSet(node) => of_node(b"cut", *node),
-        Reply::Marked(device, piece, again, mark) => marked_line(*device, *piece, *again, mark),
-        Reply::SentRequest(device, number, msg) => sent_request_line(*device, *number, *msg),
-        Reply::SentDone(device, number, msg) => sent_done_line(*device, *number, *msg),
-        Reply::Registered(device) => of_device(b"registered", *device),
-        Reply::Opened(customer) => numbered(b"opened", customer.get()),
-        Reply::Deposited(customer, receipt, again, total) => {
-            deposited_line(*customer, *receipt, *again, *total)
-        }
-        Reply::Balance(customer, total) => balance_line(*customer, *total),
-        Reply::Ruled(device, number, verdict, again, msg) => {
-            ruled_line(*device, *number, *verdict, *again, *msg)
-        }
-        Reply::Settled(device, number, again) => settled_line(*device, *number, *again),
-        Reply::Applied(device, number, verdict) => applied_line(*device, *number, *verdict),
-        Reply::Released(device, piece, again, msg) => released_line(*device, *piece, *again, *msg),
-        Reply::Held(job) => numbered(b"held", *job),
-        Reply::Ordered(job, postage) => ordered_line(*job, *postage),
-        Reply::SentDebit(job, msg) => sent_debit_line(*job, *msg),
-        Reply::Printed(job) => numbered(b"printed", *job),
-        Reply::PrinterFault(job) => numbered(b"printer fault", *job),
-        Reply::Closed(job) => numbered(b"closed", *job),
-        Reply::Trusted(device) => of_device(b"trusted", *device),
-        Reply::Accepted(device, piece, scan, again) => {
-            accepted_line(*device, *piece, *scan, *again)
-        }
-        Reply::End => starting(b"end"),
-        Reply::NoDay => starting(b"no day"),
-        Reply::NoMessage(msg) => numbered(b"no message", *msg),
-        Reply::OffNode(node) => of_node(b"off", *node),
-        Reply::OnAlready(node) => of_node(b"on already", *node),
-        Reply::Power(node) => of_node(b"power", *node),
-        Reply::Fault(node) => of_node(b"fault", *node),
-        Reply::Worn(node) => of_node(b"worn", *node),
-        Reply::Damaged(node) => of_node(b"damaged", *node),
-        Reply::Status(device, view) => status_line(*device, *view),
-        Reply::Flagged(customer, suspended) => flagged_line(*customer, *suspended),
-        Reply::Reconciled(device, own, centre, flight) => {
-            reconciled_line(*device, *own, *centre, *flight)
-        }
-        Reply::DevRefused(device, refusal) => dev_refused_line(*device, *refusal),
-        Reply::CentreRefused(refusal) => centre_refused_line(*refusal),
-        Reply::HostRefused(refusal) => host_refused_line(*refusal),
-        Reply::ScanRefused(refusal) => scan_refused_line(*refusal),
-    }
+    let mut line = Line::new();
+    put_reply(&mut line, reply);
+    line
 }

@@ -79,7 +79,8 @@ pub fn write_summary(seed: u32, count: u32, summary: &Summary) -> Line
     ensures value { result ≡ summary_text seed count summary.now }
     ensures short { length result ≤ 255 }
 {
-    let mut line = numbered(b"generated", seed);
+    let mut line = Line::new();
+    numbered(&mut line, b"generated", seed);
     line.number(count);
     line.named(b"lines", summary.events);
     line.named(b"refused", summary.refused);
