@@ -1,12 +1,14 @@
 -- Words behind a keyword that no event has.
-use Rattle.std.proofs.Common.{◌≡◌, ◌≢◌, ℕ, ◌≤◌, ◌<◌, ◌^◌, List, [], ◌∷◌, get_or, Option, Some, None, refl, sym, ap, subst, ◌∙◌, arith, inl, inr, ◌⊎◌, decimal, codes}
-use Rattle.std.specs.Prelude.{IfSome, IfNone}
+use Rattle.std.proofs.Common.{◌≡◌, ◌≢◌, ℕ, ◌≤◌, ◌<◌, ◌^◌, List, [], ◌∷◌, get_or, Result, Ok, Err, refl, sym, ap, subst, ◌∙◌, arith, inl, inr, ◌⊎◌, decimal, codes}
+use Rattle.std.specs.Prelude.{IfOk, OnErr}
+use Rattle.std.specs.Result.{IsErr}
 use Rattle.bench_base.specs.declared.words.Kind.{Kind}
 use Rattle.bench_base.specs.declared.words.Kind.TheVariants.{Enrol, Reset, Audit, Refund, Withdraw}
 use Rattle.bench_base.specs.declared.words.Node.{Node}
 use Rattle.bench_base.specs.declared.words.Node.TheVariants.{Device, Centre, Host, Verifier}
 use Rattle.bench_base.specs.declared.events.Event.{Event}
 use Rattle.bench_base.specs.Ranges.{IsNode, IsGiven, TakesBytes, IsDevice, IsAsk}
+use Rattle.script_text.specs.declared.events.LineFault.{LineFault}
 use Rattle.script_text.specs.declared.keyword.Keyword.TheVariants as kw
 use Rattle.script_text.specs.declared.values.Byte.{Byte}
 use Rattle.script_text.specs.declared.values.Msg.{Msg}
@@ -21,9 +23,9 @@ use Rattle.script_text.proofs.Splits.{HasFirst, not_one, words_in-some}
 behind : (v w : List ℕ) (vs ws : List (List ℕ)) → v ∷ vs ≡ w ∷ ws → vs ≡ ws
 behind v w vs ws e = cc
 
-pub none_of : (ws : List (List ℕ)) (r : Option Event) → r ≡ None → AreNoWords ws → IsEventOf ws r
-none_of ws None e h = h
-none_of ws (Some x) e h = absurd (cc e)
+pub none_of : (ws : List (List ℕ)) (r : Result Event LineFault) → IsErr r → AreNoWords ws → IsEventOf ws r
+none_of ws (Err fault) is h = h
+none_of ws (Ok e) is h = absurd (cc is)
 
 pub no_day : (bytes word rest : List ℕ) → words_in bytes ≡ word ∷ words_in rest → AreNoWords (codes "day" ∷ words_in bytes)
 no_day bytes word rest h = no_event kw.Day (words_in bytes) (λ t whole are. not_one bytes word rest h are.0 (behind _ _ _ _ are.2))
@@ -41,12 +43,12 @@ pub no_cut : (ws : List (List ℕ)) → ((n : Node) (calls keep : ℕ) (b : Byte
     → ws ≢ node_word n ∷ decimal calls ∷ decimal keep ∷ byte_word b.0 ∷ []) → AreNoWords (codes "cut" ∷ ws)
 no_cut ws none = no_event kw.Cut ws (λ n calls keep b whole are. none n calls keep (record { 0 = b }) whole.0 whole.1 whole.2 whole.3 (behind _ _ _ _ are))
 
-pub no_ask : (ws : List (List ℕ)) (r : Option Event)
+pub no_ask : (ws : List (List ℕ)) (r : Result Event LineFault)
     → ((d : ℕ) (kind : Kind) (n : ℕ) → IsDevice d → Unit {0} → n < 2 ^ 32 → ws ≢ device_word d ∷ kind_word kind ∷ decimal n ∷ [])
-    → IfSome r (λ e. IsEventBehind kw.Ask ws (Some e))
-    → IfNone r ((d : ℕ) (kind : Kind) → IsDevice d → ws ≡ device_word d ∷ kind_word kind ∷ [] → (kind ≡ Enrol) ⊎ (kind ≡ Reset)) → IsEventBehind kw.Ask ws r
-no_ask ws (Some e) none some alone = some
-no_ask ws None none some alone = no_event kw.Ask ws (λ d kind customer amount whole are. by_kind d kind customer amount whole.0 whole.1 (behind _ _ _ _ are))
+    → IfOk r (λ e. IsEventBehind kw.Ask ws (Ok e))
+    → OnErr r ((d : ℕ) (kind : Kind) → IsDevice d → ws ≡ device_word d ∷ kind_word kind ∷ [] → (kind ≡ Enrol) ⊎ (kind ≡ Reset)) → IsEventBehind kw.Ask ws r
+no_ask ws (Ok e) none some alone = some
+no_ask ws (Err fault) none some alone = no_event kw.Ask ws (λ d kind customer amount whole are. by_kind d kind customer amount whole.0 whole.1 (behind _ _ _ _ are))
   where
     by_kind : (d : ℕ) (kind : Kind) (c a : ℕ) → IsDevice d → IsAsk kind c a → ws ≡ device_word d ∷ ask_words kind c a → ⊥
     by_kind d Enrol c a fits part e = none d Enrol c fits tt part.0 e

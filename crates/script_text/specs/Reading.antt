@@ -1,9 +1,10 @@
 -- What the words behind a keyword read as.
-use Rattle.std.specs.Prelude.{ℕ, List, ◌∷◌, Option, Some, None}
+use Rattle.std.specs.Prelude.{ℕ, List, ◌∷◌, Result, Ok, Err}
 use Rattle.bench_base.specs.Ranges.{IsWholeEvent}
 use Rattle.bench_base.specs.declared.events.Event.{Event}
 use Rattle.script_text.specs.Grammar.{AreWordsOf}
 use Rattle.script_text.specs.Keywords.{keyword_word}
+use Rattle.script_text.specs.declared.events.LineFault.{LineFault}
 use Rattle.script_text.specs.declared.keyword.Keyword.{Keyword}
 
 -- no event has these words
@@ -11,10 +12,10 @@ abbrev pub AreNoWords : List (List ℕ) → Type 0
 AreNoWords ws = (e : Event) → IsWholeEvent e → AreWordsOf e ws → ⊥
 
 -- the event is whole and has these words; where there is none, no event has them
-abbrev pub IsEventOf : List (List ℕ) → Option Event → Type 0
-IsEventOf ws (Some e) = IsWholeEvent e × AreWordsOf e ws
-IsEventOf ws None = AreNoWords ws
+abbrev pub IsEventOf : List (List ℕ) → Result Event LineFault → Type 0
+IsEventOf ws (Ok e) = IsWholeEvent e × AreWordsOf e ws
+IsEventOf ws (Err fault) = AreNoWords ws
 
 -- so it is with the keyword in front of the words
-abbrev pub IsEventBehind : Keyword → List (List ℕ) → Option Event → Type 0
+abbrev pub IsEventBehind : Keyword → List (List ℕ) → Result Event LineFault → Type 0
 IsEventBehind k ws r = IsEventOf (keyword_word k ∷ ws) r

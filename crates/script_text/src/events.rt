@@ -16,23 +16,23 @@ use bench_base::events::Event;
 pub struct LineFault;
 
 // The event of a line of one word.
-fn read_alone(word: &[u8]) -> Option<Event>
+fn read_alone(word: &[u8]) -> Result<Event, LineFault>
     ensures read { IsEventOf (word.now ∷ []) result }
 {
     match word {
-        b"rates" => Some(Event::Rates),
-        b"end" => Some(Event::End),
-        _ => None,
+        b"rates" => Ok(Event::Rates),
+        b"end" => Ok(Event::End),
+        _ => Err(LineFault),
     }
 }
 
 // The event of a keyword and the words behind it.
-fn read_behind(keyword: Keyword, rest: &[u8]) -> Option<Event>
+fn read_behind(keyword: Keyword, rest: &[u8]) -> Result<Event, LineFault>
     ensures read { IsEventBehind keyword (words_in rest.now) result }
 {
     match keyword {
-        Keyword::Rates => None,
-        Keyword::End => None,
+        Keyword::Rates => Err(LineFault),
+        Keyword::End => Err(LineFault),
         Keyword::Day => forms::day(rest),
         Keyword::Make => forms::make(rest),
         Keyword::On => forms::on(rest),
@@ -61,28 +61,18 @@ fn read_behind(keyword: Keyword, rest: &[u8]) -> Option<Event>
     }
 }
 
-// The event of the words of a line.
-fn read_words(line: &[u8]) -> Option<Event>
-    ensures read { IsEventOf (words_in line.now) result }
-{
-    match split_word(line) {
-        Some((word, rest)) => match read_keyword(word) {
-            Some(keyword) => read_behind(keyword, rest),
-            None => None,
-        },
-        None => read_alone(line),
-    }
-}
-
 /// The event that the line spells; an error exactly where it spells none.
 pub fn read_event(line: &[u8]) -> Result<Event, LineFault>
     ensures found { IfOk result (λ e. IsWholeEvent e × Spells e line.now) }
     ensures none { IfErr result (λ fault. (e : Event) → IsWholeEvent e → Spells e line.now → ⊥) }
     ensures only { (e : Event) → IsWholeEvent e → Spells e line.now → result ≡ Ok e }
 {
-    match read_words(line) {
-        Some(event) => Ok(event),
-        None => Err(LineFault),
+    match split_word(line) {
+        Some((word, rest)) => match read_keyword(word) {
+            Some(keyword) => read_behind(keyword, rest),
+            None => Err(LineFault),
+        },
+        None => read_alone(line),
     }
 }
 

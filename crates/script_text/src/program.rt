@@ -1,5 +1,5 @@
 //! The words that the program is called with.
-ghost use Rattle.std.specs.Prelude.{◌≡◌, ◌≢◌, ◌↔◌, ◌∷◌, [], ◌≤◌, ◌<◌, ◌^◌, ℕ, map, codes, decimal, string_bytes, Some, IfSome, IfNone, IsTrue};
+ghost use Rattle.std.specs.Prelude.{◌≡◌, ◌≢◌, ◌↔◌, ◌∷◌, [], ◌≤◌, ◌<◌, ℕ, map, codes, decimal, string_bytes, Some, IfSome, IfNone, IsTrue};
 ghost use Rattle.bench_base.specs.Ranges.{IsWord};
 ghost use Rattle.script_text.specs.Programs.{program_words, AreInRange};
 ghost use Rattle.script_text.specs.declared.program.Words.{Words};

@@ -1,7 +1,8 @@
 //! The words of a line, and what each kind of word reads as.
-ghost use Rattle.std.specs.Prelude.{◌≡◌, ◌≢◌, ℕ, List, [], ◌∷◌, ◌++◌, ◌<◌, IfSome, IfNone, MatchOption};
+ghost use Rattle.std.specs.Prelude.{◌≡◌, ◌≢◌, ℕ, List, [], ◌∷◌, ◌++◌, ◌<◌, IfSome, IfNone, IfOk, OnErr, MatchOption};
 ghost use Rattle.script_text.specs.Words.{words_in};
 
+use crate::events::LineFault;
 use bench_base::numbers::DevNo;
 
 /// What is written as one word.
@@ -39,63 +40,65 @@ pub fn after<'a>(word: &'a [u8], front: &[u8]) -> Option<&'a [u8]>
 }
 
 /// Reads a line of one word.
-pub fn one<A: Word>(bytes: &[u8]) -> Option<A>
-    ensures found { IfSome result (λ a. A.fits a × (words_in bytes.now ≡ A.text a ∷ [])) }
-    ensures none { IfNone result ((a : A) → A.fits a → words_in bytes.now ≢ A.text a ∷ []) }
+pub fn one<A: Word>(bytes: &[u8]) -> Result<A, LineFault>
+    ensures found { IfOk result (λ a. A.fits a × (words_in bytes.now ≡ A.text a ∷ [])) }
+    ensures none { OnErr result ((a : A) → A.fits a → words_in bytes.now ≢ A.text a ∷ []) }
 {
     match split_word(bytes) {
-        Some(_) => None,
-        None => A::read(bytes),
+        Some(_) => Err(LineFault),
+        None => A::read(bytes).ok_or(LineFault),
     }
 }
 
 /// Reads a line of two words.
-pub fn two<A: Word, B: Word>(bytes: &[u8]) -> Option<(A, B)>
-    ensures found { IfSome result (λ t. A.fits t.0 × B.fits t.1 × (words_in bytes.now ≡ A.text t.0 ∷ B.text t.1 ∷ [])) }
-    ensures none { IfNone result ((a : A) (b : B) → A.fits a → B.fits b → words_in bytes.now ≢ A.text a ∷ B.text b ∷ []) }
+pub fn two<A: Word, B: Word>(bytes: &[u8]) -> Result<(A, B), LineFault>
+    ensures found { IfOk result (λ t. A.fits t.0 × B.fits t.1 × (words_in bytes.now ≡ A.text t.0 ∷ B.text t.1 ∷ [])) }
+    ensures none { OnErr result ((a : A) (b : B) → A.fits a → B.fits b → words_in bytes.now ≢ A.text a ∷ B.text b ∷ []) }
 {
-    let (word, rest) = split_word(bytes)?;
-    let first = A::read(word)?;
+    let (word, rest) = split_word(bytes).ok_or(LineFault)?;
+    let first = A::read(word).ok_or(LineFault)?;
     let second = one::<B>(rest)?;
-    Some((first, second))
+    Ok((first, second))
 }
 
 /// Reads a line of three words.
-pub fn three<A: Word, B: Word, C: Word>(bytes: &[u8]) -> Option<(A, B, C)>
-    ensures found { IfSome result (λ t. A.fits t.0 × B.fits t.1 × C.fits t.2
+pub fn three<A: Word, B: Word, C: Word>(bytes: &[u8]) -> Result<(A, B, C), LineFault>
+    ensures found { IfOk result (λ t. A.fits t.0 × B.fits t.1 × C.fits t.2
         × (words_in bytes.now ≡ A.text t.0 ∷ B.text t.1 ∷ C.text t.2 ∷ [])) }
-    ensures none { IfNone result ((a : A) (b : B) (c : C) → A.fits a → B.fits b → C.fits c
+    ensures none { OnErr result ((a : A) (b : B) (c : C) → A.fits a → B.fits b → C.fits c
         → words_in bytes.now ≢ A.text a ∷ B.text b ∷ C.text c ∷ []) }
 {
-    let (word, rest) = split_word(bytes)?;
-    let first = A::read(word)?;
+    let (word, rest) = split_word(bytes).ok_or(LineFault)?;
+    let first = A::read(word).ok_or(LineFault)?;
     let (second, third) = two::<B, C>(rest)?;
-    Some((first, second, third))
+    Ok((first, second, third))
 }
 
 /// Reads a line of four words.
-pub fn four<A: Word, B: Word, C: Word, D: Word>(bytes: &[u8]) -> Option<(A, B, C, D)>
-    ensures found { IfSome result (λ t. A.fits t.0 × B.fits t.1 × C.fits t.2 × D.fits t.3
+pub fn four<A: Word, B: Word, C: Word, D: Word>(bytes: &[u8]) -> Result<(A, B, C, D), LineFault>
+    ensures found { IfOk result (λ t. A.fits t.0 × B.fits t.1 × C.fits t.2 × D.fits t.3
         × (words_in bytes.now ≡ A.text t.0 ∷ B.text t.1 ∷ C.text t.2 ∷ D.text t.3 ∷ [])) }
-    ensures none { IfNone result ((a : A) (b : B) (c : C) (d : D) → A.fits a → B.fits b → C.fits c → D.fits d
+    ensures none { OnErr result ((a : A) (b : B) (c : C) (d : D) → A.fits a → B.fits b → C.fits c → D.fits d
         → words_in bytes.now ≢ A.text a ∷ B.text b ∷ C.text c ∷ D.text d ∷ []) }
 {
-    let (word, rest) = split_word(bytes)?;
-    let first = A::read(word)?;
+    let (word, rest) = split_word(bytes).ok_or(LineFault)?;
+    let first = A::read(word).ok_or(LineFault)?;
     let (second, third, fourth) = three::<B, C, D>(rest)?;
-    Some((first, second, third, fourth))
+    Ok((first, second, third, fourth))
 }
 
 /// Reads a line of five words.
-pub fn five<A: Word, B: Word, C: Word, D: Word, E: Word>(bytes: &[u8]) -> Option<(A, B, C, D, E)>
-    ensures found { IfSome result (λ t. A.fits t.0 × B.fits t.1 × C.fits t.2 × D.fits t.3 × E.fits t.4
+pub fn five<A: Word, B: Word, C: Word, D: Word, E: Word>(
+    bytes: &[u8],
+) -> Result<(A, B, C, D, E), LineFault>
+    ensures found { IfOk result (λ t. A.fits t.0 × B.fits t.1 × C.fits t.2 × D.fits t.3 × E.fits t.4
         × (words_in bytes.now ≡ A.text t.0 ∷ B.text t.1 ∷ C.text t.2 ∷ D.text t.3 ∷ E.text t.4 ∷ [])) }
-    ensures none { IfNone result ((a : A) (b : B) (c : C) (d : D) (e : E)
+    ensures none { OnErr result ((a : A) (b : B) (c : C) (d : D) (e : E)
         → A.fits a → B.fits b → C.fits c → D.fits d → E.fits e
         → words_in bytes.now ≢ A.text a ∷ B.text b ∷ C.text c ∷ D.text d ∷ E.text e ∷ []) }
 {
-    let (word, rest) = split_word(bytes)?;
-    let first = A::read(word)?;
+    let (word, rest) = split_word(bytes).ok_or(LineFault)?;
+    let first = A::read(word).ok_or(LineFault)?;
     let (second, third, fourth, fifth) = four::<B, C, D, E>(rest)?;
-    Some((first, second, third, fourth, fifth))
+    Ok((first, second, third, fourth, fifth))
 }
