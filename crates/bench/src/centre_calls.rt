@@ -17,13 +17,13 @@ use node_acts::{Act, Said};
 pub type CentreSays = Act<Row, Reply, Said>;
 
 // Of a call that answers nothing but that it was done.
-fn done(reply: Reply, act: CentreAct<()>) -> CentreSays
-    ensures { result ≡ says (views.done reply) act }
+fn done(reply: Reply, act: &CentreAct<()>) -> CentreSays
+    ensures { result ≡ says (views.done reply) act.now }
 {
     match act {
-        Act::Refuse(refusal) => Act::Refuse(Reply::CentreRefused(refusal)),
+        Act::Refuse(refusal) => Act::Refuse(Reply::CentreRefused(*refusal)),
         Act::Tell(()) => Act::Tell(Said::of(reply)),
-        Act::Commits(commit, row, ()) => Act::Commits(commit, row, Said::of(reply)),
+        Act::Commits(commit, row, ()) => Act::Commits(*commit, *row, Said::of(reply)),
     }
 }
 
@@ -33,26 +33,26 @@ fn booked(customer: Customer, receipt: u32, deposit: &Deposit) -> Said
     Said::of(Reply::Deposited(customer, receipt, deposit.again, deposit.total))
 }
 
-fn deposited(customer: Customer, receipt: u32, act: CentreAct<Deposit>) -> CentreSays
-    ensures { result ≡ says (views.deposited customer receipt) act }
+fn deposited(customer: Customer, receipt: u32, act: &CentreAct<Deposit>) -> CentreSays
+    ensures { result ≡ says (views.deposited customer receipt) act.now }
 {
     match act {
-        Act::Refuse(refusal) => Act::Refuse(Reply::CentreRefused(refusal)),
-        Act::Tell(deposit) => Act::Tell(booked(customer, receipt, &deposit)),
+        Act::Refuse(refusal) => Act::Refuse(Reply::CentreRefused(*refusal)),
+        Act::Tell(deposit) => Act::Tell(booked(customer, receipt, deposit)),
         Act::Commits(commit, row, deposit) => {
-            Act::Commits(commit, row, booked(customer, receipt, &deposit))
+            Act::Commits(*commit, *row, booked(customer, receipt, deposit))
         }
     }
 }
 
-fn left(customer: Customer, act: CentreAct<u64>) -> CentreSays
-    ensures { result ≡ says (views.left customer) act }
+fn left(customer: Customer, act: &CentreAct<u64>) -> CentreSays
+    ensures { result ≡ says (views.left customer) act.now }
 {
     match act {
-        Act::Refuse(refusal) => Act::Refuse(Reply::CentreRefused(refusal)),
-        Act::Tell(left) => Act::Tell(Said::of(Reply::Balance(customer, left))),
+        Act::Refuse(refusal) => Act::Refuse(Reply::CentreRefused(*refusal)),
+        Act::Tell(left) => Act::Tell(Said::of(Reply::Balance(customer, *left))),
         Act::Commits(commit, row, left) => {
-            Act::Commits(commit, row, Said::of(Reply::Balance(customer, left)))
+            Act::Commits(*commit, *row, Said::of(Reply::Balance(customer, *left)))
         }
     }
 }
@@ -79,14 +79,14 @@ fn took_as(message: u32, answer: &CentreAnswer) -> Said
     }
 }
 
-fn took(message: u32, act: CentreAct<CentreAnswer>) -> CentreSays
-    ensures { result ≡ says (views.took message) act }
+fn took(message: u32, act: &CentreAct<CentreAnswer>) -> CentreSays
+    ensures { result ≡ says (views.took message) act.now }
 {
     match act {
-        Act::Refuse(refusal) => Act::Refuse(Reply::CentreRefused(refusal)),
-        Act::Tell(answer) => Act::Tell(took_as(message, &answer)),
+        Act::Refuse(refusal) => Act::Refuse(Reply::CentreRefused(*refusal)),
+        Act::Tell(answer) => Act::Tell(took_as(message, answer)),
         Act::Commits(commit, row, answer) => {
-            Act::Commits(commit, row, took_as(message, &answer))
+            Act::Commits(*commit, *row, took_as(message, answer))
         }
     }
 }
@@ -102,10 +102,10 @@ pub fn centre_act(call: &CentreCall, accounts: &Accounts) -> CentreSays
             key,
         } => done(
             Reply::Registered(*device),
-            register_act(*device, *origin, key, accounts),
+            &register_act(*device, *origin, key, accounts),
         ),
         CentreCall::Open(customer) => {
-            done(Reply::Opened(*customer), open_act(*customer, accounts))
+            done(Reply::Opened(*customer), &open_act(*customer, accounts))
         }
         CentreCall::Deposit {
             customer,
@@ -114,17 +114,20 @@ pub fn centre_act(call: &CentreCall, accounts: &Accounts) -> CentreSays
         } => deposited(
             *customer,
             *receipt,
-            deposit_act(*customer, *receipt, *amount, accounts),
+            &deposit_act(*customer, *receipt, *amount, accounts),
         ),
         CentreCall::Flag {
             customer,
             suspended,
         } => done(
             Reply::Flagged(*customer, *suspended),
-            flag_act(*customer, *suspended, accounts),
+            &flag_act(*customer, *suspended, accounts),
         ),
-        CentreCall::Balance(customer) => left(*customer, balance_act(*customer, accounts)),
-        CentreCall::Take { bytes, message } => took(*message, take_act(bytes.as_slice(), accounts)),
+        CentreCall::Balance(customer) => left(*customer, &balance_act(*customer, accounts)),
+        CentreCall::Take { bytes, message } => took(
+            *message,
+            &take_act(bytes.as_slice(), accounts),
+        ),
     }
 }
 

@@ -57,6 +57,7 @@ fn compare_place<M: Fuse + Drop>(
 }
 
 /// What the device holds beside what the centre says of it.
+#[inline(never)]
 pub fn compare<M: Fuse + Drop>(
     device: DevNo,
     devices: &[DeviceNode<M>],

@@ -21,14 +21,14 @@ use psd_wire::DebitMsg;
 /// What a device does in a call, with what it says of it.
 pub type DeviceSays = Act<DevRec, Reply, Said>;
 
-fn made(device: DevNo, act: DeviceAct<()>) -> DeviceSays
-    ensures { result ≡ says device (λ u. views.made device) act }
+fn made(device: DevNo, act: &DeviceAct<()>) -> DeviceSays
+    ensures { result ≡ says device (λ u. views.made device) act.now }
 {
     match act {
-        Act::Refuse(refusal) => Act::Refuse(Reply::DevRefused(device, refusal)),
+        Act::Refuse(refusal) => Act::Refuse(Reply::DevRefused(device, *refusal)),
         Act::Tell(()) => Act::Tell(Said::of(Reply::Made(device))),
         Act::Commits(commit, next, ()) => {
-            Act::Commits(commit, next, Said::of(Reply::Made(device)))
+            Act::Commits(*commit, *next, Said::of(Reply::Made(device)))
         }
     }
 }
@@ -47,38 +47,38 @@ fn marked_as(device: DevNo, piece: u32, franked: &Franked) -> Said
     )
 }
 
-fn marked(device: DevNo, piece: u32, act: DeviceAct<Franked>) -> DeviceSays
-    ensures { result ≡ says device (views.marked device piece) act }
+fn marked(device: DevNo, piece: u32, act: &DeviceAct<Franked>) -> DeviceSays
+    ensures { result ≡ says device (views.marked device piece) act.now }
 {
     match act {
-        Act::Refuse(refusal) => Act::Refuse(Reply::DevRefused(device, refusal)),
-        Act::Tell(franked) => Act::Tell(marked_as(device, piece, &franked)),
+        Act::Refuse(refusal) => Act::Refuse(Reply::DevRefused(device, *refusal)),
+        Act::Tell(franked) => Act::Tell(marked_as(device, piece, franked)),
         Act::Commits(commit, next, franked) => {
-            Act::Commits(commit, next, marked_as(device, piece, &franked))
+            Act::Commits(*commit, *next, marked_as(device, piece, franked))
         }
     }
 }
 
-fn sent(device: DevNo, reply: Reply, act: DeviceAct<Note>) -> DeviceSays
-    ensures { result ≡ says device (views.sent reply) act }
+fn sent(device: DevNo, reply: Reply, act: &DeviceAct<Note>) -> DeviceSays
+    ensures { result ≡ says device (views.sent reply) act.now }
 {
     match act {
-        Act::Refuse(refusal) => Act::Refuse(Reply::DevRefused(device, refusal)),
-        Act::Tell(note) => Act::Tell(Said::sending(reply, note)),
+        Act::Refuse(refusal) => Act::Refuse(Reply::DevRefused(device, *refusal)),
+        Act::Tell(note) => Act::Tell(Said::sending(reply, *note)),
         Act::Commits(commit, next, note) => {
-            Act::Commits(commit, next, Said::sending(reply, note))
+            Act::Commits(*commit, *next, Said::sending(reply, *note))
         }
     }
 }
 
-fn shown(device: DevNo, act: DeviceAct<DevView>) -> DeviceSays
-    ensures { result ≡ says device (views.shown device) act }
+fn shown(device: DevNo, act: &DeviceAct<DevView>) -> DeviceSays
+    ensures { result ≡ says device (views.shown device) act.now }
 {
     match act {
-        Act::Refuse(refusal) => Act::Refuse(Reply::DevRefused(device, refusal)),
-        Act::Tell(view) => Act::Tell(Said::of(Reply::Status(device, view))),
+        Act::Refuse(refusal) => Act::Refuse(Reply::DevRefused(device, *refusal)),
+        Act::Tell(view) => Act::Tell(Said::of(Reply::Status(device, *view))),
         Act::Commits(commit, next, view) => {
-            Act::Commits(commit, next, Said::of(Reply::Status(device, view)))
+            Act::Commits(*commit, *next, Said::of(Reply::Status(device, *view)))
         }
     }
 }
@@ -112,14 +112,14 @@ fn took_as(device: DevNo, message: u32, taken: &Taken) -> Said
     }
 }
 
-fn took(device: DevNo, message: u32, act: DeviceAct<Taken>) -> DeviceSays
-    ensures { result ≡ says device (views.took device message) act }
+fn took(device: DevNo, message: u32, act: &DeviceAct<Taken>) -> DeviceSays
+    ensures { result ≡ says device (views.took device message) act.now }
 {
     match act {
-        Act::Refuse(refusal) => Act::Refuse(Reply::DevRefused(device, refusal)),
-        Act::Tell(taken) => Act::Tell(took_as(device, message, &taken)),
+        Act::Refuse(refusal) => Act::Refuse(Reply::DevRefused(device, *refusal)),
+        Act::Tell(taken) => Act::Tell(took_as(device, message, taken)),
         Act::Commits(commit, next, taken) => {
-            Act::Commits(commit, next, took_as(device, message, &taken))
+            Act::Commits(*commit, *next, took_as(device, message, taken))
         }
     }
 }
@@ -161,7 +161,7 @@ pub fn device_act(
     ensures { result ≡ views.device_act device day call.now «record».now }
 {
     match call {
-        DeviceCall::Make(key) => made(device, make_act(device, key, record)),
+        DeviceCall::Make(key) => made(device, &make_act(device, key, record)),
         DeviceCall::Debit {
             piece,
             postage,
@@ -173,7 +173,7 @@ pub fn device_act(
                 postage: *postage,
                 class: *class,
             };
-            marked(device, *piece, debit_act(device, &command, day, record))
+            marked(device, *piece, &debit_act(device, &command, day, record))
         }
         DeviceCall::Ask {
             kind,
@@ -183,14 +183,14 @@ pub fn device_act(
         } => {
             let act = ask_act(device, *kind, *customer, *amount, day, record);
             let number = next_number(day, record);
-            sent(device, Reply::SentRequest(device, number, *message), act)
+            sent(device, Reply::SentRequest(device, number, *message), &act)
         }
         DeviceCall::Resend { message } => {
             let number = next_number(day, record);
             sent(
                 device,
                 Reply::SentRequest(device, number, *message),
-                resend_act(record),
+                &resend_act(record),
             )
         }
         DeviceCall::Ack { message } => {
@@ -198,13 +198,13 @@ pub fn device_act(
             sent(
                 device,
                 Reply::SentDone(device, number, *message),
-                ack_act(record),
+                &ack_act(record),
             )
         }
-        DeviceCall::Status => shown(device, status_act(day, record)),
+        DeviceCall::Status => shown(device, &status_act(day, record)),
         DeviceCall::Take { bytes, message } => {
             let act = take_act(device, bytes.as_slice(), day, record);
-            took(device, *message, act)
+            took(device, *message, &act)
         }
     }
 }

@@ -76,6 +76,7 @@ fn device_did<T: Tell, M: Fuse + Drop>(
 }
 
 // An event of one device, on that day.
+#[inline(never)]
 fn device_turn<T: Tell, M: Fuse + Drop>(
     devices: &mut Vec<DeviceNode<M>>,
     device: DevNo,
@@ -110,6 +111,7 @@ fn centre_called<T: Tell, M: Fuse + Drop>(
 }
 
 // An event of the centre, on that day.
+#[inline(never)]
 fn centre_turn<T: Tell, M: Fuse + Drop>(
     place: &mut CentreNode<M>,
     day: DayNo,
@@ -138,7 +140,8 @@ fn on_day(day: Option<DayNo>, reply: Reply) -> Reply
     }
 }
 
-// What the event does to the nodes, the day and the rates, where the messages are left to be sent.
+// What the event does to the nodes, the day and the rates, where the messages are left to be sent. The turns of the nodes stay functions
+// of their own when it is compiled, since a function clears its large values as it begins, whatever the event.
 fn turn_of<T: Tell, M: Fuse + Drop, N: Nv, R: Source, P: Sink>(
     alloc: Global,
     bench: &mut BenchOver<M, N>,
@@ -160,19 +163,20 @@ fn turn_of<T: Tell, M: Fuse + Drop, N: Nv, R: Source, P: Sink>(
     verifier_follows();
     prices_by_text();
     let today = bench.day;
-    let Some(taken) = take(event, &bench.messages, &bench.rates) else {
+    let found = take(event, &bench.messages, &bench.rates);
+    let Some(taken) = &found else {
         unreachable!();
     };
     match taken {
         Taken::Day(day) => {
-            bench.day = Some(day);
-            Ok(T::one(Reply::Day(day), Entry::Day(day)))
+            bench.day = Some(*day);
+            Ok(T::one(Reply::Day(*day), Entry::Day(*day)))
         }
         Taken::End => Ok(T::silent(Reply::End)),
-        Taken::NoMessage(number) => Ok(T::silent(on_day(today, Reply::NoMessage(number)))),
+        Taken::NoMessage(number) => Ok(T::silent(on_day(today, Reply::NoMessage(*number)))),
         Taken::Reconcile(device) => Ok(T::silent(on_day(
             today,
-            compare(device, &bench.devices, &bench.centre),
+            compare(*device, &bench.devices, &bench.centre),
         ))),
         Taken::Rates => match today {
             None => Ok(T::silent(Reply::NoDay)),
@@ -180,19 +184,19 @@ fn turn_of<T: Tell, M: Fuse + Drop, N: Nv, R: Source, P: Sink>(
         },
         Taken::Device(device, asked) => match today {
             None => Ok(T::silent(Reply::NoDay)),
-            Some(day) => Ok(device_turn(&mut bench.devices, device, day, &asked)),
+            Some(day) => Ok(device_turn(&mut bench.devices, *device, day, asked)),
         },
         Taken::Centre(asked) => match today {
             None => Ok(T::silent(Reply::NoDay)),
-            Some(day) => Ok(centre_turn(&mut bench.centre, day, &asked)),
+            Some(day) => Ok(centre_turn(&mut bench.centre, day, asked)),
         },
         Taken::Host(asked) => match today {
             None => Ok(T::silent(Reply::NoDay)),
-            Some(day) => Ok(host_turn(&mut bench.host, day, &asked, printer)),
+            Some(day) => Ok(host_turn(&mut bench.host, day, asked, printer)),
         },
         Taken::Verifier(asked) => match today {
             None => Ok(T::silent(Reply::NoDay)),
-            Some(day) => Ok(verifier_turn(&mut bench.verifier, day, &asked)),
+            Some(day) => Ok(verifier_turn(&mut bench.verifier, day, asked)),
         },
     }
 }

@@ -15,33 +15,33 @@ use nv_model::Nv;
 /// What the host does in a call, with what it says of it.
 pub type HostSays = Act<JobRow, Reply, Said>;
 
-fn ordered(act: HostAct<Ordered>) -> HostSays
-    ensures { result ≡ says views.ordered act }
+fn ordered(act: &HostAct<Ordered>) -> HostSays
+    ensures { result ≡ says views.ordered act.now }
 {
     match act {
-        Act::Refuse(refusal) => Act::Refuse(Reply::HostRefused(refusal)),
+        Act::Refuse(refusal) => Act::Refuse(Reply::HostRefused(*refusal)),
         Act::Tell(done) => Act::Tell(Said::of(Reply::Ordered(done.job, done.postage))),
         Act::Commits(commit, row, done) => {
             Act::Commits(
-                commit,
-                row,
+                *commit,
+                *row,
                 Said::of(Reply::Ordered(done.job, done.postage)),
             )
         }
     }
 }
 
-fn sent(job: u32, message: u32, act: HostAct<Note>) -> HostSays
-    ensures { result ≡ says (views.sent job message) act }
+fn sent(job: u32, message: u32, act: &HostAct<Note>) -> HostSays
+    ensures { result ≡ says (views.sent job message) act.now }
 {
     match act {
-        Act::Refuse(refusal) => Act::Refuse(Reply::HostRefused(refusal)),
-        Act::Tell(note) => Act::Tell(Said::sending(Reply::SentDebit(job, message), note)),
+        Act::Refuse(refusal) => Act::Refuse(Reply::HostRefused(*refusal)),
+        Act::Tell(note) => Act::Tell(Said::sending(Reply::SentDebit(job, message), *note)),
         Act::Commits(commit, row, note) => {
             Act::Commits(
-                commit,
-                row,
-                Said::sending(Reply::SentDebit(job, message), note),
+                *commit,
+                *row,
+                Said::sending(Reply::SentDebit(job, message), *note),
             )
         }
     }
@@ -56,33 +56,33 @@ fn printing(job: u32, mark: [u8; 64]) -> Said
     )
 }
 
-fn printed(job: u32, act: HostAct<[u8; 64]>) -> HostSays
-    ensures { result ≡ says (views.printed job) act }
+fn printed(job: u32, act: &HostAct<[u8; 64]>) -> HostSays
+    ensures { result ≡ says (views.printed job) act.now }
 {
     match act {
-        Act::Refuse(refusal) => Act::Refuse(Reply::HostRefused(refusal)),
-        Act::Tell(mark) => Act::Tell(printing(job, mark)),
-        Act::Commits(commit, row, mark) => Act::Commits(commit, row, printing(job, mark)),
+        Act::Refuse(refusal) => Act::Refuse(Reply::HostRefused(*refusal)),
+        Act::Tell(mark) => Act::Tell(printing(job, *mark)),
+        Act::Commits(commit, row, mark) => Act::Commits(*commit, *row, printing(job, *mark)),
     }
 }
 
-fn closed(job: u32, act: HostAct<()>) -> HostSays
-    ensures { result ≡ says (views.done (Reply.Closed job)) act }
+fn closed(job: u32, act: &HostAct<()>) -> HostSays
+    ensures { result ≡ says (views.done (Reply.Closed job)) act.now }
 {
     match act {
-        Act::Refuse(refusal) => Act::Refuse(Reply::HostRefused(refusal)),
+        Act::Refuse(refusal) => Act::Refuse(Reply::HostRefused(*refusal)),
         Act::Tell(()) => Act::Tell(Said::of(Reply::Closed(job))),
-        Act::Commits(commit, row, ()) => Act::Commits(commit, row, Said::of(Reply::Closed(job))),
+        Act::Commits(commit, row, ()) => Act::Commits(*commit, *row, Said::of(Reply::Closed(job))),
     }
 }
 
-fn held(act: HostAct<u32>) -> HostSays
-    ensures { result ≡ says views.held act }
+fn held(act: &HostAct<u32>) -> HostSays
+    ensures { result ≡ says views.held act.now }
 {
     match act {
-        Act::Refuse(refusal) => Act::Refuse(Reply::HostRefused(refusal)),
-        Act::Tell(job) => Act::Tell(Said::of(Reply::Held(job))),
-        Act::Commits(commit, row, job) => Act::Commits(commit, row, Said::of(Reply::Held(job))),
+        Act::Refuse(refusal) => Act::Refuse(Reply::HostRefused(*refusal)),
+        Act::Tell(job) => Act::Tell(Said::of(Reply::Held(*job))),
+        Act::Commits(commit, row, job) => Act::Commits(*commit, *row, Said::of(Reply::Held(*job))),
     }
 }
 
@@ -98,10 +98,10 @@ pub fn host_act<M: Nv>(call: &HostCall, host: &HostNode<M>) -> HostSays
             grams: _,
             zone: _,
             price,
-        } => ordered(host.order_act(*price, *device, *piece, *class)),
-        HostCall::Send { job, message } => sent(*job, *message, host.debit_message_act(*job)),
-        HostCall::Print(job) => printed(*job, host.begin_print_act(*job)),
-        HostCall::Close(job) => closed(*job, host.close_act(*job)),
-        HostCall::Take(bytes) => held(host.take_act(bytes.as_slice())),
+        } => ordered(&host.order_act(*price, *device, *piece, *class)),
+        HostCall::Send { job, message } => sent(*job, *message, &host.debit_message_act(*job)),
+        HostCall::Print(job) => printed(*job, &host.begin_print_act(*job)),
+        HostCall::Close(job) => closed(*job, &host.close_act(*job)),
+        HostCall::Take(bytes) => held(&host.take_act(bytes.as_slice())),
     }
 }

@@ -38,6 +38,7 @@ fn host_called<T: Tell, M: Fuse + Drop, P: Sink>(
 }
 
 /// An event of the host, on that day, and what the printer takes in it.
+#[inline(never)]
 pub fn host_turn<T: Tell, M: Fuse + Drop, P: Sink>(
     place: &mut HostNode<M>,
     day: DayNo,

@@ -40,6 +40,7 @@ fn told<T: Tell>(
 }
 
 /// Reads rates from their source, on a day: at most 65,537 bytes. A text that is refused leaves those that are kept.
+#[inline(never)]
 pub fn read_turn<T: Tell, R: Source>(
     alloc: Global,
     kept: &mut Option<Rates>,

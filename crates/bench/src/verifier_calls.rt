@@ -16,14 +16,14 @@ use verifier_node::VerifierNode;
 /// What the verifier does in a call, with what it says of it.
 pub type VerifierSays = Act<Change, Reply, Said>;
 
-fn trusted(device: DevNo, act: ScanAct<()>) -> VerifierSays
-    ensures { result ≡ says (views.done (Reply.Trusted device)) act }
+fn trusted(device: DevNo, act: &ScanAct<()>) -> VerifierSays
+    ensures { result ≡ says (views.done (Reply.Trusted device)) act.now }
 {
     match act {
-        Act::Refuse(refusal) => Act::Refuse(Reply::ScanRefused(refusal)),
+        Act::Refuse(refusal) => Act::Refuse(Reply::ScanRefused(*refusal)),
         Act::Tell(()) => Act::Tell(Said::of(Reply::Trusted(device))),
         Act::Commits(commit, change, ()) => {
-            Act::Commits(commit, change, Said::of(Reply::Trusted(device)))
+            Act::Commits(*commit, *change, Said::of(Reply::Trusted(device)))
         }
     }
 }
@@ -34,14 +34,14 @@ fn taken_in(number: u32, piece: &Accepted) -> Said
     Said::of(Reply::Accepted(piece.device, piece.piece, number, piece.again))
 }
 
-fn accepted(number: u32, act: ScanAct<Accepted>) -> VerifierSays
-    ensures { result ≡ says (views.accepted number) act }
+fn accepted(number: u32, act: &ScanAct<Accepted>) -> VerifierSays
+    ensures { result ≡ says (views.accepted number) act.now }
 {
     match act {
-        Act::Refuse(refusal) => Act::Refuse(Reply::ScanRefused(refusal)),
-        Act::Tell(piece) => Act::Tell(taken_in(number, &piece)),
+        Act::Refuse(refusal) => Act::Refuse(Reply::ScanRefused(*refusal)),
+        Act::Tell(piece) => Act::Tell(taken_in(number, piece)),
         Act::Commits(commit, change, piece) => {
-            Act::Commits(commit, change, taken_in(number, &piece))
+            Act::Commits(*commit, *change, taken_in(number, piece))
         }
     }
 }
@@ -55,9 +55,9 @@ pub fn verifier_act<M: Nv>(
     ensures { result ≡ views.verifier_act day call.now (seen_in verifier.now) }
 {
     match call {
-        VerifierCall::Trust { device, key } => trusted(*device, verifier.trust_act(*device, key)),
+        VerifierCall::Trust { device, key } => trusted(*device, &verifier.trust_act(*device, key)),
         VerifierCall::Scan { number, bytes } => {
-            accepted(*number, verifier.scan_act(*number, bytes.as_slice(), day))
+            accepted(*number, &verifier.scan_act(*number, bytes.as_slice(), day))
         }
     }
 }

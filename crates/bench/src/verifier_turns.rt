@@ -36,6 +36,7 @@ fn verifier_called<T: Tell, M: Fuse + Drop>(
 }
 
 /// An event of the verifier, on that day.
+#[inline(never)]
 pub fn verifier_turn<T: Tell, M: Fuse + Drop>(
     place: &mut VerifierNode<M>,
     day: DayNo,

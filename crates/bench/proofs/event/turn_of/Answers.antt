@@ -96,7 +96,7 @@ returns-in-Day-clause-did g c =
     let out = outside g.R.Source c.args.rates.now g.P.Sink c.args.printer.now in
     let t = c.in-Day.day in
     let turn = turn_of (r.Day t) (entry.Day t ∷ []) in
-    let is = taken_as old.messages c.deref.result.now (quote old.rates) c.args.event.now c.take.result c.in-Some.taken (take.Day t) c.deref.ensures.value c.take.ensures.exact c.in-Some.is c.in-Day.is in
+    let is = taken_as old.messages c.deref.result.now (quote old.rates) c.args.event.now c.take-found.result c.in-Some.taken (take.Day t) c.deref.ensures.value c.take-found.ensures.exact c.in-Some.is c.in-Day.is in
     let e_is : c.args.event.now ≡ ev.Day t = quiet_is old.messages (quote old.rates) c.args.event.now (take.Day t) is tt in (
       [],
       turn,
@@ -111,7 +111,7 @@ pub returns-in-End-clause-did : goal.returns-in-End-clause-did
 returns-in-End-clause-did g c =
     let old = bench_of c.args.bench.now in
     let out = outside g.R.Source c.args.rates.now g.P.Sink c.args.printer.now in
-    let is = taken_as old.messages c.deref.result.now (quote old.rates) c.args.event.now c.take.result c.in-Some.taken take.End c.deref.ensures.value c.take.ensures.exact c.in-Some.is c.in-End.is in
+    let is = taken_as old.messages c.deref.result.now (quote old.rates) c.args.event.now c.take-found.result c.in-Some.taken take.End c.deref.ensures.value c.take-found.ensures.exact c.in-Some.is c.in-End.is in
     let e_is : c.args.event.now ≡ ev.End = quiet_is old.messages (quote old.rates) c.args.event.now take.End is tt in (
       [],
       turn_of r.End [],
@@ -134,7 +134,7 @@ returns-in-NoMessage-clause-did g c =
     let old = bench_of c.args.bench.now in
     let out = outside g.R.Source c.args.rates.now g.P.Sink c.args.printer.now in
     let k = c.in-NoMessage.number in
-    let is = taken_as old.messages c.deref.result.now (quote old.rates) c.args.event.now c.take.result c.in-Some.taken (take.NoMessage k) c.deref.ensures.value c.take.ensures.exact c.in-Some.is c.in-NoMessage.is in (
+    let is = taken_as old.messages c.deref.result.now (quote old.rates) c.args.event.now c.take-found.result c.in-Some.taken (take.NoMessage k) c.deref.ensures.value c.take-found.ensures.exact c.in-Some.is c.in-NoMessage.is in (
       [],
       turn_of c.on_day.result [],
       c.silent-in-NoMessage.ensures,
@@ -154,7 +154,7 @@ returns-in-Reconcile-clause-did g c =
     let old = bench_of c.args.bench.now in
     let out = outside g.R.Source c.args.rates.now g.P.Sink c.args.printer.now in
     let d = c.in-Reconcile.device in
-    let is = taken_as old.messages c.deref.result.now (quote old.rates) c.args.event.now c.take.result c.in-Some.taken (take.Reconcile d) c.deref.ensures.value c.take.ensures.exact c.in-Some.is c.in-Reconcile.is in
+    let is = taken_as old.messages c.deref.result.now (quote old.rates) c.args.event.now c.take-found.result c.in-Some.taken (take.Reconcile d) c.deref.ensures.value c.take-found.ensures.exact c.in-Some.is c.in-Reconcile.is in
     let shows : ShowsAt d old.devices old.centre c.compare.result =
     subst (λ (l : List (DeviceNode g.row.M.Denot g.M.Nv)). ShowsAt d l old.centre c.compare.result) c.deref-in-Reconcile.ensures.value c.compare.ensures in
     let e_is : c.args.event.now ≡ ev.Reconcile d = quiet_is old.messages (quote old.rates) c.args.event.now (take.Reconcile d) is tt in
@@ -188,7 +188,7 @@ pub returns-in-None-clause-did : goal.returns-in-None-clause-did
 returns-in-None-clause-did g c =
     let old = bench_of c.args.bench.now in
     let out = outside g.R.Source c.args.rates.now g.P.Sink c.args.printer.now in
-    let is = taken_as old.messages c.deref.result.now (quote old.rates) c.args.event.now c.take.result c.in-Some.taken take.Rates c.deref.ensures.value c.take.ensures.exact c.in-Some.is c.in-Rates.is in
+    let is = taken_as old.messages c.deref.result.now (quote old.rates) c.args.event.now c.take-found.result c.in-Some.taken take.Rates c.deref.ensures.value c.take-found.ensures.exact c.in-Some.is c.in-Rates.is in
     let e_is : c.args.event.now ≡ ev.Rates = quiet_is old.messages (quote old.rates) c.args.event.now take.Rates is tt in (
       [],
       turn_of r.NoDay [],
@@ -202,7 +202,7 @@ returns-in-None-today-clause-did g c =
     let b = c.in-Device in
     let old = bench_of c.args.bench.now in
     let out = outside g.R.Source c.args.rates.now g.P.Sink c.args.printer.now in
-    let is = taken_as old.messages c.deref.result.now (quote old.rates) c.args.event.now c.take.result c.in-Some.taken (take.Device b.device b.asked) c.deref.ensures.value c.take.ensures.exact c.in-Some.is b.is in (
+    let is = taken_as old.messages c.deref.result.now (quote old.rates) c.args.event.now c.take-found.result c.in-Some.taken (take.Device b.device b.asked) c.deref.ensures.value c.take-found.ensures.exact c.in-Some.is b.is in (
       [],
       turn_of r.NoDay [],
       c.silent-in-None-today.ensures,
@@ -217,7 +217,7 @@ returns-in-None-today-2-clause-did g c =
     let b = c.in-Centre in
     let old = bench_of c.args.bench.now in
     let out = outside g.R.Source c.args.rates.now g.P.Sink c.args.printer.now in
-    let is = taken_as old.messages c.deref.result.now (quote old.rates) c.args.event.now c.take.result c.in-Some.taken (take.Centre b.asked) c.deref.ensures.value c.take.ensures.exact c.in-Some.is b.is in (
+    let is = taken_as old.messages c.deref.result.now (quote old.rates) c.args.event.now c.take-found.result c.in-Some.taken (take.Centre b.asked) c.deref.ensures.value c.take-found.ensures.exact c.in-Some.is b.is in (
       [],
       turn_of r.NoDay [],
       c.silent-in-None-today-2.ensures,
@@ -231,7 +231,7 @@ returns-in-None-today-3-clause-did g c =
     let b = c.in-Host in
     let old = bench_of c.args.bench.now in
     let out = outside g.R.Source c.args.rates.now g.P.Sink c.args.printer.now in
-    let is = taken_as old.messages c.deref.result.now (quote old.rates) c.args.event.now c.take.result c.in-Some.taken (take.Host b.asked) c.deref.ensures.value c.take.ensures.exact c.in-Some.is b.is in (
+    let is = taken_as old.messages c.deref.result.now (quote old.rates) c.args.event.now c.take-found.result c.in-Some.taken (take.Host b.asked) c.deref.ensures.value c.take-found.ensures.exact c.in-Some.is b.is in (
       [],
       turn_of r.NoDay [],
       c.silent-in-None-today-3.ensures,
@@ -245,7 +245,7 @@ returns-in-None-today-4-clause-did g c =
     let b = c.in-Verifier in
     let old = bench_of c.args.bench.now in
     let out = outside g.R.Source c.args.rates.now g.P.Sink c.args.printer.now in
-    let is = taken_as old.messages c.deref.result.now (quote old.rates) c.args.event.now c.take.result c.in-Some.taken (take.Verifier b.asked) c.deref.ensures.value c.take.ensures.exact c.in-Some.is b.is in (
+    let is = taken_as old.messages c.deref.result.now (quote old.rates) c.args.event.now c.take-found.result c.in-Some.taken (take.Verifier b.asked) c.deref.ensures.value c.take-found.ensures.exact c.in-Some.is b.is in (
       [],
       turn_of r.NoDay [],
       c.silent-in-None-today-4.ensures,
@@ -264,7 +264,7 @@ returns-in-Some-today-2-clause-did g c =
     let out = outside g.R.Source c.args.rates.now g.P.Sink c.args.printer.now in
     let did = c.device_turn.ensures.did in
     let today = c.in-Some-today-2.day in
-    let is = taken_as old.messages c.deref.result.now (quote old.rates) e c.take.result c.in-Some.taken (take.Device b.device b.asked) c.deref.ensures.value c.take.ensures.exact c.in-Some.is b.is in
+    let is = taken_as old.messages c.deref.result.now (quote old.rates) e c.take-found.result c.in-Some.taken (take.Device b.device b.asked) c.deref.ensures.value c.take-found.ensures.exact c.in-Some.is b.is in
     let new = sending did.0 (record old { devices = c.device_turn.new.devices.items }) in (
       [],
       did.0,
@@ -279,7 +279,7 @@ pub centre_turn-requires : goal.centre_turn-requires
 centre_turn-requires g c =
     let old = bench_of c.args.bench.now in
     let b = c.in-Centre in
-    let is = taken_as old.messages c.deref.result.now (quote old.rates) c.args.event.now c.take.result c.in-Some.taken (take.Centre b.asked) c.deref.ensures.value c.take.ensures.exact c.in-Some.is b.is in
+    let is = taken_as old.messages c.deref.result.now (quote old.rates) c.args.event.now c.take-found.result c.in-Some.taken (take.Centre b.asked) c.deref.ensures.value c.take-found.ensures.exact c.in-Some.is b.is in
     record { ranged = centre_ranged old.messages (quote old.rates) c.args.event.now b.asked is c.requires.whole }
 
 pub returns-in-Some-today-3-clause-did : goal.returns-in-Some-today-3-clause-did
@@ -290,7 +290,7 @@ returns-in-Some-today-3-clause-did g c =
     let out = outside g.R.Source c.args.rates.now g.P.Sink c.args.printer.now in
     let did = c.centre_turn.ensures.did in
     let today = c.in-Some-today-3.day in
-    let is = taken_as old.messages c.deref.result.now (quote old.rates) e c.take.result c.in-Some.taken (take.Centre b.asked) c.deref.ensures.value c.take.ensures.exact c.in-Some.is b.is in
+    let is = taken_as old.messages c.deref.result.now (quote old.rates) e c.take-found.result c.in-Some.taken (take.Centre b.asked) c.deref.ensures.value c.take-found.ensures.exact c.in-Some.is b.is in
     let new = sending did.0 (record old { centre = c.centre_turn.new.place }) in (
       [],
       did.0,
@@ -305,8 +305,8 @@ pub host_turn-requires : goal.host_turn-requires
 host_turn-requires g c =
     let old = bench_of c.args.bench.now in
     let b = c.in-Host in
-    let is = taken_as old.messages c.deref.result.now (quote old.rates) c.args.event.now c.take.result c.in-Some.taken (take.Host b.asked) c.deref.ensures.value c.take.ensures.exact c.in-Some.is b.is in
-    let priced = subst (λ (o : Option Taken). IfSome o IsPriced) (c.in-Some.is ∙ ap (λ x. Some x) b.is) c.take.ensures.priced in
+    let is = taken_as old.messages c.deref.result.now (quote old.rates) c.args.event.now c.take-found.result c.in-Some.taken (take.Host b.asked) c.deref.ensures.value c.take-found.ensures.exact c.in-Some.is b.is in
+    let priced = subst (λ (o : Option Taken). IfSome o IsPriced) (c.in-Some.is ∙ ap (λ x. Some x) b.is) c.take-found.ensures.priced in
     record { ranged = host_ranged old.messages (quote old.rates) c.args.event.now b.asked is c.requires.whole priced }
 
 pub returns-in-Some-today-4-clause-did : goal.returns-in-Some-today-4-clause-did
@@ -318,7 +318,7 @@ returns-in-Some-today-4-clause-did g c =
     let now = outside g.R.Source c.args.rates.now g.P.Sink c.host_turn.new.printer in
     let did = c.host_turn.ensures.did in
     let today = c.in-Some-today-4.day in
-    let is = taken_as old.messages c.deref.result.now (quote old.rates) e c.take.result c.in-Some.taken (take.Host b.asked) c.deref.ensures.value c.take.ensures.exact c.in-Some.is b.is in
+    let is = taken_as old.messages c.deref.result.now (quote old.rates) e c.take-found.result c.in-Some.taken (take.Host b.asked) c.deref.ensures.value c.take-found.ensures.exact c.in-Some.is b.is in
     let new = sending did.0 (record old { host = c.host_turn.new.place }) in (
       [],
       did.0,
@@ -333,7 +333,7 @@ pub verifier_turn-requires : goal.verifier_turn-requires
 verifier_turn-requires g c =
     let old = bench_of c.args.bench.now in
     let b = c.in-Verifier in
-    let is = taken_as old.messages c.deref.result.now (quote old.rates) c.args.event.now c.take.result c.in-Some.taken (take.Verifier b.asked) c.deref.ensures.value c.take.ensures.exact c.in-Some.is b.is in
+    let is = taken_as old.messages c.deref.result.now (quote old.rates) c.args.event.now c.take-found.result c.in-Some.taken (take.Verifier b.asked) c.deref.ensures.value c.take-found.ensures.exact c.in-Some.is b.is in
     record { ranged = verifier_ranged old.messages (quote old.rates) c.args.event.now b.asked is c.requires.whole }
 
 pub returns-in-Some-today-5-clause-did : goal.returns-in-Some-today-5-clause-did
@@ -344,7 +344,7 @@ returns-in-Some-today-5-clause-did g c =
     let out = outside g.R.Source c.args.rates.now g.P.Sink c.args.printer.now in
     let did = c.verifier_turn.ensures.did in
     let today = c.in-Some-today-5.day in
-    let is = taken_as old.messages c.deref.result.now (quote old.rates) e c.take.result c.in-Some.taken (take.Verifier b.asked) c.deref.ensures.value c.take.ensures.exact c.in-Some.is b.is in
+    let is = taken_as old.messages c.deref.result.now (quote old.rates) e c.take-found.result c.in-Some.taken (take.Verifier b.asked) c.deref.ensures.value c.take-found.ensures.exact c.in-Some.is b.is in
     let new = sending did.0 (record old { verifier = c.verifier_turn.new.place }) in (
       [],
       did.0,
@@ -364,7 +364,7 @@ returns-in-Some-today-clause-did g c =
     let before = outside g.R.Source c.args.rates.now g.P.Sink c.args.printer.now in
     let now = outside g.R.Source c.read_turn.new.source g.P.Sink c.args.printer.now in
     let kept = c.read_turn.new.kept in
-    let is = taken_as old.messages c.deref.result.now (quote old.rates) e c.take.result c.in-Some.taken take.Rates c.deref.ensures.value c.take.ensures.exact c.in-Some.is c.in-Rates.is in
+    let is = taken_as old.messages c.deref.result.now (quote old.rates) e c.take-found.result c.in-Some.taken take.Rates c.deref.ensures.value c.take-found.ensures.exact c.in-Some.is c.in-Rates.is in
     let e_is : e ≡ ev.Rates = quiet_is old.messages (quote old.rates) e take.Rates is tt in
     each_ok _ _ (λ told did. (
       did.0,
