@@ -96,7 +96,7 @@ fn put_summary<K: Sink>(seed: u32, count: u32, summary: &Summary, report: &mut K
     ensures failed { result ≡ Status.WriteFault → Rose (K.faults report.old) (K.faults report.new) }
 {
     let mut line = write_summary(seed, count, summary);
-    line.put(b"\n");
+    line.push(b'\n');
     match put_text(report, line.as_slice()) {
         Ok(()) => Status::Done,
         Err(_) => Status::WriteFault,

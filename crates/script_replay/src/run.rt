@@ -1,6 +1,7 @@
 //! A run over a whole script: line by line, until it ends.
-ghost use Rattle.std.specs.Prelude.{◌≡◌, ◌≢◌, ◌+◌, ◌≤◌, ◌<◌, [], ℕ, List, length, IfNone, IfSome, IfOk, OnErr, Some, map, string_bytes};
-ghost use Rattle.bench_base.specs.Causes.{Rose};
+ghost use Rattle.std.specs.Prelude.{◌≡◌, ◌≢◌, ◌+◌, ◌≤◌, ◌<◌, [], ℕ, List, length, IfNone, IfSome, IfOk, OnOk, OnErr, Some, map, string_bytes};
+ghost use Rattle.std.specs.Io.KnownBytes.{Appends};
+ghost use Rattle.bench_base.specs.Causes.{HasCause, Rose};
 ghost use Rattle.bench_base.specs.Ranges.{IsWholeEvent};
 ghost use Rattle.bench_base.specs.declared.events.Event.TheVariants as ends;
 ghost use Rattle.bench_base.specs.declared.events.Reply.{Reply};
@@ -10,7 +11,7 @@ ghost use Rattle.bench.specs.Benches.{IsReady, nodes, bench_of, fuse_in};
 ghost use Rattle.bench.specs.Outside.{outside};
 ghost use Rattle.script_replay.specs.Chains.{scene, DidEvent, DidDeeds};
 ghost use Rattle.script_replay.specs.Deeds.{done, line_of};
-ghost use Rattle.script_replay.specs.Events.{IsLineOf};
+ghost use Rattle.script_replay.specs.Lines.{IsCutOff};
 ghost use Rattle.script_replay.specs.Run.{DidRun, Leaves, Replayed};
 ghost use Rattle.script_replay.specs.Streams.{Ran, EndsRun, Completes, streams};
 ghost use Rattle.script_replay.specs.Turns.{LineEnd, Reported, Goes, Stops, Ended};
@@ -21,31 +22,20 @@ use crate::lines::{LineRead, read_line};
 use crate::status::Status;
 use bench::{Bench, BenchOver, react};
 use bench_base::events::{Event, Reply};
-use bench_base::stream::{Sink, Source};
+use bench_base::stream::{Sink, Source, WriteFail};
 use centre_protocol::CentreNode;
 use host_node::HostNode;
 use ledger_laws::laws::histories;
 use node_seat::Node;
 use nv_model::{Fuse, Fused, Nv};
 use psd_device::DeviceNode;
-use script_text::{Words, is_skipped, read_event, read_words, write_reply};
+use script_text::{Line, Words, is_skipped, put_reply, read_event, read_words};
 use std::alloc::{AllocError, Global};
 use text_streams::put_text;
 use verifier_node::VerifierNode;
 
 /// The most lines that are read.
 const LINES: u32 = 1_000_000;
-
-// The event of the line.
-fn event_of(line: &[u8]) -> Option<Event>
-    ensures found { IfSome result (λ e. IsLineOf e line.now) }
-    ensures none { IfNone result ((e : Event) → IsLineOf e line.now → ⊥) }
-{
-    match read_event(line) {
-        Ok(event) => Some(event),
-        Err(_) => None,
-    }
-}
 
 // The bench's reply to one event. Only a `rates` may want memory.
 pub(crate) fn reply_to<M: Fuse + Drop, N: Nv, R: Source, P: Sink>(
@@ -101,6 +91,18 @@ fn ended_by(event: &Event) -> Option<Status>
     }
 }
 
+// Writes the line of the reply. Where that fails, a front of it was written.
+fn put_line<K: Sink>(reply: &Reply, report: &mut K) -> Result<(), WriteFail>
+    ensures ok { OnOk result (Appends (K.taken report.old) (K.taken report.new) (line_of reply.now)) }
+    ensures err { OnErr result ((part : List ℕ) × Appends (K.taken report.old) (K.taken report.new) part × IsCutOff part (line_of reply.now)) }
+    ensures cause { HasCause (K.faults report.old) (K.faults report.new) result }
+{
+    let mut line = Line::new();
+    put_reply(&mut line, reply);
+    line.push(b'\n');
+    put_text(report, line.as_slice())
+}
+
 // Does one event and writes its reply's line. A status is the run's end.
 fn do_event<K: Sink, M: Fuse + Drop, N: Nv, R: Source, P: Sink>(
     alloc: Global,
@@ -121,15 +123,13 @@ fn do_event<K: Sink, M: Fuse + Drop, N: Nv, R: Source, P: Sink>(
     ensures later { K.faults report.old ≤ K.faults report.new }
     ensures failed { result ≡ Some Status.WriteFault → Rose (K.faults report.old) (K.faults report.new) }
 {
-    let reply = match reply_to(alloc, event, rates, printer, bench) {
-        Ok(reply) => reply,
-        Err(_) => return Some(Status::Memory),
-    };
-    let mut line = write_reply(&reply);
-    line.put(b"\n");
-    match put_text(report, line.as_slice()) {
-        Err(_) => Some(Status::WriteFault),
-        Ok(()) => ended_by(event),
+    let told = reply_to(alloc, event, rates, printer, bench);
+    match &told {
+        Err(_) => Some(Status::Memory),
+        Ok(reply) => match put_line(reply, report) {
+            Err(_) => Some(Status::WriteFault),
+            Ok(()) => ended_by(event),
+        },
     }
 }
 
@@ -154,9 +154,9 @@ fn do_line<K: Sink, M: Fuse + Drop, N: Nv, R: Source, P: Sink>(
     if is_skipped(line) {
         return None;
     }
-    match event_of(line) {
-        Some(event) => do_event(alloc, &event, rates, report, printer, bench),
-        None => Some(Status::Script(number)),
+    match &read_event(line) {
+        Ok(event) => do_event(alloc, event, rates, report, printer, bench),
+        Err(_) => Some(Status::Script(number)),
     }
 }
 
