@@ -6,8 +6,6 @@ mod bench_rows;
 #[cfg(test)]
 mod fault_rows;
 #[cfg(test)]
-mod message_rows;
-#[cfg(test)]
 mod ordinary_path;
 #[cfg(test)]
 mod printer_rows;

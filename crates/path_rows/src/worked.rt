@@ -68,19 +68,17 @@ pub const SEVEN_COMMITS: &[Piece] = &[
     },
 ];
 
-/// What the storages of a bench hold when it is made: those of device 1 and of the centre have these pieces, and all others are blank.
-/// The calls of device 1's storage that are to fail stand beside it.
+/// What the storages of a bench hold when it is made: that of device 1 has these pieces, and all others are blank. The calls of device 1's
+/// storage that are to fail stand beside it.
 #[derive(Clone, Copy)]
 pub struct Start<'a> {
     pub first: &'a [Piece],
-    pub central: &'a [Piece],
     pub plan: &'a [Failure],
 }
 
 /// All storages are blank.
 pub const BLANK: Start<'static> = Start {
     first: &[],
-    central: &[],
     plan: &[],
 };
 
@@ -136,7 +134,7 @@ fn stores(alloc: Global, start: &Start) -> Result<Stores<MemNv>, AllocError>
     for i in 0..8_u32 {
         devices.push(device_storage(alloc, start, i)?)?;
     }
-    let centre = storage(alloc, CENTRE_BYTES, start.central, &[])?;
+    let centre = storage(alloc, CENTRE_BYTES, &[], &[])?;
     let host = storage(alloc, HOST_BYTES, &[], &[])?;
     let verifier = storage(alloc, VERIFIER_BYTES, &[], &[])?;
     Ok(Stores {
