@@ -1,5 +1,5 @@
 //! Laws of the generated events: each is the contract of a call that does nothing.
-ghost use Rattle.std.specs.Prelude.{ℕ, ◌+◌, ◌*◌, ◌≤◌, ◌<◌, ◌^◌, length};
+ghost use Rattle.std.specs.Prelude.{ℕ, ◌+◌, ◌*◌, ◌≤◌, length};
 ghost use Rattle.std.specs.List.{AllByRecursion};
 ghost use Rattle.bench_base.specs.Ranges.{IsWord, IsWholeEvent};
 ghost use Rattle.generator.specs.Events.{generated};
