@@ -1,4 +1,4 @@
-//! The draws and events of seed 7, number by number.
+//! The first draws of the generator from the seed 7, and the first events that they make.
 ghost use Rattle.std.specs.Prelude.{◌≤◌};
 
 use crate::Generator;
