@@ -52,16 +52,45 @@ impl<T: Drop> From<AllocFailed<T>> for RatesFail {
     }
 }
 
+// What an array of a rate file lists.
+trait Item: Drop + Sized {
+    ghost use Rattle.std.specs.Prelude.{ℕ, Option};
+    ghost use Rattle.toml.specs.Data.{Data};
+
+    // The item that a value is, where there are so many zones.
+    ghost item_of: { ℕ → Data → Option Self };
+
+    fn read(alloc: Global, value: &Value, zones: u32) -> Result<Self, RatesFail>
+        ensures exact { Reads (λ x. x) result (item_of zones (view value.now)) };
+}
+
+// The items of an array.
+fn listed<T: Item>(alloc: Global, value: &Value, zones: u32) -> Result<Vec<T>, RatesFail>
+    ensures exact { Reads (λ v. v.items) result (form.listed (T.item_of zones) (view value.now)) }
+{
+    let values = value.as_array().ok_or(RatesFail::Form)?;
+    let mut items = Vec::new(alloc);
+    for value in values {
+        let item = T::read(alloc, value, zones)?;
+        items.push(item)?;
+    }
+    Ok(items)
+}
+
+// A price, in mills.
+impl Item for u32 {
+    ghost item_of = { λ zones d. form.whole 100000 d };
+
+    fn read(_alloc: Global, value: &Value, _zones: u32) -> Result<u32, RatesFail> {
+        whole(value, MAX_MILLS).ok_or(RatesFail::Form)
+    }
+}
+
 // One price for each zone.
 fn mills(alloc: Global, value: &Value, zones: u32) -> Result<Vec<u32>, RatesFail>
     ensures exact { Reads (λ v. v.items) result (form.mills_of zones (view value.now)) }
 {
-    let items = value.as_array().ok_or(RatesFail::Form)?;
-    let mut mills = Vec::new(alloc);
-    for item in items {
-        let price = whole(item, MAX_MILLS).ok_or(RatesFail::Form)?;
-        mills.push(price)?;
-    }
+    let mills = listed::<u32>(alloc, value, zones)?;
     if mills.len() == zones as usize {
         Ok(mills)
     } else {
@@ -69,13 +98,15 @@ fn mills(alloc: Global, value: &Value, zones: u32) -> Result<Vec<u32>, RatesFail
     }
 }
 
-fn step(alloc: Global, value: &Value, zones: u32) -> Result<Step, RatesFail>
-    ensures exact { Reads (λ s. s) result (form.step_of zones (view value.now)) }
-{
-    let (grams, prices) = two(value, "grams", "mills").ok_or(RatesFail::Form)?;
-    let grams = whole(grams, MAX_GRAMS).ok_or(RatesFail::Form)?;
-    let mills = mills(alloc, prices, zones)?;
-    Ok(Step::new(grams, mills))
+impl Item for Step {
+    ghost item_of = { form.step_of };
+
+    fn read(alloc: Global, value: &Value, zones: u32) -> Result<Step, RatesFail> {
+        let (grams, prices) = two(value, "grams", "mills").ok_or(RatesFail::Form)?;
+        let grams = whole(grams, MAX_GRAMS).ok_or(RatesFail::Form)?;
+        let mills = mills(alloc, prices, zones)?;
+        Ok(Step::new(grams, mills))
+    }
 }
 
 // Whether there is an item, and no more than there may be.
@@ -102,12 +133,7 @@ fn rises(steps: &[Step]) -> bool
 fn steps(alloc: Global, value: &Value, zones: u32) -> Result<Vec<Step>, RatesFail>
     ensures exact { Reads (λ v. v.items) result (form.steps_of zones (view value.now)) }
 {
-    let items = value.as_array().ok_or(RatesFail::Form)?;
-    let mut steps = Vec::new(alloc);
-    for item in items {
-        let step = step(alloc, item, zones)?;
-        steps.push(step)?;
-    }
+    let steps = listed::<Step>(alloc, value, zones)?;
     if is_few(steps.len()) && rises(&steps) {
         Ok(steps)
     } else {
@@ -115,13 +141,15 @@ fn steps(alloc: Global, value: &Value, zones: u32) -> Result<Vec<Step>, RatesFai
     }
 }
 
-fn class(alloc: Global, value: &Value, zones: u32) -> Result<Class, RatesFail>
-    ensures exact { Reads (λ c. c) result (form.class_of zones (view value.now)) }
-{
-    let (number, steps_value) = two(value, "number", "steps").ok_or(RatesFail::Form)?;
-    let number = whole(number, MAX_NUMBER).ok_or(RatesFail::Form)?;
-    let steps = steps(alloc, steps_value, zones)?;
-    Ok(Class::new(number as u16, steps))
+impl Item for Class {
+    ghost item_of = { form.class_of };
+
+    fn read(alloc: Global, value: &Value, zones: u32) -> Result<Class, RatesFail> {
+        let (number, steps_value) = two(value, "number", "steps").ok_or(RatesFail::Form)?;
+        let number = whole(number, MAX_NUMBER).ok_or(RatesFail::Form)?;
+        let steps = steps(alloc, steps_value, zones)?;
+        Ok(Class::new(number as u16, steps))
+    }
 }
 
 // Whether no two classes have one number.
@@ -145,12 +173,7 @@ fn has_number(classes: &[Class], number: u16) -> bool
 fn classes(alloc: Global, value: &Value, zones: u32) -> Result<Vec<Class>, RatesFail>
     ensures exact { Reads (λ v. v.items) result (form.classes_of zones (view value.now)) }
 {
-    let items = value.as_array().ok_or(RatesFail::Form)?;
-    let mut classes = Vec::new(alloc);
-    for item in items {
-        let class = class(alloc, item, zones)?;
-        classes.push(class)?;
-    }
+    let classes = listed::<Class>(alloc, value, zones)?;
     if is_few(classes.len()) && differ(&classes) {
         Ok(classes)
     } else {
