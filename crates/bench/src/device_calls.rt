@@ -3,12 +3,15 @@
 ghost use Rattle.std.specs.Prelude.{◌≡◌, []};
 ghost use Rattle.psd_wire.specs.declared.message.Message.TheVariants as m;
 ghost use Rattle.psd_wire.specs.Grammar.{spell};
+ghost use Rattle.psd_state.specs.Acts.{make_act};
+ghost use Rattle.bench_views.specs.declared.taken.DeviceCall.TheVariants as call;
 ghost use Rattle.bench_views.specs.Devices as views;
 ghost use Rattle.bench_views.specs.Devices.{says};
 
 use bench_base::bytes::Note;
 use bench_base::events::{DevView, Reply};
 use bench_base::numbers::{DayNo, DevNo};
+use bench_base::words::{Key, Kind};
 use bench_views::DeviceCall;
 use node_acts::{Act, GivenOut, Released, Said};
 use psd_device::Franked;
@@ -151,6 +154,97 @@ fn next_number(day: DayNo, record: &Option<DevRec>) -> u32
     }
 }
 
+// Each call is a function of its own when it is compiled, since a function clears the acts that it makes as it begins.
+
+#[inline(never)]
+fn make_call(device: DevNo, key: &Key, record: &Option<DevRec>) -> DeviceSays
+    ensures { result ≡ says device (λ u. views.made device) (make_act device key.now «record».now) }
+{
+    made(device, &make_act(device, key, record))
+}
+
+#[inline(never)]
+fn debit_call(
+    device: DevNo,
+    day: DayNo,
+    piece: u32,
+    postage: u32,
+    class: u16,
+    record: &Option<DevRec>,
+) -> DeviceSays
+    ensures { result ≡ views.device_act device day (call.Debit piece postage class) «record».now }
+{
+    let command = DebitMsg {
+        device: device.get(),
+        piece,
+        postage,
+        class,
+    };
+    marked(device, piece, &debit_act(device, &command, day, record))
+}
+
+#[inline(never)]
+fn ask_call(
+    device: DevNo,
+    day: DayNo,
+    kind: Kind,
+    customer: u32,
+    amount: u32,
+    message: u32,
+    record: &Option<DevRec>,
+) -> DeviceSays
+    ensures { result ≡ views.device_act device day (call.Ask kind customer amount message) «record».now }
+{
+    let act = ask_act(device, kind, customer, amount, day, record);
+    let number = next_number(day, record);
+    sent(device, Reply::SentRequest(device, number, message), &act)
+}
+
+#[inline(never)]
+fn resend_call(device: DevNo, day: DayNo, message: u32, record: &Option<DevRec>) -> DeviceSays
+    ensures { result ≡ views.device_act device day (call.Resend message) «record».now }
+{
+    let number = next_number(day, record);
+    sent(
+        device,
+        Reply::SentRequest(device, number, message),
+        &resend_act(record),
+    )
+}
+
+#[inline(never)]
+fn ack_call(device: DevNo, day: DayNo, message: u32, record: &Option<DevRec>) -> DeviceSays
+    ensures { result ≡ views.device_act device day (call.Ack message) «record».now }
+{
+    let number = number_in(day, record);
+    sent(
+        device,
+        Reply::SentDone(device, number, message),
+        &ack_act(record),
+    )
+}
+
+#[inline(never)]
+fn status_call(device: DevNo, day: DayNo, record: &Option<DevRec>) -> DeviceSays
+    ensures { result ≡ views.device_act device day call.Status «record».now }
+{
+    shown(device, &status_act(day, record))
+}
+
+#[inline(never)]
+fn take_call(
+    device: DevNo,
+    day: DayNo,
+    bytes: &[u8],
+    message: u32,
+    record: &Option<DevRec>,
+) -> DeviceSays
+    ensures { result ≡ views.device_act device day (call.Take bytes.now message) «record».now }
+{
+    let act = take_act(device, bytes, day, record);
+    took(device, message, &act)
+}
+
 /// What the device does where it is called for this on that day, by its record.
 pub fn device_act(
     device: DevNo,
@@ -161,50 +255,27 @@ pub fn device_act(
     ensures { result ≡ views.device_act device day call.now «record».now }
 {
     match call {
-        DeviceCall::Make(key) => made(device, &make_act(device, key, record)),
+        DeviceCall::Make(key) => make_call(device, key, record),
         DeviceCall::Debit {
             piece,
             postage,
             class,
-        } => {
-            let command = DebitMsg {
-                device: device.get(),
-                piece: *piece,
-                postage: *postage,
-                class: *class,
-            };
-            marked(device, *piece, &debit_act(device, &command, day, record))
-        }
+        } => debit_call(device, day, *piece, *postage, *class, record),
         DeviceCall::Ask {
             kind,
             customer,
             amount,
             message,
-        } => {
-            let act = ask_act(device, *kind, *customer, *amount, day, record);
-            let number = next_number(day, record);
-            sent(device, Reply::SentRequest(device, number, *message), &act)
-        }
-        DeviceCall::Resend { message } => {
-            let number = next_number(day, record);
-            sent(
-                device,
-                Reply::SentRequest(device, number, *message),
-                &resend_act(record),
-            )
-        }
-        DeviceCall::Ack { message } => {
-            let number = number_in(day, record);
-            sent(
-                device,
-                Reply::SentDone(device, number, *message),
-                &ack_act(record),
-            )
-        }
-        DeviceCall::Status => shown(device, &status_act(day, record)),
-        DeviceCall::Take { bytes, message } => {
-            let act = take_act(device, bytes.as_slice(), day, record);
-            took(device, *message, &act)
-        }
+        } => ask_call(device, day, *kind, *customer, *amount, *message, record),
+        DeviceCall::Resend { message } => resend_call(device, day, *message, record),
+        DeviceCall::Ack { message } => ack_call(device, day, *message, record),
+        DeviceCall::Status => status_call(device, day, record),
+        DeviceCall::Take { bytes, message } => take_call(
+            device,
+            day,
+            bytes.as_slice(),
+            *message,
+            record,
+        ),
     }
 }

@@ -39,6 +39,7 @@ use std::alloc::{AllocError, Global};
 use verifier_node::VerifierNode;
 
 // A call of the device in this place, on that day. A device that is off decides nothing.
+#[inline(never)]
 fn device_called<T: Tell, M: Fuse + Drop>(
     place: &mut DeviceNode<M>,
     device: DevNo,
