@@ -464,10 +464,9 @@ fn an_old_request_is_sent_again(rt: HostRuntime) -> Result<(), Fail> {
 /// commits there are then, and the piece.
 type Before = (&'static [Piece<'static>], usize, u64, u32);
 
-/// The debits that are cut: a device with seven commits on two slots, of version 1; with seven on sixteen slots; and with these
-/// and ten debits.
-const CUTS: [(Before, [Cut; 5]); 3] = [
-    ((TWO_SLOTS, 0, 7, 1), SIX_CALLS),
+/// The debits that are cut: of a device with seven commits on sixteen slots; and with these and ten debits. One with seven on two
+/// slots is in the rows of the program.
+const CUTS: [(Before, [Cut; 5]); 2] = [
     ((BLANK, 7, 7, 1), FOUR_CALLS),
     ((BLANK, 17, 17, 11), SIX_CALLS),
 ];

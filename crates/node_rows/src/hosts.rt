@@ -101,16 +101,8 @@ const REFUSALS: &[Row] = &[
     (Call::Close(0), ("no job", 0)),
 ];
 
-const CLOSED_AGAIN: &[Row] = &[
-    (Call::Order(PRICE, 1, 1), ("ordered", 1)),
-    (Call::Order(PRICE, 1, 1), ("open job", 1)),
-    (Call::Close(1), ("closed", 1)),
-    (Call::Order(PRICE, 1, 1), ("ordered", 2)),
-    (Call::Take(RELEASE), ("held", 2)),
-    (Call::Close(2), ("closed", 2)),
-    (Call::Order(PRICE, 1, 1), ("piece used", 1)),
-    (Call::Order(Some(Ok(100_000)), 8, 1), ("ordered", 3)),
-];
+/// At the highest postage, of the last device.
+const HIGHEST: &[Row] = &[(Call::Order(Some(Ok(100_000)), 8, 1), ("ordered", 1))];
 
 /// Three commits on blank storage: the host holds job 1, of piece 1 of device 1 for 550 mills, by a mark of version 2, and
 /// has job 2 ordered, of piece 2.
@@ -368,9 +360,9 @@ fn refuses_in_order(rt: HostRuntime) -> Result<(), Fail> {
 }
 
 #[test]
-fn orders_a_closed_piece_again(rt: HostRuntime) -> Result<(), Fail> {
-    let left = run_blank(&rt, rt.alloc(), &[], CLOSED_AGAIN)?;
-    assert_eq!(rt; left.commits, 6);
+fn orders_at_the_highest_postage(rt: HostRuntime) -> Result<(), Fail> {
+    let left = run_blank(&rt, rt.alloc(), &[], HIGHEST)?;
+    assert_eq!(rt; left.commits, 1);
     Ok(())
 }
 
