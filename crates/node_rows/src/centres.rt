@@ -2,18 +2,16 @@
 //! at each call.
 ghost use Rattle.std.specs.Prelude.{◌≤◌};
 
-use crate::worked::{
-    BLANK, KEY, Left, Piece, TEARS, Told, code_of, content_of, failed, restarted, storage,
-    unstarted, with_pieces,
-};
+use crate::running::{Cut, Fuse, Left, Nodes, cut_at_each_call, is_left, run, run_armed, starts};
+use crate::worked::{BLANK, KEY, Piece, Told, code_of, content_of, failed, holds, with_pieces};
 use bench_base::bytes::Note;
 use bench_base::ledger::Commit;
 use bench_base::numbers::{Customer, DayNo, DevNo};
 use bench_base::refusals::{BootFail, CentreFail, CentreRefusal};
 use bench_base::sizes::CENTRE_CELLS;
 use bench_base::words::{Key, Kind, Verdict};
-use centre_protocol::{Centre, CentreAnswer, Standing};
-use nv_model::{Fused, MemNv};
+use centre_protocol::{Centre, CentreAnswer, Deposit};
+use nv_model::{Fused, MemNv, Nv};
 use nv_store::Room;
 use psd_wire::{DoneMsg, Message, Request, read_message, write_message};
 use std::alloc::Global;
@@ -83,6 +81,9 @@ enum Given {
     Forged(u32, u32, u32),
     /// It asks for so many mills.
     Reset(u32, u32),
+    /// The same, or gives so many back, with this much left to spend.
+    ResetWith(u32, u32, u32),
+    Withdraw(u32, u32, u32),
     Done(u32),
 }
 
@@ -93,18 +94,19 @@ enum Call {
     Register,
     /// This customer is opened.
     Open(u32),
-    /// Customer 1 deposits so much, under receipt 1.
-    Deposit(u32),
+    /// This customer deposits, under this receipt, so much.
+    Deposit(u32, u32, u32),
     /// Customer 1 is suspended.
     Flag,
     Take(Given),
-    /// What device 1 holds by the centre's books.
+    /// The same, told with the amount in the reply.
+    Reply(Given),
+    /// What device 1 holds by the centre's books, and what is not settled.
     Standing,
+    InFlight,
     /// What customers 1 and 2 have left.
     Kept,
     Commits,
-    /// The fuse is armed: see `Fused::arm`.
-    Arm(u32, u32, u8),
 }
 
 /// A call, and what is wanted of it.
@@ -116,7 +118,7 @@ const LOADED: &[Row] = &[
     (Call::Register, ("registered", 0)),
     (Call::Open(1), ("opened", 0)),
     (Call::Kept, ("kept", 0)),
-    (Call::Deposit(100_000), ("deposited", 0)),
+    (Call::Deposit(1, 1, 100_000), ("deposited", 100_000)),
     (Call::Kept, ("kept", 100_000)),
     (Call::Take(Given::Enrol(1)), ("granted", 1)),
     (Call::Take(Given::Audit(2, 0, 0)), ("granted", 2)),
@@ -151,9 +153,60 @@ const RULINGS: &[Row] = &[
     (Call::Take(Given::Forged(4, 0, 50_000)), ("bad code", 0)),
     (Call::Commits, ("commits", 7)),
     (
-        Call::Take(Given::Audit(4, 1, 50_000)),
+        Call::Reply(Given::Audit(4, 1, 50_000)),
         ("imbalance", 50_000),
     ),
+];
+
+/// Each alone behind the reset that is not settled.
+const ALONE: &[Row] = &[
+    (Call::Take(Given::Audit(2, 0, 0)), ("old", 3)),
+    (Call::Take(Given::Audit(0, 0, 0)), ("old", 3)),
+    (Call::Take(Given::Audit(5, 0, 50_000)), ("ahead", 3)),
+    (Call::Take(Given::Reset(3, 50_001)), ("changed", 3)),
+    (
+        Call::Reply(Given::Reset(3, 50_000)),
+        ("granted again", 50_000),
+    ),
+    (
+        Call::Reply(Given::Audit(4, 1, 50_000)),
+        ("imbalance", 50_000),
+    ),
+    (
+        Call::Reply(Given::ResetWith(4, 50_001, 50_000)),
+        ("no funds", 50_000),
+    ),
+    (
+        Call::Reply(Given::Withdraw(4, 50_000, 50_000)),
+        ("granted", 50_000),
+    ),
+    (Call::Take(Given::Forged(4, 0, 50_000)), ("bad code", 0)),
+    (Call::Open(1), ("known", 0)),
+    (Call::Deposit(1, 1, 100_000), ("deposited again", 100_000)),
+    (Call::Deposit(1, 1, 5), ("conflict", 100_000)),
+    (Call::Deposit(1, 3, 5), ("wrong receipt", 1)),
+    (Call::Deposit(1, 2, 0), ("bad amount", 0)),
+    (Call::Deposit(1, 2, 5), ("deposited", 100_005)),
+    (Call::Deposit(2, 1, 5), ("unknown customer", 2)),
+];
+
+/// One after the other, behind the reset that is not settled.
+const BALANCES: &[Row] = &[
+    (Call::Kept, ("kept", 50_000)),
+    (Call::Standing, ("in flight", 0)),
+    (Call::InFlight, ("reset", 50_000)),
+    (Call::Take(Given::Done(3)), ("settled", 3)),
+    (Call::Kept, ("kept", 50_000)),
+    (Call::Standing, ("settled", 50_000)),
+    (Call::InFlight, ("nothing", 0)),
+    (Call::Take(Given::Done(3)), ("settled again", 3)),
+    (
+        Call::Take(Given::Withdraw(4, 50_000, 50_000)),
+        ("granted", 4),
+    ),
+    (Call::Kept, ("kept", 100_000)),
+    (Call::Standing, ("in flight", 50_000)),
+    (Call::InFlight, ("withdraw", 50_000)),
 ];
 
 /// What customer 1 has left behind those commits.
@@ -162,30 +215,21 @@ const KEPT: &[Row] = &[(Call::Kept, ("kept", 50_000))];
 const DAMAGED: Result<u64, BootFail> = Err(BootFail::Damaged);
 
 /// So many bytes with these pieces, and what a start answers.
-const STARTS: [(usize, &[Piece], Result<u64, BootFail>, &str); 3] = [
+const STARTS: &[(usize, &[Piece], Result<u64, BootFail>, &str)] = &[
     (SIZE, BLANK, Ok(0), "blank"),
     (SIZE - 1, BLANK, DAMAGED, "a byte short"),
     (SIZE, ROW_OF_ZEROS, DAMAGED, "a row of zeros"),
 ];
 
 /// Pieces over those commits, from which a centre does not start.
-const CHANGES: [(&[Piece], &str); 3] = [
+const CHANGES: &[(&[Piece], &str)] = &[
     (WITHOUT_DEPOSIT, "a reset without the deposit"),
     (WITHOUT_CUSTOMER, "a device of nobody"),
     (EQUAL_COUNTS, "equal counts"),
 ];
 
-fn customer(rt: &impl Abort, number: u32) -> Customer {
-    Customer::new(number).expect(rt, "customer")
-}
-
-fn device_1(rt: &impl Abort) -> DevNo {
-    DevNo::new(1).expect(rt, "device 1")
-}
-
 /// A request of device 1 on 2026-03-01, for customer 1.
 fn request(
-    rt: &impl Abort,
     version: u8,
     number: u32,
     kind: Kind,
@@ -206,26 +250,38 @@ fn request(
         descending: u64::from(registers.1),
         refunded: 0,
         pieces: 0,
-        day: DayNo::new(20_513).expect(rt, "day"),
+        day: DayNo::new(20_513).unwrap(),
     };
     write_message(&Message::Request(request), key)
 }
 
 /// The bytes of what device 1 sends, a request in this version.
-fn bytes_of(rt: &impl Abort, version: u8, given: Given) -> Note {
-    assert!(rt; 1 <= version && version <= 2, "version");
+fn bytes_of(version: u8, given: Given) -> Note {
+    if version < 1 || 2 < version {
+        return Note::of(&[]);
+    }
     match given {
-        Given::Enrol(number) => request(rt, version, number, Kind::Enrol, 0, (0, 0), &KEY),
+        Given::Enrol(number) => request(version, number, Kind::Enrol, 0, (0, 0), &KEY),
         Given::Audit(number, ascending, descending) => {
-            let registers = (ascending, descending);
-            request(rt, version, number, Kind::Audit, 0, registers, &KEY)
+            request(
+                version,
+                number,
+                Kind::Audit,
+                0,
+                (ascending, descending),
+                &KEY,
+            )
         }
         Given::Forged(number, ascending, descending) => {
             let registers = (ascending, descending);
-            request(rt, version, number, Kind::Audit, 0, registers, &[2; 32])
+            request(version, number, Kind::Audit, 0, registers, &[2; 32])
         }
-        Given::Reset(number, amount) => {
-            request(rt, version, number, Kind::Reset, amount, (0, 0), &KEY)
+        Given::Reset(number, amount) => request(version, number, Kind::Reset, amount, (0, 0), &KEY),
+        Given::ResetWith(number, amount, left) => {
+            request(version, number, Kind::Reset, amount, (0, left), &KEY)
+        }
+        Given::Withdraw(number, amount, left) => {
+            request(version, number, Kind::Withdraw, amount, (0, left), &KEY)
         }
         Given::Done(number) => {
             write_message(&Message::Done(DoneMsg { device: 1, number }), &KEY)
@@ -246,6 +302,11 @@ fn refusal(refusal: CentreRefusal) -> Told {
         CentreRefusal::Ahead(ruled) => ("ahead", u64::from(ruled)),
         CentreRefusal::Changed(ruled) => ("changed", u64::from(ruled)),
         CentreRefusal::BadCode => ("bad code", 0),
+        CentreRefusal::Known => ("known", 0),
+        CentreRefusal::Conflict(amount) => ("conflict", u64::from(amount)),
+        CentreRefusal::WrongReceipt(last) => ("wrong receipt", u64::from(last)),
+        CentreRefusal::BadAmount(amount) => ("bad amount", u64::from(amount)),
+        CentreRefusal::UnknownCustomer(customer) => ("unknown customer", u64::from(customer.get())),
         _ => ("another refusal", 0),
     }
 }
@@ -265,134 +326,202 @@ fn done<A: Copy>(name: &'static str, answer: Result<A, CentreFail>) -> Told {
     }
 }
 
-/// A grant with the number of its request, and another verdict with the amount in its reply.
-fn ruled(number: u32, verdict: Verdict, reply: &Note, again: bool) -> Told {
+fn ruled(verdict: Verdict, again: bool) -> &'static str {
     match verdict {
-        Verdict::Granted if again => ("granted again", u64::from(number)),
-        Verdict::Granted => ("granted", u64::from(number)),
-        Verdict::Imbalance => ("imbalance", amount_in(reply)),
-        _ => ("another verdict", amount_in(reply)),
+        Verdict::Granted if again => "granted again",
+        Verdict::Granted => "granted",
+        Verdict::NoFunds => "no funds",
+        Verdict::Imbalance => "imbalance",
+        _ => "another verdict",
     }
 }
 
-fn answer(answer: CentreAnswer) -> Told {
+/// A ruling with the number of its request, or the amount in its reply.
+fn answer(answer: CentreAnswer, amount: bool) -> Told {
     match answer {
         CentreAnswer::Ruled {
-            device: _,
             number,
             verdict,
             reply,
             again,
-        } => ruled(number, verdict, &reply, again),
-        CentreAnswer::Settled { number, .. } => ("settled", u64::from(number)),
+            ..
+        } => (
+            ruled(verdict, again),
+            if amount {
+                amount_in(&reply)
+            } else {
+                u64::from(number)
+            },
+        ),
+        CentreAnswer::Settled { number, again, .. } => (
+            if again { "settled again" } else { "settled" },
+            u64::from(number),
+        ),
     }
 }
 
-fn taken(answered: Result<CentreAnswer, CentreFail>) -> Told {
-    match answered {
-        Ok(told) => answer(told),
+fn device_1() -> DevNo {
+    DevNo::new(1).unwrap()
+}
+
+fn customer_1() -> Customer {
+    Customer::new(1).unwrap()
+}
+
+fn registered<N: Nv>(centre: &mut Centre<N>) -> Told {
+    done("registered", centre.register(device_1(), 94_105, &KEY))
+}
+
+fn opened<N: Nv>(centre: &mut Centre<N>, number: u32) -> Told {
+    match Customer::new(number) {
+        Some(customer) => done("opened", centre.open_customer(customer)),
+        None => ("no customer", 0),
+    }
+}
+
+fn deposited<N: Nv>(centre: &mut Centre<N>, number: u32, receipt: u32, amount: u32) -> Told {
+    let Some(customer) = Customer::new(number) else {
+        return ("no customer", 0);
+    };
+    match centre.deposit(customer, receipt, amount) {
+        Ok(Deposit { total, again }) if again => ("deposited again", total),
+        Ok(Deposit { total, .. }) => ("deposited", total),
         Err(fail) => fault(fail),
     }
 }
 
-fn standing(answer: Result<Standing, CentreFail>) -> Told {
-    match answer {
-        Ok(standing) => (
-            if standing.in_flight.is_none() {
-                "settled"
-            } else {
-                "in flight"
-            },
-            standing.centre,
-        ),
+fn flagged<N: Nv>(centre: &mut Centre<N>) -> Told {
+    done("flagged", centre.flag(customer_1(), true))
+}
+
+fn taken<N: Nv>(centre: &mut Centre<N>, version: u8, given: Given, amount: bool) -> Told {
+    match centre.take(bytes_of(version, given).as_slice()) {
+        Ok(told) => answer(told, amount),
+        Err(fail) => fault(fail),
+    }
+}
+
+fn standing<N: Nv>(centre: &Centre<N>) -> Told {
+    match centre.standing(device_1()) {
+        Ok(standing) if standing.in_flight.is_none() => ("settled", standing.centre),
+        Ok(standing) => ("in flight", standing.centre),
+        Err(fail) => fault(fail),
+    }
+}
+
+fn in_flight<N: Nv>(centre: &Centre<N>) -> Told {
+    match centre.standing(device_1()) {
+        Ok(standing) => match standing.in_flight {
+            Some((Kind::Reset, amount)) => ("reset", amount),
+            Some((Kind::Withdraw, amount)) => ("withdraw", amount),
+            Some((_, amount)) => ("another kind", amount),
+            None => ("nothing", 0),
+        },
         Err(fail) => fault(fail),
     }
 }
 
 /// What customer 1 has left, which is also what is answered of it; customer 2 has nothing.
-fn kept(first: u64, second: u64, answer: Result<u64, CentreFail>) -> Told {
-    match answer {
+fn kept<N: Nv>(centre: &Centre<N>) -> Told {
+    let first = centre.kept().get(customer_1());
+    match centre.balance(customer_1()) {
         Ok(left) if left != first => ("another answer", left),
-        _ if second != 0 => ("customer 2", second),
         _ => ("kept", first),
     }
 }
 
-/// What the centre tells of a call, in which a request has this version.
-fn told(rt: &impl Abort, centre: &mut Centre<Fused<MemNv>>, version: u8, call: Call) -> Told {
-    let first = customer(rt, 1);
-    match call {
-        Call::Register => done("registered", centre.register(device_1(rt), 94_105, &KEY)),
-        Call::Open(number) => done("opened", centre.open_customer(customer(rt, number))),
-        Call::Deposit(amount) => done("deposited", centre.deposit(first, 1, amount)),
-        Call::Flag => done("flagged", centre.flag(first, true)),
-        Call::Take(given) => taken(centre.take(bytes_of(rt, version, given).as_slice())),
-        Call::Standing => standing(centre.standing(device_1(rt))),
-        Call::Kept => {
-            let second = centre.kept().get(customer(rt, 2));
-            kept(centre.kept().get(first), second, centre.balance(first))
-        }
-        Call::Commits => ("commits", centre.commits()),
-        Call::Arm(calls, keep, byte) => {
-            centre.arm(calls, keep, byte);
-            ("armed", 0)
-        }
+fn kept_of_other<N: Nv>(centre: &Centre<N>) -> u64 {
+    match Customer::new(2) {
+        Some(second) => centre.kept().get(second),
+        None => 1,
     }
 }
 
-/// Starts a centre from this content, and does what the rows ask, those before first. The requests have this version.
-fn run(
-    rt: &impl Abort,
-    alloc: Global,
+/// Centres, to which a request has this version.
+#[derive(Clone, Copy)]
+struct Centres {
     version: u8,
-    content: &[u8],
-    before: &[Row],
-    rows: &[Row],
-) -> Result<Left, Fail> {
-    let nv = storage(rt, alloc, content)?;
-    let mut centre = match Centre::boot(nv, Room::new(alloc, CENTRE_CELLS)?) {
-        Ok(centre) => centre,
-        Err((_, _, fail)) => {
-            assert!(rt; rows.is_empty(), "boot");
-            return Ok(unstarted(alloc, fail));
-        }
-    };
-    let started = Ok(centre.commits());
-    for (i, (call, wanted)) in before.iter().chain(rows).enumerate() {
-        assert_eq!(rt; told(rt, &mut centre, version, *call), *wanted, "row {i}");
-    }
-    let (commits, torn) = (centre.commits(), centre.torn());
-    let (nv, _) = centre.shut();
-    Ok(Left {
-        started,
-        commits,
-        torn,
-        content: restarted(rt, alloc, nv)?,
-    })
 }
 
-/// What rows come to on blank storage behind its first seven commits.
+impl Nodes for Centres {
+    type Node = Centre<Fused<MemNv>>;
+
+    type Call = Call;
+
+    fn start(
+        &self,
+        alloc: Global,
+        nv: Fused<MemNv>,
+    ) -> Result<Result<Centre<Fused<MemNv>>, BootFail>, Fail> {
+        let room = Room::new(alloc, CENTRE_CELLS)?;
+        match Centre::boot(nv, room) {
+            Ok(centre) => Ok(Ok(centre)),
+            Err((_, _, fail)) => Ok(Err(fail)),
+        }
+    }
+
+    fn told(&self, centre: &mut Centre<Fused<MemNv>>, call: Call) -> Told {
+        match call {
+            Call::Register => registered(centre),
+            Call::Open(number) => opened(centre, number),
+            Call::Deposit(number, receipt, amount) => deposited(centre, number, receipt, amount),
+            Call::Flag => flagged(centre),
+            Call::Take(given) => taken(centre, self.version, given, false),
+            Call::Reply(given) => taken(centre, self.version, given, true),
+            Call::Standing => standing(centre),
+            Call::InFlight => in_flight(centre),
+            Call::Kept if kept_of_other(centre) != 0 => ("customer 2", 0),
+            Call::Kept => kept(centre),
+            Call::Commits => ("commits", centre.commits()),
+        }
+    }
+
+    fn arm(&self, centre: &mut Centre<Fused<MemNv>>, fuse: Fuse) {
+        centre.arm(fuse.calls, fuse.keep, fuse.byte);
+    }
+
+    fn commits(&self, centre: &Centre<Fused<MemNv>>) -> u64 {
+        centre.commits()
+    }
+
+    fn torn(&self, centre: &Centre<Fused<MemNv>>) -> Option<Commit> {
+        centre.torn()
+    }
+
+    fn shut(&self, centre: Centre<Fused<MemNv>>) -> Fused<MemNv> {
+        let (nv, _) = centre.shut();
+        nv
+    }
+}
+
+/// What rows come to on blank storage behind its first seven commits. The requests have this version.
 fn run_loaded(rt: &impl Abort, alloc: Global, version: u8, rows: &[Row]) -> Result<Left, Fail> {
     let blank = content_of(alloc, SIZE, BLANK)?;
-    run(rt, alloc, version, &blank, LOADED, rows)
+    run_armed(rt, alloc, &Centres { version }, &blank, LOADED, None, rows)
 }
 
-/// What a start from this content answers.
-fn started(rt: &impl Abort, alloc: Global, content: &[u8]) -> Result<Result<u64, BootFail>, Fail> {
-    Ok(run(rt, alloc, 2, content, &[], &[])?.started)
+/// A start from this content answers this.
+fn centre_starts(
+    rt: &impl Abort,
+    alloc: Global,
+    content: &[u8],
+    wanted: Result<u64, BootFail>,
+    what: &str,
+) -> Result<(), Fail> {
+    starts(rt, alloc, &Centres { version: 2 }, content, wanted, what)
 }
 
 #[test]
 fn starts_from_rows_that_agree(rt: HostRuntime) -> Result<(), Fail> {
     let alloc = rt.alloc();
     for (bytes, pieces, wanted, what) in STARTS {
-        let got = started(&rt, alloc, &content_of(alloc, bytes, pieces)?)?;
-        assert_eq!(rt; got, wanted, "{what}");
+        let content = content_of(alloc, *bytes, *pieces)?;
+        centre_starts(&rt, alloc, &content, *wanted, *what)?;
     }
     let seven = run_loaded(&rt, alloc, 2, &[])?;
     for (pieces, what) in CHANGES {
-        let got = started(&rt, alloc, &with_pieces(alloc, &seven.content, pieces)?)?;
-        assert_eq!(rt; got, DAMAGED, "{what}");
+        let changed = with_pieces(alloc, &seven.content, *pieces)?;
+        centre_starts(&rt, alloc, &changed, DAMAGED, *what)?;
     }
     Ok(())
 }
@@ -400,8 +529,14 @@ fn starts_from_rows_that_agree(rt: HostRuntime) -> Result<(), Fail> {
 /// In this version, what seven commits leave has this code, and a centre starts from it.
 fn leaves_seven(rt: &impl Abort, alloc: Global, version: u8, code: &[u8; 32]) -> Result<(), Fail> {
     let left = run_loaded(rt, alloc, version, SETTLED)?;
-    assert!(rt; &code_of(&left.content) == code, "version {version}");
-    let _again = run(rt, alloc, version, &left.content, &[], STARTED_AGAIN)?;
+    holds(rt, &code_of(&left.content) == code, "the storage");
+    let _again = run(
+        rt,
+        alloc,
+        &Centres { version },
+        &left.content,
+        STARTED_AGAIN,
+    )?;
     Ok(())
 }
 
@@ -415,71 +550,72 @@ fn leaves_seven_rows_in_both_versions(rt: HostRuntime) -> Result<(), Fail> {
 fn rules_by_call_in_both_versions(rt: HostRuntime) -> Result<(), Fail> {
     for version in 1..3 {
         let left = run_loaded(&rt, rt.alloc(), version, RULINGS)?;
-        assert_eq!(rt; left.commits, 8, "the ruling commits");
+        holds(&rt, is_left(&left, 8, None), "the ruling commits");
     }
     Ok(())
 }
 
-/// The call whose commit is cut, and what is told where it is made: it opens customer 2, whose cell is blank, or flags customer
-/// 1, whose cell has two commits.
-fn change(blank: bool) -> Row {
-    if blank {
-        (Call::Open(2), ("opened", 0))
-    } else {
-        (Call::Flag, ("flagged", 0))
-    }
-}
-
-/// Cuts power in that call, and starts again: how many commits the cut one counts for.
-fn cut_short(
-    rt: &impl Abort,
-    alloc: Global,
-    blank: bool,
-    call: u32,
-    tear: (u32, u8),
-) -> Result<u64, Fail> {
-    let rows = [
-        (Call::Arm(call, tear.0, tear.1), ("armed", 0)),
-        (change(blank).0, ("power", 0)),
-        (Call::Kept, ("kept", 50_000)),
-        (Call::Commits, ("commits", 7)),
-        (change(blank).0, ("failed", 0)),
-    ];
-    let first = run_loaded(rt, alloc, 2, &rows)?;
-    match first.torn {
-        Some(Commit::Opened(_)) => assert!(rt; blank, "torn"),
-        Some(Commit::Flagged(_, true)) => assert!(rt; !blank, "torn"),
-        _ => assert!(rt; false, "torn"),
-    }
-    let second = run(rt, alloc, 2, &first.content, &[], KEPT)?;
-    assert!(rt; second.commits >= 7);
-    Ok(second.commits - 7)
-}
-
-/// Power would be cut behind the last call of that commit.
-fn made(rt: &impl Abort, alloc: Global, blank: bool, calls: u32) -> Result<(), Fail> {
-    let rows = [(Call::Arm(calls, 0, 0), ("armed", 0)), change(blank)];
-    let left = run_loaded(rt, alloc, 2, &rows)?;
-    assert_eq!(rt; left.commits, 8, "made at {calls}");
-    assert!(rt; left.torn.is_none());
+/// What rows come to where the reset is not settled.
+fn run_unsettled(rt: &impl Abort, alloc: Global, version: u8, rows: &[Row]) -> Result<(), Fail> {
+    let blank = content_of(alloc, SIZE, BLANK)?;
+    let _left = run_armed(
+        rt,
+        alloc,
+        &Centres { version },
+        &blank,
+        &LOADED[..11],
+        None,
+        rows,
+    )?;
     Ok(())
 }
 
 #[test]
-fn is_cut_at_each_call(rt: HostRuntime) -> Result<(), Fail> {
-    let alloc = rt.alloc();
-    for (blank, calls) in [(true, 4), (false, 6)] {
-        for (keep, byte) in TEARS {
-            for call in 0..calls {
-                let more = cut_short(&rt, alloc, blank, call, (keep, byte))?;
-                assert!(rt; more <= 1, "old or new at {call} {keep} {byte}");
-                assert!(rt;
-                    more == 0 || call + 2 >= calls,
-                    "new at {call} {keep} {byte}"
-                );
-            }
+fn rules_while_a_reset_is_not_settled(rt: HostRuntime) -> Result<(), Fail> {
+    for version in 1..3 {
+        for row in ALONE {
+            run_unsettled(&rt, rt.alloc(), version, &[*row])?;
         }
-        made(&rt, alloc, blank, calls)?;
+    }
+    run_unsettled(&rt, rt.alloc(), 2, BALANCES)
+}
+
+/// The commits that are cut: it opens customer 2, whose cell is blank, or flags customer 1, whose cell has two commits.
+const CUTS: &[Cut<'static, Call>] = &[
+    Cut {
+        bytes: SIZE,
+        before: LOADED,
+        commits: 7,
+        calls: 4,
+        made: &[(Call::Open(2), ("opened", 0))],
+        cut: &[
+            (Call::Open(2), ("power", 0)),
+            (Call::Kept, ("kept", 50_000)),
+            (Call::Open(2), ("failed", 0)),
+        ],
+        torn: ("opened", [2, 0, 0, 0, 0]),
+        again: KEPT,
+    },
+    Cut {
+        bytes: SIZE,
+        before: LOADED,
+        commits: 7,
+        calls: 6,
+        made: &[(Call::Flag, ("flagged", 0))],
+        cut: &[
+            (Call::Flag, ("power", 0)),
+            (Call::Kept, ("kept", 50_000)),
+            (Call::Flag, ("failed", 0)),
+        ],
+        torn: ("flagged", [1, 1, 0, 0, 0]),
+        again: KEPT,
+    },
+];
+
+#[test]
+fn is_cut_at_each_call(rt: HostRuntime) -> Result<(), Fail> {
+    for cut in CUTS {
+        cut_at_each_call(&rt, rt.alloc(), &Centres { version: 2 }, cut)?;
     }
     Ok(())
 }

@@ -1,13 +1,12 @@
 //! Worked rows of a device over storage in memory: what it starts from, what it leaves there, and cuts of power at each call.
-use crate::worked::{
-    BLANK, KEY, Left, Piece, Told, code_of, content_of, failed, restarted, storage, unstarted,
-};
+use crate::running::{Fuse, Left, Nodes, is_left, run, run_armed, starts};
+use crate::worked::{BLANK, KEY, Piece, Told, code_of, content_of, failed, holds};
 use bench_base::bytes::Note;
 use bench_base::ledger::Commit;
 use bench_base::numbers::{DayNo, DevNo};
 use bench_base::refusals::{BootFail, DevFail, DevRefusal};
 use bench_base::words::{Kind, Verdict};
-use nv_model::{Fused, MemNv};
+use nv_model::{Fused, MemNv, Nv};
 use psd_device::{Device, Franked, Taken};
 use psd_wire::{DebitMsg, Message, ReplyMsg, write_message};
 use std::alloc::Global;
@@ -170,8 +169,6 @@ enum Call {
     /// How many commits filled this slot.
     Fills(u32),
     Commits,
-    /// The fuse is armed: see `Fused::arm`.
-    Arm(u32, u32, u8),
 }
 
 /// A call, and what is wanted of it.
@@ -180,7 +177,7 @@ type Row = (Call, Told);
 const DAMAGED: Result<u64, BootFail> = Err(BootFail::Damaged);
 
 /// A device of this number, so many bytes with these pieces, and what a start answers.
-const STARTS: [(u32, usize, &[Piece], Result<u64, BootFail>, &str); 6] = [
+const STARTS: &[(u32, usize, &[Piece], Result<u64, BootFail>, &str)] = &[
     (1, 3_424, BLANK, Ok(0), "blank"),
     (1, 3_423, BLANK, DAMAGED, "a byte short"),
     (1, 3_424, TWO_SLOTS, Ok(7), "two slots"),
@@ -257,13 +254,9 @@ const GRANTED_THEN: &[Row] = &[
     (Call::Commits, ("commits", 7)),
 ];
 
-fn device(rt: &impl Abort, number: u32) -> DevNo {
-    DevNo::new(number).expect(rt, "device")
-}
-
 /// 2026-03-01.
-fn today(rt: &impl Abort) -> DayNo {
-    DayNo::new(20_513).expect(rt, "day")
+fn today() -> DayNo {
+    DayNo::new(20_513).unwrap()
 }
 
 fn piece(piece: u32) -> DebitMsg {
@@ -292,43 +285,6 @@ fn done<A: Copy>(name: &'static str, answer: Result<A, DevFail>) -> Told {
     }
 }
 
-fn taken(answer: Result<Taken, DevFail>) -> Told {
-    match answer {
-        Ok(Taken::Applied { number, verdict: _ }) => ("applied", u64::from(number)),
-        Ok(Taken::Released { piece, .. }) => ("released", u64::from(piece)),
-        Err(fail) => fault(fail),
-    }
-}
-
-/// Whether the mark is that of piece 1, and whether it was given before.
-fn franked(answer: Result<Franked, DevFail>) -> Told {
-    match answer {
-        Ok(franked) => (
-            if franked.mark == FIRST {
-                "the first mark"
-            } else {
-                "another mark"
-            },
-            u64::from(franked.again),
-        ),
-        Err(fail) => fault(fail),
-    }
-}
-
-fn resent(answer: Result<Note, DevFail>) -> Told {
-    match answer {
-        Ok(note) => (
-            if note.as_slice() == &ASKED[79..] {
-                "byte for byte"
-            } else {
-                "another request"
-            },
-            0,
-        ),
-        Err(fail) => fault(fail),
-    }
-}
-
 fn granted(number: u32, kind: Kind, amount: u32, deadline: i32) -> Note {
     let reply = ReplyMsg {
         version: 2,
@@ -351,84 +307,141 @@ fn bytes_of(given: Given) -> Note {
     }
 }
 
-/// What the device tells of a call.
-fn told(rt: &impl Abort, device: &mut Device<Fused<MemNv>>, call: Call) -> Told {
-    let day = today(rt);
-    match call {
-        Call::Make => done("made", device.make(&KEY)),
-        Call::Ask(kind, amount) => done("asked", device.ask(kind, 1, amount, day)),
-        Call::Take(given) => taken(device.take(bytes_of(given).as_slice(), day)),
-        Call::Debit(number) => franked(device.debit(&piece(number), day)),
-        Call::Ack => done("acknowledged", device.ack()),
-        Call::Resend => resent(device.resend()),
-        Call::Status => match device.status(day) {
-            Ok(status) => ("status", status.descending),
-            Err(fail) => fault(fail),
-        },
-        Call::Fills(slot) => {
-            assert!(rt; slot < 16);
-            ("fills", u64::from(device.fills(slot)))
-        }
-        Call::Commits => ("commits", device.commits()),
-        Call::Arm(calls, keep, byte) => {
-            device.arm(calls, keep, byte);
-            ("armed", 0)
-        }
+fn made<N: Nv>(device: &mut Device<N>) -> Told {
+    done("made", device.make(&KEY))
+}
+
+fn asked<N: Nv>(device: &mut Device<N>, kind: Kind, amount: u32) -> Told {
+    done("asked", device.ask(kind, 1, amount, today()))
+}
+
+fn taken<N: Nv>(device: &mut Device<N>, given: Given) -> Told {
+    match device.take(bytes_of(given).as_slice(), today()) {
+        Ok(Taken::Applied { number, verdict: _ }) => ("applied", u64::from(number)),
+        Ok(Taken::Released { piece, .. }) => ("released", u64::from(piece)),
+        Err(fail) => fault(fail),
     }
 }
 
-/// Starts a device of this number from this content, and does what the rows ask, those before first.
-fn run(
-    rt: &impl Abort,
-    alloc: Global,
+/// Whether the mark is that of piece 1, and whether it was given before.
+fn franked<N: Nv>(device: &mut Device<N>, number: u32) -> Told {
+    match device.debit(&piece(number), today()) {
+        Ok(franked) => (
+            if franked.mark == FIRST {
+                "the first mark"
+            } else {
+                "another mark"
+            },
+            u64::from(franked.again),
+        ),
+        Err(fail) => fault(fail),
+    }
+}
+
+fn acknowledged<N: Nv>(device: &Device<N>) -> Told {
+    done("acknowledged", device.ack())
+}
+
+fn resent<N: Nv>(device: &Device<N>) -> Told {
+    match device.resend() {
+        Ok(note) if note.as_slice() == &ASKED[79..] => ("byte for byte", 0),
+        Ok(_) => ("another request", 0),
+        Err(fail) => fault(fail),
+    }
+}
+
+fn status<N: Nv>(device: &Device<N>) -> Told {
+    match device.status(today()) {
+        Ok(status) => ("status", status.descending),
+        Err(fail) => fault(fail),
+    }
+}
+
+fn fills<N: Nv>(device: &Device<N>, slot: u32) -> Told {
+    if slot < 16 {
+        ("fills", u64::from(device.fills(slot)))
+    } else {
+        ("no slot", 0)
+    }
+}
+
+/// Devices of this number.
+#[derive(Clone, Copy)]
+struct Devices {
     number: u32,
-    content: &[u8],
-    before: &[Row],
-    rows: &[Row],
-) -> Result<Left, Fail> {
-    let mut device = match Device::boot(device(rt, number), storage(rt, alloc, content)?) {
-        Ok(device) => device,
-        Err((_, fail)) => {
-            assert!(rt; rows.is_empty(), "boot");
-            return Ok(unstarted(alloc, fail));
-        }
-    };
-    let started = Ok(device.commits());
-    for (i, (call, wanted)) in before.iter().chain(rows).enumerate() {
-        assert_eq!(rt; told(rt, &mut device, *call), *wanted, "row {i}");
-    }
-    Ok(Left {
-        started,
-        commits: device.commits(),
-        torn: device.torn(),
-        content: restarted(rt, alloc, device.shut())?,
-    })
 }
 
-/// What rows come to for device 1, with these pieces in its storage, those before first.
-fn run_over(
-    rt: &impl Abort,
-    alloc: Global,
-    pieces: &[Piece],
-    before: &[Row],
-    rows: &[Row],
-) -> Result<Left, Fail> {
-    run(
-        rt,
-        alloc,
-        1,
-        &content_of(alloc, 3_424, pieces)?,
-        before,
-        rows,
-    )
+impl Nodes for Devices {
+    type Node = Device<Fused<MemNv>>;
+
+    type Call = Call;
+
+    fn start(
+        &self,
+        _alloc: Global,
+        nv: Fused<MemNv>,
+    ) -> Result<Result<Device<Fused<MemNv>>, BootFail>, Fail> {
+        let Some(number) = DevNo::new(self.number) else {
+            return Err(Fail::from("no device"));
+        };
+        match Device::boot(number, nv) {
+            Ok(device) => Ok(Ok(device)),
+            Err((_, fail)) => Ok(Err(fail)),
+        }
+    }
+
+    fn told(&self, device: &mut Device<Fused<MemNv>>, call: Call) -> Told {
+        match call {
+            Call::Make => made(device),
+            Call::Ask(kind, amount) => asked(device, kind, amount),
+            Call::Take(given) => taken(device, given),
+            Call::Debit(number) => franked(device, number),
+            Call::Ack => acknowledged(device),
+            Call::Resend => resent(device),
+            Call::Status => status(device),
+            Call::Fills(slot) => fills(device, slot),
+            Call::Commits => ("commits", device.commits()),
+        }
+    }
+
+    fn arm(&self, device: &mut Device<Fused<MemNv>>, fuse: Fuse) {
+        device.arm(fuse.calls, fuse.keep, fuse.byte);
+    }
+
+    fn commits(&self, device: &Device<Fused<MemNv>>) -> u64 {
+        device.commits()
+    }
+
+    fn torn(&self, device: &Device<Fused<MemNv>>) -> Option<Commit> {
+        device.torn()
+    }
+
+    fn shut(&self, device: Device<Fused<MemNv>>) -> Fused<MemNv> {
+        device.shut()
+    }
+}
+
+/// Device 1.
+const FIRST_DEVICE: Devices = Devices { number: 1 };
+
+/// What rows come to for device 1, with these pieces in its storage.
+fn run_over(rt: &impl Abort, alloc: Global, pieces: &[Piece], rows: &[Row]) -> Result<Left, Fail> {
+    let content = content_of(alloc, 3_424, pieces)?;
+    run(rt, alloc, &FIRST_DEVICE, &content, rows)
 }
 
 #[test]
 fn starts_from_records_of_its_own(rt: HostRuntime) -> Result<(), Fail> {
     for (number, bytes, pieces, wanted, what) in STARTS {
-        let content = content_of(rt.alloc(), bytes, pieces)?;
-        let left = run(&rt, rt.alloc(), number, &content, &[], &[])?;
-        assert_eq!(rt; left.started, wanted, "{what}");
+        let content = content_of(rt.alloc(), *bytes, *pieces)?;
+        starts(
+            &rt,
+            rt.alloc(),
+            &Devices { number: *number },
+            &content,
+            *wanted,
+            *what,
+        )?;
     }
     Ok(())
 }
@@ -436,62 +449,57 @@ fn starts_from_records_of_its_own(rt: HostRuntime) -> Result<(), Fail> {
 #[test]
 fn wears_out(rt: HostRuntime) -> Result<(), Fail> {
     let before = code_of(&content_of(rt.alloc(), 3_424, MOST_COMMITS)?);
-    let left = run_over(&rt, rt.alloc(), MOST_COMMITS, &[], WORN)?;
-    assert_eq!(rt; left.commits, 4_294_967_295);
-    assert!(rt; left.torn.is_none());
-    assert!(rt; code_of(&left.content) == before, "the storage stays");
+    let left = run_over(&rt, rt.alloc(), MOST_COMMITS, WORN)?;
+    holds(&rt, is_left(&left, 4_294_967_295, None), "worn");
+    holds(&rt, code_of(&left.content) == before, "the storage stays");
     Ok(())
 }
 
 #[test]
 fn leaves_seven_records(rt: HostRuntime) -> Result<(), Fail> {
-    let left = run_over(&rt, rt.alloc(), BLANK, &SERVICE[..7], SERVED)?;
-    assert!(rt; code_of(&left.content) == SEVEN, "the storage");
+    let blank = content_of(rt.alloc(), 3_424, BLANK)?;
+    let left = run_armed(
+        &rt,
+        rt.alloc(),
+        &FIRST_DEVICE,
+        &blank,
+        &SERVICE[..7],
+        None,
+        SERVED,
+    )?;
+    holds(&rt, code_of(&left.content) == SEVEN, "the storage");
     Ok(())
 }
 
 #[test]
 fn an_old_request_is_sent_again(rt: HostRuntime) -> Result<(), Fail> {
     let code = code_of(&content_of(rt.alloc(), 3_424, ASKED_BEFORE)?);
-    let left = run_over(&rt, rt.alloc(), ASKED_BEFORE, &[], SENT_AGAIN)?;
-    assert!(rt; code_of(&left.content) == code, "a start writes nothing");
-    let left = run(&rt, rt.alloc(), 1, &left.content, &[], GRANTED_THEN)?;
-    assert!(rt; code_of(&left.content) == APPLIED, "the storage");
+    let left = run_over(&rt, rt.alloc(), ASKED_BEFORE, SENT_AGAIN)?;
+    holds(
+        &rt,
+        code_of(&left.content) == code,
+        "a start writes nothing",
+    );
+    let left = run(&rt, rt.alloc(), &FIRST_DEVICE, &left.content, GRANTED_THEN)?;
+    holds(&rt, code_of(&left.content) == APPLIED, "the storage");
     Ok(())
 }
 
-/// Where a device stands before a debit that is cut: what its storage holds, how many rows of its service are done, how many
-/// commits there are then, and the piece.
-type Before = (&'static [Piece<'static>], usize, u64, u32);
+/// Where a device stands before a debit that is cut: how many rows of its service are done on blank storage, and the piece.
+/// There are as many commits then.
+type Before = (usize, u32);
 
-/// The debits that are cut: of a device with seven commits on sixteen slots; and with these and ten debits. One with seven on two
+/// The debits that are cut: a device with seven commits on sixteen slots; and with these and ten debits. One with seven on two
 /// slots is in the rows of the program.
-const CUTS: [(Before, [Cut; 5]); 2] = [
-    ((BLANK, 7, 7, 1), FOUR_CALLS),
-    ((BLANK, 17, 17, 11), SIX_CALLS),
-];
+const CUTS: [(Before, [Cut; 5]); 2] = [((7, 1), FOUR_CALLS), ((17, 11), SIX_CALLS)];
 
-/// Cuts power in a debit of this piece, where there are so many commits.
-fn cut_rows(commits: u64, number: u32, cut: (u32, u32, u8)) -> [Row; 4] {
-    [
-        (Call::Commits, ("commits", commits)),
-        (Call::Arm(cut.0, cut.1, cut.2), ("armed", 0)),
-        (Call::Debit(number), ("power", 0)),
-        (Call::Debit(number), ("failed", 0)),
-    ]
-}
-
-/// Debits it again, where so many commits count for the one that was cut.
-fn rows_again(commits: u64, number: u32, more: u64) -> [Row; 2] {
-    let mark = if number == 1 {
-        "the first mark"
+/// What is told of a piece that is debited again: whether its mark was given before.
+fn told_again(number: u32, more: u64) -> Told {
+    if number == 1 {
+        ("the first mark", more)
     } else {
-        "another mark"
-    };
-    [
-        (Call::Commits, ("commits", commits.saturating_add(more))),
-        (Call::Debit(number), (mark, more)),
-    ]
+        ("another mark", more)
+    }
 }
 
 /// Cuts power in a debit, and debits again after a restart; so many commits count for the one that is cut.
@@ -499,16 +507,29 @@ fn cut_short(
     rt: &impl Abort,
     alloc: Global,
     before: Before,
-    cut: (u32, u32, u8),
+    fuse: Fuse,
     more: u64,
 ) -> Result<(), Fail> {
-    let (pieces, done, commits, number) = before;
+    let (done, number) = before;
     assert!(rt; done <= SERVICE.len(), "done");
-    let rows = cut_rows(commits, number, cut);
-    let first = run_over(rt, alloc, pieces, &SERVICE[..done], &rows)?;
-    assert!(rt; matches!(first.torn, Some(Commit::Debited(..))), "torn");
-    let rows = rows_again(commits, number, more);
-    let _second = run(rt, alloc, 1, &first.content, &[], &rows)?;
+    let debit = Call::Debit(number);
+    let blank = content_of(alloc, 3_424, BLANK)?;
+    let rows = [(debit, ("power", 0)), (debit, ("failed", 0))];
+    let first = run_armed(
+        rt,
+        alloc,
+        &FIRST_DEVICE,
+        &blank,
+        &SERVICE[..done],
+        Some(fuse),
+        &rows,
+    )?;
+    let torn = ("debited", [1, number, 550, 1, 0]);
+    holds(rt, is_left(&first, done as u64, Some(torn)), "torn");
+    let rows = [(debit, told_again(number, more))];
+    let second = run(rt, alloc, &FIRST_DEVICE, &first.content, &rows)?;
+    let commits = first.commits.saturating_add(more);
+    holds(rt, second.started == Ok(commits), "old or new");
     Ok(())
 }
 
@@ -516,8 +537,9 @@ fn cut_short(
 fn is_cut_at_each_call(rt: HostRuntime) -> Result<(), Fail> {
     for (before, cuts) in CUTS {
         for (from, to, keep, byte, more) in cuts {
-            for call in from..=to {
-                cut_short(&rt, rt.alloc(), before, (call, keep, byte), more)?;
+            for calls in from..=to {
+                let fuse = Fuse { calls, keep, byte };
+                cut_short(&rt, rt.alloc(), before, fuse, more)?;
             }
         }
     }

@@ -3,17 +3,16 @@
 ghost use Rattle.std.specs.Prelude.{IfSome, IfOk};
 ghost use Rattle.bench_base.specs.Ranges.{IsPostage};
 
-use crate::worked::{
-    BLANK, Left, Piece, TEARS, Told, content_of, failed, lay, restarted, storage, unstarted,
-};
+use crate::running::{Cut, Fuse, Left, Nodes, cut_at_each_call, is_left, run, starts};
+use crate::worked::{BLANK, Piece, Told, content_of, failed, holds, lay, lie_at};
 use bench_base::bytes::Note;
 use bench_base::fields::{put_u16, put_u32};
 use bench_base::ledger::Commit;
 use bench_base::numbers::DevNo;
 use bench_base::refusals::{BootFail, HostFail, HostRefusal, RateRefusal, Unread};
 use bench_base::words::JobState;
-use host_node::{Host, HostRoom, Ordered};
-use nv_model::{Fused, MemNv};
+use host_node::{Host, HostRoom};
+use nv_model::{Fused, MemNv, Nv};
 use std::alloc::Global;
 use std::process::Abort;
 use std::test::Fail;
@@ -48,9 +47,6 @@ enum Call {
     Send(u32),
     Print(u32),
     Close(u32),
-    Commits,
-    /// The fuse is armed: see `Fused::arm`.
-    Arm(u32, u32, u8),
 }
 
 /// A call, and what is wanted of it.
@@ -137,25 +133,25 @@ type Job = (u32, u8, u8, u8, (u8, u8));
 const DAMAGED: Result<u64, BootFail> = Err(BootFail::Damaged);
 
 /// A job in the first cell, and what a start answers.
-const FIRST_JOBS: [(Job, Result<u64, BootFail>); 14] = [
-    ((1, 1, 2, 1, (1, 0)), Ok(1)),
-    ((1, 8, 2, 1, (0, 1)), Ok(1)),
-    ((1, 1, 1, 4, (255, 255)), Ok(1)),
-    ((2, 1, 2, 1, (1, 0)), DAMAGED),
-    ((0, 1, 2, 1, (1, 0)), DAMAGED),
-    ((1, 0, 2, 1, (1, 0)), DAMAGED),
-    ((1, 9, 2, 1, (1, 0)), DAMAGED),
-    ((1, 1, 0, 4, (1, 0)), DAMAGED),
-    ((1, 1, 1, 1, (1, 0)), DAMAGED),
-    ((1, 1, 2, 0, (1, 0)), DAMAGED),
-    ((1, 1, 2, 2, (2, 0)), DAMAGED),
-    ((1, 1, 2, 3, (2, 0)), DAMAGED),
-    ((1, 1, 2, 5, (1, 0)), DAMAGED),
-    ((1_025, 1, 2, 1, (1, 0)), DAMAGED),
+const FIRST_JOBS: &[(Job, Result<u64, BootFail>, &str)] = &[
+    ((1, 1, 2, 1, (1, 0)), Ok(1), "ordered"),
+    ((1, 8, 2, 1, (0, 1)), Ok(1), "of device 8"),
+    ((1, 1, 1, 4, (255, 255)), Ok(1), "closed, below the tops"),
+    ((2, 1, 2, 1, (1, 0)), DAMAGED, "job 2"),
+    ((0, 1, 2, 1, (1, 0)), DAMAGED, "job 0"),
+    ((1, 0, 2, 1, (1, 0)), DAMAGED, "device 0"),
+    ((1, 9, 2, 1, (1, 0)), DAMAGED, "device 9"),
+    ((1, 1, 0, 4, (1, 0)), DAMAGED, "piece 0"),
+    ((1, 1, 1, 1, (1, 0)), DAMAGED, "ordered, not above the top"),
+    ((1, 1, 2, 0, (1, 0)), DAMAGED, "state 0"),
+    ((1, 1, 2, 2, (2, 0)), DAMAGED, "held without a mark"),
+    ((1, 1, 2, 3, (2, 0)), DAMAGED, "begun without a mark"),
+    ((1, 1, 2, 5, (1, 0)), DAMAGED, "state 5"),
+    ((1_025, 1, 2, 1, (1, 0)), DAMAGED, "no other jobs"),
 ];
 
 /// So many bytes with these jobs, each in its cell, and what a start answers.
-const JOBS: [(usize, &[(usize, Job)], Result<u64, BootFail>, &str); 5] = [
+const JOBS: &[(usize, &[(usize, Job)], Result<u64, BootFail>, &str)] = &[
     (SIZE, &[], Ok(0), "blank"),
     (SIZE - 1, &[], DAMAGED, "a byte short"),
     (SIZE, &[(1, (2, 1, 2, 1, (1, 0)))], DAMAGED, "no job 1"),
@@ -242,127 +238,132 @@ fn fault(fail: HostFail) -> Told {
     }
 }
 
-/// This price, whose postage is one.
-fn priced(rt: &impl Abort, price: Price) -> Price
+/// This price, or none where its postage is not one.
+fn priced(price: Price) -> Price
     ensures { IfSome result (λ r. IfOk r IsPostage) }
 {
-    if let Some(Ok(postage)) = price {
-        assert!(rt; 1 <= postage && postage <= 100_000, "postage");
+    match price {
+        Some(Ok(postage)) if postage < 1 || 100_000 < postage => None,
+        _ => price,
     }
-    price
 }
 
-fn ordered(rt: &impl Abort, price: Price, answer: Result<Ordered, HostFail>) -> Told {
-    match answer {
-        Ok(done) => {
-            assert_eq!(rt; Some(Ok(done.postage)), price, "postage");
-            ("ordered", u64::from(done.job))
-        }
+fn ordered<N: Nv>(host: &mut Host<N>, price: Price, number: u32, piece: u32) -> Told {
+    let Some(device) = DevNo::new(number) else {
+        return ("no device", 0);
+    };
+    match host.order(priced(price), device, piece, 1) {
+        Ok(done) if price == Some(Ok(done.postage)) => ("ordered", u64::from(done.job)),
+        Ok(done) => ("ordered for", u64::from(done.postage)),
         Err(fail) => fault(fail),
     }
 }
 
-fn taken(answer: Result<u32, HostFail>) -> Told {
-    match answer {
+fn taken<N: Nv>(host: &mut Host<N>, given: Given) -> Told {
+    match host.take(bytes_of(given).as_slice()) {
         Ok(job) => ("held", u64::from(job)),
         Err(fail) => fault(fail),
     }
 }
 
-fn sent(rt: &impl Abort, job: u32, answer: Result<Note, HostFail>) -> Told {
-    match answer {
-        Ok(note) => {
-            assert_eq!(rt; note.as_slice().len(), 16);
-            ("sent", u64::from(job))
-        }
+fn sent<N: Nv>(host: &Host<N>, job: u32) -> Told {
+    match host.debit_message(job) {
+        Ok(note) if note.as_slice().len() == 16 => ("sent", u64::from(job)),
+        Ok(_) => ("another message", u64::from(job)),
         Err(fail) => fault(fail),
     }
 }
 
 /// The version of the mark that is printed.
-fn printed(answer: Result<[u8; 64], HostFail>) -> Told {
-    match answer {
+fn printed<N: Nv>(host: &mut Host<N>, job: u32) -> Told {
+    match host.begin_print(job) {
         Ok(mark) => ("printed", u64::from(mark[0])),
         Err(fail) => fault(fail),
     }
 }
 
-fn closed(job: u32, answer: Result<(), HostFail>) -> Told {
-    match answer {
+fn closed<N: Nv>(host: &mut Host<N>, job: u32) -> Told {
+    match host.close_job(job) {
         Ok(()) => ("closed", u64::from(job)),
         Err(fail) => fault(fail),
     }
 }
 
-fn device(rt: &impl Abort, number: u32) -> DevNo {
-    DevNo::new(number).expect(rt, "device")
-}
+#[derive(Clone, Copy)]
+struct Hosts;
 
-/// What the host tells of a call.
-fn told(rt: &impl Abort, host: &mut Host<Fused<MemNv>>, call: Call) -> Told {
-    match call {
-        Call::Order(price, number, piece) => {
-            let answer = host.order(priced(rt, price), device(rt, number), piece, 1);
-            ordered(rt, price, answer)
+impl Nodes for Hosts {
+    type Node = Host<Fused<MemNv>>;
+
+    type Call = Call;
+
+    fn start(
+        &self,
+        alloc: Global,
+        nv: Fused<MemNv>,
+    ) -> Result<Result<Host<Fused<MemNv>>, BootFail>, Fail> {
+        let room = HostRoom::new(alloc)?;
+        match Host::boot(nv, room) {
+            Ok(host) => Ok(Ok(host)),
+            Err((_, _, fail)) => Ok(Err(fail)),
         }
-        Call::Take(given) => taken(host.take(bytes_of(given).as_slice())),
-        Call::Send(job) => sent(rt, job, host.debit_message(job)),
-        Call::Print(job) => printed(host.begin_print(job)),
-        Call::Close(job) => closed(job, host.close_job(job)),
-        Call::Commits => ("commits", host.commits()),
-        Call::Arm(calls, keep, byte) => {
-            host.arm(calls, keep, byte);
-            ("armed", 0)
+    }
+
+    fn told(&self, host: &mut Host<Fused<MemNv>>, call: Call) -> Told {
+        match call {
+            Call::Order(price, number, piece) => ordered(host, price, number, piece),
+            Call::Take(given) => taken(host, given),
+            Call::Send(job) => sent(host, job),
+            Call::Print(job) => printed(host, job),
+            Call::Close(job) => closed(host, job),
         }
+    }
+
+    fn arm(&self, host: &mut Host<Fused<MemNv>>, fuse: Fuse) {
+        host.arm(fuse.calls, fuse.keep, fuse.byte);
+    }
+
+    fn commits(&self, host: &Host<Fused<MemNv>>) -> u64 {
+        host.commits()
+    }
+
+    fn torn(&self, host: &Host<Fused<MemNv>>) -> Option<Commit> {
+        host.torn()
+    }
+
+    fn shut(&self, host: Host<Fused<MemNv>>) -> Fused<MemNv> {
+        let (nv, _) = host.shut();
+        nv
     }
 }
 
-/// Starts a host from this content, and does what the rows ask, those before first.
-fn run(
+/// What rows come to on blank storage.
+fn run_blank(rt: &impl Abort, alloc: Global, rows: &[Row]) -> Result<Left, Fail> {
+    run(rt, alloc, &Hosts, &content_of(alloc, SIZE, BLANK)?, rows)
+}
+
+/// A start from this content answers this.
+fn host_starts(
     rt: &impl Abort,
     alloc: Global,
     content: &[u8],
-    before: &[Row],
-    rows: &[Row],
-) -> Result<Left, Fail> {
-    let nv = storage(rt, alloc, content)?;
-    let mut host = match Host::boot(nv, HostRoom::new(alloc)?) {
-        Ok(host) => host,
-        Err((_, _, fail)) => {
-            assert!(rt; rows.is_empty(), "boot");
-            return Ok(unstarted(alloc, fail));
-        }
-    };
-    let started = Ok(host.commits());
-    for (i, (call, wanted)) in before.iter().chain(rows).enumerate() {
-        assert_eq!(rt; told(rt, &mut host, *call), *wanted, "row {i}");
-    }
-    let (commits, torn) = (host.commits(), host.torn());
-    let (nv, _) = host.shut();
-    Ok(Left {
-        started,
-        commits,
-        torn,
-        content: restarted(rt, alloc, nv)?,
-    })
-}
-
-/// What rows come to on blank storage, those before first.
-fn run_blank(rt: &impl Abort, alloc: Global, before: &[Row], rows: &[Row]) -> Result<Left, Fail> {
-    run(rt, alloc, &content_of(alloc, SIZE, BLANK)?, before, rows)
+    wanted: Result<u64, BootFail>,
+    what: &str,
+) -> Result<(), Fail> {
+    starts(rt, alloc, &Hosts, content, wanted, what)
 }
 
 #[test]
 fn refuses_in_order(rt: HostRuntime) -> Result<(), Fail> {
-    let left = run_blank(&rt, rt.alloc(), &[], REFUSALS)?;
-    assert_eq!(rt; left.commits, 4, "no refusal commits");
+    let left = run_blank(&rt, rt.alloc(), REFUSALS)?;
+    holds(&rt, is_left(&left, 4, None), "no refusal commits");
     Ok(())
 }
 
 #[test]
 fn orders_at_the_highest_postage(rt: HostRuntime) -> Result<(), Fail> {
-    let left = run_blank(&rt, rt.alloc(), &[], HIGHEST)?;
-    assert_eq!(rt; left.commits, 1);
+    let left = run_blank(&rt, rt.alloc(), HIGHEST)?;
+    holds(&rt, is_left(&left, 1, None), "it commits");
     Ok(())
 }
 
@@ -391,32 +392,17 @@ fn held_slot() -> [u8; 120] {
     bytes
 }
 
-/// The bytes of a slot in a storage.
-fn slot_at(content: &[u8], at: usize) -> [u8; 120] {
-    let mut bytes = [0; 120];
-    for (cell, byte) in bytes.iter_mut().zip(content.iter().skip(at)) {
-        *cell = *byte;
-    }
-    bytes
-}
-
-/// These bytes lie in a storage as a slot.
-fn lies(rt: &impl Abort, content: &[u8], at: usize, wanted: [u8; 120], what: &str) {
-    assert_eq!(rt; slot_at(content, at), wanted, "{what}");
-}
-
 #[test]
 fn writes_jobs_in_their_layout(rt: HostRuntime) -> Result<(), Fail> {
-    let left = run_blank(&rt, rt.alloc(), &[], HELD)?;
+    let left = run_blank(&rt, rt.alloc(), HELD)?;
     let content = &left.content;
-    lies(&rt, content, 0, slot((1, 1, 1, 1, (0, 0))), "ordered");
-    lies(&rt, content, 120, held_slot(), "held");
+    let ordered = slot((1, 1, 1, 1, (0, 0)));
+    holds(&rt, lie_at(content, 0, &ordered), "ordered");
+    holds(&rt, lie_at(content, 120, &held_slot()), "held");
     let second = slot((2, 1, 2, 1, (1, 0)));
-    lies(&rt, content, CELL, second, "with the tops");
-    lies(&rt, content, CELL + 120, [0; 120], "blank");
-    let again = run(&rt, rt.alloc(), content, &[], &[])?;
-    assert_eq!(rt; again.started, Ok(3));
-    Ok(())
+    holds(&rt, lie_at(content, CELL, &second), "with the tops");
+    holds(&rt, lie_at(content, CELL + 120, &[0; 120]), "blank");
+    host_starts(&rt, rt.alloc(), content, Ok(3), "the same")
 }
 
 /// Lays the slot of a job into the first one of a cell.
@@ -448,7 +434,7 @@ fn keeps_jobs_that_are_not_closed(rt: HostRuntime) -> Result<(), Fail> {
         (1_025, 2, FULL),
         (4_294_967_295, 4_294_967_294, NUMBERS_FULL),
     ] {
-        let _left = run(&rt, alloc, &full(alloc, last, open)?, &[], rows)?;
+        let _left = run(&rt, alloc, &Hosts, &full(alloc, last, open)?, rows)?;
     }
     Ok(())
 }
@@ -462,23 +448,11 @@ fn with_jobs(alloc: Global, bytes: usize, jobs: &[(usize, Job)]) -> Result<Vec<u
     Ok(content)
 }
 
-/// What a start answers with these jobs.
-fn started(
-    rt: &impl Abort,
-    alloc: Global,
-    bytes: usize,
-    jobs: &[(usize, Job)],
-) -> Result<Result<u64, BootFail>, Fail> {
-    let content = with_jobs(alloc, bytes, jobs)?;
-    Ok(run(rt, alloc, &content, &[], &[])?.started)
-}
-
 #[test]
 fn starts_from_jobs_that_agree(rt: HostRuntime) -> Result<(), Fail> {
-    for (job, wanted) in FIRST_JOBS {
-        let got = started(&rt, rt.alloc(), SIZE, &[(0, job)])?;
-        let (number, device, piece, state, _) = job;
-        assert_eq!(rt; got, wanted, "{number} {device} {piece} {state}");
+    for (job, wanted, what) in FIRST_JOBS {
+        let content = with_jobs(rt.alloc(), SIZE, &[(0, *job)])?;
+        host_starts(&rt, rt.alloc(), &content, *wanted, *what)?;
     }
     Ok(())
 }
@@ -486,71 +460,46 @@ fn starts_from_jobs_that_agree(rt: HostRuntime) -> Result<(), Fail> {
 #[test]
 fn starts_from_cells_that_agree(rt: HostRuntime) -> Result<(), Fail> {
     for (bytes, jobs, wanted, what) in JOBS {
-        let got = started(&rt, rt.alloc(), bytes, jobs)?;
-        assert_eq!(rt; got, wanted, "{what}");
+        let content = with_jobs(rt.alloc(), *bytes, *jobs)?;
+        host_starts(&rt, rt.alloc(), &content, *wanted, *what)?;
     }
     Ok(())
 }
 
-/// The call whose commit is cut, and what is told where it is made: it orders job 3, whose cell is blank, or prints job 1,
-/// whose cell has two commits.
-fn change(blank: bool) -> Row {
-    if blank {
-        (Call::Order(PRICE, 2, 1), ("ordered", 3))
-    } else {
-        (Call::Print(1), ("printed", 2))
-    }
-}
-
-/// Cuts power in that call, and starts again: how many commits the cut one counts for.
-fn cut_short(
-    rt: &impl Abort,
-    alloc: Global,
-    blank: bool,
-    call: u32,
-    tear: (u32, u8),
-) -> Result<u64, Fail> {
-    let rows = [
-        (Call::Arm(call, tear.0, tear.1), ("armed", 0)),
-        (change(blank).0, ("power", 0)),
-        (Call::Commits, ("commits", 3)),
-        (change(blank).0, ("failed", 0)),
-    ];
-    let first = run_blank(rt, alloc, HELD, &rows)?;
-    match first.torn {
-        Some(Commit::Ordered(3, _, 1, 550, 1)) => assert!(rt; blank, "torn"),
-        Some(Commit::Began(1)) => assert!(rt; !blank, "torn"),
-        _ => assert!(rt; false, "torn"),
-    }
-    let second = run(rt, alloc, &first.content, &[], OPEN)?;
-    assert!(rt; second.commits >= 3);
-    Ok(second.commits - 3)
-}
-
-/// Power would be cut behind the last call of that commit.
-fn made(rt: &impl Abort, alloc: Global, blank: bool, calls: u32) -> Result<(), Fail> {
-    let rows = [(Call::Arm(calls, 0, 0), ("armed", 0)), change(blank)];
-    let left = run_blank(rt, alloc, HELD, &rows)?;
-    assert_eq!(rt; left.commits, 4, "made at {calls}");
-    assert!(rt; left.torn.is_none());
-    Ok(())
-}
+/// The commits that are cut: it orders job 3, whose cell is blank, or prints job 1, whose cell has two commits.
+const CUTS: &[Cut<'static, Call>] = &[
+    Cut {
+        bytes: SIZE,
+        before: HELD,
+        commits: 3,
+        calls: 4,
+        made: &[(Call::Order(PRICE, 2, 1), ("ordered", 3))],
+        cut: &[
+            (Call::Order(PRICE, 2, 1), ("power", 0)),
+            (Call::Order(PRICE, 2, 1), ("failed", 0)),
+        ],
+        torn: ("ordered", [3, 2, 1, 550, 1]),
+        again: OPEN,
+    },
+    Cut {
+        bytes: SIZE,
+        before: HELD,
+        commits: 3,
+        calls: 6,
+        made: &[(Call::Print(1), ("printed", 2))],
+        cut: &[
+            (Call::Print(1), ("power", 0)),
+            (Call::Print(1), ("failed", 0)),
+        ],
+        torn: ("began", [1, 0, 0, 0, 0]),
+        again: OPEN,
+    },
+];
 
 #[test]
 fn is_cut_at_each_call(rt: HostRuntime) -> Result<(), Fail> {
-    let alloc = rt.alloc();
-    for (blank, calls) in [(true, 4), (false, 6)] {
-        for (keep, byte) in TEARS {
-            for call in 0..calls {
-                let more = cut_short(&rt, alloc, blank, call, (keep, byte))?;
-                assert!(rt; more <= 1, "old or new at {call} {keep} {byte}");
-                assert!(rt;
-                    more == 0 || call + 2 >= calls,
-                    "new at {call} {keep} {byte}"
-                );
-            }
-        }
-        made(&rt, alloc, blank, calls)?;
+    for cut in CUTS {
+        cut_at_each_call(&rt, rt.alloc(), &Hosts, cut)?;
     }
     Ok(())
 }

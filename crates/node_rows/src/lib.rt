@@ -8,6 +8,8 @@ mod devices;
 #[cfg(test)]
 mod hosts;
 #[cfg(test)]
+mod running;
+#[cfg(test)]
 mod verifiers;
 #[cfg(test)]
 mod worked;

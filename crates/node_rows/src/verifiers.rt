@@ -4,9 +4,9 @@ ghost use Rattle.std.specs.Prelude.{◌<◌};
 ghost use Rattle.bench_base.specs.Rules.{IsVersion};
 ghost use Rattle.indicium.specs.Marks.{IsWhole};
 
+use crate::running::{Fuse, Left, Nodes, TEARS, is_left, is_old_or_new, run, run_armed, starts};
 use crate::worked::{
-    BLANK, KEY, Left, Piece, TEARS, Told, content_of, failed, restarted, storage, unstarted,
-    with_pieces,
+    BLANK, KEY, Piece, Told, content_of, failed, holds, holds_at, lie_at, with_pieces,
 };
 use bench_base::bytes::Note;
 use bench_base::ledger::Commit;
@@ -15,7 +15,7 @@ use bench_base::refusals::{BootFail, MarkFault, ScanFail, ScanRefusal};
 use bench_base::sizes::VERIFIER_CELLS;
 use bench_base::words::Key;
 use indicium::{Mark, write_indicium};
-use nv_model::{Fused, MemNv};
+use nv_model::{Fused, MemNv, Nv};
 use nv_store::Room;
 use std::alloc::Global;
 use std::process::Abort;
@@ -38,6 +38,8 @@ const SLOT: usize = 2_061;
 enum Given {
     /// In this version, the mark of this piece of device 1.
     Whole(u8, u32),
+    /// The mark of this piece of device 2.
+    OfTwo(u32),
     /// The first mark without its last byte.
     Short,
     /// The first mark with device 2 in it.
@@ -51,8 +53,8 @@ enum Given {
 /// What is asked of the verifier.
 #[derive(Clone, Copy)]
 enum Call {
-    /// Device 1, under this key.
-    Trust(&'static Key),
+    /// This device, under this key.
+    Trust(u32, &'static Key),
     /// The scan of this number, on this day.
     Scan(u32, Given, i32),
     Commits,
@@ -60,8 +62,6 @@ enum Call {
     Blocks,
     /// The cell of a device's block.
     Find(u32, u32),
-    /// The fuse is armed: see `Fused::arm`.
-    Arm(u32, u32, u8),
 }
 
 /// A call, and what is wanted of it.
@@ -82,8 +82,8 @@ const OLDER_SECOND: Given = Given::Whole(1, 2);
 const SCANS: &[Row] = &[
     (Call::Commits, ("commits", 0)),
     (Call::Scan(1, FIRST, DAY), ("unknown", 1)),
-    (Call::Trust(&KEY), ("trusted", 1)),
-    (Call::Trust(&OTHER_KEY), ("known", 0)),
+    (Call::Trust(1, &KEY), ("trusted", 1)),
+    (Call::Trust(1, &OTHER_KEY), ("known", 0)),
     (Call::Scan(1, Given::Short, DAY), ("unread length", 63)),
     (Call::Scan(1, Given::Strange, DAY), ("unknown", 2)),
     (Call::Scan(1, Given::Bent, DAY), ("bad code", 0)),
@@ -114,15 +114,40 @@ const THIRD: [u8; 25] = [
 
 /// Device 1 is trusted, and has a piece in each of blocks 0 and 1.
 const TWO_BLOCKS: &[Row] = &[
-    (Call::Trust(&KEY), ("trusted", 1)),
+    (Call::Trust(1, &KEY), ("trusted", 1)),
     (Call::Scan(1, FIRST, DAY), ("new", 1)),
     (Call::Scan(2, Given::Whole(2, 513), DAY), ("new", 513)),
+];
+
+/// Blocks of two devices get cells in the order in which they come.
+const FOUR_BLOCKS: &[Row] = &[
+    (Call::Find(1, 0), ("no cell", 0)),
+    (Call::Trust(1, &KEY), ("trusted", 1)),
+    (Call::Trust(2, &KEY), ("trusted", 2)),
+    (Call::Scan(1, Given::OfTwo(512), DAY), ("new", 512)),
+    (Call::Find(2, 1), ("cell", 8)),
+    (Call::Scan(2, Given::Whole(2, 3_584), DAY), ("new", 3_584)),
+    (Call::Find(1, 7), ("cell", 9)),
+    (Call::Scan(3, Given::OfTwo(0), DAY), ("new", 0)),
+    (Call::Find(2, 0), ("cell", 10)),
+    (
+        Call::Scan(4, Given::Whole(2, 4_294_966_784), DAY),
+        ("new", 4_294_966_784),
+    ),
+    (Call::Find(2, 1), ("cell", 8)),
+    (Call::Find(1, 7), ("cell", 9)),
+    (Call::Find(2, 0), ("cell", 10)),
+    (Call::Find(1, 8_388_607), ("cell", 11)),
+    (Call::Find(1, 1), ("no cell", 0)),
+    (Call::Find(2, 7), ("no cell", 0)),
+    (Call::Find(3, 0), ("no cell", 0)),
+    (Call::Blocks, ("blocks", 4)),
 ];
 
 const DAMAGED: Result<u64, BootFail> = Err(BootFail::Damaged);
 
 /// A byte of that storage is changed: what it starts from then.
-const CHANGES: [(usize, u8, Result<u64, BootFail>, &str); 8] = [
+const CHANGES: &[(usize, u8, Result<u64, BootFail>, &str)] = &[
     (2 * SLOT, 0, Ok(3), "a byte of a blank cell"),
     (0, 0, DAMAGED, "a block of no trusted device"),
     (16 * SLOT, 0, DAMAGED, "a blank cell before a block"),
@@ -133,22 +158,22 @@ const CHANGES: [(usize, u8, Result<u64, BootFail>, &str); 8] = [
     (SLOT, 0xA5, DAMAGED, "an open slot of count 0"),
 ];
 
-const TRUST: &[Row] = &[(Call::Trust(&KEY), ("trusted", 1))];
+const TRUST: &[Row] = &[(Call::Trust(1, &KEY), ("trusted", 1))];
 
-/// Power would be cut behind the last call of a new block's commit.
-const UNCUT: &[Row] = &[
-    (Call::Arm(4, 0, 0), ("armed", 0)),
+/// One more block.
+const LAST_BLOCK: &[Row] = &[
     (Call::Scan(1, Given::Whole(2, 15_360), DAY), ("new", 15_360)),
     (Call::Blocks, ("blocks", 31)),
 ];
 
-fn whole_mark(version: u8, piece: u32) -> Mark
-    requires { IsVersion version }
+fn whole_mark(version: u8, device: u32, piece: u32) -> Mark
+    requires version { IsVersion version }
+    requires device { device < 256 }
     ensures { IsWhole result }
 {
     Mark {
         version,
-        device: 1,
+        device,
         piece,
         postage: 550,
         ascending: 550,
@@ -163,7 +188,12 @@ fn whole_mark(version: u8, piece: u32) -> Mark
 fn mark(version: u8, piece: u32, key: &Key) -> [u8; 64]
     requires { IsVersion version }
 {
-    write_indicium(&whole_mark(version, piece), key)
+    write_indicium(&whole_mark(version, 1, piece), key)
+}
+
+/// A mark of device 2.
+fn mark_of_two(piece: u32) -> [u8; 64] {
+    write_indicium(&whole_mark(2, 2, piece), &KEY)
 }
 
 /// The mark without its last byte.
@@ -172,12 +202,15 @@ fn short(mark: &[u8; 64]) -> Note {
 }
 
 /// The bytes that are scanned.
-fn bytes_of(rt: &impl Abort, given: Given) -> Note {
+fn bytes_of(given: Given) -> Note {
     match given {
         Given::Whole(version, piece) => {
-            assert!(rt; 1 <= version && version <= 2, "version");
+            if version < 1 || 2 < version {
+                return Note::of(&[]);
+            }
             Note::of(&mark(version, piece, &KEY))
         }
+        Given::OfTwo(piece) => Note::of(&mark_of_two(piece)),
         Given::Short => short(&mark(2, 1, &KEY)),
         Given::Strange => {
             let mut bytes = mark(2, 1, &KEY);
@@ -217,130 +250,127 @@ fn fault(fail: ScanFail) -> Told {
     }
 }
 
-fn trusted(answer: Result<(), ScanFail>) -> Told {
-    match answer {
-        Ok(()) => ("trusted", 1),
+fn trusted<N: Nv>(verifier: &mut Verifier<N>, number: u32, key: &Key) -> Told {
+    let Some(device) = DevNo::new(number) else {
+        return ("no device", 0);
+    };
+    match verifier.trust(device, key) {
+        Ok(()) => ("trusted", u64::from(number)),
         Err(fail) => fault(fail),
     }
 }
 
-fn scanned(answer: Result<Accepted, ScanFail>) -> Told {
-    match answer {
-        Ok(Accepted { piece, again, .. }) => (
-            if again { "again" } else { "new" },
-            u64::from(piece),
-        ),
+fn scanned<N: Nv>(verifier: &mut Verifier<N>, number: u32, given: Given, day: i32) -> Told {
+    let Some(today) = DayNo::new(day) else {
+        return ("no day", 0);
+    };
+    if number < 1 {
+        return ("no number", 0);
+    }
+    match verifier.scan(number, bytes_of(given).as_slice(), today) {
+        Ok(Accepted { piece, again, .. }) if again => ("again", u64::from(piece)),
+        Ok(Accepted { piece, .. }) => ("new", u64::from(piece)),
         Err(fail) => fault(fail),
     }
 }
 
-fn found(cell: Option<u32>) -> Told {
-    match cell {
+fn found<N: Nv>(verifier: &Verifier<N>, device: u32, block: u32) -> Told {
+    match verifier.blocks().find(device, block) {
         Some(cell) => ("cell", u64::from(cell)),
         None => ("no cell", 0),
     }
 }
 
-fn device_1(rt: &impl Abort) -> DevNo {
-    DevNo::new(1).expect(rt, "device 1")
-}
+#[derive(Clone, Copy)]
+struct Verifiers;
 
-/// What the verifier tells of a call.
-fn told(rt: &impl Abort, verifier: &mut Verifier<Fused<MemNv>>, call: Call) -> Told {
-    match call {
-        Call::Trust(key) => trusted(verifier.trust(device_1(rt), key)),
-        Call::Scan(number, given, day) => {
-            assert!(rt; number >= 1);
-            let today = DayNo::new(day).expect(rt, "day");
-            scanned(verifier.scan(number, bytes_of(rt, given).as_slice(), today))
-        }
-        Call::Commits => ("commits", verifier.commits()),
-        Call::Blocks => ("blocks", verifier.blocks().len() as u64),
-        Call::Find(device, block) => found(verifier.blocks().find(device, block)),
-        Call::Arm(calls, keep, byte) => {
-            verifier.arm(calls, keep, byte);
-            ("armed", 0)
+impl Nodes for Verifiers {
+    type Node = Verifier<Fused<MemNv>>;
+
+    type Call = Call;
+
+    fn start(
+        &self,
+        alloc: Global,
+        nv: Fused<MemNv>,
+    ) -> Result<Result<Verifier<Fused<MemNv>>, BootFail>, Fail> {
+        let room = Room::new(alloc, VERIFIER_CELLS)?;
+        match Verifier::boot(nv, room) {
+            Ok(verifier) => Ok(Ok(verifier)),
+            Err((_, _, fail)) => Ok(Err(fail)),
         }
     }
-}
 
-/// Starts a verifier from this content, and does what the rows ask, those before first.
-fn run(
-    rt: &impl Abort,
-    alloc: Global,
-    content: &[u8],
-    before: &[Row],
-    rows: &[Row],
-) -> Result<Left, Fail> {
-    let nv = storage(rt, alloc, content)?;
-    let mut verifier = match Verifier::boot(nv, Room::new(alloc, VERIFIER_CELLS)?) {
-        Ok(verifier) => verifier,
-        Err((_, _, fail)) => {
-            assert!(rt; rows.is_empty(), "boot");
-            return Ok(unstarted(alloc, fail));
+    fn told(&self, verifier: &mut Verifier<Fused<MemNv>>, call: Call) -> Told {
+        match call {
+            Call::Trust(number, key) => trusted(verifier, number, key),
+            Call::Scan(number, given, day) => scanned(verifier, number, given, day),
+            Call::Commits => ("commits", verifier.commits()),
+            Call::Blocks => ("blocks", verifier.blocks().len() as u64),
+            Call::Find(device, block) => found(verifier, device, block),
         }
-    };
-    let started = Ok(verifier.commits());
-    for (i, (call, wanted)) in before.iter().chain(rows).enumerate() {
-        assert_eq!(rt; told(rt, &mut verifier, *call), *wanted, "row {i}");
     }
-    let (commits, torn) = (verifier.commits(), verifier.torn());
-    let (nv, _) = verifier.shut();
-    Ok(Left {
-        started,
-        commits,
-        torn,
-        content: restarted(rt, alloc, nv)?,
-    })
+
+    fn arm(&self, verifier: &mut Verifier<Fused<MemNv>>, fuse: Fuse) {
+        verifier.arm(fuse.calls, fuse.keep, fuse.byte);
+    }
+
+    fn commits(&self, verifier: &Verifier<Fused<MemNv>>) -> u64 {
+        verifier.commits()
+    }
+
+    fn torn(&self, verifier: &Verifier<Fused<MemNv>>) -> Option<Commit> {
+        verifier.torn()
+    }
+
+    fn shut(&self, verifier: Verifier<Fused<MemNv>>) -> Fused<MemNv> {
+        let (nv, _) = verifier.shut();
+        nv
+    }
 }
 
 /// What rows come to on blank storage.
 fn run_blank(rt: &impl Abort, alloc: Global, rows: &[Row]) -> Result<Left, Fail> {
-    run(rt, alloc, &content_of(alloc, SIZE, BLANK)?, &[], rows)
-}
-
-/// What a start from this content answers.
-fn started(rt: &impl Abort, alloc: Global, content: &[u8]) -> Result<Result<u64, BootFail>, Fail> {
-    Ok(run(rt, alloc, content, &[], &[])?.started)
-}
-
-/// What a start answers from this content with a byte changed.
-fn started_changed(
-    rt: &impl Abort,
-    alloc: Global,
-    content: &[u8],
-    at: usize,
-    byte: u8,
-) -> Result<Result<u64, BootFail>, Fail> {
-    let piece = Piece { at, bytes: &[byte] };
-    started(rt, alloc, &with_pieces(alloc, content, &[piece])?)
-}
-
-/// The first bytes of a slot.
-fn slot_head(content: &[u8], at: usize) -> [u8; 25] {
-    let mut bytes = [0; 25];
-    for (cell, byte) in bytes.iter_mut().zip(content.iter().skip(at)) {
-        *cell = *byte;
-    }
-    bytes
+    run(
+        rt,
+        alloc,
+        &Verifiers,
+        &content_of(alloc, SIZE, BLANK)?,
+        rows,
+    )
 }
 
 #[test]
 fn scans_by_call(rt: HostRuntime) -> Result<(), Fail> {
     let left = run_blank(&rt, rt.alloc(), SCANS)?;
-    assert_eq!(rt; slot_head(&left.content, 16 * SLOT), THIRD);
+    holds(
+        &rt,
+        lie_at(&left.content, 16 * SLOT, &THIRD),
+        "the third commit",
+    );
+    Ok(())
+}
+
+#[test]
+fn finds_blocks_in_order(rt: HostRuntime) -> Result<(), Fail> {
+    let left = run_blank(&rt, rt.alloc(), FOUR_BLOCKS)?;
+    holds(&rt, is_left(&left, 6, None), "six commits");
     Ok(())
 }
 
 #[test]
 fn starts_from_rows_that_agree(rt: HostRuntime) -> Result<(), Fail> {
     let alloc = rt.alloc();
-    let short = started(&rt, alloc, &content_of(alloc, SIZE - 1, BLANK)?)?;
-    assert_eq!(rt; short, DAMAGED, "a byte short");
+    let short = content_of(alloc, SIZE - 1, BLANK)?;
+    starts(&rt, alloc, &Verifiers, &short, DAMAGED, "a byte short")?;
     let used = run_blank(&rt, alloc, TWO_BLOCKS)?;
     for (at, byte, wanted, what) in CHANGES {
-        let got = started_changed(&rt, alloc, &used.content, at, byte)?;
-        assert_eq!(rt; got, wanted, "{what}");
+        let piece = Piece {
+            at: *at,
+            bytes: &[*byte],
+        };
+        let changed = with_pieces(alloc, &used.content, &[piece])?;
+        starts(&rt, alloc, &Verifiers, &changed, *wanted, *what)?;
     }
     Ok(())
 }
@@ -360,16 +390,11 @@ fn two_scans(piece: u32) -> [Row; 2]
     ]
 }
 
-/// The scan of a piece is cut, where there are so many commits and blocks.
-fn cut_rows(piece: u32, commits: u32, blocks: u32, call: u32, tear: (u32, u8)) -> [Row; 7] {
-    let (commits, blocks) = (u64::from(commits), u64::from(blocks));
+/// The scan of a piece is cut, where there are so many blocks.
+fn cut_rows(piece: u32, blocks: u32) -> [Row; 3] {
     [
-        (Call::Commits, ("commits", commits)),
-        (Call::Blocks, ("blocks", blocks)),
-        (Call::Arm(call, tear.0, tear.1), ("armed", 0)),
         (scan(9, 2, piece), ("power", 0)),
-        (Call::Commits, ("commits", commits)),
-        (Call::Blocks, ("blocks", blocks)),
+        (Call::Blocks, ("blocks", u64::from(blocks))),
         (scan(9, 2, piece), ("failed", 0)),
     ]
 }
@@ -380,26 +405,21 @@ fn run_block(
     alloc: Global,
     content: &[u8],
     block: u32,
+    fuse: Fuse,
     rows: &[Row],
 ) -> Result<Left, Fail>
     requires { block < 30 }
 {
     if block >= 12 {
-        run(rt, alloc, content, &two_scans(512 * block), rows)
+        let before = two_scans(512 * block);
+        run_armed(rt, alloc, &Verifiers, content, &before, Some(fuse), rows)
     } else {
-        run(rt, alloc, content, &[], rows)
+        run_armed(rt, alloc, &Verifiers, content, &[], Some(fuse), rows)
     }
 }
 
 /// Cuts power in a scan of a block's first piece.
-fn cut(
-    rt: &impl Abort,
-    alloc: Global,
-    content: &[u8],
-    block: u32,
-    call: u32,
-    tear: (u32, u8),
-) -> Result<Left, Fail>
+fn cut(rt: &impl Abort, alloc: Global, content: &[u8], block: u32, fuse: Fuse) -> Result<Left, Fail>
     requires { block < 30 }
 {
     let piece = 512 * block;
@@ -408,12 +428,9 @@ fn cut(
     } else {
         (block + 1, block)
     };
-    let rows = cut_rows(piece, commits, blocks, call, tear);
-    let left = run_block(rt, alloc, content, block, &rows)?;
-    match left.torn {
-        Some(Commit::Accepted(_, torn, 9)) => assert_eq!(rt; torn, piece, "torn"),
-        _ => assert!(rt; false, "torn"),
-    }
+    let left = run_block(rt, alloc, content, block, fuse, &cut_rows(piece, blocks))?;
+    let torn = ("accepted", [1, piece, 9, 0, 0]);
+    holds(rt, is_left(&left, u64::from(commits), Some(torn)), "torn");
     Ok(left)
 }
 
@@ -424,12 +441,14 @@ fn scanned_again(
     torn: &Left,
     piece: u32,
 ) -> Result<(Left, u64), Fail> {
-    let next = run(rt, alloc, &torn.content, &[], &[])?;
-    assert!(rt; next.commits >= torn.commits);
-    let more = next.commits - torn.commits;
+    let next = run(rt, alloc, &Verifiers, &torn.content, &[])?;
+    let more = next
+        .commits
+        .checked_sub(torn.commits)
+        .ok_or("fewer commits")?;
     let name = if more == 1 { "again" } else { "new" };
     let rows = [(scan(9, 1, piece), (name, u64::from(piece)))];
-    let left = run(rt, alloc, &next.content, &[], &rows)?;
+    let left = run(rt, alloc, &Verifiers, &next.content, &rows)?;
     Ok((left, more))
 }
 
@@ -437,18 +456,24 @@ fn scanned_again(
 fn cut_in_turn(rt: &impl Abort, alloc: Global, content: &[u8], block: u32) -> Result<Left, Fail>
     requires { block < 30 }
 {
-    let (turn, calls) = if block >= 12 {
+    let (turn, count) = if block >= 12 {
         (block - 12, 6)
     } else {
         (block, 4)
     };
-    let (call, tear) = (turn % calls, TEARS[(turn / calls) as usize % 3]);
-    let torn = cut(rt, alloc, content, block, call, tear)?;
+    let (calls, (keep, byte)) = (turn % count, TEARS[(turn / count) as usize % 3]);
+    let torn = cut(rt, alloc, content, block, Fuse { calls, keep, byte })?;
     let (left, more) = scanned_again(rt, alloc, &torn, 512 * block)?;
-    assert!(rt; more <= 1, "old or new at {call}");
-    assert!(rt; more == 0 || call + 2 >= calls, "new at {call}");
+    holds_at(rt, is_old_or_new(more, calls, count), "cut at", calls);
     Ok(left)
 }
+
+/// Power would be cut behind the last call of a new block's commit.
+const UNCUT: Fuse = Fuse {
+    calls: 4,
+    keep: 0,
+    byte: 0,
+};
 
 #[test]
 fn is_cut_at_each_call(rt: HostRuntime) -> Result<(), Fail> {
@@ -457,7 +482,15 @@ fn is_cut_at_each_call(rt: HostRuntime) -> Result<(), Fail> {
     for block in 0..30 {
         left = cut_in_turn(&rt, alloc, &left.content, block)?;
     }
-    let last = run(&rt, alloc, &left.content, &[], UNCUT)?;
-    assert!(rt; last.torn.is_none());
+    let last = run_armed(
+        &rt,
+        alloc,
+        &Verifiers,
+        &left.content,
+        &[],
+        Some(UNCUT),
+        LAST_BLOCK,
+    )?;
+    holds(&rt, last.torn.is_none(), "not cut");
     Ok(())
 }

@@ -2,7 +2,6 @@
 ghost use Rattle.std.specs.Prelude.{◌≡◌, IfOk, false};
 ghost use Rattle.nv_model.specs.Fuses.{state_of};
 
-use bench_base::ledger::Commit;
 use bench_base::refusals::{BootFail, StoreFail};
 use bench_base::words::Key;
 use hmac_core::hmac256;
@@ -23,32 +22,17 @@ pub struct Piece<'a> {
 /// No piece: each byte is zero.
 pub const BLANK: &[Piece<'static>] = &[];
 
-/// What a tear keeps of its range, in bytes, and what it fills the rest with.
-pub const TEARS: [(u32, u8); 3] = [(300, 0x00), (0, 0xA5), (0, 0x37)];
-
 /// What is told of a call: a name, and a number.
 pub type Told = (&'static str, u64);
 
-/// What a row comes to.
-#[derive(Drop)]
-pub struct Left {
-    /// How many commits the node started with, or why it did not start.
-    pub started: Result<u64, BootFail>,
-    pub commits: u64,
-    /// The commit that failed.
-    pub torn: Option<Commit>,
-    /// What the storage holds after a restart.
-    pub content: Vec<u8>,
+/// This holds. An assertion that is written out would be proved in each function anew.
+pub fn holds(rt: &impl Abort, is: bool, what: &str) {
+    assert!(rt; is, "{what}");
 }
 
-/// What is left by a node that did not start.
-pub fn unstarted(alloc: Global, fail: BootFail) -> Left {
-    Left {
-        started: Err(fail),
-        commits: 0,
-        torn: None,
-        content: Vec::new(alloc),
-    }
+/// This holds at a number.
+pub fn holds_at(rt: &impl Abort, is: bool, what: &str, number: u32) {
+    assert!(rt; is, "{what} {number}");
 }
 
 pub fn lay(content: &mut [u8], pieces: &[Piece]) {
@@ -75,6 +59,11 @@ pub fn with_pieces(alloc: Global, content: &[u8], pieces: &[Piece]) -> Result<Ve
     Ok(content)
 }
 
+/// Whether these bytes lie in a content from there on.
+pub fn lie_at(content: &[u8], at: usize, bytes: &[u8]) -> bool {
+    at <= content.len() && content[at..].starts_with(bytes)
+}
+
 /// The code of a content under the key.
 pub fn code_of(content: &[u8]) -> [u8; 32] {
     hmac256(&KEY, content)
@@ -93,10 +82,10 @@ pub fn storage(rt: &impl Abort, alloc: Global, content: &[u8]) -> Result<Fused<M
 /// What a storage holds after a restart.
 pub fn restarted(rt: &impl Abort, alloc: Global, nv: Fused<MemNv>) -> Result<Vec<u8>, Fail> {
     let mut nv = nv;
-    assert!(rt; nv.restart().is_ok(), "restart");
+    holds(rt, nv.restart().is_ok(), "restart");
     let bytes = nv.size() as usize;
     let mut content = vec![in alloc; 0; bytes]?;
-    assert!(rt; nv.read(0, &mut content).is_ok(), "read");
+    holds(rt, nv.read(0, &mut content).is_ok(), "read");
     Ok(content)
 }
 
