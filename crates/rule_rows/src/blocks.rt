@@ -1,10 +1,8 @@
-//! Payloads against the layout by hand, and the index of a few blocks.
+//! Payloads against the layout by hand.
 use bench_base::numbers::DevNo;
 use bench_base::words::Key;
 use std::process::Abort;
-use verifier::{
-    BlockIndex, accept_payload, block_in, key_in, read_block, read_trust, scan_in, trust_payload,
-};
+use verifier::{accept_payload, block_in, key_in, read_block, read_trust, scan_in, trust_payload};
 
 const KEY: Key = [1; 32];
 
@@ -100,46 +98,4 @@ fn reads_no_other_blocks(rt: HostRuntime) {
     assert_eq!(rt; read_block(&block), Some((1, 8_388_607)));
     block[4] = 1;
     assert_eq!(rt; read_block(&block), None, "no block has this number");
-}
-
-/// Device, number and cell of blocks, in the order in which they come.
-const BLOCKS: &[(u32, u32, u32)] = &[(2, 1, 8), (1, 7, 9), (2, 0, 10), (1, 8_388_607, 11)];
-
-/// The cells of those, and of blocks that did not come.
-const CELLS: &[(u32, u32, Option<u32>)] = &[
-    (2, 1, Some(8)),
-    (1, 7, Some(9)),
-    (2, 0, Some(10)),
-    (1, 8_388_607, Some(11)),
-    (1, 1, None),
-    (2, 7, None),
-    (3, 0, None),
-];
-
-// Puts a block into the index, where it is found.
-fn put(rt: &impl Abort, index: &mut BlockIndex, device: u32, block: u32, cell: u32) {
-    if index.len() < 1_024 && index.find(device, block).is_none() {
-        index.insert(device, block, cell);
-    }
-    assert_eq!(rt; index.find(device, block), Some(cell));
-}
-
-// The blocks of the rows have these cells in the index.
-fn cells_are(rt: &impl Abort, index: &BlockIndex, rows: &[(u32, u32, Option<u32>)]) {
-    for (device, block, cell) in rows {
-        assert_eq!(rt; index.find(*device, *block), *cell, "{device} {block}");
-    }
-}
-
-#[test]
-fn finds_blocks_in_order(rt: HostRuntime) {
-    let mut index = BlockIndex::new();
-    cells_are(&rt, &index, &[(1, 0, None)]);
-    for (device, block, cell) in BLOCKS {
-        put(&rt, &mut index, *device, *block, *cell);
-    }
-    cells_are(&rt, &index, CELLS);
-    assert_eq!(rt; index.len(), 4);
-    index.clear();
-    cells_are(&rt, &index, &[(2, 1, None)]);
 }

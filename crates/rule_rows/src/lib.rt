@@ -4,8 +4,6 @@
 #[cfg(test)]
 mod blocks;
 #[cfg(test)]
-mod centre_calls;
-#[cfg(test)]
 mod centre_payloads;
 #[cfg(test)]
 mod device;
