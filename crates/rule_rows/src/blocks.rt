@@ -1,4 +1,5 @@
 //! Payloads against the layout by hand.
+use crate::checks::{holds, holds_at};
 use bench_base::numbers::DevNo;
 use bench_base::words::Key;
 use std::process::Abort;
@@ -23,11 +24,19 @@ fn is_trust(rt: &impl Abort, number: u32, payload: &[u8; 2_056]) -> bool {
 #[test]
 fn lays_out_trust(rt: HostRuntime) {
     let trust = trusted(&rt, 2);
-    assert_eq!(rt; &trust[..6], [0, 0, 0, 2, 1, 1].as_slice());
-    assert_eq!(rt; &trust[34..38], [1, 1, 0, 0].as_slice());
-    assert!(rt; is_trust(&rt, 2, &trust));
-    assert!(rt; !is_trust(&rt, 1, &trust), "another device");
-    assert_eq!(rt; key_in(&trust), KEY);
+    holds(
+        &rt,
+        &trust[..6] == [0, 0, 0, 2, 1, 1].as_slice(),
+        "the device and the first of the key",
+    );
+    holds(
+        &rt,
+        &trust[34..38] == [1, 1, 0, 0].as_slice(),
+        "the last of the key",
+    );
+    holds(&rt, is_trust(&rt, 2, &trust), "the device");
+    holds(&rt, !is_trust(&rt, 1, &trust), "another device");
+    holds(&rt, key_in(&trust) == KEY, "the key");
 }
 
 // The payload of a block once the piece at this place is accepted.
@@ -57,17 +66,22 @@ fn block_3(rt: &impl Abort) -> [u8; 2_056] {
 #[test]
 fn lays_out_a_block(rt: HostRuntime) {
     let block = block_3(&rt);
-    assert_eq!(rt;
-        &block[..20],
-        [0, 0, 0, 2, 0, 0, 0, 3, 0, 0, 0, 0, 0, 0, 0, 0, 1, 2, 3, 4].as_slice()
+    holds(
+        &rt,
+        &block[..20] == [0, 0, 0, 2, 0, 0, 0, 3, 0, 0, 0, 0, 0, 0, 0, 0, 1, 2, 3, 4].as_slice(),
+        "device, block and the first scans",
     );
     let block = accepted(&rt, Some(&block), 2, 3, 511, 7);
-    assert_eq!(rt;
-        &block[16..20],
-        [1, 2, 3, 4].as_slice(),
-        "the other place stays"
+    holds(
+        &rt,
+        &block[16..20] == [1, 2, 3, 4].as_slice(),
+        "the other place stays",
     );
-    assert_eq!(rt; &block[2052..], [0, 0, 0, 7].as_slice());
+    holds(
+        &rt,
+        &block[2052..] == [0, 0, 0, 7].as_slice(),
+        "the last scan",
+    );
 }
 
 /// Places of the block with two pieces, and their scans.
@@ -76,26 +90,35 @@ const SCANS: &[(u32, Option<u32>)] = &[(0, None), (2, Some(0x0102_0304)), (511, 
 #[test]
 fn reads_a_block(rt: HostRuntime) {
     let block = accepted(&rt, Some(&block_3(&rt)), 2, 3, 511, 7);
-    assert_eq!(rt; read_block(&block), Some((2, 3)));
-    assert_eq!(rt; block_in(&block), (2, 3));
+    holds(&rt, read_block(&block) == Some((2, 3)), "a block is read");
+    holds(&rt, block_in(&block) == (2, 3), "its device and number");
     for (place, scan) in SCANS {
-        assert_eq!(rt; scan_at(&rt, &block, *place), *scan, "place {place}");
+        holds_at(
+            &rt,
+            scan_at(&rt, &block, *place) == *scan,
+            "place",
+            *place as usize,
+        );
     }
 }
 
 #[test]
 fn reads_no_other_trust(rt: HostRuntime) {
-    assert!(rt; !is_trust(&rt, 1, &[0; 2_056]));
+    holds(&rt, !is_trust(&rt, 1, &[0; 2_056]), "zeros");
     let mut trust = trusted(&rt, 1);
     trust[2055] = 1;
-    assert!(rt; !is_trust(&rt, 1, &trust), "a byte at the end");
+    holds(&rt, !is_trust(&rt, 1, &trust), "a byte at the end");
 }
 
 #[test]
 fn reads_no_other_blocks(rt: HostRuntime) {
-    assert_eq!(rt; read_block(&[0; 2_056]), None, "no piece");
+    holds(&rt, read_block(&[0; 2_056]) == None, "no piece");
     let mut block = accepted(&rt, None, 1, 8_388_607, 0, 1);
-    assert_eq!(rt; read_block(&block), Some((1, 8_388_607)));
+    holds(
+        &rt,
+        read_block(&block) == Some((1, 8_388_607)),
+        "the last block",
+    );
     block[4] = 1;
-    assert_eq!(rt; read_block(&block), None, "no block has this number");
+    holds(&rt, read_block(&block) == None, "no block has this number");
 }

@@ -1,6 +1,7 @@
 //! The centre's rows against bytes of an independent program.
 ghost use Rattle.centre_ledger.specs.Soundness.{IsSoundDevice};
 
+use crate::checks::{holds, holds_at};
 use bench_base::numbers::{Customer, DevNo};
 use centre_ledger::{CustomerRow, DeviceRow};
 use std::process::Abort;
@@ -221,22 +222,33 @@ fn has_messages(rt: &impl Abort, payload: &[u8; 192]) -> bool {
 
 #[test]
 fn rows_of_both_versions(rt: HostRuntime) {
-    assert!(rt; is_written(&rt, &REGISTERED, &REGISTERED), "registered");
-    assert!(rt;
+    holds(&rt, is_written(&rt, &REGISTERED, &REGISTERED), "registered");
+    holds(
+        &rt,
         is_written(&rt, &OLD_REGISTERED, &REGISTERED),
-        "registered, in version 1"
+        "registered, in version 1",
     );
-    assert!(rt; is_written(&rt, &RESET, &RESET), "reset");
-    assert!(rt;
+    holds(&rt, is_written(&rt, &RESET, &RESET), "reset");
+    holds(
+        &rt,
         is_written(&rt, &OLD_RESET, &KEPT_RESET),
-        "reset, in version 1"
+        "reset, in version 1",
     );
-    assert!(rt;
+    holds(
+        &rt,
         is_written(&rt, &KEPT_RESET, &KEPT_RESET),
-        "reset, written once more"
+        "reset, written once more",
     );
-    assert!(rt; has_messages(&rt, &OLD_RESET), "messages, from version 1");
-    assert!(rt; has_messages(&rt, &KEPT_RESET), "messages, from version 2");
+    holds(
+        &rt,
+        has_messages(&rt, &OLD_RESET),
+        "messages, from version 1",
+    );
+    holds(
+        &rt,
+        has_messages(&rt, &KEPT_RESET),
+        "messages, from version 2",
+    );
 }
 
 // State, customer and origin of a row.
@@ -257,15 +269,23 @@ fn has_codes(row: &DeviceRow) -> bool {
 #[test]
 fn fields_of_a_row(rt: HostRuntime) {
     let reset = row(&rt, &RESET);
-    assert_eq!(rt; head_of(&reset), (2, 1, 94_105));
-    assert_eq!(rt; numbers_in(&reset), (3, 2, 50_000, 0));
-    assert!(rt; has_codes(&reset), "the codes of its messages");
+    holds(
+        &rt,
+        head_of(&reset) == (2, 1, 94_105),
+        "state, customer and origin",
+    );
+    holds(
+        &rt,
+        numbers_in(&reset) == (3, 2, 50_000, 0),
+        "its numbers and its money",
+    );
+    holds(&rt, has_codes(&reset), "the codes of its messages");
 }
 
 // None of the changes leaves a row of device 1.
 fn none_is_row(rt: &impl Abort, payload: &[u8; 192], changes: &[(usize, u8)], name: &str) {
     for (at, byte) in changes {
-        assert!(rt; !is_row(rt, payload, *at, *byte), "{name}, byte {at}");
+        holds_at(rt, !is_row(rt, payload, *at, *byte), name, *at);
     }
 }
 
@@ -280,24 +300,25 @@ fn devices_not_read(rt: HostRuntime) {
         KEPT_RESET_CHANGES,
         "messages of version 1",
     );
-    assert!(rt; is_row(&rt, &RESET, 4, 19), "a withdrawn device");
-    assert!(rt; is_row(&rt, &RESET, 52, 3), "settled");
+    holds(&rt, is_row(&rt, &RESET, 4, 19), "a withdrawn device");
+    holds(&rt, is_row(&rt, &RESET, 52, 3), "settled");
 }
 
 #[test]
 fn rows_of_customers(rt: HostRuntime) {
     let read = CustomerRow::read_payload(customer_1(&rt), &CUSTOMER).expect(&rt, "a row");
-    assert_eq!(rt;
-        (read.suspended, read.deposits, read.receipt, read.amount),
-        (false, 100_000, 1, 100_000)
+    holds(
+        &rt,
+        (read.suspended, read.deposits, read.receipt, read.amount) == (false, 100_000, 1, 100_000),
+        "its fields",
     );
-    assert!(rt; read.write_payload() == CUSTOMER, "as it was");
+    holds(&rt, read.write_payload() == CUSTOMER, "as it was");
 }
 
 #[test]
 fn customers_not_read(rt: HostRuntime) {
     for (at, byte) in CUSTOMER_CHANGES {
-        assert!(rt; !is_customer(&rt, *at, *byte), "byte {at}");
+        holds_at(&rt, !is_customer(&rt, *at, *byte), "byte", *at);
     }
-    assert!(rt; is_customer(&rt, 4, 1), "suspended");
+    holds(&rt, is_customer(&rt, 4, 1), "suspended");
 }

@@ -1,4 +1,5 @@
 //! The device's record against bytes and answers of an independent program.
+use crate::checks::{holds, holds_at};
 use bench_base::numbers::{DayNo, DevNo};
 use bench_base::refusals::DevRefusal;
 use bench_base::words::{Key, Kind, Phase, Verdict};
@@ -492,7 +493,7 @@ fn run(rt: &impl Abort, device: DevRec, rows: &[Row]) -> DevRec {
     let mut device = device;
     for (i, (call, wanted)) in rows.iter().enumerate() {
         let (told, after) = answer(rt, device, *call);
-        assert_eq!(rt; told, *wanted, "row {i}");
+        holds_at(rt, told == *wanted, "row", i);
         device = after;
     }
     device
@@ -503,38 +504,28 @@ fn run_from(rt: &impl Abort, payload: &[u8; 209], rows: &[Row]) -> DevRec {
     run(rt, record(rt, payload), rows)
 }
 
-#[test]
-fn amounts_refused(rt: HostRuntime) {
-    run_from(&rt, &READY, AMOUNTS);
+// Does what each of the tables asks, from the device of these bytes.
+fn run_each(rt: &impl Abort, payload: &[u8; 209], tables: &[&[Row]]) {
+    for rows in tables {
+        run_from(rt, payload, *rows);
+    }
 }
 
 #[test]
-fn same_piece_again(rt: HostRuntime) {
-    run_from(&rt, &READY, PIECES);
+fn a_ready_device_answers(rt: HostRuntime) {
+    run_each(&rt, &READY, &[AMOUNTS, PIECES, INSPECTION]);
+    run_each(
+        &rt,
+        &READY,
+        &[REQUESTS_OF_READY, TRANSACTIONS_OF_READY, FROZEN],
+    );
 }
 
 #[test]
-fn inspection_due(rt: HostRuntime) {
-    run_from(&rt, &READY, INSPECTION);
-}
-
-#[test]
-fn requests_refused(rt: HostRuntime) {
-    run_from(&rt, &ASKED, REQUESTS_OF_ASKED);
+fn others_refuse(rt: HostRuntime) {
+    run_each(&rt, &ASKED, &[REQUESTS_OF_ASKED, TRANSACTIONS_OF_ASKED]);
     run(&rt, made(&rt), REQUESTS_OF_MADE);
-    run_from(&rt, &READY, REQUESTS_OF_READY);
-}
-
-#[test]
-fn transactions_refused(rt: HostRuntime) {
-    run_from(&rt, &READY, TRANSACTIONS_OF_READY);
     run(&rt, made(&rt), TRANSACTIONS_OF_MADE);
-    run_from(&rt, &ASKED, TRANSACTIONS_OF_ASKED);
-}
-
-#[test]
-fn debits_refused_while_frozen(rt: HostRuntime) {
-    run_from(&rt, &READY, FROZEN);
 }
 
 // Whether the device of these bytes, once it has done what the rows ask, gives piece 1 this mark.
@@ -554,21 +545,25 @@ fn is_marked(
 
 #[test]
 fn marks_of_debits(rt: HostRuntime) {
-    assert!(rt;
+    holds(
+        &rt,
         is_marked(&rt, &READY, &[], 550, TODAY, &FIRST),
-        "a new piece"
+        "a new piece",
     );
-    assert!(rt;
+    holds(
+        &rt,
         is_marked(&rt, &READY, FIRST_DEBIT, 550, TODAY, &FIRST),
-        "the same piece again"
+        "the same piece again",
     );
-    assert!(rt;
+    holds(
+        &rt,
         is_marked(&rt, &READY, &[], 550, DEADLINE, &LATE),
-        "on the deadline"
+        "on the deadline",
     );
-    assert!(rt;
+    holds(
+        &rt,
         is_marked(&rt, &READY, &[], 50_000, TODAY, &ALL),
-        "all that is left"
+        "all that is left",
     );
 }
 
@@ -604,17 +599,26 @@ fn is_done(device: &DevRec, bytes: &[u8; 42]) -> bool {
 #[test]
 fn from_a_new_device_to_a_reset(rt: HostRuntime) {
     let inspected = run(&rt, made(&rt), FIRST_CALLS);
-    assert!(rt; is_reset_asked(&rt, &inspected, &REQUEST), "the request");
-    let waiting = run(&rt, inspected, RESET_ASKED);
-    assert!(rt;
-        is_written_as(&waiting, &ASKED),
-        "the record while the reset is out"
+    holds(
+        &rt,
+        is_reset_asked(&rt, &inspected, &REQUEST),
+        "the request",
     );
-    assert!(rt; is_resent(&waiting, &REQUEST), "the request once more");
+    let waiting = run(&rt, inspected, RESET_ASKED);
+    holds(
+        &rt,
+        is_written_as(&waiting, &ASKED),
+        "the record while the reset is out",
+    );
+    holds(&rt, is_resent(&waiting, &REQUEST), "the request once more");
     let ready = run(&rt, waiting, RESET_GRANTED);
-    assert!(rt; is_written_as(&ready, &READY), "the record after the reset");
-    assert!(rt; is_done(&ready, &DONE), "what is told of it");
-    assert!(rt; ready.key() == &KEY, "the key");
+    holds(
+        &rt,
+        is_written_as(&ready, &READY),
+        "the record after the reset",
+    );
+    holds(&rt, is_done(&ready, &DONE), "what is told of it");
+    holds(&rt, ready.key() == &KEY, "the key");
 }
 
 // Whether the record of the first bytes is written as the second.
@@ -632,17 +636,19 @@ fn kept_request() -> [u8; 209] {
 
 #[test]
 fn requests_of_version_1(rt: HostRuntime) {
-    assert!(rt; is_written(&rt, &OLD_READY, &READY), "ready");
-    assert!(rt;
+    holds(&rt, is_written(&rt, &OLD_READY, &READY), "ready");
+    holds(
+        &rt,
         is_resent(&record(&rt, &OLD_ASKED), &OLD_ASKED[74..145]),
-        "the request once more"
+        "the request once more",
     );
     let kept = kept_request();
-    assert!(rt;
+    holds(
+        &rt,
         is_written(&rt, &OLD_ASKED, &kept),
-        "an old request is kept"
+        "an old request is kept",
     );
-    assert!(rt; is_written(&rt, &kept, &kept), "and read");
+    holds(&rt, is_written(&rt, &kept, &kept), "and read");
 }
 
 // The record of the mark of version 1, as it is written today.
@@ -654,17 +660,23 @@ fn kept_mark() -> [u8; 209] {
 
 #[test]
 fn marks_of_version_1(rt: HostRuntime) {
-    assert!(rt;
+    holds(
+        &rt,
         is_marked(&rt, &OLD_READY, &[], 550, TODAY, &FIRST),
-        "a new mark"
+        "a new mark",
     );
     let kept = kept_mark();
-    assert!(rt; is_written(&rt, &OLD_MARKED, &kept), "an old mark is kept");
-    assert!(rt; is_written(&rt, &kept, &kept), "and read");
+    holds(
+        &rt,
+        is_written(&rt, &OLD_MARKED, &kept),
+        "an old mark is kept",
+    );
+    holds(&rt, is_written(&rt, &kept, &kept), "and read");
     run_from(&rt, &kept, AGAIN);
-    assert!(rt;
+    holds(
+        &rt,
         is_marked(&rt, &kept, &[], 550, TODAY, &OLD_MARKED[145..]),
-        "the old mark"
+        "the old mark",
     );
 }
 
@@ -684,7 +696,7 @@ fn is_read_with(rt: &impl Abort, payload: &[u8; 209], at: usize, byte: u8) -> bo
 // None of the changes leaves a record.
 fn none_is_read(rt: &impl Abort, payload: &[u8; 209], changes: &[(usize, u8)], name: &str) {
     for (at, byte) in changes {
-        assert!(rt; !is_read_with(rt, payload, *at, *byte), "{name}, byte {at}");
+        holds_at(rt, !is_read_with(rt, payload, *at, *byte), name, *at);
     }
 }
 
@@ -693,7 +705,11 @@ fn payloads_not_read(rt: HostRuntime) {
     none_is_read(&rt, &READY, READY_CHANGES, "ready");
     none_is_read(&rt, &ASKED, ASKED_CHANGES, "asked");
     none_is_read(&rt, &MARKED, MARKED_CHANGES, "marked");
-    assert!(rt; is_read_with(&rt, &READY, 71, 0x7e), "any deadline is read");
+    holds(
+        &rt,
+        is_read_with(&rt, &READY, 71, 0x7e),
+        "any deadline is read",
+    );
 }
 
 #[test]
@@ -702,10 +718,11 @@ fn payloads_of_version_1_not_read(rt: HostRuntime) {
     none_is_read(&rt, &OLD_ASKED, OLD_ASKED_CHANGES, "asked");
     let mut newer = OLD_MARKED;
     newer[145..].copy_from_slice(&FIRST);
-    assert!(rt; !is_read(&rt, &newer), "a mark of version 2");
-    assert!(rt;
+    holds(&rt, !is_read(&rt, &newer), "a mark of version 2");
+    holds(
+        &rt,
         is_read_with(&rt, &OLD_READY, 60, 0x7e),
-        "any deadline is read"
+        "any deadline is read",
     );
 }
 
@@ -739,38 +756,42 @@ fn old_request_with_room(rt: &impl Abort) -> [u8; 209] {
 #[test]
 fn payloads_up_to_a_limit(rt: HostRuntime) {
     let full = with_left(&READY, FULL);
-    assert!(rt; !is_read_with(&rt, &full, 52, 1), "above");
+    holds(&rt, !is_read_with(&rt, &full, 52, 1), "above");
     let room = with_left(&ASKED, ROOM);
-    assert!(rt; is_read(&rt, &room), "up to the limit");
-    assert!(rt;
+    holds(&rt, is_read(&rt, &room), "up to the limit");
+    holds(
+        &rt,
         !is_read_with(&rt, &room, 52, 0xb1),
-        "above with what was asked"
+        "above with what was asked",
     );
 }
 
 #[test]
 fn payloads_up_to_the_old_limit(rt: HostRuntime) {
     let full = with_left_before(&OLD_READY, OLD_FULL);
-    assert!(rt; !is_read_with(&rt, &full, 48, 1), "above the old limit");
+    holds(&rt, !is_read_with(&rt, &full, 48, 1), "above the old limit");
     let room = with_left_before(&OLD_ASKED, OLD_ROOM);
-    assert!(rt; is_read(&rt, &room), "up to the old limit");
-    assert!(rt;
+    holds(&rt, is_read(&rt, &room), "up to the old limit");
+    holds(
+        &rt,
         !is_read_with(&rt, &room, 44, 0xb0),
-        "above the old limit with what was asked"
+        "above the old limit with what was asked",
     );
 }
 
 #[test]
 fn old_requests_up_to_their_limit(rt: HostRuntime) {
     let room = old_request_with_room(&rt);
-    assert!(rt; is_read(&rt, &room), "an old request, up to its limit");
-    assert!(rt;
+    holds(&rt, is_read(&rt, &room), "an old request, up to its limit");
+    holds(
+        &rt,
         !is_read_with(&rt, &room, 52, 0xb0),
-        "above the old limit with an old request"
+        "above the old limit with an old request",
     );
     let old_request = record(&rt, &OLD_ASKED).write_payload();
-    assert!(rt;
+    holds(
+        &rt,
         !is_read_with(&rt, &old_request, 140, 1),
-        "bytes behind an old request"
+        "bytes behind an old request",
     );
 }

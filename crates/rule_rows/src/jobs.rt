@@ -1,6 +1,7 @@
 //! A job's payload by its layout, and the memory for jobs.
 ghost use Rattle.host_jobs.specs.Soundness.{IsKept};
 
+use crate::checks::{holds, holds_at};
 use bench_base::fields::{put_u16, put_u32};
 use bench_base::ledger::Commit;
 use bench_base::numbers::DevNo;
@@ -115,10 +116,15 @@ fn payload_in(state: u8, version: u8) -> [u8; 115] {
 fn reads_back(rt: &impl Abort, state: u8, version: u8, wanted: JobState) {
     let bytes = payload_in(state, version);
     let row = JobRow::read_payload(0, &bytes).expect(rt, "a row");
-    assert_eq!(rt; numbers_in(&row), (1_025, 3, 7, 550));
-    assert_eq!(rt; (row.class, row.state), (2, wanted));
-    assert_eq!(rt; row.indicium.is_some(), version != 0);
-    assert!(rt; row.write_payload() == bytes, "{state} {version}");
+    holds(rt, numbers_in(&row) == (1_025, 3, 7, 550), "its numbers");
+    holds(rt, (row.class, row.state) == (2, wanted), "class and state");
+    holds(rt, row.indicium.is_some() == (version != 0), "a mark");
+    holds_at(
+        rt,
+        row.write_payload() == bytes,
+        "written as it was in state",
+        usize::from(state),
+    );
 }
 
 #[test]
@@ -131,32 +137,36 @@ fn reads_what_it_writes(rt: HostRuntime) {
 #[test]
 fn refuses_what_breaks_a_condition(rt: HostRuntime) {
     let held = payload(2, 2);
-    assert!(rt; is_read(&held));
-    assert!(rt; JobRow::read_payload(1, &held).is_none(), "another cell");
+    holds(&rt, is_read(&held), "held");
+    holds(
+        &rt,
+        JobRow::read_payload(1, &held).is_none(),
+        "another cell",
+    );
     for (at, byte) in HELD_CHANGES {
-        assert!(rt; !is_read(&with_byte(held, *at, *byte)), "{at} {byte}");
+        holds_at(&rt, !is_read(&with_byte(held, *at, *byte)), "byte", *at);
     }
-    assert!(rt; !is_read(&payload(2, 0)), "held without a mark");
-    assert!(rt; !is_read(&payload(3, 0)), "begun without a mark");
-    assert!(rt; !is_read(&payload(1, 2)), "ordered with a mark");
+    holds(&rt, !is_read(&payload(2, 0)), "held without a mark");
+    holds(&rt, !is_read(&payload(3, 0)), "begun without a mark");
+    holds(&rt, !is_read(&payload(1, 2)), "ordered with a mark");
 }
 
 #[test]
 fn jobs_lie_in_their_cells(rt: HostRuntime) {
     for (job, cell) in CELLS {
-        assert_eq!(rt; cell_of(*job), *cell);
+        holds_at(&rt, cell_of(*job) == *cell, "job", *job as usize);
     }
 }
 
 #[test]
 fn keeps_jobs_in_their_cells(rt: HostRuntime) -> Result<(), AllocError> {
     let mut rows = JobRows::new(rt.alloc())?;
-    assert!(rt; rows.get(HOST_CELLS - 1).is_none());
+    holds(&rt, rows.get(HOST_CELLS - 1).is_none(), "the last cell");
     rows.set(0, JobRow::read_payload(0, &payload(2, 2)));
-    assert!(rt; rows.job(1_025).is_some());
-    assert!(rt; rows.job(1).is_none());
+    holds(&rt, rows.job(1_025).is_some(), "its job");
+    holds(&rt, rows.job(1).is_none(), "another job of the cell");
     rows.clear();
-    assert!(rt; rows.job(1_025).is_none());
+    holds(&rt, rows.job(1_025).is_none(), "no job");
     Ok(())
 }
 
@@ -206,11 +216,15 @@ fn orders_without_jobs(rt: HostRuntime) -> Result<(), AllocError> {
     let rows = JobRows::new(rt.alloc())?;
     let kept = Kept::none();
     let device = DevNo::new(8).expect(&rt, "device 8");
-    assert_eq!(rt; ordered_without_rates(device, &rows, &kept), "no rates");
-    assert_eq!(rt;
-        ordered(device, &rows, &kept),
-        Some(((1, 1, 550, 2), 1, (1, 550))),
-        "job 1"
+    holds(
+        &rt,
+        ordered_without_rates(device, &rows, &kept) == "no rates",
+        "no rates",
+    );
+    holds(
+        &rt,
+        ordered(device, &rows, &kept) == Some(((1, 1, 550, 2), 1, (1, 550))),
+        "job 1",
     );
     Ok(())
 }
@@ -230,9 +244,10 @@ fn refusals(rows: &JobRows, kept: &Kept) -> (&'static str, &'static str, &'stati
 #[test]
 fn decides_without_jobs(rt: HostRuntime) -> Result<(), AllocError> {
     let rows = JobRows::new(rt.alloc())?;
-    assert_eq!(rt;
-        refusals(&rows, &Kept::none()),
-        ("no job", "no job", "no job", "unread length")
+    holds(
+        &rt,
+        refusals(&rows, &Kept::none()) == ("no job", "no job", "no job", "unread length"),
+        "refusals",
     );
     Ok(())
 }

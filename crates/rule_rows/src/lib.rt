@@ -6,6 +6,8 @@ mod blocks;
 #[cfg(test)]
 mod centre_payloads;
 #[cfg(test)]
+mod checks;
+#[cfg(test)]
 mod device;
 #[cfg(test)]
 mod jobs;

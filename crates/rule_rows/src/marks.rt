@@ -2,6 +2,7 @@
 ghost use Rattle.bench_base.specs.Rules.{IsVersion};
 ghost use Rattle.indicium.specs.Marks.{IsWhole};
 
+use crate::checks::{holds, holds_at};
 use bench_base::refusals::MarkFault;
 use bench_base::words::Key;
 use indicium::{Mark, read_indicium, verify_mark, write_indicium};
@@ -117,21 +118,25 @@ fn is_spelled(mark: &Mark, key: &Key, bytes: &[u8; 64]) -> bool
 
 #[test]
 fn marks_have_these_bytes(rt: HostRuntime) {
-    assert!(rt;
+    holds(
+        &rt,
         is_spelled(&first_mark(1), &[1; 32], &FIRST),
-        "the first debit"
+        "the first debit",
     );
-    assert!(rt;
+    holds(
+        &rt,
         is_spelled(&first_mark(2), &[1; 32], &FIRST_OF_TWO),
-        "the first debit in version 2"
+        "the first debit in version 2",
     );
-    assert!(rt;
+    holds(
+        &rt,
         is_spelled(&distinct_mark(), &counted_key(), &DISTINCT),
-        "distinct fields"
+        "distinct fields",
     );
-    assert!(rt;
+    holds(
+        &rt,
         is_spelled(&distinct_mark_of_two(), &counted_key(), &DISTINCT_OF_TWO),
-        "distinct fields in version 2"
+        "distinct fields in version 2",
     );
 }
 
@@ -161,9 +166,11 @@ fn fault_of_length(rt: &impl Abort, length: usize) -> Option<MarkFault> {
 #[test]
 fn lengths_not_read(rt: HostRuntime) {
     for length in LENGTHS {
-        assert_eq!(rt;
-            fault_of_length(&rt, *length),
-            Some(MarkFault::Length(*length))
+        holds_at(
+            &rt,
+            fault_of_length(&rt, *length) == Some(MarkFault::Length(*length)),
+            "length",
+            *length,
         );
     }
 }
@@ -172,7 +179,7 @@ fn lengths_not_read(rt: HostRuntime) {
 fn marks_not_read(rt: HostRuntime) {
     for (at, byte, fault) in CHANGES {
         let mark = changed(&rt, *at, *byte);
-        assert_eq!(rt; fault_of(&mark), *fault, "byte {at}");
-        assert!(rt; !verify_mark(&mark, &[1; 32]), "byte {at}");
+        holds_at(&rt, fault_of(&mark) == *fault, "byte", *at);
+        holds_at(&rt, !verify_mark(&mark, &[1; 32]), "genuine with byte", *at);
     }
 }

@@ -3,6 +3,7 @@ ghost use Rattle.std.specs.Prelude.{◌≡◌, ◌≤ℤ◌, pos};
 ghost use Rattle.bench_base.specs.Rules.{IsVersion};
 ghost use Rattle.psd_wire.specs.Grammar.{IsWhole};
 
+use crate::checks::{holds, holds_at};
 use bench_base::numbers::DayNo;
 use bench_base::refusals::Unread;
 use bench_base::words::{Key, Kind, Verdict};
@@ -350,18 +351,34 @@ fn has_bytes(rt: &impl Abort, message: Sample, bytes: &[u8]) -> bool {
 #[test]
 fn messages_have_these_bytes(rt: HostRuntime) {
     for (name, message, bytes) in SPELLINGS {
-        assert!(rt; has_bytes(&rt, *message, *bytes), "{name}");
+        holds(&rt, has_bytes(&rt, *message, *bytes), *name);
     }
-    assert!(rt; is_read(&RELEASE), "release");
+    holds(&rt, is_read(&RELEASE), "release");
 }
 
 #[test]
 fn codes_are_checked(rt: HostRuntime) {
     let bytes = REQUEST.as_slice();
-    assert!(rt; code_matches(bytes, &KEY) && read_under(bytes, &KEY).is_some());
-    assert!(rt; !code_matches(bytes, &[2; 32]) && read_under(bytes, &[2; 32]).is_none());
-    assert!(rt; !code_matches(&bytes[40..], &KEY), "fewer than 32 bytes");
-    assert!(rt; read_under(&DEBIT, &KEY).is_none(), "a Debit has no code");
+    holds(
+        &rt,
+        code_matches(bytes, &KEY) && read_under(bytes, &KEY).is_some(),
+        "under the key",
+    );
+    holds(
+        &rt,
+        !code_matches(bytes, &[2; 32]) && read_under(bytes, &[2; 32]).is_none(),
+        "under another key",
+    );
+    holds(
+        &rt,
+        !code_matches(&bytes[40..], &KEY),
+        "fewer than 32 bytes",
+    );
+    holds(
+        &rt,
+        read_under(&DEBIT, &KEY).is_none(),
+        "a Debit has no code",
+    );
 }
 
 // Whether the bytes without their code are the body of a message that has these bytes.
@@ -377,10 +394,10 @@ fn is_body_of(rt: &impl Abort, bytes: &[u8]) -> bool {
 #[test]
 fn bodies_are_known(rt: HostRuntime) {
     for bytes in CODED {
-        assert!(rt; is_body_of(&rt, *bytes), "{bytes:?}");
-        assert!(rt; read_body(*bytes).is_none(), "with its code");
+        holds_at(&rt, is_body_of(&rt, *bytes), "body of length", bytes.len());
+        holds(&rt, read_body(*bytes).is_none(), "with its code");
     }
-    assert!(rt; read_body(&DEBIT).is_none(), "a Debit has no code");
+    holds(&rt, read_body(&DEBIT).is_none(), "a Debit has no code");
 }
 
 fn fault_of(bytes: &[u8]) -> Option<Unread> {
@@ -402,18 +419,28 @@ fn fault_with(rt: &impl Abort, bytes: &[u8], at: usize, byte: u8) -> Option<Unre
 #[test]
 fn beginnings_not_read(rt: HostRuntime) {
     for (bytes, fault) in BEGINNINGS {
-        assert_eq!(rt; fault_of(*bytes), Some(*fault), "{bytes:?}");
+        holds_at(
+            &rt,
+            fault_of(*bytes) == Some(*fault),
+            "beginning of length",
+            bytes.len(),
+        );
     }
-    assert_eq!(rt; fault_of(&DEBIT[..15]), Some(Unread::Length), "a Debit");
+    holds(
+        &rt,
+        fault_of(&DEBIT[..15]) == Some(Unread::Length),
+        "a Debit",
+    );
 }
 
 // Each change of the message has its fault.
 fn faults_are(rt: &impl Abort, bytes: &[u8], changes: &[Change]) {
     for (at, byte, fault) in changes {
-        assert_eq!(rt;
-            fault_with(rt, bytes, *at, *byte),
-            Some(*fault),
-            "byte {at}"
+        holds_at(
+            rt,
+            fault_with(rt, bytes, *at, *byte) == Some(*fault),
+            "byte",
+            *at,
         );
     }
 }
@@ -425,9 +452,9 @@ fn messages_not_read(rt: HostRuntime) {
     faults_are(&rt, &REPLY, REPLY_CHANGES);
     faults_are(&rt, &REPLY_OF_TWO, REPLY_OF_TWO_CHANGES);
     faults_are(&rt, &RELEASE, RELEASE_CHANGES);
-    assert_eq!(rt;
-        fault_with(&rt, &RELEASE, 65, 0),
-        None,
-        "the code of a mark is not checked"
+    holds(
+        &rt,
+        fault_with(&rt, &RELEASE, 65, 0) == None,
+        "the code of a mark is not checked",
     );
 }

@@ -1,4 +1,5 @@
 //! Texts of rates, and prices, against the rules of the rate file.
+use crate::checks::{holds, holds_at};
 use bench_base::refusals::RateRefusal;
 use host_rates::{Rates, RatesFail, read_rates};
 use std::alloc::Global;
@@ -85,10 +86,11 @@ fn fail(alloc: Global, text: &[u8]) -> Option<RatesFail> {
 // The rates give these prices.
 fn prices_are(rt: &impl Abort, rates: &Rates, rows: &[Row]) {
     for ((class, grams, zone), price) in rows {
-        assert_eq!(rt;
-            rates.price(*class, *grams, *zone),
-            *price,
-            "{class} {grams} {zone}"
+        holds_at(
+            rt,
+            rates.price(*class, *grams, *zone) == *price,
+            "price at grams",
+            *grams as usize,
         );
     }
 }
@@ -98,8 +100,8 @@ fn prices_pieces(rt: HostRuntime) -> Result<(), Fail> {
     let rates = read_rates(rt.alloc(), RATES.as_bytes())
         .ok()
         .ok_or("rates")?;
-    assert_eq!(rt; rates.classes(), 2);
-    assert_eq!(rt; rates.zones(), 2);
+    holds(&rt, rates.classes() == 2, "classes");
+    holds(&rt, rates.zones() == 2, "zones");
     prices_are(&rt, &rates, PRICES);
     Ok(())
 }
@@ -107,17 +109,22 @@ fn prices_pieces(rt: HostRuntime) -> Result<(), Fail> {
 // Each text gives no rates, for that reason.
 fn fails_are(rt: &impl Abort, alloc: Global, texts: &[&str], wanted: RatesFail) {
     for text in texts {
-        assert!(rt; fail(alloc, text.as_bytes()) == Some(wanted), "at {text}");
+        holds(rt, fail(alloc, text.as_bytes()) == Some(wanted), *text);
     }
 }
 
 #[test]
 fn refuses_texts(rt: HostRuntime) {
     fails_are(&rt, rt.alloc(), NO_DOCUMENTS, RatesFail::Toml);
-    assert_eq!(rt; fail(rt.alloc(), &[0xFF]), Some(RatesFail::Toml));
-    assert_eq!(rt;
-        fail(rt.alloc(), b"# \xFF\nzones = 1"),
-        Some(RatesFail::Toml)
+    holds(
+        &rt,
+        fail(rt.alloc(), &[0xFF]) == Some(RatesFail::Toml),
+        "no UTF-8",
+    );
+    holds(
+        &rt,
+        fail(rt.alloc(), b"# \xFF\nzones = 1") == Some(RatesFail::Toml),
+        "no UTF-8 in a comment",
     );
     fails_are(&rt, rt.alloc(), NO_RATES, RatesFail::Form);
 }
@@ -126,8 +133,16 @@ fn refuses_texts(rt: HostRuntime) {
 #[test]
 fn measures_texts(rt: HostRuntime) -> Result<(), Fail> {
     let mut text = vec![in rt.alloc(); b'#'; 65_536]?;
-    assert_eq!(rt; fail(rt.alloc(), &text), Some(RatesFail::Form));
+    holds(
+        &rt,
+        fail(rt.alloc(), &text) == Some(RatesFail::Form),
+        "65,536 bytes",
+    );
     text.push(0xFF)?;
-    assert_eq!(rt; fail(rt.alloc(), &text), Some(RatesFail::Length(65_537)));
+    holds(
+        &rt,
+        fail(rt.alloc(), &text) == Some(RatesFail::Length(65_537)),
+        "one byte more",
+    );
     Ok(())
 }
