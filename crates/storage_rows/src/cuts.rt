@@ -1,11 +1,10 @@
 //! One commit that power is cut in, and what the next mount shows.
-ghost use Rattle.std.specs.Prelude.{◌≡◌, ◌+◌, ◌<◌, ◌^◌, IfSome, false};
+ghost use Rattle.std.specs.Prelude.{◌≡◌, IfSome, false};
 ghost use Rattle.nv_model.specs.Fuses.{state_of};
 
+use crate::tried::{Tried, mounted_cell, mounted_ring, mounted_table, storage};
 use bench_base::refusals::StoreFail;
-use nv_model::{Fused, MemNv, Nv};
-use nv_ring::Ring;
-use nv_store::{Cell, Room, Store, Table};
+use nv_model::{Fused, MemNv};
 use std::alloc::Global;
 
 /// A kind of store.
@@ -49,23 +48,10 @@ pub struct Seen {
     pub next: bool,
 }
 
-/// Storage of garbage behind closed gates.
-fn storage(alloc: Global, size: usize) -> Option<Fused<MemNv>>
-    requires { size < 2 ^ 32 }
-    ensures { IfSome result (λ nv. (state_of nv).lost ≡ false) }
-{
-    let content = vec![in alloc; 0x37; size].ok()?;
-    let nv = MemNv::new(alloc, content, Vec::new(alloc), 400, 4000).ok()?;
-    Some(Fused::new(nv))
-}
-
 /// Commits the numbers from 1 to `commits`.
-fn fill<S: Store<4>>(store: &mut S, cell: u32, commits: u8) -> bool
-    requires { cell < (S.view store.old).cells }
-    ensures { (S.view store.new).cells ≡ (S.view store.old).cells }
-{
+fn fill<T: Tried>(store: &mut T, cell: u32, commits: u8) -> bool {
     for made in 0..commits {
-        if store.commit(cell, &[made + 1; 4]).is_err() {
+        if store.put(cell, &[made + 1; 4]).is_err() {
             return false;
         }
     }
@@ -73,82 +59,65 @@ fn fill<S: Store<4>>(store: &mut S, cell: u32, commits: u8) -> bool
 }
 
 /// Makes the commit that is cut: whether it answers Power, and the next one Failed.
-fn cut_short<S: Store<4>>(store: &mut S, cell: u32) -> bool
-    requires { cell < (S.view store.old).cells }
-    ensures { (S.view store.new).cells ≡ (S.view store.old).cells }
-{
-    store.commit(cell, &[200; 4]) == Err(StoreFail::Power)
-        && store.commit(cell, &[201; 4]) == Err(StoreFail::Failed)
+fn cut_short<T: Tried>(store: &mut T, cell: u32) -> bool {
+    store.put(cell, &[200; 4]) == Err(StoreFail::Power)
+        && store.put(cell, &[201; 4]) == Err(StoreFail::Failed)
 }
 
 /// The first byte of a payload.
-fn first_of<S: Store<4>>(store: &S, cell: u32) -> u8
-    requires { cell < (S.view store.now).cells }
-{
-    match store.get(cell) {
+fn first_of<T: Tried>(store: &T, cell: u32) -> u8 {
+    match store.shown(cell) {
         Some(payload) => payload[0],
         None => 0,
     }
 }
 
 /// What a store shows.
-fn look<S: Store<4>>(store: &mut S, cell: u32, power: bool) -> Seen
-    requires { cell < (S.view store.old).cells }
-{
+fn look<T: Tried>(store: &mut T, cell: u32, power: bool) -> Seen {
     Seen {
         power,
-        commits: store.commits(),
+        commits: store.count(),
         first: first_of(store, cell),
         others: first_of(store, 0),
-        next: store.commit(cell, &[202; 4]).is_ok(),
+        next: store.put(cell, &[202; 4]).is_ok(),
     }
 }
 
-/// The storage, begun again after the cut.
-fn restarted(nv: Fused<MemNv>) -> Option<Fused<MemNv>>
+/// What is seen of a cell after a commit that is cut, where so many were made before it.
+fn after<T: Tried>(store: T, cell: u32, before: u8, cut: Cut) -> Option<Seen> {
+    let mut store = store;
+    if !fill(&mut store, cell, before) {
+        return None;
+    }
+    store.burn(cut.call, cut.keep, cut.byte);
+    let power = cut_short(&mut store, cell);
+    let mut store = store.again()?;
+    Some(look(&mut store, cell, power))
+}
+
+/// Storage of garbage behind closed gates.
+fn garbage(alloc: Global, size: usize) -> Option<Fused<MemNv>>
     ensures { IfSome result (λ nv. (state_of nv).lost ≡ false) }
 {
-    let mut nv = nv;
-    match nv.restart() {
-        Ok(()) => Some(nv),
-        Err(_) => None,
-    }
+    let content = vec![in alloc; 0x37; size].ok()?;
+    storage(alloc, &content, &[])
 }
 
 fn after_cell(alloc: Global, before: u8, cut: Cut) -> Option<Seen> {
-    let mut cell = Cell::mount(storage(alloc, 144)?).ok()?;
-    if !fill(&mut cell, 0, before) {
-        return None;
-    }
-    cell.arm(cut.call, cut.keep, cut.byte);
-    let power = cut_short(&mut cell, 0);
-    let mut cell = Cell::mount(restarted(cell.shut())?).ok()?;
-    Some(look(&mut cell, 0, power))
+    after(mounted_cell(garbage(alloc, 144)?)?, 0, before, cut)
 }
 
 fn after_ring(alloc: Global, before: u8, cut: Cut) -> Option<Seen> {
-    let mut ring = Ring::mount(storage(alloc, 144)?).ok()?;
-    if !fill(&mut ring, 0, before) {
-        return None;
-    }
-    ring.arm(cut.call, cut.keep, cut.byte);
-    let power = cut_short(&mut ring, 0);
-    let mut ring = Ring::mount(restarted(ring.shut())?).ok()?;
-    Some(look(&mut ring, 0, power))
+    after(mounted_ring(garbage(alloc, 144)?)?, 0, before, cut)
 }
 
 /// Of a table's second cell; the first has one commit.
 fn after_table(alloc: Global, before: u8, cut: Cut) -> Option<Seen> {
-    let room = Room::new(alloc, 2).ok()?;
-    let mut table = Table::mount(storage(alloc, 36)?, room).ok()?;
-    if table.cells() != 2 || !fill(&mut table, 0, 1) || !fill(&mut table, 1, before) {
+    let mut table = mounted_table(alloc, garbage(alloc, 36)?)?;
+    if !fill(&mut table, 0, 1) {
         return None;
     }
-    table.arm(cut.call, cut.keep, cut.byte);
-    let power = cut_short(&mut table, 1);
-    let (nv, room) = table.shut();
-    let mut table = Table::mount(restarted(nv)?, room).ok()?;
-    Some(look(&mut table, 1, power))
+    after(table, 1, before, cut)
 }
 
 /// What is seen after a commit that is cut, where so many were made before it.

@@ -1,11 +1,14 @@
 //! Cuts power in a commit at each of its calls, and prints what the next mount shows.
 #![tactic(auto)]
 
+#[cfg(test)]
+mod checks;
 mod cuts;
 #[cfg(test)]
 mod storages;
 #[cfg(test)]
 mod stores;
+mod tried;
 
 use cuts::{Cut, Kind, Seen, seen_after};
 use std::io;

@@ -4,6 +4,7 @@
 ghost use Rattle.std.specs.Prelude.{IfOk};
 ghost use Rattle.nv_model.specs.Meters.{Works};
 
+use crate::checks::holds;
 use nv_file::{FileNv, StartFault};
 use nv_model::{Failure, Fused, MemNv, Nv, NvFail};
 use std::alloc::{AllocError, Global};
@@ -86,11 +87,15 @@ fn file_keeps(rt: &HostRuntime, path: &str) -> Result<Shown, StartFault> {
 
 #[test]
 fn each_storage_keeps_what_was_synced(rt: HostRuntime) -> Result<(), Fail> {
-    assert_eq!(rt; memory_keeps(rt.alloc())?, Ok(*b"..abc..."));
-    assert_eq!(rt; fused_keeps(rt.alloc())?, Ok(*b"..abc..."));
+    holds(&rt, memory_keeps(rt.alloc())? == Ok(*b"..abc..."), "memory");
+    holds(
+        &rt,
+        fused_keeps(rt.alloc())? == Ok(*b"..abc..."),
+        "behind a fuse",
+    );
     let path = "each_storage.nv";
     let kept = file_keeps(&rt, path).expect(&rt, "start");
-    assert_eq!(rt; kept, Ok(*b"\0\0abc\0\0\0"));
+    holds(&rt, kept == Ok(*b"\0\0abc\0\0\0"), "a file");
     fs::remove_file(&rt, path)?;
     Ok(())
 }
@@ -135,10 +140,10 @@ fn fails_by_its_plan_and_its_record(rt: HostRuntime) -> Result<(), Fail> {
         (Call::Write, 0, *b"more", Err(fault), Err(fault)),
     ];
     let seen = planned(rt.alloc(), &plan, &rows)?;
-    assert_eq!(rt; seen.len(), 8);
+    holds(&rt, seen.len() == 8, "eight calls");
     for ((answer, shown), (_, _, _, want, content)) in seen.iter().zip(&rows) {
-        assert_eq!(rt; *answer, Some(*want));
-        assert_eq!(rt; *shown, *content);
+        holds(&rt, *answer == Some(*want), "an answer");
+        holds(&rt, *shown == *content, "what is shown");
     }
     Ok(())
 }
@@ -168,6 +173,10 @@ fn burnt(
     Ok((seen, shown(&mut inside)))
 }
 
+fn power(went: bool) -> Option<Answer> {
+    Some(if went { Ok(()) } else { Err(NvFail::Power) })
+}
+
 #[test]
 fn burns_its_fuse(rt: HostRuntime) -> Result<(), Fail> {
     // The last row arms none: the fuse of the row before has no call left, and counts on after the restart.
@@ -177,16 +186,15 @@ fn burns_its_fuse(rt: HostRuntime) -> Result<(), Fail> {
         (Some((2, 0, b'!')), 0, *b"new", true, true, *b"new.wx%."),
         (None, 5, *b"bye", false, false, *b"new.w!!!"),
     ];
-    let power = |went: bool| Some(if went { Ok(()) } else { Err(NvFail::Power) });
     let (seen, inside) = burnt(rt.alloc(), &rows)?;
-    assert_eq!(rt; seen.len(), 4);
+    holds(&rt, seen.len() == 4, "four rows");
     for ((answers, shown), (_, _, _, write, sync, content)) in seen.iter().zip(&rows) {
-        assert_eq!(rt; answers[0], power(*write));
-        assert_eq!(rt; answers[1], power(*sync));
-        assert_eq!(rt; answers[2], power(true));
-        assert_eq!(rt; *shown, Ok(*content));
+        holds(&rt, answers[0] == power(*write), "the write");
+        holds(&rt, answers[1] == power(*sync), "the sync");
+        holds(&rt, answers[2] == power(true), "the restart");
+        holds(&rt, *shown == Ok(*content), "what is shown");
     }
-    assert_eq!(rt; inside, Ok(*b"new.w!!!"));
+    holds(&rt, inside == Ok(*b"new.w!!!"), "inside");
     Ok(())
 }
 
@@ -201,6 +209,21 @@ fn emptied(rt: &HostRuntime, path: &str) -> Result<(u32, Shown, Shown), Fail> {
     Ok((size, before, shown(&mut nv)))
 }
 
+/// The mode of a file, and its length.
+fn metadata_of(rt: &HostRuntime, path: &str) -> Result<(u32, u64), Fail> {
+    let data = fs::metadata(rt, path)?;
+    Ok((data.mode() & 0o777, data.len()))
+}
+
+fn is_there(rt: &HostRuntime, path: &str) -> bool {
+    fs::metadata(rt, path).is_ok()
+}
+
+/// The size of the file without its bytes.
+fn size_of(rt: &HostRuntime, path: &str) -> Option<u32> {
+    Some(FileNv::start(rt, path, 8).ok()?.size())
+}
+
 #[test]
 fn keeps_a_file(rt: HostRuntime) -> Result<(), Fail> {
     let path = "keeps_a_file.nv";
@@ -208,35 +231,60 @@ fn keeps_a_file(rt: HostRuntime) -> Result<(), Fail> {
     // What a start that was cut leaves behind is no file yet, and is in nobody's way.
     fs::write(&rt, part, b"cut".as_slice())?;
     let kept = file_keeps(&rt, path).expect(&rt, "start");
-    assert!(rt; fs::metadata(&rt, part).is_err());
-    assert_eq!(rt; fs::metadata(&rt, path)?.mode() & 0o777, 0o600);
-    assert_eq!(rt; kept, Ok(*b"\0\0abc\0\0\0"));
-    assert_eq!(rt; fs::metadata(&rt, path)?.len(), 8);
+    holds(&rt, !is_there(&rt, part), "what was cut is gone");
+    holds(&rt, kept == Ok(*b"\0\0abc\0\0\0"), "what is kept");
+    let (mode, length) = metadata_of(&rt, path)?;
+    holds(&rt, mode == 0o600, "the mode");
+    holds(&rt, length == 8, "its length");
     let (size, before, after) = emptied(&rt, path)?;
-    assert_eq!(rt; size, 8);
-    assert_eq!(rt; before, Ok(*b"\0\0abc\0\0\0"));
-    assert_eq!(rt; after, Err(NvFail::Fault));
-    let nv = FileNv::start(&rt, path, 8).expect(&rt, "start with no bytes");
-    assert_eq!(rt; nv.size(), 0);
+    holds(&rt, size == 8, "its size");
+    holds(&rt, before == Ok(*b"\0\0abc\0\0\0"), "what it shows");
+    holds(&rt, after == Err(NvFail::Fault), "without its bytes");
+    holds(&rt, size_of(&rt, path) == Some(0), "of no bytes");
     fs::remove_file(&rt, path)?;
     Ok(())
 }
 
+const TOO_LONG: &str = "too_long.nv";
+
+const LINK: &str = "link.nv";
+
+const NOWHERE: &str = "link_to_nowhere.nv";
+
+/// Makes a file with one byte too many.
+fn make_long(rt: &HostRuntime) -> Result<(), Fail> {
+    let file = fs::create(rt, TOO_LONG)?;
+    file.set_len(u64::from(u32::MAX) + 1)?;
+    Ok(())
+}
+
+fn make_links(rt: &HostRuntime) -> Result<(), Fail> {
+    symlink(rt, TOO_LONG, LINK)?;
+    symlink(rt, "no_such_file.nv", NOWHERE)?;
+    Ok(())
+}
+
+fn is_refused(rt: &HostRuntime, name: &str) -> bool {
+    FileNv::start(rt, name, 8).is_err()
+}
+
 #[test]
 fn refuses_what_is_no_storage(rt: HostRuntime) -> Result<(), Fail> {
-    let path = "too_long.nv";
-    let file = fs::create(&rt, path)?;
-    file.set_len(u64::from(u32::MAX) + 1)?;
-    drop(file);
-    let link = "link.nv";
-    symlink(&rt, path, link)?;
-    let nowhere = "link_to_nowhere.nv";
-    symlink(&rt, "no_such_file.nv", nowhere)?;
-    for name in ["no/such/folder.nv", path, link, nowhere, ".", "/dev/null"] {
-        assert!(rt; FileNv::start(&rt, name, 8).is_err(), "{name}");
+    make_long(&rt)?;
+    make_links(&rt)?;
+    for name in [
+        "no/such/folder.nv",
+        TOO_LONG,
+        LINK,
+        NOWHERE,
+        ".",
+        "/dev/null",
+    ] {
+        holds(&rt, is_refused(&rt, name), name);
     }
-    assert!(rt; fs::symlink_metadata(&rt, "no_such_file.nv").is_err());
-    for name in [path, link, nowhere] {
+    let made = fs::symlink_metadata(&rt, "no_such_file.nv").is_ok();
+    holds(&rt, !made, "a link makes no file");
+    for name in [TOO_LONG, LINK, NOWHERE] {
         fs::remove_file(&rt, name)?;
     }
     Ok(())

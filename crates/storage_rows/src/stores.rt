@@ -1,13 +1,10 @@
 //! Worked rows: a storage that fails, a cell with all its commits, and a ring whose turns begin again.
-//!
-//! A function that holds a store or a storage gives back what was seen as plain values, since it is dear to prove.
-ghost use Rattle.std.specs.Prelude.{◌<◌, ◌^◌, IfSome, length};
-ghost use Rattle.nv_model.specs.Meters.{Works};
-
+use crate::checks::{holds, holds_at};
+use crate::tried::{Tried, mounted_cell, mounted_ring, storage};
 use bench_base::refusals::StoreFail;
-use nv_model::{Failure, MemNv, Nv, NvFail};
+use nv_model::{Failure, Fused, MemNv, Nv, NvFail};
 use nv_ring::Ring;
-use nv_store::{Cell, MountCause, Room, Store, Table};
+use nv_store::{Cell, MountCause, Room, Table};
 use std::alloc::Global;
 
 type Answer = Result<(), StoreFail>;
@@ -21,27 +18,8 @@ fn with_count(count: u32) -> [u8; 144] {
     content
 }
 
-/// A storage in memory with this content, and the calls of it that are to fail.
-fn storage(alloc: Global, content: &[u8], plan: &[Failure]) -> Option<MemNv>
-    requires { length content.now < 2 ^ 32 }
-    ensures { IfSome result (λ nv. Works (⟦<MemNv as Nv>⟧.meters nv)) }
-{
-    let content = Vec::from_slice(alloc, content).ok()?;
-    let plan = Vec::from_slice(alloc, plan).ok()?;
-    MemNv::new(alloc, content, plan, 400, 4000).ok()
-}
-
-/// The storage, begun again.
-fn restarted(nv: MemNv) -> Option<MemNv>
-    ensures { IfSome result (λ nv. Works (⟦<MemNv as Nv>⟧.meters nv)) }
-{
-    let mut nv = nv;
-    nv.restart().ok()?;
-    Some(nv)
-}
-
 /// What a storage of one cell holds.
-fn bytes_in(nv: MemNv) -> Option<[u8; 144]> {
+fn bytes_in(nv: Fused<MemNv>) -> Option<[u8; 144]> {
     let mut nv = nv;
     let mut bytes = [0; 144];
     if nv.size() != 144 {
@@ -51,19 +29,27 @@ fn bytes_in(nv: MemNv) -> Option<[u8; 144]> {
     Some(bytes)
 }
 
-/// What a cell answers to commits of these payloads, and the commits and the payload that the next mount shows.
-fn committed(
+/// What a store answers to commits of these payloads, and the commits and the payload that the next mount shows.
+fn committed<T: Tried>(
+    store: T,
+    payloads: [&[u8; 4]; 4],
+) -> Option<([Answer; 4], u64, Option<[u8; 4]>)> {
+    let mut store = store;
+    let mut answers = [Ok(()); 4];
+    for i in 0..4 {
+        answers[i] = store.put(0, payloads[i]);
+    }
+    let store = store.again()?;
+    Some((answers, store.count(), store.shown(0)))
+}
+
+/// What a cell answers whose storage fails by this plan.
+fn committed_by(
     alloc: Global,
     plan: &[Failure],
     payloads: [&[u8; 4]; 4],
 ) -> Option<([Answer; 4], u64, Option<[u8; 4]>)> {
-    let mut cell = Cell::mount(storage(alloc, &[0; 144], plan)?).ok()?;
-    let mut answers = [Ok(()); 4];
-    for i in 0..4 {
-        answers[i] = cell.commit(0, payloads[i]);
-    }
-    let cell = Cell::mount(restarted(cell.shut())?).ok()?;
-    Some((answers, cell.commits(), cell.get(0).copied()))
+    committed(mounted_cell(storage(alloc, &[0; 144], plan)?)?, payloads)
 }
 
 #[test]
@@ -75,80 +61,100 @@ fn shows_its_commits_after_a_fault(rt: HostRuntime) {
         keep: 0,
         byte: 0,
     };
-    let (answers, commits, payload) = committed(
+    let (answers, commits, payload) = committed_by(
         rt.alloc(),
         &[failure],
         [b"one.", b"two.", b"new.", b"new."],
     ).expect(&rt, "mount, twice");
-    assert_eq!(rt; answers[0], Ok(()));
-    assert_eq!(rt; answers[1], Ok(()));
-    assert_eq!(rt; answers[2], Err(StoreFail::Fault));
-    assert_eq!(rt; answers[3], Err(StoreFail::Failed));
-    assert_eq!(rt; commits, 2);
-    assert_eq!(rt; payload, Some(*b"two."));
+    holds(&rt, answers[0] == Ok(()), "the first");
+    holds(&rt, answers[1] == Ok(()), "the second");
+    holds(&rt, answers[2] == Err(StoreFail::Fault), "the third");
+    holds(&rt, answers[3] == Err(StoreFail::Failed), "the fourth");
+    holds(&rt, commits == 2, "its commits");
+    holds(&rt, payload == Some(*b"two."), "its payload");
 }
 
-/// What a cell with this content answers to a commit, its commits, and what its storage holds then.
+/// What a store answers to a commit, its commits, and what its storage holds then.
+fn committed_once<T: Tried>(store: T) -> Option<(Answer, u64, [u8; 144])> {
+    let mut store = store;
+    let answer = store.put(0, b"more");
+    let commits = store.count();
+    Some((answer, commits, bytes_in(store.taken_out())?))
+}
+
+/// That of a cell with this content.
 fn committed_to(alloc: Global, content: &[u8; 144]) -> Option<(Answer, u64, [u8; 144])> {
-    let mut cell = Cell::mount(storage(alloc, content, &[])?).ok()?;
-    let answer = cell.commit(0, b"more");
-    let commits = cell.commits();
-    Some((answer, commits, bytes_in(cell.shut())?))
+    committed_once(mounted_cell(storage(alloc, content, &[])?)?)
 }
 
 #[test]
 fn wears_out(rt: HostRuntime) {
     let content = with_count(u32::MAX);
     let (answer, commits, bytes) = committed_to(rt.alloc(), &content).expect(&rt, "mount");
-    assert_eq!(rt; answer, Err(StoreFail::Worn));
-    assert_eq!(rt; commits, 4294967295);
-    assert_eq!(rt; bytes, content);
+    holds(&rt, answer == Err(StoreFail::Worn), "worn");
+    holds(&rt, commits == 4294967295, "its commits");
+    holds(&rt, bytes == content, "the storage stays");
 }
 
-/// How often each slot of a ring was filled by 33 commits, and what its storage holds then.
-fn filled(alloc: Global) -> Option<([u32; 16], [u8; 144])> {
-    let mut ring = Ring::mount(storage(alloc, &[0; 144], &[])?).ok()?;
+/// Whether 33 commits are made.
+fn is_filled<T: Tried>(store: &mut T) -> bool {
     for _made in 0..33 {
-        ring.commit(0, b"page").ok()?;
+        if store.put(0, b"page").is_err() {
+            return false;
+        }
     }
+    true
+}
+
+/// How often each slot of a ring was filled.
+fn fills_of<N: Nv>(ring: &Ring<N, 4>) -> [u32; 16] {
     let mut fills = [0; 16];
     for slot in 0..16_u32 {
         fills[slot as usize] = ring.fills(slot);
     }
-    Some((fills, bytes_in(ring.shut())?))
+    fills
+}
+
+/// How often each slot was filled by 33 commits, and what the storage of the ring holds then.
+fn filled(alloc: Global) -> Option<([u32; 16], [u8; 144])> {
+    let mut ring = mounted_ring(storage(alloc, &[0; 144], &[])?)?;
+    if !is_filled(&mut ring) {
+        return None;
+    }
+    let fills = fills_of(&ring);
+    Some((fills, bytes_in(ring.taken_out())?))
 }
 
 #[test]
 fn fills_its_slots_in_turn(rt: HostRuntime) {
     let (fills, bytes) = filled(rt.alloc()).expect(&rt, "33 commits");
     for slot in 0..16 {
-        assert_eq!(rt; fills[slot], if slot == 0 { 3 } else { 2 }, "at {slot}");
+        let wanted = if slot == 0 { 3 } else { 2 };
+        holds_at(&rt, fills[slot] == wanted, "fills", slot);
     }
-    assert_eq!(rt; &bytes[..9], b"\xA5\0\0\0\x21page".as_slice());
+    holds(
+        &rt,
+        &bytes[..9] == b"\xA5\0\0\0\x21page".as_slice(),
+        "the last commit",
+    );
 }
 
 /// Why a cell is not mounted in storage with this content.
-fn refused_cell(alloc: Global, content: &[u8]) -> Option<MountCause>
-    requires { length content.now < 2 ^ 32 }
-{
-    Cell::<MemNv, 4>::mount(storage(alloc, content, &[])?)
+fn refused_cell(alloc: Global, content: &[u8]) -> Option<MountCause> {
+    Cell::<Fused<MemNv>, 4>::mount(storage(alloc, content, &[])?)
         .err()
         .map(|e| e.1)
 }
 
 /// Why a ring is not.
-fn refused_ring(alloc: Global, content: &[u8]) -> Option<MountCause>
-    requires { length content.now < 2 ^ 32 }
-{
-    Ring::<MemNv, 4>::mount(storage(alloc, content, &[])?)
+fn refused_ring(alloc: Global, content: &[u8]) -> Option<MountCause> {
+    Ring::<Fused<MemNv>, 4>::mount(storage(alloc, content, &[])?)
         .err()
         .map(|e| e.1)
 }
 
 /// Why a table of two cells is not.
-fn refused_table(alloc: Global, content: &[u8]) -> Option<MountCause>
-    requires { length content.now < 2 ^ 32 }
-{
+fn refused_table(alloc: Global, content: &[u8]) -> Option<MountCause> {
     let room = Room::<4>::new(alloc, 2).ok()?;
     Table::mount(storage(alloc, content, &[])?, room)
         .err()
@@ -157,18 +163,21 @@ fn refused_table(alloc: Global, content: &[u8]) -> Option<MountCause>
 
 #[test]
 fn refuses_other_sizes_and_mixed_cells(rt: HostRuntime) {
-    assert_eq!(rt;
-        refused_cell(rt.alloc(), &[0; 143]),
-        Some(MountCause::Size(143))
+    holds(
+        &rt,
+        refused_cell(rt.alloc(), &[0; 143]) == Some(MountCause::Size(143)),
+        "another size",
     );
-    assert_eq!(rt;
-        refused_ring(rt.alloc(), &with_count(0)),
-        Some(MountCause::Mixed(0))
+    holds(
+        &rt,
+        refused_ring(rt.alloc(), &with_count(0)) == Some(MountCause::Mixed(0)),
+        "a slot of count 0",
     );
     let mut content = [0; 36];
     content[18] = 0xA5;
-    assert_eq!(rt;
-        refused_table(rt.alloc(), &content),
-        Some(MountCause::Mixed(1))
+    holds(
+        &rt,
+        refused_table(rt.alloc(), &content) == Some(MountCause::Mixed(1)),
+        "one in the second cell",
     );
 }
