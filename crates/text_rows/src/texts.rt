@@ -10,6 +10,12 @@ use bench_base::refusals::{
 use bench_base::words::{JobState, Key, Kind, Node, Phase, Verdict};
 use script_text::{Summary, Words, is_skipped, read_event, read_words, write_reply, write_summary};
 use std::alloc::{AllocError, Global};
+use std::process::Abort;
+
+/// This holds. An assertion that is written out would be proved in each function anew.
+fn holds(rt: &impl Abort, is: bool, what: &str) {
+    assert!(rt; is, "{what}");
+}
 
 fn node_number(node: Node) -> u32 {
     match node {
@@ -93,65 +99,72 @@ fn numbers(event: &Event) -> (u32, [u32; 5]) {
     }
 }
 
+/// A line, the place of its form, and its numbers.
+const EVENTS: &[(&str, u32, [u32; 5])] = &[
+    ("day 2026-03-01", 1, [20513, 0, 0, 0, 0]),
+    ("rates", 2, [0, 0, 0, 0, 0]),
+    (
+        "make d1 0123456789abcdef0123456789abcdef0123456789abcdef0123456789abcdef",
+        3,
+        [1, 35, 0, 0, 0],
+    ),
+    ("on d2", 4, [2, 0, 0, 0, 0]),
+    ("on centre", 4, [9, 0, 0, 0, 0]),
+    ("on host", 4, [10, 0, 0, 0, 0]),
+    ("on verifier", 4, [11, 0, 0, 0, 0]),
+    ("off host", 5, [10, 0, 0, 0, 0]),
+    ("cut d8 0 4294967295 ff", 6, [8, 0, 4294967295, 255, 0]),
+    ("cut verifier 7 2 0a", 6, [11, 7, 2, 10, 0]),
+    ("debit d3 4 550 65535", 7, [3, 4, 550, 65535, 0]),
+    ("ask d1 enrol 64", 8, [1, 1, 64, 0, 0]),
+    ("ask d1 reset 1000000", 8, [1, 2, 0, 1000000, 0]),
+    ("ask d1 audit", 8, [1, 3, 0, 0, 0]),
+    ("ask d1 refund", 8, [1, 4, 0, 0, 0]),
+    ("ask d1 withdraw", 8, [1, 5, 0, 0, 0]),
+    ("resend d4", 9, [4, 0, 0, 0, 0]),
+    ("ack d5", 10, [5, 0, 0, 0, 0]),
+    ("status d6", 11, [6, 0, 0, 0, 0]),
+    (
+        "register d1 94105 0123456789abcdef0123456789abcdef0123456789abcdef0123456789abcdef",
+        12,
+        [1, 94105, 35, 0, 0],
+    ),
+    ("customer 64", 13, [64, 0, 0, 0, 0]),
+    ("deposit 1 2 1000000000", 14, [1, 2, 1000000000, 0, 0]),
+    ("suspend 9", 15, [9, 1, 0, 0, 0]),
+    ("resume 10", 15, [10, 0, 0, 0, 0]),
+    ("balance 11", 16, [11, 0, 0, 0, 0]),
+    ("deliver 0", 17, [0, 0, 0, 0, 0]),
+    ("give centre 0102ff", 18, [9, 3, 2, 0, 0]),
+    ("give d1 -", 18, [1, 0, 0, 0, 0]),
+    ("order d1 2 3 28 1", 19, [1, 2, 3, 28, 1]),
+    ("send 1", 20, [1, 0, 0, 0, 0]),
+    ("print 2", 21, [2, 0, 0, 0, 0]),
+    ("close 3", 22, [3, 0, 0, 0, 0]),
+    (
+        "trust d7 0123456789abcdef0123456789abcdef0123456789abcdef0123456789abcdef",
+        23,
+        [7, 35, 0, 0, 0],
+    ),
+    ("scan 1 msg 0", 24, [1, 0, 0, 0, 0]),
+    ("scan 4294967295 hex 00ff", 25, [4294967295, 2, 255, 0, 0]),
+    ("scan 2 hex -", 25, [2, 0, 0, 0, 0]),
+    ("reconcile d1", 26, [1, 0, 0, 0, 0]),
+    ("end", 27, [0, 0, 0, 0, 0]),
+];
+
+/// Whether the line is the event of this form with these numbers.
+fn is_event(line: &str, form: u32, wanted: [u32; 5]) -> bool {
+    match read_event(line.as_bytes()) {
+        Ok(event) => numbers(&event) == (form, wanted) && !is_skipped(line.as_bytes()),
+        Err(_) => false,
+    }
+}
+
 #[test]
 fn events_are_read(rt: HostRuntime) {
-    for (line, form, wanted) in [
-        ("day 2026-03-01", 1, [20513, 0, 0, 0, 0]),
-        ("rates", 2, [0, 0, 0, 0, 0]),
-        (
-            "make d1 0123456789abcdef0123456789abcdef0123456789abcdef0123456789abcdef",
-            3,
-            [1, 35, 0, 0, 0],
-        ),
-        ("on d2", 4, [2, 0, 0, 0, 0]),
-        ("on centre", 4, [9, 0, 0, 0, 0]),
-        ("on host", 4, [10, 0, 0, 0, 0]),
-        ("on verifier", 4, [11, 0, 0, 0, 0]),
-        ("off host", 5, [10, 0, 0, 0, 0]),
-        ("cut d8 0 4294967295 ff", 6, [8, 0, 4294967295, 255, 0]),
-        ("cut verifier 7 2 0a", 6, [11, 7, 2, 10, 0]),
-        ("debit d3 4 550 65535", 7, [3, 4, 550, 65535, 0]),
-        ("ask d1 enrol 64", 8, [1, 1, 64, 0, 0]),
-        ("ask d1 reset 1000000", 8, [1, 2, 0, 1000000, 0]),
-        ("ask d1 audit", 8, [1, 3, 0, 0, 0]),
-        ("ask d1 refund", 8, [1, 4, 0, 0, 0]),
-        ("ask d1 withdraw", 8, [1, 5, 0, 0, 0]),
-        ("resend d4", 9, [4, 0, 0, 0, 0]),
-        ("ack d5", 10, [5, 0, 0, 0, 0]),
-        ("status d6", 11, [6, 0, 0, 0, 0]),
-        (
-            "register d1 94105 0123456789abcdef0123456789abcdef0123456789abcdef0123456789abcdef",
-            12,
-            [1, 94105, 35, 0, 0],
-        ),
-        ("customer 64", 13, [64, 0, 0, 0, 0]),
-        ("deposit 1 2 1000000000", 14, [1, 2, 1000000000, 0, 0]),
-        ("suspend 9", 15, [9, 1, 0, 0, 0]),
-        ("resume 10", 15, [10, 0, 0, 0, 0]),
-        ("balance 11", 16, [11, 0, 0, 0, 0]),
-        ("deliver 0", 17, [0, 0, 0, 0, 0]),
-        ("give centre 0102ff", 18, [9, 3, 2, 0, 0]),
-        ("give d1 -", 18, [1, 0, 0, 0, 0]),
-        ("order d1 2 3 28 1", 19, [1, 2, 3, 28, 1]),
-        ("send 1", 20, [1, 0, 0, 0, 0]),
-        ("print 2", 21, [2, 0, 0, 0, 0]),
-        ("close 3", 22, [3, 0, 0, 0, 0]),
-        (
-            "trust d7 0123456789abcdef0123456789abcdef0123456789abcdef0123456789abcdef",
-            23,
-            [7, 35, 0, 0, 0],
-        ),
-        ("scan 1 msg 0", 24, [1, 0, 0, 0, 0]),
-        ("scan 4294967295 hex 00ff", 25, [4294967295, 2, 255, 0, 0]),
-        ("scan 2 hex -", 25, [2, 0, 0, 0, 0]),
-        ("reconcile d1", 26, [1, 0, 0, 0, 0]),
-        ("end", 27, [0, 0, 0, 0, 0]),
-    ] {
-        match read_event(line.as_bytes()) {
-            Ok(event) => assert!(rt; numbers(&event) == (form, wanted), "{line}"),
-            Err(_) => assert!(rt; false, "{line}"),
-        }
-        assert!(rt; !is_skipped(line.as_bytes()), "{line}");
+    for (line, form, wanted) in EVENTS {
+        holds(&rt, is_event(*line, *form, *wanted), *line);
     }
 }
 
@@ -172,8 +185,12 @@ fn read_long(count: usize) -> Option<(u32, [u32; 5])>
 
 #[test]
 fn long_lines(rt: HostRuntime) {
-    assert!(rt; read_long(256) == Some((18, [10, 256, 0xab, 0, 0])));
-    assert!(rt; read_long(257).is_none());
+    holds(
+        &rt,
+        read_long(256) == Some((18, [10, 256, 0xab, 0, 0])),
+        "256 bytes",
+    );
+    holds(&rt, read_long(257).is_none(), "257 bytes");
 }
 
 #[test]
@@ -263,12 +280,12 @@ fn lines_that_are_nearly_events(rt: HostRuntime) {
         "#",
         "#comment",
     ] {
-        assert!(rt; read_event(line.as_bytes()).is_err(), "{line}");
+        holds(&rt, read_event(line.as_bytes()).is_err(), line);
     }
     for line in ["", "#", "# end", "#comment"] {
-        assert!(rt; is_skipped(line.as_bytes()), "{line}");
+        holds(&rt, is_skipped(line.as_bytes()), line);
     }
-    assert!(rt; !is_skipped(b" # end"));
+    holds(&rt, !is_skipped(b" # end"), "a blank before the sign");
 }
 
 fn device(number: u32) -> DevNo
@@ -312,7 +329,7 @@ fn replies_of_nodes(rt: HostRuntime) {
         (Reply::Worn(Node::Host), "worn host"),
         (Reply::Damaged(Node::Host), "damaged host"),
     ] {
-        assert!(rt; write_reply(&reply).as_slice() == text.as_bytes(), "{text}");
+        holds(&rt, write_reply(&reply).as_slice() == text.as_bytes(), text);
     }
 }
 
@@ -348,7 +365,7 @@ fn replies_of_rates_and_devices(rt: HostRuntime) {
         ),
         (Reply::Flagged(customer(1), true), "suspended 1"),
     ] {
-        assert!(rt; write_reply(&reply).as_slice() == text.as_bytes(), "{text}");
+        holds(&rt, write_reply(&reply).as_slice() == text.as_bytes(), text);
     }
 }
 
@@ -393,7 +410,7 @@ fn replies_of_others(rt: HostRuntime) {
         (Reply::NoDay, "no day"),
         (Reply::NoMessage(7), "no message 7"),
     ] {
-        assert!(rt; write_reply(&reply).as_slice() == text.as_bytes(), "{text}");
+        holds(&rt, write_reply(&reply).as_slice() == text.as_bytes(), text);
     }
 }
 
@@ -407,41 +424,45 @@ fn is_refused(reply: Reply, front: &str, words: &str) -> bool {
     }
 }
 
+/// Refusals of a device, and their words.
+const OF_DEVICES: &[(DevRefusal, &str)] = &[
+    (DevRefusal::Blank, "blank"),
+    (DevRefusal::Made, "made"),
+    (DevRefusal::WrongDevice(9), "wrong device 9"),
+    (DevRefusal::Conflict(550, 1), "conflict 550 1"),
+    (DevRefusal::WrongPiece(3), "wrong piece 3"),
+    (DevRefusal::Phase(Phase::Authorised), "phase authorised"),
+    (DevRefusal::Phase(Phase::Locked), "phase locked"),
+    (DevRefusal::Phase(Phase::Withdrawn), "phase withdrawn"),
+    (DevRefusal::Frozen(Kind::Audit), "frozen audit"),
+    (DevRefusal::ClockBack(-5), "clock back -5"),
+    (DevRefusal::Due(20_605), "due 20605"),
+    (DevRefusal::BadAmount(0), "bad amount 0"),
+    (DevRefusal::NoFunds(549), "no funds 549"),
+    (DevRefusal::Busy(Kind::Refund), "busy refund"),
+    (
+        DevRefusal::TotalFull(4_294_967_295),
+        "total full 4294967295",
+    ),
+    (DevRefusal::NumberFull, "number full"),
+    (DevRefusal::NothingPending, "nothing pending"),
+    (DevRefusal::Stale(2), "stale 2"),
+    (DevRefusal::Stray(Kind::Withdraw), "stray withdraw"),
+    (DevRefusal::NothingDone, "nothing done"),
+    (DevRefusal::BadCode, "bad code"),
+    (DevRefusal::Unread(Unread::Kind), "unread kind"),
+    (DevRefusal::Unread(Unread::Verdict), "unread verdict"),
+    (DevRefusal::Unread(Unread::Day), "unread day"),
+    (DevRefusal::Unread(Unread::Mark), "unread mark"),
+];
+
 #[test]
 fn refusals_of_devices(rt: HostRuntime) {
-    for (reply, text) in [
-        (DevRefusal::Blank, "blank"),
-        (DevRefusal::Made, "made"),
-        (DevRefusal::WrongDevice(9), "wrong device 9"),
-        (DevRefusal::Conflict(550, 1), "conflict 550 1"),
-        (DevRefusal::WrongPiece(3), "wrong piece 3"),
-        (DevRefusal::Phase(Phase::Authorised), "phase authorised"),
-        (DevRefusal::Phase(Phase::Locked), "phase locked"),
-        (DevRefusal::Phase(Phase::Withdrawn), "phase withdrawn"),
-        (DevRefusal::Frozen(Kind::Audit), "frozen audit"),
-        (DevRefusal::ClockBack(-5), "clock back -5"),
-        (DevRefusal::Due(20_605), "due 20605"),
-        (DevRefusal::BadAmount(0), "bad amount 0"),
-        (DevRefusal::NoFunds(549), "no funds 549"),
-        (DevRefusal::Busy(Kind::Refund), "busy refund"),
-        (
-            DevRefusal::TotalFull(4_294_967_295),
-            "total full 4294967295",
-        ),
-        (DevRefusal::NumberFull, "number full"),
-        (DevRefusal::NothingPending, "nothing pending"),
-        (DevRefusal::Stale(2), "stale 2"),
-        (DevRefusal::Stray(Kind::Withdraw), "stray withdraw"),
-        (DevRefusal::NothingDone, "nothing done"),
-        (DevRefusal::BadCode, "bad code"),
-        (DevRefusal::Unread(Unread::Kind), "unread kind"),
-        (DevRefusal::Unread(Unread::Verdict), "unread verdict"),
-        (DevRefusal::Unread(Unread::Day), "unread day"),
-        (DevRefusal::Unread(Unread::Mark), "unread mark"),
-    ] {
-        assert!(rt;
-            is_refused(Reply::DevRefused(device(1), reply), "refused d1 ", text),
-            "{text}"
+    for (reply, text) in OF_DEVICES {
+        holds(
+            &rt,
+            is_refused(Reply::DevRefused(device(1), *reply), "refused d1 ", *text),
+            *text,
         );
     }
 }
@@ -468,65 +489,74 @@ fn refusals_of_the_centre(rt: HostRuntime) {
             "deposits full 1000000000000000",
         ),
     ] {
-        assert!(rt;
+        holds(
+            &rt,
             is_refused(Reply::CentreRefused(reply), "refused centre ", text),
-            "{text}"
+            text,
         );
     }
 }
+
+/// Refusals of the host, and their words.
+const OF_THE_HOST: &[(HostRefusal, &str)] = &[
+    (HostRefusal::NoRates, "no rates"),
+    (HostRefusal::Rate(RateRefusal::NoClass), "no class"),
+    (HostRefusal::Rate(RateRefusal::NoZone(2)), "no zone 2"),
+    (
+        HostRefusal::Rate(RateRefusal::TooHeavy(500)),
+        "too heavy 500",
+    ),
+    (HostRefusal::OpenJob(1), "open job 1"),
+    (HostRefusal::Used(3), "piece used 3"),
+    (HostRefusal::JobsFull(1), "jobs full 1"),
+    (HostRefusal::NumberFull, "number full"),
+    (HostRefusal::NoJob, "no job"),
+    (HostRefusal::State(JobState::Ordered), "state ordered"),
+    (HostRefusal::State(JobState::Held), "state held"),
+    (HostRefusal::State(JobState::Begun), "state begun"),
+    (HostRefusal::State(JobState::Closed), "state closed"),
+    (HostRefusal::Unread(Unread::Version), "unread version"),
+    (HostRefusal::Unread(Unread::Tag), "unread tag"),
+    (HostRefusal::OtherPiece(1), "other piece 1"),
+    (HostRefusal::OtherPostage(2), "other postage 2"),
+    (HostRefusal::OtherClass(3), "other class 3"),
+];
 
 #[test]
 fn refusals_of_the_host(rt: HostRuntime) {
-    for (reply, text) in [
-        (HostRefusal::NoRates, "no rates"),
-        (HostRefusal::Rate(RateRefusal::NoClass), "no class"),
-        (HostRefusal::Rate(RateRefusal::NoZone(2)), "no zone 2"),
-        (
-            HostRefusal::Rate(RateRefusal::TooHeavy(500)),
-            "too heavy 500",
-        ),
-        (HostRefusal::OpenJob(1), "open job 1"),
-        (HostRefusal::Used(3), "piece used 3"),
-        (HostRefusal::JobsFull(1), "jobs full 1"),
-        (HostRefusal::NumberFull, "number full"),
-        (HostRefusal::NoJob, "no job"),
-        (HostRefusal::State(JobState::Ordered), "state ordered"),
-        (HostRefusal::State(JobState::Held), "state held"),
-        (HostRefusal::State(JobState::Begun), "state begun"),
-        (HostRefusal::State(JobState::Closed), "state closed"),
-        (HostRefusal::Unread(Unread::Version), "unread version"),
-        (HostRefusal::Unread(Unread::Tag), "unread tag"),
-        (HostRefusal::OtherPiece(1), "other piece 1"),
-        (HostRefusal::OtherPostage(2), "other postage 2"),
-        (HostRefusal::OtherClass(3), "other class 3"),
-    ] {
-        assert!(rt;
-            is_refused(Reply::HostRefused(reply), "refused host ", text),
-            "{text}"
+    for (reply, text) in OF_THE_HOST {
+        holds(
+            &rt,
+            is_refused(Reply::HostRefused(*reply), "refused host ", *text),
+            *text,
         );
     }
 }
 
+/// Refusals of the verifier, and their words.
+const OF_THE_VERIFIER: &[(ScanRefusal, &str)] = &[
+    (ScanRefusal::Unread(MarkFault::Length(63)), "unread length"),
+    (ScanRefusal::Unread(MarkFault::Version(2)), "unread version"),
+    (
+        ScanRefusal::Unread(MarkFault::Algorithm(2)),
+        "unread algorithm",
+    ),
+    (ScanRefusal::Unknown(9), "unknown device 9"),
+    (ScanRefusal::BadCode, "bad code"),
+    (ScanRefusal::Duplicate(4), "duplicate 4"),
+    (ScanRefusal::Future(20_514), "future 20514"),
+    (ScanRefusal::TooOld(20_000), "too old 20000"),
+    (ScanRefusal::BlocksFull, "blocks full"),
+    (ScanRefusal::Known, "known"),
+];
+
 #[test]
 fn refusals_of_the_verifier(rt: HostRuntime) {
-    for (reply, text) in [
-        (ScanRefusal::Unread(MarkFault::Length(63)), "unread length"),
-        (ScanRefusal::Unread(MarkFault::Version(2)), "unread version"),
-        (
-            ScanRefusal::Unread(MarkFault::Algorithm(2)),
-            "unread algorithm",
-        ),
-        (ScanRefusal::Unknown(9), "unknown device 9"),
-        (ScanRefusal::BadCode, "bad code"),
-        (ScanRefusal::Duplicate(4), "duplicate 4"),
-        (ScanRefusal::Future(20_514), "future 20514"),
-        (ScanRefusal::TooOld(20_000), "too old 20000"),
-        (ScanRefusal::BlocksFull, "blocks full"),
-        (ScanRefusal::Known, "known"),
-    ] {
-        assert!(rt;
-            is_refused(Reply::ScanRefused(reply), "refused verifier ", text),
-            "{text}"
+    for (reply, text) in OF_THE_VERIFIER {
+        holds(
+            &rt,
+            is_refused(Reply::ScanRefused(*reply), "refused verifier ", *text),
+            *text,
         );
     }
 }
@@ -540,10 +570,12 @@ fn marks_are_written(rt: HostRuntime) {
         let line = write_reply(&Reply::Marked(device(1), 2, again, [byte; 64]));
         let text = line.as_slice();
         assert!(rt; text.len() == front.len() + 128 && text.starts_with(front.as_bytes()));
-        assert!(rt;
+        holds(
+            &rt,
             text[front.len()..]
                 .chunks(2)
-                .all(|pair| pair == digits.as_slice())
+                .all(|pair| pair == digits.as_slice()),
+            "the digits",
         );
     }
 }
@@ -561,9 +593,11 @@ fn a_summary(rt: HostRuntime) {
     summary.count(&Reply::NoDay);
     summary.count(&Reply::Fault(Node::Verifier));
     let line = write_summary(4_294_967_295, 2, &summary);
-    assert!(rt;
+    holds(
+        &rt,
         line.as_slice()
-            == b"generated 4294967295 2 lines 9 refused 1 power 1 fault 1 released 2 accepted 1".as_slice()
+            == b"generated 4294967295 2 lines 9 refused 1 power 1 fault 1 released 2 accepted 1".as_slice(),
+        "the line",
     );
 }
 
@@ -597,7 +631,7 @@ fn the_words_of_a_call(rt: HostRuntime) -> Result<(), AllocError> {
         ("Replay", None),
         ("", None),
     ] {
-        assert!(rt; called(rt.alloc(), text)? == wanted, "{text}");
+        holds(&rt, called(rt.alloc(), text)? == wanted, text);
     }
     Ok(())
 }
