@@ -1,5 +1,5 @@
 //! A customer's row as the 192 bytes that are kept in storage.
-ghost use Rattle.std.specs.Prelude.{◌≡◌, ◌≤◌, ◌++◌, IfSome, IfNone};
+ghost use Rattle.std.specs.Prelude.{◌≡◌, IfSome, IfNone};
 ghost use Rattle.bench_base.specs.Table.{Fit};
 ghost use Rattle.centre_ledger.specs.declared.rows.CustomerRow.{CustomerRow as TheRow};
 ghost use Rattle.centre_ledger.specs.Soundness.{IsSoundCustomer};

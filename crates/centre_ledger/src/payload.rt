@@ -6,7 +6,7 @@ ghost use Rattle.psd_wire.specs.Grammar.{sum_size};
 ghost use Rattle.centre_ledger.specs.declared.rows.DeviceRow.{DeviceRow as TheRow};
 ghost use Rattle.centre_ledger.specs.Soundness.{IsSoundDevice};
 ghost use Rattle.centre_ledger.specs.Payload as layout;
-ghost use Rattle.centre_ledger.specs.Payload.{DeviceFits, DeviceReadsAs, IsOld, device_bytes, device_spelled, filled, request_size, reply_size, message_part};
+ghost use Rattle.centre_ledger.specs.Payload.{DeviceReadsAs, device_bytes, filled, request_size, reply_size};
 ghost use Rattle.centre_ledger.specs.Parts.{bare, bare_at, state_from, sum_at, KeepMessages, IsSpelling};
 
 use crate::messages::{reply_front, request_front, stored, uncoded};

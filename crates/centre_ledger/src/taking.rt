@@ -1,9 +1,8 @@
 //! What the centre does with a message that it takes, decided by its rows alone. Amounts are in mills.
 ghost use Rattle.std.specs.Prelude.{◌≡◌, ◌+◌, false, Ok, Some};
-ghost use Rattle.std.specs.Option.{option_copied};
 ghost use Rattle.psd_wire.specs.declared.message.Message.TheVariants as m;
 ghost use Rattle.psd_wire.specs.Codes.{has_code};
-ghost use Rattle.psd_wire.specs.Grammar.{IsWhole, HasCode, read, spell};
+ghost use Rattle.psd_wire.specs.Grammar.{IsWhole, read, spell};
 ghost use Rattle.ledger_terms.specs.Rulings as rulings;
 ghost use Rattle.centre_ledger.specs.Acts as act_of;
 ghost use Rattle.centre_ledger.specs.Answers.{settle_answer};

@@ -1,5 +1,5 @@
 //! The centre out of its storage.
-ghost use Rattle.std.specs.Prelude.{◌≡◌, ◌≢◌, ◌+◌, ◌<◌, ◌≤◌, OnOk, IfOk, IfErr, IsErrOf, MatchResult, Err, false, is_ok, length};
+ghost use Rattle.std.specs.Prelude.{◌≡◌, ◌≢◌, ◌+◌, ◌<◌, OnOk, IfOk, IfErr, IsErrOf, MatchResult, Err, false, is_ok, length};
 ghost use Rattle.bench_base.specs.declared.sizes.TheConstants.{CENTRE_CELLS, CENTRE_BYTES};
 ghost use Rattle.nv_store.specs.RoomView.{cells_of, kept_in};
 ghost use Rattle.nv_store.specs.Turns.{Kept};

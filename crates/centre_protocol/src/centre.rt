@@ -1,5 +1,5 @@
 //! The running centre: its rows in its storage, and the commit that failed.
-ghost use Rattle.std.specs.Prelude.{◌≡◌, None, not, is_some};
+ghost use Rattle.std.specs.Prelude.{◌≡◌, not, is_some};
 ghost use Rattle.bench_base.specs.declared.sizes.TheConstants.{CENTRE_CELLS, CENTRE_BYTES};
 ghost use Rattle.nv_store.specs.RoomView.{cells_of};
 ghost use Rattle.centre_ledger.specs.Seen.{counting};

@@ -1,5 +1,4 @@
 //! The centre as a node of the bench.
-ghost use Rattle.std.specs.Prelude.{◌≡◌};
 ghost use Rattle.bench_base.specs.declared.sizes.TheConstants.{CENTRE_BYTES};
 ghost use Rattle.centre_ledger.specs.Seen as seen_by;
 ghost use Rattle.centre_protocol.specs.Payloads as payloads;

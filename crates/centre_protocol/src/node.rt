@@ -1,5 +1,5 @@
 //! The centre in its storage, on or off.
-ghost use Rattle.std.specs.Prelude.{◌≡◌, ◌==◌, ◌<◌, ◌^◌, ℕ, OnErr, IsErrOf, true, false};
+ghost use Rattle.std.specs.Prelude.{◌≡◌, ◌<◌, OnErr, IsErrOf, true, false};
 ghost use Rattle.nv_model.specs.Meters.{Restarts};
 ghost use Rattle.bench_base.specs.declared.sizes.TheConstants.{ROW_BYTES, CENTRE_CELLS, CENTRE_BYTES};
 ghost use Rattle.nv_store.specs.RoomView.{cells_of, kept_in};
@@ -37,7 +37,7 @@ pub struct CentreNode<N: Nv> {
 }
 
 impl<N: Nv> CentreNode<N> {
-    ghost use Rattle.centre_protocol.specs.NodeView.{storage_in, seen_in, rows_in, is_on};
+    ghost use Rattle.centre_protocol.specs.NodeView.{storage_in, seen_in, is_on};
 
     /// The centre that is off, in this storage and this memory.
     pub(crate) fn new(nv: N, room: Room<ROW_BYTES>) -> CentreNode<N>

@@ -1,5 +1,5 @@
 //! A job as the 115 bytes that are kept in storage.
-ghost use Rattle.std.specs.Prelude.{◌≡◌, ◌↔◌, ◌≤◌, ◌<◌, ◌+◌, ◌++◌, IfSome, IfNone, IsTrue, length, replicate, get_or, take, drop};
+ghost use Rattle.std.specs.Prelude.{◌≡◌, ◌↔◌, ◌≤◌, ◌<◌, ◌+◌, ◌++◌, IfSome, IfNone, IsTrue, length, replicate, take, drop};
 ghost use Rattle.bench_base.specs.Table.{Fit, values};
 ghost use Rattle.bench_base.specs.Jobs.{cell_of};
 ghost use Rattle.host_jobs.specs.declared.rows.JobRow.{JobRow as TheRow};

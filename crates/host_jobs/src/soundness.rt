@@ -1,5 +1,5 @@
 //! Whether a job that was read meets its conditions.
-ghost use Rattle.std.specs.Prelude.{◌≡◌, ◌↔◌, ◌≤◌, ◌-◌, get_or, length, IsTrue};
+ghost use Rattle.std.specs.Prelude.{◌↔◌, ◌-◌, IsTrue};
 ghost use Rattle.host_jobs.specs.Order.{IsMarkOf};
 ghost use Rattle.host_jobs.specs.Rows.{job_in};
 ghost use Rattle.host_jobs.specs.Soundness.{IsMarked, Holds, IsSoundJob};
