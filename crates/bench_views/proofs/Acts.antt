@@ -1,7 +1,7 @@
 -- After the commit of a call of a device, its record is that of the commits and the new one.
 use Rattle.std.proofs.Common.{◌≡◌, ℕ, ℤ, Bool, true, false, List, ◌∷◌, Option, Some, None, Result, Ok, Err, refl, sym, subst, true≢false, if◌then◌else◌}
 use Rattle.std.specs.Prelude.{◌+◌, ◌==◌, not, IfSome}
-use Rattle.std.proofs.lemmas.Bool.{eq-eqb, eqb-true}
+use Rattle.std.proofs.lemmas.Bool.{eq-eqb, eqb-true, not-false}
 use Rattle.bench_base.specs.declared.words.Kind.{Kind}
 use Rattle.bench_base.specs.declared.words.Verdict.{Verdict}
 use Rattle.bench_base.specs.declared.words.Node.TheVariants.{Device}
@@ -73,10 +73,6 @@ passed true stray x y a b is = cc
 passed false true x y a b is = cc
 passed false false x y a b is = (refl, cc)
 
-not_false : (b : Bool) → not b ≡ false → b ≡ true
-not_false true is = refl
-not_false false is = absurd (true≢false is)
-
 module _ (H : Ledger) (ordered : AreOrdered (counted H)) (making : MakingStarts) (debiting : DebitingKeeps) (asking : AskingKeeps) (applying : ApplyingKeeps) (d : ℕ) (known : IsKnown (seen_in d (counted H))) where
   abbrev C : List Commit
   C = counted H
@@ -143,7 +139,7 @@ module _ (H : Ledger) (ordered : AreOrdered (counted H)) (making : MakingStarts)
   ended s after p None is = cc
   ended s after p (Some q) is =
       let through = passed (not (p.number == q.number)) (is_stray p q) (no.Stale q.number) (no.Stray q.kind) (after_apply s q p) after is in
-      (q, refl, eqb-true p.number q.number (not_false (p.number == q.number) through.0))
+      (q, refl, eqb-true p.number q.number (not-false (p.number == q.number) through.0))
 
   -- the Applied comes after a ruling of its number, with its verdict
   is_ruled : (n : ℕ) (v : Verdict) → AreOrdered (c.Applied d n v ∷ C) → HasRuling d n v C
@@ -180,8 +176,8 @@ module _ (H : Ledger) (ordered : AreOrdered (counted H)) (making : MakingStarts)
         let act = applied_act d p (apply_answer s s.pending p) in
         checked (λ (a : DeviceAct Taken). IsRightAct a) (not (p.device == d)) (not (has_code key bytes)) _ _ act tt tt
         (λ own coded.
-        let same : p.device ≡ d = eqb-true p.device d (not_false (p.device == d) own) in
-        let whole = genuine p reads same key h (not_false (has_code key bytes) coded) in
+        let same : p.device ≡ d = eqb-true p.device d (not-false (p.device == d) own) in
+        let whole = genuine p reads same key h (not-false (has_code key bytes) coded) in
         applied_right p s (apply_answer s s.pending p) (ordered.records d key h) (holds_of key h) (subst (λ (e : ℕ). ruled_reply e p.number C ≡ Some p) same whole) refl
         (made_where (not (p.device == d)) (not (has_code key bytes)) (no.WrongDevice p.device) no.BadCode act made own coded))
 

@@ -1,6 +1,7 @@
 -- What a node is asked, whatever its kind: its plan, the commit of the plan and how it goes, where a call has its own.
 use Rattle.std.proofs.Common.{◌≡◌, ℕ, List, [], ◌∷◌, ◌++◌, Option, Some, None, Bool, true, false, option_map, refl, arith}
 use Rattle.std.specs.Prelude.{if◌then◌else◌}
+use Rattle.std.proofs.lemmas.Option.{none-some}
 use Rattle.bench_base.specs.declared.words.Node.{Node}
 use Rattle.bench_base.specs.declared.ledger.Commit.{Commit}
 use Rattle.bench_base.specs.declared.ledger.Entry.TheVariants as entry
@@ -25,9 +26,6 @@ use Rattle.bench_views.specs.Messages.{IsFew}
 use Rattle.bench_views.proofs.Sent.{NoBegin}
 use Rattle.bench_views.proofs.Steps.{Step, turns-on, turns-off, cuts}
 
-none_made : {A P : Type 0} (x : A) → ◌≡◌ {A = Option A} None (Some x) → P
-none_made x is = absurd (cc)
-
 module _ {S X C : Type 0} (n : Counting S X) (m : Node) (call_plan : C → Plan) (call_commit : C → Option (Commit × S)) (v : View S) where
   on_silent : (on : Bool) (k : ℕ) → (if on then refuse (r.OnAlready m) else told (r.Up m k) (entry.Up m k ∷ [])).commit ≡ None
   on_silent true k = refl
@@ -48,9 +46,9 @@ module _ {S X C : Type 0} (n : Counting S X) (m : Node) (call_plan : C → Plan)
   -- and the node's, which is on
   pub commit_own : (asked : Asked C) → ((c : C) → asked ≡ Call c → (x : Commit × S) → call_commit c ≡ Some x → (node_of x.0 ≡ m) × (v.on ≡ true)) → (x : Commit × S) → node_commit call_commit asked ≡ Some x
       → (node_of x.0 ≡ m) × (v.on ≡ true)
-  commit_own On calls x is = none_made x is
-  commit_own Off calls x is = none_made x is
-  commit_own (Cut k keep byte) calls x is = none_made x is
+  commit_own On calls x is = absurd (none-some x is)
+  commit_own Off calls x is = absurd (none-some x is)
+  commit_own (Cut k keep byte) calls x is = absurd (none-some x is)
   commit_own (Call c) calls x is = calls c refl x is
 
 -- it goes in one of the steps

@@ -1,6 +1,7 @@
 -- What the centre is called for: its plan, its commit, and what is seen of it afterwards.
 use Rattle.std.proofs.Common.{◌≡◌, ℕ, ℤ, ◌+◌, List, [], Option, Some, None, Bool, true, false, Result, Ok, Err, refl, sym, ◌∙◌, ap, subst, arith}
 use Rattle.std.specs.Prelude.{◌-◌, ◌&&◌, length, slice_get, nat_le, IfSome, if◌then◌else◌}
+use Rattle.std.proofs.lemmas.Bool.{lt-ltb, le-ltb}
 use Rattle.bench_base.specs.declared.words.Verdict.{Verdict}
 use Rattle.bench_base.specs.declared.words.Node.TheVariants.{Centre}
 use Rattle.bench_base.specs.declared.refusals.CentreRefusal.{CentreRefusal}
@@ -60,7 +61,6 @@ use Rattle.bench_views.specs.Messages.{sent_in}
 use Rattle.bench_views.proofs.Calling.{plan_says, own_says, worn_says, at_seen, IsWornAlike}
 use Rattle.bench_views.proofs.Events.{each_of_centre, one_of_eight}
 use Rattle.bench_views.proofs.CentreCommits.{HasCell, seen_put, worn}
-use Rattle.bench_views.proofs.CentreRows.{small, large}
 use Rattle.bench_views.proofs.Sent.{sent_many, sent_at}
 use Rattle.bench_views.proofs.Steps.{IsQuiet, IsSaid, IsQuietAct, IsRight, quiet_says, right_says}
 
@@ -73,10 +73,10 @@ IsPlacedAct (Tell a) = Unit {0}
 IsPlacedAct (Commits c x a) = (node_of c ≡ Centre) × HasCell x × (place_of c ≡ place_in (cell_of x))
 
 device_place : (d : ℕ) → IsDevice d → place_in (d - 1) ≡ cells.OfRow d
-device_place d is = rw (small (d - 1) (omega (arith, is))) (ap cells.OfRow (omega (arith, is)))
+device_place d is = rw (lt-ltb (d - 1) 8 (omega (arith, is))) (ap cells.OfRow (omega (arith, is)))
 
 customer_place : (w : ℕ) → IsCustomer w → place_in (7 + w) ≡ cells.OfCustomer w
-customer_place w is = rw (large (7 + w) (omega (arith, is))) (ap cells.OfCustomer (omega arith))
+customer_place w is = rw (le-ltb (7 + w) 8 (omega (arith, is))) (ap cells.OfCustomer (omega arith))
 
 register_placed : (d origin : ℕ) (key : List ℕ) (o : Option DeviceRow) → IsDevice d → IsPlacedAct (registered_act d origin key o)
 register_placed d origin key None is = (refl, is, sym (device_place d is))

@@ -1,7 +1,7 @@
 -- What one commit of the centre does to what is seen of it.
 use Rattle.std.proofs.Common.{◌≡◌, ◌≢◌, ℕ, ◌+◌, ◌-◌, ◌<◌, ◌≤◌, List, ◌∷◌, Option, Some, None, Bool, true, false, option_map, refl, sym, ◌∙◌, ap, arith}
 use Rattle.std.specs.Prelude.{◌==◌, nat_lt, nat_le, get_or, set, if◌then◌else◌}
-use Rattle.std.proofs.lemmas.Bool.{eq-eqb, ne_eqb}
+use Rattle.std.proofs.lemmas.Bool.{eq-eqb, ne_eqb, lt-ltb, le-ltb, ltb-false}
 use Rattle.std.proofs.lemmas.List.{get_or-set_same, get_or-set_other}
 use Rattle.bench_base.specs.declared.sizes.TheConstants.{CENTRE_CELLS, MOST_COMMITS}
 use Rattle.bench_base.specs.declared.ledger.Commit.{Commit}
@@ -22,7 +22,7 @@ use Rattle.centre_ledger.specs.Seen.{cell_of}
 use Rattle.ledger_terms.specs.Centres.{registered, opened}
 use Rattle.std.proofs.lemmas.Bool.Decides.{nat_tests}
 use Rattle.bench_views.specs.Centre.{device_row, device_row_by, customer_row, place_in, row_in, cell_after, seen_in, IsKnown}
-use Rattle.bench_views.proofs.CentreRows.{one_device, one_customer, as_customer, small, large, seen_at, no_device_commits, no_customer_commits}
+use Rattle.bench_views.proofs.CentreRows.{one_device, one_customer, as_customer, seen_at, no_device_commits, no_customer_commits}
 use Rattle.bench_views.proofs.Counts.{top-is}
 
 -- the row has a cell
@@ -47,14 +47,11 @@ same_place-self (OfBlock d b) = rw (eq-eqb d d refl, eq-eqb b b refl) refl
 is_small : (k : ℕ) → nat_lt k 8 ≡ true → k < 8
 is_small k is = grind (arith, nat_tests)
 
-is_large : (k : ℕ) → nat_lt k 8 ≡ false → 8 ≤ k
-is_large k is = grind (arith, nat_tests)
-
 apart_by : (j k : ℕ) → j ≢ k → (low high : Bool) → nat_lt j 8 ≡ low → nat_lt k 8 ≡ high → same_place (place_in j) (place_in k) ≡ false
 apart_by j k differs true true is is' = rw (is, is') (ne_eqb (j + 1) (k + 1) (λ same. differs (omega (arith, same))))
 apart_by j k differs true false is is' = rw (is, is') refl
 apart_by j k differs false true is is' = rw (is, is') refl
-apart_by j k differs false false is is' = rw (is, is') (ne_eqb (j - 7) (k - 7) (λ same. differs (omega (arith, same, is_large j is, is_large k is'))))
+apart_by j k differs false false is is' = rw (is, is') (ne_eqb (j - 7) (k - 7) (λ same. differs (omega (arith, same, ltb-false j 8 is, ltb-false k 8 is'))))
 
 apart : (j k : ℕ) → j ≢ k → same_place (place_in j) (place_in k) ≡ false
 apart j k differs = apart_by j k differs (nat_lt j 8) (nat_lt k 8) refl refl
@@ -66,7 +63,7 @@ same_rows k C D device customer = by (nat_lt k 8) refl
   where
     by : (low : Bool) → nat_lt k 8 ≡ low → row_in k D ≡ row_in k C
     by true is = rw is (ap (λ (o : Option DeviceRow). option_map row.Device o) (device (is_small k is)))
-    by false is = rw is (ap (λ (o : Option CustomerRow). option_map row.Customer o) (customer (is_large k is)))
+    by false is = rw is (ap (λ (o : Option CustomerRow). option_map row.Customer o) (customer (ltb-false k 8 is)))
 
 place_stays : {R : Type 0} (rows : List (Option R)) (i d : ℕ) (r : R) → d - 1 ≢ i → (if d == 0 then None else get_or (set rows i (Some r)) (d - 1) None) ≡ (if d == 0 then None else get_or rows (d - 1) None)
 place_stays {R} rows i d r differs = ap (λ (o : Option R). if d == 0 then None else o) (get_or-set_other rows i (d - 1) (Some r) None differs)
@@ -116,11 +113,11 @@ module _ (C : List Commit) (b : Books) (are : AreBooksOf b C) (placed : ArePlace
   -- the row of its own
   row_here : (x : Row) → HasCell x → AreBooksOf (put_row b x) (c ∷ C) → row_in (cell_of x) (c ∷ C) ≡ Some x
   row_here (row.Device r) has later =
-      rw (small (r.device - 1) (omega (arith, has)))
+      rw (lt-ltb (r.device - 1) 8 (omega (arith, has)))
       (ap (λ (o : Option DeviceRow). option_map row.Device o)
       (ap (λ (d : ℕ). device_row d (c ∷ C)) (omega (arith, has)) ∙ one_device (device_at (put_row b (row.Device r)) r.device) r.device (c ∷ C) (later.devices r.device) ∙ device_put b r placed has))
   row_here (row.Customer r) has later =
-      rw (large (7 + r.customer) (omega (arith, has)))
+      rw (le-ltb (7 + r.customer) 8 (omega (arith, has)))
       (ap (λ (o : Option CustomerRow). option_map row.Customer o)
       (ap (λ (w : ℕ). customer_row w (c ∷ C)) (omega (arith, has)) ∙ one_customer (customer_at (put_row b (row.Customer r)) r.customer) r.customer (c ∷ C) (later.customers r.customer) ∙ customer_put b r placed has))
 

@@ -1,16 +1,18 @@
 -- The rows of the centre after some commits, by its cells: they are those of the commits, and what one commit of the centre does to them.
 use Rattle.std.proofs.Common.{◌≡◌, ◌⊎◌, inl, inr, ⊎_elim, ℕ, zero, suc, ◌+◌, ◌-◌, ◌<◌, ◌≤◌, List, [], ◌∷◌, length, Option, Some, None, Bool, true, false, option_map, refl, sym, ◌∙◌, ap, subst, true≢false, arith}
-use Rattle.std.specs.Prelude.{◌==◌, nat_lt, nat_le, IsSome, IfSome, All, if◌then◌else◌}
-use Rattle.std.proofs.lemmas.Bool.{cases_Bool, eqb-true, ne_eqb}
+use Rattle.std.specs.Prelude.{◌==◌, nat_le, IsSome, IfSome, All, if◌then◌else◌}
+use Rattle.std.proofs.lemmas.Bool.{cases_Bool, eqb-true, ne_eqb, lt-ltb, le-ltb}
 use Rattle.std.proofs.lemmas.Bool.Decides.{nat_tests}
 use Rattle.std.proofs.lemmas.List.{get_or_past}
 use Rattle.std.proofs.lemmas.List.Elements.{All-head, All-tail}
+use Rattle.std.proofs.lemmas.Option.{same_Some}
 use Rattle.bench_base.specs.declared.sizes.TheConstants.{CENTRE_CELLS}
 use Rattle.bench_base.specs.declared.ledger.Commit.{Commit}
 use Rattle.bench_base.specs.declared.ledger.Commit.TheVariants as c
 use Rattle.bench_base.specs.Ranges.{InRange, IsDevice, IsCustomer}
 use Rattle.bench_base.specs.Cells.{OfRow, OfCustomer, same_place, place_of}
 use Rattle.bench_base.specs.Cells as cells
+use Rattle.bench_base.proofs.Facts.{not-none}
 use Rattle.node_acts.specs.RowList.{row_at}
 use Rattle.node_acts.specs.RowLaws.{listed_at}
 use Rattle.ledger_terms.specs.Sums.{bought, returned}
@@ -61,14 +63,10 @@ untouched-customer : (w : ℕ) (x : Commit) (C : List Commit) → touches_custom
 untouched-customer w (c.Opened e) C t = rw t refl
 untouched-customer w _ C t = refl
 
-none_some : {A P : Type 0} (o : Option A) → IsSome o → o ≡ None → P
-none_some None some none = absurd (cc)
-none_some (Some a) some none = absurd (cc)
-
 pub no_device_commits : (d : ℕ) (C : List Commit) → InOrder C → registered d C ≡ None → cells.commits_at (OfRow d) C ≡ 0
 no_device_commits d [] order none = refl
 no_device_commits d (x ∷ C) order none = ⊎_elim
-    (λ (t : touches_device d x ≡ true). none_some (registered d (x ∷ C)) (touched-device d x C order.0 t) none)
+    (λ (t : touches_device d x ≡ true). not-none (registered d (x ∷ C)) (touched-device d x C order.0 t) none)
     (λ (t : touches_device d x ≡ false). rw (device-place d x, t) (no_device_commits d C order.1 (sym (untouched-device d x C t) ∙ none)))
     (cases_Bool (touches_device d x))
 
@@ -144,17 +142,11 @@ one_customer (Some r) w C is = opens ∙ ap (λ (x : CustomerRow). Some x) (λ k
 
 -- == the rows in their cells ==
 
-pub small : (k : ℕ) → k < 8 → nat_lt k 8 ≡ true
-small k lt = grind (arith, nat_tests)
-
-pub large : (k : ℕ) → 8 ≤ k → nat_lt k 8 ≡ false
-large k le = grind (arith, nat_tests)
-
 device_cell : (k : ℕ) (C : List Commit) → k < 8 → (place_in k ≡ OfRow (k + 1)) × (row_in k C ≡ option_map row.Device (device_row (k + 1) C))
-device_cell k C lt = (rw (small k lt) refl, rw (small k lt) refl)
+device_cell k C lt = (rw (lt-ltb k 8 lt) refl, rw (lt-ltb k 8 lt) refl)
 
 customer_cell : (k : ℕ) (C : List Commit) → 8 ≤ k → (place_in k ≡ OfCustomer (k - 7)) × (row_in k C ≡ option_map row.Customer (customer_row (k - 7) C))
-customer_cell k C le = (rw (large k le) refl, rw (large k le) refl)
+customer_cell k C le = (rw (le-ltb k 8 le) refl, rw (le-ltb k 8 le) refl)
 
 device_kept : (n : ℕ) (o : Option DeviceRow) → device_in (option_map (λ r. (n, r)) (option_map row.Device o)) ≡ o
 device_kept n None = refl
@@ -255,16 +247,13 @@ outside d rows n long none = ⊎_elim
         least : nat_le d n ≡ false → n < d
         least is = grind (arith, nat_tests)
 
-same_some : {A : Type 0} {a e : A} → Some a ≡ Some e → a ≡ e
-same_some h = cc
-
 module _ (C : List Commit) (order : InOrder C) (range : All InRange C) (owned : (d : ℕ) → withdrawn d C ≡ true → IsSome (enrolled d C)) (sound : AreSound (books_in (seen_in C))) where
   abbrev b : Books
   b = books_in (seen_in C)
 
   -- the row of a device that is registered, and of a customer that is open
   row_of : (d : ℕ) (x : ℕ × List ℕ) (r : DeviceRow) → registered d C ≡ Some x → device_row_by d C (Some x) ≡ Some r → IsRowOf r C
-  row_of d x r made is = subst (λ (y : DeviceRow). IsRowOf y C) (same_some is) (record {
+  row_of d x r made is = subst (λ (y : DeviceRow). IsRowOf y C) (same_Some _ _ is) (record {
     registered = made;
     enrolled = sym (enrolled-is (enrolled d C) (withdrawn d C));
     withdrawn = sym (withdrawn-is (enrolled d C) (withdrawn d C) (owned d));
@@ -277,7 +266,7 @@ module _ (C : List Commit) (order : InOrder C) (range : All InRange C) (owned : 
   })
 
   customer_of : (w : ℕ) (r : CustomerRow) → opened w C ≡ true → Some (as_customer w C) ≡ Some r → IsCustomerOf r C
-  customer_of w r open_is is = subst (λ (y : CustomerRow). IsCustomerOf y C) (same_some is) (record { opened = open_is; suspended = refl; deposits = refl; receipt = refl })
+  customer_of w r open_is is = subst (λ (y : CustomerRow). IsCustomerOf y C) (same_Some _ _ is) (record { opened = open_is; suspended = refl; deposits = refl; receipt = refl })
 
   slot_of : (d : ℕ) (o : Option DeviceRow) → device_row d C ≡ o → IfSome o (IsDeviceOf d) → IsSlotOf o d C
   slot_of d o is placed = by (registered d C) refl o is placed

@@ -2,6 +2,7 @@
 use Rattle.std.proofs.Common.{◌≡◌, ℕ, ℤ, Bool, true, false, List, Option, Some, None, Result, Ok, Err, length, drop, refl, ap, subst, if◌then◌else◌, arith}
 use Rattle.std.specs.Prelude.{slice_get, ◌&&◌, nat_le}
 use Rattle.std.proofs.lemmas.Bool.Decides.{nat_tests}
+use Rattle.std.proofs.lemmas.Option.{none-some}
 use Rattle.bench_base.specs.Ranges.{IsDevice}
 use Rattle.bench_base.specs.declared.words.Kind.{Kind}
 use Rattle.bench_base.specs.declared.words.Node.TheVariants.{Device, Centre, Host, Verifier}
@@ -29,9 +30,6 @@ use Rattle.bench_views.specs.Taken.{taken, message_taken, scanned}
 
 pub some-same : {A : Type 0} {a b : A} → Some a ≡ Some b → a ≡ b
 some-same h = cc
-
-pub none-some : {A P : Type 0} {a : A} → None ≡ Some a → P
-none-some h = absurd (cc)
 
 -- the number of a device is from 1 to 8
 pub one_of_eight : (d : ℕ) → IsDevice d → (nat_le 1 d && nat_le d 8) ≡ true
@@ -181,7 +179,7 @@ module _ (pool : List (List ℕ)) (quote : Quote) where
     each_taken (ev.Give (Device d) bytes) x h = found (ev.Give (Device d) bytes) x (take.Device d (Call (device.Take bytes next))) h (each.devices.give d bytes)
     each_taken (ev.Give Centre bytes) x h = found (ev.Give Centre bytes) x (take.Centre (Call (call.Take bytes next))) h (each.centre.give bytes)
     each_taken (ev.Give Host bytes) x h = found (ev.Give Host bytes) x (take.Host (Call (host.Take bytes))) h (each.host.give bytes)
-    each_taken (ev.Give Verifier bytes) x h = none-some h
+    each_taken (ev.Give Verifier bytes) x h = absurd (none-some _ h)
     each_taken (ev.Order d piece class grams zone) x h = found (ev.Order d piece class grams zone) x (take.Host (Call (host.Order d piece class grams zone (quote class grams zone)))) h (each.host.order d piece class grams zone)
     each_taken (ev.Send j) x h = found (ev.Send j) x (take.Host (Call (host.Send j next))) h (each.host.send j)
     each_taken (ev.Print j) x h = found (ev.Print j) x (take.Host (Call (host.Print j))) h (each.host.print j)

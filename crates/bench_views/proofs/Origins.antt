@@ -1,6 +1,6 @@
 -- A device is registered before it is enrolled: so a commit of the centre does not change what is seen of a device.
-use Rattle.std.proofs.Common.{◌≡◌, ℕ, true, false, List, ◌∷◌, Option, Some, None, refl, ap, ⊎_elim}
-use Rattle.std.specs.Prelude.{◌==◌, ◌+◌, IsSome, option_map, if◌then◌else◌}
+use Rattle.std.proofs.Common.{◌≡◌, ℕ, true, false, List, ◌∷◌, Option, None, refl, ap, ⊎_elim}
+use Rattle.std.specs.Prelude.{◌==◌, ◌+◌, option_map, if◌then◌else◌}
 use Rattle.std.proofs.lemmas.Bool.{cases_Bool, eqb-true}
 use Rattle.bench_base.specs.declared.words.Kind.TheVariants.{Enrol}
 use Rattle.bench_base.specs.declared.words.Node.TheVariants.{Device, Centre}
@@ -8,6 +8,7 @@ use Rattle.bench_base.specs.declared.ledger.Commit.{Commit}
 use Rattle.bench_base.specs.declared.ledger.Commit.TheVariants.{Made, Asked, Applied, Debited, Registered, Opened, Deposited, Flagged, Ruled, Settled}
 use Rattle.bench_base.specs.Nodes.{same_node, node_of}
 use Rattle.bench_base.specs.Ledger.{count_of}
+use Rattle.bench_base.proofs.Facts.{not-none}
 use Rattle.ledger_terms.specs.Centres.{registered}
 use Rattle.ledger_terms.specs.Devices.{key_of, applied_kind, origin}
 use Rattle.ledger_terms.specs.Franking.{mark_after}
@@ -22,13 +23,9 @@ use Rattle.bench_views.proofs.Views.{Apart}
 -- a device that is not registered has applied nothing
 pub fresh : (d : ℕ) (C : List Commit) → InOrder d C → registered d C ≡ None → applied_kind Enrol d C ≡ false
 fresh d C order none = ⊎_elim
-    (λ (is : applied_kind Enrol d C ≡ true). absent (registered d C) (applied-registered d Enrol C order is) none)
+    (λ (is : applied_kind Enrol d C ≡ true). not-none (registered d C) (applied-registered d Enrol C order is) none)
     (λ (isnt : applied_kind Enrol d C ≡ false). isnt)
     (cases_Bool (applied_kind Enrol d C))
-  where
-    absent : {A P : Type 0} (o : Option A) → IsSome o → o ≡ None → P
-    absent None some gone = absurd (cc)
-    absent (Some a) some gone = absurd (cc)
 
 -- == a commit of the centre, and the record of a device ==
 
@@ -59,13 +56,9 @@ under-registered i e o k (Asked d n note) C own order later = ap (λ (j : ℕ). 
 under-registered i e o k (Applied d n v) C own order later = ⊎_elim
     (λ (same : (e == i) ≡ true).
     let there = later.0 (eqb-true d i own) in
-    gone (registered i C) (ruled-registered i n (v, there.3.note) C later.1 there.3.ruling) (order.0 (eqb-true e i same)))
+    not-none (registered i C) (ruled-registered i n (v, there.3.note) C later.1 there.3.ruling) (order.0 (eqb-true e i same)))
     (λ (differs : (e == i) ≡ false). rw differs refl)
     (cases_Bool (e == i))
-  where
-    gone : {A P : Type 0} (r : Option A) → IsSome r → r ≡ None → P
-    gone None some none = absurd (cc)
-    gone (Some a) some none = absurd (cc)
 under-registered i e o k (Debited d p a t s v) C own order later = rw (origin-frame i e o k C order) refl
 under-registered i e o k _ C own order later = absurd own
 

@@ -7,6 +7,7 @@ use Rattle.bench_base.specs.declared.refusals.DevRefusal.{DevRefusal}
 use Rattle.bench_base.specs.declared.refusals.DevRefusal.TheVariants as no
 use Rattle.bench_base.specs.declared.ledger.Entry.TheVariants as entry
 use Rattle.std.proofs.lemmas.Bool.{le-leb, ne_eqb}
+use Rattle.std.proofs.lemmas.Option.{same_Some}
 use Rattle.bench_base.specs.declared.refusals.Unread.{Unread}
 use Rattle.bench_base.specs.declared.ledger.Commit.{Commit}
 use Rattle.bench_base.specs.declared.ledger.Commit.TheVariants as c
@@ -197,10 +198,7 @@ module _ (H : Ledger) (resending : ResendingRepeats) where
 
     -- what is sent again is what was asked last, under its number
     numbered : (key : List ℕ) (w : ℕ × List ℕ) → IsOutstanding key (waiting (Some w)) (Some w) → PendingOk d (number d C) (state_of d key C).phase (state_of d key C).registers (waiting (Some w)) → w.0 ≡ number d C + 1
-    numbered key w out ok = ap (λ (x : ℕ × List ℕ). x.0) (same out) ∙ ok.number
-      where
-        same : {A : Type 0} {x y : A} → Some x ≡ Some y → x ≡ y
-        same h = cc
+    numbered key w out ok = ap (λ (x : ℕ × List ℕ). x.0) (same_Some _ _ out) ∙ ok.number
 
     resend_by : (today : ℤ) (k : ℕ) (key : List ℕ) (w : Option (ℕ × List ℕ)) → pending d C ≡ w → key_of d C ≡ Some key → Holds (state_of d key C)
         → device.resend_plan d k (Some key) w ≡ said_plan (device_act d today (Resend k) (Some (state_of d key C)))

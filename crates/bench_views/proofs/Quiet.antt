@@ -1,6 +1,7 @@
 -- An event of no node is answered by what is seen of the nodes.
 use Rattle.std.proofs.Common.{◌≡◌, ℕ, ℤ, ◌+◌, List, [], Option, Some, None, Bool, true, false, refl, sym, ◌∙◌, ap}
 use Rattle.std.specs.Prelude.{if◌then◌else◌}
+use Rattle.std.proofs.lemmas.Option.{none-some}
 use Rattle.bench_base.specs.declared.words.Node.{Node}
 use Rattle.bench_base.specs.declared.words.Node.TheVariants.{Device, Centre}
 use Rattle.bench_base.specs.declared.ledger.Commit.{Commit}
@@ -30,7 +31,7 @@ use Rattle.bench_views.specs.Devices as device_views
 use Rattle.bench_views.specs.Follows.{quiet_by}
 use Rattle.bench_views.specs.Kinds.{bench_kinds}
 use Rattle.bench_views.specs.Messages.{sent_in}
-use Rattle.bench_views.proofs.Events.{each_quiet, IsOfNone, some-same, none-some}
+use Rattle.bench_views.proofs.Events.{each_quiet, IsOfNone, some-same}
 use Rattle.bench_views.proofs.Sent.{sent_at}
 
 module _ (H : Ledger) (planned : PlannedActs (books_in (centre_views.view_of H).state) (counted H)) where
@@ -74,9 +75,9 @@ module _ (H : Ledger) (planned : PlannedActs (books_in (centre_views.view_of H).
       → plan τ todays_rules H e [] ≡ refuse reply
   unfolding plan
   planned_quiet τ today quote day e x is reply answers = each_quiet (sent_in H) quote (λ i y. Reply_of y ≡ Some reply → plan τ todays_rules H i [] ≡ refuse reply) (record {
-    day = λ t answers. none-some answers;
-    end = λ answers. none-some answers;
-    rates = λ answers. none-some answers;
+    day = λ t answers. absurd (none-some _ answers);
+    end = λ answers. absurd (none-some _ answers);
+    rates = λ answers. absurd (none-some _ answers);
     reconcile = λ d answers. rw day (compare_is d ∙ ap refuse (some-same answers));
     deliver = λ k none answers. rw (day, sym (sent_at H k) ∙ none) (ap refuse (some-same answers));
     scan = λ n k none answers. rw (day, sym (sent_at H k) ∙ none) (ap refuse (some-same answers));
@@ -88,7 +89,7 @@ module _ (H : Ledger) (planned : PlannedActs (books_in (centre_views.view_of H).
       of_none take.Rates same = tt
       of_none (take.NoMessage k) same = tt
       of_none (take.Reconcile d) same = tt
-      of_none (take.Device d asked) same = none-some same
-      of_none (take.Centre asked) same = none-some same
-      of_none (take.Host asked) same = none-some same
-      of_none (take.Verifier asked) same = none-some same
+      of_none (take.Device d asked) same = absurd (none-some _ same)
+      of_none (take.Centre asked) same = absurd (none-some _ same)
+      of_none (take.Host asked) same = absurd (none-some _ same)
+      of_none (take.Verifier asked) same = absurd (none-some _ same)

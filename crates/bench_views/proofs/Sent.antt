@@ -2,7 +2,7 @@
 use Rattle.std.proofs.Common.{◌≡◌, ◌≢◌, inl, inr, ℕ, zero, suc, ◌+◌, Bool, List, [], ◌∷◌, ◌++◌, length, Option, Some, None, if◌then◌else◌, refl, sym, ◌∙◌, ap, append-nil, arith}
 use Rattle.std.specs.Prelude.{slice_get}
 use Rattle.std.proofs.lemmas.Bool.{cases_eq, eq-eqb, ne_eqb}
-use Rattle.std.proofs.lemmas.List.{append_assoc}
+use Rattle.std.proofs.lemmas.List.{append_assoc, length_push}
 use Rattle.bench_base.specs.declared.ledger.Commit.{Commit}
 use Rattle.bench_base.specs.declared.ledger.Entry.{Entry}
 use Rattle.bench_base.specs.declared.ledger.Entry.TheVariants as entry
@@ -13,14 +13,10 @@ use Rattle.bench_base.specs.Ledger.{Ledger, messages, message}
 use Rattle.node_acts.specs.Plans.{after_told, with_commit, with_torn}
 use Rattle.bench_views.specs.Messages.{sent_in}
 
-length_end : (xs : List (List ℕ)) (x : List ℕ) → length (xs ++ x ∷ []) ≡ length xs + 1
-length_end [] x = refl
-length_end (y ∷ xs) x = omega (arith, length_end xs x)
-
 -- there are as many as were sent
 pub sent_many : (H : Ledger) → length (sent_in H) ≡ messages H
 sent_many [] = refl
-sent_many (entry.Sent bytes ∷ H) = length_end (sent_in H) bytes ∙ ap (λ (n : ℕ). n + 1) (sent_many H)
+sent_many (entry.Sent bytes ∷ H) = length_push (sent_in H) bytes ∙ ap (λ (n : ℕ). n + 1) (sent_many H)
 sent_many (entry.Begin ∷ H) = refl
 sent_many (_ ∷ H) = sent_many H
 

@@ -2,6 +2,7 @@
 -- is m, of any kind; its record after some commits is as seen says.
 use Rattle.std.proofs.Common.{◌≡◌, ℕ, Bool, true, false, List, [], ◌∷◌, ◌++◌, Option, Some, None, cond, refl, sym, ap, subst, ◌∙◌, ◌⊎◌, inl, inr, ⊎_elim}
 use Rattle.std.specs.Prelude.{◌+◌}
+use Rattle.std.proofs.lemmas.Option.{none-some}
 use Rattle.bench_base.specs.declared.words.Node.{Node}
 use Rattle.bench_base.specs.declared.ledger.Commit.{Commit}
 use Rattle.bench_base.specs.declared.ledger.Entry.{Entry}
@@ -22,7 +23,7 @@ use Rattle.node_acts.specs.Views.{Counting, View, committed, torn}
 use Rattle.node_acts.specs.Acts.{commit_in, commit_of}
 use Rattle.node_acts.specs.Plans.{with_commit, after, after_told, Fails, FailsTold, MayFail, MayReply, done_plan, view_after, view_told}
 use Rattle.node_acts.specs.Kinds.{view_in}
-use Rattle.bench_views.proofs.Events.{some-same, none-some}
+use Rattle.bench_views.proofs.Events.{some-same}
 
 -- entries that tell of what was done
 abbrev pub AreTold : List Entry → Type 0
@@ -145,7 +146,7 @@ module _ {S X : Type 0} (n : Counting S X) (m : Node) (seen : List Commit → S)
       (subst (λ (o : Option Commit). Goes x None (with_commit o H)) (sym none) (does_tell [] tt (λ v. ap (λ (t : Told). view_told n t None v) is)))
 
   silent : (x : Reply) (p : Plan) → p.commit ≡ None → Failed p x ⊎ PrinterFails x → Goes x None (after p x H)
-  silent x p none (inl f) = none-some (sym none ∙ f.is)
+  silent x p none (inl f) = absurd (none-some _ (sym none ∙ f.is))
   silent x p none (inr f) = unprinted x p none f
 
   pub tells-plain : (x y : Reply) (T : List Entry) → IsQuiet y → AreTold T → Gets (told y T) x → Goes x None (after (told y T) x H)

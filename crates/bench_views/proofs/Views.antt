@@ -2,7 +2,7 @@
 -- commits is as seen says.
 use Rattle.std.proofs.Common.{◌≡◌, ℕ, Bool, true, false, List, [], ◌∷◌, ◌++◌, Option, Some, None, cond, refl, sym, ap, ◌∙◌, true≢false, option_map}
 use Rattle.std.specs.Prelude.{◌==◌, ◌+◌, ◌≢◌}
-use Rattle.std.proofs.lemmas.Bool.{eq-eqb, ne_eqb}
+use Rattle.std.proofs.lemmas.Bool.{ne_eqb}
 use Rattle.bench_base.specs.declared.words.Node.{Node}
 use Rattle.bench_base.specs.declared.words.Node.TheVariants.{Device, Centre, Host, Verifier}
 use Rattle.bench_base.specs.declared.ledger.Commit.{Commit}
@@ -11,18 +11,13 @@ use Rattle.bench_base.specs.declared.ledger.Entry.TheVariants as entry
 use Rattle.bench_base.specs.declared.events.Reply.{Reply}
 use Rattle.bench_base.specs.Nodes.{same_node, node_of}
 use Rattle.bench_base.specs.Ledger.{Ledger, is_on, count_of, torn_of, at_up, counted}
+pub use Rattle.bench_base.proofs.Facts.{same_node-self as same-self}
 use Rattle.node_acts.specs.Views.{Counting, View, up_with, started}
 use Rattle.node_acts.specs.Plans.{view_after}
 use Rattle.law_orders.specs.Nexts.{AreOrdered, IsOpen}
 use Rattle.node_acts.specs.Kinds.{view_in}
 use Rattle.bench_views.specs.Follows.{Rests}
 use Rattle.bench_views.proofs.Steps.{AreTold, Step, does_tell, does, tears, boots, stops}
-
-pub same-self : (m : Node) → same_node m m ≡ true
-same-self (Device d) = eq-eqb d d refl
-same-self Centre = refl
-same-self Host = refl
-same-self Verifier = refl
 
 pub same-apart : (m i : Node) → i ≢ m → same_node m i ≡ false
 same-apart (Device d) (Device e) ne = ne_eqb d e (λ is. ne (ap Device (sym is)))

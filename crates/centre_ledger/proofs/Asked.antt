@@ -1,8 +1,8 @@
 -- What is known of a Request that is taken.
-use Rattle.std.proofs.Common.{◌≡◌, ℕ, ◌+◌, ◌≤◌, ◌↔◌, Bool, true, false, List, IsTrue, Ok, Err, cond, refl, length, lit≤, subst, arith}
+use Rattle.std.proofs.Common.{◌≡◌, ℕ, ◌+◌, ◌≤◌, Bool, true, false, List, Ok, Err, cond, refl, length, lit≤, subst, arith}
 use Rattle.std.specs.Prelude.{◌==◌, ◌||◌, nat_lt, bytes_eq}
-use Rattle.std.proofs.lemmas.Bool.{leb-true, le-leb, ltb-false, eqb-false}
-use Rattle.std.proofs.lemmas.Bool.Decides.{same_from_decides, Decides-and}
+use Rattle.std.proofs.lemmas.Bool.{leb-true, le-leb, ltb-false, eqb-false, or_parts}
+use Rattle.std.proofs.lemmas.Bool.Decides.{Decides-and}
 use Rattle.std.proofs.lemmas.Slice.Eq.{bytes_eq-Decides}
 use Rattle.bench_base.specs.Table.{IsBytes, Four, Eight, room}
 use Rattle.bench_base.specs.declared.refusals.CentreRefusal.TheVariants as no
@@ -12,12 +12,6 @@ use Rattle.psd_wire.specs.Codes.{has_code}
 use Rattle.psd_wire.specs.Grammar.{IsWhole, HasCode, read, spell, request_table}
 use Rattle.psd_wire.proofs.Readings.{spell-back, length-request}
 use Rattle.centre_ledger.specs.Answers.{turn_answer}
-use Rattle.centre_ledger.proofs.Slots.{either-false}
-
--- the test of a code
-pub code-is : (key bytes : List ℕ) (b : Bool) → (IsTrue b ↔ HasCode bytes key) → b ≡ has_code key bytes
-unfolding has_code
-code-is key bytes b h = same_from_decides b (has_code key bytes) h (Decides-and _ _ (leb-true 32 _, le-leb 32 _) (bytes_eq-Decides _ _))
 
 pub code-has : (key bytes : List ℕ) → has_code key bytes ≡ true → HasCode bytes key
 unfolding has_code
@@ -34,7 +28,7 @@ turn-next g stored n bytes h = go (nat_lt n g || (n == 0)) (n == g) (bytes_eq st
     go false true false d e f k w = absurd (cc)
     go false false c true e f k w = absurd (cc)
     go false false c false e f k w =
-        let least = ltb-false n g (either-false (nat_lt n g) (n == 0) e).0 in
+        let least = ltb-false n g (or_parts (nat_lt n g) (n == 0) e).0 in
         let other = eqb-false n g f in
         let most = ltb-false (g + 1) n k in
         omega arith

@@ -1,5 +1,6 @@
 -- What the checks of a row that was read have found.
-use Rattle.std.proofs.Common.{◌≡◌, ℕ, List, Option, Some, None, Ok, sym, ap, ◌∙◌, subst}
+use Rattle.std.proofs.Common.{◌≡◌, ℕ, List, Some, None, Ok, sym, ap, ◌∙◌, subst}
+use Rattle.std.proofs.lemmas.Option.{same_Some, none-some}
 use Rattle.psd_wire.specs.declared.message.Request.{Request}
 use Rattle.psd_wire.specs.declared.message.ReplyMsg.{ReplyMsg}
 use Rattle.psd_wire.specs.declared.message.Message.{Message}
@@ -12,32 +13,26 @@ use Rattle.centre_ledger.specs.Parts.{IsSpelled, IsAnswer, IsCovered, request_of
 
 -- == the messages of a row, read ==
 
-some_same : {A : Type 0} {a b : A} → Some a ≡ Some b → a ≡ b
-some_same h = cc
-
-none_some : {A : Type 0} {a : A} → ◌≡◌ {A = Option A} None (Some a) → ⊥
-none_some h = cc
-
 -- the Request that was read is the one that was spelled
 pub found-request : (key note : List ℕ) (q : Request) → IsSpelled key note → request_of (read note) ≡ Some q → IsWhole (m.Request q) × (spell (m.Request q) key ≡ note)
 found-request key note q (x, c, w, s) e = go x w s (sym (ap (λ b. request_of (read b)) (sym s) ∙ ap request_of (read-spell x key w)) ∙ e)
   where
     go : (y : Message) → IsWhole y → spell y key ≡ note → request_of (Ok y) ≡ Some q → IsWhole (m.Request q) × (spell (m.Request q) key ≡ note)
-    go (m.Request r) u t f = subst (λ z. IsWhole (m.Request z) × (spell (m.Request z) key ≡ note)) (some_same f) (u, t)
-    go (m.Reply r) u t f = absurd (none_some f)
-    go (m.Done r) u t f = absurd (none_some f)
-    go (m.Debit r) u t f = absurd (none_some f)
-    go (m.Release r) u t f = absurd (none_some f)
+    go (m.Request r) u t f = subst (λ z. IsWhole (m.Request z) × (spell (m.Request z) key ≡ note)) (same_Some _ _ f) (u, t)
+    go (m.Reply r) u t f = absurd (none-some _ f)
+    go (m.Done r) u t f = absurd (none-some _ f)
+    go (m.Debit r) u t f = absurd (none-some _ f)
+    go (m.Release r) u t f = absurd (none-some _ f)
 
 pub found-reply : (key note : List ℕ) (p : ReplyMsg) → IsSpelled key note → reply_of (read note) ≡ Some p → IsWhole (m.Reply p) × (spell (m.Reply p) key ≡ note)
 found-reply key note p (x, c, w, s) e = go x w s (sym (ap (λ b. reply_of (read b)) (sym s) ∙ ap reply_of (read-spell x key w)) ∙ e)
   where
     go : (y : Message) → IsWhole y → spell y key ≡ note → reply_of (Ok y) ≡ Some p → IsWhole (m.Reply p) × (spell (m.Reply p) key ≡ note)
-    go (m.Reply r) u t f = subst (λ z. IsWhole (m.Reply z) × (spell (m.Reply z) key ≡ note)) (some_same f) (u, t)
-    go (m.Request r) u t f = absurd (none_some f)
-    go (m.Done r) u t f = absurd (none_some f)
-    go (m.Debit r) u t f = absurd (none_some f)
-    go (m.Release r) u t f = absurd (none_some f)
+    go (m.Reply r) u t f = subst (λ z. IsWhole (m.Reply z) × (spell (m.Reply z) key ≡ note)) (same_Some _ _ f) (u, t)
+    go (m.Request r) u t f = absurd (none-some _ f)
+    go (m.Done r) u t f = absurd (none-some _ f)
+    go (m.Debit r) u t f = absurd (none-some _ f)
+    go (m.Release r) u t f = absurd (none-some _ f)
 
 -- what a ruling keeps is read
 pub reads-request : (r : DeviceRow) (q : Request) (p : ReplyMsg) → IsRuling r q p → request_of (read r.request) ≡ Some q
@@ -85,13 +80,13 @@ ruling-answers r q p h = (
 pub ruling-parts : (r : DeviceRow) (q : Request) (p : ReplyMsg) → request_of (read r.request) ≡ Some q → reply_of (read r.reply) ≡ Some p
     → (x : Request) → (y : ReplyMsg) → IsRuling r x y → IsAnswer r q p × IsCovered r p
 ruling-parts r q p e f x y h =
-    let first : x ≡ q = some_same (sym (reads-request r x y h) ∙ e) in
-    let second : y ≡ p = some_same (sym (reads-reply r x y h) ∙ f) in
+    let first : x ≡ q = same_Some _ _ (sym (reads-request r x y h) ∙ e) in
+    let second : y ≡ p = same_Some _ _ (sym (reads-reply r x y h) ∙ f) in
     let parts = ruling-answers r x y h in
     subst (λ z. IsAnswer r q z × IsCovered r z) second (subst (λ z. IsAnswer r z y × IsCovered r y) first parts)
 
 pub no-request : (r : DeviceRow) → request_of (read r.request) ≡ None → (x : Request) → (y : ReplyMsg) → IsRuling r x y → ⊥
-no-request r e x y h = absurd (none_some (sym e ∙ reads-request r x y h))
+no-request r e x y h = absurd (none-some _ (sym e ∙ reads-request r x y h))
 
 pub no-reply : (r : DeviceRow) → reply_of (read r.reply) ≡ None → (x : Request) → (y : ReplyMsg) → IsRuling r x y → ⊥
-no-reply r e x y h = absurd (none_some (sym e ∙ reads-reply r x y h))
+no-reply r e x y h = absurd (none-some _ (sym e ∙ reads-reply r x y h))

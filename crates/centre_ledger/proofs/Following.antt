@@ -14,6 +14,7 @@ use Rattle.psd_wire.specs.Grammar.{spell}
 use Rattle.bench_base.specs.declared.refusals.CentreRefusal.TheVariants as no
 use Rattle.bench_base.specs.declared.ledger.Commit.{Commit}
 use Rattle.bench_base.specs.declared.ledger.Commit.TheVariants.{Registered, Opened, Deposited, Flagged, Ruled, Settled}
+use Rattle.bench_base.proofs.Facts.{some-none, not-none, either}
 use Rattle.psd_wire.specs.declared.message.Request.{Request}
 use Rattle.ledger_terms.specs.Requests.{request_in}
 use Rattle.ledger_terms.specs.Sums.{adds, takes, ruled_sum, bought, returned}
@@ -26,16 +27,6 @@ use Rattle.centre_ledger.specs.Soundness.{IsSoundDevice}
 use Rattle.centre_ledger.specs.Rows.{enrolled_in, account, amount_shown, reply_by, buys_in, returns_in}
 use Rattle.centre_ledger.specs.Records.{IsRowOf}
 use Rattle.centre_ledger.specs.Laws.{RegisteringStarts, SettlingKeeps, OtherDevicesKeep, OpeningStarts, DepositingKeeps, FlaggingKeeps, OtherCustomersKeep, RulingByRows, RulingKeeps, IsSlotOf, AreSlots, BalancingByRows}
-
-some-none : {A : Type 0} {a : A} → Some a ≡ None → ⊥
-some-none e = cc
-
-some-is : {A : Type 0} (o : Option A) → IsSome o → o ≡ None → ⊥
-some-is None s n = true≢false (sym s)
-some-is (Some a) s n = some-none n
-
-pub either : (e d : ℕ) {P : Type 0} → ((e == d) ≡ true → e ≡ d → P) → ((e == d) ≡ false → P) → P
-either e d same other = ⊎_elim (λ (h : (e == d) ≡ true). same h (eqb-true e d h)) other (cases_Bool (e == d))
 
 -- == devices ==
 
@@ -58,7 +49,7 @@ nothing-before d (Registered e origin key ∷ C) o h = either e d
 nothing-before d (Ruled e n v note ∷ C) o h =
     let was = nothing-before d C o.1 h in
     either e d
-    (λ t y. absurd (some-is (registered d C) (subst (λ z. IsSome (registered z C)) y o.0.0) h))
+    (λ t y. absurd (not-none (registered d C) (subst (λ z. IsSome (registered z C)) y o.0.0) h))
     (λ t. record {
       enrolled = rw t was.enrolled;
       withdrawn = rw t was.withdrawn;
@@ -72,7 +63,7 @@ nothing-before d (Ruled e n v note ∷ C) o h =
 nothing-before d (Settled e n ∷ C) o h =
     let was = nothing-before d C o.1 h in
     either e d
-    (λ t y. absurd (some-is (registered d C) (subst (λ z. IsSome (registered z C)) y o.0) h))
+    (λ t y. absurd (not-none (registered d C) (subst (λ z. IsSome (registered z C)) y o.0) h))
     (λ t. record { enrolled = was.enrolled; withdrawn = was.withdrawn; ruled = was.ruled; done = rw t was.done; bought = was.bought; returned = was.returned; last = was.last; reply = was.reply })
 nothing-before d (_ ∷ C) o h = let n = nothing-before d C o.1 h in record { enrolled = n.enrolled; withdrawn = n.withdrawn; ruled = n.ruled; done = n.done; bought = n.bought; returned = n.returned; last = n.last; reply = n.reply }
 

@@ -16,11 +16,11 @@ use Rattle.bench_base.specs.Ranges.{IsWord, IsDay, IsCustomer}
 use Rattle.bench_base.specs.Rows.{first_holding, any_true}
 use Rattle.psd_wire.specs.declared.message.Request.{Request}
 use Rattle.psd_wire.specs.declared.message.Message.TheVariants as m
-use Rattle.psd_wire.specs.Grammar.{IsWhole, HasCode, ReadsAs, body, spell, kind_code, verdict_code, sum_size}
+use Rattle.psd_wire.specs.Grammar.{IsWhole, HasCode, ReadsAs, body, spell, sum_size}
 use Rattle.bench_base.specs.Table.{Four, Eight, IsNumber}
 use Rattle.ledger_terms.specs.Sums.{adds, takes}
 use Rattle.ledger_terms.specs.Rulings.{Account, verdict_by, own_customer, has_left, is_enrolled, out_of_balance, is_past_limits, buys_limit, written_amount}
-use Rattle.psd_wire.proofs.Readings.{cut}
+use Rattle.psd_wire.proofs.Readings.{cut, kind_byte, verdict_byte}
 use Rattle.centre_ledger.specs.declared.rows.DeviceRow.{DeviceRow}
 use Rattle.centre_ledger.specs.declared.rows.CustomerRow.{CustomerRow}
 use Rattle.centre_ledger.specs.Soundness.{IsSoundDevice, IsPayer, IsVerdict}
@@ -89,22 +89,6 @@ funded a q h reset = go (not (same_kind q.kind Enrol) && has_left a.enrolled a.w
     go false false false false false false e k = ltb-false a.balance q.amount (and-then (same_kind q.kind Reset) (nat_lt a.balance q.amount) reset e)
 
 -- == the Reply ==
-
-kind_byte : (k : Kind) → kind_code k < 2 ^ 8
-kind_byte Enrol = lit< tt
-kind_byte Reset = lit< tt
-kind_byte Audit = lit< tt
-kind_byte Refund = lit< tt
-kind_byte Withdraw = lit< tt
-
-verdict_byte : (v : Verdict) → verdict_code v < 2 ^ 8
-verdict_byte Granted = lit< tt
-verdict_byte NotEnrolled = lit< tt
-verdict_byte EnrolledAlready = lit< tt
-verdict_byte NoCustomer = lit< tt
-verdict_byte Suspended = lit< tt
-verdict_byte NoFunds = lit< tt
-verdict_byte Imbalance = lit< tt
 
 amount-long : (v : Verdict) (asked bought balance : ℕ) → asked < 2 ^ 64 → bought < 2 ^ 64 → (v ≡ NoFunds → balance < asked) → amount_shown v asked bought balance < 2 ^ 64
 amount-long Granted asked bought balance w b f = w

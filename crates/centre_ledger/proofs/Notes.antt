@@ -6,13 +6,12 @@ use Rattle.hmac_core.specs.Hmac.{hmac}
 use Rattle.hmac_core.proofs.Codes.{length-hmac}
 use Rattle.bench_base.specs.Rules.{IsVersion}
 use Rattle.bench_base.specs.Table.{Four, Eight, room}
-use Rattle.bench_base.proofs.Tables.{first_cell}
 use Rattle.psd_wire.specs.declared.message.Request.{Request}
 use Rattle.psd_wire.specs.declared.message.ReplyMsg.{ReplyMsg}
 use Rattle.psd_wire.specs.declared.message.Message.{Message}
 use Rattle.psd_wire.specs.declared.message.Message.TheVariants as m
-use Rattle.psd_wire.specs.Grammar.{IsWhole, IsCoded, body, spell, sum_size, request_table, reply_table, reply_values}
-use Rattle.psd_wire.proofs.Readings.{cut, one-body, request_room, reply_room, request_version, length-body_of, length-request, length-reply}
+use Rattle.psd_wire.specs.Grammar.{IsWhole, IsCoded, body, spell, request_table, reply_table}
+use Rattle.psd_wire.proofs.Readings.{cut, one-body, request_room, reply_room, request_version, length-body_of, length-request, length-reply, reply_version}
 use Rattle.centre_ledger.specs.Payload.{uncoded, kept, filled, message_part, request_size, reply_size}
 use Rattle.centre_ledger.specs.Parts.{IsSpelled, IsKept, request_front, reply_front}
 
@@ -32,10 +31,6 @@ spell-coded x key c = ap (λ b. cond b (body x ++ hmac key (body x)) (body x)) c
 
 pub uncoded-spell : (x : Message) (key : List ℕ) → IsCoded x → uncoded (spell x key) ≡ body x
 uncoded-spell x key c = (cut (body x) (hmac key (body x)) (spell x key) (length-hmac key (body x)) (spell-coded x key c)).0
-
-reply_version : (r : ReplyMsg) (rest : List ℕ) → get_or (body (m.Reply r) ++ rest) 0 0 ≡ r.version
-unfolding body
-reply_version r rest = first_cell r.version (drop 1 (reply_table (sum_size r.version))) (drop 1 (reply_values r)) rest
 
 pub length-body-reply : (r : ReplyMsg) → IsWhole (m.Reply r) → length (body (m.Reply r)) ≡ reply_room r.version
 length-body-reply r w = omega (arith, length-reply r [] w, ap length (spell-coded (m.Reply r) [] refl), length-append (body (m.Reply r)) (hmac [] (body (m.Reply r))), length-hmac [] (body (m.Reply r)))

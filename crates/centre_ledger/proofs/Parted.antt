@@ -2,10 +2,11 @@
 use Rattle.std.proofs.Common.{◌≡◌, ℕ, ◌+◌, ◌-◌, ◌≤◌, ◌==◌, if◌then◌else◌, Bool, true, false, List, [], ◌∷◌, ◌++◌, length, take, drop, get_or, replicate, refl, sym, ap, ap₂, ◌∙◌, subst, arith, length-append, length-drop, length-take-le, append_assoc, inl, inr}
 use Rattle.std.specs.Prelude.{◌⊎◌}
 use Rattle.std.proofs.lemmas.Bool.{eqb-true, eqb-false}
-use Rattle.std.proofs.lemmas.List.{take_at, drop_at, drop-drop, take-append-drop}
+use Rattle.std.proofs.lemmas.List.{take_at, drop_at, drop-drop}
 use Rattle.bench_base.specs.Rules.{IsVersion}
 use Rattle.bench_base.specs.Table.{Size, Four, Eight, room, row, values, Fit, IsBytes}
 use Rattle.bench_base.proofs.Tables.{values-fit, row-values, values-row, length-row}
+use Rattle.bench_base.proofs.Facts.{behind}
 use Rattle.psd_wire.specs.declared.message.Request.{Request}
 use Rattle.psd_wire.specs.declared.message.ReplyMsg.{ReplyMsg}
 use Rattle.psd_wire.specs.declared.message.Message.TheVariants as m
@@ -98,10 +99,6 @@ sums-row v r bytes p = ap (λ (f : DeviceRow). f.ruled ∷ f.settled ∷ f.buys 
 key-part : (v : ℕ) (r : DeviceRow) (bytes : List ℕ) → Parts v r bytes → take 32 (drop 13 bytes) ≡ r.key
 unfolding bare_at
 key-part v r bytes p = ap (λ (f : DeviceRow). f.key) p.fields
-
--- a part and what is behind it
-behind : (at n : ℕ) (bytes : List ℕ) → take n (drop at bytes) ++ drop (at + n) bytes ≡ drop at bytes
-behind at n bytes = ap (λ r. take n (drop at bytes) ++ r) (sym (drop-drop n at bytes)) ∙ take-append-drop n (drop at bytes)
 
 pub assembled : (v : ℕ) (r : DeviceRow) (bytes : List ℕ) → 45 + room (sums_table v) ≤ length bytes → IsBytes bytes → Parts v r bytes → device_spelled v r ≡ bytes
 unfolding device_spelled head_part sums_part

@@ -1,7 +1,7 @@
 -- The plan of each act is the ledger's.
 use Rattle.std.proofs.Common.{◌≡◌, ℕ, ◌+◌, ◌≤◌, Bool, true, false, List, [], ◌∷◌, Option, Some, None, Ok, Err, cond, refl, sym, ap, subst, ◌∙◌, arith}
 use Rattle.std.specs.Prelude.{◌==◌, ◌||◌, Result, nat_lt, bytes_eq}
-use Rattle.std.proofs.lemmas.Bool.{eq-eqb, eqb-true, eqb-false}
+use Rattle.std.proofs.lemmas.Bool.{eq-eqb, eqb-true, eqb-false, or_parts}
 use Rattle.bench_base.specs.Plans.{made}
 use Rattle.bench_base.specs.declared.refusals.Unread.{Unread}
 use Rattle.bench_base.specs.declared.refusals.CentreRefusal.{CentreRefusal}
@@ -41,7 +41,6 @@ use Rattle.centre_ledger.proofs.Following.{settled-number, ruling, ruling-keeps}
 use Rattle.centre_ledger.proofs.FollowingActs.{row-of, customer-of}
 use Rattle.centre_ledger.proofs.Paying.{balance-is, pays}
 use Rattle.centre_ledger.proofs.Payers.{found-device, found-customer}
-use Rattle.centre_ledger.proofs.Slots.{either-false}
 use Rattle.centre_ledger.proofs.Standings.{standing}
 
 -- == customers ==
@@ -137,7 +136,7 @@ repeat-number g stored n bytes h = go (nat_lt n g || (n == 0)) (n == g) (bytes_e
     go true u v w e f k = absurd (cc)
     go false true true w e f k =
         let same = eqb-true n g f in
-        let more = eqb-false n 0 (either-false (nat_lt n g) (n == 0) e).1 in
+        let more = eqb-false n 0 (or_parts (nat_lt n g) (n == 0) e).1 in
         (same, omega arith)
     go false true false w e f k = absurd (cc)
     go false false v true e f k = absurd (cc)

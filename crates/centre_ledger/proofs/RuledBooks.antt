@@ -40,7 +40,7 @@ named-open b r q g enrol =
     subst (λ w. IsSome (customer_at b w)) (ap (λ t. cond t q.customer (own_customer (enrolled_in r))) enrol) open_so
 
 -- a reset is no enrolment
-no-enrol : (k : Kind) → same_kind k Reset ≡ true → not (same_kind k Enrol) ≡ true
+pub no-enrol : (k : Kind) → same_kind k Reset ≡ true → not (same_kind k Enrol) ≡ true
 unfolding same_kind
 no-enrol Enrol h = absurd (true≢false (sym h))
 no-enrol Reset h = refl

@@ -1,7 +1,7 @@
 -- Which rows there are, that the commit of each call comes in order, and that each new row meets the conditions of a row.
 use Rattle.std.proofs.Common.{◌≡◌, ℕ, ◌+◌, ◌≤◌, Bool, true, false, List, ◌∷◌, Option, Some, None, Ok, Err, cond, refl, sym, ap, ◌∙◌, true≢false, arith}
-use Rattle.std.specs.Prelude.{◌==◌, ◌&&◌, ◌||◌, not, nat_lt, IsSome, is_some}
-use Rattle.std.proofs.lemmas.Bool.{eqb-true, ltb-false, not-false}
+use Rattle.std.specs.Prelude.{◌==◌, ◌&&◌, ◌||◌, not, nat_lt, is_some}
+use Rattle.std.proofs.lemmas.Bool.{eqb-true, ltb-false, not-false, or_parts}
 use Rattle.bench_base.specs.declared.words.Verdict.{Verdict}
 use Rattle.bench_base.specs.declared.words.Node.TheVariants.{Centre}
 use Rattle.bench_base.specs.declared.refusals.CentreRefusal.TheVariants as no
@@ -10,6 +10,7 @@ use Rattle.bench_base.specs.declared.ledger.Commit.TheVariants.{Registered, Open
 use Rattle.bench_base.specs.Nodes.{node_of, same_node}
 use Rattle.bench_base.specs.Ranges.{IsWord}
 use Rattle.bench_base.specs.Table.{IsBytes}
+use Rattle.bench_base.proofs.Facts.{is-some}
 use Rattle.psd_wire.specs.declared.message.Message.TheVariants as m
 use Rattle.psd_wire.proofs.Readings.{spell-back}
 use Rattle.ledger_terms.specs.Requests.{request_in}
@@ -71,10 +72,6 @@ pub record IsDeposit (last total n a after : ℕ) : Type 0 where
   pub room : total + a ≤ 1000000000000000
   pub sum : after ≡ total + a
 
-pub either-false : (x y : Bool) → (x || y) ≡ false → (x ≡ false) × (y ≡ false)
-either-false true y h = absurd (true≢false h)
-either-false false y h = (refl, h)
-
 -- what a deposit that is taken was found to be
 pub deposit-taken : (last : ℕ × ℕ) (total n a after : ℕ) → deposit_answer last total n a ≡ Ok (Some after) → IsDeposit last.0 total n a after
 deposit-taken last total n a after h = go ((n == last.0) && nat_lt 0 n) (a == last.1) (not (n == last.0 + 1)) ((a == 0) || nat_lt 1000000000 a) (nat_lt 1000000000000000 (total + a)) refl refl refl h
@@ -87,7 +84,7 @@ deposit-taken last total n a after h = go ((n == last.0) && nat_lt 0 n) (a == la
     go false u false true z e f g k = absurd (cc)
     go false u false false true e f g k = absurd (cc)
     go false u false false false e f g k =
-        let amounts = either-false (a == 0) (nat_lt 1000000000 a) f in
+        let amounts = or_parts (a == 0) (nat_lt 1000000000 a) f in
         let some_amount = Rattle.std.proofs.lemmas.Bool.eqb-false a 0 amounts.0 in
         let same : total + a ≡ after = cc in
         record {
@@ -97,9 +94,6 @@ deposit-taken last total n a after h = go ((n == last.0) && nat_lt 0 n) (a == la
           room = omega (arith, ltb-false 1000000000000000 (total + a) g);
           sum = sym same;
         }
-
-known : (o : Option (ℕ × List ℕ)) (x : ℕ × List ℕ) → o ≡ Some x → IsSome o
-known o x h = ap is_some h
 
 others-in-order : (c : Commit) (C : List Commit) → same_node (node_of c) Centre ≡ false → InOrder C → InOrder (c ∷ C)
 others-in-order (Registered d origin key) C h o = absurd (true≢false h)
@@ -116,7 +110,7 @@ ruled-in-order r o left note C v order is next pays says =
     let was = is.ruled in
     let n = next.number in
     let same = ruling r o left (request_in note) C is next.device pays in
-    ((known (registered r.device C) (r.origin, r.key) is.registered, omega arith, says ∙ ap (λ (x : Verdict × ℕ). x.0) same), order)
+    ((is-some (registered r.device C) (r.origin, r.key) is.registered, omega arith, says ∙ ap (λ (x : Verdict × ℕ). x.0) same), order)
 
 deposited-in-order : (r : CustomerRow) (C : List Commit) (receipt amount after : ℕ) → InOrder C → IsCustomerOf r C
     → deposit_answer (r.receipt, r.amount) r.deposits receipt amount ≡ Ok (Some after) → InOrder (Deposited r.customer receipt amount ∷ C)
@@ -132,7 +126,7 @@ in-order = record {
   deposited = deposited-in-order;
   flagged = λ r C flag order is. (is.opened, order);
   ruled = ruled-in-order;
-  settled = λ r C n now order is h. (known (registered r.device C) (r.origin, r.key) is.registered, order);
+  settled = λ r C n now order is h. (is-some (registered r.device C) (r.origin, r.key) is.registered, order);
   others = others-in-order;
 }
 

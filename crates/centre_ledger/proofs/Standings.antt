@@ -2,19 +2,20 @@
 use Rattle.std.proofs.Common.{◌≡◌, ℕ, ◌+◌, ◌-◌, ◌<◌, ◌≤◌, true, false, List, [], ◌∷◌, get_or, Option, Some, None, Ok, cond, refl, sym, ap, subst, ◌∙◌, ⊎_elim, arith}
 use Rattle.std.specs.Prelude.{nat_lt, max}
 use Rattle.std.proofs.lemmas.Bool.{cases_Bool, cases_lt, eq-eqb, ne_eqb, le-leb, lt-leb, ltb-true, ltb-false}
+use Rattle.std.proofs.lemmas.Option.{same_Some}
 use Rattle.bench_base.specs.declared.words.Verdict.{Verdict}
-use Rattle.bench_base.specs.declared.words.Verdict.TheVariants.{Granted, NotEnrolled, EnrolledAlready, NoCustomer, Suspended, NoFunds, Imbalance}
 use Rattle.bench_base.specs.declared.ledger.Commit.{Commit}
 use Rattle.bench_base.specs.declared.ledger.Commit.TheVariants.{Ruled}
 use Rattle.bench_base.specs.declared.ledger.Entry.TheVariants as e
 use Rattle.bench_base.specs.declared.events.Reply.TheVariants as answer
 use Rattle.bench_base.specs.Table.{spelled}
 use Rattle.bench_base.specs.Plans.{told}
+use Rattle.bench_base.proofs.Facts.{either}
 use Rattle.psd_wire.specs.declared.message.Request.{Request}
 use Rattle.psd_wire.specs.declared.message.ReplyMsg.{ReplyMsg}
 use Rattle.psd_wire.specs.declared.message.Message.TheVariants as m
 use Rattle.psd_wire.specs.Grammar.{read, spell, body, verdict_code, verdict_of}
-use Rattle.psd_wire.proofs.Readings.{read-spell}
+use Rattle.psd_wire.proofs.Readings.{read-spell, verdict_of-code}
 use Rattle.ledger_terms.specs.Requests.{request_in}
 use Rattle.ledger_terms.specs.Sums.{adds, takes, ruled_sum}
 use Rattle.ledger_terms.specs.Centres.{registered, key_in, ruled, settled}
@@ -27,10 +28,6 @@ use Rattle.centre_ledger.specs.Soundness.{IsSoundDevice}
 use Rattle.centre_ledger.specs.Records.{IsRowOf, note_or_none}
 use Rattle.centre_ledger.specs.Standing.{ruling_in, ruling_read, flight_in, amount_by, resets_in, refunds_in}
 use Rattle.centre_ledger.specs.Laws.{StandingByRows}
-use Rattle.centre_ledger.proofs.Following.{either}
-
-some-same : {A : Type 0} {a b : A} → Some a ≡ Some b → a ≡ b
-some-same e = cc
 
 -- == the rulings of a device have rising numbers ==
 
@@ -69,7 +66,7 @@ last-none d (Ruled e k v note ∷ C) h = either e d
 last-none d (_ ∷ C) h = last-none d C h
 
 -- up to the greatest number the sum is that of all rulings
-sum-to_all : (f : Verdict → Request → ℕ) (d s : ℕ) (C : List Commit) → ruled d C ≤ s → ruled_sum_to f d s C ≡ ruled_sum f d C
+pub sum-to_all : (f : Verdict → Request → ℕ) (d s : ℕ) (C : List Commit) → ruled d C ≤ s → ruled_sum_to f d s C ≡ ruled_sum f d C
 sum-to_all f d s [] h = refl
 sum-to_all f d s (Ruled e k v note ∷ C) h = either e d
     (λ t y. let top : max k (ruled d C) ≤ s = rw t at h in rw (t, le-leb k s (omega arith)) (ap (λ n. n + f v (request_in note)) (sum-to_all f d s C (omega arith))))
@@ -89,16 +86,6 @@ sum-to_last f d s (_ ∷ C) o h = sum-to_last f d s C o.1 h
 
 -- == the verdict in a Reply ==
 
-verdict_of-code : (v : Verdict) → verdict_of (verdict_code v) ≡ Some v
-unfolding verdict_of
-verdict_of-code Granted = refl
-verdict_of-code NotEnrolled = refl
-verdict_of-code EnrolledAlready = refl
-verdict_of-code NoCustomer = refl
-verdict_of-code Suspended = refl
-verdict_of-code NoFunds = refl
-verdict_of-code Imbalance = refl
-
 -- the byte of the verdict stands at one place, whatever the version
 verdict_byte : (p : ReplyMsg) (key : List ℕ) → get_or (spell (m.Reply p) key) 11 0 ≡ verdict_code p.verdict
 unfolding spell body spelled
@@ -107,7 +94,7 @@ verdict_byte p key = refl
 same-verdict : (p x : ReplyMsg) (key other : List ℕ) → spell (m.Reply p) key ≡ spell (m.Reply x) other → p.verdict ≡ x.verdict
 same-verdict p x key other h =
     let codes : verdict_code p.verdict ≡ verdict_code x.verdict = sym (verdict_byte p key) ∙ ap (λ b. get_or b 11 0) h ∙ verdict_byte x other in
-    some-same (sym (verdict_of-code p.verdict) ∙ ap verdict_of codes ∙ verdict_of-code x.verdict)
+    same_Some _ _ (sym (verdict_of-code p.verdict) ∙ ap verdict_of codes ∙ verdict_of-code x.verdict)
 
 -- the stored Reply has the verdict of the last ruling
 pub record KeepsReply (d : ℕ) (C : List Commit) (v : Verdict) : Type 0 where
@@ -126,7 +113,7 @@ keeps-reply d (Ruled e k v note ∷ C) x o h = either e d
       key = key_in (registered (request_in note).device C);
       reply = reply_to C (request_in note);
       stored = rw t refl;
-      verdict = sym o.0.2 ∙ ap (λ (z : Verdict × List ℕ). z.0) (some-same same);
+      verdict = sym o.0.2 ∙ ap (λ (z : Verdict × List ℕ). z.0) (same_Some _ _ same);
     })
     (λ t. let was = keeps-reply d C x o.1 (rw t at h) in record { key = was.key; reply = was.reply; stored = rw t was.stored; verdict = was.verdict })
 keeps-reply d (_ ∷ C) x o h = let was = keeps-reply d C x o.1 h in record { key = was.key; reply = was.reply; stored = was.stored; verdict = was.verdict }

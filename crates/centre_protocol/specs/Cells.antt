@@ -1,7 +1,6 @@
 -- The rows of the centre by their cells: what lies where, and how a row that is put changes that.
-use Rattle.std.proofs.Common.{◌≡◌, ◌≢◌, inl, inr, ℕ, zero, suc, replicate, ◌+◌, ◌-◌, ◌<◌, ◌≤◌, List, length, get_or, set, Option, Some, None, Bool, true, false, option_map, nat_lt, if◌then◌else◌, refl, sym, ◌∙◌, ap, subst, arith}
-use Rattle.std.proofs.lemmas.Bool.{cases_eq}
-use Rattle.std.proofs.lemmas.Bool.Decides.{nat_tests}
+use Rattle.std.proofs.Common.{◌≡◌, ◌≢◌, inl, inr, ℕ, zero, suc, replicate, ◌+◌, ◌-◌, ◌<◌, List, length, get_or, set, Option, Some, None, Bool, true, false, option_map, nat_lt, if◌then◌else◌, refl, sym, ◌∙◌, ap, subst, arith}
+use Rattle.std.proofs.lemmas.Bool.{cases_eq, lt-ltb, le-ltb, ltb-false}
 use Rattle.std.proofs.lemmas.List.{get_or-set_same, get_or-set_other, length-set}
 use Rattle.bench_base.specs.declared.sizes.TheConstants.{CENTRE_CELLS}
 use Rattle.bench_base.specs.Ranges.{IsDevice, IsCustomer}
@@ -47,21 +46,12 @@ is_in (row.Customer r) has = (omega arith, omega arith)
 
 -- == by cells ==
 
-below : (k : ℕ) → k < 8 → nat_lt k 8 ≡ true
-below k lt = grind (arith, nat_tests)
-
-not_below : (k : ℕ) → 8 ≤ k → nat_lt k 8 ≡ false
-not_below k le = grind (arith, nat_tests)
-
-above : (k : ℕ) → nat_lt k 8 ≡ false → 8 ≤ k
-above k is = grind (arith, nat_tests)
-
 pub device_below : (b : Books) (k : ℕ) → k < 8 → row_in b k ≡ option_map row.Device (get_or b.devices k None)
-device_below b k lt = if_true (nat_lt k 8) (option_map row.Device (get_or b.devices k None)) (option_map row.Customer (get_or b.customers (k - 8) None)) (below k lt)
+device_below b k lt = if_true (nat_lt k 8) (option_map row.Device (get_or b.devices k None)) (option_map row.Customer (get_or b.customers (k - 8) None)) (lt-ltb k 8 lt)
 
 pub customer_above : (b : Books) (i : ℕ) → row_in b (8 + i) ≡ option_map row.Customer (get_or b.customers i None)
 customer_above b i =
-    if_false (nat_lt (8 + i) 8) (option_map row.Device (get_or b.devices (8 + i) None)) (option_map row.Customer (get_or b.customers (8 + i - 8) None)) (not_below (8 + i) (omega arith))
+    if_false (nat_lt (8 + i) 8) (option_map row.Device (get_or b.devices (8 + i) None)) (option_map row.Customer (get_or b.customers (8 + i - 8) None)) (le-ltb (8 + i) 8 (omega arith))
     ∙ ap (λ (j : ℕ). option_map row.Customer (get_or b.customers j None)) (back i)
   where
     back : (i : ℕ) → 8 + i - 8 ≡ i
@@ -193,7 +183,7 @@ row_other b (row.Customer r) k has differs =
     else_same (nat_lt k 8) (option_map row.Device (get_or b.devices k None)) (option_map row.Customer (get_or (set b.customers (r.customer - 1) (Some r)) (k - 8) None))
     (option_map row.Customer (get_or b.customers (k - 8) None))
     (λ is. ap (λ (o : Option CustomerRow). option_map row.Customer o)
-    (get_or-set_other b.customers (r.customer - 1) (k - 8) (Some r) None (λ same. differs (omega (arith, has, above k is, same)))))
+    (get_or-set_other b.customers (r.customer - 1) (k - 8) (Some r) None (λ same. differs (omega (arith, has, ltb-false k 8 is, same)))))
   where
     else_same : (t : Bool) (x y z : Option Row) → (t ≡ false → y ≡ z) → (if t then x else y) ≡ (if t then x else z)
     else_same true x y z same = refl

@@ -1,10 +1,10 @@
 -- That the centre meets the laws of a node.
-use Rattle.std.proofs.Common.{◌≡◌, inl, inr, ℕ, ◌+◌, ◌≤◌, List, Option, Some, false, ◌==◌, IfSome, sym, ◌∙◌, ap, subst, arith}
+use Rattle.std.proofs.Common.{◌≡◌, inl, inr, ℕ, ◌+◌, ◌≤◌, List, Option, Some, false, IfSome, sym, ◌∙◌, ap, subst, arith}
 use Rattle.std.proofs.Props.{props}
 use Rattle.std.proofs.Math.Logic.{∥∥₁_elim}
 use Rattle.std.proofs.lemmas.Bool.{cases_eq}
-use Rattle.std.proofs.lemmas.Bool.Decides.{nat_tests}
 use Rattle.bench_base.specs.declared.sizes.TheConstants.{MOST_COMMITS, ROW_BYTES, CENTRE_CELLS, CENTRE_BYTES}
+use Rattle.bench_base.proofs.Facts.{few_more}
 use Rattle.nv_model.specs.declared.nv.Nv.{Ghosts}
 use Rattle.node_acts.specs.RowList.{row_at, row_of, commits_at, put}
 use Rattle.node_acts.specs.RowLaws.{put_long, put_here, put_other, put_counts}
@@ -38,9 +38,6 @@ reads_one k (row.Customer r) (row.Customer s) p reads reads' =
 
 pub one_shown : (a b : Seen) (c : List ℕ) → IsSound a → IsSound b → IsShown a c → IsShown b c → a ≡ b
 one_shown a b c sound sound' shown shown' = table.one_shown ROW_BYTES CENTRE_CELLS IsPayloadOf reads_one a b c sound.long sound'.long shown shown'
-
-few_more : (count : ℕ) → count ≤ MOST_COMMITS → (count == MOST_COMMITS) ≡ false → count + 1 ≤ MOST_COMMITS
-few_more count few fresh = grind (arith, nat_tests)
 
 pub keeps : (s : Seen) (x : Row) → IsSound s → HasCell x → IsFit s x → counting.is_worn s x ≡ false → IsSound (counting.after s x)
 keeps s x sound has fits fresh = record {

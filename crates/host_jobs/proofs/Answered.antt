@@ -1,10 +1,11 @@
 -- What the host's answers say where they refuse nothing.
-use Rattle.std.proofs.Common.{◌≡◌, ℕ, ◌+◌, ◌<◌, ◌≤◌, Bool, true, false, Option, Some, None, Result, Ok, Err, refl, sym, ap, ◌∙◌, true≢false}
+use Rattle.std.proofs.Common.{◌≡◌, ℕ, ◌+◌, ◌<◌, ◌≤◌, Bool, true, false, Option, Some, None, Ok, refl, sym, ap, ◌∙◌, true≢false}
 use Rattle.std.specs.Prelude.{◌==◌, ◌&&◌, not, nat_le, if◌then◌else◌}
 use Rattle.std.proofs.lemmas.Bool.{eqb-true, leb-false, le-leb, not-false}
 use Rattle.bench_base.specs.declared.words.JobState.{JobState}
 use Rattle.bench_base.specs.declared.words.JobState.TheVariants as state
 use Rattle.bench_base.specs.Rows.{first_holding}
+use Rattle.bench_base.proofs.Facts.{some-none, ok-same, err-ok}
 use Rattle.indicium.specs.declared.Mark.{Mark}
 use Rattle.host_jobs.specs.declared.orders.Shelf.{Shelf}
 use Rattle.host_jobs.specs.Answers.{is_open, order_rows, hold_answer}
@@ -20,12 +21,6 @@ pub record OrderOk (piece : ℕ) (h : Shelf) (j : ℕ) : Type 0 where
   pub room : (nat_le 1024 h.last && is_open h.oldest) ≡ false
   pub next : j ≡ h.last + 1
 
-err-ok : {A B : Type 0} {a : A} {b : B} → ◌≡◌ {A = Result B A} (Err a) (Ok b) → ⊥
-err-ok h = cc
-
-ok-same : {A B : Type 0} {a b : A} → ◌≡◌ {A = Result A B} (Ok a) (Ok b) → a ≡ b
-ok-same h = cc
-
 pub order-ok : (piece : ℕ) (h : Shelf) (j : ℕ) → first_holding (order_rows piece h) (Ok (h.last + 1)) ≡ Ok j → OrderOk piece h j
 order-ok piece h j is =
     let one = passed (nat_le piece h.top) _ _ (Ok j) is (λ e. err-ok e) in
@@ -37,9 +32,6 @@ pub record HoldOk (k : Mark) (piece postage class : ℕ) : Type 0 where
   pub piece_is : k.piece ≡ piece
   pub postage_is : k.postage ≡ postage
   pub class_is : k.class ≡ class
-
-some-none : {A : Type 0} {a : A} → Some a ≡ None → ⊥
-some-none h = cc
 
 pub hold-ok : (k : Mark) (piece postage class : ℕ) → hold_answer k piece postage class ≡ None → HoldOk k piece postage class
 hold-ok k piece postage class is =

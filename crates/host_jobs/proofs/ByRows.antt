@@ -2,11 +2,13 @@
 use Rattle.std.proofs.Common.{◌≡◌, ◌≢◌, ℕ, ◌+◌, ◌-◌, ◌%◌, ◌<◌, ◌≤◌, Bool, true, false, List, length, get_or, Option, Some, None, ⊎_elim, refl, sym, ap, subst, ◌∙◌, true≢false, arith}
 use Rattle.std.specs.Prelude.{◌&&◌, nat_le, nat_lt, if◌then◌else◌}
 use Rattle.std.proofs.lemmas.Bool.{cases_Bool, cases_eq, and_parts, le-leb, lt-ltb, leb-true, ltb-true}
+use Rattle.std.proofs.lemmas.Option.{same_Some, none-some}
 use Rattle.bench_base.specs.declared.words.JobState.{JobState}
 use Rattle.bench_base.specs.declared.words.JobState.TheVariants as state
 use Rattle.bench_base.specs.declared.ledger.Commit.{Commit}
 use Rattle.bench_base.specs.Jobs.{Job, cell_of, last_job, state_of, open_job, top, in_cells}
 use Rattle.bench_base.specs.Ranges.{IsDevice}
+use Rattle.bench_base.proofs.Facts.{is-some}
 use Rattle.node_acts.specs.RowLaws.{listed_at, listed_same}
 use Rattle.host_jobs.specs.declared.rows.JobRow.{JobRow}
 use Rattle.host_jobs.specs.declared.sizes.TheConstants.{HOST_CELLS}
@@ -17,7 +19,7 @@ use Rattle.host_jobs.specs.Soundness.{AreSound}
 use Rattle.host_jobs.specs.ActLaws.{AreRowsOf}
 use Rattle.host_jobs.proofs.Lists.{greatest-le, greatest-least}
 use Rattle.host_jobs.proofs.Cells.{cell-lt, cell-oldest}
-use Rattle.host_jobs.proofs.Found.{some-same, none-some, is-some, if_job-is, found-row, waiting-is, row-inside, waits-once, opens, opens-none}
+use Rattle.host_jobs.proofs.Found.{if_job-is, found-row, waiting-is, row-inside, waits-once, opens, opens-none}
 use Rattle.host_jobs.proofs.JobFacts.{Facts, IsJob, facts}
 use Rattle.host_jobs.proofs.CellFacts.{CellFacts, IsRowOf, HasTops, cells, live-near, after-at}
 
@@ -93,7 +95,7 @@ module _ (rows : Jobs) (C : List Commit) (sound : AreSound rows) (are : AreRowsO
   told k r at =
       let back = cell-facts.back k r (row-of k r at) in
       let it = cell-facts.cells r.job back.job back.near in
-      let same : it.row ≡ r = some-same (sym it.at ∙ ap (λ (i : ℕ). cell_row i C) back.cell ∙ row-of k r at) in
+      let same : it.row ≡ r = same_Some _ _ (sym it.at ∙ ap (λ (i : ℕ). cell_row i C) back.cell ∙ row-of k r at) in
       (in-cells r.job C back.job back.near, subst (λ (y : JobRow). IsRowOf y r.job C) same it.is)
 
   pub tells : (j : ℕ) (o : Option JobRow) → job_row rows j ≡ o → Tells j C o
@@ -110,7 +112,7 @@ module _ (rows : Jobs) (C : List Commit) (sound : AreSound rows) (are : AreRowsO
           let one = and_parts (nat_le 1 j) (nat_le j (last_job C) && nat_lt (last_job C) (j + 1024)) there in
           let two = and_parts (nat_le j (last_job C)) (nat_lt (last_job C) (j + 1024)) one.1 in
           let it = cell-facts.cells j (leb-true 1 j one.0, leb-true j (last_job C) two.0) (ltb-true (last_job C) (j + 1024) two.1) in
-          none-some (sym at ∙ if_job-is j (row_in rows (cell_of j)) it.row (row-is (cell_of j) (cell-lt j) ∙ it.at) it.is.number)
+          absurd (none-some _ (sym at ∙ if_job-is j (row_in rows (cell_of j)) it.row (row-is (cell_of j) (cell-lt j) ∙ it.at) it.is.number))
 
   -- == the open job of a device ==
 
@@ -125,9 +127,9 @@ module _ (rows : Jobs) (C : List Commit) (sound : AreSound rows) (are : AreRowsO
       let near = live-near C job-facts j state.Ordered it.state (λ e. absurd (cc)) in
       let shown = cell-facts.cells j (job-facts.state_le j state.Ordered it.state) near in
       let at : row_in rows (cell_of j) ≡ Some shown.row = row-is (cell_of j) (cell-lt j) ∙ shown.at in
-      let same : state.Ordered ≡ shown.row.state = some-same (sym it.state ∙ shown.is.state) in
+      let same : state.Ordered ≡ shown.row.state = same_Some _ _ (sym it.state ∙ shown.is.state) in
       let waits : is_ordered shown.row.state ≡ true = ap is_ordered (sym same) in
-      let job : it.at ≡ job_in shown.row = some-same (sym it.job_is ∙ shown.is.job) in
+      let job : it.at ≡ job_in shown.row = same_Some _ _ (sym it.job_is ∙ shown.is.job) in
       let device : shown.row.device ≡ d = ap (λ (b : Job). b.device) (sym job) ∙ it.device in
       opens rows sound.placed d (cell_of j) shown.row at waits device
       (λ i some. waits-once rows sound d i (cell_of j) some (is-some (waiting d (row_in rows (cell_of j))) shown.row.job (ap (waiting d) at ∙ waiting-is d shown.row waits device)))
@@ -138,7 +140,7 @@ module _ (rows : Jobs) (C : List Commit) (sound : AreSound rows) (are : AreRowsO
     where
       by : (o : Option ℕ) → open_job d C ≡ o → open_in d rows ≡ open_job d C
       by (Some j) has = open-told d j has ∙ sym has
-      by None has = opens-none rows sound.placed d (λ k r at state device. none-some (sym has ∙ opens-told d k r at state device)) ∙ sym has
+      by None has = opens-none rows sound.placed d (λ k r at state device. absurd (none-some _ (sym has ∙ opens-told d k r at state device))) ∙ sym has
 
   -- == the job in the cell of the next one ==
 

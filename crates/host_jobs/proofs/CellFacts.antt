@@ -2,6 +2,7 @@
 -- the tops as they were, of which the greatest are the present ones.
 use Rattle.std.proofs.Common.{◌≡◌, ◌≢◌, ℕ, ◌+◌, ◌-◌, ◌<◌, ◌≤◌, true, false, List, [], ◌∷◌, get_or, Option, Some, ◌⊎◌, inl, inr, ⊎_elim, refl, sym, ap, subst, ◌∙◌, arith}
 use Rattle.std.proofs.lemmas.Bool.{cases_eq, cases_lt, eq-eqb, ne_eqb}
+use Rattle.std.proofs.lemmas.Option.{same_Some, none-some}
 use Rattle.bench_base.specs.declared.words.JobState.{JobState}
 use Rattle.bench_base.specs.declared.words.JobState.TheVariants as state
 use Rattle.bench_base.specs.declared.ledger.Commit.{Commit}
@@ -16,7 +17,6 @@ use Rattle.host_jobs.specs.Turns.{InTurn}
 use Rattle.host_jobs.specs.Rows.{job_in}
 use Rattle.host_jobs.specs.Records.{tops_after, record_by, record_of, job_no, cell_row}
 use Rattle.host_jobs.proofs.Cells.{cell-lt, cell-one}
-use Rattle.host_jobs.proofs.Found.{some-same, none-some}
 use Rattle.host_jobs.proofs.JobFacts.{Facts, IsJob, facts, open-state}
 
 -- the row is what the commits tell of the job
@@ -123,7 +123,7 @@ module _ (i : ℕ) (c : Commit) (C : List Commit) (by : Changes i c C) (old : Ce
   step-back : (k : ℕ) (r : JobRow) → cell_row k D ≡ Some r → IsLast k r.job D
   step-back k r at = ⊎_elim
       (λ (e : k ≡ cell_of i).
-      let is : new ≡ r = some-same (sym here ∙ ap (λ (n : ℕ). cell_row n D) (sym e) ∙ at) in
+      let is : new ≡ r = same_Some _ _ (sym here ∙ ap (λ (n : ℕ). cell_row n D) (sym e) ∙ at) in
       let number : i ≡ r.job = ap (λ (y : JobRow). y.job) is in
       subst (λ (n : ℕ). IsLast k n D) number (record { job = by.own; near = by.near; cell = sym e }))
       (λ (differs : k ≢ cell_of i).
@@ -148,7 +148,7 @@ module _ (i : ℕ) (c : Commit) (C : List Commit) (by : Changes i c C) (old : Ce
   step-tops_le : (k : ℕ) (r : JobRow) (d : ℕ) → cell_row k D ≡ Some r → IsDevice d → get_or r.tops (d - 1) 0 ≤ top d D
   step-tops_le k r d at device = ⊎_elim
       (λ (e : k ≡ cell_of i).
-      let is : new ≡ r = some-same (sym here ∙ ap (λ (n : ℕ). cell_row n D) (sym e) ∙ at) in
+      let is : new ≡ r = same_Some _ _ (sym here ∙ ap (λ (n : ℕ). cell_row n D) (sym e) ∙ at) in
       let tops : tops_after D ≡ r.tops = ap (λ (y : JobRow). y.tops) is in
       omega (arith, ap (λ (l : List ℕ). get_or l (d - 1) 0) tops, after-at D d device))
       (λ (differs : k ≢ cell_of i). omega (arith, old.tops_le k r d (sym (other k differs) ∙ at) device, by.tops d))
@@ -165,8 +165,8 @@ module _ (i : ℕ) (c : Commit) (C : List Commit) (by : Changes i c C) (old : Ce
 none : CellFacts []
 none = record {
   cells = λ j le near. absurd (omega (arith, le.0, le.1));
-  back = λ k r at. none-some at;
-  tops_le = λ k r d at device. none-some at;
+  back = λ k r at. absurd (none-some _ at);
+  tops_le = λ k r d at device. absurd (none-some _ at);
   tops_at = inl (λ d. refl);
 }
 
@@ -187,7 +187,7 @@ other-closed i j C differs = let t = ne_eqb i j (λ e. differs (sym e)) in recor
 pub live-near : (C : List Commit) → Facts C → (i : ℕ) (s : JobState) → state_of i C ≡ Some s → (s ≡ state.Closed → ⊥) → last_job C < i + 1024
 live-near C h i s at live = ⊎_elim
     (λ (lt : last_job C < i + 1024). lt)
-    (λ (far : i + 1024 ≤ last_job C). absurd (live (some-same (sym at ∙ h.past i (h.state_le i s at).0 far))))
+    (λ (far : i + 1024 ≤ last_job C). absurd (live (same_Some _ _ (sym at ∙ h.past i (h.state_le i s at).0 far))))
     (cases_lt (last_job C) (i + 1024))
 
 open-live : (s : JobState) → is_open (Some s) ≡ true → s ≡ state.Closed → ⊥

@@ -3,6 +3,7 @@ use Rattle.std.proofs.Common.{◌≡◌, ◌≢◌, ℕ, ◌+◌, ◌-◌, ◌<�
 use Rattle.std.specs.Prelude.{max, if◌then◌else◌}
 use Rattle.std.proofs.lemmas.Bool.{cases_eq, eq-eqb, ne_eqb}
 use Rattle.std.proofs.lemmas.List.{get_or-set_same, get_or-set_other}
+use Rattle.std.proofs.lemmas.Option.{same_Some, none-some}
 use Rattle.bench_base.specs.declared.words.JobState.{JobState}
 use Rattle.bench_base.specs.declared.words.JobState.TheVariants as state
 use Rattle.bench_base.specs.declared.refusals.Unread.{Unread}
@@ -15,6 +16,7 @@ use Rattle.bench_base.specs.Rows.{first_of, first_holding}
 use Rattle.bench_base.specs.Ranges.{IsDevice}
 use Rattle.bench_base.specs.Cells.{Place, OfJob, same_place, place_of}
 use Rattle.bench_base.specs.Jobs.{Job, cell_of, last_job, job_of, state_of, held_of, open_job, piece_at, top}
+use Rattle.bench_base.proofs.Facts.{none-if}
 use Rattle.node_acts.specs.declared.act.Act.TheVariants.{Commits}
 use Rattle.node_acts.specs.RowLaws.{listed_at, listed_long, listed_is}
 use Rattle.indicium.specs.declared.Mark.{Mark}
@@ -30,17 +32,16 @@ use Rattle.host_jobs.specs.Soundness.{AreSound}
 use Rattle.host_jobs.specs.Records.{tops_after, record_by, record_of, job_no, cell_row, rows_after}
 use Rattle.host_jobs.specs.Acts.{HostAct, shelf_in, ordered_row, ordered_act, order_act, moved, unless, begun_act, printed_act, closed_act, raised, held_row, held_act, open_act, mark_act, message_act}
 use Rattle.host_jobs.specs.ActLaws.{AreRowsOf, FollowsCommits, ActsFollow}
-use Rattle.host_jobs.proofs.Found.{some-same, none-some, found-row, opened, Waits, tops-at}
+use Rattle.host_jobs.proofs.Found.{found-row, opened, Waits, tops-at}
 use Rattle.host_jobs.proofs.Answered.{OrderOk, order-ok, HoldOk, hold-ok, is-closed, no-room}
 use Rattle.host_jobs.proofs.Puts.{put-here, put-other}
 use Rattle.host_jobs.proofs.SoundActs.{sound-row, held-mark}
-use Rattle.host_jobs.proofs.JobFacts.{none-if}
 use Rattle.host_jobs.proofs.CellFacts.{IsRowOf}
 use Rattle.host_jobs.proofs.ByRows.{job-facts, row-is, last-is, top-is, tops-are, open-is, oldest-is, told}
 
 first-none : {A : Type 0} (o p : Option A) → o ≡ None → first_of o p ≡ p
 first-none None p h = refl
-first-none (Some a) p h = none-some (sym h)
+first-none (Some a) p h = absurd (none-some _ (sym h))
 
 module _ (rows : Jobs) (C : List Commit) (sound : AreSound rows) (are : AreRowsOf rows C) where
   -- a row that is put, where it is the one that the commits tell of its job
@@ -226,7 +227,7 @@ module _ (rows : Jobs) (C : List Commit) (sound : AreSound rows) (are : AreRowsO
   hold-follows x k reads j has None at = tt
   hold-follows x k reads j has (Some r) at =
       let row = opened rows sound.placed k.0.device j has in
-      let same : row.row ≡ r = some-same (sym row.is ∙ (found-row rows j r at).0) in
+      let same : row.row ≡ r = same_Some _ _ (sym row.is ∙ (found-row rows j r at).0) in
       holds j r at x k reads has (subst (λ (y : JobRow). Waits k.0.device y j) same row.waits) (hold_answer k.0 r.piece r.postage r.class) refl
 
   open-follows : (x : List ℕ) (k : Mark × List ℕ) → read_mark x ≡ Ok k → (o : Option ℕ) → open_in k.0.device rows ≡ o → FollowsCommits rows C (open_act x k.0 o rows)

@@ -3,8 +3,10 @@ use Rattle.std.proofs.Common.{◌≡◌, ◌≢◌, ℕ, ◌+◌, ◌-◌, ◌<�
 use Rattle.std.specs.Prelude.{◌==◌, ◌&&◌, IfSome, IsSome}
 use Rattle.std.proofs.lemmas.Bool.{cases_Bool, cases_lt, eqb-true, eq-eqb, ne_eqb, and_parts}
 use Rattle.std.proofs.lemmas.List.{get_or_past}
+use Rattle.std.proofs.lemmas.Option.{same_Some, none-some}
 use Rattle.bench_base.specs.Jobs.{cell_of}
 use Rattle.bench_base.specs.Ranges.{IsDevice}
+use Rattle.bench_base.proofs.Facts.{is-some, not-none}
 use Rattle.host_jobs.specs.declared.rows.JobRow.{JobRow}
 use Rattle.host_jobs.specs.Rows.{Jobs, number_in, top_at, is_ordered, waiting, row_in, if_job, job_row, last_in, top_in, open_in, tops_in}
 use Rattle.host_jobs.specs.Soundness.{IsJobAt, ArePlaced, AreSound}
@@ -12,26 +14,12 @@ use Rattle.node_acts.specs.RowLaws.{listed_at}
 use Rattle.host_jobs.proofs.Lists.{greatest-le, found-none, found-at, found-one}
 use Rattle.host_jobs.proofs.Cells.{later}
 
-pub some-same : {A : Type 0} {a b : A} → Some a ≡ Some b → a ≡ b
-some-same h = cc
-
-pub none-some : {A : Type 0} {a : A} {P : Type 0} → None ≡ Some a → P
-none-some h = absurd (cc)
-
-pub is-some : {A : Type 0} (o : Option A) (a : A) → o ≡ Some a → IsSome o
-is-some None a h = none-some h
-is-some (Some b) a h = refl
-
-pub not-none : {A P : Type 0} (o : Option A) → IsSome o → o ≡ None → P
-not-none None some none = absurd (cc)
-not-none (Some a) some none = absurd (cc)
-
 -- a row that is of the job
 pub if_job-some : (j : ℕ) (o : Option JobRow) (r : JobRow) → if_job j o ≡ Some r → (o ≡ Some r) × (r.job ≡ j)
-if_job-some j None r h = none-some h
+if_job-some j None r h = absurd (none-some _ h)
 if_job-some j (Some x) r h = ⊎_elim
-    (λ (t : (x.job == j) ≡ true). let same : x ≡ r = some-same (rw t at h) in (ap (λ (y : JobRow). Some y) same, ap (λ (y : JobRow). y.job) (sym same) ∙ eqb-true x.job j t))
-    (λ (t : (x.job == j) ≡ false). none-some (rw t at h))
+    (λ (t : (x.job == j) ≡ true). let same : x ≡ r = same_Some _ _ (rw t at h) in (ap (λ (y : JobRow). Some y) same, ap (λ (y : JobRow). y.job) (sym same) ∙ eqb-true x.job j t))
+    (λ (t : (x.job == j) ≡ false). absurd (none-some _ (rw t at h)))
     (cases_Bool (x.job == j))
 
 pub if_job-is : (j : ℕ) (o : Option JobRow) (r : JobRow) → o ≡ Some r → r.job ≡ j → if_job j o ≡ Some r
@@ -50,8 +38,8 @@ pub waits : (d : ℕ) (r : JobRow) (j : ℕ) → waiting d (Some r) ≡ Some j �
 waits d r j h = ⊎_elim
     (λ (t : (is_ordered r.state && (r.device == d)) ≡ true).
     let parts = and_parts (is_ordered r.state) (r.device == d) t in
-    record { state = parts.0; device = eqb-true r.device d parts.1; job = some-same (rw t at h) })
-    (λ (t : (is_ordered r.state && (r.device == d)) ≡ false). none-some (rw t at h))
+    record { state = parts.0; device = eqb-true r.device d parts.1; job = same_Some _ _ (rw t at h) })
+    (λ (t : (is_ordered r.state && (r.device == d)) ≡ false). absurd (none-some _ (rw t at h)))
     (cases_Bool (is_ordered r.state && (r.device == d)))
 
 pub waiting-is : (d : ℕ) (r : JobRow) → is_ordered r.state ≡ true → r.device ≡ d → waiting d (Some r) ≡ Some r.job
@@ -83,7 +71,7 @@ module _ (rows : Jobs) (placed : ArePlaced rows) where
   pub row-inside : (k : ℕ) (r : JobRow) → row_in rows k ≡ Some r → k < length rows
   row-inside k r is = ⊎_elim
       (λ (lt : k < length rows). lt)
-      (λ (past : length rows ≤ k). none-some (sym (get_or_past rows k None past) ∙ is))
+      (λ (past : length rows ≤ k). absurd (none-some _ (sym (get_or_past rows k None past) ∙ is)))
       (cases_lt k (length rows))
 
   -- the number of a row is at most the last
@@ -125,7 +113,7 @@ module _ (rows : Jobs) (placed : ArePlaced rows) where
   -- there is no open job: no row waits
   pub unopened : (d k : ℕ) (r : JobRow) → open_in d rows ≡ None → row_in rows k ≡ Some r → is_ordered r.state ≡ true → r.device ≡ d
       → ((i : ℕ) → IsSome (waiting d (row_in rows i)) → i ≡ k) → ⊥
-  unopened d k r none is state device one = none-some (sym none ∙ opens d k r is state device one)
+  unopened d k r none is state device one = absurd (none-some _ (sym none ∙ opens d k r is state device one))
 
 module _ (rows : Jobs) (sound : AreSound rows) where
   pub waits-once : (d i k : ℕ) → IsSome (waiting d (row_in rows i)) → IsSome (waiting d (row_in rows k)) → i ≡ k
@@ -147,7 +135,7 @@ module _ (rows : Jobs) (sound : AreSound rows) where
           not-other j near most from same None at_j far = not-none (job_row rows j) (sound.joined.gapless j from most near) at_j
           not-other j near most from same (Some x) at_j far =
               let found = found-row rows j x at_j in
-              let is_r : x ≡ r = some-same (sym found.0 ∙ ap (row_in rows) (same ∙ at.cell) ∙ is) in
+              let is_r : x ≡ r = same_Some _ _ (sym found.0 ∙ ap (row_in rows) (same ∙ at.cell) ∙ is) in
               omega (arith, near, far, found.1, ap (λ (y : JobRow). y.job) is_r)
 
 -- the tops that all rows tell

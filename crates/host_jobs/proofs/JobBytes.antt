@@ -3,15 +3,14 @@ use Rattle.std.proofs.Common.{◌≡◌, ℕ, ◌+◌, ◌≤◌, List, [], ◌�
 use Rattle.std.proofs.Props.{props}
 use Rattle.std.proofs.Math.Logic.{∥∥₁_elim}
 use Rattle.std.specs.Prelude.{IfSome}
-use Rattle.std.proofs.lemmas.Bool.{eqb-true}
-use Rattle.std.proofs.lemmas.List.{drop_at, take_at, take-append-drop, drop-drop, drop-replicate, take_all, length-drop}
+use Rattle.std.proofs.lemmas.List.{drop_at, take_at, take-append-drop, drop-drop, drop-replicate, take_all, length-drop, nil_from_length}
 use Rattle.bench_base.specs.declared.words.JobState.{JobState}
 use Rattle.bench_base.specs.declared.words.JobState.TheVariants as state
 use Rattle.bench_base.specs.Table.{One, Two, Four, number, row, values, Fit, IsBytes}
 use Rattle.bench_base.proofs.Tables.{row-values, values-row, values-fit, length-row}
 use Rattle.indicium.specs.declared.Mark.{Mark}
 use Rattle.indicium.specs.Marks.{read_mark}
-use Rattle.psd_wire.proofs.Readings.{byte_of, let_through}
+use Rattle.psd_wire.proofs.Readings.{byte_of, mark_long}
 use Rattle.host_jobs.specs.declared.rows.JobRow.{JobRow}
 use Rattle.host_jobs.specs.Soundness.{IsSoundJob, Holds}
 use Rattle.host_jobs.specs.Payload.{state_byte, head_table, head, tops_table, head_part, tops_part, mark_part, job_bytes, JobFits, JobReadsAs}
@@ -26,10 +25,6 @@ end-of bytes l =
     let all : take 64 (drop 51 bytes) ≡ drop 51 bytes = take_all 64 (drop 51 bytes) (omega (arith, long)) in
     (all, ap length all ∙ long)
 
-pub mark-long : (x : List ℕ) (found : Mark × List ℕ) → read_mark x ≡ Ok found → length x ≡ 64
-unfolding read_mark
-mark-long x found e = eqb-true _ _ (let_through _ _ _ _ e).0
-
 zeros-unread : (found : Mark × List ℕ) → read_mark (replicate 64 0) ≡ Ok found → ⊥
 unfolding read_mark
 zeros-unread found e = cc
@@ -42,7 +37,7 @@ some64-prop : (x : List ℕ) → IsProp (IsSome64 x)
 some64-prop x = hlevel props
 
 pub mark-some : (r : JobRow) (x : List ℕ) → Holds r x → IsSome64 x
-mark-some r x h = ∥∥₁_elim h.mark (some64-prop x) (λ m. (λ zeros. zeros-unread (m.mark, m.code) (ap read_mark zeros ∙ m.reads), mark-long x (m.mark, m.code) m.reads))
+mark-some r x h = ∥∥₁_elim h.mark (some64-prop x) (λ m. (λ zeros. zeros-unread (m.mark, m.code) (ap read_mark zeros ∙ m.reads), mark_long x (m.mark, m.code) m.reads))
 
 pub marks-some : (r : JobRow) (o : Option (List ℕ)) → IfSome o (Holds r) → IfSome o IsSome64
 marks-some r None h = tt
@@ -186,13 +181,9 @@ laid head tops mark b1 b2 b3 lh lt lm e1 e2 e3 =
     ap (take 51) (s2 ∙ sym (append_assoc head tops (drop 51 b1))) ∙ take_at (head ++ tops) (drop 51 b1) 51 (omega (arith, length-append head tops, lh, lt)) in
     let long : length b2 ≤ 115 =
     omega (arith, ap length s2, length-append head (tops ++ drop 51 b1), length-append tops (drop 51 b1), length-drop 51 b1, ap length s1, length-append head (replicate 96 0), lh, lt) in
-    let end : drop (51 + length mark) b2 ≡ [] = nothing (drop (51 + length mark) b2) (omega (arith, length-drop (51 + length mark) b2, long, lm)) in
+    let end : drop (51 + length mark) b2 ≡ [] = nil_from_length (drop (51 + length mark) b2) (omega (arith, length-drop (51 + length mark) b2, long, lm)) in
     e3 ∙ ap₂ (λ x y. x ++ (mark ++ y)) front end ∙ append_assoc head tops (mark ++ []) ∙ ap (λ x. head ++ (tops ++ x)) (whole mark)
   where
-    nothing : (l : List ℕ) → length l ≡ 0 → l ≡ []
-    nothing [] h = refl
-    nothing (x ∷ l) h = absurd (omega (arith, h))
-
     whole : (l : List ℕ) → l ++ [] ≡ l
     whole [] = refl
     whole (x ∷ l) = ap (λ (y : List ℕ). x ∷ y) (whole l)

@@ -1,50 +1,32 @@
 -- What commits in the host's turn tell of its jobs: of each device one at most is open, its piece is above all that were held,
 -- and a job that is not closed is one of the last 1,024.
-use Rattle.std.proofs.Common.{◌≡◌, ◌≢◌, ℕ, ◌+◌, ◌-◌, ◌<◌, ◌≤◌, Bool, true, false, List, [], ◌∷◌, Option, Some, None, cond, ◌⊎◌, inl, inr, ⊎_elim, refl, sym, ap, subst, ◌∙◌, true≢false, arith}
+use Rattle.std.proofs.Common.{◌≡◌, ◌≢◌, ℕ, ◌+◌, ◌-◌, ◌<◌, ◌≤◌, true, false, List, [], ◌∷◌, Option, Some, None, ◌⊎◌, ⊎_elim, refl, sym, ap, subst, ◌∙◌, true≢false, arith}
 use Rattle.std.specs.Prelude.{◌==◌, max}
-use Rattle.std.proofs.lemmas.Bool.{eqb-true, eqb-false, cases_Bool, cases_lt, eq-eqb, ne_eqb}
+use Rattle.std.proofs.lemmas.Bool.{eqb-false, cases_Bool, cases_lt, eq-eqb, ne_eqb}
+use Rattle.std.proofs.lemmas.Option.{same_Some, none-some}
 use Rattle.bench_base.specs.declared.words.JobState.{JobState}
 use Rattle.bench_base.specs.declared.words.JobState.TheVariants as state
 use Rattle.bench_base.specs.declared.ledger.Commit.{Commit}
 use Rattle.bench_base.specs.declared.ledger.Commit.TheVariants.{Ordered, Held, Began, Closed}
-use Rattle.bench_base.specs.Rows.{first_of}
 use Rattle.bench_base.specs.Jobs.{Job, last_job, job_of, state_of, held_of, open_job, unless_job, piece_at, top}
+use Rattle.bench_base.proofs.Facts.{either, kept_first, first_of-none, none-if}
 use Rattle.host_jobs.specs.Answers.{is_open}
 use Rattle.host_jobs.specs.Turns.{InTurn}
-use Rattle.host_jobs.proofs.Found.{some-same, none-some}
-
--- the same number, or another
-pub either : (e d : ℕ) {P : Type 0} → ((e == d) ≡ true → e ≡ d → P) → ((e == d) ≡ false → P) → P
-either e d same other = ⊎_elim (λ (h : (e == d) ≡ true). same h (eqb-true e d h)) other (cases_Bool (e == d))
-
--- what was found stays
-kept-first : {A : Type 0} (t : Bool) (o : Option A) (a b : A) → o ≡ Some b → cond t (first_of o (Some a)) o ≡ Some b
-kept-first true o a b e = rw e refl
-kept-first false o a b e = e
-
--- what was not found before is found now
-first-new : {A : Type 0} (o : Option A) (b : Option A) → ((x : A) → o ≡ Some x → ⊥) → first_of o b ≡ b
-first-new None b h = refl
-first-new (Some x) b h = absurd (h x refl)
-
-pub none-if : {A : Type 0} (o : Option A) → ((x : A) → o ≡ Some x → ⊥) → o ≡ None
-none-if None h = refl
-none-if (Some x) h = absurd (h x refl)
 
 unless-other : (i : ℕ) (w : Option ℕ) (j : ℕ) → unless_job i w ≡ Some j → (w ≡ Some j) × (j ≢ i)
-unless-other i None j h = none-some h
+unless-other i None j h = absurd (none-some _ h)
 unless-other i (Some k) j h = ⊎_elim
-    (λ (t : (k == i) ≡ true). none-some (rw t at h))
-    (λ (t : (k == i) ≡ false). let is : k ≡ j = some-same (rw t at h) in (rw t at h, λ e. eqb-false k i t (is ∙ e)))
+    (λ (t : (k == i) ≡ true). absurd (none-some _ (rw t at h)))
+    (λ (t : (k == i) ≡ false). let is : k ≡ j = same_Some _ _ (rw t at h) in (rw t at h, λ e. eqb-false k i t (is ∙ e)))
     (cases_Bool (k == i))
 
 unless-keeps : (i j : ℕ) (w : Option ℕ) → w ≡ Some j → j ≢ i → unless_job i w ≡ Some j
 unless-keeps i j w is differs = ap (unless_job i) is ∙ (rw (ne_eqb j i differs) refl)
 
-at-most : (o : Option Job) (b : Job) (most e : ℕ) → o ≡ Some b → (b.device ≡ e → ⊥) → max (piece_at e o) most ≡ most
-at-most None b most e h apart = none-some h
+pub at-most : (o : Option Job) (b : Job) (most e : ℕ) → o ≡ Some b → (b.device ≡ e → ⊥) → max (piece_at e o) most ≡ most
+at-most None b most e h apart = absurd (none-some _ h)
 at-most (Some c) b most e h apart =
-    let same : c ≡ b = some-same h in
+    let same : c ≡ b = same_Some _ _ h in
     rw (ne_eqb c.device e (λ x. apart (ap (λ (z : Job). z.device) (sym same) ∙ x))) (omega arith)
 
 -- what an open job of device d is
@@ -72,7 +54,7 @@ pub record Facts (C : List Commit) : Type 0 where
 
 -- two states of one job are one
 apart : {P : Type 0} (j : ℕ) (C : List Commit) (s t : JobState) → state_of j C ≡ Some s → state_of j C ≡ Some t → (s ≡ t → P) → P
-apart j C s t is is' f = f (some-same (sym is ∙ is'))
+apart j C s t is is' f = f (same_Some _ _ (sym is ∙ is'))
 
 module _ (C : List Commit) (h : Facts C) where
   -- a new job
@@ -84,12 +66,12 @@ module _ (C : List Commit) (h : Facts C) where
     D = Ordered i f q a k ∷ C
 
     new-job : (j : ℕ) → (i == j) ≡ true → i ≡ j → job_of j D ≡ Some new
-    new-job j t y = rw t (first-new (job_of j C) (Some new) (λ b e. let le = h.job_le j b e in omega arith))
+    new-job j t y = rw t (first_of-none (job_of j C) (Some new) (λ b e. let le = h.job_le j b e in omega arith))
 
     new-open : (d j : ℕ) → open_job d D ≡ Some j → OpenJob d j D
     new-open d j o = either f d
         (λ t y.
-        let is : i ≡ j = some-same (rw t at o) in
+        let is : i ≡ j = same_Some _ _ (rw t at o) in
         record {
           at = new;
           job_is = new-job j (eq-eqb i j is) is;
@@ -102,7 +84,7 @@ module _ (C : List Commit) (h : Facts C) where
         let le = h.job_le j it.at it.job_is in
         record {
           at = it.at;
-          job_is = kept-first (i == j) (job_of j C) new it.at it.job_is;
+          job_is = kept_first (i == j) (job_of j C) new it.at it.job_is;
           device = it.device;
           fresh = it.fresh;
           state = rw (ne_eqb i j (λ e. omega arith)) it.state;
@@ -111,12 +93,12 @@ module _ (C : List Commit) (h : Facts C) where
     new-ordered : (j : ℕ) (b : Job) → state_of j D ≡ Some state.Ordered → job_of j D ≡ Some b → open_job b.device D ≡ Some j
     new-ordered j b s o = either i j
         (λ t y.
-        let is : new ≡ b = some-same (sym (new-job j t y) ∙ o) in
+        let is : new ≡ b = same_Some _ _ (sym (new-job j t y) ∙ o) in
         let device : f ≡ b.device = ap (λ (z : Job). z.device) is in
         rw (eq-eqb f b.device device) (ap (λ (z : ℕ). Some z) y))
         (λ t.
         let was = h.ordered_is j b (rw t at s) (rw t at o) in
-        rw (ne_eqb f b.device (λ e. none-some (sym idle ∙ ap (λ (z : ℕ). open_job z C) e ∙ was))) was)
+        rw (ne_eqb f b.device (λ e. absurd (none-some _ (sym idle ∙ ap (λ (z : ℕ). open_job z C) e ∙ was)))) was)
 
     new-past : (j : ℕ) → 1 ≤ j → j + 1024 ≤ last_job D → state_of j D ≡ Some state.Closed
     new-past j from far = rw (ne_eqb i j (λ e. omega arith)) (⊎_elim
@@ -131,7 +113,7 @@ module _ (C : List Commit) (h : Facts C) where
       open_is = new-open;
       state_le = λ j s o. either i j (λ t y. (omega arith, omega arith)) (λ t. let le = h.state_le j s (rw t at o) in (le.0, omega arith));
       job_le = λ j b o. either i j (λ t y. (omega arith, omega arith)) (λ t. let le = h.job_le j b (rw t at o) in (le.0, omega arith));
-      has_job = λ j le. either i j (λ t y. (new, new-job j t y)) (λ t. let differs = eqb-false i j t in let was = h.has_job j (le.0, omega (arith, le.1)) in (was.0, kept-first (i == j) (job_of j C) new was.0 was.1));
+      has_job = λ j le. either i j (λ t y. (new, new-job j t y)) (λ t. let differs = eqb-false i j t in let was = h.has_job j (le.0, omega (arith, le.1)) in (was.0, kept_first (i == j) (job_of j C) new was.0 was.1));
       has_state = λ j le. either i j (λ t y. (state.Ordered, rw t refl)) (λ t. let differs = eqb-false i j t in rw t (h.has_state j (le.0, omega (arith, le.1))));
       ordered_is = new-ordered;
       past = new-past;
@@ -156,7 +138,7 @@ module _ (C : List Commit) (h : Facts C) where
           device = it.device;
           fresh =
               let lt = it.fresh in
-              let is = at-most (job_of i C) b (top d C) d job_is (λ e. was.1 (some-same (sym was.0 ∙ ap (λ (z : ℕ). open_job z C) (sym e) ∙ open_is))) in
+              let is = at-most (job_of i C) b (top d C) d job_is (λ e. was.1 (same_Some _ _ (sym was.0 ∙ ap (λ (z : ℕ). open_job z C) (sym e) ∙ open_is))) in
               omega arith;
           state = rw (ne_eqb i j (λ e. was.1 (sym e))) it.state;
         }
@@ -169,7 +151,7 @@ module _ (C : List Commit) (h : Facts C) where
       has_job = h.has_job;
       has_state = λ j le. either i j (λ t y. (state.Held, rw t refl)) (λ t. rw t (h.has_state j le));
       ordered_is = λ j c s o. either i j
-          (λ t y. let bad : state.Held ≡ state.Ordered = some-same (rw t at s) in absurd (cc))
+          (λ t y. let bad : state.Held ≡ state.Ordered = same_Some _ _ (rw t at s) in absurd (cc))
           (λ t. unless-keeps i j (open_job c.device C) (h.ordered_is j c (rw t at s) o) (λ e. eqb-false i j t (sym e)));
       past = λ j from far. either i j
           (λ t y. apart i C state.Ordered state.Closed mine.state (subst (λ (z : ℕ). state_of z C ≡ Some state.Closed) (sym y) (h.past j from far)) (λ e. absurd (cc)))
@@ -178,7 +160,7 @@ module _ (C : List Commit) (h : Facts C) where
           (λ t e. subst (λ (z : ℕ). IsJob z C) e (h.state_le i state.Ordered mine.state))
           (λ t. h.held_le j y (rw t at o));
       unheld = λ j o. either i j
-          (λ t y. let bad : state.Held ≡ state.Ordered = some-same (rw t at o) in absurd (cc))
+          (λ t y. let bad : state.Held ≡ state.Ordered = same_Some _ _ (rw t at o) in absurd (cc))
           (λ t. rw t (h.unheld j (rw t at o)));
     }
 
@@ -200,14 +182,14 @@ module _ (C : List Commit) (h : Facts C) where
       has_job = h.has_job;
       has_state = λ j le. either i j (λ t y. (state.Begun, rw t refl)) (λ t. rw t (h.has_state j le));
       ordered_is = λ j c s o. either i j
-          (λ t y. let bad : state.Begun ≡ state.Ordered = some-same (rw t at s) in absurd (cc))
+          (λ t y. let bad : state.Begun ≡ state.Ordered = same_Some _ _ (rw t at s) in absurd (cc))
           (λ t. h.ordered_is j c (rw t at s) o);
       past = λ j from far. either i j
           (λ t y. apart i C state.Held state.Closed was_held (subst (λ (z : ℕ). state_of z C ≡ Some state.Closed) (sym y) (h.past j from far)) (λ e. absurd (cc)))
           (λ t. rw t (h.past j from far));
       held_le = h.held_le;
       unheld = λ j o. either i j
-          (λ t y. let bad : state.Begun ≡ state.Ordered = some-same (rw t at o) in absurd (cc))
+          (λ t y. let bad : state.Begun ≡ state.Ordered = same_Some _ _ (rw t at o) in absurd (cc))
           (λ t. h.unheld j (rw t at o));
     }
 
@@ -224,25 +206,25 @@ module _ (C : List Commit) (h : Facts C) where
       has_job = h.has_job;
       has_state = λ j le. either i j (λ t y. (state.Closed, rw t refl)) (λ t. rw t (h.has_state j le));
       ordered_is = λ j c t o. either i j
-          (λ e y. let bad : state.Closed ≡ state.Ordered = some-same (rw e at t) in absurd (cc))
+          (λ e y. let bad : state.Closed ≡ state.Ordered = same_Some _ _ (rw e at t) in absurd (cc))
           (λ e. unless-keeps i j (open_job c.device C) (h.ordered_is j c (rw e at t) o) (λ y. eqb-false i j e (sym y)));
       past = λ j from far. either i j (λ t y. rw t refl) (λ t. rw t (h.past j from far));
       held_le = h.held_le;
       unheld = λ j o. either i j
-          (λ t y. let bad : state.Closed ≡ state.Ordered = some-same (rw t at o) in absurd (cc))
+          (λ t y. let bad : state.Closed ≡ state.Ordered = same_Some _ _ (rw t at o) in absurd (cc))
           (λ t. h.unheld j (rw t at o));
     }
 
 no-facts : Facts []
 no-facts = record {
-  open_is = λ d j h. none-some h;
-  state_le = λ j s h. none-some h;
-  job_le = λ j b h. none-some h;
+  open_is = λ d j h. absurd (none-some _ h);
+  state_le = λ j s h. absurd (none-some _ h);
+  job_le = λ j b h. absurd (none-some _ h);
   has_job = λ j le. absurd (omega (arith, le.0, le.1));
   has_state = λ j le. absurd (omega (arith, le.0, le.1));
-  ordered_is = λ j b h o. none-some h;
+  ordered_is = λ j b h o. absurd (none-some _ h);
   past = λ j from far. absurd (omega arith);
-  held_le = λ j x h. none-some h;
+  held_le = λ j x h. absurd (none-some _ h);
   unheld = λ j h. refl;
 }
 

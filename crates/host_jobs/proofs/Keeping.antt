@@ -3,10 +3,12 @@ use Rattle.std.proofs.Common.{◌≡◌, ◌≢◌, ⊎_elim, ℕ, ◌+◌, ◌-
 use Rattle.std.specs.Prelude.{max, IfSome, if◌then◌else◌}
 use Rattle.std.proofs.lemmas.Bool.{cases_Bool, cases_eq, cases_lt, eq-eqb, ne_eqb}
 use Rattle.std.proofs.lemmas.List.{get_or-set_same, get_or-set_other, get_or_past, get_or-replicate}
+use Rattle.std.proofs.lemmas.Option.{same_Some, none-some}
 use Rattle.bench_base.specs.declared.words.JobState.{JobState}
 use Rattle.bench_base.specs.declared.words.JobState.TheVariants as state
 use Rattle.bench_base.specs.Jobs.{cell_of, unless_job}
 use Rattle.bench_base.specs.Ranges.{IsDevice}
+use Rattle.bench_base.proofs.Facts.{is-some, not-none}
 use Rattle.node_acts.specs.RowLaws.{listed_at, listed_long}
 use Rattle.host_jobs.specs.declared.rows.JobRow.{JobRow}
 use Rattle.host_jobs.specs.declared.kept.Kept.{Kept}
@@ -16,7 +18,7 @@ use Rattle.host_jobs.specs.declared.sizes.TheConstants.{HOST_CELLS}
 use Rattle.host_jobs.specs.Rows.{Jobs, no_jobs, number_in, top_at, is_ordered, waiting, state_in, row_in, put_row, last_in, top_in, open_in, oldest_in, tops_in, opens_in, kept_of, opened_by, kept_after}
 use Rattle.host_jobs.specs.Soundness.{IsSoundJob, IsJobAt, IsFresh, AreSound, Comes, IsNext, IsKept}
 use Rattle.host_jobs.proofs.Lists.{greatest-least, found-none, found-set}
-use Rattle.host_jobs.proofs.Found.{none-some, some-same, is-some, not-none, waiting-is, not-waiting, not-device, waits, opens, opens-none, opened, row-at, tops-at}
+use Rattle.host_jobs.proofs.Found.{waiting-is, not-waiting, not-device, waits, opens, opens-none, opened, row-at, tops-at}
 use Rattle.host_jobs.proofs.Puts.{put-here, put-other, put-last, put-top}
 use Rattle.host_jobs.proofs.Walks.{tops-are, opens-are}
 
@@ -84,7 +86,7 @@ module _ (rows : Jobs) (x : JobRow) (sound : AreSound rows) (next : IsNext rows 
   open-ends : (r : JobRow) → is_ordered x.state ≡ false → row_in rows cell ≡ Some r → is_ordered r.state ≡ true → r.device ≡ x.device → open_in x.device after ≡ None
   open-ends r state at waits device = opens-none after next.sound.placed x.device (λ k y at_k waits_k device_k. ⊎_elim
       (λ (is : k ≡ cell).
-      let same : x ≡ y = some-same (sym (put-here rows sound.placed x) ∙ ap (row_in after) (sym is) ∙ at_k) in
+      let same : x ≡ y = same_Some _ _ (sym (put-here rows sound.placed x) ∙ ap (row_in after) (sym is) ∙ at_k) in
       true≢false (sym waits_k ∙ ap (λ (z : JobRow). is_ordered z.state) (sym same) ∙ state))
       (λ (differs : k ≢ cell).
       differs (sound.joined.once x.device k cell
@@ -107,7 +109,7 @@ module _ (rows : Jobs) (x : JobRow) (sound : AreSound rows) (next : IsNext rows 
   open-stays state none =
       unless-same x.job (open_in x.device rows) (λ has.
       let it = opened rows sound.placed x.device x.job has in
-      none-some (sym none ∙ ap (waiting x.device) it.is ∙ waiting-is x.device it.row it.waits.state it.waits.device))
+      absurd (none-some _ (sym none ∙ ap (waiting x.device) it.is ∙ waiting-is x.device it.row it.waits.state it.waits.device)))
       ∙ sym (found-set (waiting x.device) rows cell (Some x) None (not-waiting x.device x state ∙ sym none))
 
   open-moved : is_ordered x.state ≡ false → (o : Option JobRow) → row_in rows cell ≡ o → unless_job x.job (open_in x.device rows) ≡ open_in x.device after

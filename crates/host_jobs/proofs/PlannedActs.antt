@@ -2,6 +2,7 @@
 use Rattle.std.proofs.Common.{◌≡◌, ℕ, ◌+◌, ◌-◌, ◌≤◌, Bool, true, false, List, [], ◌∷◌, Option, Some, None, Result, Ok, Err, refl, sym, ap, ◌∙◌}
 use Rattle.std.specs.Prelude.{◌&&◌, nat_le, if◌then◌else◌}
 use Rattle.std.proofs.lemmas.Bool.{leb-true}
+use Rattle.std.proofs.lemmas.Option.{none-some}
 use Rattle.bench_base.specs.declared.words.JobState.{JobState}
 use Rattle.bench_base.specs.declared.words.JobState.TheVariants as state
 use Rattle.bench_base.specs.declared.refusals.Unread.{Unread}
@@ -30,7 +31,7 @@ use Rattle.host_jobs.specs.Rows.{Jobs, job_in, row_in, job_row, open_in}
 use Rattle.host_jobs.specs.Soundness.{AreSound}
 use Rattle.host_jobs.specs.Acts.{shelf_in, ordered_act, order_act, moved, unless, sent_act, begun_act, printed_act, closed_act, held_row, held_act, open_act, mark_act, message_act}
 use Rattle.host_jobs.specs.ActLaws.{act_plan, AreRowsOf, ActsArePlanned}
-use Rattle.host_jobs.proofs.Found.{none-some, if_job-is, opened}
+use Rattle.host_jobs.proofs.Found.{if_job-is, opened}
 use Rattle.host_jobs.proofs.ByRows.{Tells, tells, last-is, top-is, open-is, oldest-is, shown-in, shown-out}
 
 -- == order ==
@@ -128,7 +129,7 @@ module _ (rows : Jobs) (C : List Commit) (sound : AreSound rows) (are : AreRowsO
       → act_plan (λ i. r.Held i) (λ i. []) (held_act x k o rows) ≡ answers.hold_job x k j (job_of j C)
   held-plan x k j has None at it =
       let row = opened rows sound.placed k.device j has in
-      none-some (sym at ∙ if_job-is j (row_in rows (cell_of j)) row.row row.is row.waits.job)
+      absurd (none-some _ (sym at ∙ if_job-is j (row_in rows (cell_of j)) row.row row.is row.waits.job))
   held-plan x k j has (Some y) at it =
       held-by x j y (hold_answer k y.piece y.postage y.class) it.1.number ∙ ap (λ (b : Option Job). answers.hold_job x k j b) (sym it.1.job)
 

@@ -3,15 +3,17 @@ use Rattle.std.proofs.Common.{◌≡◌, ◌≢◌, ◌⊎◌, inl, inr, ℕ, �
 use Rattle.std.specs.Prelude.{max, IfSome, IsSome}
 use Rattle.std.proofs.lemmas.Bool.{cases_eq}
 use Rattle.std.proofs.lemmas.List.{get_or-set_same, get_or-set_other}
+use Rattle.std.proofs.lemmas.Option.{same_Some, none-some}
 use Rattle.bench_base.specs.declared.words.JobState.TheVariants as state
 use Rattle.bench_base.specs.Jobs.{cell_of}
 use Rattle.bench_base.specs.Ranges.{IsDevice}
+use Rattle.bench_base.proofs.Facts.{is-some, not-none}
 use Rattle.host_jobs.specs.declared.rows.JobRow.{JobRow}
 use Rattle.host_jobs.specs.Rows.{Jobs, number_in, top_at, is_ordered, waiting, row_in, put_row, if_job, job_row, last_in, top_in, open_in}
 use Rattle.host_jobs.specs.Soundness.{IsSoundJob, IsJobAt, IsFresh, ArePlaced, AreSound, Comes, IsNext}
 use Rattle.host_jobs.proofs.Lists.{greatest-set}
 use Rattle.host_jobs.proofs.Cells.{cell-lt, cell-one}
-use Rattle.host_jobs.proofs.Found.{some-same, none-some, is-some, not-none, if_job-is, some-waits, not-waiting, waiting-is, row-at, row-last, row-top, waits-once, row-near, opens}
+use Rattle.host_jobs.proofs.Found.{if_job-is, some-waits, not-waiting, waiting-is, row-at, row-last, row-top, waits-once, row-near, opens}
 
 module _ (rows : Jobs) (placed : ArePlaced rows) (x : JobRow) where
   pub put-here : row_in (put_row rows x) (cell_of x.job) ≡ Some x
@@ -167,14 +169,14 @@ module _ (rows : Jobs) (sound : AreSound rows) (x : JobRow) (new : Begins rows x
   alone : (d k : ℕ) → IsSome (waiting d (row_in rows k)) → d ≢ x.device
   alone d k some same =
       let it = some-waits d (row_in rows k) some in
-      none-some (sym (ap (λ (e : ℕ). open_in e rows) same ∙ new.idle) ∙ opens rows all-placed d k it.0 it.1 it.2.state it.2.device (λ i other. waits-once rows sound d i k other some))
+      absurd (none-some _ (sym (ap (λ (e : ℕ). open_in e rows) same ∙ new.idle) ∙ opens rows all-placed d k it.0 it.1 it.2.state it.2.device (λ i other. waits-once rows sound d i k other some)))
 
   -- where one waits, in its own cell or in another
   waits-where : (d k : ℕ) → IsSome (waiting d (row_in (put_row rows x) k)) → ((k ≡ cell) × (d ≡ x.device)) ⊎ ((k ≢ cell) × IsSome (waiting d (row_in rows k)))
   waits-where d k some = ⊎_elim
       (λ (here : k ≡ cell).
       let it = some-waits d (row_in (put_row rows x) k) some in
-      let same : it.0 ≡ x = some-same (sym it.1 ∙ ap (row_in (put_row rows x)) here ∙ put-here rows all-placed x) in
+      let same : it.0 ≡ x = same_Some _ _ (sym it.1 ∙ ap (row_in (put_row rows x)) here ∙ put-here rows all-placed x) in
       inl (here, sym it.2.device ∙ ap (λ (y : JobRow). y.device) same))
       (λ (differs : k ≢ cell). inr (differs, subst (λ (o : Option JobRow). IsSome (waiting d o)) (put-other rows all-placed x k differs) some))
       (cases_eq k cell)

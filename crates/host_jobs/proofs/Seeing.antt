@@ -3,6 +3,7 @@ use Rattle.std.proofs.Common.{◌≡◌, ◌≢◌, ℕ, ◌+◌, ◌<◌, Bool,
 use Rattle.std.specs.Prelude.{option_map, if◌then◌else◌}
 use Rattle.std.proofs.lemmas.Bool.{cases_Bool, eq-eqb, ne_eqb}
 use Rattle.std.proofs.lemmas.List.{get_or-map, length-map, get_or-set_same}
+use Rattle.std.proofs.lemmas.Option.{none-some}
 use Rattle.bench_base.specs.declared.words.Node.TheVariants.{Host}
 use Rattle.bench_base.specs.declared.words.JobState.{JobState}
 use Rattle.bench_base.specs.declared.ledger.Commit.{Commit}
@@ -22,7 +23,6 @@ use Rattle.host_jobs.specs.Seen.{rows_in}
 use Rattle.host_jobs.specs.SeenLaws.{SeenLaws}
 use Rattle.host_jobs.specs.Turns.{InTurn}
 use Rattle.host_jobs.proofs.Cells.{cell-lt}
-use Rattle.host_jobs.proofs.Found.{none-some}
 use Rattle.host_jobs.proofs.JobFacts.{Facts, IsJob, facts, open-state}
 
 row-back : (n : ℕ) (o : Option JobRow) → row_of (option_map (λ r. (n, r)) o) ≡ o
@@ -50,7 +50,7 @@ abbrev Counted : ℕ → List Commit → Type 0
 Counted k C = commits_at (cell_after k C) ≡ cells.commits_at (OfJob k) C
 
 counted-some : (n : ℕ) (o : Option JobRow) (r : JobRow) → o ≡ Some r → commits_at (option_map (λ x. (n, x)) o) ≡ n
-counted-some n None r h = none-some h
+counted-some n None r h = absurd (none-some _ h)
 counted-some n (Some x) r h = refl
 
 -- a commit of job i, and a cell

@@ -3,6 +3,7 @@ use Rattle.std.proofs.Common.{◌≡◌, ◌≢◌, inl, inr, ℕ, ◌+◌, ◌-
 use Rattle.std.specs.Prelude.{max, IfSome}
 use Rattle.std.proofs.lemmas.Bool.{cases_eq}
 use Rattle.std.proofs.lemmas.List.{get_or-set_same, get_or-set_other, length-set}
+use Rattle.std.proofs.lemmas.Option.{same_Some}
 use Rattle.bench_base.specs.declared.words.JobState.{JobState}
 use Rattle.bench_base.specs.declared.words.JobState.TheVariants as state
 use Rattle.bench_base.specs.declared.refusals.Unread.{Unread}
@@ -28,7 +29,7 @@ use Rattle.host_jobs.specs.Soundness.{IsMarked, Holds, IsSoundJob, AreSound, IsN
 use Rattle.host_jobs.specs.Acts.{HostAct, shelf_in, ordered_row, ordered_act, order_act, moved, unless, sent_act, begun_act, printed_act, closed_act, raised, held_row, held_act, open_act, mark_act, message_act}
 use Rattle.host_jobs.specs.ActLaws.{LeavesSound, IsPrice, ActsLeaveSound}
 use Rattle.host_jobs.proofs.Cells.{cell-next}
-use Rattle.host_jobs.proofs.Found.{some-same, Waits, found-row, row-at, row-top, opened, tops-at}
+use Rattle.host_jobs.proofs.Found.{Waits, found-row, row-at, row-top, opened, tops-at}
 use Rattle.host_jobs.proofs.Answered.{OrderOk, order-ok, HoldOk, hold-ok, is-closed, no-room}
 use Rattle.host_jobs.proofs.Puts.{on-next, Begins, new-next, oldest-closed}
 
@@ -205,7 +206,7 @@ module _ (rows : Jobs) (sound : AreSound rows) where
   held-leaves x k reads j open_is None at = tt
   held-leaves x k reads j open_is (Some r) at =
       let it = opened rows sound.placed k.0.device j open_is in
-      let same : it.row ≡ r = some-same (sym it.is ∙ (found-row rows j r at).0) in
+      let same : it.row ≡ r = same_Some _ _ (sym it.is ∙ (found-row rows j r at).0) in
       holds j r at x k reads (subst (λ (y : JobRow). Waits k.0.device y j) same it.waits) (hold_answer k.0 r.piece r.postage r.class) refl
 
   open-leaves : (x : List ℕ) (k : Mark × List ℕ) → read_mark x ≡ Ok k → (o : Option ℕ) → open_in k.0.device rows ≡ o → LeavesSound rows (open_act x k.0 o rows)

@@ -3,14 +3,16 @@ use Rattle.std.proofs.Common.{◌≡◌, ◌≢◌, ℕ, ◌+◌, ◌-◌, ◌<�
 use Rattle.std.specs.Prelude.{max, IfSome, IsSome}
 use Rattle.std.proofs.lemmas.Bool.{cases_eq, cases_lt}
 use Rattle.std.proofs.lemmas.List.{take_more, take_all, get_or-take, get_or_past, length-take}
+use Rattle.std.proofs.lemmas.Option.{same_Some}
 use Rattle.bench_base.specs.Ranges.{IsDevice}
 use Rattle.bench_base.specs.Rows.{first_of}
+use Rattle.bench_base.proofs.Facts.{is-some, not-none}
 use Rattle.node_acts.specs.RowLaws.{listed_is}
 use Rattle.host_jobs.specs.declared.rows.JobRow.{JobRow}
 use Rattle.host_jobs.specs.Rows.{Jobs, is_ordered, waiting, row_in, greatest, first_found, top_in, open_in, tops_in, opens_in}
 use Rattle.host_jobs.specs.Soundness.{IsFresh, WaitOnce, AreFresh}
 use Rattle.host_jobs.proofs.Lists.{greatest-snoc, found-none, found-snoc, found-nothing}
-use Rattle.host_jobs.proofs.Found.{is-some, not-none, waiting-is, some-waits, tops-at}
+use Rattle.host_jobs.proofs.Found.{waiting-is, some-waits, tops-at}
 
 module _ (rows : Jobs) (n : ℕ) (inside : n < length rows) where
   pub greatest-more : (f : Option JobRow → ℕ) → greatest f (take (n + 1) rows) ≡ max (greatest f (take n rows)) (f (row_in rows n))
@@ -51,14 +53,11 @@ module _ (rows : Jobs) (n : ℕ) (inside : n < length rows) where
     pub once-row : OnceBelow rows n → (is_ordered r.state ≡ true → open_in r.device (take n rows) ≡ None) → OnceBelow rows (n + 1)
     once-row below idle = once-more rows n below (λ d i lt some some'.
         let it = some-waits d (row_in rows n) some in
-        let same : it.0 ≡ r = one (sym it.1 ∙ at) in
+        let same : it.0 ≡ r = same_Some _ _ (sym it.1 ∙ at) in
         let device : r.device ≡ d = ap (λ (y : JobRow). y.device) (sym same) ∙ it.2.device in
         let none : open_in d (take n rows) ≡ None = ap (λ (e : ℕ). open_in e (take n rows)) (sym device) ∙ idle (ap (λ (y : JobRow). is_ordered y.state) (sym same) ∙ it.2.state) in
         not-none (waiting d (row_in rows i)) some'
         (ap (waiting d) (sym (get_or-take n rows i None lt)) ∙ found-nothing (waiting d) (take n rows) None refl none i))
-      where
-        one : {A : Type 0} {a b : A} → Some a ≡ Some b → a ≡ b
-        one h = cc
 
     -- where the rows agree, it has none, and its piece is above the top
     pub fits-row : WaitOnce rows → AreFresh rows → is_ordered r.state ≡ true → (open_in r.device (take n rows) ≡ None) × (top_in r.device rows < r.piece)

@@ -1,7 +1,7 @@
 -- What a commit of a job leaves.
 use Rattle.std.proofs.Common.{◌≡◌, ◌≢◌, ◌⊎◌, inl, inr, ℕ, ◌<◌, List, Option, Some, Bool, Ok, Err, IsErrOf, true, false, refl, sym, ◌∙◌, ap, subst, arith}
 use Rattle.std.specs.Prelude.{IfSome}
-use Rattle.std.proofs.lemmas.Bool.{cases_eq}
+use Rattle.std.proofs.lemmas.Bool.{cases_eq, false_from_ne_true}
 use Rattle.bench_base.specs.declared.refusals.StoreFail.{StoreFail}
 use Rattle.bench_base.specs.declared.refusals.StoreFail.TheVariants.{Power, Fault, Worn, Failed}
 use Rattle.bench_base.specs.declared.sizes.TheConstants.{MOST_COMMITS}
@@ -12,7 +12,6 @@ use Rattle.nv_store.specs.Store.{Between, Causes, count_of}
 use Rattle.nv_store.specs.Turns.{Spent}
 use Rattle.node_seat.specs.Does.{Commits}
 use Rattle.node_seat.specs.Ends.{end_of_commit, leaves_running}
-use Rattle.node_seat.proofs.Called.{not_worn}
 use Rattle.nv_store.specs.RoomView.{cells_of, kept_in}
 use Rattle.nv_store.specs.Rooms.{RoomPuts}
 use Rattle.nv_store.specs.declared.room.Room.{Room}
@@ -60,7 +59,7 @@ module _ {N : Type 0} {g : Ghosts N} (k : HostNode N g) (x : JobRow) where
   pub worn_by : (r : Bool) → (r ≡ true → count_of (kept_in k.room (cell_of x)) ≡ MOST_COMMITS) → (r ≡ false → count_of (kept_in k.room (cell_of x)) < MOST_COMMITS)
       → r ≡ is_worn (seen_in k) (cell_of x)
   worn_by true most less = sym (full (most refl))
-  worn_by false most less = sym (not_worn (is_worn (seen_in k) (cell_of x)) (λ worn. omega (arith, less refl, count_here, (worn_is (seen_in k) (cell_of x)).0 worn)))
+  worn_by false most less = sym (false_from_ne_true (is_worn (seen_in k) (cell_of x)) (λ worn. omega (arith, less refl, count_here, (worn_is (seen_in k) (cell_of x)).0 worn)))
 
   -- a commit to a cell that is not worn does not answer Worn
   module _ (fresh : is_worn (seen_in k) (cell_of x) ≡ false) (fail : StoreFail) (before now : Meters)

@@ -1,10 +1,10 @@
 -- That the host meets the laws of a node.
-use Rattle.std.proofs.Common.{◌≡◌, inl, inr, ℕ, ◌+◌, ◌≤◌, List, Option, Some, false, ◌==◌, sym, ◌∙◌, ap, subst, arith}
+use Rattle.std.proofs.Common.{◌≡◌, inl, inr, ℕ, ◌+◌, ◌≤◌, List, Option, Some, false, sym, ◌∙◌, ap, subst, arith}
 use Rattle.std.proofs.Props.{props}
 use Rattle.std.proofs.Math.Logic.{∥∥₁_elim}
 use Rattle.std.proofs.lemmas.Bool.{cases_eq}
-use Rattle.std.proofs.lemmas.Bool.Decides.{nat_tests}
 use Rattle.bench_base.specs.declared.sizes.TheConstants.{MOST_COMMITS}
+use Rattle.bench_base.proofs.Facts.{few_more}
 use Rattle.nv_model.specs.declared.nv.Nv.{Ghosts}
 use Rattle.node_acts.specs.RowList.{row_at, commits_at, put}
 use Rattle.node_acts.specs.RowLaws.{put_long, put_here, put_other, put_counts}
@@ -27,9 +27,6 @@ reads_one k x y p reads reads' = ∥∥₁_elim reads.1 (job_set x y) (λ a. ∥
 
 pub one_shown : (a b : Seen) (c : List ℕ) → IsSound a → IsSound b → IsShown a c → IsShown b c → a ≡ b
 one_shown a b c sound sound' shown shown' = table.one_shown JOB_BYTES HOST_CELLS IsPayloadOf reads_one a b c sound.long sound'.long shown shown'
-
-few_more : (count : ℕ) → count ≤ MOST_COMMITS → (count == MOST_COMMITS) ≡ false → count + 1 ≤ MOST_COMMITS
-few_more count few fresh = grind (arith, nat_tests)
 
 pub keeps : (s : Seen) (x : JobRow) → IsSound s → IsFit s x → counting.is_worn s x ≡ false → IsSound (counting.after s x)
 keeps s x sound fits fresh = record {

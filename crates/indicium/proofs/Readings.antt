@@ -12,6 +12,7 @@ use Rattle.hmac_core.proofs.Codes.{length-hmac}
 use Rattle.indicium.specs.declared.Mark.{Mark}
 use Rattle.bench_base.specs.declared.refusals.MarkFault.{MarkFault}
 use Rattle.bench_base.specs.declared.refusals.MarkFault.TheVariants.{Length, Version, Algorithm}
+use Rattle.bench_base.proofs.Facts.{ok-same, known, known_is}
 use Rattle.indicium.specs.Marks.{mark_fields, mark_table, mark_values, mark_from, body, spell, IsWhole, mark_at, read_mark, ReadsAs, IsSpelled}
 
 -- a fact of each of the two tables
@@ -70,12 +71,6 @@ values-from v bytes a h =
     (λ fit. values-again _ _ _ _ _ _ _ _ _ _ (second_number bytes ∙ a) fit.1.1.1.1.1.1.1.0)
     (λ fit. values-again _ _ _ _ _ _ _ _ _ _ (second_number bytes ∙ a) fit.1.1.1.1.1.1.1.0)
     (values-fit (mark_table v) 0 bytes h)
-
-known : (v : ℕ) → is_version v ≡ true → IsVersion v
-known v h = grind arith
-
-known_is : (v : ℕ) → IsVersion v → is_version v ≡ true
-known_is v h = grind arith
 
 pub body-mark_at : (bytes : List ℕ) → length bytes ≡ 64 → is_version (get_or bytes 0 0) ≡ true → get_or bytes 1 0 ≡ 1 → IsBytes bytes
     → IsWhole (mark_at bytes) × (body (mark_at bytes) ≡ take 32 bytes)
@@ -142,7 +137,7 @@ read-spell m key w = read_mark-spell m (hmac key (body m)) w (length-hmac key (b
 
 -- == what the public calls promise, of the list alone ==
 
-if_ok : {A F : Type 0} (r : Result A F) (P : A → Type 0) → ((x : A) → r ≡ Ok x → P x) → IfOk r P
+pub if_ok : {A F : Type 0} (r : Result A F) (P : A → Type 0) → ((x : A) → r ≡ Ok x → P x) → IfOk r P
 if_ok (Ok x) P h = h x refl
 if_ok (Err e) P h = tt
 
@@ -169,19 +164,16 @@ pub algorithm-fault : (bytes : List ℕ) → IsErrOf (read_mark bytes) (Algorith
 unfolding read_mark
 algorithm-fault bytes = grind arith
 
-right : {A F : Type 0} {a b : A} → ◌≡◌ {A = Result A F} (Ok a) (Ok b) → a ≡ b
-right h = cc
-
 -- no two marks have one spelling
 pub one-spelling : (m n : Mark) (key : List ℕ) → IsWhole m → IsWhole n → spell m key ≡ spell n key → m ≡ n
 one-spelling m n key v w e =
     let same : ◌≡◌ {A = Result (Mark × List ℕ) MarkFault} (Ok (m, hmac key (body m))) (Ok (n, hmac key (body n))) = sym (read-spell m key v) ∙ ap read_mark e ∙ read-spell n key w in
-    ap (λ (x : Mark × List ℕ). x.0) (right same)
+    ap (λ (x : Mark × List ℕ). x.0) (ok-same same)
 
 pub one-reading : (bytes : List ℕ) (m n : Mark) (c d : List ℕ) → ReadsAs bytes m c → ReadsAs bytes n d → (m ≡ n) × (c ≡ d)
 one-reading bytes m n c d r s =
     let same : ◌≡◌ {A = Result (Mark × List ℕ) MarkFault} (Ok (m, c)) (Ok (n, d)) = sym (only bytes m c r) ∙ only bytes n d s in
-    (ap (λ (x : Mark × List ℕ). x.0) (right same), ap (λ (x : Mark × List ℕ). x.1) (right same))
+    (ap (λ (x : Mark × List ℕ). x.0) (ok-same same), ap (λ (x : Mark × List ℕ). x.1) (ok-same same))
 
 -- what is read and has its code is some mark's spelling, and the other way round
 pub genuine : (bytes key : List ℕ) (x : Mark × List ℕ) → IsBytes bytes → read_mark bytes ≡ Ok x → drop 32 bytes ≡ hmac key (take 32 bytes) → IsSpelled bytes key

@@ -3,7 +3,7 @@
 use Rattle.std.proofs.Common.{◌≡◌, ℕ, pos, ◌+◌, ◌<◌, ◌≤◌, ◌+ℤ◌, Bool, true, false, List, [], ◌∷◌, Option, Some, None, Result, Ok, Err, cond, refl, sym, ap, subst, ◌∙◌, true≢false, arith, FitsSigned}
 use Rattle.std.specs.Prelude.{◌==◌, ◌&&◌, ◌||◌, nat_lt, nat_le, bytes_eq}
 use Rattle.std.specs.Int.{w32}
-use Rattle.std.proofs.lemmas.Bool.{eqb-true, eqb-false, ltb-false, ltb-true, leb-false, not-false, eq-eqb, and_parts}
+use Rattle.std.proofs.lemmas.Bool.{eqb-true, eqb-false, ltb-false, ltb-true, leb-false, not-false, eq-eqb, and_parts, or_parts}
 use Rattle.std.proofs.lemmas.Slice.Eq.{bytes_eq-Decides}
 use Rattle.bench_base.specs.declared.words.Node.TheVariants.{Centre}
 use Rattle.bench_base.specs.declared.words.Kind.TheVariants.{Reset}
@@ -40,10 +40,12 @@ use Rattle.centre_ledger.specs.Answers as centre
 use Rattle.centre_ledger.specs.Answers.{last_ruling}
 use Rattle.ledger_moves.specs.Histories.{IsKnown}
 use Rattle.ledger_lawful.specs.Sane.{IsSaneCentre, is_imbalance}
-use Rattle.law_good.proofs.Basics.{some-same, some-none, or_false, chosen, first, first-that, none-holds, either}
+use Rattle.law_good.proofs.Basics.{chosen, first, first-that, none-holds}
 use Rattle.std.specs.Prelude.{min}
 use Rattle.std.proofs.Math.Nat.{min-le_right, min-eq_left}
+use Rattle.std.proofs.lemmas.Option.{same_Some, none-some}
 use Rattle.bench_base.specs.Table.{Four, Eight, IsNumber}
+use Rattle.bench_base.proofs.Facts.{some-none, either}
 use Rattle.psd_wire.specs.Grammar.{sum_size}
 use Rattle.ledger_terms.specs.Rulings.{written_amount}
 use Rattle.law_plans.proofs.Whole.{whole-reply, deadline_signed, no_deadline}
@@ -56,9 +58,6 @@ use Rattle.law_money.proofs.Customers.{granted-rows, AllRefuse}
 use Rattle.law_money.proofs.Requests.{Shown, new-shown, never-imbalance, ruling-sane}
 use Rattle.law_good.proofs.Grown.{Inv, GenuineReply, genuine-at, reply-kept, inv-sent}
 use Rattle.law_plans.proofs.Plans.{PlanOk, IsFit, ok-refuse, ok-made}
-
-none-some : {A : Type 0} {a : A} {P : Type 0} → None ≡ Some a → P
-none-some h = absurd (cc)
 
 request_in-read : (note : List ℕ) (q : Request) → read note ≡ Ok (m.Request q) → request_in note ≡ q
 unfolding request_in
@@ -136,11 +135,11 @@ module _ (ρ : Rules) where
 
   -- the stored Reply reads as one that the ruling vouches for
   stored-vouched : (d : ℕ) (x : List ℕ) (C : List Commit) → Good ρ C → stored_reply d C ≡ Some x → StoredReply x C
-  stored-vouched d x [] g h = none-some h
+  stored-vouched d x [] g h = absurd (none-some _ h)
   stored-vouched d x (c.Ruled f n v note ∷ C) g h = either f d
       (λ t s.
       let it = note-reads ρ f n note C g.1 g.0.asked_as in
-      let is : reply_note C (request_in note) ≡ x = some-same (rw t at h) in
+      let is : reply_note C (request_in note) ≡ x = same_Some _ _ (rw t at h) in
       let next = g.0.next in
       let q = request_in note in
       record {
@@ -168,7 +167,7 @@ module _ (ρ : Rules) (H : Ledger) (i : Inv ρ H) (on : is_on Centre H ≡ true)
   flag-ok w s range false has = no-ok (no.UnknownCustomer w) tt
 
   pub balance-ok : (w n : ℕ) (t : Bool) → PlanOk ρ H (centre.balance_plan w n t)
-  balance-ok w n true = record { sane = tt; plain = refl; no_up = λ l k h. refl; fit = λ x h. none-some h; keeps = λ j. j }
+  balance-ok w n true = record { sane = tt; plain = refl; no_up = λ l k h. refl; fit = λ x h. absurd (none-some _ h); keeps = λ j. j }
   balance-ok w n false = no-ok (no.UnknownCustomer w) tt
 
   pub deposit-ok : (w n a : ℕ) → IsCustomer w → IsWord n → IsWord a → (t : Bool) → opened w (counted H) ≡ t → PlanOk ρ H (centre.deposit_plan w n a (receipt w (counted H)) (deposits w (counted H)) t)
@@ -180,12 +179,12 @@ module _ (ρ : Rules) (H : Ledger) (i : Inv ρ H) (on : is_on Centre H ≡ true)
       let P = λ (z : Result (Option ℕ) CentreRefusal). PlanOk ρ H (centre.deposit_act w n a sum z) in
       chosen P ((n == last.0) && nat_lt 0 n) _ _
       (λ _. chosen P (a == last.1) (Ok None) (Err (no.Conflict last.1))
-      (λ _. record { sane = tt; plain = refl; no_up = λ l k h. refl; fit = λ x h. none-some h; keeps = λ j. j })
+      (λ _. record { sane = tt; plain = refl; no_up = λ l k h. refl; fit = λ x h. absurd (none-some _ h); keeps = λ j. j })
       (λ _. no-ok (no.Conflict last.1) tt))
       (λ _. first P (centre.deposit_rows last sum n a) (Ok (Some (sum + a)))
       (no-ok (no.WrongReceipt last.0) tt, (no-ok (no.BadAmount a) tt, (no-ok (no.DepositsFull sum) tt, tt)))
       (λ rows.
-      let amount = or_false (a == 0) (nat_lt 1000000000 a) rows.1.0 in
+      let amount = or_parts (a == 0) (nat_lt 1000000000 a) rows.1.0 in
       let some : a ≡ 0 → ⊥ = eqb-false a 0 amount.0 in
       ok-made ρ H (r.Deposited w n false (sum + a)) (c.Deposited w n a) refl tt (λ l k h. absurd (cc)) (record {
         fits = record {
@@ -211,7 +210,7 @@ module _ (ρ : Rules) (H : Ledger) (i : Inv ρ H) (on : is_on Centre H ≡ true)
       let asked : note_of q.device q.number C ≡ Some bytes = genuine-at bytes (m.Request q) H C (i.sents bytes sent) reads in
       let one = ruling-asked ρ q.device (ruled q.device C) last.0 C i.good (last-is ρ q.device last.0 C i.good last.1) in
       let two = subst (λ z. note_of q.device z C ≡ Some bytes) same asked in
-      let note : last.0.1 ≡ bytes = some-same (sym one ∙ two) in
+      let note : last.0.1 ≡ bytes = same_Some _ _ (sym one ∙ two) in
       subst (λ z. bytes_eq (centre.stored_note z) bytes ≡ true) (sym last.1) (subst (λ z. bytes_eq z bytes ≡ true) (sym note) (bytes_eq-same bytes))
 
   -- and is sent its Reply again
@@ -225,7 +224,7 @@ module _ (ρ : Rules) (H : Ledger) (i : Inv ρ H) (on : is_on Centre H ≡ true)
         sane = ruling-sane ρ d (ruled d C) x C i.good (last-is ρ d x C i.good last);
         plain = refl;
         no_up = λ l j h. refl;
-        fit = λ z h. none-some h;
+        fit = λ z h. absurd (none-some _ h);
         keeps = λ j. inv-sent ρ H y (record { what = m.Reply it.reply; reads = it.reads; vouched = it.vouched }) j;
       }
 
@@ -245,7 +244,7 @@ module _ (ρ : Rules) (H : Ledger) (i : Inv ρ H) (on : is_on Centre H ≡ true)
         sane = never-imbalance ρ C q shown;
         plain = refl;
         no_up = λ l j h. absurd (cc);
-        fit = λ y h. subst (IsFit ρ H) (some-same h) (record {
+        fit = λ y h. subst (IsFit ρ H) (same_Some _ _ h) (record {
           fits = record {
             next = next;
             asked_as = asked;
@@ -275,7 +274,7 @@ module _ (ρ : Rules) (H : Ledger) (i : Inv ρ H) (on : is_on Centre H ≡ true)
       chosen P (nat_lt n g || (n == 0)) _ _
       (λ _. no-ok (no.Old g) tt)
       (λ old.
-      let parts = or_false (nat_lt n g) (n == 0) old in
+      let parts = or_parts (nat_lt n g) (n == 0) old in
       let low : g ≤ n = ltb-false n g parts.0 in
       let some : n ≡ 0 → ⊥ = eqb-false n 0 parts.1 in
       chosen P (n == g) _ _
@@ -300,7 +299,7 @@ module _ (ρ : Rules) (H : Ledger) (i : Inv ρ H) (on : is_on Centre H ≡ true)
       let P = λ (z : Result (Option ℕ) CentreRefusal). PlanOk ρ H (centre.settle_act d n z) in
       let applied : (v : Verdict) × (applied_of d n C ≡ Some v) = genuine-at bytes (m.Done q) H C (i.sents bytes sent) reads in
       chosen P (nat_le n (settled d C)) _ _
-      (λ _. record { sane = tt; plain = refl; no_up = λ l k h. refl; fit = λ x h. none-some h; keeps = λ j. j })
+      (λ _. record { sane = tt; plain = refl; no_up = λ l k h. refl; fit = λ x h. absurd (none-some _ h); keeps = λ j. j })
       (λ new. chosen P (n == ruled d C) (Ok (Some n)) (Err (no.Ahead (ruled d C)))
       (λ same.
       let is : n ≡ ruled d C = eqb-true n (ruled d C) same in
@@ -340,4 +339,4 @@ module _ (ρ : Rules) (H : Ledger) (i : Inv ρ H) (on : is_on Centre H ≡ true)
 
   pub reconcile-ok : (d sum : ℕ) (w : Option (ℕ × List ℕ)) → PlanOk ρ H (centre.reconcile_plan d sum w (counted H))
   reconcile-ok d sum None = no-ok (no.UnknownDevice d) tt
-  reconcile-ok d sum (Some x) = record { sane = tt; plain = refl; no_up = λ l k h. refl; fit = λ y h. none-some h; keeps = λ j. j }
+  reconcile-ok d sum (Some x) = record { sane = tt; plain = refl; no_up = λ l k h. refl; fit = λ y h. absurd (none-some _ h); keeps = λ j. j }

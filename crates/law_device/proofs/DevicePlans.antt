@@ -2,7 +2,8 @@
 use Rattle.std.proofs.Common.{◌≡◌, ℕ, ℤ, pos, ◌+◌, ◌<◌, ◌≤◌, ◌≤ℤ◌, ◌+ℤ◌, Bool, true, false, List, [], ◌∷◌, ◌++◌, Option, Some, None, Result, Ok, Err, cond, refl, sym, ap, subst, ◌∙◌, true≢false, inl, ⊎_elim, not, arith}
 use Rattle.std.specs.Prelude.{◌==◌, ◌&&◌, ◌||◌, nat_lt, nat_le}
 use lib.Signed.{lt_z}
-use Rattle.std.proofs.lemmas.Bool.{eqb-true, eqb-false, ltb-false, leb-false, not-false, cases_Bool, eq-eqb}
+use Rattle.std.proofs.lemmas.Bool.{eqb-true, eqb-false, ltb-false, leb-false, not-false, cases_Bool, eq-eqb, or_parts}
+use Rattle.std.proofs.lemmas.Option.{same_Some, none-some}
 use Rattle.bench_base.specs.declared.words.Node.{Node}
 use Rattle.bench_base.specs.declared.words.Node.TheVariants.{Device}
 use Rattle.bench_base.specs.declared.words.Kind.{Kind}
@@ -56,7 +57,7 @@ use Rattle.ledger_lawful.specs.Editions.{IsCarried}
 use Rattle.ledger_moves.specs.Histories.{IsKnown}
 use Rattle.node_acts.specs.Plans.{with_commit, after}
 use Rattle.ledger_lawful.specs.Sane.{IsSane, IsSaneDevice}
-use Rattle.law_good.proofs.Basics.{some-same, or_false, and_false, chosen, first, AllFalse}
+use Rattle.law_good.proofs.Basics.{and_false, chosen, first, AllFalse}
 use Rattle.law_device.proofs.Dates.{not_before, before}
 use Rattle.bench_base.specs.Table.{IsNumber}
 use Rattle.law_plans.proofs.Whole.{sum-fits, word-fits, whole-request, whole-done}
@@ -69,9 +70,6 @@ use Rattle.law_money.proofs.Requests.{ruling-sane}
 use Rattle.psd_wire.specs.Grammar.{sum_size}
 use Rattle.law_good.proofs.Grown.{IsCommand, Inv, Genuine, GenuineReply, genuine-at, inv-sent, inv-released}
 use Rattle.law_plans.proofs.Plans.{PlanOk, IsFit, ok-refuse, ok-made}
-
-none-some : {A : Type 0} {a : A} {P : Type 0} → None ≡ Some a → P
-none-some h = absurd (cc)
 
 serves : (p : Phase) → in_service p ≡ true → p ≡ InService
 serves InService h = refl
@@ -214,7 +212,7 @@ module _ (ρ : Rules) (carried : IsCarried ρ) (H : Ledger) (i : Inv ρ H) where
       let within = f.within in
       let sum : ℕ = ascending d C + descending d C + refunded d C in
       let size : same_kind k Reset ≡ true → (1 ≤ amount_for k a (descending d C)) × (amount_for k a (descending d C) ≤ 10000000) = λ h.
-      let amount = or_false (a == 0) (nat_lt 10000000 a) (and_false (same_kind k Reset) _ rows.1.1.1.0 h) in
+      let amount = or_parts (a == 0) (nat_lt 10000000 a) (and_false (same_kind k Reset) _ rows.1.1.1.0 h) in
       let some : a ≡ 0 → ⊥ = eqb-false a 0 amount.0 in
       let most = ltb-false 10000000 a amount.1 in
       let it = size-amount k a (descending d C) h in
@@ -267,7 +265,7 @@ module _ (ρ : Rules) (carried : IsCarried ρ) (H : Ledger) (i : Inv ρ H) where
         sane = tt;
         plain = refl;
         no_up = λ n j h. absurd (cc);
-        fit = λ x h. subst (IsFit ρ H) (some-same h) (record { fits = f; on = on; range = (device, omega arith); sure = tt });
+        fit = λ x h. subst (IsFit ρ H) (same_Some _ _ h) (record { fits = f; on = on; range = (device, omega arith); sure = tt });
         keeps = λ j. inv-sent ρ (e.Commit (c.Asked d (number d C + 1) note) ∷ H) note
             (asked-sent d (number d C + 1) key q (request-whole d key k who a t device ask day rows.1.1.1.1.1.0) refl refl (λ x s.
             let le = note-le ρ d (number d C + 1) x C i.good s in
@@ -313,8 +311,8 @@ module _ (ρ : Rules) (carried : IsCarried ρ) (H : Ledger) (i : Inv ρ H) where
       → AllFalse (answers.piece_rows (state_of d key (counted H)) q) → AllFalse (answers.debit_rows ρ (state_of d key (counted H)) q t) → Fits ρ (c.Debited d q.piece q.postage q.class t ρ.version) (counted H)
   debit-fits d q t key has free pieces_rows rows =
       let C = counted H in
-      let amount = or_false (q.postage == 0) (nat_lt 100000 q.postage) rows.1.1.0 in
-      let over = or_false (lt_z (deadline d C +ℤ pos ρ.grace) t) (lt_z (deadline d C) t && nat_lt ρ.small q.postage) rows.1.0 in
+      let amount = or_parts (q.postage == 0) (nat_lt 100000 q.postage) rows.1.1.0 in
+      let over = or_parts (lt_z (deadline d C +ℤ pos ρ.grace) t) (lt_z (deadline d C) t && nat_lt ρ.small q.postage) rows.1.0 in
       let some : q.postage ≡ 0 → ⊥ = eqb-false q.postage 0 amount.0 in
       let sums = funds ρ d C i.good in
       record {
@@ -357,7 +355,7 @@ module _ (ρ : Rules) (carried : IsCarried ρ) (H : Ledger) (i : Inv ρ H) where
         sane = ok.sane false x;
         plain = ok.plain (made (T.reply false x) (c.Debited d q.piece q.postage q.class t ρ.version) (T.tell x)) false x H;
         no_up = λ n k h. absurd (ok.no_up false x n k h);
-        fit = λ y h. subst (IsFit ρ H) (some-same h) (record { fits = f; on = on; range = range; sure = tt });
+        fit = λ y h. subst (IsFit ρ H) (same_Some _ _ h) (record { fits = f; on = on; range = range; sure = tt });
         keeps = λ j. ok.keeps x (e.Commit (c.Debited d q.piece q.postage q.class t ρ.version) ∷ H)
             (marked-new ρ d q.piece q.postage q.class t ρ.version C (f, i.good, range) ∙ ap (λ (z : List ℕ). Some z) (same-mark d q t key has)) j;
       }
@@ -405,18 +403,18 @@ module _ (ρ : Rules) (carried : IsCarried ρ) (H : Ledger) (i : Inv ρ H) where
         sane = ok.sane true x;
         plain = ok.plain (told (T.reply true x) (T.tell x)) true x H;
         no_up = λ n j h. refl;
-        fit = λ y h. none-some h;
+        fit = λ y h. absurd (none-some _ h);
         keeps = λ j. ok.keeps x H there j;
       })
       (λ _. refuse-ok d (no.Conflict k.postage k.class) tt)
 
   repeated-is : (o : Option Mark) (piece : ℕ) (k : Mark) → answers.repeated o piece ≡ Some k → (o ≡ Some k) × (k.piece ≡ piece)
-  repeated-is None piece k h = none-some h
+  repeated-is None piece k h = absurd (none-some _ h)
   repeated-is (Some j) piece k h = ⊎_elim
       (λ (t : (j.piece == piece) ≡ true).
-      let is : j ≡ k = some-same (rw t at h) in
+      let is : j ≡ k = same_Some _ _ (rw t at h) in
       (ap (λ (z : Mark). Some z) is, ap (λ (z : Mark). z.piece) (sym is) ∙ eqb-true j.piece piece t))
-      (λ (t : (j.piece == piece) ≡ false). none-some (rw t at h))
+      (λ (t : (j.piece == piece) ≡ false). absurd (none-some _ (rw t at h)))
       (cases_Bool (j.piece == piece))
 
   pub debit-ok : (T : Teller) (d : ℕ) (q : DebitMsg) (t : ℤ) → TellerOk ρ T d q.piece → is_on (Device d) H ≡ true → IsDevice d → IsCommand q → IsDay t → (w : Option (List ℕ)) → key_of d (counted H) ≡ w
@@ -459,7 +457,7 @@ module _ (ρ : Rules) (carried : IsCarried ρ) (H : Ledger) (i : Inv ρ H) where
     sane = tt;
     plain = refl;
     no_up = λ n j h. refl;
-    fit = λ x h. none-some h;
+    fit = λ x h. absurd (none-some _ h);
     keeps = λ j. inv-sent ρ H p.1 (asked-genuine d p.0 p.1 (pending-asked ρ d p (counted H) i.good has)) j;
   }
 
@@ -471,7 +469,7 @@ module _ (ρ : Rules) (carried : IsCarried ρ) (H : Ledger) (i : Inv ρ H) where
         sane = tt;
         plain = refl;
         no_up = λ l j h. refl;
-        fit = λ x h. none-some h;
+        fit = λ x h. absurd (none-some _ h);
         keeps = λ j. inv-sent ρ H note (genuine t) j;
       })
     where
@@ -495,7 +493,7 @@ module _ (ρ : Rules) (carried : IsCarried ρ) (H : Ledger) (i : Inv ρ H) where
 
   pub status-ok : (d : ℕ) (t : ℤ) (w : Option (List ℕ)) → PlanOk ρ H (Devices.status_plan d t (counted H) w)
   status-ok d t None = refuse-ok d no.Blank tt
-  status-ok d t (Some key) = record { sane = tt; plain = refl; no_up = λ n k h. refl; fit = λ x h. none-some h; keeps = λ j. j }
+  status-ok d t (Some key) = record { sane = tt; plain = refl; no_up = λ n k h. refl; fit = λ x h. absurd (none-some _ h); keeps = λ j. j }
 
   -- == a Reply, a Debit ==
 
@@ -514,7 +512,7 @@ module _ (ρ : Rules) (carried : IsCarried ρ) (H : Ledger) (i : Inv ρ H) where
       let ruling : ruling_of d p.number (counted H) ≡ Some (p.verdict, from.note) = subst (λ z. ruling_of z p.number (counted H) ≡ Some (p.verdict, from.note)) same from.ruled_as in
       let one = ruling-asked ρ d p.number (p.verdict, from.note) (counted H) i.good ruling in
       let two = subst (λ z. note_of d z (counted H) ≡ Some w.1) (sym number) pends in
-      let note : from.note ≡ w.1 = some-same (sym one ∙ two) in
+      let note : from.note ≡ w.1 = same_Some _ _ (sym one ∙ two) in
       let waits : pending d (counted H) ≡ Some (p.number, w.1) = has ∙ ap (λ z. Some (z, w.1)) (sym number) in
       let kind : p.kind ≡ q.kind = from.kind ∙ ap (λ (z : List ℕ). (request_in z).kind) note in
       let amount : is_granted p.verdict ≡ true → p.amount ≡ q.amount = λ h. from.amount h ∙ ap (λ (z : List ℕ). (request_in z).amount) note in

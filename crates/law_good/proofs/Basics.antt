@@ -1,30 +1,12 @@
 -- Small facts about options, tests and look-ups that all subjects share.
-use Rattle.std.proofs.Common.{◌≡◌, ℕ, Bool, true, false, List, [], ◌∷◌, Option, Some, None, Result, Ok, cond, ◌⊎◌, inl, inr, ⊎_elim, refl, sym, true≢false}
-use Rattle.std.specs.Prelude.{◌==◌, ◌&&◌, ◌||◌}
-use Rattle.std.proofs.lemmas.Bool.{eqb-true, cases_Bool}
+use Rattle.std.proofs.Common.{◌≡◌, ℕ, Bool, true, false, List, [], ◌∷◌, Option, Some, None, cond, ◌⊎◌, inl, inr, refl, sym, true≢false}
+use Rattle.std.specs.Prelude.{◌&&◌}
 use Rattle.bench_base.specs.Rows.{first_of, first_holding}
-
-pub some-same : {A : Type 0} {a b : A} → Some a ≡ Some b → a ≡ b
-some-same e = cc
-
-pub ok-same : {A F : Type 0} {a b : A} → ◌≡◌ {A = Result A F} (Ok a) (Ok b) → a ≡ b
-ok-same h = cc
-
-pub some-none : {A : Type 0} {a : A} → Some a ≡ None → ⊥
-some-none e = cc
-
--- the same number, or another
-pub either : (e d : ℕ) {P : Type 0} → ((e == d) ≡ true → e ≡ d → P) → ((e == d) ≡ false → P) → P
-either e d same other = ⊎_elim (λ (h : (e == d) ≡ true). same h (eqb-true e d h)) other (cases_Bool (e == d))
 
 -- one way of a choice, or the other
 pub chosen : {A : Type 0} (P : A → Type 0) (t : Bool) (a b : A) → (t ≡ true → P a) → (t ≡ false → P b) → P (cond t a b)
 chosen P true a b one other = one refl
 chosen P false a b one other = other refl
-
-pub or_false : (x y : Bool) → (x || y) ≡ false → (x ≡ false) × (y ≡ false)
-or_false true y h = absurd (true≢false h)
-or_false false y h = (refl, h)
 
 pub and_false : (x y : Bool) → (x && y) ≡ false → x ≡ true → y ≡ false
 and_false true y h e = h
@@ -37,29 +19,15 @@ when false x = inl refl
 
 -- == look-ups that take the first in time ==
 
--- what was found stays
-pub kept_first : {A : Type 0} (t : Bool) (o : Option A) (a b : A) → o ≡ Some b → cond t (first_of o (Some a)) o ≡ Some b
-kept_first true o a b e = rw e refl
-kept_first false o a b e = e
-
 -- what is found is new, or was found before
 pub found : {A : Type 0} (t : Bool) (o : Option A) (a b : A) → cond t (first_of o (Some a)) o ≡ Some b → ((t ≡ true) × (a ≡ b)) ⊎ (o ≡ Some b)
 found true None a b e = inl (refl, cc)
 found true (Some y) a b e = inr e
 found false o a b e = inr e
 
--- what was not found before is found now
-pub first_of-none : {A : Type 0} (o : Option A) (b : Option A) → ((x : A) → o ≡ Some x → ⊥) → first_of o b ≡ b
-first_of-none None b h = refl
-first_of-none (Some x) b h = absurd (h x refl)
-
 pub first_of-some : {A : Type 0} (o : Option A) (a : A) → (b : A) × (first_of o (Some a) ≡ Some b)
 first_of-some None a = (a, refl)
 first_of-some (Some b) a = (b, refl)
-
-pub none-if : {A : Type 0} (o : Option A) → ((x : A) → o ≡ Some x → ⊥) → o ≡ None
-none-if None h = refl
-none-if (Some x) h = absurd (h x refl)
 
 -- == rows ==
 

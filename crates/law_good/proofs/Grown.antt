@@ -4,9 +4,9 @@
 -- list stays good, and what other nodes' open commits rest on stays too.
 use Rattle.std.proofs.Common.{◌≡◌, ℕ, ℤ, ◌+◌, ◌<◌, ◌^◌, Bool, true, false, List, [], ◌∷◌, Option, Some, None, Ok, cond, refl, sym, ap, subst, ◌∙◌, true≢false, ◌⊎◌, inl, inr, ⊎_elim}
 use Rattle.std.specs.Prelude.{◌==◌, IsSome}
-use Rattle.std.proofs.lemmas.Bool.{eqb-true, cases_Bool}
+use Rattle.std.proofs.lemmas.Bool.{cases_Bool}
+use Rattle.std.proofs.lemmas.Option.{same_Some, none-some}
 use Rattle.bench_base.specs.declared.words.Node.{Node}
-use Rattle.bench_base.specs.declared.words.Node.TheVariants.{Device, Centre, Host, Verifier}
 use Rattle.bench_base.specs.declared.words.Verdict.{Verdict}
 use Rattle.bench_base.specs.declared.ledger.Commit.{Commit}
 use Rattle.bench_base.specs.declared.ledger.Commit.TheVariants.{Held, Accepted}
@@ -19,6 +19,7 @@ use Rattle.psd_wire.specs.declared.message.DebitMsg.{DebitMsg}
 use Rattle.bench_base.specs.Kinds.{is_granted}
 use Rattle.bench_base.specs.Ledger.{Ledger, day_in, IsSent, IsReleased, IsReleasedAs, IsPrinted, is_on, count_of, torn_of, at_up, counted}
 use Rattle.bench_base.specs.Jobs.{held_of, begun}
+use Rattle.bench_base.proofs.Facts.{ok-same, same_node-true}
 use Rattle.psd_wire.specs.declared.message.ReplyMsg.{ReplyMsg}
 use Rattle.psd_wire.specs.declared.message.Message.{Message}
 use Rattle.psd_wire.specs.declared.message.Message.TheVariants as m
@@ -29,22 +30,11 @@ use Rattle.ledger_terms.specs.InFlight.{ruling_of}
 use Rattle.ledger_terms.specs.Rulings.{ruled_reply}
 use Rattle.ledger_terms.specs.Franking.{marked}
 use Rattle.ledger_lawful.specs.Lawful.{Always, Releases, PrintedOnce}
-use Rattle.law_good.proofs.Basics.{some-same, ok-same}
 use Rattle.law_good.proofs.Kept.{note-kept, ruling-kept, ruled_reply-kept, applied-kept, begun-kept}
 use Rattle.law_good.proofs.Good.{Fits, Good}
 use Rattle.law_good.proofs.Frame.{frame}
 
 -- == nodes ==
-
-pub same_node-true : (m n : Node) → same_node m n ≡ true → m ≡ n
-same_node-true (Device d) (Device e) h = ap Device (eqb-true d e h)
-same_node-true (Device d) _ h = absurd (true≢false (sym h))
-same_node-true Centre Centre h = refl
-same_node-true Centre _ h = absurd (true≢false (sym h))
-same_node-true Host Host h = refl
-same_node-true Host _ h = absurd (true≢false (sym h))
-same_node-true Verifier Verifier h = refl
-same_node-true Verifier _ h = absurd (true≢false (sym h))
 
 -- a node that is on and a node that is off are two
 apart : (m n : Node) (H : Ledger) → is_on m H ≡ true → is_on n H ≡ false → same_node m n ≡ false
@@ -176,12 +166,9 @@ pub now : {A : Type 0} (P : List A → Type 0) (xs : List A) → Always P xs →
 now P [] h = h
 now P (x ∷ xs) h = h.0
 
-none-some : {A : Type 0} {a : A} {P : Type 0} → None ≡ Some a → P
-none-some e = absurd (cc)
-
 module _ (ρ : Rules) where
   pub inv-none : Inv ρ []
-  inv-none = record { good = tt; opens = λ n c h. none-some h; sents = λ x h. absurd h; told = record { releases = tt; prints = tt; sure = tt }; printed = λ j h. absurd h; dated = λ t h. none-some h }
+  inv-none = record { good = tt; opens = λ n c h. absurd (none-some _ h); sents = λ x h. absurd h; told = record { releases = tt; prints = tt; sure = tt }; printed = λ j h. absurd h; dated = λ t h. absurd (none-some _ h) }
 
   -- an entry that changes no more than what is told leaves open commits as they are
   open-kept : (k : Entry) (H : Ledger) (n : Node) (c : Commit) (on : Bool) → OpenFits ρ n c on H (counted H) → OpenFits ρ n c on (k ∷ H) (counted H)
@@ -197,7 +184,7 @@ module _ (ρ : Rules) where
     sents = λ x h. genuine-entry x (e.Day t) H (counted H) (i.sents x h);
     told = (record { releases = tt; prints = tt; sure = sure-of (e.Day t) H i }, i.told);
     printed = i.printed;
-    dated = λ z h. subst IsDay (some-same h) day;
+    dated = λ z h. subst IsDay (same_Some _ _ h) day;
   }
 
   pub inv-rates : (H : Ledger) (text : List ℕ) → Inv ρ H → Inv ρ (e.Rates text ∷ H)
@@ -227,7 +214,7 @@ module _ (ρ : Rules) where
     sents = λ x h. genuine-entry x e.Begin H (counted H) (i.sents x h);
     told = (record { releases = tt; prints = tt; sure = sure-of e.Begin H i }, i.told);
     printed = i.printed;
-    dated = λ t h. none-some h;
+    dated = λ t h. absurd (none-some _ h);
   }
 
   either_off : (t b : Bool) → b ≡ false → cond t false b ≡ false
@@ -286,11 +273,11 @@ module _ (ρ : Rules) where
   torn-case : (n : Node) (c o : Commit) (t b : Bool) (w : Option Commit) (H : Ledger) → (t ≡ true → node_of c ≡ n) → Fits ρ c (counted H) → InRange c → Sure c H
       → (w ≡ Some o → OpenFits ρ n o b H (counted H)) → cond t (Some c) w ≡ Some o → OpenFits ρ n o (cond t false b) (e.Torn (node_of c) c ∷ H) (counted H)
   torn-case n c o true b w H same f range sure was h = record {
-    node = ap node_of (sym (some-same h)) ∙ same refl;
+    node = ap node_of (sym (same_Some _ _ h)) ∙ same refl;
     off = refl;
-    fits = subst (λ x. Fits ρ x (counted H)) (some-same h) f;
-    range = subst InRange (some-same h) range;
-    sure = sure-kept o (e.Torn (node_of c) c) H (subst (λ x. Sure x H) (some-same h) sure);
+    fits = subst (λ x. Fits ρ x (counted H)) (same_Some _ _ h) f;
+    range = subst InRange (same_Some _ _ h) range;
+    sure = sure-kept o (e.Torn (node_of c) c) H (subst (λ x. Sure x H) (same_Some _ _ h) sure);
   }
   torn-case n c o false b w H same f range sure was h = open-kept (e.Torn (node_of c) c) H n o b (was h)
 
@@ -329,7 +316,7 @@ module _ (ρ : Rules) where
       x
 
   up-case : (k n : Node) (o : Commit) (t b : Bool) (w : Option Commit) (u : Entry) (H : Ledger) (C D : List Commit) → same_node k n ≡ t → (w ≡ Some o → OpenFits ρ n o b H C) → Next k H C D → cond t None w ≡ Some o → OpenFits ρ n o (cond t true b) (u ∷ H) D
-  up-case k n o true b w u H C D is was x h = none-some h
+  up-case k n o true b w u H C D is was x h = absurd (none-some _ h)
   up-case k n o false b w u H C D is was x h =
       let it = was h in
       record {

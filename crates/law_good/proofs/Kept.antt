@@ -7,13 +7,13 @@ use Rattle.bench_base.specs.declared.ledger.Commit.{Commit}
 use Rattle.bench_base.specs.declared.ledger.Commit.TheVariants.{Asked, Applied, Ruled, Began}
 use Rattle.bench_base.specs.Kinds.{same_kind, is_granted}
 use Rattle.bench_base.specs.Jobs.{begun}
+use Rattle.bench_base.proofs.Facts.{kept_first}
 use Rattle.ledger_terms.specs.Requests.{request_in, note_of}
 use Rattle.ledger_terms.specs.Devices.{applied_of}
 use Rattle.ledger_terms.specs.Centres.{enrolled}
 use Rattle.psd_wire.specs.declared.message.ReplyMsg.{ReplyMsg}
 use Rattle.ledger_terms.specs.InFlight.{ruling_of}
 use Rattle.ledger_terms.specs.Rulings.{reply_to, ruled_reply}
-use Rattle.law_good.proofs.Basics.{kept_first}
 
 pub note-kept : (d n : ℕ) (x : List ℕ) (c : Commit) (C : List Commit) → note_of d n C ≡ Some x → note_of d n (c ∷ C) ≡ Some x
 note-kept d n x (Asked f m r) C e = kept_first ((f == d) && (m == n)) (note_of d n C) r x e

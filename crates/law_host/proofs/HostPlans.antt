@@ -3,6 +3,7 @@
 use Rattle.std.proofs.Common.{◌≡◌, ℕ, ℤ, ◌+◌, ◌-◌, ◌<◌, ◌^◌, Bool, true, false, List, [], ◌∷◌, Option, Some, None, Result, Ok, Err, cond, refl, sym, ap, subst, ◌∙◌, inl, inr, ⊎_elim, arith}
 use Rattle.std.specs.Prelude.{◌==◌}
 use Rattle.std.proofs.lemmas.Bool.{eqb-true, leb-false, eq-eqb, not-false}
+use Rattle.std.proofs.lemmas.Option.{same_Some, none-some}
 use Rattle.bench_base.specs.declared.words.Node.{Node}
 use Rattle.bench_base.specs.declared.words.Node.TheVariants.{Host, Verifier}
 use Rattle.bench_base.specs.declared.words.JobState.{JobState}
@@ -26,29 +27,26 @@ use Rattle.bench_base.specs.Ranges.{IsDevice, IsWord, IsCount, IsPostage, IsKey}
 use Rattle.bench_base.specs.Ledger.{Ledger, counted, is_on, torn_of, at_up, count_of, IsReleased, IsReleasedAs}
 use Rattle.bench_base.specs.Jobs.{Job, last_job, job_of, state_of, held_of, open_job, top, begun, in_cells}
 use Rattle.bench_base.specs.Scans.{trusted, accepted, blocks}
+use Rattle.bench_base.proofs.Facts.{ok-same, either}
 use Rattle.indicium.specs.declared.Mark.{Mark}
 use Rattle.indicium.specs.Marks.{read_mark}
 use Rattle.psd_wire.specs.declared.message.Message.{Message}
 use Rattle.psd_wire.specs.declared.message.Message.TheVariants as m
 use Rattle.psd_wire.specs.Grammar.{spell}
-use Rattle.psd_wire.proofs.Readings.{read-spell}
+use Rattle.psd_wire.proofs.Readings.{read-spell, mark_long}
 use Rattle.psd_wire.specs.Codes.{has_code}
 use Rattle.ledger_lawful.specs.Lawful.{Always}
 use Rattle.host_jobs.specs.Answers as host
 use Rattle.verifier.specs.Answers as scans
 use Rattle.ledger_lawful.specs.Editions.{IsCarried}
 use Rattle.ledger_moves.specs.Histories.{IsKnown, IsKnownMark}
-use Rattle.law_good.proofs.Basics.{some-same, ok-same, chosen, first, either, found}
+use Rattle.law_good.proofs.Basics.{chosen, first, found}
 use Rattle.law_plans.proofs.Whole.{whole-debit}
-use Rattle.law_plans.proofs.Lengths.{mark-long}
 use Rattle.law_good.proofs.Good.{Good}
 use Rattle.law_plans.proofs.Franked.{marked-reads, MarkOf, device-word}
 use Rattle.law_jobs.proofs.Jobs.{jobs}
 use Rattle.law_good.proofs.Grown.{Inv, Told, inv-sent, inv-printed}
 use Rattle.law_plans.proofs.Plans.{PlanOk, IsFit, ok-refuse, ok-made}
-
-none-some : {A : Type 0} {a : A} {P : Type 0} → None ≡ Some a → P
-none-some h = absurd (cc)
 
 -- a ledger's counted commits are those of any ledger that it grows to, without the last
 at_up-good : (ρ : Rules) (w : Option Commit) (n : Node) (k : ℕ) (C : List Commit) → Good ρ (at_up w n k C) → Good ρ C
@@ -72,7 +70,7 @@ pub record JobRange (b : Job) : Type 0 where
   pub class : b.class < 2 ^ 16
 
 pub job-range : (ρ : Rules) (j : ℕ) (b : Job) (C : List Commit) → Good ρ C → job_of j C ≡ Some b → JobRange b
-job-range ρ j b [] g h = none-some h
+job-range ρ j b [] g h = absurd (none-some _ h)
 job-range ρ j b (c.Ordered i d p a k ∷ C) g h = ⊎_elim
     (λ (t : ((i == j) ≡ true) × (record { device = d; piece = p; postage = a; class = k } ≡ b)). subst JobRange t.1 (record { device = g.2.1; piece = g.2.2; postage = g.2.3; class = g.2.4 }))
     (λ (o : job_of j C ≡ Some b). job-range ρ j b C g.1 o)
@@ -81,7 +79,7 @@ job-range ρ j b (_ ∷ C) g h = job-range ρ j b C g.1 h
 
 -- the number of an open job fits
 job-word : (ρ : Rules) (j : ℕ) (b : Job) (C : List Commit) → Good ρ C → job_of j C ≡ Some b → IsWord j
-job-word ρ j b [] g h = none-some h
+job-word ρ j b [] g h = absurd (none-some _ h)
 job-word ρ j b (c.Ordered i d p a k ∷ C) g h = ⊎_elim
     (λ (t : ((i == j) ≡ true) × (record { device = d; piece = p; postage = a; class = k } ≡ b)). subst IsWord (eqb-true i j t.0) g.2.0.1)
     (λ (o : job_of j C ≡ Some b). job-word ρ j b C g.1 o)
@@ -89,7 +87,7 @@ job-word ρ j b (c.Ordered i d p a k ∷ C) g h = ⊎_elim
 job-word ρ j b (_ ∷ C) g h = job-word ρ j b C g.1 h
 
 trusted-device : (ρ : Rules) (d : ℕ) (key : List ℕ) (C : List Commit) → Good ρ C → trusted d C ≡ Some key → IsDevice d
-trusted-device ρ d key [] g h = none-some h
+trusted-device ρ d key [] g h = absurd (none-some _ h)
 trusted-device ρ d key (c.Trusted f k ∷ C) g h = either f d
     (λ t y. subst IsDevice y g.2.0)
     (λ t. trusted-device ρ d key C g.1 (rw t at h))
@@ -149,7 +147,7 @@ module _ (ρ : Rules) (carried : IsCarried ρ) (H : Ledger) (i : Inv ρ H) where
         sane = tt;
         plain = refl;
         no_up = λ n k h. refl;
-        fit = λ x h. none-some h;
+        fit = λ x h. absurd (none-some _ h);
         keeps = λ k. inv-sent ρ H (spell (m.Debit q) []) (record {
           what = m.Debit q;
           reads = read-spell (m.Debit q) [] (whole-debit q (device-word b.device it.device) it.piece.1 (omega (arith, it.postage.1)) it.class);
@@ -170,7 +168,7 @@ module _ (ρ : Rules) (carried : IsCarried ρ) (H : Ledger) (i : Inv ρ H) where
       job None at = no-host no.NoJob
       job (Some b) at =
           let it = (jobs ρ (counted H) i.good).open_is k.0.device j has in
-          let same : it.at ≡ b = some-same (sym it.job_is ∙ at) in
+          let same : it.at ≡ b = same_Some _ _ (sym it.job_is ∙ at) in
           let device : k.0.device ≡ b.device = sym it.device ∙ ap (λ (z : Job). z.device) same in
           first (λ (z : Option HostRefusal). PlanOk ρ H (host.hold_act x j z)) (host.hold_rows k.0 b.piece b.postage b.class) None
           (no-host (no.OtherPiece b.piece), (no-host (no.OtherPostage b.postage), (no-host (no.OtherClass b.class), tt)))
@@ -190,7 +188,7 @@ module _ (ρ : Rules) (carried : IsCarried ρ) (H : Ledger) (i : Inv ρ H) where
               };
             };
             on = on;
-            range = (job-word ρ j b (counted H) i.good at, mark-long x k reads);
+            range = (job-word ρ j b (counted H) i.good at, mark_long x k reads);
             sure = sure;
           }))
 
@@ -212,7 +210,7 @@ module _ (ρ : Rules) (carried : IsCarried ρ) (H : Ledger) (i : Inv ρ H) where
     where
       go : (t : Bool) → cond t (state_of j (counted H)) None ≡ Some s → state_of j (counted H) ≡ Some s
       go true h = h
-      go false h = none-some h
+      go false h = absurd (none-some _ h)
 
   print-mark-ok : (j : ℕ) → is_on Host H ≡ true → IsWord j → state_of j (counted H) ≡ Some state.Held → (x : Option (List ℕ)) → held_of j (counted H) ≡ x → PlanOk ρ H (host.print_act j x None)
   print-mark-ok j on word at None has = no-host no.NoJob
@@ -220,7 +218,7 @@ module _ (ρ : Rules) (carried : IsCarried ρ) (H : Ledger) (i : Inv ρ H) where
     sane = tt;
     plain = refl;
     no_up = λ n k h. absurd (cc);
-    fit = λ y h. subst (IsFit ρ H) (some-same h) (record { fits = at; on = on; range = word; sure = tt });
+    fit = λ y h. subst (IsFit ρ H) (same_Some _ _ h) (record { fits = at; on = on; range = word; sure = tt });
     keeps = λ k. inv-printed ρ (e.Commit (c.Began j) ∷ H) j x has (rw (eq-eqb j j refl) refl) (λ p. never (i.printed j p)) k;
   }
     where
@@ -232,8 +230,8 @@ module _ (ρ : Rules) (carried : IsCarried ρ) (H : Ledger) (i : Inv ρ H) where
 
       never : begun j (counted H) ≡ true → ⊥
       never b = ⊎_elim
-          (λ (s : state_of j (counted H) ≡ Some state.Begun). held-begun (some-same (sym at ∙ s)))
-          (λ (s : state_of j (counted H) ≡ Some state.Closed). held-closed (some-same (sym at ∙ s)))
+          (λ (s : state_of j (counted H) ≡ Some state.Begun). held-begun (same_Some _ _ (sym at ∙ s)))
+          (λ (s : state_of j (counted H) ≡ Some state.Closed). held-closed (same_Some _ _ (sym at ∙ s)))
           ((jobs ρ (counted H) i.good).begun_is j b)
 
   pub print-ok : (j : ℕ) → is_on Host H ≡ true → IsWord j → (s : Option JobState) → host.shown_state j (counted H) ≡ s → PlanOk ρ H (host.print_plan j s (held_of j (counted H)))
@@ -262,7 +260,7 @@ module _ (ρ : Rules) (carried : IsCarried ρ) (H : Ledger) (i : Inv ρ H) where
   accept-ok : (n : ℕ) (k : Mark) (today : ℤ) → is_on Verifier H ≡ true → IsDevice k.device → IsWord k.piece → IsCount n → IsReleasedAs k.device k.piece H → (key : List ℕ) → trusted k.device (counted H) ≡ Some key → (w : Option ℕ) → accepted k.device k.piece (counted H) ≡ w
       → PlanOk ρ H (scans.scan_act n k (scans.scan_answer n k.day today (scans.is_full k.device k.piece (blocks (counted H))) w))
   accept-ok n k today on device piece scan sure key trust (Some s) has = chosen (λ (z : Result Bool ScanRefusal). PlanOk ρ H (scans.scan_act n k z)) (s == n) _ _
-      (λ _. record { sane = tt; plain = refl; no_up = λ l j h. refl; fit = λ y h. none-some h; keeps = λ j. j })
+      (λ _. record { sane = tt; plain = refl; no_up = λ l j h. refl; fit = λ y h. absurd (none-some _ h); keeps = λ j. j })
       (λ _. no-scan (not_v.Duplicate s))
   accept-ok n k today on device piece scan sure key trust None has = first (λ (z : Result Bool ScanRefusal). PlanOk ρ H (scans.scan_act n k z)) (scans.scan_rows k.day today (scans.is_full k.device k.piece (blocks (counted H)))) (Ok false)
       (no-scan (not_v.Future k.day), (no-scan (not_v.TooOld k.day), (no-scan not_v.BlocksFull, tt)))

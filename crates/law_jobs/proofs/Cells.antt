@@ -3,6 +3,7 @@
 use Rattle.std.proofs.Common.{◌≡◌, ℕ, ◌+◌, ◌-◌, ◌<◌, ◌≤◌, true, false, List, [], ◌∷◌, length, Option, Some, None, refl, sym, ap, subst, ◌∙◌, true≢false, ⊎_elim, arith}
 use Rattle.std.specs.Prelude.{◌==◌, ◌&&◌, nat_le, is_none}
 use Rattle.std.proofs.lemmas.Bool.{cases_lt, eqb-true, le-leb, lt-ltb}
+use Rattle.std.proofs.lemmas.Option.{same_Some}
 use Rattle.bench_base.specs.declared.words.JobState.{JobState}
 use Rattle.bench_base.specs.declared.words.JobState.TheVariants.{Ordered as OrderedJob, Held as HeldJob, Begun as BegunJob, Closed as ClosedJob}
 use Rattle.bench_base.specs.declared.ledger.Commit.{Commit}
@@ -10,9 +11,10 @@ use Rattle.bench_base.specs.declared.ledger.Commit.TheVariants.{Ordered, Held, B
 use Rattle.bench_base.specs.Rules.{Rules}
 use Rattle.bench_base.specs.Jobs.{last_job, state_of, held_of, in_cells}
 use Rattle.bench_base.specs.Scans.{block_of, block_place, with_block, blocks}
+use Rattle.bench_base.proofs.Facts.{some-none, either, none-if}
 use Rattle.host_jobs.specs.Answers.{is_open}
 use Rattle.verifier.specs.Order.{IsRoomy}
-use Rattle.law_good.proofs.Basics.{some-same, some-none, either, found, none-if, and_false}
+use Rattle.law_good.proofs.Basics.{found, and_false}
 use Rattle.law_good.proofs.Good.{Good}
 use Rattle.law_jobs.proofs.Jobs.{jobs}
 
@@ -62,13 +64,13 @@ module _ (ρ : Rules) where
       (λ t y. let next = g.0.next in none-if (held_of j C) (λ x o. let le = held-le j x C g.1 o in omega arith))
       (λ t. unheld j C g.1 (rw t at h))
   unheld j (Held i x ∷ C) g h = either i j
-      (λ t y. absurd (ordered-held (some-same (sym (rw t at h)))))
+      (λ t y. absurd (ordered-held (same_Some _ _ (sym (rw t at h)))))
       (λ t. rw t (unheld j C g.1 (rw t at h)))
   unheld j (Began i ∷ C) g h = either i j
-      (λ t y. absurd (ordered-begun (some-same (sym (rw t at h)))))
+      (λ t y. absurd (ordered-begun (same_Some _ _ (sym (rw t at h)))))
       (λ t. unheld j C g.1 (rw t at h))
   unheld j (Closed i ∷ C) g h = either i j
-      (λ t y. absurd (ordered-closed (some-same (sym (rw t at h)))))
+      (λ t y. absurd (ordered-closed (same_Some _ _ (sym (rw t at h)))))
       (λ t. unheld j C g.1 (rw t at h))
   unheld j (_ ∷ C) g h = unheld j C g.1 h
 
@@ -109,7 +111,7 @@ module _ (ρ : Rules) where
       held-closed : HeldJob ≡ ClosedJob → ⊥
       held-closed e = cc
   in-cell j s (Closed i ∷ C) g h live = either i j
-      (λ t y. absurd (live (some-same (sym (rw t at h)))))
+      (λ t y. absurd (live (same_Some _ _ (sym (rw t at h)))))
       (λ t. in-cell j s C g.1 (rw t at h) live)
   in-cell j s (_ ∷ C) g h live = in-cell j s C g.1 h live
 

@@ -16,6 +16,7 @@ use Rattle.bench_base.specs.Cells.{Place, OfDevice, OfRow, OfCustomer, OfJob, Of
 use Rattle.bench_base.specs.Jobs.{cell_of}
 use Rattle.bench_base.specs.Scans.{block_of, block_place, with_block, blocks}
 use Rattle.bench_base.specs.Ranges.{InRange}
+use Rattle.bench_base.proofs.Facts.{same_node-true, same_node-self}
 use Rattle.law_jobs.specs.Places.{node_at, commits_in, Hold, PlacesAddUp, device_places, centre_places, host_places, block_cell, verifier_places, CellsAddUp}
 
 -- == places and nodes ==
@@ -46,19 +47,6 @@ lies-at (Began j) = refl
 lies-at (Closed j) = refl
 lies-at (Trusted d key) = refl
 lies-at (Accepted d piece scan) = refl
-
-one-node : (m n : Node) → same_node m n ≡ true → m ≡ n
-one-node (Device d) (Device e) h = ap Device (eqb-true d e h)
-one-node Centre Centre h = refl
-one-node Host Host h = refl
-one-node Verifier Verifier h = refl
-one-node _ _ h = absurd (true≢false (sym h))
-
-own-node : (n : Node) → same_node n n ≡ true
-own-node (Device d) = eq-eqb d d refl
-own-node Centre = refl
-own-node Host = refl
-own-node Verifier = refl
 
 -- == the sum over places ==
 
@@ -103,11 +91,11 @@ places-add_up n places (c ∷ C) h =
     let more = one-more c C places in
     ⊎_elim
     (λ (t : same_node (node_of c) n ≡ true).
-    let there = All-head (λ c. node_of c ≡ n → Contains places (place_of c)) c C h.each (one-node (node_of c) n t) in
+    let there = All-head (λ c. node_of c ≡ n → Contains places (place_of c)) c C h.each (same_node-true (node_of c) n t) in
     let once = All-contains (λ place. count_by (same_place place) places ≡ 1) places (place_of c) h.once there in
     rw t (omega (arith, more, rest, once)))
     (λ (t : same_node (node_of c) n ≡ false).
-    let none = not-there n (place_of c) places h.own (λ e. true≢false (sym (own-node n) ∙ ap (λ m. same_node m n) (sym e ∙ lies-at c) ∙ t)) in
+    let none = not-there n (place_of c) places h.own (λ e. true≢false (sym (same_node-self n) ∙ ap (λ m. same_node m n) (sym e ∙ lies-at c) ∙ t)) in
     rw t (omega (arith, more, rest, none)))
     (cases_Bool (same_node (node_of c) n))
 

@@ -1,18 +1,21 @@
 -- The host's jobs: at most one is open for each device, its piece is above all that were held, and what was begun is never
 -- held or open again. So no piece is held twice, and each line is printed once.
 
-use Rattle.std.proofs.Common.{◌≡◌, ℕ, ◌<◌, ◌≤◌, true, false, List, [], ◌∷◌, Option, Some, None, ◌⊎◌, inl, inr, ⊎_elim, refl, sym, ap, subst, ◌∙◌, true≢false, arith}
-use Rattle.std.specs.Prelude.{◌==◌, max}
+use Rattle.std.proofs.Common.{◌≡◌, ℕ, ◌<◌, ◌≤◌, true, false, List, [], ◌∷◌, Option, Some, None, ◌⊎◌, inl, inr, ⊎_elim, refl, sym, subst, ◌∙◌, true≢false, arith}
+use Rattle.std.specs.Prelude.{◌==◌}
 use Rattle.std.proofs.lemmas.Bool.{eqb-true, eqb-false, cases_Bool, eq-eqb, ne_eqb, and_parts}
+use Rattle.std.proofs.lemmas.Option.{same_Some}
 use Rattle.bench_base.specs.declared.ledger.Commit.{Commit}
 use Rattle.bench_base.specs.declared.ledger.Commit.TheVariants.{Ordered, Held, Began, Closed}
 use Rattle.bench_base.specs.Rules.{Rules}
 use Rattle.bench_base.specs.Rows.{first_of}
-use Rattle.law_good.proofs.Basics.{some-same, either, kept_first, first_of-none, first_of-some}
+use Rattle.law_good.proofs.Basics.{first_of-some}
 use Rattle.law_good.proofs.Good.{Good}
 use Rattle.bench_base.specs.declared.words.JobState.{JobState}
 use Rattle.bench_base.specs.declared.words.JobState.TheVariants.{Ordered as OrderedJob, Held as HeldJob, Begun as BegunJob, Closed as ClosedJob}
 use Rattle.bench_base.specs.Jobs.{Job, last_job, job_of, state_of, held_of, open_job, unless_job, piece_at, top, begun}
+use Rattle.bench_base.proofs.Facts.{either, kept_first, first_of-none}
+use Rattle.host_jobs.proofs.JobFacts.{at-most}
 use Rattle.ledger_lawful.specs.Lawful.{is_of_piece, held_piece}
 
 -- what an open job of device d is
@@ -36,7 +39,7 @@ unless-some i None j h = cc
 unless-some i (Some k) j h = ⊎_elim
     (λ (t : (k == i) ≡ true). absurd (none (rw t at h)))
     (λ (t : (k == i) ≡ false).
-    let is : k ≡ j = some-same (rw t at h) in
+    let is : k ≡ j = same_Some _ _ (rw t at h) in
     (rw t at h, ne_eqb i j (λ e. eqb-false k i t (is ∙ sym e))))
     (cases_Bool (k == i))
   where
@@ -46,12 +49,6 @@ unless-some i (Some k) j h = ⊎_elim
 piece-has : (d p : ℕ) (o : Option Job) → is_of_piece d p o ≡ true → piece_at d o ≡ p
 piece-has d p None h = absurd (true≢false (sym h))
 piece-has d p (Some b) h = let both = and_parts (b.device == d) (b.piece == p) h in rw both.0 (eqb-true b.piece p both.1)
-
-at-most : (o : Option Job) (b : Job) (most e : ℕ) → o ≡ Some b → (b.device ≡ e → ⊥) → max (piece_at e o) most ≡ most
-at-most None b most e h apart = cc
-at-most (Some c) b most e h apart =
-    let same : c ≡ b = some-same h in
-    rw (ne_eqb c.device e (λ x. apart (ap (λ (z : Job). z.device) (sym same) ∙ x))) (omega arith)
 
 module _ (ρ : Rules) where
   pub jobs : (C : List Commit) → Good ρ C → Jobs C
@@ -63,7 +60,7 @@ module _ (ρ : Rules) where
       record {
         open_is = λ d j o. either f d
             (λ t y.
-            let is : i ≡ j = some-same (rw t at o) in
+            let is : i ≡ j = same_Some _ _ (rw t at o) in
             let job : first_of (job_of j C) (Some (record { device = f; piece = q; postage = a; class = k })) ≡ Some (record { device = f; piece = q; postage = a; class = k }) = first_of-none (job_of j C) (Some (record { device = f; piece = q; postage = a; class = k })) (λ b e. let le = h.job_le j b e in omega arith) in
             record {
               at = record { device = f; piece = q; postage = a; class = k };
@@ -84,7 +81,7 @@ module _ (ρ : Rules) where
             });
         state_le = λ j s o. either i j (λ t y. omega arith) (λ t. let le = h.state_le j s (rw t at o) in omega arith);
         job_le = λ j b o. either i j (λ t y. omega arith) (λ t. let le = h.job_le j b (rw t at o) in omega arith);
-        held_is = λ j o. either i j (λ t y. let bad = some-same (rw t at o) in cc bad) (λ t. h.held_is j (rw t at o));
+        held_is = λ j o. either i j (λ t y. let bad = same_Some _ _ (rw t at o) in cc bad) (λ t. h.held_is j (rw t at o));
         begun_is = λ j b. ⊎_elim
             (λ (s : state_of j C ≡ Some BegunJob). let le = h.state_le j BegunJob s in inl (rw (ne_eqb i j (λ e. omega arith)) s))
             (λ (s : state_of j C ≡ Some ClosedJob). let le = h.state_le j ClosedJob s in inr (rw (ne_eqb i j (λ e. omega arith)) s))
@@ -104,7 +101,7 @@ module _ (ρ : Rules) where
               device = it.device;
               fresh =
                   let lt = it.fresh in
-                  let is = at-most (job_of i C) g.0.at (top d C) d g.0.job_is (λ e. eqb-false i j was.1 (some-same (sym (subst (λ z. open_job z C ≡ Some i) e g.0.open_is) ∙ was.0))) in
+                  let is = at-most (job_of i C) g.0.at (top d C) d g.0.job_is (λ e. eqb-false i j was.1 (same_Some _ _ (sym (subst (λ z. open_job z C ≡ Some i) e g.0.open_is) ∙ was.0))) in
                   omega arith;
               state = rw was.1 it.state;
             };
@@ -113,8 +110,8 @@ module _ (ρ : Rules) where
         held_is = λ j o. either i j (λ t y. rw t (first_of-some (held_of j C) x)) (λ t. rw t (h.held_is j (rw t at o)));
         begun_is = λ j b. either i j
             (λ t y. let bad = h.begun_is j b in absurd (⊎_elim
-            (λ (s : state_of j C ≡ Some BegunJob). apart (some-same (sym (subst (λ z. state_of z C ≡ Some OrderedJob) y mine.state) ∙ s)))
-            (λ (s : state_of j C ≡ Some ClosedJob). apart' (some-same (sym (subst (λ z. state_of z C ≡ Some OrderedJob) y mine.state) ∙ s)))
+            (λ (s : state_of j C ≡ Some BegunJob). apart (same_Some _ _ (sym (subst (λ z. state_of z C ≡ Some OrderedJob) y mine.state) ∙ s)))
+            (λ (s : state_of j C ≡ Some ClosedJob). apart' (same_Some _ _ (sym (subst (λ z. state_of z C ≡ Some OrderedJob) y mine.state) ∙ s)))
             bad))
             (λ t. ⊎_elim (λ (s : state_of j C ≡ Some BegunJob). inl (rw t s)) (λ (s : state_of j C ≡ Some ClosedJob). inr (rw t s)) (h.begun_is j b));
         piece_le = λ d p o. ⊎_elim
@@ -133,10 +130,10 @@ module _ (ρ : Rules) where
       record {
         open_is = λ d j o.
             let it = h.open_is d j o in
-            record { at = it.at; job_is = it.job_is; device = it.device; fresh = it.fresh; state = rw (ne_eqb i j (λ e. apart (some-same (sym (subst (λ z. state_of z C ≡ Some HeldJob) e g.0) ∙ it.state)))) it.state };
+            record { at = it.at; job_is = it.job_is; device = it.device; fresh = it.fresh; state = rw (ne_eqb i j (λ e. apart (same_Some _ _ (sym (subst (λ z. state_of z C ≡ Some HeldJob) e g.0) ∙ it.state)))) it.state };
         state_le = λ j s o. either i j (λ t y. let le = h.state_le i HeldJob g.0 in omega arith) (λ t. h.state_le j s (rw t at o));
         job_le = h.job_le;
-        held_is = λ j o. either i j (λ t y. let bad = some-same (rw t at o) in cc bad) (λ t. h.held_is j (rw t at o));
+        held_is = λ j o. either i j (λ t y. let bad = same_Some _ _ (rw t at o) in cc bad) (λ t. h.held_is j (rw t at o));
         begun_is = λ j b. either i j (λ t y. inl (rw t refl)) (λ t. ⊎_elim (λ (s : state_of j C ≡ Some BegunJob). inl (rw t s)) (λ (s : state_of j C ≡ Some ClosedJob). inr (rw t s)) (h.begun_is j (rw t at b)));
         piece_le = h.piece_le;
       }
@@ -152,7 +149,7 @@ module _ (ρ : Rules) where
             record { at = it.at; job_is = it.job_is; device = it.device; fresh = it.fresh; state = rw was.1 it.state };
         state_le = λ j s o. either i j (λ t y. let le = h.state_le i g.0.0 g.0.1 in omega arith) (λ t. h.state_le j s (rw t at o));
         job_le = h.job_le;
-        held_is = λ j o. either i j (λ t y. let bad = some-same (rw t at o) in cc bad) (λ t. h.held_is j (rw t at o));
+        held_is = λ j o. either i j (λ t y. let bad = same_Some _ _ (rw t at o) in cc bad) (λ t. h.held_is j (rw t at o));
         begun_is = λ j b. either i j (λ t y. inr (rw t refl)) (λ t. ⊎_elim (λ (s : state_of j C ≡ Some BegunJob). inl (rw t s)) (λ (s : state_of j C ≡ Some ClosedJob). inr (rw t s)) (h.begun_is j b));
         piece_le = h.piece_le;
       }

@@ -2,18 +2,20 @@
 use Rattle.std.proofs.Common.{◌≡◌, ℕ, true, false, List, [], ◌∷◌, Option, Some, None, Ok, refl, sym, ap, subst, ◌∙◌, ⊎_elim, true≢false, arith}
 use Rattle.std.specs.Prelude.{◌==◌, ◌&&◌}
 use Rattle.std.proofs.lemmas.Bool.{eqb-true, cases_Bool, eq-eqb, and_parts}
+use Rattle.std.proofs.lemmas.Option.{same_Some}
 use Rattle.bench_base.specs.declared.words.Verdict.{Verdict}
 use Rattle.bench_base.specs.declared.ledger.Commit.{Commit}
 use Rattle.bench_base.specs.declared.ledger.Commit.TheVariants.{Asked, Applied, Debited}
 use Rattle.bench_base.specs.Rules.{Rules}
 use Rattle.bench_base.specs.Ranges.{IsDevice, IsWord}
 use Rattle.bench_base.specs.Kinds.{empties}
+use Rattle.bench_base.proofs.Facts.{either, first_of-none}
 use Rattle.psd_wire.specs.declared.message.Message.TheVariants as m
 use Rattle.psd_wire.specs.Grammar.{read, IsWhole}
 use Rattle.ledger_terms.specs.Requests.{request_in, note_of}
 use Rattle.ledger_terms.specs.Devices.{asked, number, pending, unless_applied, frozen, applied_of}
 use Rattle.ledger_lawful.specs.Lawful.{debited_since}
-use Rattle.law_good.proofs.Basics.{some-same, either, found, first_of-none}
+use Rattle.law_good.proofs.Basics.{found}
 use Rattle.law_good.proofs.Kept.{note-kept}
 use Rattle.law_good.proofs.Good.{Good, Fits}
 use Rattle.law_money.proofs.Links.{waits, waits-none, note-le}
@@ -29,7 +31,7 @@ pub record AskedAs (d n : ℕ) (note : List ℕ) : Type 0 where
   pub number : (request_in note).number ≡ n
   pub range : IsDevice d × IsWord n
 
-unless-some : (n : ℕ) (w : Option (ℕ × List ℕ)) (p : ℕ × List ℕ) → unless_applied n w ≡ Some p → w ≡ Some p
+pub unless-some : (n : ℕ) (w : Option (ℕ × List ℕ)) (p : ℕ × List ℕ) → unless_applied n w ≡ Some p → w ≡ Some p
 unless-some n None p h = h
 unless-some n (Some q) p h = ⊎_elim
     (λ (t : (q.0 == n) ≡ true). absurd (none (rw t at h)))
@@ -47,7 +49,7 @@ module _ (ρ : Rules) where
       let fits = subst (λ z. Fits ρ (Asked z n r) C) y g.0 in
       let idle = waits-none ρ (pending d C) (asked d C) (number d C) fits.idle (waits ρ d C g.1) in
       let next = fits.next in
-      let is : (n, r) ≡ p = some-same (rw t at h) in
+      let is : (n, r) ≡ p = same_Some _ _ (rw t at h) in
       let new = note-new d n r C (λ x s. let le = note-le ρ d n x C g.1 s in omega arith) in
       let at : note_of d n (Asked e n r ∷ C) ≡ Some r = subst (λ z. note_of d n (Asked z n r ∷ C) ≡ Some r) (sym y) new in
       subst (λ (z : ℕ × List ℕ). note_of d z.0 (Asked e n r ∷ C) ≡ Some z.1) is at)
@@ -93,7 +95,7 @@ module _ (ρ : Rules) where
   since-asked d p [] g h k = cc
   since-asked d p (Asked e n r ∷ C) g h k = either e d
       (λ t y.
-      let is : (n, r) ≡ p = some-same (rw t at h) in
+      let is : (n, r) ≡ p = same_Some _ _ (rw t at h) in
       rw (t, eq-eqb n p.0 (ap (λ (z : ℕ × List ℕ). z.0) is)) refl)
       (λ t. rw t (since-asked d p C g.1 (rw t at h) k))
   since-asked d p (Applied e n v ∷ C) g h k = either e d

@@ -5,8 +5,8 @@
 use Rattle.std.proofs.Common.{◌≡◌, ℕ, ◌+◌, ◌-◌, ◌<◌, ◌≤◌, Bool, true, false, List, [], ◌∷◌, Option, Some, None, cond, ⊎_elim, refl, sym, ap, subst, ◌∙◌, true≢false, not, arith}
 use Rattle.std.specs.Prelude.{◌==◌, ◌&&◌}
 use Rattle.std.proofs.lemmas.Bool.{eqb-true, cases_Bool, eq-eqb, and_parts, ltb-false}
-use Rattle.bench_base.specs.declared.words.Kind.{Kind}
-use Rattle.bench_base.specs.declared.words.Kind.TheVariants.{Enrol, Reset, Audit, Refund, Withdraw}
+use Rattle.std.proofs.lemmas.Option.{same_Some, none-some}
+use Rattle.bench_base.specs.declared.words.Kind.TheVariants.{Enrol, Reset}
 use Rattle.bench_base.specs.declared.words.Verdict.{Verdict}
 use Rattle.bench_base.specs.declared.words.Verdict.TheVariants.{Granted}
 use Rattle.bench_base.specs.declared.ledger.Commit.{Commit}
@@ -14,13 +14,15 @@ use Rattle.bench_base.specs.declared.ledger.Commit.TheVariants.{Deposited, Ruled
 use Rattle.bench_base.specs.Rules.{Rules}
 use Rattle.bench_base.specs.Rows.{first_of, first_holding}
 use Rattle.bench_base.specs.Kinds.{same_kind, is_granted}
+use Rattle.bench_base.proofs.Facts.{either}
 use Rattle.psd_wire.specs.declared.message.Request.{Request}
 use Rattle.ledger_terms.specs.Requests.{request_in}
 use Rattle.ledger_terms.specs.Sums.{adds, takes, ruled_sum}
-use Rattle.law_good.proofs.Basics.{some-same, either, when}
+use Rattle.law_good.proofs.Basics.{when}
 use Rattle.law_good.proofs.Good.{Good}
 use Rattle.ledger_terms.specs.Centres.{enrolled, withdrawn, deposits, customer_sum, balance, is_some_at, device_numbers, sum_over, device_share}
 use Rattle.ledger_terms.specs.Rulings.{verdict, verdict_by, verdict_rows, account_of, own_customer, has_left, is_enrolled}
+use Rattle.centre_ledger.proofs.RuledBooks.{no-enrol}
 use Rattle.law_money.proofs.Asked.{note-reads}
 use Rattle.law_good.proofs.Basics.{AllFalse, and_false}
 
@@ -51,21 +53,13 @@ none : (o : Option ℕ) → is_enrolled o ≡ false → o ≡ None
 none None h = refl
 none (Some c) h = absurd (true≢false h)
 
-not-enrol : (k : Kind) → same_kind k Reset ≡ true → not (same_kind k Enrol) ≡ true
-unfolding same_kind
-not-enrol Enrol h = absurd (true≢false (sym h))
-not-enrol Reset h = refl
-not-enrol Audit h = refl
-not-enrol Refund h = refl
-not-enrol Withdraw h = refl
-
 pub grants : (C : List Commit) (q : Request) → is_granted (verdict C q).0 ≡ true → Grants C q
 unfolding verdict verdict_by AllRefuse
 grants C q h =
     let rows = granted-rows (verdict_rows (account_of C q) q) q.amount (refl, (refl, (refl, (refl, (refl, (refl, tt)))))) h in
     record {
       reset = λ k.
-          let o = own (enrolled q.device C) (withdrawn q.device C) (and_false (not (same_kind q.kind Enrol)) _ rows.0 (not-enrol q.kind k)) in
+          let o = own (enrolled q.device C) (withdrawn q.device C) (and_false (not (same_kind q.kind Enrol)) _ rows.0 (no-enrol q.kind k)) in
           let le = ltb-false (balance (own_customer (enrolled q.device C)) C) q.amount (and_false (same_kind q.kind Reset) _ rows.1.1.1.1.1.0 k) in
           (o.0, o.1, subst (λ (z : Option ℕ). q.amount ≤ balance (own_customer z) C) o.1 le);
       enrol = λ k. none (enrolled q.device C) (and_false (same_kind q.kind Enrol) _ rows.1.0 k);
@@ -159,14 +153,11 @@ module _ (ρ : Rules) (f n : ℕ) (v : Verdict) (r : List ℕ) (C : List Commit)
   no-adds : enrolled f C ≡ None → adds v (request_in r) ≡ 0
   no-adds none = ⊎_elim
       (λ (h : is_granted v ≡ true). ⊎_elim
-      (λ (k : same_kind (request_in r).kind Reset ≡ true). let it = reset-is h k in absurd (apart (sym none ∙ it.1)))
+      (λ (k : same_kind (request_in r).kind Reset ≡ true). let it = reset-is h k in absurd (none-some _ (sym none ∙ it.1)))
       (λ (k : same_kind (request_in r).kind Reset ≡ false). adds-kind v (request_in r) k)
       (cases_Bool (same_kind (request_in r).kind Reset)))
       (λ (h : is_granted v ≡ false). adds-not v (request_in r) h)
       (cases_Bool (is_granted v))
-    where
-      apart : {A : Type 0} {a : A} → None ≡ Some a → ⊥
-      apart e = cc
 
 -- the sums of a device that was never enrolled
 zero : (ρ : Rules) (d : ℕ) (C : List Commit) → Good ρ C → enrolled d C ≡ None → ruled_sum adds d C ≡ 0
@@ -199,7 +190,7 @@ affords ρ x f n v r C g e = ⊎_elim
     (λ (h : ((is_granted v && same_kind (request_in r).kind Reset) ≡ true) × (adds v (request_in r) ≡ (request_in r).amount)).
     let p = and_parts (is_granted v) (same_kind (request_in r).kind Reset) h.0 in
     let it = reset-is ρ f n v r C g p.0 p.1 in
-    let same : it.0 ≡ x = some-same (sym it.1 ∙ e) in
+    let same : it.0 ≡ x = same_Some _ _ (sym it.1 ∙ e) in
     let le = subst (λ z. (request_in r).amount ≤ balance z C) same it.2 in
     let is = h.1 in
     omega arith)

@@ -2,10 +2,12 @@
 -- beginning in time is their end.
 
 use Rattle.std.proofs.Common.{◌≡◌, ℕ, ◌+◌, ◌≤◌, List, [], ◌∷◌, ◌++◌, Option, Some, refl, sym, ap, subst, ◌∙◌, arith}
+use Rattle.std.proofs.lemmas.Option.{same_Some}
 use Rattle.bench_base.specs.declared.words.Verdict.{Verdict}
 use Rattle.bench_base.specs.declared.ledger.Commit.{Commit}
 use Rattle.bench_base.specs.declared.ledger.Commit.TheVariants.{Applied, Ruled}
 use Rattle.bench_base.specs.Rules.{Rules}
+use Rattle.bench_base.proofs.Facts.{either}
 use Rattle.psd_wire.specs.declared.message.Request.{Request}
 use Rattle.ledger_terms.specs.Requests.{request_in, in_note, request_of}
 use Rattle.ledger_terms.specs.Sums.{applied_list, ruled_list}
@@ -13,7 +15,6 @@ use Rattle.ledger_terms.specs.Devices.{asked, number, pending}
 use Rattle.ledger_terms.specs.Centres.{ruled}
 use Rattle.ledger_terms.specs.InFlight.{ruling_of}
 use Rattle.centre_ledger.specs.Answers.{last_ruling}
-use Rattle.law_good.proofs.Basics.{some-same, either}
 use Rattle.law_good.proofs.Good.{Good, Fits}
 use Rattle.law_money.proofs.Links.{link, waits, waits-some, ruling-le, note-le}
 use Rattle.law_money.proofs.Money.{last-is, ruling-asked}
@@ -37,7 +38,7 @@ module _ (ρ : Rules) where
       let same : ruled d C ≡ n = omega arith in
       let o = h.odd (omega arith) in
       let is = subst (λ z. ruling_of d z C ≡ Some o.0) same (last-is ρ d o.0 C g.1 o.1) in
-      let which : (v, fits.note) ≡ o.0 = some-same (sym fits.ruled_as ∙ is) in
+      let which : (v, fits.note) ≡ o.0 = same_Some _ _ (sym fits.ruled_as ∙ is) in
       let asked : request_of d n C ≡ request_in fits.note = ap in_note (ruling-asked ρ d n (v, fits.note) C g.1 fits.ruled_as) in
       let part : f v (request_of d n C) ≡ f o.0.0 (request_in o.0.1) = ap (f v) asked ∙ ap (λ (z : Verdict × List ℕ). f z.0 (request_in z.1)) which in
       rw t (record { even = λ _. ap (λ z. z ++ applied_list f d C) part ∙ o.2; odd = λ k. absurd (omega arith) }))

@@ -4,13 +4,15 @@
 
 use Rattle.std.proofs.Common.{◌≡◌, ℕ, ◌+◌, ◌-◌, ◌<◌, ◌≤◌, true, false, List, [], ◌∷◌, Option, Some, None, leb, ◌⊎◌, inl, inr, ⊎_elim, refl, sym, ap, subst, ◌∙◌, true≢false, arith}
 use Rattle.std.specs.Prelude.{◌==◌, ◌&&◌, max}
-use Rattle.std.proofs.lemmas.Bool.{eqb-true, cases_lt, eq-eqb, and_parts, le-leb, lt-leb}
+use Rattle.std.proofs.lemmas.Bool.{eqb-true, cases_lt, eq-eqb, and_parts, lt-leb}
+use Rattle.std.proofs.lemmas.Option.{same_Some}
 use Rattle.bench_base.specs.declared.words.Verdict.{Verdict}
 use Rattle.bench_base.specs.declared.words.Verdict.TheVariants.{Granted}
 use Rattle.bench_base.specs.declared.ledger.Commit.{Commit}
 use Rattle.bench_base.specs.declared.ledger.Commit.TheVariants.{Asked, Applied, Debited, Ruled}
 use Rattle.bench_base.specs.Rules.{Rules}
 use Rattle.bench_base.specs.Kinds.{empties, is_granted}
+use Rattle.bench_base.proofs.Facts.{either, first_of-none}
 use Rattle.psd_wire.specs.declared.message.Request.{Request}
 use Rattle.ledger_terms.specs.Requests.{request_in, note_of, in_note, request_of}
 use Rattle.ledger_terms.specs.Sums.{adds, takes, applied_sum, ruled_sum, loaded, refunded, bought, returned, ascending, descending}
@@ -19,7 +21,8 @@ use Rattle.ledger_terms.specs.Centres.{ruled, settled}
 use Rattle.ledger_terms.specs.InFlight.{ruling_of, ruled_sum_to, acknowledged_resets, acknowledged_refunds, in_flight, flight_of, flight}
 use Rattle.ledger_terms.specs.Rulings.{reply_to, ruled_reply}
 use Rattle.centre_ledger.specs.Answers.{last_ruling}
-use Rattle.law_good.proofs.Basics.{some-same, either, found, first_of-none, first_of-some, when}
+use Rattle.centre_ledger.proofs.Standings.{sum-to_all}
+use Rattle.law_good.proofs.Basics.{found, first_of-some, when}
 use Rattle.law_good.proofs.Good.{Good, Fits}
 use Rattle.law_good.proofs.Kept.{note-kept}
 use Rattle.law_money.proofs.Links.{link, waits, waits-some, ruling-le, ruled_reply-le, note-le, applied-le}
@@ -88,7 +91,7 @@ module _ (ρ : Rules) where
       let same : ruled d C ≡ n = omega arith in
       let o = h.odd most in
       let is = subst (λ z. ruling_of d z C ≡ Some o.0) same (last-is d o.0 C g.1 o.1) in
-      let which : (v, fits.note) ≡ o.0 = some-same (sym fits.ruled_as ∙ is) in
+      let which : (v, fits.note) ≡ o.0 = same_Some _ _ (sym fits.ruled_as ∙ is) in
       let asked : request_of d n C ≡ request_in fits.note = ap in_note (ruling-asked d n (v, fits.note) C g.1 fits.ruled_as) in
       let add : adds v (request_of d n C) ≡ adds o.0.0 (request_in o.0.1) = ap (adds v) asked ∙ ap (λ (z : Verdict × List ℕ). adds z.0 (request_in z.1)) which in
       let take : takes v (request_of d n C) ≡ takes o.0.0 (request_in o.0.1) = ap (takes v) asked ∙ ap (λ (z : Verdict × List ℕ). takes z.0 (request_in z.1)) which in
@@ -115,16 +118,6 @@ module _ (ρ : Rules) where
 
   -- == acknowledged, and in flight ==
 
-  sum_to-all : (f : Verdict → Request → ℕ) (d s : ℕ) (C : List Commit) → ruled d C ≤ s → ruled_sum_to f d s C ≡ ruled_sum f d C
-  sum_to-all f d s [] h = refl
-  sum_to-all f d s (Ruled e n v r ∷ C) h = either e d
-      (λ t y.
-      let h' : max n (ruled d C) ≤ s = rw t at h in
-      let le : leb n s ≡ true = le-leb n s (omega arith) in
-      rw (t, le) (ap (λ z. z + f v (request_in r)) (sum_to-all f d s C (omega arith))))
-      (λ t. let h' : ruled d C ≤ s = rw t at h in rw t (sum_to-all f d s C h'))
-  sum_to-all f d s (_ ∷ C) h = sum_to-all f d s C h
-
   sum_to-last : (f : Verdict → Request → ℕ) (d s : ℕ) (x : Verdict × List ℕ) (C : List Commit) → Good ρ C → last_ruling d C ≡ Some x → ruled d C ≡ s + 1 → ruled_sum_to f d s C + f x.0 (request_in x.1) ≡ ruled_sum f d C
   sum_to-last f d s x [] g e h = cc
   sum_to-last f d s x (Ruled m n v r ∷ C) g e h = either m d
@@ -133,8 +126,8 @@ module _ (ρ : Rules) where
       let next = fits.next in
       let h' : max n (ruled d C) ≡ s + 1 = rw t at h in
       let le : leb n s ≡ false = lt-leb n s (omega arith) in
-      let is : (v, r) ≡ x = some-same (rw t at e) in
-      rw (t, le) (ap (λ z. z + f x.0 (request_in x.1)) (sum_to-all f d s C (omega arith)) ∙ ap (λ (z : Verdict × List ℕ). ruled_sum f d C + f z.0 (request_in z.1)) (sym is)))
+      let is : (v, r) ≡ x = same_Some _ _ (rw t at e) in
+      rw (t, le) (ap (λ z. z + f x.0 (request_in x.1)) (sum-to_all f d s C (omega arith)) ∙ ap (λ (z : Verdict × List ℕ). ruled_sum f d C + f z.0 (request_in z.1)) (sym is)))
       (λ t. let h' : ruled d C ≡ s + 1 = rw t at h in let e' : last_ruling d C ≡ Some x = rw t at e in rw t (sum_to-last f d s x C g.1 e' h'))
   sum_to-last f d s x (_ ∷ C) g e h = sum_to-last f d s x C g.1 e h
 
@@ -183,7 +176,7 @@ module _ (ρ : Rules) where
       (cases_lt (number d C) (ruled d C)))
       (λ (h : ruled d C ≤ settled d C).
       let is : applied_sum f d C ≡ ruled_sum f d C = even (omega arith) in
-      let to : ruled_sum_to f d (settled d C) C ≡ ruled_sum f d C = sum_to-all f d (settled d C) C h in
+      let to : ruled_sum_to f d (settled d C) C ≡ ruled_sum f d C = sum-to_all f d (settled d C) C h in
       let none : flight f d C ≡ 0 = flight-none f (applied_of d (settled d C + 1) C) (in_flight d C) (λ v e. let le = applied-le ρ d (settled d C + 1) v C g e in omega arith) in
       omega arith)
       (cases_lt (settled d C) (ruled d C))
@@ -217,8 +210,8 @@ module _ (ρ : Rules) where
   funds-applied : (n : ℕ) (v : Verdict) (note : List ℕ) (w : Option (ℕ × List ℕ)) (used cleared loaded then_left : ℕ) (q : Request) → w ≡ Some (n, note) → q ≡ request_in note → Funds used cleared loaded (loaded - (used + cleared)) w → Funds used (cleared + takes v q) (loaded + adds v q) then_left (unless_applied n w)
   funds-applied n v note None used cleared loaded l q e s h = cc
   funds-applied n v note (Some p) used cleared loaded l q e s h =
-      let number : p.0 ≡ n = ap (λ (z : ℕ × List ℕ). z.0) (some-same e) in
-      let is : request_in p.1 ≡ q = ap (λ (z : ℕ × List ℕ). request_in z.1) (some-same e) ∙ sym s in
+      let number : p.0 ≡ n = ap (λ (z : ℕ × List ℕ). z.0) (same_Some _ _ e) in
+      let is : request_in p.1 ≡ q = ap (λ (z : ℕ × List ℕ). request_in z.1) (same_Some _ _ e) ∙ sym s in
       let keeps : Keeps (Some p) loaded (loaded - (used + cleared)) = h.keeps in
       let at : (empties q.kind ≡ true → q.amount ≡ loaded - (used + cleared)) × (loaded + adds Granted q ≤ ρ.total) = subst (λ (z : Request). (empties z.kind ≡ true → z.amount ≡ loaded - (used + cleared)) × (loaded + adds Granted z ≤ ρ.total)) is keeps in
       let covered = h.covered in
@@ -266,12 +259,12 @@ module _ (ρ : Rules) where
   pub loads-account : (d : ℕ) (C : List Commit) → Good ρ C → loaded d C ≡ acknowledged_resets d C + flight adds d C
   loads-account d C g =
       let b = balance d C g in
-      settled_account adds d C g (λ e. (b.even e).0) (λ e x h. let o = b.odd e in subst (λ (z : Verdict × List ℕ). loaded d C + adds z.0 (request_in z.1) ≡ bought d C) (some-same (sym o.1 ∙ h)) o.2)
+      settled_account adds d C g (λ e. (b.even e).0) (λ e x h. let o = b.odd e in subst (λ (z : Verdict × List ℕ). loaded d C + adds z.0 (request_in z.1) ≡ bought d C) (same_Some _ _ (sym o.1 ∙ h)) o.2)
 
   pub clears-account : (d : ℕ) (C : List Commit) → Good ρ C → refunded d C ≡ acknowledged_refunds d C + flight takes d C
   clears-account d C g =
       let b = balance d C g in
-      settled_account takes d C g (λ e. (b.even e).1) (λ e x h. let o = b.odd e in subst (λ (z : Verdict × List ℕ). refunded d C + takes z.0 (request_in z.1) ≡ returned d C) (some-same (sym o.1 ∙ h)) o.3)
+      settled_account takes d C g (λ e. (b.even e).1) (λ e x h. let o = b.odd e in subst (λ (z : Verdict × List ℕ). refunded d C + takes z.0 (request_in z.1) ≡ returned d C) (same_Some _ _ (sym o.1 ∙ h)) o.3)
 
   -- the ruling in flight is the last one, where it is applied
   pub flight-last : (f : Verdict → Request → ℕ) (d : ℕ) (C : List Commit) → Good ρ C → settled d C < number d C → (x : Verdict × List ℕ) → last_ruling d C ≡ Some x → flight f d C ≡ f x.0 (request_in x.1)

@@ -3,7 +3,8 @@
 
 use Rattle.std.proofs.Common.{◌≡◌, ℕ, Bool, true, false, List, [], ◌∷◌, Option, Some, None, ◌⊎◌, inl, inr, ⊎_elim, refl, sym, ap, subst, ◌∙◌, true≢false}
 use Rattle.std.specs.Prelude.{◌==◌, ◌&&◌, ◌||◌}
-use Rattle.std.proofs.lemmas.Bool.{eqb-true, cases_Bool, eq-eqb, and_parts}
+use Rattle.std.proofs.lemmas.Bool.{eqb-true, cases_Bool, eq-eqb, and_parts, or_right}
+use Rattle.std.proofs.lemmas.Option.{same_Some}
 use Rattle.bench_base.specs.declared.words.Kind.{Kind}
 use Rattle.bench_base.specs.declared.words.Kind.TheVariants.{Enrol, Reset, Audit, Refund, Withdraw}
 use Rattle.bench_base.specs.declared.words.Verdict.{Verdict}
@@ -15,9 +16,10 @@ use Rattle.psd_wire.specs.declared.message.Request.{Request}
 use Rattle.ledger_terms.specs.Requests.{request_in, note_of, in_note, request_of}
 use Rattle.ledger_terms.specs.Devices.{pending, unless_applied}
 use Rattle.ledger_terms.specs.InFlight.{ruling_of}
-use Rattle.law_good.proofs.Basics.{some-same, either, found, kept_first}
+use Rattle.law_good.proofs.Basics.{found}
 use Rattle.law_good.proofs.Good.{Good, Fits}
 use Rattle.bench_base.specs.Kinds.{is_allowed}
+use Rattle.bench_base.proofs.Facts.{either, kept_first}
 use Rattle.ledger_terms.specs.Devices.{applied_kind, customer, phase_of}
 use Rattle.ledger_terms.specs.Centres.{enrolled}
 use Rattle.law_good.proofs.Kept.{enrolled-kept}
@@ -68,20 +70,16 @@ module _ (ρ : Rules) where
   unfolding Enrolled
   staged-applied n note None a e g q h is s = cc
   staged-applied n note (Some p) a e g q h is s =
-      let same : p.0 ≡ n = ap (λ (z : ℕ × List ℕ). z.0) (some-same h) in
-      let what : request_in p.1 ≡ q = ap (λ (z : ℕ × List ℕ). request_in z.1) (some-same h) ∙ sym is in
+      let same : p.0 ≡ n = ap (λ (z : ℕ × List ℕ). z.0) (same_Some _ _ h) in
+      let what : request_in p.1 ≡ q = ap (λ (z : ℕ × List ℕ). request_in z.1) (same_Some _ _ h) ∙ sym is in
       let before : same_kind q.kind Enrol ≡ false → e ≡ true = subst (λ (z : Request). same_kind z.kind Enrol ≡ false → e ≡ true) what s.pends in
       rw (eq-eqb p.0 n same) (record {
-        audited = λ t. up (g && same_kind q.kind Enrol) e (⊎_elim
+        audited = λ t. or_right (g && same_kind q.kind Enrol) e (⊎_elim
             (λ (x : (g && same_kind q.kind Audit) ≡ true). before (audit-not-enrol q.kind (and_parts g (same_kind q.kind Audit) x).1))
             (λ (x : (g && same_kind q.kind Audit) ≡ false). s.audited (rw x at t))
             (cases_Bool (g && same_kind q.kind Audit)));
         pends = tt;
       })
-    where
-      up : (t e : Bool) → e ≡ true → (t || e) ≡ true
-      up true e h = refl
-      up false e h = h
 
   staged : (d : ℕ) (C : List Commit) → Good ρ C → Staged (pending d C) (applied_kind Audit d C) (applied_kind Enrol d C)
   unfolding Enrolled

@@ -18,11 +18,13 @@ use Rattle.ledger_terms.specs.Sums.{adds, loaded, refunded, bought, returned}
 use Rattle.ledger_terms.specs.Devices.{asked, number, pending, unless_applied}
 use Rattle.ledger_terms.specs.Centres.{ruled}
 use Rattle.ledger_terms.specs.InFlight.{ruling_of}
-use Rattle.law_good.proofs.Basics.{some-same, either, found}
+use Rattle.law_good.proofs.Basics.{found}
 use Rattle.law_good.proofs.Good.{Good, Fits}
 use Rattle.law_money.proofs.Links.{link, waits, waits-some, note-le}
 use Rattle.std.specs.Prelude.{nat_lt}
+use Rattle.std.proofs.lemmas.Option.{same_Some}
 use Rattle.bench_base.specs.Rows.{any_true}
+use Rattle.bench_base.proofs.Facts.{either}
 use Rattle.ledger_terms.specs.Rulings.{verdict, verdict_by, verdict_rows, account_of, out_of_balance, imbalances, buys_limit}
 use Rattle.ledger_lawful.specs.Sane.{is_imbalance}
 use Rattle.law_money.proofs.Links.{Waits}
@@ -44,7 +46,7 @@ Shows (Some p) loaded refunded = Shown (request_in p.1) loaded refunded
 module _ (ρ : Rules) where
   shows-applied : (n : ℕ) (w : Option (ℕ × List ℕ)) (p : ℕ × List ℕ) (a b : ℕ) → w ≡ Some p → p.0 ≡ n → Shows (unless_applied n w) a b
   shows-applied n None p a b h e = cc
-  shows-applied n (Some q) p a b h e = let same : q.0 ≡ n = ap (λ (z : ℕ × List ℕ). z.0) (some-same h) ∙ e in rw (eq-eqb q.0 n same) tt
+  shows-applied n (Some q) p a b h e = let same : q.0 ≡ n = ap (λ (z : ℕ × List ℕ). z.0) (same_Some _ _ h) ∙ e in rw (eq-eqb q.0 n same) tt
 
   shows : (d : ℕ) (C : List Commit) → Good ρ C → Shows (pending d C) (loaded d C) (refunded d C)
   shows d [] g = tt
@@ -67,9 +69,9 @@ module _ (ρ : Rules) where
 
   shown : (w : Option (ℕ × List ℕ)) (p : ℕ × List ℕ) (a b : ℕ) → w ≡ Some p → Shows w a b → Shown (request_in p.1) a b
   shown None p a b h s = cc
-  shown (Some q) p a b h s = subst (λ (z : ℕ × List ℕ). Shown (request_in z.1) a b) (some-same h) s
+  shown (Some q) p a b h s = subst (λ (z : ℕ × List ℕ). Shown (request_in z.1) a b) (same_Some _ _ h) s
 
-  some-if : (w : Option (ℕ × List ℕ)) (a k : ℕ) → Waits ρ w a k → k < a → (p : ℕ × List ℕ) × (w ≡ Some p)
+  pub some-if : (w : Option (ℕ × List ℕ)) (a k : ℕ) → Waits ρ w a k → k < a → (p : ℕ × List ℕ) × (w ≡ Some p)
   some-if None a k h lt = absurd (omega arith)
   some-if (Some p) a k h lt = (p, refl)
 
@@ -82,7 +84,7 @@ module _ (ρ : Rules) where
       let w = waits-some ρ (pending d C) (asked d C) (number d C) p.0.0 p.0.1 p.1 (waits ρ d C g) in
       let same : p.0.0 ≡ n = omega arith in
       let there = subst (λ z. note_of d z C ≡ Some p.0.1) same (pending-asked ρ d p.0 C g p.1) in
-      let is : p.0.1 ≡ r = some-same (sym there ∙ at) in
+      let is : p.0.1 ≡ r = same_Some _ _ (sym there ∙ at) in
       let b = (balance ρ d C g).even (omega arith) in
       let s = shown (pending d C) p.0 (loaded d C) (refunded d C) p.1 (shows d C g) in
       subst (λ (z : List ℕ × ℕ × ℕ). Shown (request_in z.0) z.1 z.2) (λ j. (is j, b.0 j, b.1 j)) s

@@ -4,6 +4,7 @@
 use Rattle.std.proofs.Common.{◌≡◌, ℕ, ◌+◌, ◌<◌, ◌≤◌, Bool, true, false, List, [], ◌∷◌, ◌++◌, length, Some, cond, ⊎_elim, sym, ap, subst, ◌∙◌, arith}
 use Rattle.std.specs.Prelude.{◌&&◌}
 use Rattle.std.proofs.lemmas.Bool.{cases_lt}
+use Rattle.std.proofs.lemmas.Option.{same_Some}
 use Rattle.bench_base.specs.declared.words.Kind.{Kind}
 use Rattle.bench_base.specs.declared.words.Kind.TheVariants.{Enrol, Reset, Audit, Refund, Withdraw}
 use Rattle.bench_base.specs.declared.words.Verdict.{Verdict}
@@ -11,6 +12,7 @@ use Rattle.bench_base.specs.declared.ledger.Commit.{Commit}
 use Rattle.bench_base.specs.declared.ledger.Commit.TheVariants.{Applied, Ruled}
 use Rattle.bench_base.specs.Rules.{Rules}
 use Rattle.bench_base.specs.Kinds.{same_kind, empties, is_granted}
+use Rattle.bench_base.proofs.Facts.{some-none, either}
 use Rattle.psd_wire.specs.declared.message.Request.{Request}
 use Rattle.ledger_terms.specs.Requests.{request_in, in_note, request_of}
 use Rattle.ledger_terms.specs.Sums.{adds, takes, buy_of, return_of, clears, loaded, refunded}
@@ -19,7 +21,6 @@ use Rattle.ledger_terms.specs.Centres.{ruled, settled}
 use Rattle.ledger_terms.specs.InFlight.{ruling_of}
 use Rattle.centre_ledger.specs.Answers.{last_ruling}
 use Rattle.ledger_lawful.specs.Further.{Begins, IsCovered}
-use Rattle.law_good.proofs.Basics.{some-same, some-none, either}
 use Rattle.law_good.proofs.Good.{Good, Fits}
 use Rattle.law_money.proofs.Links.{link, waits, waits-some, ruling-le}
 use Rattle.law_money.proofs.Money.{funds, loads-account, clears-account, last-is, last-some, ruling-asked, flight-last, flight-before}
@@ -43,7 +44,7 @@ module _ (ρ : Rules) where
       let w = waits-some ρ (pending d C) (asked d C) (number d C) n fits.note fits.waits (waits ρ d C g.1) in
       let le : n ≤ ruled d C = ruling-le ρ d n (v, fits.note) C fits.ruled_as in
       let is = subst (λ z. ruling_of d z C ≡ Some x) (rw t at (sym same)) (last-is ρ d x C g.1 h) in
-      let which : (v, fits.note) ≡ x = some-same (sym fits.ruled_as ∙ is) in
+      let which : (v, fits.note) ≡ x = same_Some _ _ (sym fits.ruled_as ∙ is) in
       let asked : request_of d n C ≡ request_in fits.note = ap in_note (ruling-asked ρ d n (v, fits.note) C g.1 fits.ruled_as) in
       let add : adds v (request_of d n C) ≡ adds x.0 (request_in x.1) = ap (adds v) asked ∙ ap (λ (z : Verdict × List ℕ). adds z.0 (request_in z.1)) which in
       let take : takes v (request_of d n C) ≡ takes x.0 (request_in x.1) = ap (takes v) asked ∙ ap (λ (z : Verdict × List ℕ). takes z.0 (request_in z.1)) which in
@@ -106,7 +107,7 @@ module _ (ρ : Rules) where
       (λ (h : number d C < ruled d C).
       let x = b.odd (omega arith) in
       let y = t.odd (omega arith) in
-      let same : y.0 ≡ x.0 = some-same (sym y.1 ∙ x.1) in
+      let same : y.0 ≡ x.0 = same_Some _ _ (sym y.1 ∙ x.1) in
       record {
         bought = buy_of x.0.0 (request_in x.0.1);
         returned = return_of x.0.0 (request_in x.0.1);

@@ -1,8 +1,9 @@
 -- The commits of each node are in its order: what a node's own record needs to be that of the commits.
 use Rattle.std.proofs.Common.{◌≡◌, ℕ, pos, ◌+◌, ◌-◌, ◌≤◌, true, false, List, [], ◌∷◌, Option, Some, None, refl, sym, ap, subst, ◌∙◌, ⊎_elim, true≢false, arith}
 use Rattle.std.specs.Prelude.{◌==◌, ◌&&◌, ◌-ℤ◌, is_some}
-use Rattle.std.proofs.lemmas.Bool.{cases_Bool, eqb-true, and_parts}
+use Rattle.std.proofs.lemmas.Bool.{eqb-true, and_parts}
 use Rattle.std.proofs.lemmas.Int.{ints}
+use Rattle.std.proofs.lemmas.Option.{same_Some}
 use Rattle.bench_base.specs.declared.words.JobState.{JobState}
 use Rattle.bench_base.specs.declared.words.JobState.TheVariants.{Ordered as OrderedJob, Held as HeldJob, Closed as ClosedJob}
 use Rattle.bench_base.specs.declared.words.Verdict.{Verdict}
@@ -10,12 +11,13 @@ use Rattle.bench_base.specs.declared.ledger.Commit.{Commit}
 use Rattle.bench_base.specs.declared.ledger.Commit.TheVariants.{Made, Asked, Applied, Debited, Registered, Opened, Deposited, Flagged, Ruled, Settled, Ordered, Held, Began, Closed, Trusted, Accepted}
 use Rattle.bench_base.specs.Rules.{Rules}
 use Rattle.bench_base.specs.Jobs.{last_job}
+use Rattle.bench_base.proofs.Facts.{some-none, either, none-if}
 use Rattle.host_jobs.specs.Answers.{is_open}
 use Rattle.psd_wire.specs.declared.message.Message.TheVariants as m
 use Rattle.psd_wire.specs.Grammar.{spell}
 use Rattle.ledger_terms.specs.Requests.{request_in}
 use Rattle.ledger_terms.specs.Sums.{loaded, refunded, ascending}
-use Rattle.ledger_terms.specs.Devices.{key_of, asked, number, applied_of, pending, unless_applied, waiting}
+use Rattle.ledger_terms.specs.Devices.{key_of, asked, number, applied_of, pending, waiting}
 use Rattle.ledger_terms.specs.Centres.{registered}
 use Rattle.ledger_terms.specs.InFlight.{ruling_of}
 use Rattle.psd_state.specs.Records as device
@@ -24,23 +26,16 @@ use Rattle.centre_ledger.specs.Order as centre
 use Rattle.host_jobs.specs.Order as host
 use Rattle.host_jobs.specs.Turns as turns
 use Rattle.verifier.specs.Order as verifier
-use Rattle.law_good.proofs.Basics.{some-same, some-none, either, found, none-if}
+use Rattle.law_good.proofs.Basics.{found}
 use Rattle.law_good.proofs.Good.{Good, Fits}
 use Rattle.law_money.proofs.Links.{waits, waits-none, waits-some, applied-le}
 use Rattle.law_money.proofs.Money.{funds, ruling-asked}
-use Rattle.law_money.proofs.Asked.{pending-asked, note-reads}
+use Rattle.law_money.proofs.Asked.{pending-asked, note-reads, unless-some}
 use Rattle.law_jobs.proofs.Jobs.{jobs}
 use Rattle.law_jobs.proofs.Cells.{in-cells, in-cell, unheld, oldest-closed, has-state}
 
 module _ (ρ : Rules) where
   -- == devices ==
-
-  unless-some : (n : ℕ) (w : Option (ℕ × List ℕ)) (p : ℕ × List ℕ) → unless_applied n w ≡ Some p → w ≡ Some p
-  unless-some n None p h = h
-  unless-some n (Some q) p h = ⊎_elim
-      (λ (t : (q.0 == n) ≡ true). absurd (some-none (sym (rw t at h))))
-      (λ (t : (q.0 == n) ≡ false). rw t at h)
-      (cases_Bool (q.0 == n))
 
   -- what is pending was asked by a device that has a key
   pending-made : (d : ℕ) (p : ℕ × List ℕ) (C : List Commit) → Good ρ C → pending d C ≡ Some p → (key : List ℕ) × (key_of d C ≡ Some key) × (p.1 ≡ spell (m.Request (request_in p.1)) key)
@@ -53,7 +48,7 @@ module _ (ρ : Rules) where
   pending-made d p (Asked e n r ∷ C) g h = either e d
       (λ t y.
       let fits = subst (λ z. Fits ρ (Asked z n r) C) y g.0 in
-      let is : (n, r) ≡ p = some-same (rw t at h) in
+      let is : (n, r) ≡ p = same_Some _ _ (rw t at h) in
       (fits.made.0, fits.made.1, subst (λ (z : ℕ × List ℕ). z.1 ≡ spell (m.Request (request_in z.1)) fits.made.0) is fits.made.2))
       (λ t. pending-made d p C g.1 (rw t at h))
   pending-made d p (Applied e n v ∷ C) g h = either e d
@@ -107,7 +102,7 @@ module _ (ρ : Rules) where
   outstanding d key C g has (Some p) at =
       let made = pending-made d p C g at in
       let it = note-reads ρ d p.0 p.1 C g (pending-asked ρ d p C g at) in
-      let same : made.0 ≡ key = some-same (sym made.1 ∙ has) in
+      let same : made.0 ≡ key = same_Some _ _ (sym made.1 ∙ has) in
       let text : p.1 ≡ spell (m.Request (request_in p.1)) key = subst (λ z. p.1 ≡ spell (m.Request (request_in p.1)) z) same made.2 in
       λ i. Some (sym it.number i, text i)
 

@@ -3,12 +3,14 @@
 use Rattle.std.proofs.Common.{◌+◌, IsSome, ◌≡◌, ℕ, ℤ, ◌≤◌, Bool, true, false, List, [], ◌∷◌, Option, Some, None, Ok, refl, sym, ap, subst, ◌∙◌, ⊎_elim, arith}
 use Rattle.std.specs.Prelude.{◌==◌, ◌&&◌, if◌then◌else◌}
 use Rattle.std.proofs.lemmas.Bool.{eqb-true, cases_Bool, eq-eqb, and_parts}
+use Rattle.std.proofs.lemmas.Option.{same_Some}
 use Rattle.bench_base.specs.declared.words.Kind.TheVariants.{Enrol}
 use Rattle.bench_base.specs.declared.ledger.Commit.{Commit}
 use Rattle.bench_base.specs.declared.ledger.Commit.TheVariants.{Made, Applied, Debited, Registered}
 use Rattle.bench_base.specs.Rules.{Rules}
 use Rattle.bench_base.specs.Ranges.{IsDevice, IsWord}
 use Rattle.bench_base.specs.Kinds.{is_granted, same_kind}
+use Rattle.bench_base.proofs.Facts.{some-none, either, first_of-none}
 use Rattle.indicium.specs.declared.Mark.{Mark}
 use Rattle.indicium.specs.Marks as marks
 use Rattle.indicium.specs.Marks.{read_mark}
@@ -19,7 +21,7 @@ use Rattle.ledger_terms.specs.Centres.{registered, origin_in}
 use Rattle.ledger_terms.specs.Devices.{key_of, applied_kind, origin, customer}
 use Rattle.ledger_terms.specs.Franking.{key_or_none, mark_after, indicium_after, kept, marked}
 use Rattle.ledger_lawful.specs.Editions.{IsCarried}
-use Rattle.law_good.proofs.Basics.{some-same, some-none, either, found, first_of-none}
+use Rattle.law_good.proofs.Basics.{found}
 use Rattle.law_good.proofs.Good.{Good, Fits}
 use Rattle.law_money.proofs.Asked.{note-reads}
 use Rattle.law_plans.proofs.Whole.{whole-mark}
@@ -58,7 +60,7 @@ module _ (ρ : Rules) where
   origin-registered : (d : ℕ) (x : ℕ × List ℕ) (C : List Commit) → Good ρ C → registered d C ≡ Some x → IsWord x.0
   origin-registered d x [] g h = absurd (some-none (sym h))
   origin-registered d x (Registered e o k ∷ C) g h = either e d
-      (λ t y. let is : (o, k) ≡ x = some-same (rw t at h) in subst (λ (z : ℕ × List ℕ). IsWord z.0) is g.2.1)
+      (λ t y. let is : (o, k) ≡ x = same_Some _ _ (rw t at h) in subst (λ (z : ℕ × List ℕ). IsWord z.0) is g.2.1)
       (λ t. origin-registered d x C g.1 (rw t at h))
   origin-registered d x (_ ∷ C) g h = origin-registered d x C g.1 h
 
@@ -181,7 +183,7 @@ module _ (ρ : Rules) where
   kept-marked d k key (Debited e p a c t v ∷ C) g h has = either e d
       (λ s y.
       let g' = subst (λ z. Good ρ (Debited z p a c t v ∷ C)) y g in
-      let is : mark_after d p a c t v C ≡ k = some-same (rw s at h) in
+      let is : mark_after d p a c t v C ≡ k = same_Some _ _ (rw s at h) in
       let piece : p ≡ k.piece = ap (λ (z : Mark). z.piece) is in
       let new = marked-new d p a c t v C g' in
       let text : indicium_after d p a c t v C ≡ marks.spell k key = ap (λ o. marks.spell (mark_after d p a c t v C) (key_or_none o)) has ∙ ap (λ (z : Mark). marks.spell z key) is in

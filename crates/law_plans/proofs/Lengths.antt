@@ -2,26 +2,18 @@
 use Rattle.std.proofs.Common.{if◌then◌else◌, ◌≡◌, ℕ, Bool, true, false, List, length, drop, get_or, Option, Some, None, Result, Ok, Err, cond, refl, sym, ap, ◌∙◌, true≢false, length-drop, arith}
 use Rattle.std.specs.Prelude.{◌==◌}
 use Rattle.std.proofs.lemmas.Bool.{eqb-true}
-use Rattle.bench_base.specs.declared.refusals.Unread.{Unread}
-use Rattle.indicium.specs.declared.Mark.{Mark}
+use Rattle.std.proofs.lemmas.Option.{same_Some}
+use Rattle.bench_base.proofs.Facts.{ok-same}
 use Rattle.indicium.specs.Marks.{read_mark}
+use Rattle.indicium.proofs.Readings.{let_through}
 use Rattle.psd_wire.specs.declared.message.Message.{Message}
 use Rattle.psd_wire.specs.declared.message.Message.TheVariants as m
-use Rattle.psd_wire.specs.Grammar.{read, size_of, given, by_tag, release_at, if_mark}
-use Rattle.psd_wire.proofs.Readings.{let_through, held_back}
-use Rattle.law_good.proofs.Basics.{some-same, ok-same}
-
-pub mark-long : (x : List ℕ) (found : Mark × List ℕ) → read_mark x ≡ Ok found → length x ≡ 64
-unfolding read_mark
-mark-long x found e = eqb-true _ _ (let_through _ _ _ _ e).0
-
-there : {A B : Type 0} (e : Unread) (o : Option A) (f : A → Result B Unread) (y : B) → given e o f ≡ Ok y → (a : A) × (o ≡ Some a) × (f a ≡ Ok y)
-there e None f y h = absurd (cc)
-there e (Some a) f y h = (a, refl, h)
+use Rattle.psd_wire.specs.Grammar.{read, size_of, by_tag, release_at, if_mark}
+use Rattle.psd_wire.proofs.Readings.{held_back, there}
 
 -- a test that would give another size doesn't hold
 other : {A : Type 0} (b : Bool) (x y : A) (rest : Option A) → (x ≡ y → ⊥) → cond b (Some x) rest ≡ Some y → (b ≡ false) × (rest ≡ Some y)
-other true x y rest apart h = absurd (apart (some-same h))
+other true x y rest apart h = absurd (apart (same_Some _ _ h))
 other false x y rest apart h = (refl, h)
 
 apart : (a b : ℕ) → (a == b) ≡ false → a ≡ b → ⊥

@@ -1,6 +1,7 @@
 -- What a plan adds keeps the invariant, whatever reply the event gets. A plan is right where its commit fits and its node is on,
 -- where what it tells afterwards keeps the invariant, and where its answer is one that honest devices and centres give.
 use Rattle.std.proofs.Common.{◌≡◌, ◌+◌, ℕ, ℤ, true, [], ◌++◌, Option, Some, None, refl, sym, ap, subst, ◌∙◌, ◌⊎◌, ⊎_elim}
+use Rattle.std.proofs.lemmas.Option.{same_Some, none-some}
 use Rattle.bench_base.specs.declared.words.Node.{Node}
 use Rattle.bench_base.specs.declared.ledger.Commit.{Commit}
 use Rattle.bench_base.specs.declared.events.Event.{Event}
@@ -15,9 +16,10 @@ use Rattle.bench_base.specs.Cells.{is_worn}
 use Rattle.bench_base.specs.Ledger.{Ledger, counted, is_on, day_in}
 use Rattle.ledger_lawful.specs.Sane.{IsSane}
 use Rattle.bench_base.specs.Replies.{Told, LostPower, Faulted, PrinterFailed, told_by}
+use Rattle.bench_base.proofs.Facts.{some-none}
 use Rattle.node_acts.specs.Plans.{with_commit, with_torn, after, after_told, MayFail, Fails, FailsTold}
 use Rattle.ledger_moves.specs.Moves.{OtherUp, FailsToRead, unless_worn, at_node}
-use Rattle.law_good.proofs.Basics.{some-same, some-none, chosen}
+use Rattle.law_good.proofs.Basics.{chosen}
 use Rattle.law_good.proofs.Good.{Fits}
 use Rattle.law_good.proofs.Grown.{Inv, Sure, inv-commit, inv-torn, inv-up}
 
@@ -35,15 +37,12 @@ pub record PlanOk (ρ : Rules) (H : Ledger) (p : Plan) : Type 0 where
   pub fit : (c : Commit) → p.commit ≡ Some c → IsFit ρ H c
   pub keeps : Inv ρ (with_commit p.commit H) → Inv ρ (p.after ++ with_commit p.commit H)
 
-none-some : {A : Type 0} {a : A} {P : Type 0} → None ≡ Some a → P
-none-some e = absurd (cc)
-
 pub ok-refuse : (ρ : Rules) (H : Ledger) (x : Reply) → after (refuse x) x H ≡ H → IsSane x → PlanOk ρ H (refuse x)
-ok-refuse ρ H x e s = record { sane = s; plain = e; no_up = λ n k h. refl; fit = λ c h. none-some h; keeps = λ i. i }
+ok-refuse ρ H x e s = record { sane = s; plain = e; no_up = λ n k h. refl; fit = λ c h. absurd (none-some _ h); keeps = λ i. i }
 
 -- a plan that commits and says no more than that
 pub ok-made : (ρ : Rules) (H : Ledger) (x : Reply) (c : Commit) → after (made x c []) x H ≡ with_commit (Some c) H → IsSane x → ((n : Node) (k : ℕ) → x ≡ r.Up n k → ⊥) → IsFit ρ H c → PlanOk ρ H (made x c [])
-ok-made ρ H x c e s no_up f = record { sane = s; plain = e; no_up = λ n k h. absurd (no_up n k h); fit = λ o h. subst (IsFit ρ H) (some-same h) f; keeps = λ i. i }
+ok-made ρ H x c e s no_up f = record { sane = s; plain = e; no_up = λ n k h. absurd (no_up n k h); fit = λ o h. subst (IsFit ρ H) (same_Some _ _ h) f; keeps = λ i. i }
 
 -- a worn cell refuses what a right plan would commit
 pub ok-worn : (ρ : Rules) (H : Ledger) (p : Plan) → PlanOk ρ H p → PlanOk ρ H (unless_worn (counted H) p p.commit)
@@ -68,7 +67,7 @@ module _ (ρ : Rules) (H : Ledger) (i : Inv ρ H) where
   failed : (p : Plan) → PlanOk ρ H p → (n : Node) → MayFail p n → Inv ρ (with_torn p.commit n H)
   failed p ok n may = torn p.commit n ok.fit (λ c e. ⊎_elim
       (λ (h : (k : ℕ) × (p.reply ≡ r.Up n k)). let none = ok.no_up n h.0 h.1 in absurd (some-none (sym e ∙ none)))
-      (λ (h : (x : Commit) × (p.commit ≡ Some x) × (node_of x ≡ n)). ap node_of (some-same (sym e ∙ h.1)) ∙ h.2)
+      (λ (h : (x : Commit) × (p.commit ≡ Some x) × (node_of x ≡ n)). ap node_of (same_Some _ _ (sym e ∙ h.1)) ∙ h.2)
       may)
 
   other_up : (p : Plan) (was x : Reply) → OtherUp was x H → Inv ρ (after p x H)

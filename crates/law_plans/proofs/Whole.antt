@@ -3,10 +3,6 @@ use Rattle.std.proofs.Common.{ℕ, ℤ, pos, ◌^◌, ◌<◌, ◌≤◌, ◌==�
 use Rattle.std.specs.Int.{w32, cast_unsigned}
 use Rattle.std.proofs.lemmas.Int.{ints}
 use Rattle.std.proofs.Math.Facts.{Fits-of_z}
-use Rattle.bench_base.specs.declared.words.Kind.{Kind}
-use Rattle.bench_base.specs.declared.words.Kind.TheVariants.{Enrol, Reset, Audit, Refund, Withdraw}
-use Rattle.bench_base.specs.declared.words.Verdict.{Verdict}
-use Rattle.bench_base.specs.declared.words.Verdict.TheVariants.{Granted, NotEnrolled, EnrolledAlready, NoCustomer, Suspended, NoFunds, Imbalance}
 use Rattle.bench_base.specs.Ranges.{IsDevice, IsWord, IsDay}
 use Rattle.bench_base.specs.Rules.{IsVersion}
 use Rattle.bench_base.specs.Table.{Four, Eight, IsNumber, Fit}
@@ -19,23 +15,8 @@ use Rattle.psd_wire.specs.declared.message.ReplyMsg.{ReplyMsg}
 use Rattle.psd_wire.specs.declared.message.DoneMsg.{DoneMsg}
 use Rattle.psd_wire.specs.declared.message.DebitMsg.{DebitMsg}
 use Rattle.psd_wire.specs.declared.message.Message.TheVariants as m
-use Rattle.psd_wire.specs.Grammar.{IsWhole, sum_size, kind_code, verdict_code}
-
-kind_byte : (k : Kind) → kind_code k < 2 ^ 8
-kind_byte Enrol = lit< tt
-kind_byte Reset = lit< tt
-kind_byte Audit = lit< tt
-kind_byte Refund = lit< tt
-kind_byte Withdraw = lit< tt
-
-verdict_byte : (v : Verdict) → verdict_code v < 2 ^ 8
-verdict_byte Granted = lit< tt
-verdict_byte NotEnrolled = lit< tt
-verdict_byte EnrolledAlready = lit< tt
-verdict_byte NoCustomer = lit< tt
-verdict_byte Suspended = lit< tt
-verdict_byte NoFunds = lit< tt
-verdict_byte Imbalance = lit< tt
+use Rattle.psd_wire.specs.Grammar.{IsWhole, sum_size}
+use Rattle.psd_wire.proofs.Readings.{kind_byte, verdict_byte}
 
 one_byte : (v : ℕ) → IsVersion v → v < 2 ^ 8
 one_byte v h = omega (arith, h.1)

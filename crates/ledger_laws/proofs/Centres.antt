@@ -9,6 +9,7 @@ use Rattle.bench_base.specs.declared.ledger.Commit.TheVariants.{Ruled}
 use Rattle.bench_base.specs.Rules.{Rules}
 use Rattle.bench_base.specs.Rows.{first_of}
 use Rattle.bench_base.specs.Kinds.{same_kind, is_granted}
+use Rattle.bench_base.proofs.Facts.{is-some}
 use Rattle.ledger_terms.specs.Requests.{request_in}
 use Rattle.ledger_terms.specs.Centres.{enrolled, withdrawn}
 use Rattle.law_good.proofs.Good.{Good}
@@ -26,10 +27,6 @@ stays-some : (t : Bool) (o : Option ℕ) (w : ℕ) → IsSome o → IsSome (cond
 stays-some t None w h = absurd (true≢false (sym h))
 stays-some true (Some x) w h = refl
 stays-some false (Some x) w h = refl
-
-is-some : (o : Option ℕ) (w : ℕ) → o ≡ Some w → IsSome o
-is-some None w h = absurd (cc)
-is-some (Some x) w h = refl
 
 pub withdrawn-enrolled : (ρ : Rules) (d : ℕ) (C : List Commit) → Good ρ C → withdrawn d C ≡ true → IsSome (enrolled d C)
 withdrawn-enrolled ρ d [] g h = absurd (true≢false (sym h))

@@ -4,6 +4,7 @@ use Rattle.std.proofs.Common.{◌≡◌, ℕ, ℤ, pos, ◌≤◌, ◌+ℤ◌, �
 use Rattle.std.specs.Prelude.{◌==◌, nat_lt}
 use Rattle.std.proofs.lemmas.Bool.{cases_Bool}
 use Rattle.std.proofs.lemmas.Int.{ints}
+use Rattle.std.proofs.lemmas.Option.{same_Some, none-some}
 use Rattle.bench_base.specs.declared.words.Node.{Node}
 use Rattle.bench_base.specs.declared.words.Node.TheVariants.{Device, Centre, Host, Verifier}
 use Rattle.bench_base.specs.declared.refusals.MarkFault.{MarkFault}
@@ -27,7 +28,7 @@ use Rattle.psd_wire.specs.declared.message.DebitMsg.{DebitMsg}
 use Rattle.psd_wire.specs.declared.message.Message.{Message}
 use Rattle.psd_wire.specs.declared.message.Message.TheVariants as m
 use Rattle.psd_wire.specs.Grammar.{read}
-use Rattle.psd_wire.proofs.Readings.{read-found}
+use Rattle.psd_wire.proofs.Readings.{read-found, mark_long}
 use Rattle.ledger_terms.specs.Devices.{key_of, pending}
 use Rattle.ledger_terms.specs.Centres.{registered, opened, balance}
 use Rattle.ledger_moves.specs.Devices
@@ -35,30 +36,28 @@ use Rattle.host_jobs.specs.Answers as host
 use Rattle.ledger_moves.specs.Tariffs.{Tariff, TextFault, NoToml, NoForm}
 use Rattle.ledger_lawful.specs.Editions.{IsCarried, Allows, Follows, Editions}
 use Rattle.bench_base.specs.Events.{needs_day}
+use Rattle.bench_base.proofs.Facts.{ok-same}
 use Rattle.ledger_moves.specs.Moves
 use Rattle.ledger_moves.specs.Moves.{plan}
 use Rattle.ledger_moves.specs.Histories.{IsKnown, IsKnownMark, Unforged, History, nothing, begins, moves, earlier}
-use Rattle.law_good.proofs.Basics.{some-same, ok-same, chosen}
+use Rattle.law_good.proofs.Basics.{chosen}
 use Rattle.law_good.proofs.Good.{Fits, Good}
 use Rattle.law_money.proofs.Money.{ruling-asked}
 use Rattle.law_money.proofs.Asked.{note-reads}
-use Rattle.law_plans.proofs.Lengths.{mark-long, mark-behind, long-release}
+use Rattle.law_plans.proofs.Lengths.{mark-behind, long-release}
 use Rattle.law_good.proofs.Grown.{Inv, IsCommand, GenuineAs, genuine-at, inv-none, inv-begin, inv-day, inv-rates, inv-down, inv-up}
 use Rattle.law_plans.proofs.Plans.{PlanOk, ok-refuse, ok-at, moved}
 use Rattle.law_device.proofs.DevicePlans.{ask-ok, debit-ok, ok-shown, make-ok, resend-ok, ack-ok, status-ok, device-ok}
 use Rattle.law_centre.proofs.CentrePlans.{register-ok, open-ok, flag-ok, balance-ok, deposit-ok, centre-ok, reconcile-ok}
 use Rattle.law_host.proofs.HostPlans.{order-ok, send-ok, host-ok, print-ok, close-ok, trust-ok, scan-ok}
 
-none-some : {A : Type 0} {a : A} {P : Type 0} → None ≡ Some a → P
-none-some h = absurd (cc)
-
 pub message-sent : (k : ℕ) (bytes : List ℕ) (H : Ledger) → message k H ≡ Some bytes → IsSent bytes H
-message-sent k bytes [] h = none-some h
+message-sent k bytes [] h = absurd (none-some _ h)
 message-sent k bytes (e.Sent x ∷ H) h = ⊎_elim
-    (λ (t : (k == messages H) ≡ true). inl (some-same (rw t at h)))
+    (λ (t : (k == messages H) ≡ true). inl (same_Some _ _ (rw t at h)))
     (λ (t : (k == messages H) ≡ false). inr (message-sent k bytes H (rw t at h)))
     (cases_Bool (k == messages H))
-message-sent k bytes (e.Begin ∷ H) h = none-some h
+message-sent k bytes (e.Begin ∷ H) h = absurd (none-some _ h)
 message-sent k bytes (_ ∷ H) h = message-sent k bytes H h
 
 -- bytes that were sent are known to whoever takes them
@@ -139,7 +138,7 @@ module _ (τ : Tariff) (ρ : Rules) (carried : IsCarried ρ) (H : Ledger) (i : I
   behind-known bytes s (Err fault) reads = tt
   behind-known bytes s (Ok k) reads = λ key has code.
       let g = i.sents bytes s in
-      let long = mark-behind bytes (mark-long (drop 2 bytes) k reads) in
+      let long = mark-behind bytes (mark_long (drop 2 bytes) k reads) in
       let is = long-release bytes g.what g.reads long in
       genuine-at bytes (m.Release (drop 2 bytes)) H (counted H) g (g.reads ∙ ap (λ (z : Message). Ok z) is)
 
@@ -155,29 +154,29 @@ module _ (τ : Tariff) (ρ : Rules) (carried : IsCarried ρ) (H : Ledger) (i : I
   on-ok : (n : Node) → PlanOk ρ H (Moves.on_plan n H)
   on-ok n = chosen (PlanOk ρ H) (is_on n H) _ _
       (λ _. ok-refuse ρ H (r.OnAlready n) refl tt)
-      (λ _. record { sane = tt; plain = refl; no_up = λ l k h. refl; fit = λ x h. none-some h; keeps = λ j. inv-up ρ H n (count_of n (counted H)) j })
+      (λ _. record { sane = tt; plain = refl; no_up = λ l k h. refl; fit = λ x h. absurd (none-some _ h); keeps = λ j. inv-up ρ H n (count_of n (counted H)) j })
 
   off-ok : (n : Node) → PlanOk ρ H (told (r.Down n) (e.Down n ∷ []))
-  off-ok n = record { sane = tt; plain = refl; no_up = λ l k h. refl; fit = λ x h. none-some h; keeps = λ j. inv-down ρ H n j }
+  off-ok n = record { sane = tt; plain = refl; no_up = λ l k h. refl; fit = λ x h. absurd (none-some _ h); keeps = λ j. inv-down ρ H n j }
 
   reading-ok : (text : List ℕ) (o : Result (ℕ × ℕ) TextFault) → PlanOk ρ H (Moves.reading_plan text o)
   reading-ok text (Err NoToml) = ok-refuse ρ H r.RatesToml refl tt
   reading-ok text (Err NoForm) = ok-refuse ρ H r.RatesForm refl tt
-  reading-ok text (Ok x) = record { sane = tt; plain = refl; no_up = λ l k h. refl; fit = λ y h. none-some h; keeps = λ j. inv-rates ρ H text j }
+  reading-ok text (Ok x) = record { sane = tt; plain = refl; no_up = λ l k h. refl; fit = λ y h. absurd (none-some _ h); keeps = λ j. inv-rates ρ H text j }
 
   rates-ok : (text : List ℕ) → PlanOk ρ H (Moves.rates_plan τ text)
   rates-ok text = chosen (PlanOk ρ H) (nat_lt 65536 (length text)) _ _ (λ _. ok-refuse ρ H r.RatesLength refl tt) (λ _. reading-ok text (τ.reading text))
 
   price-within : (class grams zone : ℕ) (o : Option (List ℕ)) (a : ℕ) → Moves.price_by τ class grams zone o ≡ Some (Ok a) → IsPostage a
-  price-within class grams zone None a h = none-some h
-  price-within class grams zone (Some text) a h = τ.bounds text class grams zone a (some-same h)
+  price-within class grams zone None a h = absurd (none-some _ h)
+  price-within class grams zone (Some text) a h = τ.bounds text class grams zone a (same_Some _ _ h)
 
   reconcile-all : (d : ℕ) (w : Option (List ℕ)) → is_on Centre H ≡ true → PlanOk ρ H (Moves.reconcile_plan d w (counted H))
   reconcile-all d None on = ok-refuse ρ H (r.DevRefused d no.Blank) refl tt
   reconcile-all d (Some key) on = reconcile-ok ρ H i on d _ (registered d (counted H))
 
   day-ok : (x : Event) (text : List ℕ) (today : ℤ) → IsDay today → IsWholeEvent x → Unforged x H → PlanOk ρ H (Moves.plan_on τ ρ H x text today)
-  day-ok (ev.Day t) text today day w u = record { sane = tt; plain = refl; no_up = λ n k h. refl; fit = λ y h. none-some h; keeps = λ j. inv-day ρ H t w j }
+  day-ok (ev.Day t) text today day w u = record { sane = tt; plain = refl; no_up = λ n k h. refl; fit = λ y h. absurd (none-some _ h); keeps = λ j. inv-day ρ H t w j }
   day-ok ev.End text today day w u = ok-refuse ρ H r.End refl tt
   day-ok ev.Rates text today day w u = rates-ok text
   day-ok (ev.On n) text today day w u = on-ok n
@@ -210,7 +209,7 @@ module _ (τ : Tariff) (ρ : Rules) (carried : IsCarried ρ) (H : Ledger) (i : I
   dated-ok x text (Some today) is w u = day-ok x text today (i.dated today is) w u
 
   undated-ok : (x : Event) (text : List ℕ) → needs_day x ≡ false → IsWholeEvent x → PlanOk ρ H (Moves.plan_on τ ρ H x text (pos 0))
-  undated-ok (ev.Day t) text free w = record { sane = tt; plain = refl; no_up = λ n k h. refl; fit = λ y h. none-some h; keeps = λ j. inv-day ρ H t w j }
+  undated-ok (ev.Day t) text free w = record { sane = tt; plain = refl; no_up = λ n k h. refl; fit = λ y h. absurd (none-some _ h); keeps = λ j. inv-day ρ H t w j }
   undated-ok ev.End text free w = ok-refuse ρ H r.End refl tt
   undated-ok _ text free w = absurd (true≢false free)
 

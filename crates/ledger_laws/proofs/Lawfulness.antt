@@ -3,6 +3,7 @@
 use Rattle.std.proofs.Common.{◌≡◌, ℕ, ◌+◌, ◌-◌, ◌<◌, ◌≤◌, true, false, List, [], ◌∷◌, Option, Some, None, refl, sym, ap, subst, ◌∙◌, true≢false, inl, inr, ⊎_elim, arith}
 use Rattle.std.specs.Prelude.{is_some}
 use Rattle.std.proofs.lemmas.Bool.{cases_Bool, cases_lt, eq-eqb}
+use Rattle.std.proofs.lemmas.Option.{same_Some}
 use Rattle.bench_base.specs.declared.words.Kind.{Kind}
 use Rattle.bench_base.specs.declared.words.Kind.TheVariants.{Enrol, Reset, Audit, Refund, Withdraw}
 use Rattle.bench_base.specs.declared.words.Verdict.{Verdict}
@@ -11,6 +12,7 @@ use Rattle.bench_base.specs.declared.ledger.Commit.TheVariants.{Asked, Applied, 
 use Rattle.bench_base.specs.Rules.{Rules}
 use Rattle.bench_base.specs.Kinds.{same_kind, empties, is_granted}
 use Rattle.bench_base.specs.Ledger.{Ledger, counted}
+use Rattle.bench_base.proofs.Facts.{some-none, either, none-if}
 use Rattle.psd_wire.specs.declared.message.Request.{Request}
 use Rattle.ledger_terms.specs.Requests.{request_in, note_of, in_note, request_of}
 use Rattle.ledger_terms.specs.Sums.{adds, takes, loaded, descending}
@@ -21,12 +23,11 @@ use Rattle.centre_ledger.specs.Answers.{last_ruling}
 use Rattle.ledger_lawful.specs.Lawful.{Always, asks, Numbering, NextDebit, Totals, Refunds, AfterApplied, Accounts, Solvent, Days, AcceptedOnce, HeldOnce, held_piece, LawfulAt, Lawful}
 use Rattle.ledger_lawful.specs.Links.{Link}
 use Rattle.ledger_lawful.specs.Further.{HasOwner, NoImbalance, IsFitting}
-use Rattle.law_good.proofs.Basics.{some-same, some-none, either, none-if}
 use Rattle.law_good.proofs.Good.{Good, Fits}
-use Rattle.law_money.proofs.Links.{Waits, link, waits, waits-none, waits-some, ruling-le, note-le, applied-le}
+use Rattle.law_money.proofs.Links.{link, waits, waits-none, waits-some, ruling-le, note-le, applied-le}
 use Rattle.law_money.proofs.Money.{Keeps, funds, account, applied-some, ruling-asked, last-is, last-some}
 use Rattle.law_money.proofs.Asked.{pending-asked, since-asked}
-use Rattle.law_money.proofs.Requests.{sane-here}
+use Rattle.law_money.proofs.Requests.{sane-here, some-if}
 use Rattle.law_money.proofs.Customers.{solvent}
 use Rattle.law_money.proofs.Owners.{owner}
 use Rattle.law_jobs.proofs.Jobs.{jobs}
@@ -100,11 +101,7 @@ module _ (ρ : Rules) where
   -- a refund that is pending is of all that is left
   all-left : (w : Option (ℕ × List ℕ)) (p : ℕ × List ℕ) (loaded left : ℕ) → w ≡ Some p → Keeps ρ w loaded left → empties (request_in p.1).kind ≡ true → (request_in p.1).amount ≡ left
   all-left None p loaded left h k = absurd (some-none (sym h))
-  all-left (Some q) p loaded left h k = subst (λ (z : ℕ × List ℕ). empties (request_in z.1).kind ≡ true → (request_in z.1).amount ≡ left) (some-same h) k.0
-
-  some-if : (w : Option (ℕ × List ℕ)) (a k : ℕ) → Waits ρ w a k → k < a → (p : ℕ × List ℕ) × (w ≡ Some p)
-  some-if None a k h lt = absurd (omega arith)
-  some-if (Some p) a k h lt = (p, refl)
+  all-left (Some q) p loaded left h k = subst (λ (z : ℕ × List ℕ). empties (request_in z.1).kind ≡ true → (request_in z.1).amount ≡ left) (same_Some _ _ h) k.0
 
   no-adds : (v : Verdict) (q : Request) → empties q.kind ≡ true → adds v q ≡ 0
   unfolding adds
@@ -120,11 +117,11 @@ module _ (ρ : Rules) where
       let l = link ρ d C g.1 in
       let next = g.0.next in
       let le = note-le ρ d n r C g.1 g.0.asked_as in
-      let p = some-if (pending d C) (asked d C) (number d C) (waits ρ d C g.1) (omega arith) in
+      let p = some-if ρ (pending d C) (asked d C) (number d C) (waits ρ d C g.1) (omega arith) in
       let w = waits-some ρ (pending d C) (asked d C) (number d C) p.0.0 p.0.1 p.1 (waits ρ d C g.1) in
       let same : p.0.0 ≡ n = omega arith in
       let at = subst (λ z. note_of d z C ≡ Some p.0.1) same (pending-asked ρ d p.0 C g.1 p.1) in
-      let is : p.0.1 ≡ r = some-same (sym at ∙ g.0.asked_as) in
+      let is : p.0.1 ≡ r = same_Some _ _ (sym at ∙ g.0.asked_as) in
       let f = funds ρ d C g.1 in
       let all = all-left (pending d C) p.0 (loaded d C) (descending d C) p.1 f.keeps in
       subst (λ (z : List ℕ). empties (request_in z).kind ≡ true → (request_in z).amount ≡ descending d C) is all kind
@@ -235,7 +232,7 @@ module _ (ρ : Rules) where
   stored-last : (d : ℕ) (x : Verdict × List ℕ) (C : List Commit) → last_ruling d C ≡ Some x → stored_request d C ≡ Some x.1
   stored-last d x [] h = absurd (some-none (sym h))
   stored-last d x (Ruled f n v note ∷ C) h = either f d
-      (λ t y. let is : (v, note) ≡ x = some-same (rw t at h) in rw t (ap (λ (z : Verdict × List ℕ). Some z.1) is))
+      (λ t y. let is : (v, note) ≡ x = same_Some _ _ (rw t at h) in rw t (ap (λ (z : Verdict × List ℕ). Some z.1) is))
       (λ t. rw t (stored-last d x C (rw t at h)))
   stored-last d x (_ ∷ C) h = stored-last d x C h
 

@@ -1,6 +1,7 @@
 -- What a call of a node leaves.
 use Rattle.std.proofs.Common.{◌≡◌, ◌⊎◌, inl, inr, ⊎_elim, ℕ, ◌+◌, List, Option, Some, None, Bool, true, false, not, ◌&&◌, if◌then◌else◌, refl, sym, ◌∙◌, ap, subst}
 use Rattle.std.specs.Prelude.{IfSome}
+use Rattle.std.proofs.lemmas.Bool.{and_left}
 use Rattle.bench_base.specs.declared.ledger.Commit.{Commit}
 use Rattle.nv_model.specs.declared.nv.Nv as nv
 use Rattle.nv_model.specs.Moments.{Image, Nested, Elapses}
@@ -34,14 +35,6 @@ both_of : (b x : Bool) → b ≡ true → (b && x) ≡ x
 both_of true x is = refl
 both_of false x is = cc
 
-not_both : (b x : Bool) → b ≡ false → (b && x) ≡ false
-not_both true x is = cc
-not_both false x is = refl
-
-pub not_worn : (b : Bool) → (b ≡ true → ⊥) → b ≡ false
-not_worn true isnt = absurd (isnt refl)
-not_worn false isnt = refl
-
 true_not_false : (b : Bool) → b ≡ true → b ≡ false → ⊥
 true_not_false true is isnt = cc
 true_not_false false is isnt = cc
@@ -51,7 +44,7 @@ module _ {K S N C R : Type 0} (n : Ghosts K S N C R) (g : nv.Ghosts S) {F A : Ty
   pub off_call : (k : K) → n.is_on k ≡ false → CallDoes n g act k k o.Off
   off_call k off = record {
     off = (λ e. off, λ e. refl);
-    leaves = off ∙ sym (not_both (n.is_on k) true off);
+    leaves = off ∙ sym (and_left (n.is_on k) true off);
     comes = λ d v st tells. sym (if_false v.on (outcome_in n.counting v.state (act v.state)) o.Off (sym st.on ∙ off));
     stands = λ d v st tells fit. st;
     turn = λ d v st tells.

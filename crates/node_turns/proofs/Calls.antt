@@ -1,6 +1,7 @@
 -- A node that was called, by the act of the call.
 use Rattle.std.proofs.Common.{◌≡◌, ◌≢◌, ◌⊎◌, inl, inr, ℕ, ℤ, ◌≤◌, [], Option, Some, None, Bool, true, false, not, ◌&&◌, ◌↔◌, refl, sym, ◌∙◌, ap, subst, true≢false, arith, if◌then◌else◌}
 use Rattle.std.specs.Prelude.{IfSome}
+use Rattle.std.proofs.Math.Bool.{and-true, and-false}
 use Rattle.bench_base.specs.declared.words.Node.{Node}
 use Rattle.bench_base.specs.declared.ledger.Commit.{Commit}
 use Rattle.bench_base.specs.declared.events.Event.{Event}
@@ -186,21 +187,13 @@ module _ {X : Type 0} (m : Node) (e : Event) (of : IsCallOf m e) (act : Act X Re
   call_off (o.Power c) came was found = (λ is. cc, λ off. let is = found.1 off in cc)
   call_off (o.Fault c) came was found = (λ is. cc, λ off. let is = found.1 off in cc)
 
-  and_true : (b : Bool) → (b && true) ≡ b
-  and_true true = refl
-  and_true false = refl
-
-  and_false : (b : Bool) → (b && false) ≡ false
-  and_false true = refl
-  and_false false = refl
-
   call_leaves : (x : Outcome Reply Said) → CameOf act x → (was : Bool) → (was && not (has_failed x)) ≡ leaves_on (told_by (said_reply m x)) was
-  call_leaves o.Off came was = and_true was
-  call_leaves (o.Refused y) came was = and_true was ∙ sym (ap (λ (t : Told). leaves_on t was) (refuses_by m e act y told came).told)
-  call_leaves (o.Done a) came was = and_true was ∙ sym (ap (λ (t : Told). leaves_on t was) (says_by m e act a told came).told)
-  call_leaves o.Worn came was = and_true was
-  call_leaves (o.Power c) came was = and_false was
-  call_leaves (o.Fault c) came was = and_false was
+  call_leaves o.Off came was = and-true was
+  call_leaves (o.Refused y) came was = and-true was ∙ sym (ap (λ (t : Told). leaves_on t was) (refuses_by m e act y told came).told)
+  call_leaves (o.Done a) came was = and-true was ∙ sym (ap (λ (t : Told). leaves_on t was) (says_by m e act a told came).told)
+  call_leaves o.Worn came was = and-true was
+  call_leaves (o.Power c) came was = and-false was
+  call_leaves (o.Fault c) came was = and-false was
 
 -- what was done was done by a node that is on
 pub done_on : (on : Bool) (y : Outcome Reply Said) (a : Said) → o.Done a ≡ (if on then y else o.Off) → on ≡ true

@@ -1,14 +1,13 @@
 -- A node that was switched on or off, and one whose fuse was armed.
 use Rattle.std.proofs.Common.{◌≡◌, ◌≢◌, inl, inr, ℕ, ℤ, List, [], ◌∷◌, Some, None, Bool, true, false, if◌then◌else◌, ◌↔◌, refl, sym, ◌∙◌, ap, subst, true≢false, arith}
-use Rattle.std.proofs.lemmas.Bool.{eq-eqb}
 use Rattle.bench_base.specs.declared.words.Node.{Node}
 use Rattle.bench_base.specs.declared.ledger.Entry.TheVariants as entry
 use Rattle.bench_base.specs.declared.events.Event.TheVariants as ev
 use Rattle.bench_base.specs.declared.events.Reply.TheVariants as r
-use Rattle.bench_base.specs.declared.words.Node.TheVariants.{Device, Centre, Host, Verifier}
 use Rattle.bench_base.specs.Nodes.{same_node}
 use Rattle.bench_base.specs.Plans.{Plan, refuse, told}
 use Rattle.bench_base.specs.Replies.{has_read, is_refusal, MayGet, told_by}
+use Rattle.bench_base.proofs.Facts.{same_node-self}
 use Rattle.nv_model.specs.declared.nv.Nv as nv
 use Rattle.nv_model.specs.declared.fuse.Fuse as fuse
 use Rattle.nv_model.specs.Meters.{Meters}
@@ -31,15 +30,7 @@ use Rattle.node_turns.specs.Adds.{Adds}
 use Rattle.node_turns.specs.Costs.{Charged}
 use Rattle.node_turns.specs.NodeTurns.{Switches, NodeTurn}
 use Rattle.node_turns.specs.Turns.{in_order, start_turn, stop_turn, turn_of}
-
-same_self : (m : Node) → same_node m m ≡ true
-same_self (Device d) = eq-eqb d d refl
-same_self Centre = refl
-same_self Host = refl
-same_self Verifier = refl
-
-no : {P : Type 0} → false ≡ true → P
-no is = absurd (true≢false (sym is))
+use Rattle.node_turns.proofs.Calls.{no}
 
 -- == by what is seen of the node ==
 
@@ -178,7 +169,7 @@ module _ (m : Node) where
       (record { cuts = omega arith; faults = omega arith; fuse = λ cut. absurd (own_cut m cut); power = λ e. no e; fault = λ e. no e })
     where
       own_cut : (i : Node) → same_node i i ≡ false → ⊥
-      own_cut i is = absurd (true≢false (sym (same_self i) ∙ is))
+      own_cut i is = absurd (true≢false (sym (same_node-self i) ∙ is))
 
 -- == a node in its place ==
 

@@ -1,6 +1,6 @@
 -- One call more in the record.
 use Rattle.std.proofs.Common.{◌≡◌, ◌⊎◌, inl, inr, ⊎_elim, ℕ, zero, suc, ◌+◌, ◌-◌, ◌≤◌, ◌<◌, List, [], ◌∷◌, ◌++◌, length, take, drop, get_or, Bool, true, false, ◌||◌, nat_le, nat_lt, sym, ◌∙◌, ap, subst, arith, refl, length-append}
-use Rattle.std.proofs.lemmas.Bool.{cases_eq, cases_lt, and_parts, and_from, leb-true, le-leb, lt-ltb, lt-leb, le-ltb, and_left, and_right}
+use Rattle.std.proofs.lemmas.Bool.{cases_eq, cases_lt, and_parts, and_from, leb-true, le-leb, lt-ltb, lt-leb, le-ltb, and_left, and_right, or_from, or_right}
 use Rattle.std.proofs.lemmas.List.{take-append-le, drop-append-le, take_all, get_or-take, get_or-drop, length-drop, length-take-le, drop_at, append-nil}
 use Rattle.nv_model.specs.Bytes.{SameOutside, laid, range}
 use Rattle.nv_model.specs.Moments.{IsImage, Writes}
@@ -9,9 +9,6 @@ use Rattle.nv_model.specs.declared.step.Step.{Step}
 use Rattle.nv_model.specs.declared.step.Step.TheVariants.{Written, Torn, Synced}
 use Rattle.nv_model.proofs.Ranges.{laid_outside, laid_range}
 use Rattle.nv_model.proofs.Images.{byte_outside, image_alone}
-
-le_test : (m n : ℕ) → m ≤ n → nat_le m n ≡ true
-le_test m n le = le-leb m n le
 
 fits_first : (n : ℕ) (at len first : ℕ) (steps : List Step) → fits_all n (Written at len first ∷ steps) ≡ true → (first + len ≤ n) × (fits_all n steps ≡ true)
 fits_first n at len first steps fits = let both = and_parts (nat_le (first + len) n) (fits_all n steps) fits in (leb-true (first + len) n both.0, both.1)
@@ -24,9 +21,9 @@ fits_take n (suc k) (Torn at len byte ∷ steps) fits = fits_take n k steps fits
 fits_take n (suc k) (Synced ∷ steps) fits = fits_take n k steps fits
 
 pub fits_push : (n m : ℕ) (steps : List Step) (at len first : ℕ) → n ≤ m → first + len ≤ m → fits_all n steps ≡ true → fits_all m (steps ++ Written at len first ∷ []) ≡ true
-fits_push n m [] at len first le room fits = and_from (nat_le (first + len) m) true (le_test (first + len) m room) refl
+fits_push n m [] at len first le room fits = and_from (nat_le (first + len) m) true (le-leb (first + len) m room) refl
 fits_push n m (Written at' len' first' ∷ steps) at len first le room fits = let both = fits_first n at' len' first' steps fits in
-    and_from (nat_le (first' + len') m) (fits_all m (steps ++ Written at len first ∷ [])) (le_test (first' + len') m (omega (arith, both.0))) (fits_push n m steps at len first le room both.1)
+    and_from (nat_le (first' + len') m) (fits_all m (steps ++ Written at len first ∷ [])) (le-leb (first' + len') m (omega (arith, both.0))) (fits_push n m steps at len first le room both.1)
 fits_push n m (Torn at' len' byte ∷ steps) at len first le room fits = fits_push n m steps at len first le room fits
 fits_push n m (Synced ∷ steps) at len first le room fits = fits_push n m steps at len first le room fits
 
@@ -55,10 +52,6 @@ stood_more bytes more steps x start k le fits =
 pub stood_end : (bytes : List ℕ) (steps : List Step) (start : List ℕ) → stood bytes steps start (length steps) ≡ replay bytes steps (at_first start)
 stood_end bytes steps start = ap (λ (l : List Step). replay bytes l (at_first start)) (take_all (length steps) steps (omega arith))
 
-or_false : (a b : Bool) → a ≡ false → b ≡ false → (a || b) ≡ false
-or_false true b p q = cc p
-or_false false b p q = q
-
 left_false : (a b : Bool) → (a || b) ≡ false → a ≡ false
 left_false true b p = cc p
 left_false false b p = refl
@@ -83,7 +76,7 @@ module _ (bytes more : List ℕ) (steps : List Step) (x : Step) (start : List �
         passed = omega (arith, long);
         image = subst (λ (s : Stand). IsImage s.base s.written c) (sym same) (record {
           size = stands.image.size;
-          same = λ i not. stands.image.same i (or_false ((replay bytes steps (at_first start)).written i) (get_or marks i false) not (none i));
+          same = λ i not. stands.image.same i (or_from ((replay bytes steps (at_first start)).written i) (get_or marks i false) not (none i));
         });
       }
 
@@ -170,10 +163,6 @@ module _ (bytes more : List ℕ) (steps : List Step) (at : ℕ) (start : List �
   pub write_fits : fits_all (length (bytes ++ more)) (steps ++ write ∷ []) ≡ true
   write_fits = fits_push (length bytes) (length (bytes ++ more)) steps at (length more) (length bytes) (omega (arith, length-append bytes more)) (omega (arith, length-append bytes more)) fits
 
-  or_intro : (a b : Bool) → a ≡ true → (b || a) ≡ true
-  or_intro a true is = refl
-  or_intro a false is = is
-
   or_either : (a b c : Bool) → (a || b) ≡ true → (a || b || c) ≡ true
   or_either true b c is = refl
   or_either false true c is = refl
@@ -192,7 +181,7 @@ module _ (bytes more : List ℕ) (steps : List Step) (at : ℕ) (start : List �
 
   pub write_places : (marks : List Bool) → Writes at (length more) (marked before.written marks) (marked after.written marks)
   write_places marks = record {
-    inside = λ i le lt. ap (λ (s : Stand). s.written i || get_or marks i false) write_stand ∙ or_either (before.written i) (within at (length more) i) (get_or marks i false) (or_intro (within at (length more) i) (before.written i) (within_in at (length more) i le lt));
+    inside = λ i le lt. ap (λ (s : Stand). s.written i || get_or marks i false) write_stand ∙ or_either (before.written i) (within at (length more) i) (get_or marks i false) (or_right (before.written i) (within at (length more) i) (within_in at (length more) i le lt));
     outside = λ i out. ap (λ (s : Stand). s.written i || get_or marks i false) write_stand ∙ or_middle (before.written i) (within at (length more) i) (get_or marks i false) (within_out at (length more) i out);
   }
 
@@ -206,7 +195,7 @@ module _ (bytes more : List ℕ) (steps : List Step) (at : ℕ) (start : List �
       place i not = elim (cases_lt i at) [
         | inl lt ↦ inl lt
         | inr ge ↦ elim (cases_lt i (at + length more)) [
-          | inl lt ↦ absurd (cc (or_intro (within at (length more) i) (before.written i) (within_in at (length more) i ge lt), not))
+          | inl lt ↦ absurd (cc (or_right (before.written i) (within at (length more) i) (within_in at (length more) i ge lt), not))
           | inr past ↦ inr past
         ]
       ]
@@ -248,7 +237,7 @@ module _ (bytes : List ℕ) (steps : List Step) (start : List ℕ) (fits : fits_
     where
       go : (l : List Step) → fits_all (length bytes) l ≡ true → fits_all (length bytes) (l ++ Synced ∷ []) ≡ true
       go [] f = refl
-      go (Written at len first ∷ l) f = let both = fits_first (length bytes) at len first l f in and_from (nat_le (first + len) (length bytes)) (fits_all (length bytes) (l ++ Synced ∷ [])) (le_test (first + len) (length bytes) both.0) (go l both.1)
+      go (Written at len first ∷ l) f = let both = fits_first (length bytes) at len first l f in and_from (nat_le (first + len) (length bytes)) (fits_all (length bytes) (l ++ Synced ∷ [])) (le-leb (first + len) (length bytes) both.0) (go l both.1)
       go (Torn at len byte ∷ l) f = go l f
       go (Synced ∷ l) f = go l f
 

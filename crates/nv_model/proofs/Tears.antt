@@ -95,12 +95,6 @@ kept_then old at bytes keep byte room =
       | inr ge ↦ take_all k bytes (omega (arith, is, ge)) ∙ sym (take_all keep bytes ge)
     ]
 
-pub take_run : (k n byte : ℕ) → k ≤ n → take k (replicate n byte) ≡ replicate k byte
-take_run k n byte le =
-    let a = replicate k byte in
-    let b = replicate (n - k) byte in
-    ap (λ (m : ℕ). take k (replicate m byte)) (omega (arith, le)) ∙ ap (λ (l : List ℕ). take k l) (sym (replicate-append-replicate k (n - k) byte)) ∙ ap (λ (m : ℕ). take m (a ++ b)) (sym (length-replicate k byte)) ∙ take-append_seam a b
-
 pub on_true : {T E P : Type 0} (r : Result T E) → is_ok r ≡ true → OnOk r P → P
 on_true (Ok x) is p = p
 on_true (Err e) is p = cc is

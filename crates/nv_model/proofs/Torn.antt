@@ -1,6 +1,6 @@
 -- A range filled with a byte, and marks for writes that the record has no room for.
 use Rattle.std.proofs.Common.{◌≡◌, ◌⊎◌, inl, inr, ⊎_elim, ℕ, ◌+◌, ◌≤◌, List, [], ◌∷◌, ◌++◌, length, get_or, replicate, Bool, true, false, ◌||◌, sym, ◌∙◌, ap, subst, arith, refl, length-append}
-use Rattle.std.proofs.lemmas.Bool.{cases_lt}
+use Rattle.std.proofs.lemmas.Bool.{cases_lt, or_right}
 use Rattle.std.proofs.lemmas.List.{append-nil, take-append-le, take_all}
 use Rattle.nv_model.specs.Bytes.{laid}
 use Rattle.nv_model.specs.Moments.{Times, Tears, IsImage, Writes}
@@ -85,14 +85,6 @@ module _ (bytes : List ℕ) (steps : List Step) (at n byte : ℕ) (start : List 
 module _ (bytes : List ℕ) (steps : List Step) (start : List ℕ) where
   abbrev stand : Stand
   stand = replay bytes steps (at_first start)
-
-  or_right : (a b : Bool) → b ≡ true → (a || b) ≡ true
-  or_right true b is = refl
-  or_right false b is = is
-
-  parts : (a b : Bool) → (a || b) ≡ false → (a ≡ false) × (b ≡ false)
-  parts true b is = cc is
-  parts false b is = (refl, is)
 
   pub marks_places : (old new : List Bool) (at n : ℕ) → Writes at n (λ i. get_or old i false) (λ i. get_or new i false) → Writes at n (marked stand.written old) (marked stand.written new)
   marks_places old new at n writes = record {

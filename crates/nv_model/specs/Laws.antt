@@ -1,13 +1,10 @@
 -- What is an image of a medium.
-use Rattle.std.proofs.Common.{◌≡◌, inl, inr, ⊎_elim, ℕ, List, length, get_or, Bool, true, false, ◌||◌, sym, ◌∙◌, ap, arith, refl}
+use Rattle.std.proofs.Common.{◌≡◌, inl, inr, ⊎_elim, ℕ, List, length, get_or, Bool, false, sym, ◌∙◌, ap, arith}
 use Rattle.std.proofs.lemmas.List.{take_all}
+use Rattle.std.proofs.lemmas.Bool.{or_parts}
 use Rattle.nv_model.specs.Moments.{Times, Image, Nested, IsImage}
 use Rattle.nv_model.specs.Replay.{Stand, replay, at_first, stood, marked, SinceMoment}
 use Rattle.nv_model.specs.declared.step.Step.{Step}
-
-parts : (a b : Bool) → (a || b) ≡ false → (a ≡ false) × (b ≡ false)
-parts true b is = cc is
-parts false b is = (refl, is)
 
 module _ (bytes : List ℕ) (steps : List Step) (start : List ℕ) where
   abbrev stand : Stand
@@ -26,7 +23,7 @@ module _ (bytes : List ℕ) (steps : List Step) (start : List ℕ) where
   image_now marks c now = ⊎_elim (λ passed. absurd (omega (arith, passed.from, passed.passed))) (λ stands. stands.image) now
 
   pub content_image : (marks : List Bool) (c : List ℕ) → IsImage stand.base stand.written c → Image (times marks) c
-  content_image marks c image = now_image marks c (record { size = image.size; same = λ i not. image.same i (parts (stand.written i) (get_or marks i false) not).0 })
+  content_image marks c image = now_image marks c (record { size = image.size; same = λ i not. image.same i (or_parts (stand.written i) (get_or marks i false) not).0 })
 
   pub since_sized : (size : ℕ) (marks : List Bool) (t : ℕ) (c : List ℕ) → ((k : ℕ) → length (stood bytes steps start k).base ≡ size) → SinceMoment bytes steps start marks t c → length c ≡ size
   since_sized size marks t c all now = ⊎_elim

@@ -1,7 +1,7 @@
 -- That a device meets the laws of a node.
-use Rattle.std.proofs.Common.{◌≡◌, ⊎_elim, ℕ, ◌+◌, ◌≤◌, List, Option, false, ◌==◌, ◌∙◌, ap, arith}
-use Rattle.std.proofs.lemmas.Bool.Decides.{nat_tests}
-use Rattle.bench_base.specs.declared.sizes.TheConstants.{MOST_COMMITS, RECORD_BYTES, SLOTS, DEVICE_BYTES}
+use Rattle.std.proofs.Common.{◌≡◌, ⊎_elim, ℕ, ◌+◌, List, Option, false, ◌∙◌, ap, arith}
+use Rattle.bench_base.specs.declared.sizes.TheConstants.{RECORD_BYTES, SLOTS, DEVICE_BYTES}
+use Rattle.bench_base.proofs.Facts.{few_more}
 use Rattle.nv_model.specs.declared.nv.Nv.{Ghosts}
 use Rattle.nv_store.specs.Slot.{slots_at}
 use Rattle.psd_state.specs.State.{State}
@@ -23,9 +23,6 @@ pub one_shown : (d : ℕ) (a b : Seen) (c : List ℕ) → IsSound d a → IsSoun
 one_shown d a b c own own' shown shown' =
     let same = knows.one_shown a.count b.count a.state b.state c own.blank own'.blank shown shown' in
     seen_same a b same.0 same.1
-
-few_more : (count : ℕ) → count ≤ MOST_COMMITS → (count == MOST_COMMITS) ≡ false → count + 1 ≤ MOST_COMMITS
-few_more count few fresh = grind (arith, nat_tests)
 
 pub keeps : (d : ℕ) (s : Seen) (x : State) → IsSound d s → IsKept x → x.device ≡ d → counting.is_worn s x ≡ false → IsSound d (counting.after s x)
 keeps d s x sound kept number fresh = record {

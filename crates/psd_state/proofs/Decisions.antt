@@ -1,13 +1,9 @@
 -- What the record's answers say of the act.
-use Rattle.std.proofs.Common.{◌≡◌, ℕ, ℤ, ◌<◌, ◌↔◌, List, Bool, IsTrue, refl, Ok}
-use Rattle.std.proofs.lemmas.Bool.{leb-false, leb-true, le-leb}
-use Rattle.std.proofs.lemmas.Bool.Decides.{same_from_decides, Decides-and}
-use Rattle.std.proofs.lemmas.Slice.Eq.{bytes_eq-Decides}
+use Rattle.std.proofs.Common.{◌≡◌, ℕ, ℤ, ◌<◌, List, refl, Ok}
+use Rattle.std.proofs.lemmas.Bool.{leb-false}
 use Rattle.bench_base.specs.Rules.{Rules}
 use Rattle.bench_base.specs.declared.words.Kind.{Kind}
 use Rattle.bench_base.specs.declared.refusals.DevRefusal.TheVariants as no
-use Rattle.psd_wire.specs.Codes.{has_code}
-use Rattle.psd_wire.specs.Grammar.{HasCode}
 use Rattle.psd_state.specs.State.{State}
 use Rattle.psd_state.specs.Answers.{ask_answer, ask_rows, waiting_kind}
 use Rattle.psd_state.proofs.Keeping.{passes, unless-passes}
@@ -18,8 +14,3 @@ asks-below ρ s k who a today x e =
     let idle = unless-passes (waiting_kind s.pending) no.Busy _ x e in
     let rows = passes (ask_rows ρ s k a today) _ x (refl, (refl, (refl, (refl, (refl, (refl, tt)))))) idle.1 in
     leb-false 4294967295 s.number rows.0.1.1.1.1.1.0
-
--- the test of a code
-pub code-is : (key bytes : List ℕ) (b : Bool) → (IsTrue b ↔ HasCode bytes key) → b ≡ has_code key bytes
-unfolding has_code
-code-is key bytes b h = same_from_decides b (has_code key bytes) h (Decides-and _ _ (leb-true 32 _, le-leb 32 _) (bytes_eq-Decides _ _))

@@ -1,6 +1,7 @@
 -- For every list of commits whose record it is: the record afterwards is that of the list and the commit.
 use Rattle.std.proofs.Common.{◌≡◌, ℕ, pos, ◌+◌, ◌≤◌, ◌+ℤ◌, refl, rules, arith, Option, Some, None, IsErr, Result, Ok, Err, Bool, true, false, cond, List, [], ◌∷◌, ap, sym, ◌∙◌, subst, eq-eqb, ◌==◌, if◌then◌else◌, ◌&&◌, true≢false, ltb-false, inl, inr}
 use Rattle.std.proofs.lemmas.Int.{ints}
+use Rattle.std.proofs.lemmas.Option.{none-some, same_Some}
 use Rattle.bench_base.specs.declared.words.Kind.{Kind}
 use Rattle.bench_base.specs.declared.words.Kind.TheVariants.{Enrol, Reset, Audit, Refund, Withdraw}
 use Rattle.bench_base.specs.declared.words.Verdict.{Verdict}
@@ -11,6 +12,7 @@ use Rattle.bench_base.specs.declared.ledger.Commit.{Commit}
 use Rattle.bench_base.specs.declared.ledger.Commit.TheVariants.{Made, Asked, Applied, Debited, Registered}
 use Rattle.bench_base.specs.Rows.{first_holding}
 use Rattle.bench_base.specs.Kinds.{same_kind, empties, is_granted, is_dated, is_allowed}
+use Rattle.bench_base.proofs.Facts.{not-none, is-some, either, ok-same, err-ok}
 use Rattle.indicium.specs.declared.Mark.{Mark}
 use Rattle.indicium.specs.Marks as marks
 use Rattle.psd_wire.specs.declared.message.Request.{Request}
@@ -28,21 +30,12 @@ use Rattle.psd_state.specs.Answers.{unless, waiting_kind, frozen_kind, made_stat
 use Rattle.psd_state.specs.Records.{state_of, IsOutstanding, IsRecordOf, asks, InOrder}
 use Rattle.psd_state.specs.Laws.{MakingStarts, AskingKeeps, DebitingKeeps, ApplyingKeeps, OthersKeep, ResendingRepeats}
 use Rattle.psd_state.proofs.Steps.{request_in-spell, asked-state, debited-state, applied-state, other-state, other-rest}
-use Rattle.psd_state.proofs.Ordered.{own_or, none_some, no_none, some_of, last, asked-asks, pending-note, pending-unapplied, reply-of, quiet}
+use Rattle.psd_state.proofs.Ordered.{last, asked-asks, pending-note, pending-unapplied, reply-of, quiet}
 
 -- == an answer that is no refusal ==
 
-some_same : {A : Type 0} {a b : A} → Some a ≡ Some b → a ≡ b
-some_same h = cc
-
-err_ok : {A F : Type 0} {a : A} {e : F} → ◌≡◌ {A = Result A F} (Err e) (Ok a) → ⊥
-err_ok h = cc
-
-ok_same : {A F : Type 0} {a b : A} → ◌≡◌ {A = Result A F} (Ok a) (Ok b) → a ≡ b
-ok_same h = cc
-
 err_not : {A F : Type 0} (r : Result A F) (y : A) → IsErr r → r ≡ Ok y → ⊥
-err_not (Err e) y h k = err_ok k
+err_not (Err e) y h k = err-ok k
 err_not (Ok x) y h k = true≢false (sym h)
 
 -- each row refuses
@@ -79,7 +72,7 @@ last_passed (row ∷ next ∷ rows) p = last_passed (next ∷ rows) p.1
 
 pub unless-passes : {A : Type 0} (o : Option Kind) (refusal : Kind → DevRefusal) (x : Result A DevRefusal) (y : A) → unless o refusal x ≡ Ok y → (o ≡ None) × (x ≡ Ok y)
 unless-passes None refusal x y h = (refl, h)
-unless-passes (Some k) refusal x y h = absurd (err_ok h)
+unless-passes (Some k) refusal x y h = absurd (err-ok h)
 
 -- == sums as whole numbers ==
 
@@ -108,7 +101,7 @@ asked-of key o q w h e = let h' : IsOutstanding key (Some q) w = subst (λ x. Is
 
 idle-of : (key : List ℕ) (o : Option Request) (w : Option (ℕ × List ℕ)) → IsOutstanding key o w → waiting_kind o ≡ None → w ≡ None
 idle-of key None w h e = h
-idle-of key (Some q) w h e = absurd (none_some (sym e))
+idle-of key (Some q) w h e = absurd (none-some _ (sym e))
 
 -- == ask ==
 
@@ -123,7 +116,7 @@ asking-keeps ρ d C s after kind who amount today note order of e holds =
     let q : Request = request_made ρ s kind who amount today in
     let idle = unless-passes (waiting_kind s.pending) no.Busy _ (after, note) e in
     let through = passes (ask_rows ρ s kind amount today) _ (after, note) (search rules) idle.1 in
-    let same : (after_ask s q, note_for s q) ≡ (after, note) = ok_same through.1 in
+    let same : (after_ask s q, note_for s q) ≡ (after, note) = ok-same through.1 in
     let is : after_ask s q ≡ after = pair_first same in
     let text : note_for s q ≡ note = pair_second same in
     let whole : Holds (after_ask s q) = subst Holds (sym is) holds in
@@ -137,7 +130,7 @@ asking-keeps ρ d C s after kind who amount today note order of e holds =
     let kept : IsRecordOf (after_ask s q) d (Asked d (s.number + 1) (note_for s q) ∷ C) =
     record-of (after_ask s q) d s.key (Asked d (s.number + 1) (note_for s q) ∷ C) step of.made (funds-of d s C of.descending) out in (
       subst (λ n. IsRecordOf after d (Asked d (s.number + 1) n ∷ C)) text (subst (λ x. IsRecordOf x d (Asked d (s.number + 1) (note_for s q) ∷ C)) is kept),
-      (λ _. (some_of (key_of d C) s.key of.made, next), order),
+      (λ _. (is-some (key_of d C) s.key of.made, next), order),
     )
 
 -- == debit ==
@@ -149,8 +142,8 @@ again_new : {s : State} {x y : List ℕ} → Again x ≡ New s y → ⊥
 again_new h = cc
 
 chosen : (b : Bool) (key : List ℕ) (k : Mark) (after : State) (x : List ℕ) (f : DevRefusal) → (if b then Ok (Again (marks.spell k key)) else Err f) ≡ Ok (New after x) → ⊥
-chosen true key k after x f h = again_new (ok_same h)
-chosen false key k after x f h = err_ok h
+chosen true key k after x f h = again_new (ok-same h)
+chosen false key k after x f h = err-ok h
 
 not_again : (c : DebitMsg) (key : List ℕ) (k : Mark) (after : State) (x : List ℕ) → again c key k ≡ Ok (New after x) → ⊥
 not_again c key k after x h = chosen ((k.postage == c.postage) && (k.class == c.class)) key k after x (no.Conflict k.postage k.class) h
@@ -162,7 +155,7 @@ is_new (Some k) c key other after x h = absurd (not_again c key k after x h)
 
 let_through : {A F : Type 0} (b : Bool) (r : Result A F) (e : F) (y : A) → (if b then r else Err e) ≡ Ok y → r ≡ Ok y
 let_through true r e y h = h
-let_through false r e y h = absurd (err_ok h)
+let_through false r e y h = absurd (err-ok h)
 
 pub debiting-keeps : DebitingKeeps
 debiting-keeps ρ d C s after c today mark order of e =
@@ -170,7 +163,7 @@ debiting-keeps ρ d C s after c today mark order of e =
     let piece = passes (piece_rows s c) _ (New after mark) (search rules) new in
     let free = unless-passes (frozen_kind s.pending) no.Frozen _ (New after mark) piece.1 in
     let through = passes (debit_rows ρ s c today) _ (New after mark) (search rules) free.1 in
-    let is : after_debit ρ s c today ≡ after = new_same (ok_same through.1) in
+    let is : after_debit ρ s c today ≡ after = new_same (ok-same through.1) in
     let within : c.postage ≤ s.registers.descending = ltb-false s.registers.descending c.postage (last_passed (debit_rows ρ s c today) through.0) in
     let left : s.registers.descending ≡ descending d C = ap (λ (x : State). x.registers.descending) of.state in
     let funds = funds-of d s C of.descending in
@@ -179,7 +172,7 @@ debiting-keeps ρ d C s after c today mark order of e =
     let step : state_of d s.key next ≡ after_debit ρ s c today = debited-state ρ d s.key c today C ∙ ap (λ (x : State). after_debit ρ x c today) (sym of.state) in
     let funds' : ascending d next + refunded d next ≤ loaded d next = rw own (omega (arith, within, left, funds)) in
     let kept : IsRecordOf (after_debit ρ s c today) d next = record-of (after_debit ρ s c today) d s.key next step of.made funds' of.outstanding in
-    (subst (λ x. IsRecordOf x d next) is kept, (λ _. some_of (key_of d C) s.key of.made, order))
+    (subst (λ x. IsRecordOf x d next) is kept, (λ _. is-some (key_of d C) s.key of.made, order))
 
 -- == apply ==
 
@@ -206,7 +199,7 @@ applying-keeps d C s after q r order of holds pends ruling reply e =
     let reads : request_in note ≡ q = request_in-spell q s.key held.whole in
     let waits : pending d C ≡ Some (n, note) = asked-of s.key s.pending q (pending d C) of.outstanding pends in
     let noted : note_of d n C ≡ Some note = pending-note d n note C order waits in
-    let note_is : ruling.note ≡ note = some_same (sym ruling.request ∙ noted) in
+    let note_is : ruling.note ≡ note = same_Some _ _ (sym ruling.request ∙ noted) in
     let told = reply-of d n r.verdict ruling.note r C order ruling.ruling reply in
     let request : request_in ruling.note ≡ q = ap request_in note_is ∙ reads in
     let device : (request_in ruling.note).device ≡ d = ap (λ (x : Request). x.device) request ∙ held.device ∙ ap (λ (x : State). x.device) of.state in
@@ -229,7 +222,7 @@ applying-keeps d C s after q r order of holds pends ruling reply e =
       amount = amount;
       funds = funds;
     }) in
-    let is : state_of d s.key next ≡ after = step ∙ ap (λ (x : State). after_apply x q r) same ∙ ok_same through.1 in
+    let is : state_of d s.key next ≡ after = step ∙ ap (λ (x : State). after_apply x q r) same ∙ ok-same through.1 in
     let over : pending d next ≡ None = rw own (ap (unless_applied n) waits ∙ ap (λ b. cond b None (Some (n, note))) (eq-eqb n n refl)) in
     let idle : after.pending ≡ None = ap (λ (x : State). x.pending) (sym is) ∙ ap waiting over in
     let number_of : request_of d n C ≡ q = ap in_note noted ∙ reads in
@@ -238,7 +231,7 @@ applying-keeps d C s after q r order of holds pends ruling reply e =
     let out : IsOutstanding s.key after.pending (pending d next) = subst (λ o. IsOutstanding s.key o (pending d next)) (sym idle) over in
     let l = last d C order in (
       record-of after d s.key next is of.made funds' out,
-      (λ _. (some_of (key_of d C) s.key of.made, l.1 n note waits ∙ sym (asked-asks d C order), pending-unapplied d n note C order waits, ruling), order),
+      (λ _. (is-some (key_of d C) s.key of.made, l.1 n note waits ∙ sym (asked-asks d C order), pending-unapplied d n note C order waits, ruling), order),
     )
 
 -- == a new device ==
@@ -256,20 +249,20 @@ unenrolled d key C h = manufactured (applied_kind Withdraw d C) (applied_kind Au
 blank : (d : ℕ) (key : List ℕ) (C : List Commit) → InOrder d C → key_of d C ≡ None → state_of d key C ≡ made_state d key
 blank d key [] o h = refl
 blank d key (Made e k ∷ C) o h =
-    own_or e d
-    (λ own is. absurd (none_some (sym h ∙ ap (λ b. cond b (Some k) (key_of d C)) own)))
+    either e d
+    (λ own is. absurd (none-some _ (sym h ∙ ap (λ b. cond b (Some k) (key_of d C)) own)))
     (λ not. blank d key C o.1 (sym (ap (λ b. cond b (Some k) (key_of d C)) not) ∙ h))
 blank d key (Asked e n note ∷ C) o h =
-    own_or e d
-    (λ own is. let f = o.0 is in absurd (no_none (key_of d C) f.0 h))
+    either e d
+    (λ own is. let f = o.0 is in absurd (not-none (key_of d C) f.0 h))
     (λ not. other-state d key (Asked e n note) C not (inl refl) ∙ blank d key C o.1 h)
 blank d key (Applied e n v ∷ C) o h =
-    own_or e d
-    (λ own is. let f = o.0 is in absurd (no_none (key_of d C) f.0 h))
+    either e d
+    (λ own is. let f = o.0 is in absurd (not-none (key_of d C) f.0 h))
     (λ not. other-state d key (Applied e n v) C not (inl refl) ∙ blank d key C o.1 h)
 blank d key (Debited e p a k t v ∷ C) o h =
-    own_or e d
-    (λ own is. absurd (no_none (key_of d C) (o.0 is) h))
+    either e d
+    (λ own is. absurd (not-none (key_of d C) (o.0 is) h))
     (λ not. other-state d key (Debited e p a k t v) C not (inl refl) ∙ blank d key C o.1 h)
 blank d key (Registered e x k ∷ C) o h =
     let before = blank d key C o.1 h in
@@ -278,7 +271,7 @@ blank d key (c ∷ C) o h = other-state d key c C refl (inl refl) ∙ blank d ke
 
 not_waiting : (w : Option (ℕ × List ℕ)) → waiting w ≡ None → w ≡ None
 not_waiting None h = refl
-not_waiting (Some p) h = absurd (none_some (sym h))
+not_waiting (Some p) h = absurd (none-some _ (sym h))
 
 pub making-starts : MakingStarts
 making-starts d key C order none =
@@ -308,9 +301,9 @@ others-keep d C s c other order of =
 -- == what is sent again ==
 
 sent_again : (s : State) (o : Option Request) (n : ℕ) (note : List ℕ) (w : Option (ℕ × List ℕ)) → IsOutstanding s.key o w → w ≡ Some (n, note) → resend_answer s o ≡ Ok note
-sent_again s None n note w h e = absurd (none_some (sym h ∙ e))
+sent_again s None n note w h e = absurd (none-some _ (sym h ∙ e))
 sent_again s (Some q) n note w h e =
-    let same : ◌≡◌ {A = ℕ × List ℕ} (q.number, note_for s q) (n, note) = some_same (sym h ∙ e) in ap (λ x. Ok x) (pair_second same)
+    let same : ◌≡◌ {A = ℕ × List ℕ} (q.number, note_for s q) (n, note) = same_Some _ _ (sym h ∙ e) in ap (λ x. Ok x) (pair_second same)
 
 pub resending-repeats : ResendingRepeats
 resending-repeats d n C s note of e = sent_again s s.pending n note (pending d C) of.outstanding e

@@ -1,5 +1,5 @@
 -- What a debit keeps of a record.
-use Rattle.std.proofs.Common.{◌≡◌, ℕ, ℤ, ◌+◌, ◌^◌, ◌<◌, ◌≤◌, refl, arith, Option, Some, None, Bool, true, false, FitsSigned, Fits as Fits32, true≢false, lit<, if◌then◌else◌, Result, Ok, Err, nat_lt, ltb-false, ap, ap₂, sym, ◌∙◌, List, ◌++◌, ◌==◌, ◌&&◌, eq-eqb}
+use Rattle.std.proofs.Common.{◌≡◌, ℕ, ℤ, ◌+◌, ◌^◌, ◌<◌, ◌≤◌, refl, arith, Option, Some, None, Bool, true, false, FitsSigned, Fits as Fits32, true≢false, lit<, if◌then◌else◌, Ok, Err, nat_lt, ltb-false, ap, ap₂, sym, ◌∙◌, List, ◌++◌, ◌==◌, ◌&&◌, eq-eqb}
 use Rattle.std.specs.Int.{w32, cast_unsigned}
 use Rattle.std.proofs.Math.Facts.{Fits-of_z}
 use Rattle.bench_base.specs.declared.words.Kind.{Kind}
@@ -13,6 +13,7 @@ use Rattle.psd_state.specs.State.{State, Holds, IsAmount, PendingOk, MarkOk, kep
 use Rattle.bench_base.specs.Kinds.{same_kind, empties}
 use Rattle.hmac_core.specs.Hmac.{hmac}
 use Rattle.bench_base.specs.declared.refusals.DevRefusal.TheVariants as no
+use Rattle.bench_base.proofs.Facts.{ok-err, some-none}
 use Rattle.psd_wire.specs.declared.message.DebitMsg.{DebitMsg}
 use Rattle.psd_state.specs.declared.debiting.Debited.TheVariants.{Again}
 use Rattle.psd_state.specs.Answers.{frozen_kind, again}
@@ -25,11 +26,8 @@ amount-kept Audit version n s a h f l = h
 amount-kept Refund version n s a h f l = absurd (true≢false f)
 amount-kept Withdraw version n s a h f l = absurd (true≢false f)
 
-some_none : {A : Type 0} {x : A} → Some x ≡ None → ⊥
-some_none h = cc
-
 not_when : {A : Type 0} (b : Bool) (x : A) → (if b then Some x else None) ≡ None → b ≡ false
-not_when true x h = absurd (some_none h)
+not_when true x h = absurd (some-none h)
 not_when false x h = refl
 
 thawed : (q : Request) → frozen_kind (Some q) ≡ None → empties q.kind ≡ false
@@ -49,11 +47,8 @@ whole-mark d p a x y t o k hd hp ha hx hy ht ho hk =
       day = ht;
     }
 
-ok_err : {A F : Type 0} {x : A} {e : F} → ◌≡◌ {A = Result A F} (Ok x) (Err e) → ⊥
-ok_err h = cc
-
 chosen : {P : Type 0} (b : Bool) (s r : Sums) (n : ℕ) → (b ≡ false → P) → Ok r ≡ (if b then Err s.descending else Ok (debited s n)) → (r ≡ debited s n) × P
-chosen true s r n f h = absurd (ok_err h)
+chosen true s r n f h = absurd (ok-err h)
 chosen false s r n f h = (cc, f refl)
 
 pub debit-ok : (s r : Sums) (n : ℕ) → Ok r ≡ debit_answer s n → (r ≡ debited s n) × (n ≤ s.descending)

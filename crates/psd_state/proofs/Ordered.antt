@@ -1,6 +1,7 @@
 -- What the order of a device's commits gives.
 use Rattle.std.proofs.Common.{◌≡◌, ℕ, pos, ◌+◌, ◌<◌, ◌+ℤ◌, max, refl, arith, Option, Some, None, IsSome, Bool, true, false, cond, List, [], ◌∷◌, ap, sym, ◌∙◌, subst, eq-eqb, ne_eqb, ◌==◌, if◌then◌else◌, ◌&&◌, ◌||◌, true≢false, ◌⊎◌, inl, inr}
-use Rattle.std.proofs.lemmas.Bool.{cases_eq}
+use Rattle.std.proofs.lemmas.Bool.{false_from_ne_true}
+use Rattle.std.proofs.lemmas.Option.{same_Some, none-some}
 use Rattle.bench_base.specs.declared.words.Kind.{Kind}
 use Rattle.bench_base.specs.declared.words.Kind.TheVariants.{Enrol}
 use Rattle.bench_base.specs.declared.words.Verdict.{Verdict}
@@ -8,6 +9,7 @@ use Rattle.bench_base.specs.declared.ledger.Commit.{Commit}
 use Rattle.bench_base.specs.declared.ledger.Commit.TheVariants.{Asked, Applied, Registered, Ruled}
 use Rattle.bench_base.specs.Rows.{first_of}
 use Rattle.bench_base.specs.Kinds.{is_granted, is_dated, same_kind}
+use Rattle.bench_base.proofs.Facts.{not-none, either}
 use Rattle.psd_wire.specs.declared.message.ReplyMsg.{ReplyMsg}
 use Rattle.ledger_terms.specs.Requests.{request_in, request_of, note_of}
 use Rattle.ledger_terms.specs.Devices.{asked, number, pending, unless_applied, applied_of, applied_kind}
@@ -16,39 +18,18 @@ use Rattle.ledger_terms.specs.InFlight.{ruling_of}
 use Rattle.ledger_terms.specs.Rulings.{reply_to, ruled_reply}
 use Rattle.psd_state.specs.Records.{asks, InOrder}
 
--- the two are one, or their test says no
-pub own_or : {P : Type 0} (e d : ℕ) → ((e == d) ≡ true → e ≡ d → P) → ((e == d) ≡ false → P) → P
-own_or e d one other = elim (cases_eq e d) [ inl h ↦ one (eq-eqb e d h) h | inr h ↦ other (ne_eqb e d h) ]
-
-pub none_some : {A : Type 0} {a : A} → None ≡ Some a → ⊥
-none_some h = cc
-
-some_same : {A : Type 0} {a b : A} → Some a ≡ Some b → a ≡ b
-some_same h = cc
-
-pub no_none : {A : Type 0} (o : Option A) → IsSome o → o ≡ None → ⊥
-no_none None h e = true≢false (sym h)
-no_none (Some a) h e = none_some (sym e)
-
-not_true : (b : Bool) → (b ≡ true → ⊥) → b ≡ false
-not_true true h = absurd (h refl)
-not_true false h = refl
-
-pub some_of : {A : Type 0} (o : Option A) (a : A) → o ≡ Some a → IsSome o
-some_of o a h = subst IsSome (sym h) refl
-
 -- the last that was asked is the count of what was asked
 pub asked-asks : (d : ℕ) (C : List Commit) → InOrder d C → asked d C ≡ asks d C
 asked-asks d [] o = refl
 asked-asks d (Asked e n note ∷ C) o =
-    own_or e d (λ own is. let f = o.0 is in rw own f.1) (λ no. rw no (asked-asks d C o.1))
+    either e d (λ own is. let f = o.0 is in rw own f.1) (λ no. rw no (asked-asks d C o.1))
 asked-asks d (_ ∷ C) o = asked-asks d C o.1
 
 -- nothing was asked, or applied, beyond that count
 pub note-none : (d n : ℕ) (C : List Commit) → InOrder d C → asks d C < n → note_of d n C ≡ None
 note-none d n [] o l = refl
 note-none d n (Asked e k note ∷ C) o l =
-    own_or e d
+    either e d
     (λ own is. let f = o.0 is in
     let less : asks d C + 1 < n = subst (λ b. (if b then asks d C + 1 else asks d C) < n) own l in
     let apart : (k == n) ≡ false = ne_eqb k n (λ same. absurd (omega (arith, same, f.1, less))) in
@@ -59,11 +40,11 @@ note-none d n (_ ∷ C) o l = note-none d n C o.1 l
 pub applied-none : (d n : ℕ) (C : List Commit) → InOrder d C → asks d C < n → applied_of d n C ≡ None
 applied-none d n [] o l = refl
 applied-none d n (Asked e k note ∷ C) o l =
-    own_or e d
+    either e d
     (λ own is. let less : asks d C + 1 < n = subst (λ b. (if b then asks d C + 1 else asks d C) < n) own l in applied-none d n C o.1 (omega (arith, less)))
     (λ no. applied-none d n C o.1 (subst (λ b. (if b then asks d C + 1 else asks d C) < n) no l))
 applied-none d n (Applied e k v ∷ C) o l =
-    own_or e d
+    either e d
     (λ own is. let f = o.0 is in
     let apart : (k == n) ≡ false = ne_eqb k n (λ same. absurd (omega (arith, same, f.1, asked-asks d C o.1, l))) in
     rw (own, apart) (applied-none d n C o.1 l))
@@ -72,11 +53,11 @@ applied-none d n (_ ∷ C) o l = applied-none d n C o.1 l
 
 -- what is still waiting after an Applied is another transaction
 still_waiting : (k : ℕ) (w : Option (ℕ × List ℕ)) (p : ℕ × List ℕ) → unless_applied k w ≡ Some p → (w ≡ Some p) × ((p.0 == k) ≡ false)
-still_waiting k None p h = absurd (none_some h)
+still_waiting k None p h = absurd (none-some _ h)
 still_waiting k (Some x) p h =
-    own_or x.0 k
-    (λ own is. absurd (none_some (sym (ap (λ b. cond b None (Some x)) own) ∙ h)))
-    (λ no. let same : x ≡ p = some_same (sym (ap (λ b. cond b None (Some x)) no) ∙ h) in (ap (λ y. Some y) same, subst (λ (y : ℕ × List ℕ). (y.0 == k) ≡ false) same no))
+    either x.0 k
+    (λ own is. absurd (none-some _ (sym (ap (λ b. cond b None (Some x)) own) ∙ h)))
+    (λ no. let same : x ≡ p = same_Some _ _ (sym (ap (λ b. cond b None (Some x)) no) ∙ h) in (ap (λ y. Some y) same, subst (λ (y : ℕ × List ℕ). (y.0 == k) ≡ false) same no))
 
 -- where nothing waits, all that was asked was applied; and what waits is the last that was asked
 abbrev Last : ℕ → List Commit → Type 0
@@ -93,19 +74,19 @@ applied_last d C k b =
     × ((n : ℕ) (x : List ℕ) → (if b then unless_applied k (pending d C) else pending d C) ≡ Some (n, x) → n ≡ asks d C)
 
 first_is : {A : Type 0} {k n : ℕ} {x y : A} → ◌≡◌ {A = Option (ℕ × A)} (Some (k, x)) (Some (n, y)) → k ≡ n
-first_is {A = A} h = ap (λ (p : ℕ × A). p.0) (some_same h)
+first_is {A = A} h = ap (λ (p : ℕ × A). p.0) (same_Some _ _ h)
 
 second_is : {A : Type 0} {k n : ℕ} {x y : A} → ◌≡◌ {A = Option (ℕ × A)} (Some (k, x)) (Some (n, y)) → x ≡ y
-second_is {A = A} h = ap (λ (p : ℕ × A). p.1) (some_same h)
+second_is {A = A} h = ap (λ (p : ℕ × A). p.1) (same_Some _ _ h)
 
 pub last : (d : ℕ) (C : List Commit) → InOrder d C → Last d C
-last d [] o = (λ h. refl, λ n note h. absurd (none_some h))
+last d [] o = (λ h. refl, λ n note h. absurd (none-some _ h))
 last d (Asked e k note ∷ C) o =
-    own_or e d
-    (λ own is. let f = o.0 is in subst (asked_last d C k note) (sym own) (λ h. absurd (none_some (sym h)), λ n x h. sym (first_is h) ∙ f.1))
+    either e d
+    (λ own is. let f = o.0 is in subst (asked_last d C k note) (sym own) (λ h. absurd (none-some _ (sym h)), λ n x h. sym (first_is h) ∙ f.1))
     (λ no. subst (asked_last d C k note) (sym no) (last d C o.1))
 last d (Applied e k v ∷ C) o =
-    own_or e d
+    either e d
     (λ own is. let f = o.0 is in
     let before = last d C o.1 in
     subst (applied_last d C k) (sym own) (λ h. f.1 ∙ asked-asks d C o.1, λ n x h. let w = still_waiting k (pending d C) (n, x) h in before.1 n x w.0))
@@ -114,9 +95,9 @@ last d (_ ∷ C) o = last d C o.1
 
 -- the note of what waits is the first with its number
 pub pending-note : (d n : ℕ) (note : List ℕ) (C : List Commit) → InOrder d C → pending d C ≡ Some (n, note) → note_of d n C ≡ Some note
-pending-note d n note [] o h = absurd (none_some h)
+pending-note d n note [] o h = absurd (none-some _ h)
 pending-note d n note (Asked e k x ∷ C) o h =
-    own_or e d
+    either e d
     (λ own is. let f = o.0 is in
     let same : Some (k, x) ≡ Some (n, note) = sym (ap (λ b. cond b (Some (k, x)) (pending d C)) own) ∙ h in
     let number : (k == n) ≡ true = eq-eqb k n (first_is same) in
@@ -124,7 +105,7 @@ pending-note d n note (Asked e k x ∷ C) o h =
     rw (own, number, new) (ap (λ y. Some y) (second_is same)))
     (λ no. rw no (pending-note d n note C o.1 (sym (ap (λ b. cond b (Some (k, x)) (pending d C)) no) ∙ h)))
 pending-note d n note (Applied e k v ∷ C) o h =
-    own_or e d
+    either e d
     (λ own is. let w = still_waiting k (pending d C) (n, note) (sym (ap (λ b. cond b (unless_applied k (pending d C)) (pending d C)) own) ∙ h) in pending-note d n note C o.1 w.0)
     (λ no. pending-note d n note C o.1 (sym (ap (λ b. cond b (unless_applied k (pending d C)) (pending d C)) no) ∙ h))
 pending-note d n note (_ ∷ C) o h = pending-note d n note C o.1 h
@@ -133,13 +114,13 @@ pending-note d n note (_ ∷ C) o h = pending-note d n note C o.1 h
 pub pending-unapplied : (d n : ℕ) (note : List ℕ) (C : List Commit) → InOrder d C → pending d C ≡ Some (n, note) → applied_of d n C ≡ None
 pending-unapplied d n note [] o h = refl
 pending-unapplied d n note (Asked e k x ∷ C) o h =
-    own_or e d
+    either e d
     (λ own is. let f = o.0 is in
     let same : Some (k, x) ≡ Some (n, note) = sym (ap (λ b. cond b (Some (k, x)) (pending d C)) own) ∙ h in
     applied-none d n C o.1 (omega (arith, f.1, first_is same)))
     (λ no. pending-unapplied d n note C o.1 (sym (ap (λ b. cond b (Some (k, x)) (pending d C)) no) ∙ h))
 pending-unapplied d n note (Applied e k v ∷ C) o h =
-    own_or e d
+    either e d
     (λ own is. let w = still_waiting k (pending d C) (n, note) (sym (ap (λ b. cond b (unless_applied k (pending d C)) (pending d C)) own) ∙ h) in
     let apart : (k == n) ≡ false = ne_eqb k n (λ same. absurd (true≢false (sym (eq-eqb n k (sym same)) ∙ w.1))) in
     rw (own, apart) (pending-unapplied d n note C o.1 w.0))
@@ -150,31 +131,31 @@ pending-unapplied d n note (_ ∷ C) o h = pending-unapplied d n note C o.1 h
 
 -- a device that was ruled on is registered
 pub ruled-registered : (d n : ℕ) (x : Verdict × List ℕ) (C : List Commit) → InOrder d C → ruling_of d n C ≡ Some x → IsSome (registered d C)
-ruled-registered d n x [] o h = absurd (none_some h)
+ruled-registered d n x [] o h = absurd (none-some _ h)
 ruled-registered d n x (Ruled e k v note ∷ C) o h =
-    own_or e d
+    either e d
     (λ own is. let f = o.0 is in f.0)
     (λ no. ruled-registered d n x C o.1 (sym (ap (λ b. cond (b && (k == n)) (first_of (ruling_of d n C) (Some (v, note))) (ruling_of d n C)) no) ∙ h))
 ruled-registered d n x (Registered e y key ∷ C) o h =
-    own_or e d (λ own is. rw own refl) (λ no. rw no (ruled-registered d n x C o.1 h))
+    either e d (λ own is. rw own refl) (λ no. rw no (ruled-registered d n x C o.1 h))
 ruled-registered d n x (_ ∷ C) o h = ruled-registered d n x C o.1 h
 
 -- a device that applied a transaction is registered, and has a key
 pub applied-registered : (d : ℕ) (k : Kind) (C : List Commit) → InOrder d C → applied_kind k d C ≡ true → IsSome (registered d C)
 applied-registered d k [] o h = absurd (true≢false (sym h))
 applied-registered d k (Applied e n v ∷ C) o h =
-    own_or e d
+    either e d
     (λ own is. let f = o.0 is in ruled-registered d n (v, f.3.note) C o.1 f.3.ruling)
     (λ no. applied-registered d k C o.1 (sym (ap (λ b. cond b ((is_granted v && same_kind (request_of d n C).kind k) || applied_kind k d C) (applied_kind k d C)) no) ∙ h))
 applied-registered d k (Registered e y key ∷ C) o h =
-    own_or e d (λ own is. rw own refl) (λ no. rw no (applied-registered d k C o.1 h))
+    either e d (λ own is. rw own refl) (λ no. rw no (applied-registered d k C o.1 h))
 applied-registered d k (_ ∷ C) o h = applied-registered d k C o.1 h
 
 -- no number above the greatest was ruled
 ruling-none : (d n : ℕ) (C : List Commit) → ruled d C < n → (ruling_of d n C ≡ None) × (ruled_reply d n C ≡ None)
 ruling-none d n [] l = (refl, refl)
 ruling-none d n (Ruled e k v note ∷ C) l =
-    own_or e d
+    either e d
     (λ own is.
     let less : max k (ruled d C) < n = subst (λ b. (if b then max k (ruled d C) else ruled d C) < n) own l in
     let apart : (k == n) ≡ false = ne_eqb k n (λ same. absurd (omega (arith, same, less))) in
@@ -198,20 +179,20 @@ new_reply d note C = (
 
 pub reply-of : (d n : ℕ) (v : Verdict) (note : List ℕ) (r : ReplyMsg) (C : List Commit) → InOrder d C → ruling_of d n C ≡ Some (v, note) → ruled_reply d n C ≡ Some r
     → IsReplyTo d note (registered d C) r
-reply-of d n v note r [] o h g = absurd (none_some h)
+reply-of d n v note r [] o h g = absurd (none-some _ h)
 reply-of d n v note r (Ruled e k w x ∷ C) o h g =
     let here : Option (Verdict × List ℕ) = first_of (ruling_of d n C) (Some (w, x)) in
     let reply : Option ReplyMsg = first_of (ruled_reply d n C) (Some (reply_to C (request_in x))) in
-    own_or e d
+    either e d
     (λ own is. let f = o.0 is in
-    own_or k n
+    either k n
     (λ number same.
     let before = ruling-none d n C (omega (arith, f.1, same)) in
     let ruling : Some (w, x) ≡ Some (v, note) = sym (ap (λ q. first_of q (Some (w, x))) before.0) ∙ sym (ap (λ b. cond (b && (k == n)) here (ruling_of d n C)) own ∙ ap (λ b. cond b here (ruling_of d n C)) number) ∙ h in
     let made : Some (reply_to C (request_in x)) ≡ Some r =
     sym (ap (λ q. first_of q (Some (reply_to C (request_in x)))) before.1) ∙ sym (ap (λ b. cond (b && (k == n)) reply (ruled_reply d n C)) own ∙ ap (λ b. cond b reply (ruled_reply d n C)) number) ∙ g in
-    let note_is : x ≡ note = ap (λ (p : Verdict × List ℕ). p.1) (some_same ruling) in
-    subst (IsReplyTo d note (registered d C)) (ap (λ y. reply_to C (request_in y)) (sym note_is) ∙ some_same made) (new_reply d note C))
+    let note_is : x ≡ note = ap (λ (p : Verdict × List ℕ). p.1) (same_Some _ _ ruling) in
+    subst (IsReplyTo d note (registered d C)) (ap (λ y. reply_to C (request_in y)) (sym note_is) ∙ same_Some _ _ made) (new_reply d note C))
     (λ apart.
     let ruling : ruling_of d n C ≡ Some (v, note) = sym (ap (λ b. cond (b && (k == n)) here (ruling_of d n C)) own ∙ ap (λ b. cond b here (ruling_of d n C)) apart) ∙ h in
     let made : ruled_reply d n C ≡ Some r = sym (ap (λ b. cond (b && (k == n)) reply (ruled_reply d n C)) own ∙ ap (λ b. cond b reply (ruled_reply d n C)) apart) ∙ g in
@@ -221,15 +202,15 @@ reply-of d n v note r (Ruled e k w x ∷ C) o h g =
     let made : ruled_reply d n C ≡ Some r = sym (ap (λ b. cond (b && (k == n)) reply (ruled_reply d n C)) no) ∙ g in
     reply-of d n v note r C o.1 ruling made)
 reply-of d n v note r (Registered e y key ∷ C) o h g =
-    own_or e d
-    (λ own is. absurd (no_none (registered d C) (ruled-registered d n (v, note) C o.1 h) (o.0 is)))
+    either e d
+    (λ own is. absurd (not-none (registered d C) (ruled-registered d n (v, note) C o.1 h) (o.0 is)))
     (λ no. rw no (reply-of d n v note r C o.1 h g))
 reply-of d n v note r (_ ∷ C) o h g = reply-of d n v note r C o.1 h g
 
 -- a device that is registered twice, or after its enrolment, is not in order
 pub quiet : (d : ℕ) (c : Commit) (C : List Commit) → InOrder d (c ∷ C) → (registered d (c ∷ C) ≡ registered d C) ⊎ (applied_kind Enrol d C ≡ false)
 quiet d (Registered e y key) C o =
-    own_or e d
-    (λ own is. inr (not_true (applied_kind Enrol d C) (λ yes. no_none (registered d C) (applied-registered d Enrol C o.1 yes) (o.0 is))))
+    either e d
+    (λ own is. inr (false_from_ne_true (applied_kind Enrol d C) (λ yes. not-none (registered d C) (applied-registered d Enrol C o.1 yes) (o.0 is))))
     (λ no. inl (rw no refl))
 quiet d _ C o = inl refl

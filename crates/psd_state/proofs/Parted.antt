@@ -1,8 +1,8 @@
 -- A record's bytes fall into its parts, and the parts make its bytes, in each version.
-use Rattle.std.proofs.Common.{◌≡◌, ℕ, ℤ, [], ◌∷◌, ◌+◌, ◌-◌, ◌^◌, ◌<◌, ◌≤◌, ◌==◌, if◌then◌else◌, Bool, true, false, replicate, List, ◌++◌, length, take, drop, get_or, sym, ap, ap₂, ◌∙◌, refl, arith, subst, Option, Some, None, length-append, append_assoc, FitsSigned, Fits as Fits32, true≢false, Result, Ok}
+use Rattle.std.proofs.Common.{◌≡◌, ℕ, ℤ, [], ◌∷◌, ◌+◌, ◌-◌, ◌^◌, ◌<◌, ◌≤◌, ◌==◌, if◌then◌else◌, Bool, true, false, replicate, List, ◌++◌, length, take, drop, get_or, sym, ap, ap₂, ◌∙◌, refl, arith, subst, Option, Some, None, length-append, append_assoc, FitsSigned, Fits as Fits32, true≢false}
 use Rattle.std.specs.Int.{w32, cast_signed, cast_unsigned}
 use Rattle.std.proofs.lemmas.Int.{of_z-to_z, to_z-of_z}
-use Rattle.std.proofs.lemmas.List.{take_at, drop_at, drop-drop, take-append-drop, length-replicate}
+use Rattle.std.proofs.lemmas.List.{take_at, drop_at, drop-drop, length-replicate}
 use Rattle.std.proofs.Math.Facts.{Fits-of_z}
 use borrow.Author.Gap.{read_sfits}
 use Rattle.bench_base.specs.Table.{Size, One, room, number, row, values, Fit, IsBytes}
@@ -15,6 +15,7 @@ use Rattle.psd_wire.proofs.Readings.{length-request, one-spelling, request_room,
 use Rattle.registers.specs.Sums.{Sums}
 use Rattle.bench_base.specs.declared.words.Phase.{Phase}
 use Rattle.bench_base.specs.declared.words.Phase.TheVariants.{Blank, Manufactured, Authorised, InService, Locked, Withdrawn}
+use Rattle.bench_base.proofs.Facts.{ok-same, behind}
 use Rattle.psd_wire.specs.declared.message.Request.{Request}
 use Rattle.psd_wire.specs.declared.message.Message.TheVariants as m
 use Rattle.psd_wire.specs.Grammar as grammar
@@ -97,10 +98,6 @@ head-row v bytes s e = ap (λ (f : Fields). f.device ∷ f.phase ∷ []) e
 key-part : (v : ℕ) (bytes : List ℕ) (s : State) → fields_at v bytes ≡ fields_of v s → take 32 (drop 5 bytes) ≡ s.key
 unfolding fields_at
 key-part v bytes s e = ap (λ (f : Fields). f.key) e
-
--- a part and what is behind it
-behind : (at n : ℕ) (bytes : List ℕ) → take n (drop at bytes) ++ drop (at + n) bytes ≡ drop at bytes
-behind at n bytes = ap (λ r. take n (drop at bytes) ++ r) (sym (drop-drop n at bytes)) ∙ take-append-drop n (drop at bytes)
 
 -- THE PARTS MAKE THE BYTES
 pub assembled : (v : ℕ) (s : State) (bytes : List ℕ) → 37 + room (middle_table v) ≤ length bytes → IsBytes bytes → Parts v s bytes → spelled v s ≡ bytes
@@ -226,16 +223,13 @@ same-pending n key (Some q) (Some r) v w f e = ap (λ x. Some x) (go (n == 1) e)
     go true h = request_same (one-spelling (m.Request q) (m.Request r) key v w h)
     go false h = same-filled q r v w h
 
-ok_same : {A F : Type 0} {a b : A} → ◌≡◌ {A = Result A F} (Ok a) (Ok b) → a ≡ b
-ok_same h = cc
-
 pub same-mark : (key : List ℕ) (n : ℕ) (o p : Option Mark) → MarkWhole o → MarkWhole p → IsKeptAt n o → IsKeptAt n p → mark_part key o ≡ mark_part key p → o ≡ p
 unfolding mark_part
 same-mark key n None None v w f g e = refl
 same-mark key n None (Some q) v w f g e = absurd (omega (arith, f, g))
 same-mark key n (Some q) None v w f g e = absurd (omega (arith, f, g))
 same-mark key n (Some q) (Some r) v w f g e =
-    let pairs = ok_same (sym (read-spell q key v) ∙ ap marks.read_mark e ∙ read-spell r key w) in
+    let pairs = ok-same (sym (read-spell q key v) ∙ ap marks.read_mark e ∙ read-spell r key w) in
     ap (λ (x : Mark × List ℕ). Some x.0) pairs
 
 abbrev fields : ℕ → ℕ → List ℕ → ℕ → ℕ → ℕ → ℕ → ℕ → ℤ → ℤ → ℕ → ℕ → ℕ → Fields

@@ -1,5 +1,5 @@
 -- What is read under a key, and what the parts of a payload spell.
-use Rattle.std.proofs.Common.{◌≡◌, ℕ, ◌-◌, ◌≤◌, ◌==◌, if◌then◌else◌, ◌++◌, List, length, take, drop, get_or, ap₂, Result, Ok, Err, sym, ap, ◌∙◌, refl, Option, Some, None, Bool, true, false, IsTrue, IfSome, IfNone, ◌↔◌, true≢false, ◌≢◌, subst, arith, replicate}
+use Rattle.std.proofs.Common.{◌≡◌, ℕ, ◌-◌, ◌≤◌, ◌==◌, if◌then◌else◌, ◌++◌, List, length, take, drop, get_or, ap₂, Err, sym, ap, ◌∙◌, refl, Option, Some, None, Bool, true, false, IsTrue, IfSome, IfNone, ◌↔◌, true≢false, ◌≢◌, subst, arith, replicate}
 use Rattle.indicium.specs.declared.Mark.{Mark}
 use Rattle.indicium.specs.Marks as marks
 use Rattle.indicium.proofs.Readings as mark_laws
@@ -11,6 +11,7 @@ use Rattle.psd_wire.specs.declared.message.ReplyMsg.{ReplyMsg}
 use Rattle.psd_wire.specs.declared.message.DoneMsg.{DoneMsg}
 use Rattle.bench_base.specs.Table.{Four, Eight, room}
 use Rattle.bench_base.specs.declared.refusals.MarkFault.{MarkFault}
+use Rattle.bench_base.proofs.Facts.{ok-same, ok-err}
 use Rattle.hmac_core.specs.Hmac.{hmac}
 use Rattle.std.proofs.lemmas.List.{take_at, drop_at, take-append-drop, length-take-le, take_rest, length-drop}
 use Rattle.psd_wire.specs.Grammar.{request_table}
@@ -22,12 +23,6 @@ not_request h = cc
 
 not_done : {q : Request} {r : DoneMsg} → m.Request q ≡ m.Done r → ⊥
 not_done h = cc
-
-ok_same : {A F : Type 0} {a b : A} → ◌≡◌ {A = Result A F} (Ok a) (Ok b) → a ≡ b
-ok_same h = cc
-
-ok_err : {A F : Type 0} {x : A} {e : F} → ◌≡◌ {A = Result A F} (Ok x) (Err e) → ⊥
-ok_err h = cc
 
 pub not_so : (b : Bool) (P : Type 0) → (IsTrue b ↔ P) → b ≡ false → P → ⊥
 not_so b P h e p = true≢false (sym (h.1 p) ∙ e)
@@ -52,14 +47,14 @@ pub genuine-found : (bytes key : List ℕ) (x : Mark × List ℕ) → marks.Read
     → marks.IsWhole x.0 × (marks.spell x.0 key ≡ bytes) × (hmac key (marks.body x.0) ≡ x.1)
 genuine-found bytes key x reads (k, whole, e) =
     let pairs : (k, hmac key (marks.body k)) ≡ x =
-    ok_same (sym (mark_laws.read-spell k key whole) ∙ ap marks.read_mark (sym e) ∙ mark_laws.only bytes x.0 x.1 reads) in
+    ok-same (sym (mark_laws.read-spell k key whole) ∙ ap marks.read_mark (sym e) ∙ mark_laws.only bytes x.0 x.1 reads) in
     subst (λ y. marks.IsWhole y.0 × (marks.spell y.0 key ≡ bytes) × (hmac key (marks.body y.0) ≡ y.1)) pairs (whole, sym e, refl)
 
 -- what reads as no mark is no genuine one
 pub genuine-read : (bytes key : List ℕ) (fault : MarkFault) → marks.read_mark bytes ≡ Err fault → marks.IsSpelled bytes key → ⊥
 genuine-read bytes key fault read spelled =
     let code = mark_laws.code-of bytes key spelled in
-    absurd (ok_err (sym code.0.1 ∙ read))
+    absurd (ok-err (sym code.0.1 ∙ read))
 
 -- of the bodies, the Request
 pub body-request : (o : Option Message) (bytes : List ℕ) → IfSome o (λ x. grammar.IsCoded x × grammar.IsWhole x × (grammar.body x ≡ bytes))

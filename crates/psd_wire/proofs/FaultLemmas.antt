@@ -1,10 +1,12 @@
 -- A fault is answered exactly where it is the first that holds.
-use Rattle.std.proofs.Common.{◌≡◌, ◌≢◌, ◌↔◌, ℕ, ◌+◌, ◌<◌, ◌≤◌, List, length, get_or, take, drop, sym, ap, ◌∙◌, refl, arith, subst, Result, Ok, Err, Option, Some, None, IsSome, IsErr, Bool, true, false, inl, inr, eqb-true, eq-eqb, ne_eqb, ◌==◌, if◌then◌else◌, nat_lt}
+use Rattle.std.proofs.Common.{◌≡◌, ◌≢◌, ◌↔◌, ℕ, ◌+◌, List, length, get_or, take, drop, sym, ap, ◌∙◌, refl, arith, subst, Result, Ok, Err, Option, Some, None, IsSome, IsErr, Bool, true, false, inl, inr, eqb-true, eq-eqb, ne_eqb, ◌==◌, if◌then◌else◌, nat_lt}
 use Rattle.std.specs.Int.{w32, cast_signed}
+use Rattle.std.proofs.lemmas.Bool.{ltb-false, ltb-true}
 use Rattle.bench_base.specs.Table.{One, Four, Eight, bytes_in, number}
 use Rattle.bench_base.specs.declared.refusals.Unread.{Unread}
 use Rattle.bench_base.specs.declared.refusals.Unread.TheVariants as unread
-use Rattle.bench_base.specs.Rules.{is_version, IsVersion}
+use Rattle.bench_base.specs.Rules.{is_version}
+use Rattle.bench_base.proofs.Facts.{known, known_is, is-some}
 use Rattle.indicium.specs.Marks.{read_mark}
 use Rattle.psd_wire.specs.declared.message.Message.{Message}
 use Rattle.psd_wire.specs.Grammar.{kind_of, verdict_of, day_of, sum_size, size_of, given, request_at, reply_at, release_at, if_mark, by_tag, read}
@@ -53,16 +55,13 @@ missing : {A B P : Type 0} (e : Unread) (o : Option A) (f : A → Result B Unrea
 missing e None f z one other h = one refl h
 missing e (Some a) f z one other h = other a refl h
 
-is_some : {A : Type 0} (o : Option A) (a : A) → o ≡ Some a → IsSome o
-is_some o a h = subst IsSome (sym h) refl
-
 request_fault : (bytes : List ℕ) (e : Unread) → IsFramed bytes 1 → request_at bytes ≡ Err e → HasFault e bytes
 unfolding request_at
 request_fault bytes e framed h =
     missing unread.Kind _ _ (Err e)
     (λ kind r. told bytes unread.Kind e (inl framed, sym (kind_is bytes) ∙ kind) r)
     (λ k kind h. missing unread.Day _ _ (Err e)
-    (λ day r. told bytes unread.Day e (framed, is_some _ k (sym (kind_is bytes) ∙ kind), sym (day_is bytes) ∙ day) r)
+    (λ day r. told bytes unread.Day e (framed, is-some _ k (sym (kind_is bytes) ∙ kind), sym (day_is bytes) ∙ day) r)
     (λ t day r. absurd (cc)) h) h
 
 reply_fault : (bytes : List ℕ) (e : Unread) → IsFramed bytes 2 → reply_at bytes ≡ Err e → HasFault e bytes
@@ -71,7 +70,7 @@ reply_fault bytes e framed h =
     missing unread.Kind _ _ (Err e)
     (λ kind r. told bytes unread.Kind e (inr framed, sym (kind_is bytes) ∙ kind) r)
     (λ k kind h. missing unread.Verdict _ _ (Err e)
-    (λ verdict r. told bytes unread.Verdict e (framed, is_some _ k (sym (kind_is bytes) ∙ kind), sym (verdict_is bytes) ∙ verdict) r)
+    (λ verdict r. told bytes unread.Verdict e (framed, is-some _ k (sym (kind_is bytes) ∙ kind), sym (verdict_is bytes) ∙ verdict) r)
     (λ v verdict r. absurd (cc)) h) h
 
 unmarked : {A F : Type 0} (m : Result A F) (bytes : List ℕ) (e : Unread) → if_mark m bytes ≡ Err e → IsErr m × (unread.Mark ≡ e)
@@ -97,18 +96,6 @@ by_tag_fault bytes t e framed h =
     let last = last_tag (get_or bytes 0 0) t (length bytes) (unlike t 1 not1) (unlike t 2 not2) (unlike t 3 not3) (unlike t 16 not16) framed.size in
     release_fault bytes e (subst (IsFramed bytes) last.0 framed) r) r) r) r) h
 
-long : (n m : ℕ) → nat_lt n m ≡ false → m ≤ n
-long n m h = grind arith
-
-short : (n m : ℕ) → nat_lt n m ≡ true → n < m
-short n m h = grind arith
-
-known : (v : ℕ) → is_version v ≡ true → IsVersion v
-known v h = grind arith
-
-known_is : (v : ℕ) → IsVersion v → is_version v ≡ true
-known_is v h = grind arith
-
 unknown : (v : ℕ) → is_version v ≡ false → (v ≢ 1) × (v ≢ 2)
 unknown v h = grind arith
 
@@ -121,16 +108,16 @@ unfolding read
 fault-found bytes e h =
     let v : ℕ = get_or bytes 0 0 in
     let t : ℕ = get_or bytes 1 0 in
-    ways (nat_lt (length bytes) 2) _ _ _ (λ few r. told bytes unread.Length e (inl (short _ _ few)) r)
+    ways (nat_lt (length bytes) 2) _ _ _ (λ few r. told bytes unread.Length e (inl (ltb-true _ _ few)) r)
     (λ two r. ways (is_version v) _ _ _
     (λ one r. missing unread.Tag (size_of v t) _ _
-    (λ none r. told bytes unread.Tag e (long _ _ two, known v one, none) r)
+    (λ none r. told bytes unread.Tag e (ltb-false _ _ two, known v one, none) r)
     (λ n size r.
-    let tagged : IsTagged bytes t n = record { two = long _ _ two; version = known v one; tag = refl; size = size } in
+    let tagged : IsTagged bytes t n = record { two = ltb-false _ _ two; version = known v one; tag = refl; size = size } in
     ways (length bytes == n) _ _ _
     (λ is r. by_tag_fault bytes t e (subst (IsTagged bytes t) (sym (eqb-true _ _ is)) tagged) r)
     (λ other r. told bytes unread.Length e (inr (t, n, tagged, unlike _ _ other)) r) r) r)
-    (λ other r. let un = unknown v other in told bytes unread.Version e (long _ _ two, un.0, un.1) r) r) h
+    (λ other r. let un = unknown v other in told bytes unread.Version e (ltb-false _ _ two, un.0, un.1) r) r) h
 
 -- == what holds is answered ==
 

@@ -1,2 +1,3 @@
 pub mod Readings
 pub mod FaultLemmas
+pub mod Codes

@@ -1,9 +1,10 @@
 -- A message that is spelled is read, and what is read is a message that is spelled so.
-use Rattle.std.proofs.Common.{◌≡◌, ℕ, ℤ, [], ◌∷◌, ◌+◌, ◌-◌, ◌^◌, ◌<◌, ◌≤◌, List, ◌++◌, length, get_or, take, drop, replicate, sym, ap, ap₂, ◌∙◌, refl, arith, subst, Result, Ok, Err, Option, Some, None, Bool, true, false, cond, length-append, append-nil, eqb-true, eq-eqb, ne_eqb, inl, inr, length-drop, ◌==◌, if◌then◌else◌, nat_lt, FitsSigned, IfOk, IfSome, IfNone, ◌≢◌}
-use Rattle.std.specs.Int.{w32, w64, from_be_bytes, cast_signed, cast_unsigned}
+use Rattle.std.proofs.Common.{◌≡◌, ℕ, ℤ, [], ◌∷◌, ◌+◌, ◌-◌, ◌^◌, ◌<◌, ◌≤◌, List, ◌++◌, length, get_or, take, drop, replicate, sym, ap, ap₂, ◌∙◌, refl, arith, subst, Result, Ok, Err, Option, Some, None, Bool, true, false, cond, length-append, append-nil, eqb-true, eq-eqb, ne_eqb, inl, inr, length-drop, ◌==◌, if◌then◌else◌, nat_lt, FitsSigned, IfOk, IfSome, IfNone, ◌≢◌, lit<}
+use Rattle.std.specs.Int.{w32, cast_signed, cast_unsigned}
 use Rattle.std.proofs.lemmas.Int.{of_z-to_z, to_z-of_z, ints}
 use Rattle.std.proofs.lemmas.Bool.{cases_eq}
-use Rattle.std.proofs.lemmas.List.{take_at, drop_at, take-append-drop, get_or-take, get_or-drop, drop-replicate, take-replicate}
+use Rattle.std.proofs.lemmas.List.{take_at, drop_at, take-append-drop, get_or-take, get_or-drop, drop-replicate, take-replicate, nil_from_length}
+use Rattle.std.proofs.lemmas.Option.{same_Some, none-some}
 use borrow.Author.Gap.{read_sfits}
 use Rattle.bench_base.specs.Table.{Size, One, Four, Eight, number, row, values, Fit, IsBytes, room}
 use Rattle.bench_base.specs.Rules.{is_version, IsVersion}
@@ -14,10 +15,12 @@ use Rattle.bench_base.specs.declared.words.Verdict.{Verdict}
 use Rattle.bench_base.specs.declared.words.Verdict.TheVariants.{Granted, NotEnrolled, EnrolledAlready, NoCustomer, Suspended, NoFunds, Imbalance}
 use Rattle.bench_base.specs.declared.refusals.Unread.{Unread}
 use Rattle.bench_base.specs.declared.refusals.Unread.TheVariants as unread
+use Rattle.bench_base.proofs.Facts.{ok-same, known, known_is}
 use Rattle.hmac_core.specs.Hmac.{hmac}
 use Rattle.hmac_core.proofs.Codes.{length-hmac}
 use Rattle.indicium.specs.Marks.{read_mark}
 use Rattle.indicium.specs.declared.Mark.{Mark}
+use Rattle.indicium.proofs.Readings.{let_through, if_ok}
 use Rattle.psd_wire.specs.declared.message.Request.{Request}
 use Rattle.psd_wire.specs.declared.message.ReplyMsg.{ReplyMsg}
 use Rattle.psd_wire.specs.declared.message.DoneMsg.{DoneMsg}
@@ -28,12 +31,6 @@ use Rattle.psd_wire.specs.Grammar.{kind_code, kind_of, verdict_code, verdict_of,
 pub use Rattle.psd_wire.specs.Grammar.{ReadsAs, code_room}
 
 -- == codes of words ==
-
-some : {A : Type 0} {a b : A} → Some a ≡ Some b → a ≡ b
-some h = cc
-
-right : {A F : Type 0} {a b : A} → ◌≡◌ {A = Result A F} (Ok a) (Ok b) → a ≡ b
-right h = cc
 
 pub kind_of-code : (k : Kind) → kind_of (kind_code k) ≡ Some k
 unfolding kind_of
@@ -47,7 +44,7 @@ kind_of-code Withdraw = refl
 row_or : {A : Type 0} (f : A → ℕ) (n c : ℕ) (a b : A) (rest : Option A) → f a ≡ c → (rest ≡ Some b → f b ≡ n) → (if n == c then Some a else rest) ≡ Some b → f b ≡ n
 row_or f n c a b rest code more h =
     elim (cases_eq n c) [
-      | inl e ↦ let same : a ≡ b = some (sym (ap (λ t. cond t (Some a) rest) (eq-eqb n c e)) ∙ h) in ap f (sym same) ∙ code ∙ sym e
+      | inl e ↦ let same : a ≡ b = same_Some _ _ (sym (ap (λ t. cond t (Some a) rest) (eq-eqb n c e)) ∙ h) in ap f (sym same) ∙ code ∙ sym e
       | inr d ↦ more (sym (ap (λ t. cond t (Some a) rest) (ne_eqb n c d)) ∙ h)
     ]
 
@@ -60,7 +57,7 @@ kind_code-of n k h =
     row_or kind_code n 1 Enrol k _ refl (row_or kind_code n 2 Reset k _ refl (row_or kind_code n 3 Audit k _ refl
     (row_or kind_code n 4 Refund k _ refl (row_or kind_code n 5 Withdraw k _ refl (none_left _ _))))) h
 
-verdict_of-code : (v : Verdict) → verdict_of (verdict_code v) ≡ Some v
+pub verdict_of-code : (v : Verdict) → verdict_of (verdict_code v) ≡ Some v
 unfolding verdict_of
 verdict_of-code Granted = refl
 verdict_of-code NotEnrolled = refl
@@ -77,8 +74,24 @@ verdict_code-of n v h =
     (row_or verdict_code n 3 NoCustomer v _ refl (row_or verdict_code n 4 Suspended v _ refl (row_or verdict_code n 5 NoFunds v _ refl
     (row_or verdict_code n 6 Imbalance v _ refl (none_left _ _))))))) h
 
+pub kind_byte : (k : Kind) → kind_code k < 2 ^ 8
+kind_byte Enrol = lit< tt
+kind_byte Reset = lit< tt
+kind_byte Audit = lit< tt
+kind_byte Refund = lit< tt
+kind_byte Withdraw = lit< tt
+
+pub verdict_byte : (v : Verdict) → verdict_code v < 2 ^ 8
+verdict_byte Granted = lit< tt
+verdict_byte NotEnrolled = lit< tt
+verdict_byte EnrolledAlready = lit< tt
+verdict_byte NoCustomer = lit< tt
+verdict_byte Suspended = lit< tt
+verdict_byte NoFunds = lit< tt
+verdict_byte Imbalance = lit< tt
+
 -- what is given is there
-there : {A B : Type 0} (e : Unread) (o : Option A) (f : A → Result B Unread) (y : B) → given e o f ≡ Ok y → (a : A) × (o ≡ Some a) × (f a ≡ Ok y)
+pub there : {A B : Type 0} (e : Unread) (o : Option A) (f : A → Result B Unread) (y : B) → given e o f ≡ Ok y → (a : A) × (o ≡ Some a) × (f a ≡ Ok y)
 there e None f y h = absurd (cc)
 there e (Some a) f y h = (a, refl, h)
 
@@ -100,12 +113,6 @@ unfolding number
 byte_of at bytes = get_or-take 1 (drop at bytes) 0 0 (omega arith) ∙ get_or-drop at bytes 0 0 ∙ ap (λ i. get_or bytes i 0) (omega arith)
 
 -- == versions ==
-
-known : (v : ℕ) → is_version v ≡ true → IsVersion v
-known v h = grind arith
-
-known_is : (v : ℕ) → IsVersion v → is_version v ≡ true
-known_is v h = grind arith
 
 -- a fact of each of the two sizes of sums
 by_flag : (P : Bool → Type 0) (b : Bool) → P true → P false → P b
@@ -154,7 +161,7 @@ request_at-found bytes x v t l h e =
     let day = there _ _ _ _ kind.2 in
     let today = day_of-found _ _ day.1 in
     let q : Request = request_from vs kind.0 day.0 in
-    let is : m.Request q ≡ x = right day.2 in
+    let is : m.Request q ≡ x = ok-same day.2 in
     let same : request_values q ≡ vs =
     request-again _ _ _ _ _ _ _ _ _ _ _ _ kind.0 day.0 (second_number bytes ∙ t) (kind_code-of _ _ kind.1) today.0 fit.1.1.1.1.1.1.1.1.1.1.1.0 in
     let version : q.version ≡ get_or bytes 0 0 = first_number bytes in
@@ -183,7 +190,7 @@ reply_at-found bytes x v t l h e =
     let kind = there _ _ _ _ e in
     let verdict = there _ _ _ _ kind.2 in
     let r : ReplyMsg = reply_from vs kind.0 verdict.0 in
-    let is : m.Reply r ≡ x = right verdict.2 in
+    let is : m.Reply r ≡ x = ok-same verdict.2 in
     let same : reply_values r ≡ vs =
     reply-again _ _ _ _ _ _ _ _ _ kind.0 verdict.0 (second_number bytes ∙ t) (kind_code-of _ _ kind.1) (verdict_code-of _ _ verdict.1) fit.1.1.1.1.1.1.1.0 in
     let version : r.version ≡ get_or bytes 0 0 = first_number bytes in
@@ -229,7 +236,7 @@ two_front (x ∷ []) t h v a = absurd (omega (arith, h))
 two_front (x ∷ y ∷ rest) t h v a = cc
 
 marked : {A F : Type 0} (r : Result A F) (bytes : List ℕ) (x : Message) → if_mark r bytes ≡ Ok x → (found : A) × (r ≡ Ok found) × (m.Release bytes ≡ x)
-marked (Ok a) bytes x h = (a, refl, right h)
+marked (Ok a) bytes x h = (a, refl, ok-same h)
 marked (Err e) bytes x h = absurd (cc)
 
 pub release_at-found : (bytes : List ℕ) (x : Message) → get_or bytes 0 0 ≡ 1 → get_or bytes 1 0 ≡ 17 → 2 ≤ length bytes → release_at bytes ≡ Ok x
@@ -246,7 +253,7 @@ pub request_version : (q : Request) (rest : List ℕ) → get_or (body (m.Reques
 unfolding body
 request_version q rest = first_cell q.version (drop 1 (request_table (sum_size q.version))) (drop 1 (request_values q)) rest
 
-reply_version : (r : ReplyMsg) (rest : List ℕ) → get_or (body (m.Reply r) ++ rest) 0 0 ≡ r.version
+pub reply_version : (r : ReplyMsg) (rest : List ℕ) → get_or (body (m.Reply r) ++ rest) 0 0 ≡ r.version
 unfolding body
 reply_version r rest = first_cell r.version (drop 1 (reply_table (sum_size r.version))) (drop 1 (reply_values r)) rest
 
@@ -298,10 +305,6 @@ branch n c a b y one other h =
       | inr d ↦ other d (sym (ap (λ t. cond t a b) (ne_eqb n c d)) ∙ h)
     ]
 
-pub let_through : {A F : Type 0} (b : Bool) (r : Result A F) (e : F) (y : A) → (if b then r else Err e) ≡ Ok y → (b ≡ true) × (r ≡ Ok y)
-let_through true r e y h = (refl, h)
-let_through false r e y h = absurd (cc)
-
 pub held_back : {A F : Type 0} (b : Bool) (r : Result A F) (e : F) (y : A) → (if b then Err e else r) ≡ Ok y → (b ≡ false) × (r ≡ Ok y)
 held_back true r e y h = absurd (cc)
 held_back false r e y h = (refl, h)
@@ -315,15 +318,12 @@ reads bytes x n k found l =
     let rest = behind bytes n k (body x) l found.1 in
     (drop n bytes, record { whole = found.0; spelled = rest.0; long = rest.1 ∙ sym found.2 })
 
-none_is : {A : Type 0} {a : A} → None ≡ Some a → ⊥
-none_is h = cc
-
 -- a message of another tag has version 1, and its size
 first_alone : (v t n m : ℕ) → (t ≡ 1 → ⊥) → (t ≡ 2 → ⊥) → size_of 1 t ≡ Some m → size_of v t ≡ Some n → (v ≡ 1) × (n ≡ m)
 unfolding size_of
 first_alone v t n m a b one h =
-    branch v 1 _ _ _ (λ e h. (e, some (sym h ∙ one)))
-    (λ _ h. branch t 1 _ _ _ (λ e _. absurd (a e)) (λ _ h. branch t 2 _ _ _ (λ e _. absurd (b e)) (λ _ h. absurd (none_is h)) h) h) h
+    branch v 1 _ _ _ (λ e h. (e, same_Some _ _ (sym h ∙ one)))
+    (λ _ h. branch t 1 _ _ _ (λ e _. absurd (a e)) (λ _ h. branch t 2 _ _ _ (λ e _. absurd (b e)) (λ _ h. absurd (none-some _ h)) h) h) h
 
 size_3 : size_of 1 3 ≡ Some 42
 unfolding size_of
@@ -342,8 +342,8 @@ unfolding size_of
 last_tag v t n a b c d h =
     branch v 1 _ _ _
     (λ one h. branch t 1 _ _ _ (λ e _. absurd (a e)) (λ _ h. branch t 2 _ _ _ (λ e _. absurd (b e)) (λ _ h. branch t 3 _ _ _ (λ e _. absurd (c e))
-    (λ _ h. branch t 16 _ _ _ (λ e _. absurd (d e)) (λ _ h. branch t 17 _ _ _ (λ e h. (e, one, sym (some h))) (λ _ h. absurd (none_is h)) h) h) h) h) h)
-    (λ _ h. branch t 1 _ _ _ (λ e _. absurd (a e)) (λ _ h. branch t 2 _ _ _ (λ e _. absurd (b e)) (λ _ h. absurd (none_is h)) h) h) h
+    (λ _ h. branch t 16 _ _ _ (λ e _. absurd (d e)) (λ _ h. branch t 17 _ _ _ (λ e h. (e, one, sym (same_Some _ _ h))) (λ _ h. absurd (none-some _ h)) h) h) h) h) h)
+    (λ _ h. branch t 1 _ _ _ (λ e _. absurd (a e)) (λ _ h. branch t 2 _ _ _ (λ e _. absurd (b e)) (λ _ h. absurd (none-some _ h)) h) h) h
 
 -- a message that has version 1 alone
 first_found : (bytes : List ℕ) (x y : Message) (t n k : ℕ) → get_or bytes 1 0 ≡ t → (t ≡ 1 → ⊥) → (t ≡ 2 → ⊥) → size_of 1 t ≡ Some (n + k)
@@ -361,16 +361,16 @@ by_tag-found bytes x h version size r =
     let at : (n : ℕ) → t ≡ n → size_of v n ≡ Some (length bytes) = λ n is. ap (size_of v) (sym is) ∙ size in
     branch t 1 _ _ _
     (λ is r.
-    let n : length bytes ≡ request_room v + 32 = some (sym (at 1 is) ∙ size_request v) in
+    let n : length bytes ≡ request_room v + 32 = same_Some _ _ (sym (at 1 is) ∙ size_request v) in
     reads bytes x (request_room v) 32 (request_at-found bytes x version is (omega (arith, n)) h r) n)
     (λ not1 r. branch t 2 _ _ _
     (λ is r.
-    let n : length bytes ≡ reply_room v + 32 = some (sym (at 2 is) ∙ size_reply v) in
+    let n : length bytes ≡ reply_room v + 32 = same_Some _ _ (sym (at 2 is) ∙ size_reply v) in
     reads bytes x (reply_room v) 32 (reply_at-found bytes x version is (omega (arith, n)) h r) n)
     (λ not2 r. branch t 3 _ _ _
-    (λ is r. first_found bytes x (done_at bytes) t 10 32 refl not1 not2 (ap (size_of 1) is ∙ size_3) size (λ one l. done_at-found bytes one is l h) (right r))
+    (λ is r. first_found bytes x (done_at bytes) t 10 32 refl not1 not2 (ap (size_of 1) is ∙ size_3) size (λ one l. done_at-found bytes one is l h) (ok-same r))
     (λ not3 r. branch t 16 _ _ _
-    (λ is r. first_found bytes x (debit_at bytes) t 16 0 refl not1 not2 (ap (size_of 1) is ∙ size_16) size (λ one l. debit_at-found bytes one is l h) (right r))
+    (λ is r. first_found bytes x (debit_at bytes) t 16 0 refl not1 not2 (ap (size_of 1) is ∙ size_16) size (λ one l. debit_at-found bytes one is l h) (ok-same r))
     (λ not16 r.
     let last = last_tag v t (length bytes) not1 not2 not3 not16 size in
     let found = release_at-found bytes x last.1 last.0 (omega (arith, last.2)) r in
@@ -400,15 +400,11 @@ cells v t ss vs code b e =
 long_body : (ss : List Size) (vs code b : List ℕ) (n k : ℕ) → Fit ss vs → b ≡ row ss vs → room ss ≡ n → length code ≡ k → length (b ++ code) ≡ n + k
 long_body ss vs code b n k fit e r l = length-append b code ∙ ap₂ (λ x y. x + y) (ap length e ∙ length-row ss vs fit ∙ r) l
 
-no_cells : (xs : List ℕ) → length xs ≡ 0 → xs ≡ []
-no_cells [] h = refl
-no_cells (x ∷ xs) h = absurd (omega (arith, h))
-
 release_at-body : (x : List ℕ) (found : Mark × List ℕ) → read_mark x ≡ Ok found → release_at (1 ∷ 17 ∷ x) ≡ Ok (m.Release x)
 unfolding release_at
 release_at-body x found e = ap (λ r. if_mark r x) e
 
-mark_long : (x : List ℕ) (found : Mark × List ℕ) → read_mark x ≡ Ok found → length x ≡ 64
+pub mark_long : (x : List ℕ) (found : Mark × List ℕ) → read_mark x ≡ Ok found → length x ≡ 64
 unfolding read_mark
 mark_long x found e = let l = let_through _ _ _ _ e in eqb-true _ _ l.0
 
@@ -432,7 +428,7 @@ read-body (m.Debit r) code w l =
     read-through (body (m.Debit r) ++ code) 1 16 16 c.0 (omega arith, omega arith) c.1 size_16 (long_body debit_table (debit_values r) code _ 16 0 w refl refl l) (omega arith)
     ∙ ap (λ y. Ok y) (debit_at-body r code w)
 read-body (m.Release x) code w l =
-    let none : code ≡ [] = no_cells code l in
+    let none : code ≡ [] = nil_from_length code l in
     let long : length x ≡ 64 = mark_long x w.0 w.1 in
     ap (λ k. read (1 ∷ 17 ∷ x ++ k)) none ∙ ap read (append-nil (1 ∷ 17 ∷ x))
     ∙ read-through (1 ∷ 17 ∷ x) 1 17 66 refl (omega arith, omega arith) refl size_17 (omega (arith, long)) (omega arith) ∙ release_at-body x w.0 w.1
@@ -447,7 +443,7 @@ read-spell (m.Release x) key w = ap read (sym (append-nil (body (m.Release x))))
 
 -- one spelling
 pub one-spelling : (x y : Message) (key : List ℕ) → IsWhole x → IsWhole y → spell x key ≡ spell y key → x ≡ y
-one-spelling x y key v w e = right (sym (read-spell x key v) ∙ ap read e ∙ read-spell y key w)
+one-spelling x y key v w e = ok-same (sym (read-spell x key v) ∙ ap read e ∙ read-spell y key w)
 
 -- == codes ==
 
@@ -493,7 +489,7 @@ unfolding spell
 spell-uncoded x key bytes c h e =
     let found = read-found bytes x h e in
     let r = found.1 in
-    let none : found.0 ≡ [] = no_cells found.0 (r.long ∙ ap (λ b. cond b 32 0) c) in
+    let none : found.0 ≡ [] = nil_from_length found.0 (r.long ∙ ap (λ b. cond b 32 0) c) in
     ap (λ b. cond b (body x ++ hmac key (body x)) (body x)) c ∙ sym (append-nil (body x)) ∙ ap (λ k. body x ++ k) (sym none) ∙ sym r.spelled
 
 pub length-reply : (r : ReplyMsg) (key : List ℕ) → IsWhole (m.Reply r) → length (spell (m.Reply r) key) ≡ reply_room r.version + 32
@@ -506,10 +502,6 @@ length-done r key w = length-spell (m.Done r) key refl ∙ ap (λ n. n + 32) (le
 
 -- == what the public calls promise, of the list alone ==
 
-if_ok : {A F : Type 0} (r : Result A F) (P : A → Type 0) → ((x : A) → r ≡ Ok x → P x) → IfOk r P
-if_ok (Ok x) P h = h x refl
-if_ok (Err e) P h = tt
-
 pub found : (bytes : List ℕ) → IsBytes bytes → IfOk (read bytes) (λ x. IsReading bytes x)
 found bytes h = if_ok (read bytes) _ (λ x e. read-found bytes x h e)
 
@@ -517,14 +509,14 @@ pub only : (bytes : List ℕ) (x : Message) → IsReading bytes x → read bytes
 only bytes x (code, r) = ap read r.spelled ∙ read-body x code r.whole r.long
 
 pub one-reading : (bytes : List ℕ) (x y : Message) → IsReading bytes x → IsReading bytes y → x ≡ y
-one-reading bytes x y r s = right (sym (only bytes x r) ∙ only bytes y s)
+one-reading bytes x y r s = ok-same (sym (only bytes x r) ∙ only bytes y s)
 
 -- == the message whose spelling the bytes are ==
 
 coded-found : (r : Result Message Unread) (x : Message) → coded_in r ≡ Some x → (r ≡ Ok x) × IsCoded x
-coded-found (Ok (m.Request q)) x h = let is = some h in (ap (λ y. Ok y) is, subst IsCoded is refl)
-coded-found (Ok (m.Reply r)) x h = let is = some h in (ap (λ y. Ok y) is, subst IsCoded is refl)
-coded-found (Ok (m.Done r)) x h = let is = some h in (ap (λ y. Ok y) is, subst IsCoded is refl)
+coded-found (Ok (m.Request q)) x h = let is = same_Some _ _ h in (ap (λ y. Ok y) is, subst IsCoded is refl)
+coded-found (Ok (m.Reply r)) x h = let is = same_Some _ _ h in (ap (λ y. Ok y) is, subst IsCoded is refl)
+coded-found (Ok (m.Done r)) x h = let is = same_Some _ _ h in (ap (λ y. Ok y) is, subst IsCoded is refl)
 coded-found (Ok (m.Debit r)) x h = absurd (cc)
 coded-found (Ok (m.Release y)) x h = absurd (cc)
 coded-found (Err e) x h = absurd (cc)
@@ -552,7 +544,7 @@ under-found bytes key h c = if_some (coded_in (read bytes)) _
 pub under-none : (bytes key : List ℕ) → IfNone (coded_in (read bytes)) ((x : Message) → IsCoded x → IsWhole x → spell x key ≢ bytes)
 under-none bytes key = if_none (coded_in (read bytes)) _
     (λ none x c w e. let is : coded_in (read bytes) ≡ Some x = ap (λ b. coded_in (read b)) (sym e) ∙ ap coded_in (read-spell x key w) ∙ coded-some x c in
-    absurd (none_is (sym none ∙ is)))
+    absurd (none-some _ (sym none ∙ is)))
 
 -- == a body without its code ==
 
@@ -567,7 +559,7 @@ room_coded x c = ap (λ b. cond b 32 0) c
 pub one-body : (x y : Message) → is_coded x ≡ true → is_coded y ≡ true → IsWhole x → IsWhole y → body x ≡ body y → x ≡ y
 one-body x y c d v w e =
     let zeros : List ℕ = replicate 32 0 in
-    right (sym (read-body x zeros v (sym (room_coded x c))) ∙ ap (λ b. read (b ++ zeros)) e ∙ read-body y zeros w (sym (room_coded y d)))
+    ok-same (sym (read-body x zeros v (sym (room_coded x c))) ∙ ap (λ b. read (b ++ zeros)) e ∙ read-body y zeros w (sym (room_coded y d)))
 
 pub length-coded_body : (x : Message) → is_coded x ≡ true → IsWhole x → length (body x) ≤ 55
 unfolding body
@@ -602,4 +594,4 @@ body-none bytes = if_none (coded_in (read (bytes ++ replicate 32 0))) _
     (λ none x c w e.
     let reads : coded_in (read (bytes ++ replicate 32 0)) ≡ Some x =
     ap (λ b. coded_in (read (b ++ replicate 32 0))) (sym e) ∙ ap coded_in (read-body x (replicate 32 0) w (sym (room_coded x c))) ∙ coded-some x c in
-    absurd (none_is (sym none ∙ reads)))
+    absurd (none-some _ (sym none ∙ reads)))

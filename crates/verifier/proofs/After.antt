@@ -4,6 +4,7 @@ use Rattle.std.specs.Prelude.{◌==◌, ◌&&◌, is_some, All, unwrap_or, if◌
 use Rattle.std.proofs.lemmas.Bool.{cases_Bool, cases_eq, cases_lt, eqb-true, eq-eqb, ne_eqb}
 use Rattle.std.proofs.lemmas.List.{get_or_past}
 use Rattle.std.proofs.lemmas.List.Elements.{All-head, All-tail}
+use Rattle.std.proofs.lemmas.Option.{same_Some}
 use Rattle.bench_base.specs.declared.sizes.TheConstants.{VERIFIER_CELLS, FIRST_BLOCK, BLOCK_PIECES}
 use Rattle.bench_base.specs.declared.ledger.Commit.{Commit}
 use Rattle.bench_base.specs.declared.ledger.Commit.TheVariants.{Trusted, Accepted}
@@ -11,6 +12,7 @@ use Rattle.bench_base.specs.Cells.{OfTrust, OfBlock, commits_at}
 use Rattle.bench_base.specs.Ranges.{InRange, IsDevice, IsKey, IsCount}
 use Rattle.bench_base.specs.Scans.{trusted, accepted, block_of, block_place, blocks}
 use Rattle.bench_base.specs.Rows.{first_of}
+use Rattle.bench_base.proofs.Facts.{some-none}
 use Rattle.node_acts.specs.RowList.{row_at, row_of, put}
 use Rattle.node_acts.specs.RowList as list
 use Rattle.node_acts.specs.RowLaws.{listed_long, listed_at, put_listed}
@@ -20,7 +22,7 @@ use Rattle.verifier.specs.Order.{IsRoomy}
 use Rattle.verifier.specs.Records.{block_at, scans_after, trust_after, block_after, cell_after, seen_after, IsRecorded}
 use Rattle.verifier.specs.Rows.{Row, TrustRow, BlockRow}
 use Rattle.verifier.specs.Seen.{Seen, row_in, key_in, block_in, scans_in, holds, key_at, cell_of_block, used, scan_shown, spot_by, spot_in, counting}
-use Rattle.verifier.proofs.Basics.{some-none, same-some, trust-low, block-high}
+use Rattle.verifier.proofs.Basics.{trust-low, block-high}
 use Rattle.verifier.proofs.Blocks.{pair, same_block, is-block, own-block, newest-at, older-at, past-all, within-all, place-at, blocks-kept, blocks-more, at-place, untrusted-blank, unused-blank, unused-none, piece-is, place-inside, scan-at, unused-scans, scans-more, scans-others}
 use Rattle.verifier.proofs.Cells.{key-in-cell, block-held, used-is}
 use Rattle.verifier.proofs.Found.{position-is, position-none}
@@ -59,11 +61,11 @@ block_keyless C (Some x) = refl
 
 -- only the eight devices are trusted
 pub trusted-range : (d : ℕ) (C : List Commit) (key : List ℕ) → All InRange C → trusted d C ≡ Some key → IsDevice d × IsKey key
-trusted-range d [] key range is = absurd (some-none key (sym is))
+trusted-range d [] key range is = absurd (some-none (sym is))
 trusted-range d (Trusted e k ∷ C) key range is = elim (cases_Bool (e == d)) [
   | inl own ↦
       let fits = All-head InRange (Trusted e k) C range in
-      let same : k ≡ key = same-some (sym (ap (λ t. if t then Some k else trusted d C) own) ∙ is) in
+      let same : k ≡ key = same_Some _ _ (sym (ap (λ t. if t then Some k else trusted d C) own) ∙ is) in
       (subst IsDevice (eqb-true e d own) fits.0, subst IsKey same fits.1)
   | inr other ↦ trusted-range d C key (All-tail InRange (Trusted e k) C range) (sym (ap (λ t. if t then Some k else trusted d C) other) ∙ is)
 ]
@@ -135,7 +137,7 @@ found-after C d b i roomy is =
       | inr isnt ↦ isnt
       | inl held ↦
           let other = cell-place C d b j (omega (arith, lt, inside)) held in
-          let same : i ≡ other.0 = same-some (sym is ∙ other.1.1) in
+          let same : i ≡ other.0 = same_Some _ _ (sym is ∙ other.1.1) in
           absurd (omega (arith, lt, other.1.0, same))
     ])
 
@@ -145,7 +147,7 @@ none-after C d b none =
       | inr isnt ↦ isnt
       | inl held ↦
           let other = cell-place C d b k (omega (arith, lt, after-long C)) held in
-          absurd (some-none other.0 (sym other.1.1 ∙ none))
+          absurd (some-none (sym other.1.1 ∙ none))
     ])
 
 some_block : (C : List Commit) (o : Option (ℕ × ℕ)) → is_some (option_map (block_after C) o) ≡ is_some o
@@ -163,14 +165,14 @@ used-after C roomy =
 -- == where a piece is looked up ==
 
 pub accepted-range : (d p : ℕ) (C : List Commit) (n : ℕ) → All InRange C → accepted d p C ≡ Some n → IsCount n
-accepted-range d p [] n range is = absurd (some-none n (sym is))
+accepted-range d p [] n range is = absurd (some-none (sym is))
 accepted-range d p (Accepted e q m ∷ C) n range is = elim (cases_Bool ((e == d) && (q == p))) [
   | inl own ↦ by (accepted d p C) refl (sym (ap (λ t. if t then first_of (accepted d p C) (Some m) else accepted d p C) own) ∙ is) (λ h. accepted-range d p C n (All-tail InRange (Accepted e q m) C range) h)
   | inr other ↦ accepted-range d p C n (All-tail InRange (Accepted e q m) C range) (sym (ap (λ t. if t then first_of (accepted d p C) (Some m) else accepted d p C) other) ∙ is)
 ]
   where
     by : (o : Option ℕ) → accepted d p C ≡ o → first_of (accepted d p C) (Some m) ≡ Some n → (accepted d p C ≡ Some n → IsCount n) → IsCount n
-    by None none now rest = subst IsCount (same-some (ap (λ o. first_of o (Some m)) (sym none) ∙ now)) (All-head InRange (Accepted e q m) C range).2
+    by None none now rest = subst IsCount (same_Some _ _ (ap (λ o. first_of o (Some m)) (sym none) ∙ now)) (All-head InRange (Accepted e q m) C range).2
     by (Some k) some now rest = rest (some ∙ ap (λ o. first_of o (Some m)) (sym some) ∙ now)
 accepted-range d p (x ∷ C) n range is = accepted-range d p C n (All-tail InRange x C range) is
 
@@ -310,7 +312,7 @@ module _ (C : List Commit) (d p n : ℕ) (none : accepted d p C ≡ None) where
         | inr le ↦
             ap (λ j. cell_after j (Accepted d p n ∷ C)) (sym (behind k le)) ∙ now (k - FIRST_BLOCK)
             ∙ other_cell (block_at (k - FIRST_BLOCK) (blocks C)) (λ x has. apart_by x (λ own.
-            differs (sym (behind k le) ∙ ap (λ j. FIRST_BLOCK + j) (same-some (sym (at-place C (k - FIRST_BLOCK) d (block_of p) (has ∙ ap (λ (y : ℕ × ℕ). Some y) own)) ∙ is)))))
+            differs (sym (behind k le) ∙ ap (λ j. FIRST_BLOCK + j) (same_Some _ _ (sym (at-place C (k - FIRST_BLOCK) d (block_of p) (has ∙ ap (λ (y : ℕ × ℕ). Some y) own)) ∙ is)))))
             ∙ sym (ap (λ j. cell_after j C) (sym (behind k le)) ∙ block-cell C (k - FIRST_BLOCK))
       ]
 
@@ -348,6 +350,6 @@ module _ (C : List Commit) (d p n : ℕ) (none : accepted d p C ≡ None) where
             ap (λ j. cell_after j (Accepted d p n ∷ C)) (sym (behind k le)) ∙ now (k - FIRST_BLOCK)
             ∙ ap (option_map (block_after (Accepted d p n ∷ C))) (older-at (pair d (block_of p)) (blocks C) (k - FIRST_BLOCK) (λ is. differs (sym (behind k le) ∙ ap (λ j. FIRST_BLOCK + j) is)))
             ∙ other_cell (block_at (k - FIRST_BLOCK) (blocks C)) (λ x has. apart_by x (λ own.
-            some-none (k - FIRST_BLOCK) (sym (at-place C (k - FIRST_BLOCK) d (block_of p) (has ∙ ap (λ (y : ℕ × ℕ). Some y) own)) ∙ fresh)))
+            some-none (sym (at-place C (k - FIRST_BLOCK) d (block_of p) (has ∙ ap (λ (y : ℕ × ℕ). Some y) own)) ∙ fresh)))
             ∙ sym (ap (λ j. cell_after j C) (sym (behind k le)) ∙ block-cell C (k - FIRST_BLOCK))
       ]

@@ -1,19 +1,8 @@
 -- What is used of flags, of options, and of the number of a cell.
-use Rattle.std.proofs.Common.{◌≡◌, ℕ, ◌<◌, ◌≤◌, Option, Some, None, Bool, true, false, refl, sym, ap, arith, true≢false}
-use Rattle.std.specs.Prelude.{◌&&◌, nat_lt}
+use Rattle.std.proofs.Common.{◌≡◌, ℕ, ◌<◌, ◌≤◌, Option, Some, None, true, false, ap, arith}
+use Rattle.std.specs.Prelude.{nat_lt}
 use Rattle.std.proofs.lemmas.Bool.Decides.{nat_tests}
 use Rattle.bench_base.specs.declared.sizes.TheConstants.{FIRST_BLOCK}
-
-pub both-true : (s t : Bool) → (s && t) ≡ true → (s ≡ true) × (t ≡ true)
-both-true true true h = (refl, refl)
-both-true true false h = absurd (true≢false (sym h))
-both-true false t h = absurd (true≢false (sym h))
-
-pub some-none : {A : Type 0} (a : A) → Some a ≡ None → ⊥
-some-none a h = cc
-
-pub same-some : {A : Type 0} {a e : A} → Some a ≡ Some e → a ≡ e
-same-some h = cc
 
 pub no-pair : (d b : ℕ) → ◌≡◌ {A = Option (ℕ × ℕ)} None (Some (d, b)) → ⊥
 no-pair d b h = cc

@@ -1,18 +1,19 @@
 -- The blocks in use after some commits, the newest first, by their places, which are counted from the oldest.
 use Rattle.std.proofs.Common.{◌≡◌, ◌≢◌, inl, inr, ℕ, ◌+◌, ◌*◌, ◌%◌, ◌<◌, ◌≤◌, List, [], ◌∷◌, length, replicate, get_or, set, Option, Some, None, Bool, true, false, refl, sym, ap, ◌∙◌, arith, true≢false}
 use Rattle.std.specs.Prelude.{◌==◌, ◌&&◌, is_some, IsSome, unwrap_or, if◌then◌else◌}
-use Rattle.std.proofs.lemmas.Bool.{cases_Bool, cases_eq, eqb-true, eq-eqb, ne_eqb}
+use Rattle.std.proofs.lemmas.Bool.{cases_Bool, cases_eq, eqb-true, eq-eqb, ne_eqb, and_parts}
 use Rattle.std.proofs.lemmas.List.{get_or-replicate, length-replicate, get_or-set_same, get_or-set_other, length-set}
+use Rattle.std.proofs.lemmas.Option.{same_Some}
 use Rattle.bench_base.specs.declared.sizes.TheConstants.{BLOCK_PIECES}
 use Rattle.bench_base.specs.declared.ledger.Commit.{Commit}
 use Rattle.bench_base.specs.declared.ledger.Commit.TheVariants.{Trusted, Accepted}
 use Rattle.bench_base.specs.Cells.{OfTrust, OfBlock, commits_at}
 use Rattle.bench_base.specs.Rows.{first_of}
 use Rattle.bench_base.specs.Scans.{trusted, accepted, block_of, block_place, with_block, blocks}
+use Rattle.bench_base.proofs.Facts.{some-none}
 use Rattle.node_acts.specs.RowLaws.{listed_is, listed_same, listed_long, listed_at}
 use Rattle.verifier.specs.Payload.{no_scans}
 use Rattle.verifier.specs.Records.{block_at, scans_after}
-use Rattle.verifier.proofs.Basics.{both-true, some-none, same-some}
 
 abbrev pub pair : ℕ → ℕ → ℕ × ℕ
 pair d b = (d, b)
@@ -23,7 +24,7 @@ same_block x d b = (x.0 == d) && (x.1 == b)
 
 pub is-block : (x : ℕ × ℕ) (d b : ℕ) → same_block x d b ≡ true → x ≡ (d, b)
 is-block x d b is =
-    let parts = both-true (x.0 == d) (x.1 == b) is in
+    let parts = and_parts (x.0 == d) (x.1 == b) is in
     λ i. (eqb-true x.0 d parts.0 i, eqb-true x.1 b parts.1 i)
 
 pub own-block : (d b : ℕ) → same_block (d, b) d b ≡ true
@@ -54,10 +55,10 @@ within-all (x ∷ xs) i lt = elim (cases_eq i (length xs)) [
 
 -- a block that has a place stands there
 pub place-at : (xs : List (ℕ × ℕ)) (d b i : ℕ) → block_place d b xs ≡ Some i → (i < length xs) × (block_at i xs ≡ Some (d, b))
-place-at [] d b i is = absurd (some-none i (sym is))
+place-at [] d b i is = absurd (some-none (sym is))
 place-at (x ∷ xs) d b i is = elim (cases_Bool (same_block x d b)) [
   | inl own ↦
-      let last : length xs ≡ i = same-some (sym (ap (λ t. if t then Some (length xs) else block_place d b xs) own) ∙ is) in
+      let last : length xs ≡ i = same_Some _ _ (sym (ap (λ t. if t then Some (length xs) else block_place d b xs) own) ∙ is) in
       (omega (arith, last), newest-at x xs i (sym last) ∙ ap (λ (y : ℕ × ℕ). Some y) (is-block x d b own))
   | inr other ↦
       let rest = place-at xs d b i (sym (ap (λ t. if t then Some (length xs) else block_place d b xs) other) ∙ is) in
@@ -82,7 +83,7 @@ fresh-before d b e p n C none = by (block_place e (block_of p) (blocks C)) refl
     by (Some i) is =
         let before : block_place d b (blocks C) ≡ None = ap (block_place d b) (sym (blocks-kept e p n C i is)) ∙ none in (
           elim (cases_Bool (same_block (e, block_of p) d b)) [
-            | inl own ↦ absurd (some-none i (sym is ∙ (λ j. block_place (is-block (e, block_of p) d b own j).0 (is-block (e, block_of p) d b own j).1 (blocks C)) ∙ before))
+            | inl own ↦ absurd (some-none (sym is ∙ (λ j. block_place (is-block (e, block_of p) d b own j).0 (is-block (e, block_of p) d b own j).1 (blocks C)) ∙ before))
             | inr other ↦ other
           ],
           before,
@@ -90,25 +91,25 @@ fresh-before d b e p n C none = by (block_place e (block_of p) (blocks C)) refl
     by None is =
         let now : block_place d b (pair e (block_of p) ∷ blocks C) ≡ None = ap (block_place d b) (sym (blocks-more e p n C is)) ∙ none in
         elim (cases_Bool (same_block (e, block_of p) d b)) [
-          | inl own ↦ absurd (some-none (length (blocks C)) (sym (ap (λ t. if t then Some (length (blocks C)) else block_place d b (blocks C)) own) ∙ now))
+          | inl own ↦ absurd (some-none (sym (ap (λ t. if t then Some (length (blocks C)) else block_place d b (blocks C)) own) ∙ now))
           | inr other ↦ (other, sym (ap (λ t. if t then Some (length (blocks C)) else block_place d b (blocks C)) other) ∙ now)
         ]
 
 -- a block has one place
 pub at-place : (C : List Commit) (i d b : ℕ) → block_at i (blocks C) ≡ Some (d, b) → block_place d b (blocks C) ≡ Some i
-at-place [] i d b is = absurd (some-none (pair d b) (sym is))
+at-place [] i d b is = absurd (some-none (sym is))
 at-place (Accepted e p n ∷ C) i d b is = by (block_place e (block_of p) (blocks C)) refl (λ j h. at-place C j d b h)
   where
     by : (o : Option ℕ) → block_place e (block_of p) (blocks C) ≡ o → ((j : ℕ) → block_at j (blocks C) ≡ Some (d, b) → block_place d b (blocks C) ≡ Some j) → block_place d b (blocks (Accepted e p n ∷ C)) ≡ Some i
     by (Some k) kept rest = ap (block_place d b) (blocks-kept e p n C k kept) ∙ rest i (ap (block_at i) (sym (blocks-kept e p n C k kept)) ∙ is)
     by None more rest = ap (block_place d b) (blocks-more e p n C more) ∙ elim (cases_eq i (length (blocks C))) [
       | inl last ↦
-          let own : pair e (block_of p) ≡ pair d b = same-some (sym (newest-at (pair e (block_of p)) (blocks C) i last) ∙ ap (block_at i) (sym (blocks-more e p n C more)) ∙ is) in
+          let own : pair e (block_of p) ≡ pair d b = same_Some _ _ (sym (newest-at (pair e (block_of p)) (blocks C) i last) ∙ ap (block_at i) (sym (blocks-more e p n C more)) ∙ is) in
           ap (λ (x : ℕ × ℕ). block_place d b (x ∷ blocks C)) own ∙ ap (λ t. if t then Some (length (blocks C)) else block_place d b (blocks C)) (own-block d b) ∙ ap (λ j. Some j) (sym last)
       | inr differs ↦
           let before : block_place d b (blocks C) ≡ Some i = rest i (sym (older-at (pair e (block_of p)) (blocks C) i differs) ∙ ap (block_at i) (sym (blocks-more e p n C more)) ∙ is) in
           elim (cases_Bool (same_block (e, block_of p) d b)) [
-            | inl own ↦ absurd (some-none i (sym before ∙ (λ j. block_place (sym (is-block (e, block_of p) d b own) j).0 (sym (is-block (e, block_of p) d b own) j).1 (blocks C)) ∙ more))
+            | inl own ↦ absurd (some-none (sym before ∙ (λ j. block_place (sym (is-block (e, block_of p) d b own) j).0 (sym (is-block (e, block_of p) d b own) j).1 (blocks C)) ∙ more))
             | inr other ↦ ap (λ t. if t then Some (length (blocks C)) else block_place d b (blocks C)) other ∙ before
           ]
     ]
@@ -119,7 +120,7 @@ at-place (_ ∷ C) i d b is = at-place C i d b is
 pub untrusted-blank : (d : ℕ) (C : List Commit) → trusted d C ≡ None → commits_at (OfTrust d) C ≡ 0
 untrusted-blank d [] none = refl
 untrusted-blank d (Trusted e key ∷ C) none = elim (cases_Bool (e == d)) [
-  | inl own ↦ absurd (some-none key (sym (ap (λ t. if t then Some key else trusted d C) own) ∙ none))
+  | inl own ↦ absurd (some-none (sym (ap (λ t. if t then Some key else trusted d C) own) ∙ none))
   | inr other ↦ ap (λ t. if t then commits_at (OfTrust d) C + 1 else commits_at (OfTrust d) C) other ∙ untrusted-blank d C (sym (ap (λ t. if t then Some key else trusted d C) other) ∙ none)
 ]
 untrusted-blank d (_ ∷ C) none = untrusted-blank d C none
@@ -141,7 +142,7 @@ unused-none d b p (Accepted e q n ∷ C) is none =
     other apart = elim (cases_Bool ((e == d) && (q == p))) [
       | inr isnt ↦ isnt
       | inl own ↦
-          let parts = both-true (e == d) (q == p) own in
+          let parts = and_parts (e == d) (q == p) own in
           let same : same_block (e, block_of q) d b ≡ true =
           (λ j. same_block (eqb-true e d parts.0 j, block_of (eqb-true q p parts.1 j)) d b) ∙ ap (λ c. same_block (d, c) d b) is ∙ own-block d b in
           absurd (true≢false (sym same ∙ apart))

@@ -1,14 +1,14 @@
 -- What the cells of the verifier tell: keys, blocks, and the next cell.
 use Rattle.std.proofs.Common.{◌≡◌, inl, inr, ℕ, ◌+◌, ◌-◌, ◌<◌, ◌≤◌, length, get_or, drop, Option, Some, None, true, false, refl, sym, ap, subst, ◌∙◌, arith, true≢false}
 use Rattle.std.specs.Prelude.{◌==◌, is_some, IsSome, IfSome, if◌then◌else◌}
-use Rattle.std.proofs.lemmas.Bool.{cases_eq, cases_lt, eqb-true, eq-eqb, ne_eqb}
+use Rattle.std.proofs.lemmas.Bool.{cases_eq, cases_lt, eqb-true, eq-eqb, ne_eqb, and_parts}
 use Rattle.std.proofs.lemmas.List.{get_or-drop, get_or_past, length-drop}
 use Rattle.std.proofs.lemmas.List.Sums.{prefix_len_passes, prefix_len_stops, prefix_len_is, prefix_len-le-length}
 use Rattle.bench_base.specs.declared.sizes.TheConstants.{VERIFIER_CELLS, FIRST_BLOCK}
 use Rattle.node_acts.specs.RowList.{row_at, row_of}
 use Rattle.verifier.specs.Rows.{Row, TrustRow, BlockRow}
 use Rattle.verifier.specs.Seen.{Seen, row_in, key_in, block_in, holds, key_at, cell_of_block, used, AreSound, IsRowAt}
-use Rattle.verifier.proofs.Basics.{same-pair, no-pair, both-true}
+use Rattle.verifier.proofs.Basics.{same-pair, no-pair}
 use Rattle.verifier.proofs.Found.{found-at, found-none}
 
 -- == one cell ==
@@ -18,7 +18,7 @@ pub held-block : (d b : ℕ) (o : Option Row) → holds d b o ≡ true → block
 held-block d b None is = absurd (true≢false (sym is))
 held-block d b (Some (TrustRow e key)) is = absurd (true≢false (sym is))
 held-block d b (Some (BlockRow e n scans)) is =
-    let parts = both-true (e == d) (n == b) is in
+    let parts = and_parts (e == d) (n == b) is in
     λ i. Some (eqb-true e d parts.0 i, eqb-true n b parts.1 i)
 
 pub block-held : (d b : ℕ) (o : Option Row) → block_in o ≡ Some (d, b) → holds d b o ≡ true

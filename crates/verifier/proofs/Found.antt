@@ -4,15 +4,10 @@ use Rattle.std.specs.Prelude.{nat_lt, position}
 use Rattle.std.specs.List.{position_or_len}
 use Rattle.std.proofs.lemmas.Bool.Decides.{nat_tests}
 use Rattle.std.proofs.lemmas.List.Sums.{position_or_len_is, fails_before_first, passes_at_first}
+use Rattle.std.proofs.lemmas.Bool.{ltb-true, ltb-false}
 
 less : (m n : ℕ) → m < n → nat_lt m n ≡ true
 less m n lt = grind (arith, nat_tests)
-
-is_less : (m n : ℕ) → nat_lt m n ≡ true → m < n
-is_less m n is = grind (arith, nat_tests)
-
-not_less : (m n : ℕ) → nat_lt m n ≡ false → n ≤ m
-not_less m n is = grind (arith, nat_tests)
 
 not_under : (m n : ℕ) → n ≤ m → nat_lt m n ≡ false
 not_under m n le = grind (arith, nat_tests)
@@ -51,10 +46,10 @@ module _ {X : Type 0} (p : X → Bool) (xs : List X) (other : X) where
   pub found-at : (k : ℕ) → position p xs ≡ Some k → (k < length xs) × (p (get_or xs k other) ≡ true)
   found-at k is =
       let parts = some_is (position_or_len p xs) k (nat_lt (position_or_len p xs) (length xs)) is in
-      let inside : position_or_len p xs < length xs = is_less (position_or_len p xs) (length xs) parts.0 in
+      let inside : position_or_len p xs < length xs = ltb-true (position_or_len p xs) (length xs) parts.0 in
       (omega (arith, inside, parts.1), subst (λ j. p (get_or xs j other) ≡ true) parts.1 (passes_at_first p xs other inside))
 
   pub found-none : position p xs ≡ None → (k : ℕ) → k < length xs → p (get_or xs k other) ≡ false
   found-none is k lt =
-      let past = not_less (position_or_len p xs) (length xs) (none_is (position_or_len p xs) (nat_lt (position_or_len p xs) (length xs)) is) in
+      let past = ltb-false (position_or_len p xs) (length xs) (none_is (position_or_len p xs) (nat_lt (position_or_len p xs) (length xs)) is) in
       fails_before_first p xs k other (omega (arith, past, lt))

@@ -2,16 +2,15 @@
 use Rattle.std.proofs.Common.{◌≡◌, ◌⊎◌, inl, inr, ℕ, zero, suc, [], ◌∷◌, ◌+◌, ◌-◌, ◌<◌, ◌≤◌, ◌^◌, List, length, get_or, set, take, Option, Some, None, Bool, true, false, refl, sym, ap, ap₂, subst, ◌∙◌, arith, true≢false}
 use Rattle.std.specs.Prelude.{◌==◌, if◌then◌else◌}
 use Rattle.std.specs.List.{CopiedTo, SameBelow}
-use Rattle.std.proofs.lemmas.Bool.{cases_eq, cases_lt, cases_Bool, eqb-true, eq-eqb}
+use Rattle.std.proofs.lemmas.Bool.{cases_eq, cases_lt, cases_Bool, eqb-true, eq-eqb, and_parts}
 use Rattle.std.proofs.lemmas.List.{length-take, length-set, get_or-take, get_or_past, get_or-set_same, get_or-set_other}
 use Rattle.verifier.specs.declared.index.Entry.{Entry}
 use Rattle.verifier.specs.Index.{is_of, cell_in, with_cell, rank, rank_of, nothing, AreOrdered}
-use Rattle.verifier.proofs.Basics.{both-true}
 
 -- an entry of the block stands where the block does
 ranked : (d b : ℕ) (e : Entry) → is_of d b e ≡ true → rank_of e ≡ rank d b
 ranked d b e is =
-    let parts = both-true (e.device == d) (e.block == b) is in
+    let parts = and_parts (e.device == d) (e.block == b) is in
     ap₂ (λ x y. rank x y) (eqb-true e.device d parts.0) (eqb-true e.block b parts.1)
 
 pub not_less : (d b : ℕ) (e : Entry) → rank_of e < rank d b → is_of d b e ≡ false

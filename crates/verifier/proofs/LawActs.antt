@@ -1,11 +1,12 @@
 -- The acts of the verifier leave sound rows, follow the commits, and are what the ledger plans.
 use Rattle.std.proofs.Common.{◌≡◌, inl, inr, ℕ, ℤ, zero, suc, ◌+◌, ◌-◌, ◌%◌, ◌<◌, ◌≤◌, ◌^◌, List, [], ◌∷◌, length, drop, option_map, Option, Some, None, Bool, true, false, Ok, Err, refl, sym, ap, ap₂, subst, ◌∙◌, arith, true≢false}
 use Rattle.std.specs.Prelude.{Result, pos, ◌+ℤ◌, ◌==◌, ◌&&◌, is_some, is_none, IsSome, IfSome, All, nat_le, if◌then◌else◌}
-use Rattle.std.proofs.lemmas.Bool.{cases_Bool, cases_lt}
+use Rattle.std.proofs.lemmas.Bool.{cases_Bool, cases_lt, le-leb}
 use Rattle.std.proofs.lemmas.Bool.Decides.{nat_tests}
 use Rattle.std.proofs.lemmas.List.{get_or_past}
 use Rattle.std.proofs.lemmas.List.Elements.{All-head, All-tail}
 use Rattle.std.proofs.lemmas.List.Sums.{sum_by-cons}
+use Rattle.std.proofs.Math.Bool.{and-false}
 use lib.Signed.{lt_z}
 use Rattle.bench_base.specs.declared.sizes.TheConstants.{VERIFIER_CELLS, FIRST_BLOCK, BLOCK_PIECES}
 use Rattle.bench_base.specs.declared.words.Node.TheVariants.{Verifier}
@@ -48,9 +49,6 @@ use Rattle.verifier.proofs.Fits.{CanAccept, trust-fits, accept-fits, block-accep
 
 is_most : (m n : ℕ) → nat_le m n ≡ false → n < m
 is_most m n is = grind (arith, nat_tests)
-
-is_over : (m n : ℕ) → m ≤ n → nat_le m n ≡ true
-is_over m n le = grind (arith, nat_tests)
 
 is_under : (m n : ℕ) → n < m → nat_le m n ≡ false
 is_under m n lt = grind (arith, nat_tests)
@@ -365,13 +363,9 @@ answer_planned n k cell (Ok false) = refl
 module _ (C : List Commit) (rec : IsRecorded C) where
   -- whether there is room, by the cell and by the commits
   no_room : (d p : ℕ) (o : Option ℕ) → block_place d (block_of p) (blocks C) ≡ o → nat_le VERIFIER_CELLS (spot_after (blocks C) o None).cell ≡ (nat_le 1024 (length (blocks C)) && is_none o)
-  no_room d p (Some i) is = is_under VERIFIER_CELLS (FIRST_BLOCK + i) (omega (arith, (place-at (blocks C) d (block_of p) i is).0, rec.roomy)) ∙ sym (nothing (nat_le 1024 (length (blocks C))))
-    where
-      nothing : (t : Bool) → (t && false) ≡ false
-      nothing true = refl
-      nothing false = refl
+  no_room d p (Some i) is = is_under VERIFIER_CELLS (FIRST_BLOCK + i) (omega (arith, (place-at (blocks C) d (block_of p) i is).0, rec.roomy)) ∙ sym (and-false (nat_le 1024 (length (blocks C))))
   no_room d p None is = elim (cases_Bool (nat_le 1024 (length (blocks C)))) [
-    | inl full ↦ is_over VERIFIER_CELLS (FIRST_BLOCK + length (blocks C)) (most full) ∙ sym (ap (λ t. t && true) full)
+    | inl full ↦ le-leb VERIFIER_CELLS (FIRST_BLOCK + length (blocks C)) (most full) ∙ sym (ap (λ t. t && true) full)
     | inr room ↦ is_under VERIFIER_CELLS (FIRST_BLOCK + length (blocks C)) (omega (arith, is_most 1024 (length (blocks C)) room)) ∙ sym (ap (λ t. t && true) room)
   ]
     where

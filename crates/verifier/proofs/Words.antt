@@ -2,7 +2,7 @@
 use Rattle.std.proofs.Common.{◌≡◌, ℕ, zero, suc, [], ◌∷◌, ◌+◌, ◌-◌, ◌*◌, ◌<◌, ◌≤◌, ◌^◌, List, ◌++◌, length, get_or, set, take, drop, replicate, refl, sym, ap, ap₂, ◌∙◌, arith, length-append, append_assoc}
 use Rattle.std.specs.Int.{w32, to_be_bytes}
 use Rattle.std.proofs.Math.Seq.{take-append-add}
-use Rattle.std.proofs.lemmas.List.{take_at, drop_at, drop-drop, take-append-drop, length-take, length-drop, drop-replicate, take-replicate, replicate-append-replicate}
+use Rattle.std.proofs.lemmas.List.{take_at, drop_at, drop-drop, take-append-drop, length-take, length-drop, drop-replicate, take-replicate, replicate-append-replicate, nil_from_length}
 use Rattle.bench_base.specs.Table.{Four, spelled, number, IsBytes}
 use Rattle.bench_base.proofs.Tables.{IsBytes-drop, IsBytes-take, length-spelled, number-spelled, spelled-number, number-fits}
 use Rattle.node_acts.specs.RowList.{listed}
@@ -45,14 +45,10 @@ first_word : (bytes : List ℕ) → 4 ≤ length bytes → IsBytes bytes → spe
 unfolding word_at
 first_word bytes long h = spelled-number Four (take 4 bytes) (omega (arith, length-take 4 bytes)) (IsBytes-take 4 bytes h)
 
-no_bytes : (bytes : List ℕ) → length bytes ≡ 0 → [] ≡ bytes
-no_bytes [] h = refl
-no_bytes (x ∷ bytes) h = absurd (omega (arith, h))
-
 -- what is read is written
 pub words-back : (n : ℕ) (bytes : List ℕ) → length bytes ≡ 4 * n → IsBytes bytes → words (listed n (λ i. word_at i bytes)) ≡ bytes
 unfolding listed
-words-back zero bytes long h = no_bytes bytes long
+words-back zero bytes long h = sym (nil_from_length bytes long)
 words-back (suc n) bytes long h =
     ap₂ (λ x y. x ++ y)
     (first_word bytes (omega arith) h)

@@ -1,7 +1,7 @@
 -- What a commit of a change leaves.
 use Rattle.std.proofs.Common.{◌≡◌, ◌≢◌, ◌⊎◌, inl, inr, ℕ, ◌<◌, List, option_map, Option, Some, None, Bool, Ok, Err, IsErrOf, true, false, refl, sym, ◌∙◌, ap, subst, arith}
 use Rattle.std.specs.Prelude.{IsSome, is_some, MatchBool}
-use Rattle.std.proofs.lemmas.Bool.{cases_eq}
+use Rattle.std.proofs.lemmas.Bool.{cases_eq, false_from_ne_true}
 use Rattle.bench_base.specs.declared.refusals.StoreFail.{StoreFail}
 use Rattle.bench_base.specs.declared.refusals.StoreFail.TheVariants.{Power, Fault, Worn, Failed}
 use Rattle.bench_base.specs.declared.sizes.TheConstants.{MOST_COMMITS, BLOCK_BYTES, VERIFIER_CELLS}
@@ -15,7 +15,6 @@ use Rattle.nv_store.specs.Rooms.{RoomPuts}
 use Rattle.nv_store.specs.declared.room.Room.{Room}
 use Rattle.node_seat.specs.Does.{Commits}
 use Rattle.node_seat.specs.Ends.{end_of_commit, leaves_running}
-use Rattle.node_seat.proofs.Called.{not_worn}
 use Rattle.node_acts.specs.RowList.{row_at, commits_at, is_worn}
 use Rattle.node_acts.specs.RowLaws.{listed_same, worn_is}
 use Rattle.row_table.specs.Kept.{IsFilled, with_count, seen_count, still_filled, seen_put, between_seen}
@@ -56,7 +55,7 @@ module _ {N : Type 0} {g : Ghosts N} (k : VerifierNode N g) (x : Change) where
     pub worn_by : (r : Bool) → (r ≡ true → count_of (kept_in k.room (cell_of x)) ≡ MOST_COMMITS) → (r ≡ false → count_of (kept_in k.room (cell_of x)) < MOST_COMMITS)
         → r ≡ is_worn (seen_in k) (cell_of x)
     worn_by true most less = sym (full (most refl))
-    worn_by false most less = sym (not_worn (is_worn (seen_in k) (cell_of x)) (λ worn. omega (arith, less refl, count_here, (worn_is (seen_in k) (cell_of x)).0 worn)))
+    worn_by false most less = sym (false_from_ne_true (is_worn (seen_in k) (cell_of x)) (λ worn. omega (arith, less refl, count_here, (worn_is (seen_in k) (cell_of x)).0 worn)))
 
     -- a commit to a cell that is not worn does not answer Worn
     module _ (fresh : is_worn (seen_in k) (cell_of x) ≡ false) (fail : StoreFail) (before now : Meters)

@@ -3,7 +3,9 @@ use Rattle.std.proofs.Common.{◌≡◌, ◌≢◌, inl, inr, ℕ, zero, suc, �
 use Rattle.std.specs.Prelude.{is_some, IsSome, IfSome, if◌then◌else◌}
 use Rattle.std.proofs.lemmas.Bool.{cases_Bool, cases_eq, cases_lt}
 use Rattle.std.proofs.lemmas.List.{get_or_past}
+use Rattle.std.proofs.lemmas.Option.{same_Some}
 use Rattle.bench_base.specs.declared.sizes.TheConstants.{VERIFIER_CELLS, FIRST_BLOCK}
+use Rattle.bench_base.proofs.Facts.{some-none}
 use Rattle.node_acts.specs.RowList.{row_at, row_of}
 use Rattle.node_acts.specs.RowLaws.{put_here, put_other}
 use Rattle.verifier.specs.declared.acts.Change.{Change}
@@ -13,7 +15,7 @@ use Rattle.verifier.specs.ActLaws.{IsFit}
 use Rattle.verifier.specs.Index.{cell_in, with_cell, IsIndexOf}
 use Rattle.verifier.specs.Rows.{Row, TrustRow, BlockRow}
 use Rattle.verifier.specs.Seen.{Seen, row_in, block_in, holds, key_at, cell_of_block, used, AreTogether, AreSound, IsRowAt, cell_of, row_with, counting}
-use Rattle.verifier.proofs.Basics.{no-pair, same-some, some-none}
+use Rattle.verifier.proofs.Basics.{no-pair}
 use Rattle.verifier.proofs.Blocks.{pair, same_block, is-block, own-block}
 use Rattle.verifier.proofs.Cells.{held-block, block-held, cell-found, cell-none, used-is, used-before, used-most, next-blank, shown-none}
 use Rattle.verifier.proofs.Fits.{here}
@@ -60,7 +62,7 @@ module _ (s : Seen) (es : List Entry) (n : ℕ) (long : length s ≡ VERIFIER_CE
       has (Some x) h = refl
 
   one_cell : (i j d b : ℕ) → block_in (row_in s i) ≡ Some (d, b) → block_in (row_in s j) ≡ Some (d, b) → i ≡ j
-  one_cell i j d b held held' = same-some (sym (is.found i d b (block_low i d b held) held) ∙ is.found j d b (block_low j d b held') held')
+  one_cell i j d b held held' = same_Some _ _ (sym (is.found i d b (block_low i d b held) held) ∙ is.found j d b (block_low j d b held') held')
 
   pub all-together : AreTogether s
   all-together = record {
@@ -70,7 +72,7 @@ module _ (s : Seen) (es : List Entry) (n : ℕ) (long : length s ≡ VERIFIER_CE
   }
 
   cells_are : (d b : ℕ) (o : Option ℕ) → cell_in es d b ≡ o → o ≡ cell_of_block s d b
-  cells_are d b None none = sym (cell-isnt s long d b (λ j held. some-none j (sym (is.found j d b (block_low j d b held) held) ∙ none)))
+  cells_are d b None none = sym (cell-isnt s long d b (λ j held. some-none (sym (is.found j d b (block_low j d b held) held) ∙ none)))
   cells_are d b (Some k) found = let at = is.only d b k found in sym (cell-is s long k d b at.1 (λ j held. one_cell j k d b held at.1))
 
   pub all-indexed : IsIndexOf es s
@@ -84,7 +86,7 @@ pub none-indexed : (s : Seen) → ((k : ℕ) → IfSome (row_in s k) (IsRowAt k)
 none-indexed s each es empty = record {
   many = ap (λ (l : List Entry). FIRST_BLOCK + length l) empty;
   found = λ k d b lt held. absurd (none k d b lt (row_in s k) (each k) held);
-  only = λ d b k found. absurd (some-none k (sym found ∙ ap (λ (l : List Entry). cell_in l d b) empty));
+  only = λ d b k found. absurd (some-none (sym found ∙ ap (λ (l : List Entry). cell_in l d b) empty));
   trusted = λ k d b lt held. absurd (none k d b lt (row_in s k) (each k) held);
   packed = λ k from lt. absurd (omega (arith, from, lt));
 }
@@ -101,16 +103,16 @@ more-indexed s es new n d b from is here_is some fresh key added = record {
   many = omega (arith, is.many, added.more);
   found = λ k e c lt held. elim (cases_eq k n) [
     | inl same ↦
-        let own : pair d b ≡ pair e c = same-some (sym here_is ∙ ap (λ j. block_in (row_in s j)) (sym same) ∙ held) in
+        let own : pair d b ≡ pair e c = same_Some _ _ (sym here_is ∙ ap (λ j. block_in (row_in s j)) (sym same) ∙ held) in
         added.added e c ∙ ap (λ (x : ℕ × ℕ). with_cell d b n es x.0 x.1) (sym own) ∙ ap (λ t. if t then Some n else cell_in es d b) (own-block d b) ∙ ap (λ j. Some j) (sym same)
     | inr differs ↦
         let before = is.found k e c (omega (arith, lt, differs)) held in
-        added.added e c ∙ ap (λ t. if t then Some n else cell_in es e c) (other e c (λ own. some-none k (sym before ∙ ap (λ (x : ℕ × ℕ). cell_in es x.0 x.1) (sym own) ∙ fresh))) ∙ before
+        added.added e c ∙ ap (λ t. if t then Some n else cell_in es e c) (other e c (λ own. some-none (sym before ∙ ap (λ (x : ℕ × ℕ). cell_in es x.0 x.1) (sym own) ∙ fresh))) ∙ before
   ];
   only = λ e c k found. by e c k (same_block (d, b) e c) refl (sym (added.added e c) ∙ found);
   trusted = λ k e c lt held. elim (cases_eq k n) [
     | inl same ↦
-        let own : pair d b ≡ pair e c = same-some (sym here_is ∙ ap (λ j. block_in (row_in s j)) (sym same) ∙ held) in
+        let own : pair d b ≡ pair e c = same_Some _ _ (sym here_is ∙ ap (λ j. block_in (row_in s j)) (sym same) ∙ held) in
         subst (λ x. IsSome (key_at s x)) (ap (λ (x : ℕ × ℕ). x.0) own) key
     | inr differs ↦ is.trusted k e c (omega (arith, lt, differs)) held
   ];
@@ -125,7 +127,7 @@ more-indexed s es new n d b from is here_is some fresh key added = record {
 
     by : (e c k : ℕ) (t : Bool) → same_block (d, b) e c ≡ t → with_cell d b n es e c ≡ Some k → (k < n + 1) × (block_in (row_in s k) ≡ Some (e, c))
     by e c k true own found =
-        let last : n ≡ k = same-some (sym (ap (λ t. if t then Some n else cell_in es e c) own) ∙ found) in
+        let last : n ≡ k = same_Some _ _ (sym (ap (λ t. if t then Some n else cell_in es e c) own) ∙ found) in
         (omega (arith, last), ap (λ j. block_in (row_in s j)) (sym last) ∙ here_is ∙ ap (λ (x : ℕ × ℕ). Some x) (is-block (d, b) e c own))
     by e c k false own found =
         let before = is.only e c k (sym (ap (λ t. if t then Some n else cell_in es e c) own) ∙ found) in
@@ -189,7 +191,7 @@ module _ (s t : Seen) (old new : List Entry) (cell d b : ℕ) (sound : AreSound 
     by_old : (e c : ℕ) → same_block (d, b) e c ≡ false → (o : Option ℕ) → cell_of_block s e c ≡ o → o ≡ cell_of_block t e c
     by_old e c other None none = sym (cell-isnt t sound'.long e c (λ j held. elim (cases_eq j cell) [
       | inl same ↦
-          absurd (true≢false (sym (ap (λ (x : ℕ × ℕ). same_block (d, b) x.0 x.1) (sym (same-some (sym own ∙ ap (λ i. block_in (row_in t i)) (sym same) ∙ held))) ∙ own-block d b) ∙ other))
+          absurd (true≢false (sym (ap (λ (x : ℕ × ℕ). same_block (d, b) x.0 x.1) (sym (same_Some _ _ (sym own ∙ ap (λ i. block_in (row_in t i)) (sym same) ∙ held))) ∙ own-block d b) ∙ other))
       | inr differs ↦ cell-none s sound e c none j (sym (block_there j differs) ∙ held)
     ]))
     by_old e c other (Some k) found =

@@ -2,7 +2,9 @@
 use Rattle.std.proofs.Common.{◌≡◌, ◌↔◌, inl, inr, ℕ, zero, suc, ◌+◌, ◌-◌, ◌<◌, ◌≤◌, List, get_or, set, replicate, option_map, Option, Some, None, Bool, true, false, refl, sym, ap, ap₂, subst, ◌∙◌, arith, true≢false}
 use Rattle.std.specs.Prelude.{is_some, IsSome, IfSome, MatchBool, MatchOption, if◌then◌else◌}
 use Rattle.std.proofs.lemmas.Bool.{cases_lt}
+use Rattle.std.proofs.lemmas.Option.{same_Some}
 use Rattle.bench_base.specs.declared.sizes.TheConstants.{MOST_COMMITS, VERIFIER_CELLS, FIRST_BLOCK, BLOCK_PIECES}
+use Rattle.bench_base.proofs.Facts.{some-none}
 use Rattle.node_acts.specs.RowList.{row_at}
 use Rattle.nv_store.specs.Slot.{Held}
 use Rattle.nv_store.specs.Store.{count_of, payload_of}
@@ -12,7 +14,7 @@ use Rattle.verifier.specs.ActLaws.{IsFit}
 use Rattle.verifier.specs.Payload.{block_bytes, word_at, key_of, scans_of, scans_before, no_scans, row_of, RowReadsAs, IsPayloadOf}
 use Rattle.verifier.specs.Rows.{Row, TrustRow, BlockRow}
 use Rattle.verifier.specs.Seen.{row_in, key_in, scans_in, scan_shown, key_at, row_with, IsRowAt}
-use Rattle.verifier.proofs.Basics.{trust-low, block-high, some-none, same-some}
+use Rattle.verifier.proofs.Basics.{trust-low, block-high}
 use Rattle.verifier.proofs.Cells.{key-in-cell}
 use Rattle.verifier.proofs.Fits.{here}
 use Rattle.verifier.proofs.Laid.{trust-parts, block-parts}
@@ -65,9 +67,9 @@ pub read-cell : (held : ℕ → Option Held) (k : ℕ) (payload : List ℕ) (t :
 read-cell held k payload t has few lt = by (held k) refl t
   where
     by : (h : Option Held) → held k ≡ h → (t : Bool) → MatchBool t (IsPayloadOf k (row_of k payload) payload) ((x : Row) → IsPayloadOf k x payload → ⊥) → MatchBool t (CellRead held k) (HasForeign held)
-    by None is t found = absurd (some-none payload (has ∙ ap payload_of is))
+    by None is t found = absurd (some-none (has ∙ ap payload_of is))
     by (Some h) is true found =
-        let own : payload ≡ h.1 = same-some (has ∙ ap payload_of is) in
+        let own : payload ≡ h.1 = same_Some _ _ (has ∙ ap payload_of is) in
         record {
           filled = subst (λ (o : Option Held). IsFilled (IsPayloadOf k) (option_map (row_of k) (payload_of o)) o) (sym is) (subst (λ (p : List ℕ). IsPayloadOf k (row_of k p) p) own found);
           few = few;
@@ -77,7 +79,7 @@ read-cell held k payload t has few lt = by (held k) refl t
       kept = h;
       inside = lt;
       is = is;
-      reads_none = λ x reads. none x (subst (λ (p : List ℕ). IsPayloadOf k x p) (sym (same-some (has ∙ ap payload_of is))) reads);
+      reads_none = λ x reads. none x (subst (λ (p : List ℕ). IsPayloadOf k x p) (sym (same_Some _ _ (has ∙ ap payload_of is))) reads);
     }
 
 -- a blank cell
@@ -86,16 +88,16 @@ blank-cell held k has few = by (held k) refl
   where
     by : (h : Option Held) → held k ≡ h → CellRead held k
     by None is = record { filled = subst (λ (o : Option Held). IsFilled (IsPayloadOf k) (option_map (row_of k) (payload_of o)) o) (sym is) tt; few = few }
-    by (Some h) is = absurd (some-none h.1 (sym (ap payload_of is) ∙ sym has))
+    by (Some h) is = absurd (some-none (sym (ap payload_of is) ∙ sym has))
 
 -- == what is seen by the payloads ==
 
 pub payload-none : (h : Option Held) → None ≡ payload_of h → h ≡ None
 payload-none None is = refl
-payload-none (Some h) is = absurd (some-none h.1 (sym is))
+payload-none (Some h) is = absurd (some-none (sym is))
 
 pub payload-some : (h : Option Held) (payload : List ℕ) → Some payload ≡ payload_of h → IsSome h
-payload-some None payload is = absurd (some-none payload is)
+payload-some None payload is = absurd (some-none is)
 payload-some (Some h) payload is = refl
 
 module _ (held : ℕ → Option Held) (filled : HoldRows held) where

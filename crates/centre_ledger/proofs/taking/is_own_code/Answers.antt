@@ -1,4 +1,4 @@
-use Rattle.centre_ledger.proofs.Asked.{code-is}
+use Rattle.psd_wire.proofs.Codes.{code-is}
 use Rattle.centre_ledger.proofs.taking.is_own_code.Goals as goal
 
 pub returns : goal.returns

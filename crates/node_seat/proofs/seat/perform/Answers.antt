@@ -1,8 +1,9 @@
 use Rattle.std.proofs.Common.{◌≡◌, Err, sym, ◌∙◌, ap, subst}
+use Rattle.std.proofs.lemmas.Bool.{false_from_ne_true}
 use Rattle.bench_base.specs.declared.refusals.StoreFail.{StoreFail}
 use Rattle.nv_store.specs.Turns.{Spent}
 use Rattle.node_seat.specs.Ends.{end_of_commit, leaves_running}
-use Rattle.node_seat.proofs.Called.{off_call, refuses, tells_only, worn, done, cut, faulted, not_worn}
+use Rattle.node_seat.proofs.Called.{off_call, refuses, tells_only, worn, done, cut, faulted}
 use Rattle.node_seat.proofs.seat.perform.Goals as goal
 
 pub returns-then-not-is_on : goal.returns-then-not-is_on
@@ -21,7 +22,7 @@ returns-in-Ok g c by is =
     let e = c.in-Ok.ensures in
     let b = c.in-Commits in
     done g.K.Node g.K.Storage.Nv by b.commit b.change b.answer c.args.node.now c.commit.new.self (is ∙ b.is) (sym c.if-not-is_on.ensures)
-    g.met.K.Storage.Nv.nested g.met.K.Node.keeps g.met.K.Node.counts (not_worn _ (λ w. let x = e.answers.worn.1 w in cc)) e.name e.kept e.stores.size e.stores.time e.stores.any_moment
+    g.met.K.Storage.Nv.nested g.met.K.Node.keeps g.met.K.Node.counts (false_from_ne_true _ (λ w. let x = e.answers.worn.1 w in cc)) e.name e.kept e.stores.size e.stores.time e.stores.any_moment
     e.leaves e.answers.done (λ tells. g.met.K.Node.knows c.commit.new.self tells e.leaves) e.stores.spent
 
 pub returns-in-Err-Worn : goal.returns-in-Err-Worn
@@ -40,7 +41,7 @@ returns-in-Err-Power g c by is =
     let e = c.in-Err-Power.ensures in
     let b = c.in-Commits in
     cut n nv by b.commit b.change b.answer k k' (is ∙ b.is) (sym c.if-not-is_on.ensures)
-    g.met.K.Storage.Nv.nested g.met.K.Node.keeps g.met.K.Node.counts (not_worn _ (λ w. let x = e.answers.worn.1 w in let y = c.in-Err-Power.field-0-is in cc)) e.name e.kept e.stores.size e.stores.time e.stores.any_moment
+    g.met.K.Storage.Nv.nested g.met.K.Node.keeps g.met.K.Node.counts (false_from_ne_true _ (λ w. let x = e.answers.worn.1 w in let y = c.in-Err-Power.field-0-is in cc)) e.name e.kept e.stores.size e.stores.time e.stores.any_moment
     (subst (λ (f : StoreFail). n.is_on k' ≡ leaves_running (Err f)) c.in-Err-Power.field-0-is e.leaves)
     (subst (λ (f : StoreFail). Spent 6 (nv.meters (n.storage k)) (nv.meters (n.storage k')) (end_of_commit (Err f))) c.in-Err-Power.field-0-is e.stores.spent)
 
@@ -53,6 +54,6 @@ returns-in-Err-Fault g c by is =
     let e = c.in-Err-Fault.ensures in
     let b = c.in-Commits in
     faulted n nv by b.commit b.change b.answer k k' (is ∙ b.is) (sym c.if-not-is_on.ensures)
-    g.met.K.Storage.Nv.nested g.met.K.Node.keeps g.met.K.Node.counts (not_worn _ (λ w. let x = e.answers.worn.1 w in let y = c.in-Err-Fault.field-0-is in cc)) e.name e.kept e.stores.size e.stores.time e.stores.any_moment
+    g.met.K.Storage.Nv.nested g.met.K.Node.keeps g.met.K.Node.counts (false_from_ne_true _ (λ w. let x = e.answers.worn.1 w in let y = c.in-Err-Fault.field-0-is in cc)) e.name e.kept e.stores.size e.stores.time e.stores.any_moment
     (subst (λ (f : StoreFail). n.is_on k' ≡ leaves_running (Err f)) c.in-Err-Fault.field-0-is e.leaves)
     (subst (λ (f : StoreFail). Spent 6 (nv.meters (n.storage k)) (nv.meters (n.storage k')) (end_of_commit (Err f))) c.in-Err-Fault.field-0-is e.stores.spent)

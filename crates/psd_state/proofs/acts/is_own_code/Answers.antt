@@ -1,4 +1,4 @@
-use Rattle.psd_state.proofs.Decisions.{code-is}
+use Rattle.psd_wire.proofs.Codes.{code-is}
 use Rattle.psd_state.proofs.acts.is_own_code.Goals as goal
 
 pub returns : goal.returns

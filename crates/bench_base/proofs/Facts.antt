@@ -1,0 +1,88 @@
+-- Small facts that all subjects share: of the variant that an Option or a Result has, of a test, of the first that is found, and of nodes and versions.
+use Rattle.std.proofs.Common.{◌≡◌, ℕ, ◌+◌, ◌≤◌, Bool, true, false, cond, List, ◌++◌, take, drop, take-append-drop, drop-drop, Option, Some, None, IsSome, Result, Ok, Err, refl, sym, ap, ◌∙◌, ⊎_elim, true≢false, arith}
+use Rattle.std.specs.Prelude.{◌==◌}
+use Rattle.std.proofs.lemmas.Bool.{eqb-true, eq-eqb, cases_Bool}
+use Rattle.std.proofs.lemmas.Bool.Decides.{nat_tests}
+use Rattle.bench_base.specs.declared.words.Node.{Node}
+use Rattle.bench_base.specs.declared.words.Node.TheVariants.{Device, Centre, Host, Verifier}
+use Rattle.bench_base.specs.declared.sizes.TheConstants.{MOST_COMMITS}
+use Rattle.bench_base.specs.Nodes.{same_node}
+use Rattle.bench_base.specs.Rows.{first_of}
+use Rattle.bench_base.specs.Rules.{is_version, IsVersion}
+
+-- == the variant of an Option or a Result ==
+
+pub some-none : {A : Type 0} {a : A} → Some a ≡ None → ⊥
+some-none h = cc
+
+pub is-some : {A : Type 0} (o : Option A) (a : A) → o ≡ Some a → IsSome o
+is-some None a h = absurd (cc)
+is-some (Some b) a h = refl
+
+pub not-none : {A P : Type 0} (o : Option A) → IsSome o → o ≡ None → P
+not-none None some none = absurd (cc)
+not-none (Some a) some none = absurd (cc)
+
+pub none-if : {A : Type 0} (o : Option A) → ((x : A) → o ≡ Some x → ⊥) → o ≡ None
+none-if None h = refl
+none-if (Some x) h = absurd (h x refl)
+
+pub ok-same : {A F : Type 0} {a b : A} → ◌≡◌ {A = Result A F} (Ok a) (Ok b) → a ≡ b
+ok-same h = cc
+
+pub ok-err : {A F : Type 0} {x : A} {e : F} → ◌≡◌ {A = Result A F} (Ok x) (Err e) → ⊥
+ok-err h = cc
+
+pub err-ok : {A F : Type 0} {x : A} {e : F} → ◌≡◌ {A = Result A F} (Err e) (Ok x) → ⊥
+err-ok h = cc
+
+-- == a test ==
+
+-- the same number, or another
+pub either : (e d : ℕ) {P : Type 0} → ((e == d) ≡ true → e ≡ d → P) → ((e == d) ≡ false → P) → P
+either e d same other = ⊎_elim (λ (h : (e == d) ≡ true). same h (eqb-true e d h)) other (cases_Bool (e == d))
+
+-- == look-ups that take the first in time ==
+
+-- what was found stays
+pub kept_first : {A : Type 0} (t : Bool) (o : Option A) (a b : A) → o ≡ Some b → cond t (first_of o (Some a)) o ≡ Some b
+kept_first true o a b e = rw e refl
+kept_first false o a b e = e
+
+-- what was not found before is found now
+pub first_of-none : {A : Type 0} (o : Option A) (b : Option A) → ((x : A) → o ≡ Some x → ⊥) → first_of o b ≡ b
+first_of-none None b h = refl
+first_of-none (Some x) b h = absurd (h x refl)
+
+-- == bytes ==
+
+-- a part, and what stands behind it
+pub behind : (at n : ℕ) (bytes : List ℕ) → take n (drop at bytes) ++ drop (at + n) bytes ≡ drop at bytes
+behind at n bytes = ap (λ r. take n (drop at bytes) ++ r) (sym (drop-drop n at bytes)) ∙ take-append-drop n (drop at bytes)
+
+-- == nodes ==
+
+pub same_node-true : (m n : Node) → same_node m n ≡ true → m ≡ n
+same_node-true (Device d) (Device e) h = ap Device (eqb-true d e h)
+same_node-true Centre Centre h = refl
+same_node-true Host Host h = refl
+same_node-true Verifier Verifier h = refl
+same_node-true _ _ h = absurd (true≢false (sym h))
+
+pub same_node-self : (m : Node) → same_node m m ≡ true
+same_node-self (Device d) = eq-eqb d d refl
+same_node-self Centre = refl
+same_node-self Host = refl
+same_node-self Verifier = refl
+
+-- == versions and counts ==
+
+pub known : (v : ℕ) → is_version v ≡ true → IsVersion v
+known v h = grind arith
+
+pub known_is : (v : ℕ) → IsVersion v → is_version v ≡ true
+known_is v h = grind arith
+
+-- a count that has not come to its end can grow
+pub few_more : (count : ℕ) → count ≤ MOST_COMMITS → (count == MOST_COMMITS) ≡ false → count + 1 ≤ MOST_COMMITS
+few_more count few fresh = grind (arith, nat_tests)
