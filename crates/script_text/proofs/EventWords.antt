@@ -20,7 +20,7 @@ use Rattle.script_text.proofs.Splits.{Printed, ArePrinted, AreSolid-printed, Has
 cell : (n : ℕ) → 32 < 48 + n
 cell n = omega arith
 
-dash : (n : ℕ) → n ≡ 45 → 32 < n
+pub dash : (n : ℕ) → n ≡ 45 → 32 < n
 dash n h = omega (arith, h)
 
 -- a word of letters, tested
@@ -66,7 +66,7 @@ taker Verifier h = absurd h
 pub digits : (bytes : List ℕ) → IsBytes bytes → Printed (hex_word bytes)
 digits bytes h = Printed-are_lower (hex_word bytes) (AreLower-encode bytes h)
 
-one_byte : (b : ℕ) → b < 2 ^ 8 → IsBytes (b ∷ [])
+pub one_byte : (b : ℕ) → b < 2 ^ 8 → IsBytes (b ∷ [])
 one_byte b h zero = h
 one_byte b h (suc i) = omega arith
 

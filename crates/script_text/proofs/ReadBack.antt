@@ -1,5 +1,5 @@
 -- Words are read back: what each kind of word is the word of.
-use Rattle.std.proofs.Common.{◌≡◌, ◌≢◌, ℕ, zero, suc, ℤ, pos, negsuc, ◌-◌, ◌^◌, ◌≤◌, ◌<◌, List, [], ◌∷◌, get_or, drop, take, Bool, true, false, eqb, cond, refl, sym, ap, ◌∙◌, arith, inl, inr, decimal, codes}
+use Rattle.std.proofs.Common.{◌≡◌, ◌≢◌, ℕ, suc, ℤ, pos, negsuc, ◌-◌, ◌^◌, ◌≤◌, ◌<◌, List, [], ◌∷◌, get_or, drop, take, Bool, true, false, eqb, cond, refl, sym, ap, ◌∙◌, arith, inl, inr, decimal, codes}
 use Rattle.std.specs.Fmt.{signed_decimal}
 use Rattle.std.specs.Result.{result_unwrap_or}
 use Rattle.std.proofs.lemmas.Bool.{ne_eqb, cond-false}
@@ -16,6 +16,7 @@ use Rattle.bench_base.specs.declared.words.Node.{Node}
 use Rattle.bench_base.specs.declared.words.Node.TheVariants.{Device, Centre, Host, Verifier}
 use Rattle.bench_base.specs.Table.{IsBytes}
 use Rattle.script_text.specs.Words.{device_word, node_word, hex_word, byte_word, given_word, kind_word, new_word, IsLowerDigit}
+use Rattle.script_text.proofs.EventWords.{one_byte}
 use Rattle.script_text.proofs.HexDigits.{AreLower-encode, AreLower}
 use Rattle.script_text.proofs.Numbers.{own}
 use Rattle.script_text.proofs.ByKeyword.{code}
@@ -74,10 +75,6 @@ hex_again bytes h = ap (λ r. result_unwrap_or r []) (decode_of-encode_lower byt
 
 abbrev pub byte_in : List ℕ → ℕ
 byte_in w = get_or (hex_in w) 0 0
-
-one_byte : (b : ℕ) → b < 2 ^ 8 → IsBytes (b ∷ [])
-one_byte b h zero = h
-one_byte b h (suc i) = omega arith
 
 pub byte_again : (b : ℕ) → b < 2 ^ 8 → byte_in (byte_word b) ≡ b
 byte_again b h = ap (λ (l : List ℕ). get_or l 0 0) (hex_again (b ∷ []) (one_byte b h))

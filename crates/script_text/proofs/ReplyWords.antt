@@ -34,7 +34,7 @@ use Rattle.script_text.specs.Refusals.{Part, said, of_number, of_short, of_sum, 
 use Rattle.script_text.specs.Texts.{verdict_word, flagged_word, pending_word, flight_words, reply_words, text_of}
 use Rattle.script_text.specs.Told.{AreWhole, IsFlight, IsWholeReply}
 use Rattle.script_text.specs.Words.{words_in, joined, spaced, new_word}
-use Rattle.script_text.proofs.EventWords.{literal, is_printed, number, word, class_word, customer, device, node, digits, kind}
+use Rattle.script_text.proofs.EventWords.{dash, literal, is_printed, number, word, class_word, customer, device, node, digits, kind}
 use Rattle.script_text.proofs.Numbers.{Printed-decimal}
 use Rattle.script_text.proofs.ReadBack.{IsSmall}
 use Rattle.script_text.proofs.Splits.{Printed, ArePrinted, AreSolid-printed, words_in-joined}
@@ -90,10 +90,7 @@ word_small (negsuc n) h = omega (arith, ints, h)
 
 signed : (t : ℤ) → IsSmall t → Printed (signed_decimal t)
 signed (pos n) h = Printed-decimal n (omega (arith, h))
-signed (negsuc n) h = (minus 45 refl, Printed-decimal (suc n) (omega (arith, h)))
-  where
-    minus : (c : ℕ) → c ≡ 45 → 32 < c
-    minus c is = omega (arith, is)
+signed (negsuc n) h = (dash 45 refl, Printed-decimal (suc n) (omega (arith, h)))
 
 flagged : (b : Bool) → Printed (flagged_word b)
 flagged true = literal (codes "suspended") refl
