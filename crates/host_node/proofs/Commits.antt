@@ -3,15 +3,15 @@ use Rattle.std.proofs.Common.{◌≡◌, ◌≢◌, ◌⊎◌, inl, inr, ℕ, �
 use Rattle.std.specs.Prelude.{IfSome}
 use Rattle.std.proofs.lemmas.Bool.{cases_eq, false_from_ne_true}
 use Rattle.bench_base.specs.declared.refusals.StoreFail.{StoreFail}
-use Rattle.bench_base.specs.declared.refusals.StoreFail.TheVariants.{Power, Fault, Worn, Failed}
+use Rattle.bench_base.specs.declared.refusals.StoreFail.TheVariants.{Worn}
 use Rattle.bench_base.specs.declared.sizes.TheConstants.{MOST_COMMITS}
 use Rattle.nv_model.specs.declared.nv.Nv.{Ghosts}
 use Rattle.nv_store.specs.Slot.{Held}
 use Rattle.nv_model.specs.Meters.{Meters}
 use Rattle.nv_store.specs.Store.{Between, Causes, count_of}
-use Rattle.nv_store.specs.Turns.{Spent}
 use Rattle.node_seat.specs.Does.{Commits}
-use Rattle.node_seat.specs.Ends.{end_of_commit, leaves_running}
+use Rattle.node_seat.specs.Ends.{leaves_running}
+use Rattle.node_seat.proofs.Fails.{ends_running}
 use Rattle.nv_store.specs.RoomView.{cells_of, kept_in}
 use Rattle.nv_store.specs.Rooms.{RoomPuts}
 use Rattle.nv_store.specs.declared.room.Room.{Room}
@@ -30,13 +30,6 @@ use Rattle.host_node.specs.Sound.{IsFit}
 use Rattle.host_node.specs.NodeView.{seen_in}
 use Rattle.host_node.specs.Knows.{rows_are}
 use Rattle.host_node.specs.declared.node.HostNode.{HostNode}
-
--- what a commit that failed cost
-pub spent_failed : (before now : Meters) (count : ℕ) (fail : StoreFail) → Causes before now false count (Err fail) → Spent 6 before now (end_of_commit (Err fail))
-spent_failed before now count Power causes = record { cuts = causes.cuts; faults = causes.faults; fuse = causes.fuse; power = λ e. causes.power refl; fault = λ e. cc }
-spent_failed before now count Fault causes = record { cuts = causes.cuts; faults = causes.faults; fuse = causes.fuse; power = λ e. cc; fault = λ e. causes.fault refl }
-spent_failed before now count Worn causes = record { cuts = causes.cuts; faults = causes.faults; fuse = causes.fuse; power = λ e. cc; fault = λ e. cc }
-spent_failed before now count Failed causes = record { cuts = causes.cuts; faults = causes.faults; fuse = causes.fuse; power = λ e. cc; fault = λ e. cc }
 
 module _ {N : Type 0} {g : Ghosts N} (k : HostNode N g) (x : JobRow) where
   -- the job is the next one
@@ -68,13 +61,7 @@ module _ {N : Type 0} {g : Ghosts N} (k : HostNode N g) (x : JobRow) where
     not_found_worn is = let worn = full (causes.worn.0 is).1 in cc
 
     pub fails_off : false ≡ leaves_running (Err fail)
-    fails_off = by_fail fail not_found_worn (λ is. let was = causes.failed.0 is in cc)
-      where
-        by_fail : (f : StoreFail) → (IsErrOf {T = Unit {0}} (Err f) Worn → ⊥) → (IsErrOf {T = Unit {0}} (Err f) Failed → ⊥) → false ≡ leaves_running (Err f)
-        by_fail Power not_worn not_failed = refl
-        by_fail Fault not_worn not_failed = refl
-        by_fail Worn not_worn not_failed = absurd (not_worn refl)
-        by_fail Failed not_worn not_failed = absurd (not_failed refl)
+    fails_off = ends_running fail not_found_worn (λ is. let was = causes.failed.0 is in cc)
 
     pub fails_fresh : (s : Seen) → Commits counting (seen_in k) s x (Err fail)
     fails_fresh s = record {

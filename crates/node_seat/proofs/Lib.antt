@@ -3,3 +3,4 @@ pub mod Booted
 pub mod Called
 pub mod Performed
 pub mod Armed
+pub mod Fails

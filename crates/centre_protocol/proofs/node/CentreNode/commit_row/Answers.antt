@@ -2,10 +2,11 @@ use Rattle.std.proofs.Common.{ℕ, Ok, Err, rules, inl, refl, sym, ◌∙◌, su
 use Rattle.nv_store.specs.RoomView.{kept_in}
 use Rattle.nv_store.specs.Rooms.{RoomCommits}
 use Rattle.nv_store.specs.Store.{count_of}
+use Rattle.node_seat.proofs.Fails.{spent_failed}
 use Rattle.centre_ledger.specs.Seen.{cell_of}
 use Rattle.centre_protocol.specs.Cells.{HasPlaces, put_places}
 use Rattle.centre_protocol.specs.Knows.{shows}
-use Rattle.centre_protocol.proofs.Commits.{rows_fit, between, filled_after, seen_after, filled_still, seen_still, fails_fresh, fails_off, not_found_worn, spent_failed}
+use Rattle.centre_protocol.proofs.Commits.{rows_fit, between, filled_after, seen_after, filled_still, seen_still, fails_fresh, fails_off, not_found_worn}
 use Rattle.centre_protocol.proofs.node.CentreNode.commit_row.Goals as goal
 
 pub put-requires : goal.put-requires

@@ -2,9 +2,10 @@ use Rattle.std.proofs.Common.{ℕ, Ok, Err, rules, inl, refl, sym, ◌∙◌, su
 use Rattle.nv_store.specs.RoomView.{kept_in}
 use Rattle.nv_store.specs.Rooms.{RoomCommits}
 use Rattle.nv_store.specs.Store.{count_of}
+use Rattle.node_seat.proofs.Fails.{spent_failed}
 use Rattle.host_jobs.specs.Seen.{cell_of}
 use Rattle.host_node.specs.Knows.{shows}
-use Rattle.host_node.proofs.Commits.{rows_fit, sound_fit, between, filled_after, seen_after, filled_still, seen_still, fails_fresh, fails_off, not_found_worn, spent_failed}
+use Rattle.host_node.proofs.Commits.{rows_fit, sound_fit, between, filled_after, seen_after, filled_still, seen_still, fails_fresh, fails_off, not_found_worn}
 use Rattle.host_node.proofs.node.HostNode.commit_row.Goals as goal
 
 pub write_payload-payload-requires : goal.write_payload-payload-requires

@@ -3,9 +3,10 @@ use Rattle.std.proofs.Common.{◌≡◌, None, ℕ, Ok, Err, rules, inl, refl, s
 use Rattle.nv_store.specs.RoomView.{kept_in}
 use Rattle.nv_store.specs.Rooms.{RoomCommits}
 use Rattle.nv_store.specs.Store.{count_of}
+use Rattle.node_seat.proofs.Fails.{spent_failed}
 use Rattle.verifier.specs.Seen.{cell_of}
 use Rattle.verifier_node.specs.Knows.{shows}
-use Rattle.verifier_node.proofs.Commits.{may_index, between, filled_after, seen_after, together_after, indexed_after, filled_still, seen_still, together_still, indexed_still, fails_fresh, fails_off, not_found_worn, spent_failed}
+use Rattle.verifier_node.proofs.Commits.{may_index, between, filled_after, seen_after, together_after, indexed_after, filled_still, seen_still, together_still, indexed_still, fails_fresh, fails_off, not_found_worn}
 use Rattle.verifier_node.proofs.node.VerifierNode.commit_change.Goals as goal
 
 pub returns-then-is_worn-clause-answers : goal.returns-then-is_worn-clause-answers
