@@ -1,5 +1,5 @@
 -- Small facts that all subjects share: of the variant that an Option or a Result has, of a test, of the first that is found, and of nodes and versions.
-use Rattle.std.proofs.Common.{◌≡◌, ℕ, ◌+◌, ◌≤◌, Bool, true, false, cond, List, ◌++◌, take, drop, take-append-drop, drop-drop, Option, Some, None, IsSome, Result, Ok, Err, refl, sym, ap, ◌∙◌, ⊎_elim, true≢false, arith}
+use Rattle.std.proofs.Common.{◌≡◌, ℕ, ◌+◌, ◌≤◌, Bool, true, false, cond, List, ◌++◌, take, drop, take-append-drop, drop-drop, Option, Some, None, IsSome, IfNone, Result, Ok, Err, refl, sym, ap, ◌∙◌, ⊎_elim, true≢false, arith}
 use Rattle.std.specs.Prelude.{◌==◌}
 use Rattle.std.proofs.lemmas.Bool.{eqb-true, eq-eqb, cases_Bool}
 use Rattle.std.proofs.lemmas.Bool.Decides.{nat_tests}
@@ -26,6 +26,10 @@ not-none (Some a) some none = absurd (cc)
 pub none-if : {A : Type 0} (o : Option A) → ((x : A) → o ≡ Some x → ⊥) → o ≡ None
 none-if None h = refl
 none-if (Some x) h = absurd (h x refl)
+
+pub none-by : {A : Type 0} (o : Option A) (P Q : Type 0) → (P → Q) → IfNone o P → IfNone o Q
+none-by None P Q f h = f h
+none-by (Some a) P Q f h = tt
 
 pub ok-same : {A F : Type 0} {a b : A} → ◌≡◌ {A = Result A F} (Ok a) (Ok b) → a ≡ b
 ok-same h = cc

@@ -1,5 +1,5 @@
 -- What the reader of a device's payload found makes the payload, and the reader misses no row.
-use Rattle.std.proofs.Common.{◌≡◌, ℕ, ◌+◌, ◌^◌, ◌<◌, ◌≤◌, ◌==◌, if◌then◌else◌, Bool, true, false, List, [], ◌∷◌, length, take, drop, get_or, refl, sym, ap, ◌∙◌, subst, arith, Option, Some, None, IfSome, IfNone}
+use Rattle.std.proofs.Common.{◌≡◌, ℕ, ◌+◌, ◌^◌, ◌<◌, ◌≤◌, ◌==◌, if◌then◌else◌, Bool, true, false, List, [], ◌∷◌, length, take, drop, get_or, refl, sym, ap, ◌∙◌, subst, arith, Option, Some, None, IfSome}
 use Rattle.std.specs.Prelude.{◌⊎◌}
 use Rattle.std.proofs.lemmas.Bool.{eqb-true}
 use Rattle.std.proofs.lemmas.List.{length-take-le, length-drop}
@@ -17,10 +17,6 @@ use Rattle.centre_ledger.specs.Parts.{state_from, bare, bare_at, request_place, 
 use Rattle.centre_ledger.proofs.Notes.{by_version, first-request, fits-filled}
 use Rattle.centre_ledger.proofs.OneRow.{spells-old, spells-new}
 use Rattle.centre_ledger.proofs.Parted.{Spells, parts-of, assembled, fits-made, state-byte-again}
-
-pub none-by : {A : Type 0} (o : Option A) (P Q : Type 0) → (P → Q) → IfNone o P → IfNone o Q
-none-by None P Q f h = f h
-none-by (Some a) P Q f h = tt
 
 -- what two clauses say of one row
 pub both-found : {A : Type 0} (o : Option A) (P Q R : A → Type 0) → ((a : A) → P a → Q a → R a) → IfSome o P → IfSome o Q → IfSome o R

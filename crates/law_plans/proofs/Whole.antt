@@ -16,7 +16,7 @@ use Rattle.psd_wire.specs.declared.message.DoneMsg.{DoneMsg}
 use Rattle.psd_wire.specs.declared.message.DebitMsg.{DebitMsg}
 use Rattle.psd_wire.specs.declared.message.Message.TheVariants as m
 use Rattle.psd_wire.specs.Grammar.{IsWhole, sum_size}
-use Rattle.psd_wire.proofs.Readings.{kind_byte, verdict_byte}
+use Rattle.psd_wire.proofs.Readings.{kind_byte, verdict_byte, day_fits}
 
 one_byte : (v : ℕ) → IsVersion v → v < 2 ^ 8
 one_byte v h = omega (arith, h.1)
@@ -37,9 +37,6 @@ word-fits v n h = go (v == 1)
     go true = h
     go false = omega (arith, h)
 
-pub day_signed : (z : ℤ) → IsDay z → FitsSigned w32 z
-day_signed z h = search (arith, ints, h.0, h.1)
-
 pub deadline_signed : (z : ℤ) → IsDay z → FitsSigned w32 (z +ℤ pos 92)
 deadline_signed z h = search (arith, ints, h.0, h.1)
 
@@ -49,7 +46,7 @@ no_deadline = search (arith, ints)
 pub whole-request : (q : Request) → IsVersion q.version → IsWord q.device → IsWord q.number → IsWord q.customer → IsNumber (sum_size q.version) q.amount → IsNumber (sum_size q.version) q.ascending
     → IsNumber (sum_size q.version) q.descending → IsNumber (sum_size q.version) q.refunded → IsWord q.pieces → IsDay q.day → IsWhole (m.Request q)
 whole-request q v d n c a x y z p t =
-    let small : Fits32 w32 (cast_unsigned w32 q.day) = Fits-of_z (day_signed q.day t) in
+    let small : Fits32 w32 (cast_unsigned w32 q.day) = Fits-of_z (day_fits q.day t) in
     (v, (one_byte q.version v, (lit< tt, (d, (n, (kind_byte q.kind, (c, (a, (x, (y, (z, (p, (omega (arith, small), tt)))))))))))), t)
 
 pub whole-reply : (p : ReplyMsg) → IsVersion p.version → IsWord p.device → IsWord p.number → IsNumber (sum_size p.version) p.amount → FitsSigned w32 p.deadline → IsWord p.origin → IsWhole (m.Reply p)
@@ -69,11 +66,11 @@ whole-mark k v d p a x y t o c =
     record {
       version = v;
       fit = (one_byte k.version v, (lit< tt, fields (k.version == 1) (k.version == 2) x y));
-      day = day_signed k.day t;
+      day = day_fits k.day t;
     }
   where
     small : Fits32 w32 (cast_unsigned w32 k.day)
-    small = Fits-of_z (day_signed k.day t)
+    small = Fits-of_z (day_fits k.day t)
 
     limit : Bool → Bool → ℕ
     limit one two = cond one 4294967295 (cond two 1000000000000 0)

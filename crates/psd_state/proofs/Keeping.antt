@@ -15,6 +15,7 @@ use Rattle.bench_base.specs.Kinds.{same_kind, empties, is_granted, is_dated, is_
 use Rattle.bench_base.proofs.Facts.{not-none, is-some, either, ok-same, err-ok}
 use Rattle.indicium.specs.declared.Mark.{Mark}
 use Rattle.indicium.specs.Marks as marks
+use Rattle.indicium.proofs.Readings.{let_through}
 use Rattle.psd_wire.specs.declared.message.Request.{Request}
 use Rattle.psd_wire.specs.declared.message.DebitMsg.{DebitMsg}
 use Rattle.psd_wire.specs.declared.message.Message.TheVariants as m
@@ -153,13 +154,9 @@ is_new : (o : Option Mark) (c : DebitMsg) (key : List ℕ) (other : Result Answe
 is_new None c key other after x h = h
 is_new (Some k) c key other after x h = absurd (not_again c key k after x h)
 
-let_through : {A F : Type 0} (b : Bool) (r : Result A F) (e : F) (y : A) → (if b then r else Err e) ≡ Ok y → r ≡ Ok y
-let_through true r e y h = h
-let_through false r e y h = absurd (err-ok h)
-
 pub debiting-keeps : DebitingKeeps
 debiting-keeps ρ d C s after c today mark order of e =
-    let new = is_new (repeated s.mark c.piece) c s.key _ after mark (let_through (c.device == s.device) _ _ _ e) in
+    let new = is_new (repeated s.mark c.piece) c s.key _ after mark (let_through (c.device == s.device) _ _ _ e).1 in
     let piece = passes (piece_rows s c) _ (New after mark) (search rules) new in
     let free = unless-passes (frozen_kind s.pending) no.Frozen _ (New after mark) piece.1 in
     let through = passes (debit_rows ρ s c today) _ (New after mark) (search rules) free.1 in

@@ -1,5 +1,5 @@
 -- What the readers of a payload find, and that they miss no record.
-use Rattle.std.proofs.Common.{◌≡◌, ℕ, ◌+◌, ◌^◌, ◌<◌, ◌≤◌, ◌==◌, if◌then◌else◌, Bool, true, false, List, ◌++◌, [], length, take, drop, replicate, sym, ap, ap₂, ◌∙◌, refl, arith, subst, Option, Some, None, IfSome, IfNone, IsTrue, ◌↔◌, FitsSigned, Fits as Fits32}
+use Rattle.std.proofs.Common.{◌≡◌, ℕ, ◌+◌, ◌^◌, ◌<◌, ◌≤◌, ◌==◌, if◌then◌else◌, Bool, true, false, List, ◌++◌, [], length, take, drop, replicate, sym, ap, ap₂, ◌∙◌, refl, arith, subst, Option, Some, None, IfSome, IsTrue, ◌↔◌, FitsSigned, Fits as Fits32}
 use Rattle.std.specs.Int.{w32, cast_unsigned}
 use Rattle.std.proofs.lemmas.Bool.{eqb-true}
 use Rattle.std.proofs.Math.Facts.{Fits-of_z}
@@ -18,10 +18,6 @@ use Rattle.psd_state.specs.declared.parts.Fields.{Fields}
 use Rattle.psd_state.specs.Payload.{flag_of, filled, coded_part, pending_room, pending_part, mark_part, end_part, spelled, Ranges, IsOld, fields_at, fields_of, pending_place, mark_place, Parts, PendingWhole, MarkWhole, IsKeptAt, sums_of}
 use Rattle.psd_state.proofs.Parted.{Spells, parts-of, pending-whole, mark-whole, kept-at, same-pending, same-mark, stored-code}
 use Rattle.psd_state.proofs.Under.{not_so}
-
-pub none-by : {A : Type 0} (o : Option A) (P Q : Type 0) → (P → Q) → IfNone o P → IfNone o Q
-none-by None P Q f h = f h
-none-by (Some a) P Q f h = tt
 
 pub some-by : {A : Type 0} (o : Option A) (P Q : A → Type 0) → ((a : A) → P a → Q a) → IfSome o P → IfSome o Q
 some-by None P Q f h = tt

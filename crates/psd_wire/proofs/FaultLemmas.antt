@@ -11,7 +11,7 @@ use Rattle.indicium.specs.Marks.{read_mark}
 use Rattle.psd_wire.specs.declared.message.Message.{Message}
 use Rattle.psd_wire.specs.Grammar.{kind_of, verdict_of, day_of, sum_size, size_of, given, request_at, reply_at, release_at, if_mark, by_tag, read}
 use Rattle.psd_wire.specs.Faults.{IsTagged, IsFramed, kind_at, verdict_at, day_place, day_at, HasFault}
-use Rattle.psd_wire.proofs.Readings.{byte_of, last_tag}
+use Rattle.psd_wire.proofs.Readings.{byte_of, last_tag, by_flag}
 
 -- == the fields as the reader sees them ==
 
@@ -24,10 +24,6 @@ verdict_is bytes = ap verdict_of (byte_of 11 bytes)
 -- the day stands behind device, number, kind, customer, four sums and pieces
 abbrev day_behind : ℕ → ℕ
 day_behind sum = 15 + sum + sum + sum + sum + 4
-
-by_flag : (P : Bool → Type 0) (b : Bool) → P true → P false → P b
-by_flag P true one two = one
-by_flag P false one two = two
 
 place_is : (v : ℕ) → day_behind (bytes_in (sum_size v)) ≡ day_place v
 place_is v = by_flag (λ b. day_behind (bytes_in (if b then Four else Eight)) ≡ (if b then 35 else 51)) (v == 1) refl refl

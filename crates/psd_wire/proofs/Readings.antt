@@ -103,7 +103,7 @@ pub day_of-day : (z : ℤ) → IsDay z → day_of z ≡ Some z
 unfolding day_of
 day_of-day z h = grind (arith, ints)
 
-day_fits : (z : ℤ) → IsDay z → FitsSigned w32 z
+pub day_fits : (z : ℤ) → IsDay z → FitsSigned w32 z
 day_fits z h = search (arith, ints, h.0, h.1)
 
 -- == the fields of bytes ==
@@ -115,7 +115,7 @@ byte_of at bytes = get_or-take 1 (drop at bytes) 0 0 (omega arith) ∙ get_or-dr
 -- == versions ==
 
 -- a fact of each of the two sizes of sums
-by_flag : (P : Bool → Type 0) (b : Bool) → P true → P false → P b
+pub by_flag : (P : Bool → Type 0) (b : Bool) → P true → P false → P b
 by_flag P true one two = one
 by_flag P false one two = two
 

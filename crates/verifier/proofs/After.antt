@@ -24,7 +24,7 @@ use Rattle.verifier.specs.Rows.{Row, TrustRow, BlockRow}
 use Rattle.verifier.specs.Seen.{Seen, row_in, key_in, block_in, scans_in, holds, key_at, cell_of_block, used, scan_shown, spot_by, spot_in, counting}
 use Rattle.verifier.proofs.Basics.{trust-low, block-high}
 use Rattle.verifier.proofs.Blocks.{pair, same_block, is-block, own-block, newest-at, older-at, past-all, within-all, place-at, blocks-kept, blocks-more, at-place, untrusted-blank, unused-blank, unused-none, piece-is, place-inside, scan-at, unused-scans, scans-more, scans-others}
-use Rattle.verifier.proofs.Cells.{key-in-cell, block-held, used-is}
+use Rattle.verifier.proofs.Cells.{key-in-cell, block-held, used-is, behind}
 use Rattle.verifier.proofs.Found.{position-is, position-none}
 
 -- == the cells ==
@@ -45,9 +45,6 @@ block-cell C i =
   where
     back : (i : ℕ) → FIRST_BLOCK + i - FIRST_BLOCK ≡ i
     back i = omega arith
-
-pub behind : (k : ℕ) → FIRST_BLOCK ≤ k → FIRST_BLOCK + (k - FIRST_BLOCK) ≡ k
-behind k le = omega (arith, le)
 
 -- == keys ==
 

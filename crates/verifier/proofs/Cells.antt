@@ -47,6 +47,10 @@ shown-none (Some x) h = absurd (true≢false h)
 pub key-in-cell : (s : Seen) (d : ℕ) → 1 ≤ d → key_at s d ≡ key_in (row_in s (d - 1))
 key-in-cell s d low = ap (λ t. if t then None else key_in (row_in s (d - 1))) (ne_eqb d 0 (λ is. omega (arith, low, is)))
 
+-- a place among the blocks
+pub behind : (k : ℕ) → FIRST_BLOCK ≤ k → FIRST_BLOCK + (k - FIRST_BLOCK) ≡ k
+behind k from = omega (arith, from)
+
 -- a device with a key is one of the eight
 module _ (s : Seen) (sound : AreSound s) where
   key_low : (k : ℕ) (o : Option Row) → IfSome o (IsRowAt k) → is_some (key_in o) ≡ true → k < FIRST_BLOCK
@@ -98,11 +102,8 @@ module _ (s : Seen) (sound : AreSound s) where
   -- the cells before it are in use
   pub used-before : (k : ℕ) → FIRST_BLOCK ≤ k → k < FIRST_BLOCK + used s → IsSome (row_at s k)
   used-before k from lt =
-      subst (λ j. is_some (get_or s j None) ≡ true) (back k from)
+      subst (λ j. is_some (get_or s j None) ≡ true) (behind k from)
       (ap is_some (sym (get_or-drop FIRST_BLOCK s (k - FIRST_BLOCK) None)) ∙ prefix_len_passes is_some (drop FIRST_BLOCK s) (k - FIRST_BLOCK) None (omega (arith, from, lt)))
-    where
-      back : (k : ℕ) → FIRST_BLOCK ≤ k → FIRST_BLOCK + (k - FIRST_BLOCK) ≡ k
-      back k from = omega (arith, from)
 
   -- and it is blank
   pub next-blank : FIRST_BLOCK + used s < VERIFIER_CELLS → row_at s (FIRST_BLOCK + used s) ≡ None

@@ -1,7 +1,8 @@
 use Rattle.std.proofs.Common.{refl, sym, ap, ◌∙◌, arith, true≢false, inl}
+use Rattle.bench_base.proofs.Facts.{none-by}
 use Rattle.centre_ledger.specs.declared.rows.DeviceRow.{DeviceRow}
 use Rattle.centre_ledger.proofs.Fields.{zeros-behind}
-use Rattle.centre_ledger.proofs.Reading.{none-by, both-found, bare-again, parts-made, spelling-made, spells, device-is, end-is, not-missed}
+use Rattle.centre_ledger.proofs.Reading.{both-found, bare-again, parts-made, spelling-made, spells, device-is, end-is, not-missed}
 use Rattle.centre_ledger.proofs.payload.read_first.Goals as goal
 
 pub returns-in_default-clause-none : goal.returns-in_default-clause-none

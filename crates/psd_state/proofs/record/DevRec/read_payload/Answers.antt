@@ -1,5 +1,5 @@
+use Rattle.bench_base.proofs.Facts.{none-by}
 use Rattle.psd_state.proofs.Parted.{not-first, not-second}
-use Rattle.psd_state.proofs.Read.{none-by}
 use Rattle.psd_state.proofs.record.DevRec.read_payload.Goals as goal
 
 pub returns-then-payload-lt16-clause-none : goal.returns-then-payload-lt16-clause-none
