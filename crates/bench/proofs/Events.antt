@@ -1,7 +1,7 @@
 -- What an event of a node is, how it is given, and whom a failure is told of.
 use Rattle.std.proofs.Common.{◌≡◌, ◌≢◌, ◌⊎◌, inl, inr, ⊎_elim, ℕ, ℤ, List, Option, Some, None, Result, Ok, Err, Bool, true, false, length, refl, sym, ◌∙◌, ap, subst, true≢false}
 use Rattle.std.specs.Prelude.{◌&&◌, nat_le, slice_get, if◌then◌else◌}
-use Rattle.std.proofs.lemmas.Bool.{eqb-true, cases_eq}
+use Rattle.std.proofs.lemmas.Bool.{cases_eq, false_from_ne_true}
 use Rattle.bench_base.specs.declared.words.Node.{Node}
 use Rattle.bench_base.specs.declared.words.Node.TheVariants.{Device, Centre, Host, Verifier}
 use Rattle.bench_base.specs.declared.refusals.Unread.{Unread}
@@ -9,7 +9,7 @@ use Rattle.bench_base.specs.declared.events.Event.{Event}
 use Rattle.bench_base.specs.declared.events.Event.TheVariants as ev
 use Rattle.bench_base.specs.declared.events.Reply.{Reply}
 use Rattle.bench_base.specs.declared.events.Reply.TheVariants as r
-use Rattle.bench_base.specs.Nodes.{same_node}
+use Rattle.bench_base.proofs.Facts.{same_node-true}
 use Rattle.bench_base.specs.Events.{node_for, needs_day, may_commit, day_after, IsAt}
 use Rattle.bench_base.specs.Ranges.{IsWholeEvent}
 use Rattle.bench_base.specs.Replies.{tells_power, tells_fault, MayGet, MayFailAt}
@@ -327,22 +327,12 @@ node_is m e k of is = some-same (sym of.node ∙ is)
 
 -- == whom a failure is told of ==
 
-same_if : (m n : Node) → same_node m n ≡ true → m ≡ n
-same_if (Device d) (Device e) h = ap Device (eqb-true d e h)
-same_if (Device d) _ h = absurd (true≢false (sym h))
-same_if Centre Centre h = refl
-same_if Centre _ h = absurd (true≢false (sym h))
-same_if Host Host h = refl
-same_if Host _ h = absurd (true≢false (sym h))
-same_if Verifier Verifier h = refl
-same_if Verifier _ h = absurd (true≢false (sym h))
-
 power_at : (e : Event) (k : Node) (reply : Reply) → MayGet e reply → tells_power k reply ≡ true → MayFailAt e k
-power_at e k (r.Power n) may is = subst (MayFailAt e) (same_if n k is) may
+power_at e k (r.Power n) may is = subst (MayFailAt e) (same_node-true n k is) may
 power_at e k _ may is = absurd (true≢false (sym is))
 
 fault_at : (e : Event) (k : Node) (reply : Reply) → MayGet e reply → tells_fault k reply ≡ true → MayFailAt e k
-fault_at e k (r.Fault n) may is = subst (MayFailAt e) (same_if n k is) may
+fault_at e k (r.Fault n) may is = subst (MayFailAt e) (same_node-true n k is) may
 fault_at e k _ may is = absurd (true≢false (sym is))
 
 fails_there : (m : Node) (e : Event) (k : Node) → IsOfNode m e → MayFailAt e k → m ≡ k
@@ -351,13 +341,9 @@ fails_there m e k of may = ⊎_elim
     (λ commits. subst (λ (o : Option Node). IsAt o k) of.node commits.at)
     may
 
-not_true : (b : Bool) → (b ≡ true → ⊥) → b ≡ false
-not_true true isnt = absurd (isnt refl)
-not_true false isnt = refl
-
 -- the reply to an event of node m tells nothing of a failure of another node
 pub untold : (m : Node) (e : Event) (k : Node) (reply : Reply) → IsOfNode m e → MayGet e reply → k ≢ m → (tells_power k reply ≡ false) × (tells_fault k reply ≡ false)
 untold m e k reply of may differs = (
-  not_true _ (λ is. differs (sym (fails_there m e k of (power_at e k reply may is)))),
-  not_true _ (λ is. differs (sym (fails_there m e k of (fault_at e k reply may is)))),
+  false_from_ne_true _ (λ is. differs (sym (fails_there m e k of (power_at e k reply may is)))),
+  false_from_ne_true _ (λ is. differs (sym (fails_there m e k of (fault_at e k reply may is)))),
 )
