@@ -1,4 +1,4 @@
-//! The first draws of the generator from the seed 7, and the first events that they make.
+//! What a generator draws first, and the events that it makes first.
 ghost use Rattle.std.specs.Prelude.{◌≤◌};
 
 use crate::Generator;
