@@ -2,7 +2,7 @@
 ghost use Rattle.std.specs.Prelude.{◌≡◌};
 ghost use Rattle.bench_base.specs.Rules.{todays_rules};
 ghost use Rattle.psd_wire.specs.Codes.{has_code};
-ghost use Rattle.psd_state.specs.Answers.{apply_answer};
+ghost use Rattle.psd_state.specs.Answers.{apply_answer, debit_answer};
 ghost use Rattle.psd_state.specs.Acts as act_of;
 
 use crate::debiting::Debited;
@@ -77,29 +77,30 @@ pub fn debit_act(
 ) -> DeviceAct<Franked>
     ensures { result ≡ act_of.debit_act todays_rules device command.now day state.now }
 {
-    let Some(record) = state else {
-        return Act::Refuse(DevRefusal::Blank);
-    };
-    match record.debit(command, day) {
-        Err(refusal) => Act::Refuse(refusal),
-        Ok(debited) => franked_act(device, command, day, debited),
+    match state {
+        Some(record) => franked_act(device, command, day, record),
+        None => Act::Refuse(DevRefusal::Blank),
     }
 }
 
-fn franked_act(
-    device: DevNo,
-    command: &DebitMsg,
-    day: DayNo,
-    debited: Debited,
-) -> DeviceAct<Franked>
-    ensures { result ≡ act_of.franked_act todays_rules device command.now day (Ok debited) }
+// A function of its own when it is compiled too, since it clears what a debit gives as it begins.
+#[inline(never)]
+fn franked_act(device: DevNo, command: &DebitMsg, day: DayNo, kept: &DevRec) -> DeviceAct<Franked>
+    ensures { result ≡ act_of.franked_act todays_rules device command.now day (debit_answer todays_rules kept.now command.now day) }
 {
-    match debited {
-        Debited::Again(mark) => Act::Tell(Franked { mark, again: true }),
-        Debited::New(next, mark) => Act::Commits(
+    match &kept.debit(command, day) {
+        Err(refusal) => Act::Refuse(*refusal),
+        Ok(Debited::Again(mark)) => Act::Tell(Franked {
+            mark: *mark,
+            again: true,
+        }),
+        Ok(Debited::New(next, mark)) => Act::Commits(
             debit_commit(device, command, day),
-            next,
-            Franked { mark, again: false },
+            *next,
+            Franked {
+                mark: *mark,
+                again: false,
+            },
         ),
     }
 }
