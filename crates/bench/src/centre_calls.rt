@@ -1,63 +1,200 @@
 //! The calls of the centre: what each does by the centre's rows, and what the centre says of it. Amounts are in mills.
 ghost use Rattle.std.specs.Prelude.{◌≡◌};
+ghost use Rattle.bench_base.specs.declared.words.Node.TheVariants as node;
+ghost use Rattle.bench_base.specs.declared.events.Reply.TheVariants as r;
+ghost use Rattle.bench_base.specs.Ranges.{IsWord};
 ghost use Rattle.bench_base.specs.Table.{IsBytes};
+ghost use Rattle.centre_ledger.specs.Acts as acts;
+ghost use Rattle.centre_ledger.specs.Seen.{books_in};
+ghost use Rattle.centre_protocol.specs.NodeView.{seen_in};
 ghost use Rattle.bench_views.specs.Centre as views;
-ghost use Rattle.bench_views.specs.Centre.{says};
 
 use bench_base::events::Reply;
-use bench_base::numbers::Customer;
+use bench_base::numbers::{Customer, DevNo};
+use bench_base::refusals::CentreRefusal;
+use bench_base::words::{Key, Node as NodeNo};
 use bench_views::CentreCall;
 use centre_ledger::{
-    Accounts, CentreAct, CentreAnswer, Deposit, Row, balance_act, deposit_act, flag_act, open_act,
-    register_act, take_act,
+    CentreAct, CentreAnswer, Deposit, balance_act, deposit_act, flag_act, open_act, register_act,
+    take_act,
 };
-use node_acts::{Act, Said};
+use centre_protocol::CentreNode;
+use node_acts::Said;
+use node_turns::{Call, Callee};
+use nv_model::Fuse;
 
-/// What the centre does in a call, with what it says of it.
-pub type CentreSays = Act<Row, Reply, Said>;
+/// The centre, where it is called.
+#[derive(Drop)]
+pub struct CentreCallee;
 
-// Of a call that answers nothing but that it was done.
-fn done(reply: Reply, act: &CentreAct<()>) -> CentreSays
-    ensures { result ≡ says (views.done reply) act.now }
-{
-    match act {
-        Act::Refuse(refusal) => Act::Refuse(Reply::CentreRefused(*refusal)),
-        Act::Tell(()) => Act::Tell(Said::of(reply)),
-        Act::Commits(commit, row, ()) => Act::Commits(*commit, *row, Said::of(reply)),
+impl Callee for CentreCallee {
+    type Refusal = CentreRefusal;
+
+    ghost named = { λ c. node.Centre };
+
+    ghost refuses = { λ c x. r.CentreRefused x };
+
+    fn name(&self) -> NodeNo {
+        NodeNo::Centre
+    }
+
+    fn refusal(&self, refusal: CentreRefusal) -> Reply {
+        Reply::CentreRefused(refusal)
     }
 }
 
-fn booked(customer: Customer, receipt: u32, deposit: &Deposit) -> Said
-    ensures { result ≡ views.deposited customer receipt deposit.now }
-{
-    Said::of(Reply::Deposited(customer, receipt, deposit.again, deposit.total))
+/// A device is registered under a key.
+#[derive(Drop)]
+pub struct RegisterCall {
+    pub device: DevNo,
+    pub origin: u32,
+    pub key: Key,
 }
 
-fn deposited(customer: Customer, receipt: u32, act: &CentreAct<Deposit>) -> CentreSays
-    ensures { result ≡ says (views.deposited customer receipt) act.now }
-{
-    match act {
-        Act::Refuse(refusal) => Act::Refuse(Reply::CentreRefused(*refusal)),
-        Act::Tell(deposit) => Act::Tell(booked(customer, receipt, deposit)),
-        Act::Commits(commit, row, deposit) => {
-            Act::Commits(*commit, *row, booked(customer, receipt, deposit))
-        }
+impl<M: Fuse + Drop> Call<CentreNode<M>, CentreRefusal> for RegisterCall {
+    type Answer = ();
+
+    ghost IsAsked = { λ c. IsWord c.origin };
+
+    ghost does = { λ c k. acts.register_act c.device c.origin c.key (books_in (seen_in k)) };
+
+    ghost says = { λ c u. views.done (r.Registered c.device) u };
+
+    fn act(&self, place: &CentreNode<M>) -> CentreAct<()> {
+        register_act(self.device, self.origin, &self.key, place.accounts())
+    }
+
+    fn answer(&self, _registered: &()) -> Said {
+        Said::of(Reply::Registered(self.device))
     }
 }
 
-fn left(customer: Customer, act: &CentreAct<u64>) -> CentreSays
-    ensures { result ≡ says (views.left customer) act.now }
-{
-    match act {
-        Act::Refuse(refusal) => Act::Refuse(Reply::CentreRefused(*refusal)),
-        Act::Tell(left) => Act::Tell(Said::of(Reply::Balance(customer, *left))),
-        Act::Commits(commit, row, left) => {
-            Act::Commits(*commit, *row, Said::of(Reply::Balance(customer, *left)))
-        }
+/// A customer is opened.
+#[derive(Drop)]
+pub struct OpenCall {
+    pub customer: Customer,
+}
+
+impl<M: Fuse + Drop> Call<CentreNode<M>, CentreRefusal> for OpenCall {
+    type Answer = ();
+
+    ghost IsAsked = { λ c. Unit {0} };
+
+    ghost does = { λ c k. acts.open_act c.customer (books_in (seen_in k)) };
+
+    ghost says = { λ c u. views.done (r.Opened c.customer) u };
+
+    fn act(&self, place: &CentreNode<M>) -> CentreAct<()> {
+        open_act(self.customer, place.accounts())
+    }
+
+    fn answer(&self, _opened: &()) -> Said {
+        Said::of(Reply::Opened(self.customer))
     }
 }
 
-fn took_as(message: u32, answer: &CentreAnswer) -> Said
+/// A customer deposits an amount, under the number of its receipt.
+#[derive(Drop)]
+pub struct DepositCall {
+    pub customer: Customer,
+    pub receipt: u32,
+    pub amount: u32,
+}
+
+impl<M: Fuse + Drop> Call<CentreNode<M>, CentreRefusal> for DepositCall {
+    type Answer = Deposit;
+
+    ghost IsAsked = { λ c. Unit {0} };
+
+    ghost does = { λ c k. acts.deposit_act c.customer c.receipt c.amount (books_in (seen_in k)) };
+
+    ghost says = { λ c d. views.deposited c.customer c.receipt d };
+
+    fn act(&self, place: &CentreNode<M>) -> CentreAct<Deposit> {
+        deposit_act(self.customer, self.receipt, self.amount, place.accounts())
+    }
+
+    fn answer(&self, deposit: &Deposit) -> Said {
+        Said::of(Reply::Deposited(self.customer, self.receipt, deposit.again, deposit.total))
+    }
+}
+
+/// A customer is suspended, or may buy again.
+#[derive(Drop)]
+pub struct FlagCall {
+    pub customer: Customer,
+    pub suspended: bool,
+}
+
+impl<M: Fuse + Drop> Call<CentreNode<M>, CentreRefusal> for FlagCall {
+    type Answer = ();
+
+    ghost IsAsked = { λ c. Unit {0} };
+
+    ghost does = { λ c k. acts.flag_act c.customer c.suspended (books_in (seen_in k)) };
+
+    ghost says = { λ c u. views.done (r.Flagged c.customer c.suspended) u };
+
+    fn act(&self, place: &CentreNode<M>) -> CentreAct<()> {
+        flag_act(self.customer, self.suspended, place.accounts())
+    }
+
+    fn answer(&self, _flagged: &()) -> Said {
+        Said::of(Reply::Flagged(self.customer, self.suspended))
+    }
+}
+
+/// What a customer has left.
+#[derive(Drop)]
+pub struct BalanceCall {
+    pub customer: Customer,
+}
+
+impl<M: Fuse + Drop> Call<CentreNode<M>, CentreRefusal> for BalanceCall {
+    type Answer = u64;
+
+    ghost IsAsked = { λ c. Unit {0} };
+
+    ghost does = { λ c k. acts.balance_act c.customer (books_in (seen_in k)) };
+
+    ghost says = { λ c n. views.left c.customer n };
+
+    fn act(&self, place: &CentreNode<M>) -> CentreAct<u64> {
+        balance_act(self.customer, place.accounts())
+    }
+
+    fn answer(&self, left: &u64) -> Said {
+        Said::of(Reply::Balance(self.customer, *left))
+    }
+}
+
+/// The centre takes a Request or a Done.
+#[derive(Drop)]
+pub struct TakeCall<'a> {
+    pub bytes: &'a [u8],
+    pub message: u32,
+}
+
+impl<'a, M: Fuse + Drop> Call<CentreNode<M>, CentreRefusal> for TakeCall<'a> {
+    type Answer = CentreAnswer;
+
+    ghost IsAsked = { λ c. IsBytes c.bytes.now };
+
+    ghost does = { λ c k. acts.take_act c.bytes.now (books_in (seen_in k)) };
+
+    ghost says = { λ c a. views.took c.message a };
+
+    fn act(&self, place: &CentreNode<M>) -> CentreAct<CentreAnswer> {
+        take_act(self.bytes, place.accounts())
+    }
+
+    fn answer(&self, answer: &CentreAnswer) -> Said {
+        took(self.message, answer)
+    }
+}
+
+// What the centre says of a message that it took.
+fn took(message: u32, answer: &CentreAnswer) -> Said
     ensures { result ≡ views.took message answer.now }
 {
     match answer {
@@ -76,58 +213,6 @@ fn took_as(message: u32, answer: &CentreAnswer) -> Said
             number,
             again,
         } => Said::of(Reply::Settled(*device, *number, *again)),
-    }
-}
-
-fn took(message: u32, act: &CentreAct<CentreAnswer>) -> CentreSays
-    ensures { result ≡ says (views.took message) act.now }
-{
-    match act {
-        Act::Refuse(refusal) => Act::Refuse(Reply::CentreRefused(*refusal)),
-        Act::Tell(answer) => Act::Tell(took_as(message, answer)),
-        Act::Commits(commit, row, answer) => {
-            Act::Commits(*commit, *row, took_as(message, answer))
-        }
-    }
-}
-
-/// What the centre does where it is called for this, by its rows.
-pub fn centre_act(call: &CentreCall, accounts: &Accounts) -> CentreSays
-    ensures { result ≡ views.centre_act call.now accounts.now }
-{
-    match call {
-        CentreCall::Register {
-            device,
-            origin,
-            key,
-        } => done(
-            Reply::Registered(*device),
-            &register_act(*device, *origin, key, accounts),
-        ),
-        CentreCall::Open(customer) => {
-            done(Reply::Opened(*customer), &open_act(*customer, accounts))
-        }
-        CentreCall::Deposit {
-            customer,
-            receipt,
-            amount,
-        } => deposited(
-            *customer,
-            *receipt,
-            &deposit_act(*customer, *receipt, *amount, accounts),
-        ),
-        CentreCall::Flag {
-            customer,
-            suspended,
-        } => done(
-            Reply::Flagged(*customer, *suspended),
-            &flag_act(*customer, *suspended, accounts),
-        ),
-        CentreCall::Balance(customer) => left(*customer, &balance_act(*customer, accounts)),
-        CentreCall::Take { bytes, message } => took(
-            *message,
-            &take_act(bytes.as_slice(), accounts),
-        ),
     }
 }
 

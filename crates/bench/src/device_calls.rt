@@ -1,88 +1,266 @@
 //! The calls of a device: what each does by the device's record, and what the device says of it. Postage is in mills, days are
 //! since 1970-01-01.
 ghost use Rattle.std.specs.Prelude.{◌≡◌, []};
+ghost use Rattle.bench_base.specs.Rules.{todays_rules};
+ghost use Rattle.bench_base.specs.declared.words.Node.TheVariants as node;
+ghost use Rattle.bench_base.specs.declared.events.Reply.TheVariants as r;
+ghost use Rattle.ledger_moves.specs.Moves.{debit_by};
+ghost use Rattle.node_acts.specs.Said.{sends};
 ghost use Rattle.psd_wire.specs.declared.message.Message.TheVariants as m;
 ghost use Rattle.psd_wire.specs.Grammar.{spell};
-ghost use Rattle.psd_state.specs.Acts.{make_act};
-ghost use Rattle.bench_views.specs.declared.taken.DeviceCall.TheVariants as call;
+ghost use Rattle.psd_device.specs.NodeView.{seen_in};
+ghost use Rattle.psd_state.specs.Acts as acts;
 ghost use Rattle.bench_views.specs.Devices as views;
-ghost use Rattle.bench_views.specs.Devices.{says};
 
 use bench_base::bytes::Note;
 use bench_base::events::{DevView, Reply};
 use bench_base::numbers::{DayNo, DevNo};
-use bench_base::words::{Key, Kind};
-use bench_views::DeviceCall;
-use node_acts::{Act, GivenOut, Released, Said};
-use psd_device::Franked;
+use bench_base::refusals::DevRefusal;
+use bench_base::words::{Key, Kind, Node as NodeNo};
+use node_acts::{GivenOut, Released, Said};
+use node_turns::{Call, Callee};
+use nv_model::Fuse;
+use psd_device::{DeviceNode, Franked};
 use psd_state::DevRec;
 use psd_state::acts::{
     DeviceAct, Taken, ack_act, ask_act, debit_act, make_act, resend_act, status_act, take_act,
 };
 use psd_wire::DebitMsg;
 
-/// What a device does in a call, with what it says of it.
-pub type DeviceSays = Act<DevRec, Reply, Said>;
+/// The device of this number, where it is called.
+#[derive(Drop)]
+pub struct DeviceCallee(pub DevNo);
 
-fn made(device: DevNo, act: &DeviceAct<()>) -> DeviceSays
-    ensures { result ≡ says device (λ u. views.made device) act.now }
-{
-    match act {
-        Act::Refuse(refusal) => Act::Refuse(Reply::DevRefused(device, *refusal)),
-        Act::Tell(()) => Act::Tell(Said::of(Reply::Made(device))),
-        Act::Commits(commit, next, ()) => {
-            Act::Commits(*commit, *next, Said::of(Reply::Made(device)))
-        }
+impl Callee for DeviceCallee {
+    type Refusal = DevRefusal;
+
+    ghost named = { λ c. node.Device c.0 };
+
+    ghost refuses = { λ c x. r.DevRefused c.0 x };
+
+    fn name(&self) -> NodeNo {
+        NodeNo::Device(self.0)
+    }
+
+    fn refusal(&self, refusal: DevRefusal) -> Reply {
+        Reply::DevRefused(self.0, refusal)
     }
 }
 
-fn marked_as(device: DevNo, piece: u32, franked: &Franked) -> Said
-    ensures { result ≡ views.marked device piece franked.now }
-{
-    let mark = franked.mark;
-    Said::giving(
-        Reply::Marked(device, piece, franked.again, mark),
-        GivenOut::Released(Released {
-            device,
-            piece,
-            mark,
-        }),
-    )
+/// A device is made under a key.
+#[derive(Drop)]
+pub struct MakeCall {
+    pub device: DevNo,
+    pub key: Key,
 }
 
-fn marked(device: DevNo, piece: u32, act: &DeviceAct<Franked>) -> DeviceSays
-    ensures { result ≡ says device (views.marked device piece) act.now }
-{
-    match act {
-        Act::Refuse(refusal) => Act::Refuse(Reply::DevRefused(device, *refusal)),
-        Act::Tell(franked) => Act::Tell(marked_as(device, piece, franked)),
-        Act::Commits(commit, next, franked) => {
-            Act::Commits(*commit, *next, marked_as(device, piece, franked))
-        }
+impl<M: Fuse + Drop> Call<DeviceNode<M>, DevRefusal> for MakeCall {
+    type Answer = ();
+
+    ghost IsAsked = { λ c. Unit {0} };
+
+    ghost does = { λ c k. acts.make_act c.device c.key (seen_in k).state };
+
+    ghost says = { λ c u. views.made c.device };
+
+    fn act(&self, place: &DeviceNode<M>) -> DeviceAct<()> {
+        make_act(self.device, &self.key, place.record())
+    }
+
+    fn answer(&self, _made: &()) -> Said {
+        Said::of(Reply::Made(self.device))
     }
 }
 
-fn sent(device: DevNo, reply: Reply, act: &DeviceAct<Note>) -> DeviceSays
-    ensures { result ≡ says device (views.sent reply) act.now }
-{
-    match act {
-        Act::Refuse(refusal) => Act::Refuse(Reply::DevRefused(device, *refusal)),
-        Act::Tell(note) => Act::Tell(Said::sending(reply, *note)),
-        Act::Commits(commit, next, note) => {
-            Act::Commits(*commit, *next, Said::sending(reply, *note))
-        }
+/// A piece is marked.
+#[derive(Drop)]
+pub struct DebitCall {
+    pub device: DevNo,
+    pub day: DayNo,
+    pub piece: u32,
+    pub postage: u32,
+    pub class: u16,
+}
+
+impl<M: Fuse + Drop> Call<DeviceNode<M>, DevRefusal> for DebitCall {
+    type Answer = Franked;
+
+    ghost IsAsked = { λ c. Unit {0} };
+
+    ghost does = { λ c k. acts.debit_act todays_rules c.device (debit_by c.device c.piece c.postage c.class) c.day (seen_in k).state };
+
+    ghost says = { λ c f. views.marked c.device c.piece f };
+
+    fn act(&self, place: &DeviceNode<M>) -> DeviceAct<Franked> {
+        let command = DebitMsg {
+            device: self.device.get(),
+            piece: self.piece,
+            postage: self.postage,
+            class: self.class,
+        };
+        debit_act(self.device, &command, self.day, place.record())
+    }
+
+    fn answer(&self, franked: &Franked) -> Said {
+        let mark = franked.mark;
+        Said::giving(
+            Reply::Marked(self.device, self.piece, franked.again, mark),
+            GivenOut::Released(Released {
+                device: self.device,
+                piece: self.piece,
+                mark,
+            }),
+        )
     }
 }
 
-fn shown(device: DevNo, act: &DeviceAct<DevView>) -> DeviceSays
-    ensures { result ≡ says device (views.shown device) act.now }
-{
-    match act {
-        Act::Refuse(refusal) => Act::Refuse(Reply::DevRefused(device, *refusal)),
-        Act::Tell(view) => Act::Tell(Said::of(Reply::Status(device, *view))),
-        Act::Commits(commit, next, view) => {
-            Act::Commits(*commit, *next, Said::of(Reply::Status(device, *view)))
-        }
+/// A transaction is asked for, under this number.
+#[derive(Drop)]
+pub struct AskCall {
+    pub device: DevNo,
+    pub day: DayNo,
+    pub kind: Kind,
+    pub customer: u32,
+    pub amount: u32,
+    pub message: u32,
+    pub number: u32,
+}
+
+impl<M: Fuse + Drop> Call<DeviceNode<M>, DevRefusal> for AskCall {
+    type Answer = Note;
+
+    ghost IsAsked = { λ c. Unit {0} };
+
+    ghost does = { λ c k. acts.ask_act todays_rules c.device c.kind c.customer c.amount c.day (seen_in k).state };
+
+    ghost says = { λ c note. sends (r.SentRequest c.device c.number c.message) note };
+
+    fn act(&self, place: &DeviceNode<M>) -> DeviceAct<Note> {
+        ask_act(
+            self.device,
+            self.kind,
+            self.customer,
+            self.amount,
+            self.day,
+            place.record(),
+        )
+    }
+
+    fn answer(&self, note: &Note) -> Said {
+        Said::sending(
+            Reply::SentRequest(self.device, self.number, self.message),
+            *note,
+        )
+    }
+}
+
+/// The request of this number, which is outstanding, is sent once more.
+#[derive(Drop)]
+pub struct ResendCall {
+    pub device: DevNo,
+    pub message: u32,
+    pub number: u32,
+}
+
+impl<M: Fuse + Drop> Call<DeviceNode<M>, DevRefusal> for ResendCall {
+    type Answer = Note;
+
+    ghost IsAsked = { λ c. Unit {0} };
+
+    ghost does = { λ c k. acts.resend_act (seen_in k).state };
+
+    ghost says = { λ c note. sends (r.SentRequest c.device c.number c.message) note };
+
+    fn act(&self, place: &DeviceNode<M>) -> DeviceAct<Note> {
+        resend_act(place.record())
+    }
+
+    fn answer(&self, note: &Note) -> Said {
+        Said::sending(
+            Reply::SentRequest(self.device, self.number, self.message),
+            *note,
+        )
+    }
+}
+
+/// That the transaction of this number was applied, the last one, is sent.
+#[derive(Drop)]
+pub struct AckCall {
+    pub device: DevNo,
+    pub message: u32,
+    pub number: u32,
+}
+
+impl<M: Fuse + Drop> Call<DeviceNode<M>, DevRefusal> for AckCall {
+    type Answer = Note;
+
+    ghost IsAsked = { λ c. Unit {0} };
+
+    ghost does = { λ c k. acts.ack_act (seen_in k).state };
+
+    ghost says = { λ c note. sends (r.SentDone c.device c.number c.message) note };
+
+    fn act(&self, place: &DeviceNode<M>) -> DeviceAct<Note> {
+        ack_act(place.record())
+    }
+
+    fn answer(&self, note: &Note) -> Said {
+        Said::sending(
+            Reply::SentDone(self.device, self.number, self.message),
+            *note,
+        )
+    }
+}
+
+/// What a device shows of its record.
+#[derive(Drop)]
+pub struct StatusCall {
+    pub device: DevNo,
+    pub day: DayNo,
+}
+
+impl<M: Fuse + Drop> Call<DeviceNode<M>, DevRefusal> for StatusCall {
+    type Answer = DevView;
+
+    ghost IsAsked = { λ c. Unit {0} };
+
+    ghost does = { λ c k. acts.status_act c.day (seen_in k).state };
+
+    ghost says = { λ c view. views.shown c.device view };
+
+    fn act(&self, place: &DeviceNode<M>) -> DeviceAct<DevView> {
+        status_act(self.day, place.record())
+    }
+
+    fn answer(&self, view: &DevView) -> Said {
+        Said::of(Reply::Status(self.device, *view))
+    }
+}
+
+/// A device takes a Reply or a Debit.
+#[derive(Drop)]
+pub struct TakeCall<'a> {
+    pub device: DevNo,
+    pub day: DayNo,
+    pub bytes: &'a [u8],
+    pub message: u32,
+}
+
+impl<'a, M: Fuse + Drop> Call<DeviceNode<M>, DevRefusal> for TakeCall<'a> {
+    type Answer = Taken;
+
+    ghost IsAsked = { λ c. Unit {0} };
+
+    ghost does = { λ c k. acts.take_act todays_rules c.device c.bytes.now c.day (seen_in k).state };
+
+    ghost says = { λ c a. views.took c.device c.message a };
+
+    fn act(&self, place: &DeviceNode<M>) -> DeviceAct<Taken> {
+        take_act(self.device, self.bytes, self.day, place.record())
+    }
+
+    fn answer(&self, taken: &Taken) -> Said {
+        took(self.device, self.message, taken)
     }
 }
 
@@ -98,7 +276,8 @@ fn release(mark: &[u8; 64]) -> Note
     Note::of(&bytes)
 }
 
-fn took_as(device: DevNo, message: u32, taken: &Taken) -> Said
+// What a device says of a message that it took; a mark is sent as this message.
+fn took(device: DevNo, message: u32, taken: &Taken) -> Said
     ensures { result ≡ views.took device message taken.now }
 {
     match taken {
@@ -115,20 +294,8 @@ fn took_as(device: DevNo, message: u32, taken: &Taken) -> Said
     }
 }
 
-fn took(device: DevNo, message: u32, act: &DeviceAct<Taken>) -> DeviceSays
-    ensures { result ≡ says device (views.took device message) act.now }
-{
-    match act {
-        Act::Refuse(refusal) => Act::Refuse(Reply::DevRefused(device, *refusal)),
-        Act::Tell(taken) => Act::Tell(took_as(device, message, taken)),
-        Act::Commits(commit, next, taken) => {
-            Act::Commits(*commit, *next, took_as(device, message, taken))
-        }
-    }
-}
-
-// The number of the last transaction that was applied, and 0 where there is no record.
-fn number_in(day: DayNo, record: &Option<DevRec>) -> u32
+/// The number of the last transaction that was applied, and 0 where there is no record.
+pub fn number_in(day: DayNo, record: &Option<DevRec>) -> u32
     ensures { result ≡ views.number_in «record».now }
 {
     match record {
@@ -137,8 +304,8 @@ fn number_in(day: DayNo, record: &Option<DevRec>) -> u32
     }
 }
 
-// The number of the request that is outstanding, or of the next one.
-fn next_number(day: DayNo, record: &Option<DevRec>) -> u32
+/// The number of the request that is outstanding, or of the next one.
+pub fn next_number(day: DayNo, record: &Option<DevRec>) -> u32
     ensures { result ≡ views.next_number «record».now }
 {
     match record {
@@ -151,131 +318,5 @@ fn next_number(day: DayNo, record: &Option<DevRec>) -> u32
             }
         }
         None => 0,
-    }
-}
-
-// Each call is a function of its own when it is compiled, since a function clears the acts that it makes as it begins.
-
-#[inline(never)]
-fn make_call(device: DevNo, key: &Key, record: &Option<DevRec>) -> DeviceSays
-    ensures { result ≡ says device (λ u. views.made device) (make_act device key.now «record».now) }
-{
-    made(device, &make_act(device, key, record))
-}
-
-#[inline(never)]
-fn debit_call(
-    device: DevNo,
-    day: DayNo,
-    piece: u32,
-    postage: u32,
-    class: u16,
-    record: &Option<DevRec>,
-) -> DeviceSays
-    ensures { result ≡ views.device_act device day (call.Debit piece postage class) «record».now }
-{
-    let command = DebitMsg {
-        device: device.get(),
-        piece,
-        postage,
-        class,
-    };
-    marked(device, piece, &debit_act(device, &command, day, record))
-}
-
-#[inline(never)]
-fn ask_call(
-    device: DevNo,
-    day: DayNo,
-    kind: Kind,
-    customer: u32,
-    amount: u32,
-    message: u32,
-    record: &Option<DevRec>,
-) -> DeviceSays
-    ensures { result ≡ views.device_act device day (call.Ask kind customer amount message) «record».now }
-{
-    let act = ask_act(device, kind, customer, amount, day, record);
-    let number = next_number(day, record);
-    sent(device, Reply::SentRequest(device, number, message), &act)
-}
-
-#[inline(never)]
-fn resend_call(device: DevNo, day: DayNo, message: u32, record: &Option<DevRec>) -> DeviceSays
-    ensures { result ≡ views.device_act device day (call.Resend message) «record».now }
-{
-    let number = next_number(day, record);
-    sent(
-        device,
-        Reply::SentRequest(device, number, message),
-        &resend_act(record),
-    )
-}
-
-#[inline(never)]
-fn ack_call(device: DevNo, day: DayNo, message: u32, record: &Option<DevRec>) -> DeviceSays
-    ensures { result ≡ views.device_act device day (call.Ack message) «record».now }
-{
-    let number = number_in(day, record);
-    sent(
-        device,
-        Reply::SentDone(device, number, message),
-        &ack_act(record),
-    )
-}
-
-#[inline(never)]
-fn status_call(device: DevNo, day: DayNo, record: &Option<DevRec>) -> DeviceSays
-    ensures { result ≡ views.device_act device day call.Status «record».now }
-{
-    shown(device, &status_act(day, record))
-}
-
-#[inline(never)]
-fn take_call(
-    device: DevNo,
-    day: DayNo,
-    bytes: &[u8],
-    message: u32,
-    record: &Option<DevRec>,
-) -> DeviceSays
-    ensures { result ≡ views.device_act device day (call.Take bytes.now message) «record».now }
-{
-    let act = take_act(device, bytes, day, record);
-    took(device, message, &act)
-}
-
-/// What the device does where it is called for this on that day, by its record.
-pub fn device_act(
-    device: DevNo,
-    day: DayNo,
-    call: &DeviceCall,
-    record: &Option<DevRec>,
-) -> DeviceSays
-    ensures { result ≡ views.device_act device day call.now «record».now }
-{
-    match call {
-        DeviceCall::Make(key) => make_call(device, key, record),
-        DeviceCall::Debit {
-            piece,
-            postage,
-            class,
-        } => debit_call(device, day, *piece, *postage, *class, record),
-        DeviceCall::Ask {
-            kind,
-            customer,
-            amount,
-            message,
-        } => ask_call(device, day, *kind, *customer, *amount, *message, record),
-        DeviceCall::Resend { message } => resend_call(device, day, *message, record),
-        DeviceCall::Ack { message } => ack_call(device, day, *message, record),
-        DeviceCall::Status => status_call(device, day, record),
-        DeviceCall::Take { bytes, message } => take_call(
-            device,
-            day,
-            bytes.as_slice(),
-            *message,
-            record,
-        ),
     }
 }

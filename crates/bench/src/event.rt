@@ -1,135 +1,36 @@
 //! One event.
 ghost use Rattle.std.specs.Prelude.{◌≡◌, ◌<◌, ℕ, List, length, IfOk, OnErr};
-ghost use Rattle.bench_base.specs.declared.words.Node.TheVariants as node;
 ghost use Rattle.bench_base.specs.Ranges.{IsWholeEvent};
 ghost use Rattle.node_turns.specs.declared.turn.Turn.{Turn};
-ghost use Rattle.node_turns.specs.NodeTurns.{NodeTurn};
-ghost use Rattle.bench_views.specs.Devices.{device_kind};
-ghost use Rattle.bench_views.specs.Centre.{centre_kind, IsBytesCall, AreBytes};
 ghost use Rattle.bench_views.specs.Kinds.{bench_kinds};
 ghost use Rattle.bench.specs.declared.benches.TheConstants.{MOST_MESSAGES};
 ghost use Rattle.bench.specs.Benches.{IsReady, nodes, bench_of, fuse_in};
-ghost use Rattle.bench.specs.Calls.{DeviceTurn, IsRangedCall, IsRanged, device_event, centre_event, dated};
+ghost use Rattle.bench.specs.Calls.{dated};
 ghost use Rattle.bench.specs.Outside.{WantsMemory, outside};
 ghost use Rattle.bench.specs.Steps.{Steps, sending};
 
 use crate::benches::{Bench, BenchOver};
-use crate::centre_calls::{centre_act, hands_bytes};
+use crate::centre_turns::centre_turn;
 use crate::comparing::compare;
-use crate::device_calls::device_act;
+use crate::device_turns::device_turn;
 use crate::host_turns::host_turn;
 use crate::rates::read_turn;
 use crate::verifier_turns::verifier_turn;
 use bench_base::events::{Event, Reply};
 use bench_base::ledger::Entry;
-use bench_base::numbers::{DayNo, DevNo};
+use bench_base::numbers::DayNo;
 use bench_base::stream::{Sink, Source};
-use bench_base::words::Node as NodeNo;
 use bench_views::laws::{host_follows, nodes_follow, verifier_follows};
-use bench_views::{CentreCall, DeviceCall, Taken, take};
+use bench_views::{Taken, take};
 use centre_protocol::CentreNode;
 use host_node::HostNode;
 use host_rates::theorems::prices_by_text;
-use node_acts::Asked;
 use node_seat::Node;
-use node_turns::{Sending, Tell, Turn, call, cut, start, stop};
+use node_turns::{Sending, Tell, Turn};
 use nv_model::{Fuse, Fused, Nv};
 use psd_device::DeviceNode;
 use std::alloc::{AllocError, Global};
 use verifier_node::VerifierNode;
-
-// A call of the device in this place, on that day. A device that is off decides nothing.
-#[inline(never)]
-fn device_called<T: Tell, M: Fuse + Drop>(
-    place: &mut DeviceNode<M>,
-    device: DevNo,
-    day: DayNo,
-    asked: &DeviceCall,
-) -> T
-    ensures did { (turn : Turn) × T.IsOf result turn
-        × NodeTurn ⟦<DeviceNode<M> as Node>⟧ M.Nv M.Fuse.own device_kind (node.Device device) device day (device_event device (Asked.Call asked.now)) (Asked.Call asked.now) place.old place.new turn }
-{
-    if !place.is_on() {
-        return T::silent(Reply::OffNode(NodeNo::Device(device)));
-    }
-    let act = device_act(device, day, asked, place.record());
-    call(place, &NodeNo::Device(device), act)
-}
-
-// An event of the device in this place, on that day.
-fn device_did<T: Tell, M: Fuse + Drop>(
-    place: &mut DeviceNode<M>,
-    device: DevNo,
-    day: DayNo,
-    asked: &Asked<DeviceCall>,
-) -> T
-    ensures did { (turn : Turn) × T.IsOf result turn
-        × NodeTurn ⟦<DeviceNode<M> as Node>⟧ M.Nv M.Fuse.own device_kind (node.Device device) device day (device_event device asked.now) asked.now place.old place.new turn }
-{
-    match asked {
-        Asked::On => start(place, device, &NodeNo::Device(device)),
-        Asked::Off => stop(place, &NodeNo::Device(device)),
-        Asked::Cut(calls, keep, byte) => {
-            cut(place, &NodeNo::Device(device), *calls, *keep, *byte)
-        }
-        Asked::Call(asked) => device_called(place, device, day, asked),
-    }
-}
-
-// An event of one device, on that day.
-#[inline(never)]
-fn device_turn<T: Tell, M: Fuse + Drop>(
-    devices: &mut Vec<DeviceNode<M>>,
-    device: DevNo,
-    day: DayNo,
-    asked: &Asked<DeviceCall>,
-) -> T
-    requires eight { length devices.old.items ≡ 8 }
-    ensures did { (turn : Turn) × T.IsOf result turn
-        × DeviceTurn ⟦<DeviceNode<M> as Node>⟧ M.Nv M.Fuse.own device_kind device day asked.now devices.old.items devices.new.items turn }
-{
-    let place = device.get() as usize - 1;
-    device_did(&mut devices[place], device, day, asked)
-}
-
-// A call of the centre, on that day. A centre that is off decides nothing.
-fn centre_called<T: Tell, M: Fuse + Drop>(
-    place: &mut CentreNode<M>,
-    day: DayNo,
-    asked: &CentreCall,
-) -> T
-    requires ranged { IsRangedCall asked.now }
-    ensures bytes { IsBytesCall asked.now }
-    ensures did { (turn : Turn) × T.IsOf result turn
-        × NodeTurn ⟦<CentreNode<M> as Node>⟧ M.Nv M.Fuse.own centre_kind node.Centre tt day (centre_event (Asked.Call asked.now)) (Asked.Call asked.now) place.old place.new turn }
-{
-    hands_bytes(asked);
-    if !place.is_on() {
-        return T::silent(Reply::OffNode(NodeNo::Centre));
-    }
-    let act = centre_act(asked, place.accounts());
-    call(place, &NodeNo::Centre, act)
-}
-
-// An event of the centre, on that day.
-#[inline(never)]
-fn centre_turn<T: Tell, M: Fuse + Drop>(
-    place: &mut CentreNode<M>,
-    day: DayNo,
-    asked: &Asked<CentreCall>,
-) -> T
-    requires ranged { IsRanged asked.now }
-    ensures bytes { AreBytes asked.now }
-    ensures did { (turn : Turn) × T.IsOf result turn
-        × NodeTurn ⟦<CentreNode<M> as Node>⟧ M.Nv M.Fuse.own centre_kind node.Centre tt day (centre_event asked.now) asked.now place.old place.new turn }
-{
-    match asked {
-        Asked::On => start(place, (), &NodeNo::Centre),
-        Asked::Off => stop(place, &NodeNo::Centre),
-        Asked::Cut(calls, keep, byte) => cut(place, &NodeNo::Centre, *calls, *keep, *byte),
-        Asked::Call(asked) => centre_called(place, day, asked),
-    }
-}
 
 // The reply to an event that needs a day.
 fn on_day(day: Option<DayNo>, reply: Reply) -> Reply

@@ -6,8 +6,7 @@ ghost use Rattle.node_turns.specs.Printing.{NodePrints, printer_of};
 ghost use Rattle.bench_views.specs.Host.{host_kind};
 ghost use Rattle.bench.specs.Calls.{IsRangedJob, IsRangedOfHost, host_event};
 
-use crate::host_calls::host_act;
-use bench_base::events::Reply;
+use crate::host_calls::{CloseCall, HostCallee, OrderCall, PrintCall, SendCall, TakeCall};
 use bench_base::numbers::DayNo;
 use bench_base::stream::Sink;
 use bench_base::words::Node as NodeNo;
@@ -18,7 +17,8 @@ use node_seat::Node;
 use node_turns::{Tell, call_printing, cut, start, stop};
 use nv_model::Fuse;
 
-// A call of the host, on that day. A host that is off decides nothing.
+// A call of the host, on that day, and what the printer takes in it.
+#[inline(never)]
 fn host_called<T: Tell, M: Fuse + Drop, P: Sink>(
     place: &mut HostNode<M>,
     day: DayNo,
@@ -30,11 +30,40 @@ fn host_called<T: Tell, M: Fuse + Drop, P: Sink>(
         × NodeTurn ⟦<HostNode<M> as Node>⟧ M.Nv M.Fuse.own host_kind node.Host tt day (host_event (Asked.Call asked.now)) (Asked.Call asked.now) place.old place.new turn
         × NodePrints ⟦<HostNode<M> as Node>⟧ M.Nv host_kind node.Host tt day (Asked.Call asked.now) place.old turn.reply (printer_of P.Sink printer.old) (printer_of P.Sink printer.new) }
 {
-    if !place.is_on() {
-        return T::silent(Reply::OffNode(NodeNo::Host));
+    let callee = HostCallee;
+    match asked {
+        HostCall::Order {
+            device,
+            piece,
+            class,
+            grams: _,
+            zone: _,
+            price,
+        } => {
+            let call = OrderCall {
+                device: *device,
+                piece: *piece,
+                class: *class,
+                price: *price,
+            };
+            call_printing(place, &callee, &call, printer)
+        }
+        HostCall::Send { job, message } => {
+            let call = SendCall {
+                job: *job,
+                message: *message,
+            };
+            call_printing(place, &callee, &call, printer)
+        }
+        HostCall::Print(job) => call_printing(place, &callee, &PrintCall { job: *job }, printer),
+        HostCall::Close(job) => call_printing(place, &callee, &CloseCall { job: *job }, printer),
+        HostCall::Take(bytes) => {
+            let call = TakeCall {
+                bytes: bytes.as_slice(),
+            };
+            call_printing(place, &callee, &call, printer)
+        }
     }
-    let act = host_act(asked, place);
-    call_printing(place, &NodeNo::Host, act, printer)
 }
 
 /// An event of the host, on that day, and what the printer takes in it.

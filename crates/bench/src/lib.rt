@@ -3,8 +3,10 @@
 
 mod benches;
 mod centre_calls;
+mod centre_turns;
 mod comparing;
 mod device_calls;
+mod device_turns;
 mod event;
 mod host_calls;
 mod host_turns;

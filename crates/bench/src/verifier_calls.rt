@@ -1,64 +1,91 @@
 //! The calls of the verifier: what each does by its rows, and what the verifier says of it.
-ghost use Rattle.std.specs.Prelude.{◌≡◌};
+ghost use Rattle.bench_base.specs.declared.words.Node.TheVariants as node;
+ghost use Rattle.bench_base.specs.declared.events.Reply.TheVariants as r;
+ghost use Rattle.bench_base.specs.Ranges.{IsCount, IsDevice, IsKey};
 ghost use Rattle.bench_base.specs.Table.{IsBytes};
+ghost use Rattle.verifier.specs.Acts as acts;
 ghost use Rattle.verifier_node.specs.NodeView.{seen_in};
 ghost use Rattle.bench_views.specs.Verifier as views;
-ghost use Rattle.bench_views.specs.Verifier.{says};
 
 use bench_base::events::Reply;
 use bench_base::numbers::{DayNo, DevNo};
+use bench_base::refusals::ScanRefusal;
+use bench_base::words::{Key, Node as NodeNo};
 use bench_views::VerifierCall;
-use node_acts::{Act, Said};
-use nv_model::Nv;
-use verifier::{Accepted, Change, ScanAct};
+use node_acts::Said;
+use node_turns::{Call, Callee};
+use nv_model::Fuse;
+use verifier::{Accepted, ScanAct};
 use verifier_node::VerifierNode;
 
-/// What the verifier does in a call, with what it says of it.
-pub type VerifierSays = Act<Change, Reply, Said>;
+/// The verifier, where it is called.
+#[derive(Drop)]
+pub struct VerifierCallee;
 
-fn trusted(device: DevNo, act: &ScanAct<()>) -> VerifierSays
-    ensures { result ≡ says (views.done (Reply.Trusted device)) act.now }
-{
-    match act {
-        Act::Refuse(refusal) => Act::Refuse(Reply::ScanRefused(*refusal)),
-        Act::Tell(()) => Act::Tell(Said::of(Reply::Trusted(device))),
-        Act::Commits(commit, change, ()) => {
-            Act::Commits(*commit, *change, Said::of(Reply::Trusted(device)))
-        }
+impl Callee for VerifierCallee {
+    type Refusal = ScanRefusal;
+
+    ghost named = { λ c. node.Verifier };
+
+    ghost refuses = { λ c x. r.ScanRefused x };
+
+    fn name(&self) -> NodeNo {
+        NodeNo::Verifier
+    }
+
+    fn refusal(&self, refusal: ScanRefusal) -> Reply {
+        Reply::ScanRefused(refusal)
     }
 }
 
-fn taken_in(number: u32, piece: &Accepted) -> Said
-    ensures { result ≡ views.accepted number piece.now }
-{
-    Said::of(Reply::Accepted(piece.device, piece.piece, number, piece.again))
+/// Marks of a device are trusted under a key.
+#[derive(Drop)]
+pub struct TrustCall {
+    pub device: DevNo,
+    pub key: Key,
 }
 
-fn accepted(number: u32, act: &ScanAct<Accepted>) -> VerifierSays
-    ensures { result ≡ says (views.accepted number) act.now }
-{
-    match act {
-        Act::Refuse(refusal) => Act::Refuse(Reply::ScanRefused(*refusal)),
-        Act::Tell(piece) => Act::Tell(taken_in(number, piece)),
-        Act::Commits(commit, change, piece) => {
-            Act::Commits(*commit, *change, taken_in(number, piece))
-        }
+impl<M: Fuse + Drop> Call<VerifierNode<M>, ScanRefusal> for TrustCall {
+    type Answer = ();
+
+    ghost IsAsked = { λ c. IsDevice c.device × IsKey c.key };
+
+    ghost does = { λ c k. acts.trust_act c.device c.key (seen_in k) };
+
+    ghost says = { λ c u. views.done (r.Trusted c.device) u };
+
+    fn act(&self, place: &VerifierNode<M>) -> ScanAct<()> {
+        place.trust_act(self.device, &self.key)
+    }
+
+    fn answer(&self, _trusted: &()) -> Said {
+        Said::of(Reply::Trusted(self.device))
     }
 }
 
-/// What the verifier does on that day where it is called for this, by its rows.
-pub fn verifier_act<M: Nv>(
-    call: &VerifierCall,
-    day: DayNo,
-    verifier: &VerifierNode<M>,
-) -> VerifierSays
-    ensures { result ≡ views.verifier_act day call.now (seen_in verifier.now) }
-{
-    match call {
-        VerifierCall::Trust { device, key } => trusted(*device, &verifier.trust_act(*device, key)),
-        VerifierCall::Scan { number, bytes } => {
-            accepted(*number, &verifier.scan_act(*number, bytes.as_slice(), day))
-        }
+/// Bytes are scanned under a number.
+#[derive(Drop)]
+pub struct ScanCall<'a> {
+    pub day: DayNo,
+    pub number: u32,
+    pub bytes: &'a [u8],
+}
+
+impl<'a, M: Fuse + Drop> Call<VerifierNode<M>, ScanRefusal> for ScanCall<'a> {
+    type Answer = Accepted;
+
+    ghost IsAsked = { λ c. IsCount c.number × IsBytes c.bytes.now };
+
+    ghost does = { λ c k. acts.scan_act c.number c.bytes.now c.day (seen_in k) };
+
+    ghost says = { λ c a. views.accepted c.number a };
+
+    fn act(&self, place: &VerifierNode<M>) -> ScanAct<Accepted> {
+        place.scan_act(self.number, self.bytes, self.day)
+    }
+
+    fn answer(&self, piece: &Accepted) -> Said {
+        Said::of(Reply::Accepted(piece.device, piece.piece, self.number, piece.again))
     }
 }
 

@@ -5,18 +5,18 @@ ghost use Rattle.node_turns.specs.NodeTurns.{NodeTurn};
 ghost use Rattle.bench_views.specs.Verifier.{verifier_kind, IsBytesCall, AreBytes};
 ghost use Rattle.bench.specs.Calls.{IsRangedScan, IsRangedOfVerifier, verifier_event};
 
-use crate::verifier_calls::{scans_bytes, verifier_act};
-use bench_base::events::Reply;
+use crate::verifier_calls::{ScanCall, TrustCall, VerifierCallee, scans_bytes};
 use bench_base::numbers::DayNo;
 use bench_base::words::Node as NodeNo;
 use bench_views::VerifierCall;
 use node_acts::Asked;
 use node_seat::Node;
-use node_turns::{Tell, call, cut, start, stop};
+use node_turns::{Tell, call_node, cut, start, stop};
 use nv_model::Fuse;
 use verifier_node::VerifierNode;
 
-// A call of the verifier, on that day. A verifier that is off decides nothing.
+// A call of the verifier, on that day.
+#[inline(never)]
 fn verifier_called<T: Tell, M: Fuse + Drop>(
     place: &mut VerifierNode<M>,
     day: DayNo,
@@ -28,11 +28,24 @@ fn verifier_called<T: Tell, M: Fuse + Drop>(
         × NodeTurn ⟦<VerifierNode<M> as Node>⟧ M.Nv M.Fuse.own verifier_kind node.Verifier tt day (verifier_event (Asked.Call asked.now)) (Asked.Call asked.now) place.old place.new turn }
 {
     scans_bytes(asked);
-    if !place.is_on() {
-        return T::silent(Reply::OffNode(NodeNo::Verifier));
+    let callee = VerifierCallee;
+    match asked {
+        VerifierCall::Trust { device, key } => {
+            let call = TrustCall {
+                device: *device,
+                key: *key,
+            };
+            call_node(place, &callee, &call)
+        }
+        VerifierCall::Scan { number, bytes } => {
+            let call = ScanCall {
+                day,
+                number: *number,
+                bytes: bytes.as_slice(),
+            };
+            call_node(place, &callee, &call)
+        }
     }
-    let act = verifier_act(asked, day, place);
-    call(place, &NodeNo::Verifier, act)
 }
 
 /// An event of the verifier, on that day.

@@ -42,23 +42,23 @@ pub fn stop<K: Node>(node: &mut K) -> bool
 
 /// Does what a call of the node decided on. The record of a node that is on can take what is committed. A node whose
 /// commit fails is switched off.
-pub fn perform<K: Node, F: Copy, A: Copy>(node: &mut K, act: Act<K::Change, F, A>) -> Outcome<F, A>
-    requires fits { K.Node.is_on node.old ≡ true → CanCommit K.Node (K.Node.seen node.old) act }
-    ensures { (by : K.Node.Seen → Act K.Change F A) → by (K.Node.seen node.old) ≡ act
+pub fn perform<K: Node, F: Copy, A: Copy>(node: &mut K, act: &Act<K::Change, F, A>) -> Outcome<F, A>
+    requires fits { K.Node.is_on node.old ≡ true → CanCommit K.Node (K.Node.seen node.old) act.now }
+    ensures { (by : K.Node.Seen → Act K.Change F A) → by (K.Node.seen node.old) ≡ act.now
         → CallDoes K.Node K.Storage.Nv by node.old node.new result }
 {
     if !node.is_on() {
         return Outcome::Off;
     }
     match act {
-        Act::Refuse(refusal) => Outcome::Refused(refusal),
-        Act::Tell(answer) => Outcome::Done(answer),
-        Act::Commits(commit, change, answer) => match node.commit(&change) {
-            Ok(()) => Outcome::Done(answer),
+        Act::Refuse(refusal) => Outcome::Refused(*refusal),
+        Act::Tell(answer) => Outcome::Done(*answer),
+        Act::Commits(commit, change, answer) => match node.commit(change) {
+            Ok(()) => Outcome::Done(*answer),
             Err(StoreFail::Worn) => Outcome::Worn,
             Err(StoreFail::Failed) => unreachable!(),
-            Err(StoreFail::Power) => Outcome::Power(commit),
-            Err(StoreFail::Fault) => Outcome::Fault(commit),
+            Err(StoreFail::Power) => Outcome::Power(*commit),
+            Err(StoreFail::Fault) => Outcome::Fault(*commit),
         },
     }
 }

@@ -5,3 +5,5 @@ pub mod Turns
 pub mod Adds
 pub mod Costs
 pub mod NodeTurns
+-- Private contracts name this.
+pub mod Calling

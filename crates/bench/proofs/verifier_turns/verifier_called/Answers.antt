@@ -1,27 +1,26 @@
-use Rattle.std.proofs.Common.{◌≡◌, ℤ, [], refl, sym, ◌∙◌, subst}
+use Rattle.std.proofs.Common.{◌≡◌, ℕ, ℤ, List, refl, sym, ap, subst}
 use Rattle.bench_base.specs.declared.words.Node.TheVariants.{Verifier}
 use Rattle.bench_base.specs.declared.events.Reply.{Reply}
 use Rattle.bench_base.specs.declared.events.Reply.TheVariants as r
 use Rattle.node_acts.specs.declared.act.Act.{Act}
 use Rattle.node_acts.specs.declared.act.Outcome.{Outcome}
-use Rattle.node_acts.specs.declared.act.Outcome.TheVariants as o
 use Rattle.node_acts.specs.declared.asked.Asked.TheVariants.{Call}
 use Rattle.node_acts.specs.declared.said.Said.{Said}
 use Rattle.node_seat.specs.declared.node.Node.{Ghosts}
 use Rattle.node_seat.specs.Calls.{CallDoes}
-use Rattle.node_seat.specs.Shown.{IsFitting}
-use Rattle.node_seat.proofs.Called.{off_call}
+use Rattle.node_turns.specs.declared.turn.Turn.{Turn}
 use Rattle.node_turns.specs.NodeTurns.{NodeTurn}
-use Rattle.node_turns.specs.Turns.{call_turn, turn_of}
+use Rattle.node_turns.specs.Turns.{call_turn}
 use Rattle.node_turns.proofs.Calls.{turn_call}
+use Rattle.verifier.specs.declared.acts.Accepted.{Accepted}
 use Rattle.verifier.specs.declared.acts.Change.{Change}
-use Rattle.verifier.specs.Seen.{Seen}
-use Rattle.verifier_node.specs.Knows.{rows_sound}
+use Rattle.verifier.specs.Acts.{ScanAct, trust_act, scan_act}
 use Rattle.verifier_node.specs.declared.node.VerifierNode.{VerifierNode}
 use Rattle.verifier_node.specs.declared.room.VerifierRoom.{VerifierRoom}
 use Rattle.verifier_node.specs.contracts.kind.VerifierNodeNode.TheImpl.{ghosts}
 use Rattle.bench_views.specs.declared.taken.VerifierCall.{VerifierCall}
-use Rattle.bench_views.specs.Verifier.{verifier_kind, verifier_act, IsBytesCall}
+use Rattle.bench_views.specs.declared.taken.VerifierCall.TheVariants.{Trust, Scan}
+use Rattle.bench_views.specs.Verifier.{verifier_kind, verifier_act, done, accepted, says, IsBytesCall}
 use Rattle.bench.specs.Calls.{verifier_event, IsRangedScan}
 use Rattle.bench.proofs.VerifierActs as acts
 use Rattle.bench.proofs.verifier_turns.verifier_called.Given.{Over}
@@ -38,28 +37,32 @@ by_call g today call ranged bytes s t x did =
     turn_call (node_of g) g.M.Nv g.M.Fuse verifier_kind Verifier tt today (verifier_event (Call call)) call (λ k. verifier_act today call k) (acts.call_of call) (λ k. acts.call_told today call k)
     (λ v. refl) (λ v. refl) (λ k sound. acts.call_fits (node_of g) k sound.rows k (λ y is. is) today call ranged bytes) s t x did
 
-pub call-requires : goal.call-requires
-call-requires g c =
-    let s = (node_of g).seen c.args.place.now in
-    let acted : c.verifier_act-act.result ≡ verifier_act c.args.day c.args.asked.now s = c.verifier_act-act.ensures in
-    let fitting = acts.call_fits (node_of g) s (rows_sound c.args.place.now) s (λ y is. is) c.args.day c.args.asked.now c.requires.ranged c.scans_bytes.ensures in
-    record { fits = λ on commit x a is. subst (λ act. IsFitting (node_of g) tt s act) (sym acted ∙ is) fitting }
+-- the turn of a call, by what it came to
+abbrev Told : (g : Over) (result : g.row.T.Denot) (today : ℤ) (asked : VerifierCall) (s t : VerifierNode g.row.M.Denot g.M.Nv) → Type 0
+Told g result today asked s t = (turn : Turn) × g.T.Tell.IsOf result turn × NodeTurn (node_of g) g.M.Nv g.M.Fuse verifier_kind Verifier tt today (verifier_event (Call asked)) (Call asked) s t turn
 
-pub returns-then-not-is_on-clause-did : goal.returns-then-not-is_on-clause-did
-returns-then-not-is_on-clause-did g c = (
-  turn_of (r.OffNode Verifier) [],
-  c.silent.ensures,
-  by_call g c.args.day c.args.asked.now c.requires.ranged c.scans_bytes.ensures c.args.place.now c.args.place.now o.Off
-      (off_call (node_of g) g.M.Nv (λ k. verifier_act c.args.day c.args.asked.now k) c.args.place.now (sym c.if-not-is_on.ensures)),
-)
-
-pub returns-clause-did : goal.returns-clause-did
-returns-clause-did g c =
-    let by : Seen → Act Change Reply Said = λ k. verifier_act c.args.day c.args.asked.now k in
-    let acted : by ((node_of g).seen c.args.place.now) ≡ c.verifier_act-act.result = sym {b = by ((node_of g).seen c.args.place.now)} c.verifier_act-act.ensures in
-    let made = c.call.ensures.did by acted in (
-      call_turn Verifier c.verifier_act-act.result made.0,
-      made.2,
-      subst (λ act. NodeTurn (node_of g) g.M.Nv g.M.Fuse verifier_kind Verifier tt c.args.day (verifier_event (Call c.args.asked.now)) (Call c.args.asked.now) c.args.place.now c.call.new.place (call_turn Verifier act made.0)) acted
-          (by_call g c.args.day c.args.asked.now c.requires.ranged c.scans_bytes.ensures c.args.place.now c.call.new.place made.0 made.1),
+-- the call is the one that was asked, and its act the one that is said
+told_by : (g : Over) (result : g.row.T.Denot) (today : ℤ) (asked call : VerifierCall) → asked ≡ call → IsRangedScan asked → IsBytesCall asked → (s t : VerifierNode g.row.M.Denot g.M.Nv) (x : Outcome Reply Said)
+    → CallDoes (node_of g) g.M.Nv (λ k. verifier_act today call k) s t x → (act : Act Change Reply Said) → act ≡ verifier_act today call ((node_of g).seen s)
+    → g.T.Tell.IsOf result (call_turn Verifier act x) → Told g result today asked s t
+told_by g result today asked call is ranged bytes s t x did act said told =
+    subst (λ (c : VerifierCall). Told g result today c s t) (sym is) (
+      call_turn Verifier (verifier_act today call ((node_of g).seen s)) x,
+      subst (λ (a : Act Change Reply Said). g.T.Tell.IsOf result (call_turn Verifier a x)) said told,
+      by_call g today call (subst (λ (c : VerifierCall). IsRangedScan c) is ranged) (subst (λ (c : VerifierCall). IsBytesCall c) is bytes) s t x did,
     )
+
+pub returns-in-Trust-clause-did : goal.returns-in-Trust-clause-did
+returns-in-Trust-clause-did g c =
+    let b = c.in-Trust in
+    let did = c.call_node.ensures.did (λ k. trust_act b.device b.key k) (λ k. done (r.Trusted b.device)) refl refl in
+    told_by g c.call_node.result c.args.day c.args.asked.now (Trust b.device b.key) b.is c.requires.ranged c.scans_bytes.ensures c.args.place.now c.call_node.new.place did.0 did.1 _ refl did.2
+
+pub returns-in-Scan-clause-did : goal.returns-in-Scan-clause-did
+returns-in-Scan-clause-did g c =
+    let b = c.in-Scan in
+    let s = (node_of g).seen c.args.place.now in
+    let act : List ℕ → ScanAct Accepted = λ bytes. scan_act b.number bytes c.args.day s in
+    let did = c.call_node-in-Scan.ensures.did (λ k. scan_act b.number b.bytes c.args.day k) (λ k. accepted b.number) (ap act (sym c.as_slice.ensures)) refl in
+    told_by g c.call_node-in-Scan.result c.args.day c.args.asked.now (Scan b.number b.bytes) b.is c.requires.ranged c.scans_bytes.ensures c.args.place.now c.call_node-in-Scan.new.place did.0 did.1 _
+    (ap (λ bytes. says (accepted b.number) (act bytes)) c.as_slice.ensures) did.2

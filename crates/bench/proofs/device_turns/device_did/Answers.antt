@@ -13,8 +13,8 @@ use Rattle.psd_device.specs.contracts.kind.DeviceNodeNode.TheImpl.{ghosts}
 use Rattle.bench_views.specs.declared.taken.DeviceCall.{DeviceCall}
 use Rattle.bench_views.specs.Devices.{device_kind}
 use Rattle.bench.specs.Calls.{device_event}
-use Rattle.bench.proofs.event.device_did.Given.{Over}
-use Rattle.bench.proofs.event.device_did.Goals as goal
+use Rattle.bench.proofs.device_turns.device_did.Given.{Over}
+use Rattle.bench.proofs.device_turns.device_did.Goals as goal
 
 abbrev node_of : (g : Over) → Ghosts (DeviceNode g.row.M.Denot g.M.Nv) g.row.M.Denot DevNo DevRec (Unit {0})
 node_of g = ghosts g.row.M g.M.Fuse g.M.Fuse-dict g.M.Nv g.M.Nv-dict g.M.Destruct-dict

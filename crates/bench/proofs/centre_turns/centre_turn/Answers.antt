@@ -15,8 +15,8 @@ use Rattle.bench_views.specs.declared.taken.CentreCall.{CentreCall}
 use Rattle.bench_views.specs.Centre.{centre_kind}
 use Rattle.bench_views.specs.Centre.{AreBytes}
 use Rattle.bench.specs.Calls.{centre_event, IsRanged}
-use Rattle.bench.proofs.event.centre_turn.Given.{Over}
-use Rattle.bench.proofs.event.centre_turn.Goals as goal
+use Rattle.bench.proofs.centre_turns.centre_turn.Given.{Over}
+use Rattle.bench.proofs.centre_turns.centre_turn.Goals as goal
 
 abbrev node_of : (g : Over) → Ghosts (CentreNode g.row.M.Denot g.M.Nv) g.row.M.Denot (Unit {0}) Row CentreRoom
 node_of g = ghosts g.row.M g.M.Fuse g.M.Fuse-dict g.M.Nv g.M.Nv-dict g.M.Destruct-dict

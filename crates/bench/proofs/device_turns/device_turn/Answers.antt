@@ -1,6 +1,6 @@
 use Rattle.std.proofs.Common.{◌-◌, ◌<◌, sym, refl, arith}
 use Rattle.std.proofs.lemmas.Option.{slice_get_read}
-use Rattle.bench.proofs.event.device_turn.Goals as goal
+use Rattle.bench.proofs.device_turns.device_turn.Goals as goal
 
 pub returns : goal.returns
 returns g c =

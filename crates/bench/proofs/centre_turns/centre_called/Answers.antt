@@ -1,0 +1,108 @@
+use Rattle.std.proofs.Common.{◌≡◌, ℕ, ℤ, List, refl, sym, ap, subst}
+use Rattle.bench_base.specs.declared.words.Node.TheVariants.{Centre}
+use Rattle.bench_base.specs.declared.events.Reply.{Reply}
+use Rattle.bench_base.specs.declared.events.Reply.TheVariants as r
+use Rattle.node_acts.specs.declared.act.Act.{Act}
+use Rattle.node_acts.specs.declared.act.Outcome.{Outcome}
+use Rattle.node_acts.specs.declared.asked.Asked.TheVariants.{Call}
+use Rattle.node_acts.specs.declared.said.Said.{Said}
+use Rattle.node_seat.specs.declared.node.Node.{Ghosts}
+use Rattle.node_seat.specs.Calls.{CallDoes}
+use Rattle.node_turns.specs.declared.turn.Turn.{Turn}
+use Rattle.node_turns.specs.NodeTurns.{NodeTurn}
+use Rattle.node_turns.specs.Turns.{call_turn}
+use Rattle.node_turns.proofs.Calls.{turn_call}
+use Rattle.centre_ledger.specs.declared.rows.Row.{Row}
+use Rattle.centre_ledger.specs.Acts.{CentreAct, register_act, open_act, deposit_act, flag_act, balance_act, take_act}
+use Rattle.centre_ledger.specs.declared.taking.CentreAnswer.{CentreAnswer}
+use Rattle.centre_ledger.specs.Seen.{books_in}
+use Rattle.centre_protocol.specs.declared.node.CentreNode.{CentreNode}
+use Rattle.centre_protocol.specs.declared.room.CentreRoom.{CentreRoom}
+use Rattle.centre_protocol.specs.contracts.kind.CentreNodeNode.TheImpl.{ghosts}
+use Rattle.bench_views.specs.declared.taken.CentreCall.{CentreCall}
+use Rattle.bench_views.specs.declared.taken.CentreCall.TheVariants.{Register, Open, Deposit, Flag, Balance, Take}
+use Rattle.bench_views.specs.Centre.{centre_kind, centre_act, done, deposited, left, took, says, IsBytesCall}
+use Rattle.bench.specs.Calls.{centre_event, IsRangedCall}
+use Rattle.bench.proofs.CentreActs as acts
+use Rattle.bench.proofs.centre_turns.centre_called.Given.{Over}
+use Rattle.bench.proofs.centre_turns.centre_called.Goals as goal
+
+abbrev node_of : (g : Over) → Ghosts (CentreNode g.row.M.Denot g.M.Nv) g.row.M.Denot (Unit {0}) Row CentreRoom
+node_of g = ghosts g.row.M g.M.Fuse g.M.Fuse-dict g.M.Nv g.M.Nv-dict g.M.Destruct-dict
+
+-- by what the centre did
+by_call : (g : Over) (today : ℤ) (call : CentreCall) → IsRangedCall call → IsBytesCall call → (s t : CentreNode g.row.M.Denot g.M.Nv) (x : Outcome Reply Said) → CallDoes (node_of g) g.M.Nv (λ k. centre_act call (books_in k)) s t x
+    → NodeTurn (node_of g) g.M.Nv g.M.Fuse centre_kind Centre tt today (centre_event (Call call)) (Call call) s t (call_turn Centre (centre_act call (books_in ((node_of g).seen s))) x)
+by_call g today call ranged bytes s t x did =
+    turn_call (node_of g) g.M.Nv g.M.Fuse centre_kind Centre tt today (centre_event (Call call)) call (λ k. centre_act call (books_in k)) (acts.call_of call) (λ k. acts.call_told call (books_in k))
+    (λ v. refl) (λ v. refl) (λ k sound. acts.call_fits (node_of g) (books_in k) sound.books k (λ y is. is) call ranged bytes) s t x did
+
+-- the turn of a call, by what it came to
+abbrev Told : (g : Over) (result : g.row.T.Denot) (today : ℤ) (asked : CentreCall) (s t : CentreNode g.row.M.Denot g.M.Nv) → Type 0
+Told g result today asked s t = (turn : Turn) × g.T.Tell.IsOf result turn × NodeTurn (node_of g) g.M.Nv g.M.Fuse centre_kind Centre tt today (centre_event (Call asked)) (Call asked) s t turn
+
+-- the call is the one that was asked, and its act the one that is said
+told_by : (g : Over) (result : g.row.T.Denot) (today : ℤ) (asked call : CentreCall) → asked ≡ call → IsRangedCall asked → IsBytesCall asked → (s t : CentreNode g.row.M.Denot g.M.Nv) (x : Outcome Reply Said)
+    → CallDoes (node_of g) g.M.Nv (λ k. centre_act call (books_in k)) s t x → (act : Act Row Reply Said) → act ≡ centre_act call (books_in ((node_of g).seen s))
+    → g.T.Tell.IsOf result (call_turn Centre act x) → Told g result today asked s t
+told_by g result today asked call is ranged bytes s t x did act said told =
+    subst (λ (c : CentreCall). Told g result today c s t) (sym is) (
+      call_turn Centre (centre_act call (books_in ((node_of g).seen s))) x,
+      subst (λ (a : Act Row Reply Said). g.T.Tell.IsOf result (call_turn Centre a x)) said told,
+      by_call g today call (subst IsRangedCall is ranged) (subst IsBytesCall is bytes) s t x did,
+    )
+
+pub returns-in-Register : goal.returns-in-Register
+returns-in-Register g c =
+    let b = c.in-Register in
+    let did = c.call_node.ensures.did (λ k. register_act b.device b.origin b.key (books_in k)) (λ k. done (r.Registered b.device)) refl refl in
+    record {
+      bytes = c.hands_bytes.ensures;
+      did = told_by g c.call_node.result c.args.day c.args.asked.now (Register b.device b.origin b.key) b.is c.requires.ranged c.hands_bytes.ensures c.args.place.now c.call_node.new.place did.0 did.1 _ refl did.2;
+    }
+
+pub returns-in-Open : goal.returns-in-Open
+returns-in-Open g c =
+    let b = c.in-Open in
+    let did = c.call_node-in-Open.ensures.did (λ k. open_act b.customer (books_in k)) (λ k. done (r.Opened b.customer)) refl refl in
+    record {
+      bytes = c.hands_bytes.ensures;
+      did = told_by g c.call_node-in-Open.result c.args.day c.args.asked.now (Open b.customer) b.is c.requires.ranged c.hands_bytes.ensures c.args.place.now c.call_node-in-Open.new.place did.0 did.1 _ refl did.2;
+    }
+
+pub returns-in-Deposit : goal.returns-in-Deposit
+returns-in-Deposit g c =
+    let b = c.in-Deposit in
+    let did = c.call_node-in-Deposit.ensures.did (λ k. deposit_act b.customer b.receipt b.amount (books_in k)) (λ k. deposited b.customer b.receipt) refl refl in
+    record {
+      bytes = c.hands_bytes.ensures;
+      did = told_by g c.call_node-in-Deposit.result c.args.day c.args.asked.now (Deposit b.customer b.receipt b.amount) b.is c.requires.ranged c.hands_bytes.ensures c.args.place.now c.call_node-in-Deposit.new.place did.0 did.1 _ refl did.2;
+    }
+
+pub returns-in-Flag : goal.returns-in-Flag
+returns-in-Flag g c =
+    let b = c.in-Flag in
+    let did = c.call_node-in-Flag.ensures.did (λ k. flag_act b.customer b.suspended (books_in k)) (λ k. done (r.Flagged b.customer b.suspended)) refl refl in
+    record {
+      bytes = c.hands_bytes.ensures;
+      did = told_by g c.call_node-in-Flag.result c.args.day c.args.asked.now (Flag b.customer b.suspended) b.is c.requires.ranged c.hands_bytes.ensures c.args.place.now c.call_node-in-Flag.new.place did.0 did.1 _ refl did.2;
+    }
+
+pub returns-in-Balance : goal.returns-in-Balance
+returns-in-Balance g c =
+    let b = c.in-Balance in
+    let did = c.call_node-in-Balance.ensures.did (λ k. balance_act b.customer (books_in k)) (λ k. left b.customer) refl refl in
+    record {
+      bytes = c.hands_bytes.ensures;
+      did = told_by g c.call_node-in-Balance.result c.args.day c.args.asked.now (Balance b.customer) b.is c.requires.ranged c.hands_bytes.ensures c.args.place.now c.call_node-in-Balance.new.place did.0 did.1 _ refl did.2;
+    }
+
+pub returns-in-Take : goal.returns-in-Take
+returns-in-Take g c =
+    let b = c.in-Take in
+    let act : List ℕ → CentreAct CentreAnswer = λ bytes. take_act bytes (books_in ((node_of g).seen c.args.place.now)) in
+    let did = c.call_node-in-Take.ensures.did (λ k. take_act b.bytes (books_in k)) (λ k. took b.message) (ap act (sym c.as_slice.ensures)) refl in
+    record {
+      bytes = c.hands_bytes.ensures;
+      did = told_by g c.call_node-in-Take.result c.args.day c.args.asked.now (Take b.bytes b.message) b.is c.requires.ranged c.hands_bytes.ensures c.args.place.now c.call_node-in-Take.new.place did.0 did.1 _ (ap (λ bytes. says (took b.message) (act bytes)) c.as_slice.ensures) did.2;
+    }

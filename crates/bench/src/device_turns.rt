@@ -1,0 +1,130 @@
+//! An event of a device.
+ghost use Rattle.std.specs.Prelude.{◌≡◌, length};
+ghost use Rattle.bench_base.specs.declared.words.Node.TheVariants as node;
+ghost use Rattle.node_turns.specs.declared.turn.Turn.{Turn};
+ghost use Rattle.node_turns.specs.NodeTurns.{NodeTurn};
+ghost use Rattle.bench_views.specs.Devices.{device_kind};
+ghost use Rattle.bench.specs.Calls.{DeviceTurn, device_event};
+
+use crate::device_calls::{
+    AckCall, AskCall, DebitCall, DeviceCallee, MakeCall, ResendCall, StatusCall, TakeCall,
+    next_number, number_in,
+};
+use bench_base::numbers::{DayNo, DevNo};
+use bench_base::words::Node as NodeNo;
+use bench_views::DeviceCall;
+use node_acts::Asked;
+use node_seat::Node;
+use node_turns::{Tell, call_node, cut, start, stop};
+use nv_model::Fuse;
+use psd_device::DeviceNode;
+
+// A call of the device in this place, on that day.
+#[inline(never)]
+fn device_called<T: Tell, M: Fuse + Drop>(
+    place: &mut DeviceNode<M>,
+    device: DevNo,
+    day: DayNo,
+    asked: &DeviceCall,
+) -> T
+    ensures did { (turn : Turn) × T.IsOf result turn
+        × NodeTurn ⟦<DeviceNode<M> as Node>⟧ M.Nv M.Fuse.own device_kind (node.Device device) device day (device_event device (Asked.Call asked.now)) (Asked.Call asked.now) place.old place.new turn }
+{
+    let callee = DeviceCallee(device);
+    match asked {
+        DeviceCall::Make(key) => call_node(place, &callee, &MakeCall { device, key: *key }),
+        DeviceCall::Debit {
+            piece,
+            postage,
+            class,
+        } => {
+            let call = DebitCall {
+                device,
+                day,
+                piece: *piece,
+                postage: *postage,
+                class: *class,
+            };
+            call_node(place, &callee, &call)
+        }
+        DeviceCall::Ask {
+            kind,
+            customer,
+            amount,
+            message,
+        } => {
+            let call = AskCall {
+                device,
+                day,
+                kind: *kind,
+                customer: *customer,
+                amount: *amount,
+                message: *message,
+                number: next_number(day, place.record()),
+            };
+            call_node(place, &callee, &call)
+        }
+        DeviceCall::Resend { message } => {
+            let call = ResendCall {
+                device,
+                message: *message,
+                number: next_number(day, place.record()),
+            };
+            call_node(place, &callee, &call)
+        }
+        DeviceCall::Ack { message } => {
+            let call = AckCall {
+                device,
+                message: *message,
+                number: number_in(day, place.record()),
+            };
+            call_node(place, &callee, &call)
+        }
+        DeviceCall::Status => call_node(place, &callee, &StatusCall { device, day }),
+        DeviceCall::Take { bytes, message } => {
+            let call = TakeCall {
+                device,
+                day,
+                bytes: bytes.as_slice(),
+                message: *message,
+            };
+            call_node(place, &callee, &call)
+        }
+    }
+}
+
+// An event of the device in this place, on that day.
+fn device_did<T: Tell, M: Fuse + Drop>(
+    place: &mut DeviceNode<M>,
+    device: DevNo,
+    day: DayNo,
+    asked: &Asked<DeviceCall>,
+) -> T
+    ensures did { (turn : Turn) × T.IsOf result turn
+        × NodeTurn ⟦<DeviceNode<M> as Node>⟧ M.Nv M.Fuse.own device_kind (node.Device device) device day (device_event device asked.now) asked.now place.old place.new turn }
+{
+    match asked {
+        Asked::On => start(place, device, &NodeNo::Device(device)),
+        Asked::Off => stop(place, &NodeNo::Device(device)),
+        Asked::Cut(calls, keep, byte) => {
+            cut(place, &NodeNo::Device(device), *calls, *keep, *byte)
+        }
+        Asked::Call(asked) => device_called(place, device, day, asked),
+    }
+}
+
+/// An event of one device, on that day.
+#[inline(never)]
+pub fn device_turn<T: Tell, M: Fuse + Drop>(
+    devices: &mut Vec<DeviceNode<M>>,
+    device: DevNo,
+    day: DayNo,
+    asked: &Asked<DeviceCall>,
+) -> T
+    requires eight { length devices.old.items ≡ 8 }
+    ensures did { (turn : Turn) × T.IsOf result turn
+        × DeviceTurn ⟦<DeviceNode<M> as Node>⟧ M.Nv M.Fuse.own device_kind device day asked.now devices.old.items devices.new.items turn }
+{
+    let place = device.get() as usize - 1;
+    device_did(&mut devices[place], device, day, asked)
+}

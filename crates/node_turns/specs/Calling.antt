@@ -1,0 +1,32 @@
+-- A call on its way to be told: the commit of its act, and what it came to in the words of the call.
+use Rattle.std.specs.Prelude.{[], ◌++◌, Option, Some, None}
+use Rattle.bench_base.specs.declared.ledger.Commit.{Commit}
+use Rattle.bench_base.specs.declared.events.Reply.{Reply}
+use Rattle.node_acts.specs.declared.act.Act.{Act}
+use Rattle.node_acts.specs.declared.act.Act.TheVariants.{Refuse, Tell, Commits}
+use Rattle.node_acts.specs.declared.act.Outcome.{Outcome}
+use Rattle.node_acts.specs.declared.act.Outcome.TheVariants as o
+use Rattle.node_acts.specs.declared.said.Said.{Said}
+use Rattle.node_acts.specs.Plans.{with_commit}
+use Rattle.node_acts.specs.Said.{tells}
+use Rattle.node_turns.specs.declared.turn.Turn.{Turn}
+use Rattle.node_turns.specs.Turns.{turn_of}
+
+-- the commit that an act makes, if it makes one
+abbrev pub commit_in : {X F A : Type 0} → Act X F A → Option Commit
+commit_in (Refuse x) = None
+commit_in (Tell a) = None
+commit_in (Commits c x a) = Some c
+
+-- what a call came to, where its refusals are replied and its answers said so
+abbrev pub said_outcome : {F A : Type 0} → (F → Reply) → (A → Said) → Outcome F A → Outcome Reply Said
+said_outcome refusal say o.Off = o.Off
+said_outcome refusal say (o.Refused x) = o.Refused (refusal x)
+said_outcome refusal say (o.Done a) = o.Done (say a)
+said_outcome refusal say o.Worn = o.Worn
+said_outcome refusal say (o.Power c) = o.Power c
+said_outcome refusal say (o.Fault c) = o.Fault c
+
+-- the turn of a call that was done, which made this commit if it made one
+abbrev pub done_turn : Option Commit → Said → Turn
+done_turn commit said = turn_of said.reply (tells said ++ with_commit commit [])
