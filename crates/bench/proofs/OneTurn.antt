@@ -313,6 +313,11 @@ pub sent_steps : {D C H V S XD XC XH XV RD RC RH RV N : Type 0} (n : Nodes D C H
     → new ≡ sending turn left → Steps n g f h e text turn old (sending turn left) before now → Steps n g f h e text turn old new before now
 sent_steps {D} {C} {H} {V} n g f h e text turn old left new before now is steps = subst (λ (b : Bench D C H V). Steps n g f h e text turn old b before now) (sym is) steps
 
+-- what an event did that is this one
+pub same_steps : {D C H V S XD XC XH XV RD RC RH RV N : Type 0} (n : Nodes D C H V S XD XC XH XV RD RC RH RV) (g : nv.Ghosts S) (f : fuse.Ghosts S) (h : nv.Ghosts N) (e x : Event) (text : List ℕ) (turn : Turn) (old new : Bench D C H V) (before now : Outside)
+    → e ≡ x → Steps n g f h x text turn old new before now → Steps n g f h e text turn old new before now
+same_steps n g f h e x text turn old new before now is steps = subst (λ (y : Event). Steps n g f h y text turn old new before now) (sym is) steps
+
 -- what holds of each value holds of the one that was answered
 pub each_ok : {A E : Type 0} (P Q : A → Type 0) → ((a : A) → P a → Q a) → (x : Result A E) → IfOk x P → IfOk x Q
 each_ok P Q each (Ok a) holds = each a holds

@@ -34,10 +34,10 @@ use Rattle.bench_views.specs.declared.taken.Taken.TheVariants as take
 use Rattle.bench_views.specs.Tariff.{IsOfTexts}
 use Rattle.bench.specs.Benches.{Bench, Nodes, OfState, IsReady, Stands}
 use Rattle.bench.specs.Outside.{Outside, ReadsText, ReadsRates, failed, read, rates_turn, rates_after}
-use Rattle.bench.specs.Steps.{Steps, notes_in, sending}
+use Rattle.bench.specs.Steps.{Steps, notes_in}
 use Rattle.bench.proofs.Answered.{again, no_some}
 use Rattle.bench.proofs.EachKind.{of_all, of_with}
-use Rattle.bench.proofs.Quiet.{QuietOn, SwitchesIs, quiet, as_sent}
+use Rattle.bench.proofs.Quiet.{QuietOn, SwitchesIs, quiet}
 use Rattle.bench.proofs.Unprinted.{IsUnprinted}
 
 -- == what is told of a text ==
@@ -184,8 +184,8 @@ module _ {D C H V S XD XC XH XV RD RC RH RV N : Type 0} (n : Nodes D C H V S XD 
   -- by what is told of it
   by_told : (reply : Reply) (tells : List Entry) → turn ≡ turn_of reply tells → Told text reply tells → ReadsText text turn old.rates kept before.rates now.rates → (is_refusal reply ≡ true → (new ≡ old) × (tells ≡ []))
       → ((τ : Tariff) (L : Ledger) → IsOfTexts τ → History τ editions L → Stands n g old L → g.tells → QuietOn n g f h ev.Rates ev.Rates text reply tells old new before now τ L)
-      → Steps n g f h ev.Rates text (turn_of reply tells) old (sending (turn_of reply tells) new) before now
-  by_told reply tells is so what refused on = as_sent n g f h ev.Rates text (turn_of reply tells) old new before now so.unsent (quiet n g f h ev.Rates ev.Rates text reply tells old new before now (record { devices = refl; centre = refl; host = refl; verifier = refl }) refl ready tt
+      → Steps n g f h ev.Rates text (turn_of reply tells) old new before now
+  by_told reply tells is so what refused on = quiet n g f h ev.Rates ev.Rates text reply tells old new before now (record { devices = refl; centre = refl; host = refl; verifier = refl }) refl ready tt
       (record {
         given = refl;
         power = so.power;
@@ -206,7 +206,7 @@ module _ {D C H V S XD XC XH XV RD RC RH RV N : Type 0} (n : Nodes D C H V S XD 
         prints = so.prints;
       })
       on
-      (λ tells. record { asks = take.Rates; taken_is = refl; does = λ today day. tt; not_read = so.not_read }))
+      (λ tells. record { asks = take.Rates; taken_is = refl; does = λ today day. tt; not_read = so.not_read })
 
   keeps_of : (L : Ledger) → Keeps (rates_in L) old.rates → (x : Result RateTable RatesFail) → answer text ≡ x → Keeps (rates_in ((plan_of text x).after ++ L)) (rates_after old.rates x)
   keeps_of L keeps (Ok x) is = are_rates text x is
@@ -269,8 +269,8 @@ module _ {D C H V S XD XC XH XV RD RC RH RV N : Type 0} (n : Nodes D C H V S XD 
   plan_is τ L of stands = plan_rates τ L text today (sym stands.day.day ∙ day_is) ∙ planned τ of text
 
   read_steps : (x : Result RateTable RatesFail) → answer text ≡ x → turn ≡ turn_of (plan_of text x).reply (plan_of text x).after → kept ≡ rates_after old.rates x → ReadsText text turn old.rates kept before.rates now.rates
-      → Steps n g f h ev.Rates text turn old (sending turn new) before now
-  read_steps x is turn_as kept_is what = subst (λ (t : Turn). Steps n g f h ev.Rates text t old (sending t new) before now) (sym turn_as)
+      → Steps n g f h ev.Rates text turn old new before now
+  read_steps x is turn_as kept_is what = subst (λ (t : Turn). Steps n g f h ev.Rates text t old new before now) (sym turn_as)
       (by_told (plan_of text x).reply (plan_of text x).after turn_as (told_of text x) what (refused_of x kept_is) (λ τ L texts history stands tells.
       let plan_as : plan τ todays_rules L ev.Rates text ≡ plan_of text x = plan_is τ L texts stands ∙ ap (plan_of text) is in
       record {
@@ -281,8 +281,8 @@ module _ {D C H V S XD XC XH XV RD RC RH RV N : Type 0} (n : Nodes D C H V S XD 
         still = λ k. still_of x L k;
       }))
 
-  failed_steps : turn ≡ turn_of r.RatesFault [] → kept ≡ old.rates → ReadsText text turn old.rates kept before.rates now.rates → Steps n g f h ev.Rates text turn old (sending turn new) before now
-  failed_steps turn_as kept_is what = subst (λ (t : Turn). Steps n g f h ev.Rates text t old (sending t new) before now) (sym turn_as)
+  failed_steps : turn ≡ turn_of r.RatesFault [] → kept ≡ old.rates → ReadsText text turn old.rates kept before.rates now.rates → Steps n g f h ev.Rates text turn old new before now
+  failed_steps turn_as kept_is what = subst (λ (t : Turn). Steps n g f h ev.Rates text t old new before now) (sym turn_as)
       (by_told r.RatesFault [] turn_as (told_fault text) what (λ is. absurd (true≢false (sym is))) (λ τ L texts history stands tells. record {
         moves = (tt, inr (inr (inr (record { event = refl; reply_is = refl; dated = ap is_some (sym stands.day.day ∙ day_is) }))));
         silent = ap (λ (p : Plan). p.commit) (plan_is τ L texts stands) ∙ commit_of (answer text);
@@ -291,6 +291,6 @@ module _ {D C H V S XD XC XH XV RD RC RH RV N : Type 0} (n : Nodes D C H V S XD 
         still = λ k. refl;
       }))
 
-  pub steps_rates : ReadsText text turn old.rates kept before.rates now.rates → Steps n g f h ev.Rates text turn old (sending turn new) before now
+  pub steps_rates : ReadsText text turn old.rates kept before.rates now.rates → Steps n g f h ev.Rates text turn old new before now
   steps_rates (failed turn_as kept_is consumes short rose) = failed_steps turn_as kept_is (failed turn_as kept_is consumes short rose)
   steps_rates (read takes turn_as kept_is) = read_steps (answer text) refl (turn_as ∙ turn_is text (answer text)) kept_is (read takes turn_as kept_is)

@@ -29,8 +29,11 @@ pub record Outside : Type 0 where
   pub rates : Feed
   pub printer : Printer
 
+abbrev pub beside : Feed → Printer → Outside
+beside feed printer = record { rates = feed; printer = printer }
+
 abbrev pub outside : {R P : Type 0} → source.Ghosts R → R → sink.Ghosts P → P → Outside
-outside s rates p printer = record { rates = feed_of s rates; printer = printer_of p printer }
+outside s rates p printer = beside (feed_of s rates) (printer_of p printer)
 
 -- == what is read of the rates ==
 

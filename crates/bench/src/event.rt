@@ -1,12 +1,15 @@
 //! One event.
-ghost use Rattle.std.specs.Prelude.{◌≡◌, ◌<◌, ℕ, List, length, IfOk, OnErr};
+ghost use Rattle.std.specs.Prelude.{◌≡◌, ◌≢◌, ◌<◌, ℕ, List, [], ◌∷◌, length, IfOk, OnErr};
+ghost use Rattle.bench_base.specs.declared.events.Event.TheVariants as ev;
 ghost use Rattle.bench_base.specs.Ranges.{IsWholeEvent};
 ghost use Rattle.node_turns.specs.declared.turn.Turn.{Turn};
+ghost use Rattle.node_turns.specs.Printing.{Printer, printer_of};
+ghost use Rattle.node_turns.specs.Turns as turns;
 ghost use Rattle.bench_views.specs.Kinds.{bench_kinds};
 ghost use Rattle.bench.specs.declared.benches.TheConstants.{MOST_MESSAGES};
 ghost use Rattle.bench.specs.Benches.{IsReady, nodes, bench_of, fuse_in};
 ghost use Rattle.bench.specs.Calls.{dated};
-ghost use Rattle.bench.specs.Outside.{WantsMemory, outside};
+ghost use Rattle.bench.specs.Outside.{Feed, WantsMemory, beside, feed_of, outside};
 ghost use Rattle.bench.specs.Steps.{Steps, sending};
 
 use crate::benches::{Bench, BenchOver};
@@ -42,22 +45,54 @@ fn on_day(day: Option<DayNo>, reply: Reply) -> Reply
     }
 }
 
-// What the event does to the nodes, the day and the rates, where the messages are left to be sent. The turns of the nodes stay functions
-// of their own when it is compiled, since a function clears its large values as it begins, whatever the event.
-fn turn_of<T: Tell, M: Fuse + Drop, N: Nv, R: Source, P: Sink>(
+// An event that needs a day, where there is none.
+fn no_day<T: Tell>() -> T
+    ensures { T.IsOf result (turns.turn_of Reply.NoDay []) }
+{
+    T::silent(Reply::NoDay)
+}
+
+// A new day.
+fn begun<T: Tell>(day: DayNo) -> T
+    ensures { T.IsOf result (turns.turn_of (Reply.Day day) (Entry.Day day ∷ [])) }
+{
+    T::one(Reply::Day(day), Entry::Day(day))
+}
+
+// What a `rates` does. It alone may want memory, and it sends nothing.
+fn rates_turn<T: Tell, M: Fuse + Drop, N: Nv, R: Source>(
     alloc: Global,
     bench: &mut BenchOver<M, N>,
-    event: &Event,
     rates: &mut R,
-    printer: &mut P,
 ) -> Result<T, AllocError>
+    requires ready { IsReady (bench_of bench.old) }
+    ensures ready { IsReady (bench_of bench.new) }
+    ensures did { IfOk result (λ told. (text : List ℕ) × (turn : Turn) × T.IsOf told turn
+        × ((printer : Printer) → Steps (nodes ⟦<DeviceNode<M> as Node>⟧ ⟦<CentreNode<M> as Node>⟧ ⟦<HostNode<M> as Node>⟧ ⟦<VerifierNode<M> as Node>⟧ bench_kinds) M.Nv M.Fuse.own N.Nv ev.Rates text turn (bench_of bench.old) (bench_of bench.new) (beside (feed_of R.Source rates.old) printer) (beside (feed_of R.Source rates.new) printer))) }
+    ensures memory { OnErr result ((bench_of bench.new ≡ bench_of bench.old)
+        × ((printer : Printer) → WantsMemory ev.Rates (bench_of bench.old).day (beside (feed_of R.Source rates.old) printer) (beside (feed_of R.Source rates.new) printer))) }
+{
+    match bench.day {
+        None => Ok(no_day()),
+        Some(_) => read_turn(alloc, &mut bench.rates, rates),
+    }
+}
+
+// What every other event does to the nodes and the day, where the messages are left to be sent. What it comes to is handed on as it
+// is, and the turns of the nodes stay functions of their own when it is compiled, since a function clears its large values as it begins,
+// whatever the event.
+fn turn_of<T: Tell, M: Fuse + Drop, N: Nv, P: Sink>(
+    bench: &mut BenchOver<M, N>,
+    event: &Event,
+    printer: &mut P,
+) -> T
     requires whole { IsWholeEvent event.now }
+    requires other { event.now ≢ ev.Rates }
     requires ready { IsReady (bench_of bench.old) }
     requires few { length (bench_of bench.old).messages < MOST_MESSAGES }
     ensures ready { IsReady (bench_of bench.new) }
-    ensures did { IfOk result (λ told. (text : List ℕ) × (turn : Turn) × T.IsOf told turn × ((bench_of bench.new).messages ≡ (bench_of bench.old).messages)
-        × Steps (nodes ⟦<DeviceNode<M> as Node>⟧ ⟦<CentreNode<M> as Node>⟧ ⟦<HostNode<M> as Node>⟧ ⟦<VerifierNode<M> as Node>⟧ bench_kinds) M.Nv M.Fuse.own N.Nv event.now text turn (bench_of bench.old) (sending turn (bench_of bench.new)) (outside R.Source rates.old P.Sink printer.old) (outside R.Source rates.new P.Sink printer.new)) }
-    ensures memory { OnErr result ((bench_of bench.new ≡ bench_of bench.old) × WantsMemory event.now (bench_of bench.old).day (outside R.Source rates.old P.Sink printer.old) (outside R.Source rates.new P.Sink printer.new)) }
+    ensures did { (turn : Turn) × T.IsOf result turn × ((bench_of bench.new).messages ≡ (bench_of bench.old).messages)
+        × ((feed : Feed) → Steps (nodes ⟦<DeviceNode<M> as Node>⟧ ⟦<CentreNode<M> as Node>⟧ ⟦<HostNode<M> as Node>⟧ ⟦<VerifierNode<M> as Node>⟧ bench_kinds) M.Nv M.Fuse.own N.Nv event.now [] turn (bench_of bench.old) (sending turn (bench_of bench.new)) (beside feed (printer_of P.Sink printer.old)) (beside feed (printer_of P.Sink printer.new))) }
 {
     // What the bench sees of its nodes follows from the ledger.
     nodes_follow();
@@ -72,33 +107,30 @@ fn turn_of<T: Tell, M: Fuse + Drop, N: Nv, R: Source, P: Sink>(
     match taken {
         Taken::Day(day) => {
             bench.day = Some(*day);
-            Ok(T::one(Reply::Day(*day), Entry::Day(*day)))
+            begun(*day)
         }
-        Taken::End => Ok(T::silent(Reply::End)),
-        Taken::NoMessage(number) => Ok(T::silent(on_day(today, Reply::NoMessage(*number)))),
-        Taken::Reconcile(device) => Ok(T::silent(on_day(
+        Taken::End => T::silent(Reply::End),
+        Taken::Rates => unreachable!(),
+        Taken::NoMessage(number) => T::silent(on_day(today, Reply::NoMessage(*number))),
+        Taken::Reconcile(device) => T::silent(on_day(
             today,
             compare(*device, &bench.devices, &bench.centre),
-        ))),
-        Taken::Rates => match today {
-            None => Ok(T::silent(Reply::NoDay)),
-            Some(_) => read_turn(alloc, &mut bench.rates, rates),
-        },
+        )),
         Taken::Device(device, asked) => match today {
-            None => Ok(T::silent(Reply::NoDay)),
-            Some(day) => Ok(device_turn(&mut bench.devices, *device, day, asked)),
+            None => no_day(),
+            Some(day) => device_turn(&mut bench.devices, *device, day, asked),
         },
         Taken::Centre(asked) => match today {
-            None => Ok(T::silent(Reply::NoDay)),
-            Some(day) => Ok(centre_turn(&mut bench.centre, day, asked)),
+            None => no_day(),
+            Some(day) => centre_turn(&mut bench.centre, day, asked),
         },
         Taken::Host(asked) => match today {
-            None => Ok(T::silent(Reply::NoDay)),
-            Some(day) => Ok(host_turn(&mut bench.host, day, asked, printer)),
+            None => no_day(),
+            Some(day) => host_turn(&mut bench.host, day, asked, printer),
         },
         Taken::Verifier(asked) => match today {
-            None => Ok(T::silent(Reply::NoDay)),
-            Some(day) => Ok(verifier_turn(&mut bench.verifier, day, asked)),
+            None => no_day(),
+            Some(day) => verifier_turn(&mut bench.verifier, day, asked),
         },
     }
 }
@@ -119,7 +151,10 @@ pub fn react<T: Tell, M: Fuse + Drop, N: Nv, R: Source, P: Sink>(
         × Steps (nodes ⟦<DeviceNode<M> as Node>⟧ ⟦<CentreNode<M> as Node>⟧ ⟦<HostNode<M> as Node>⟧ ⟦<VerifierNode<M> as Node>⟧ bench_kinds) M.Nv M.Fuse.own N.Nv event.now text turn (bench_of bench.old) (bench_of bench.new) (outside R.Source rates.old P.Sink printer.old) (outside R.Source rates.new P.Sink printer.new)) }
     ensures memory { OnErr result ((bench_of bench.new ≡ bench_of bench.old) × WantsMemory event.now (bench_of bench.old).day (outside R.Source rates.old P.Sink printer.old) (outside R.Source rates.new P.Sink printer.new)) }
 {
-    let Sending { told, sent } = turn_of(alloc, bench, event, rates, printer)?;
+    if let Event::Rates = event {
+        return rates_turn(alloc, bench, rates);
+    }
+    let Sending { told, sent } = turn_of(bench, event, printer);
     bench.send(sent);
     Ok(told)
 }

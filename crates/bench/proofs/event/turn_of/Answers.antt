@@ -11,6 +11,7 @@ use Rattle.bench_base.specs.Events.{needs_day}
 use Rattle.bench_base.specs.Replies.{on_after}
 use Rattle.bench_base.specs.Ranges.{IsWholeEvent}
 use Rattle.node_turns.specs.declared.turn.Turn.{Turn}
+use Rattle.node_turns.specs.Printing.{printer_of}
 use Rattle.node_turns.specs.Turns.{turn_of}
 use Rattle.psd_state.specs.State.{State, Holds}
 use Rattle.psd_state.specs.declared.record.DevRec.{DevRec}
@@ -43,7 +44,7 @@ use Rattle.bench_views.specs.Taken.{taken, as_given, IsPriced}
 use Rattle.bench.specs.Benches.{Bench, Nodes, IsReady, nodes, bench_of, devices, centre as centre_of, host as host_of, verifier as verifier_of}
 use Rattle.bench.specs.Calls.{dated, device_event, centre_event, host_event, verifier_event}
 use Rattle.bench.specs.Comparing.{ShowsAt, running_device, running_centre}
-use Rattle.bench.specs.Outside.{Outside, outside}
+use Rattle.bench.specs.Outside.{Outside, beside}
 use Rattle.bench.specs.Steps.{Steps, ComparesViews, sending}
 use Rattle.bench.proofs.Answered.{Answers, quiet_is, steps_day, steps_end, steps_none, steps_missing, steps_compared}
 use Rattle.bench.proofs.AskedNodes.{device_asked, centre_asked, host_asked, verifier_asked}
@@ -51,9 +52,7 @@ use Rattle.bench.proofs.Compares.{compare_answers, compare_off, compare_leaves, 
 use Rattle.bench.proofs.Events.{IsOfNode, given_alike, of_device, of_centre, of_host, of_verifier, device_given, centre_given, host_given, verifier_given, centre_ranged, host_ranged, verifier_ranged}
 use Rattle.bench.proofs.Making.{get_some}
 use Rattle.bench.proofs.NodeEvents.{steps}
-use Rattle.bench.proofs.OneTurn.{each_ok}
 use Rattle.bench.proofs.Quiet.{as_sent}
-use Rattle.bench.proofs.RatesTurns.{steps_rates}
 use Rattle.bench.proofs.event.turn_of.Given.{Over}
 use Rattle.bench.proofs.event.turn_of.Goals as goal
 
@@ -93,16 +92,15 @@ taken_as pool given q e o x y same is some named = ap (λ (l : List (List ℕ)).
 pub returns-in-Day-clause-did : goal.returns-in-Day-clause-did
 returns-in-Day-clause-did g c =
     let old = bench_of c.args.bench.now in
-    let out = outside g.R.Source c.args.rates.now g.P.Sink c.args.printer.now in
     let t = c.in-Day.day in
     let turn = turn_of (r.Day t) (entry.Day t ∷ []) in
     let is = taken_as old.messages c.deref.result.now (quote old.rates) c.args.event.now c.take-found.result c.in-Some.taken (take.Day t) c.deref.ensures.value c.take-found.ensures.exact c.in-Some.is c.in-Day.is in
     let e_is : c.args.event.now ≡ ev.Day t = quiet_is old.messages (quote old.rates) c.args.event.now (take.Day t) is tt in (
-      [],
       turn,
-      c.one.ensures,
+      c.begun.ensures,
       refl,
-      as_sent (nodes_in g) g.M.Nv g.M.Fuse g.N.Nv c.args.event.now [] turn old (record old { day = Some t }) out out refl
+      λ feed. let out = beside feed (printer_of g.P.Sink c.args.printer.now) in
+          as_sent (nodes_in g) g.M.Nv g.M.Fuse g.N.Nv c.args.event.now [] turn old (record old { day = Some t }) out out refl
           (subst (λ (e : Event). Stepped g e turn old (record old { day = Some t }) out) (sym e_is)
           (steps_day (nodes_in g) g.M.Nv g.M.Fuse g.N.Nv old c.requires.ready out t (subst IsWholeEvent e_is c.requires.whole))),
     )
@@ -110,14 +108,13 @@ returns-in-Day-clause-did g c =
 pub returns-in-End-clause-did : goal.returns-in-End-clause-did
 returns-in-End-clause-did g c =
     let old = bench_of c.args.bench.now in
-    let out = outside g.R.Source c.args.rates.now g.P.Sink c.args.printer.now in
     let is = taken_as old.messages c.deref.result.now (quote old.rates) c.args.event.now c.take-found.result c.in-Some.taken take.End c.deref.ensures.value c.take-found.ensures.exact c.in-Some.is c.in-End.is in
     let e_is : c.args.event.now ≡ ev.End = quiet_is old.messages (quote old.rates) c.args.event.now take.End is tt in (
-      [],
       turn_of r.End [],
       c.silent.ensures,
       refl,
-      as_sent (nodes_in g) g.M.Nv g.M.Fuse g.N.Nv c.args.event.now [] (turn_of r.End []) old old out out refl
+      λ feed. let out = beside feed (printer_of g.P.Sink c.args.printer.now) in
+          as_sent (nodes_in g) g.M.Nv g.M.Fuse g.N.Nv c.args.event.now [] (turn_of r.End []) old old out out refl
           (subst (λ (e : Event). Stepped g e (turn_of r.End []) old old out) (sym e_is) (steps_end (nodes_in g) g.M.Nv g.M.Fuse g.N.Nv old c.requires.ready out (subst IsWholeEvent e_is c.requires.whole))),
     )
 
@@ -132,14 +129,13 @@ dated_as g e told reply old out is steps =
 pub returns-in-NoMessage-clause-did : goal.returns-in-NoMessage-clause-did
 returns-in-NoMessage-clause-did g c =
     let old = bench_of c.args.bench.now in
-    let out = outside g.R.Source c.args.rates.now g.P.Sink c.args.printer.now in
     let k = c.in-NoMessage.number in
     let is = taken_as old.messages c.deref.result.now (quote old.rates) c.args.event.now c.take-found.result c.in-Some.taken (take.NoMessage k) c.deref.ensures.value c.take-found.ensures.exact c.in-Some.is c.in-NoMessage.is in (
-      [],
       turn_of c.on_day.result [],
       c.silent-in-NoMessage.ensures,
       refl,
-      dated_as g c.args.event.now c.on_day.result (r.NoMessage k) old out c.on_day.ensures
+      λ feed. let out = beside feed (printer_of g.P.Sink c.args.printer.now) in
+          dated_as g c.args.event.now c.on_day.result (r.NoMessage k) old out c.on_day.ensures
           (steps_missing (nodes_in g) g.M.Nv g.M.Fuse g.N.Nv old c.requires.ready out centres.IsKnown (known_centre g) c.nodes_follow.ensures.quiet c.prices_by_text.ensures.kept c.args.event.now c.requires.whole k is),
     )
 
@@ -152,7 +148,6 @@ compares g d reply old shows i s next is v w device centre tells =
 pub returns-in-Reconcile-clause-did : goal.returns-in-Reconcile-clause-did
 returns-in-Reconcile-clause-did g c =
     let old = bench_of c.args.bench.now in
-    let out = outside g.R.Source c.args.rates.now g.P.Sink c.args.printer.now in
     let d = c.in-Reconcile.device in
     let is = taken_as old.messages c.deref.result.now (quote old.rates) c.args.event.now c.take-found.result c.in-Some.taken (take.Reconcile d) c.deref.ensures.value c.take-found.ensures.exact c.in-Some.is c.in-Reconcile.is in
     let shows : ShowsAt d old.devices old.centre c.compare.result =
@@ -161,11 +156,11 @@ returns-in-Reconcile-clause-did g c =
     let own = subst IsWholeEvent e_is c.requires.whole in
     let s = get_some old.devices (d - 1) (omega (arith, own.0, own.1, c.requires.ready.eight)) in
     let one : c.compare.result ≡ compare d (running_device s.0) (running_centre old.centre) = shows (d - 1) s.0 (omega (arith, own.0)) s.1 in (
-      [],
       turn_of c.on_day-in-Reconcile.result [],
       c.silent-in-Reconcile.ensures,
       refl,
-      dated_as g c.args.event.now c.on_day-in-Reconcile.result c.compare.result old out c.on_day-in-Reconcile.ensures
+      λ feed. let out = beside feed (printer_of g.P.Sink c.args.printer.now) in
+          dated_as g c.args.event.now c.on_day-in-Reconcile.result c.compare.result old out c.on_day-in-Reconcile.ensures
           (steps_compared (nodes_in g) g.M.Nv g.M.Fuse g.N.Nv old c.requires.ready out centres.IsKnown (known_centre g) c.nodes_follow.ensures.quiet c.prices_by_text.ensures.kept c.args.event.now c.requires.whole d
           c.compare.result is
           (subst (λ (x : Reply). Answers (ev.Reconcile d) x) (sym one) (compare_answers d (running_device s.0) (running_centre old.centre)))
@@ -186,92 +181,74 @@ none_told g e x old out ready whole needs is none = as_sent (nodes_in g) g.M.Nv 
 
 pub returns-in-None-clause-did : goal.returns-in-None-clause-did
 returns-in-None-clause-did g c =
+    let b = c.in-Device in
     let old = bench_of c.args.bench.now in
-    let out = outside g.R.Source c.args.rates.now g.P.Sink c.args.printer.now in
-    let is = taken_as old.messages c.deref.result.now (quote old.rates) c.args.event.now c.take-found.result c.in-Some.taken take.Rates c.deref.ensures.value c.take-found.ensures.exact c.in-Some.is c.in-Rates.is in
-    let e_is : c.args.event.now ≡ ev.Rates = quiet_is old.messages (quote old.rates) c.args.event.now take.Rates is tt in (
-      [],
+    let is = taken_as old.messages c.deref.result.now (quote old.rates) c.args.event.now c.take-found.result c.in-Some.taken (take.Device b.device b.asked) c.deref.ensures.value c.take-found.ensures.exact c.in-Some.is b.is in (
       turn_of r.NoDay [],
-      c.silent-in-None.ensures,
+      c.no_day.ensures,
       refl,
-      none_told g c.args.event.now take.Rates old out c.requires.ready c.requires.whole (ap needs_day e_is) is c.in-None.is,
+      λ feed. let out = beside feed (printer_of g.P.Sink c.args.printer.now) in
+          none_told g c.args.event.now (take.Device b.device b.asked) old out c.requires.ready c.requires.whole
+          (needs old.messages c.args.event.now (device_event b.device b.asked) (Device b.device) (device_given old.messages (quote old.rates) c.args.event.now b.device b.asked is) (of_device b.device b.asked)) is
+          c.in-None.is,
     )
 
 pub returns-in-None-today-clause-did : goal.returns-in-None-today-clause-did
 returns-in-None-today-clause-did g c =
-    let b = c.in-Device in
+    let b = c.in-Centre in
     let old = bench_of c.args.bench.now in
-    let out = outside g.R.Source c.args.rates.now g.P.Sink c.args.printer.now in
-    let is = taken_as old.messages c.deref.result.now (quote old.rates) c.args.event.now c.take-found.result c.in-Some.taken (take.Device b.device b.asked) c.deref.ensures.value c.take-found.ensures.exact c.in-Some.is b.is in (
-      [],
+    let is = taken_as old.messages c.deref.result.now (quote old.rates) c.args.event.now c.take-found.result c.in-Some.taken (take.Centre b.asked) c.deref.ensures.value c.take-found.ensures.exact c.in-Some.is b.is in (
       turn_of r.NoDay [],
-      c.silent-in-None-today.ensures,
+      c.no_day-in-None-today.ensures,
       refl,
-      none_told g c.args.event.now (take.Device b.device b.asked) old out c.requires.ready c.requires.whole
-          (needs old.messages c.args.event.now (device_event b.device b.asked) (Device b.device) (device_given old.messages (quote old.rates) c.args.event.now b.device b.asked is) (of_device b.device b.asked)) is
-          c.in-None-today.is,
+      λ feed. let out = beside feed (printer_of g.P.Sink c.args.printer.now) in
+          none_told g c.args.event.now (take.Centre b.asked) old out c.requires.ready c.requires.whole
+          (needs old.messages c.args.event.now (centre_event b.asked) Centre (centre_given old.messages (quote old.rates) c.args.event.now b.asked is) (of_centre b.asked)) is c.in-None-today.is,
     )
 
 pub returns-in-None-today-2-clause-did : goal.returns-in-None-today-2-clause-did
 returns-in-None-today-2-clause-did g c =
-    let b = c.in-Centre in
+    let b = c.in-Host in
     let old = bench_of c.args.bench.now in
-    let out = outside g.R.Source c.args.rates.now g.P.Sink c.args.printer.now in
-    let is = taken_as old.messages c.deref.result.now (quote old.rates) c.args.event.now c.take-found.result c.in-Some.taken (take.Centre b.asked) c.deref.ensures.value c.take-found.ensures.exact c.in-Some.is b.is in (
-      [],
+    let is = taken_as old.messages c.deref.result.now (quote old.rates) c.args.event.now c.take-found.result c.in-Some.taken (take.Host b.asked) c.deref.ensures.value c.take-found.ensures.exact c.in-Some.is b.is in (
       turn_of r.NoDay [],
-      c.silent-in-None-today-2.ensures,
+      c.no_day-in-None-today-2.ensures,
       refl,
-      none_told g c.args.event.now (take.Centre b.asked) old out c.requires.ready c.requires.whole
-          (needs old.messages c.args.event.now (centre_event b.asked) Centre (centre_given old.messages (quote old.rates) c.args.event.now b.asked is) (of_centre b.asked)) is c.in-None-today-2.is,
+      λ feed. let out = beside feed (printer_of g.P.Sink c.args.printer.now) in
+          none_told g c.args.event.now (take.Host b.asked) old out c.requires.ready c.requires.whole
+          (needs old.messages c.args.event.now (host_event b.asked) Host (host_given old.messages (quote old.rates) c.args.event.now b.asked is) (of_host b.asked)) is c.in-None-today-2.is,
     )
 
 pub returns-in-None-today-3-clause-did : goal.returns-in-None-today-3-clause-did
 returns-in-None-today-3-clause-did g c =
-    let b = c.in-Host in
-    let old = bench_of c.args.bench.now in
-    let out = outside g.R.Source c.args.rates.now g.P.Sink c.args.printer.now in
-    let is = taken_as old.messages c.deref.result.now (quote old.rates) c.args.event.now c.take-found.result c.in-Some.taken (take.Host b.asked) c.deref.ensures.value c.take-found.ensures.exact c.in-Some.is b.is in (
-      [],
-      turn_of r.NoDay [],
-      c.silent-in-None-today-3.ensures,
-      refl,
-      none_told g c.args.event.now (take.Host b.asked) old out c.requires.ready c.requires.whole
-          (needs old.messages c.args.event.now (host_event b.asked) Host (host_given old.messages (quote old.rates) c.args.event.now b.asked is) (of_host b.asked)) is c.in-None-today-3.is,
-    )
-
-pub returns-in-None-today-4-clause-did : goal.returns-in-None-today-4-clause-did
-returns-in-None-today-4-clause-did g c =
     let b = c.in-Verifier in
     let old = bench_of c.args.bench.now in
-    let out = outside g.R.Source c.args.rates.now g.P.Sink c.args.printer.now in
     let is = taken_as old.messages c.deref.result.now (quote old.rates) c.args.event.now c.take-found.result c.in-Some.taken (take.Verifier b.asked) c.deref.ensures.value c.take-found.ensures.exact c.in-Some.is b.is in (
-      [],
       turn_of r.NoDay [],
-      c.silent-in-None-today-4.ensures,
+      c.no_day-in-None-today-3.ensures,
       refl,
-      none_told g c.args.event.now (take.Verifier b.asked) old out c.requires.ready c.requires.whole
-          (needs old.messages c.args.event.now (verifier_event b.asked) Verifier (verifier_given old.messages (quote old.rates) c.args.event.now b.asked is) (of_verifier b.asked)) is c.in-None-today-4.is,
+      λ feed. let out = beside feed (printer_of g.P.Sink c.args.printer.now) in
+          none_told g c.args.event.now (take.Verifier b.asked) old out c.requires.ready c.requires.whole
+          (needs old.messages c.args.event.now (verifier_event b.asked) Verifier (verifier_given old.messages (quote old.rates) c.args.event.now b.asked is) (of_verifier b.asked)) is c.in-None-today-3.is,
     )
 
 -- == on a day ==
 
-pub returns-in-Some-today-2-clause-did : goal.returns-in-Some-today-2-clause-did
-returns-in-Some-today-2-clause-did g c =
+pub returns-in-Some-today-clause-did : goal.returns-in-Some-today-clause-did
+returns-in-Some-today-clause-did g c =
     let b = c.in-Device in
     let e = c.args.event.now in
     let old = bench_of c.args.bench.now in
-    let out = outside g.R.Source c.args.rates.now g.P.Sink c.args.printer.now in
     let did = c.device_turn.ensures.did in
-    let today = c.in-Some-today-2.day in
+    let today = c.in-Some-today.day in
     let is = taken_as old.messages c.deref.result.now (quote old.rates) e c.take-found.result c.in-Some.taken (take.Device b.device b.asked) c.deref.ensures.value c.take-found.ensures.exact c.in-Some.is b.is in
     let new = sending did.0 (record old { devices = c.device_turn.new.devices.items }) in (
-      [],
       did.0,
       did.1,
       refl,
-      steps (nodes_in g) g.M.Nv g.M.Fuse e (device_event b.device b.asked) today old new did.0 out out (Device b.device) (devices (nodes_in g)) b.device b.asked did.2.before did.2.now (take.Device b.device)
-          (device_asked (nodes_in g) g.M.Nv g.M.Fuse e today old new did.0 out out c.in-Some-today-2.is refl refl refl refl b.device b.asked did.2 refl refl refl refl is) g.N.Nv
+      λ feed. let out = beside feed (printer_of g.P.Sink c.args.printer.now) in
+          steps (nodes_in g) g.M.Nv g.M.Fuse e (device_event b.device b.asked) today old new did.0 out out (Device b.device) (devices (nodes_in g)) b.device b.asked did.2.before did.2.now (take.Device b.device)
+          (device_asked (nodes_in g) g.M.Nv g.M.Fuse e today old new did.0 out out c.in-Some-today.is refl refl refl refl b.device b.asked did.2 refl refl refl refl is) g.N.Nv
           c.requires.whole c.requires.ready c.prices_by_text.ensures.kept (λ asked. Unit {0}) tt device_kinds.IsKnown (known_device g b.device) (c.nodes_follow.ensures.devices b.device),
     )
 
@@ -282,22 +259,21 @@ centre_turn-requires g c =
     let is = taken_as old.messages c.deref.result.now (quote old.rates) c.args.event.now c.take-found.result c.in-Some.taken (take.Centre b.asked) c.deref.ensures.value c.take-found.ensures.exact c.in-Some.is b.is in
     record { ranged = centre_ranged old.messages (quote old.rates) c.args.event.now b.asked is c.requires.whole }
 
-pub returns-in-Some-today-3-clause-did : goal.returns-in-Some-today-3-clause-did
-returns-in-Some-today-3-clause-did g c =
+pub returns-in-Some-today-2-clause-did : goal.returns-in-Some-today-2-clause-did
+returns-in-Some-today-2-clause-did g c =
     let b = c.in-Centre in
     let e = c.args.event.now in
     let old = bench_of c.args.bench.now in
-    let out = outside g.R.Source c.args.rates.now g.P.Sink c.args.printer.now in
     let did = c.centre_turn.ensures.did in
-    let today = c.in-Some-today-3.day in
+    let today = c.in-Some-today-2.day in
     let is = taken_as old.messages c.deref.result.now (quote old.rates) e c.take-found.result c.in-Some.taken (take.Centre b.asked) c.deref.ensures.value c.take-found.ensures.exact c.in-Some.is b.is in
     let new = sending did.0 (record old { centre = c.centre_turn.new.place }) in (
-      [],
       did.0,
       did.1,
       refl,
-      steps (nodes_in g) g.M.Nv g.M.Fuse e (centre_event b.asked) today old new did.0 out out Centre (centre_of (nodes_in g)) tt b.asked old.centre new.centre take.Centre
-          (centre_asked (nodes_in g) g.M.Nv g.M.Fuse e today old new did.0 out out c.in-Some-today-3.is refl refl refl refl b.asked did.2 refl refl refl refl is) g.N.Nv
+      λ feed. let out = beside feed (printer_of g.P.Sink c.args.printer.now) in
+          steps (nodes_in g) g.M.Nv g.M.Fuse e (centre_event b.asked) today old new did.0 out out Centre (centre_of (nodes_in g)) tt b.asked old.centre new.centre take.Centre
+          (centre_asked (nodes_in g) g.M.Nv g.M.Fuse e today old new did.0 out out c.in-Some-today-2.is refl refl refl refl b.asked did.2 refl refl refl refl is) g.N.Nv
           c.requires.whole c.requires.ready c.prices_by_text.ensures.kept centres.AreBytes c.centre_turn.ensures.bytes centres.IsKnown (known_centre g) c.nodes_follow.ensures.centre,
     )
 
@@ -309,23 +285,22 @@ host_turn-requires g c =
     let priced = subst (λ (o : Option Taken). IfSome o IsPriced) (c.in-Some.is ∙ ap (λ x. Some x) b.is) c.take-found.ensures.priced in
     record { ranged = host_ranged old.messages (quote old.rates) c.args.event.now b.asked is c.requires.whole priced }
 
-pub returns-in-Some-today-4-clause-did : goal.returns-in-Some-today-4-clause-did
-returns-in-Some-today-4-clause-did g c =
+pub returns-in-Some-today-3-clause-did : goal.returns-in-Some-today-3-clause-did
+returns-in-Some-today-3-clause-did g c =
     let b = c.in-Host in
     let e = c.args.event.now in
     let old = bench_of c.args.bench.now in
-    let before = outside g.R.Source c.args.rates.now g.P.Sink c.args.printer.now in
-    let now = outside g.R.Source c.args.rates.now g.P.Sink c.host_turn.new.printer in
     let did = c.host_turn.ensures.did in
-    let today = c.in-Some-today-4.day in
+    let today = c.in-Some-today-3.day in
     let is = taken_as old.messages c.deref.result.now (quote old.rates) e c.take-found.result c.in-Some.taken (take.Host b.asked) c.deref.ensures.value c.take-found.ensures.exact c.in-Some.is b.is in
     let new = sending did.0 (record old { host = c.host_turn.new.place }) in (
-      [],
       did.0,
       did.1,
       refl,
-      steps (nodes_in g) g.M.Nv g.M.Fuse e (host_event b.asked) today old new did.0 before now Host (host_of (nodes_in g)) tt b.asked old.host new.host take.Host
-          (host_asked (nodes_in g) g.M.Nv g.M.Fuse e today old new did.0 before now c.in-Some-today-4.is refl refl refl refl b.asked did.2 did.3 refl refl refl is) g.N.Nv
+      λ feed. let before = beside feed (printer_of g.P.Sink c.args.printer.now) in
+          let now = beside feed (printer_of g.P.Sink c.host_turn.new.printer) in
+          steps (nodes_in g) g.M.Nv g.M.Fuse e (host_event b.asked) today old new did.0 before now Host (host_of (nodes_in g)) tt b.asked old.host new.host take.Host
+          (host_asked (nodes_in g) g.M.Nv g.M.Fuse e today old new did.0 before now c.in-Some-today-3.is refl refl refl refl b.asked did.2 did.3 refl refl refl is) g.N.Nv
           c.requires.whole c.requires.ready c.prices_by_text.ensures.kept (λ asked. Unit {0}) tt hosts.IsKnown (known_host g) c.host_follows.ensures,
     )
 
@@ -336,41 +311,20 @@ verifier_turn-requires g c =
     let is = taken_as old.messages c.deref.result.now (quote old.rates) c.args.event.now c.take-found.result c.in-Some.taken (take.Verifier b.asked) c.deref.ensures.value c.take-found.ensures.exact c.in-Some.is b.is in
     record { ranged = verifier_ranged old.messages (quote old.rates) c.args.event.now b.asked is c.requires.whole }
 
-pub returns-in-Some-today-5-clause-did : goal.returns-in-Some-today-5-clause-did
-returns-in-Some-today-5-clause-did g c =
+pub returns-in-Some-today-4-clause-did : goal.returns-in-Some-today-4-clause-did
+returns-in-Some-today-4-clause-did g c =
     let b = c.in-Verifier in
     let e = c.args.event.now in
     let old = bench_of c.args.bench.now in
-    let out = outside g.R.Source c.args.rates.now g.P.Sink c.args.printer.now in
     let did = c.verifier_turn.ensures.did in
-    let today = c.in-Some-today-5.day in
+    let today = c.in-Some-today-4.day in
     let is = taken_as old.messages c.deref.result.now (quote old.rates) e c.take-found.result c.in-Some.taken (take.Verifier b.asked) c.deref.ensures.value c.take-found.ensures.exact c.in-Some.is b.is in
     let new = sending did.0 (record old { verifier = c.verifier_turn.new.place }) in (
-      [],
       did.0,
       did.1,
       refl,
-      steps (nodes_in g) g.M.Nv g.M.Fuse e (verifier_event b.asked) today old new did.0 out out Verifier (verifier_of (nodes_in g)) tt b.asked old.verifier new.verifier take.Verifier
-          (verifier_asked (nodes_in g) g.M.Nv g.M.Fuse e today old new did.0 out out c.in-Some-today-5.is refl refl refl refl b.asked did.2 refl refl refl refl is) g.N.Nv
+      λ feed. let out = beside feed (printer_of g.P.Sink c.args.printer.now) in
+          steps (nodes_in g) g.M.Nv g.M.Fuse e (verifier_event b.asked) today old new did.0 out out Verifier (verifier_of (nodes_in g)) tt b.asked old.verifier new.verifier take.Verifier
+          (verifier_asked (nodes_in g) g.M.Nv g.M.Fuse e today old new did.0 out out c.in-Some-today-4.is refl refl refl refl b.asked did.2 refl refl refl refl is) g.N.Nv
           c.requires.whole c.requires.ready c.prices_by_text.ensures.kept verifiers.AreBytes c.verifier_turn.ensures.bytes verifiers.IsKnown (known_verifier g) c.verifier_follows.ensures,
     )
-
--- == rates ==
-
-pub returns-in-Some-today-clause-did : goal.returns-in-Some-today-clause-did
-returns-in-Some-today-clause-did g c =
-    let e = c.args.event.now in
-    let old = bench_of c.args.bench.now in
-    let before = outside g.R.Source c.args.rates.now g.P.Sink c.args.printer.now in
-    let now = outside g.R.Source c.read_turn.new.source g.P.Sink c.args.printer.now in
-    let kept = c.read_turn.new.kept in
-    let is = taken_as old.messages c.deref.result.now (quote old.rates) e c.take-found.result c.in-Some.taken take.Rates c.deref.ensures.value c.take-found.ensures.exact c.in-Some.is c.in-Rates.is in
-    let e_is : e ≡ ev.Rates = quiet_is old.messages (quote old.rates) e take.Rates is tt in
-    each_ok _ _ (λ told did. (
-      did.0,
-      did.1,
-      did.2,
-      refl,
-      subst (λ (x : Event). Steps (nodes_in g) g.M.Nv g.M.Fuse g.N.Nv x did.0 did.1 old (sending did.1 (record old { rates = kept })) before now) (sym e_is)
-          (steps_rates (nodes_in g) g.M.Nv g.M.Fuse g.N.Nv did.0 did.1 c.in-Some-today.field-0 old kept before now c.requires.ready c.in-Some-today.is refl c.read_turn.ensures.later did.3),
-    )) c.read_turn.result c.read_turn.ensures.ok
