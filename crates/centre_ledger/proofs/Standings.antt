@@ -1,32 +1,38 @@
 -- What the row of a device tells of its last ruling, of the ruling in flight, and of what is acknowledged.
-use Rattle.std.proofs.Common.{◌≡◌, ℕ, ◌+◌, ◌-◌, ◌<◌, ◌≤◌, true, false, List, [], ◌∷◌, get_or, Option, Some, None, Ok, cond, refl, sym, ap, subst, ◌∙◌, ⊎_elim, arith}
-use Rattle.std.specs.Prelude.{nat_lt, max}
+use Rattle.std.proofs.Common.{◌≡◌, ℕ, ◌+◌, ◌-◌, ◌<◌, ◌≤◌, true, false, List, [], ◌∷◌, ◌++◌, take, drop, get_or, Bool, Option, Some, None, Ok, cond, refl, sym, ap, subst, ◌∙◌, true≢false, ⊎_elim, arith}
+use Rattle.std.specs.Prelude.{nat_lt, max, not, ◌&&◌, ◌||◌, ◌==◌}
 use Rattle.std.proofs.lemmas.Bool.{cases_Bool, cases_lt, eq-eqb, ne_eqb, le-leb, lt-leb, ltb-true, ltb-false}
 use Rattle.std.proofs.lemmas.Option.{same_Some}
+use Rattle.std.proofs.Math.Nat.{min-eq_left}
+use Rattle.bench_base.specs.declared.words.Kind.TheVariants.{Enrol, Reset}
 use Rattle.bench_base.specs.declared.words.Verdict.{Verdict}
+use Rattle.bench_base.specs.declared.words.Verdict.TheVariants.{Granted, NotEnrolled, EnrolledAlready, NoCustomer, Suspended, NoFunds, Imbalance}
+use Rattle.bench_base.specs.Kinds.{same_kind, is_granted}
 use Rattle.bench_base.specs.declared.ledger.Commit.{Commit}
 use Rattle.bench_base.specs.declared.ledger.Commit.TheVariants.{Ruled}
 use Rattle.bench_base.specs.declared.ledger.Entry.TheVariants as e
 use Rattle.bench_base.specs.declared.events.Reply.TheVariants as answer
-use Rattle.bench_base.specs.Table.{spelled}
+use Rattle.bench_base.specs.Table.{Size, One, Two, Four, Five, Eight, IsNumber, bytes_in, number, row, spelled}
 use Rattle.bench_base.specs.Plans.{told}
 use Rattle.bench_base.proofs.Facts.{either}
+use Rattle.bench_base.proofs.Tables.{number-spelled}
+use Rattle.hmac_core.specs.Hmac.{hmac}
 use Rattle.psd_wire.specs.declared.message.Request.{Request}
 use Rattle.psd_wire.specs.declared.message.ReplyMsg.{ReplyMsg}
 use Rattle.psd_wire.specs.declared.message.Message.TheVariants as m
-use Rattle.psd_wire.specs.Grammar.{read, spell, body, verdict_code, verdict_of}
+use Rattle.psd_wire.specs.Grammar.{IsWhole, read, spell, body, sum_size, reply_table, reply_values, verdict_code, verdict_of}
 use Rattle.psd_wire.proofs.Readings.{read-spell, verdict_of-code}
-use Rattle.ledger_terms.specs.Requests.{request_in}
+use Rattle.ledger_terms.specs.Requests.{request_in, request_or_none}
 use Rattle.ledger_terms.specs.Sums.{adds, takes, ruled_sum}
 use Rattle.ledger_terms.specs.Centres.{registered, key_in, ruled, settled}
 use Rattle.ledger_terms.specs.InFlight.{ruling_of, ruled_sum_to, in_flight, acknowledged_resets, acknowledged_refunds}
-use Rattle.ledger_terms.specs.Rulings.{stored_reply, reply_to}
+use Rattle.ledger_terms.specs.Rulings.{Account, account_of, has_left, is_enrolled, out_of_balance, verdict, verdict_by, written_amount, stored_reply, reply_to}
 use Rattle.centre_ledger.specs.declared.rows.DeviceRow.{DeviceRow}
 use Rattle.centre_ledger.specs.Answers.{last_ruling, stored_note, repeat_plan, flight_shown, reconcile_plan}
 use Rattle.centre_ledger.specs.Order.{InOrder}
-use Rattle.centre_ledger.specs.Soundness.{IsSoundDevice}
+use Rattle.centre_ledger.specs.Soundness.{IsRuling, IsSoundDevice}
 use Rattle.centre_ledger.specs.Records.{IsRowOf, note_or_none}
-use Rattle.centre_ledger.specs.Standing.{ruling_in, ruling_read, flight_in, amount_by, resets_in, refunds_in}
+use Rattle.centre_ledger.specs.Standing.{ruling_in, ruling_read, granted_in, granted_read, flight_in, flight_told, by_ruling, told_of, resets_in, refunds_in}
 use Rattle.centre_ledger.specs.Laws.{StandingByRows}
 
 -- == the rulings of a device have rising numbers ==
@@ -73,8 +79,13 @@ sum-to_all f d s (Ruled e k v note ∷ C) h = either e d
     (λ t. rw t (sum-to_all f d s C (rw t at h)))
 sum-to_all f d s (_ ∷ C) h = sum-to_all f d s C h
 
+-- a ruling with its Request as it was asked
+abbrev as_asked : Option (Verdict × List ℕ) → Option (Verdict × Request)
+as_asked None = None
+as_asked (Some x) = Some (x.0, request_in x.1)
+
 -- up to the number before it, all but the last
-sum-to_last : (f : Verdict → Request → ℕ) (d s : ℕ) (C : List Commit) → InOrder C → ruled d C ≡ s + 1 → ruled_sum_to f d s C + amount_by f (last_ruling d C) ≡ ruled_sum f d C
+sum-to_last : (f : Verdict → Request → ℕ) (d s : ℕ) (C : List Commit) → InOrder C → ruled d C ≡ s + 1 → ruled_sum_to f d s C + by_ruling 0 f (as_asked (last_ruling d C)) ≡ ruled_sum f d C
 sum-to_last f d s [] o h = absurd (omega arith)
 sum-to_last f d s (Ruled e k v note ∷ C) o h = either e d
     (λ t y.
@@ -96,27 +107,95 @@ same-verdict p x key other h =
     let codes : verdict_code p.verdict ≡ verdict_code x.verdict = sym (verdict_byte p key) ∙ ap (λ b. get_or b 11 0) h ∙ verdict_byte x other in
     same_Some _ _ (sym (verdict_of-code p.verdict) ∙ ap verdict_of codes ∙ verdict_of-code x.verdict)
 
--- the stored Reply has the verdict of the last ruling
-pub record KeepsReply (d : ℕ) (C : List Commit) (v : Verdict) : Type 0 where
-  pub key : List ℕ
-  pub reply : ReplyMsg
-  pub stored : stored_reply d C ≡ Some (spell (m.Reply reply) key)
-  pub verdict : reply.verdict ≡ v
+-- the amount stands at one place, in as many bytes as the version has
+amount_bytes : (s : Size) (p : ReplyMsg) (rest : List ℕ) → take (bytes_in s) (drop 12 (row (reply_table s) (reply_values p) ++ rest)) ≡ spelled s p.amount
+unfolding spelled
+amount_bytes One p rest = refl
+amount_bytes Two p rest = refl
+amount_bytes Four p rest = refl
+amount_bytes Five p rest = refl
+amount_bytes Eight p rest = refl
 
-keeps-reply : (d : ℕ) (C : List Commit) (x : Verdict × List ℕ) → InOrder C → last_ruling d C ≡ Some x → KeepsReply d C x.0
-unfolding reply_to
+amount_in : (s : Size) (p : ReplyMsg) (key : List ℕ) → sum_size p.version ≡ s → IsNumber s p.amount → number s (take (bytes_in s) (drop 12 (spell (m.Reply p) key))) ≡ p.amount
+unfolding spell body
+amount_in s p key size fits =
+    ap (λ z. number s (take (bytes_in s) (drop 12 (row (reply_table z) (reply_values p) ++ hmac key (row (reply_table z) (reply_values p)))))) size
+    ∙ ap (number s) (amount_bytes s p (hmac key (row (reply_table s) (reply_values p))))
+    ∙ number-spelled s p.amount fits
+
+same_amount : (s : Size) (p x : ReplyMsg) (key other : List ℕ) → sum_size p.version ≡ s → sum_size x.version ≡ s → IsNumber s p.amount → IsNumber s x.amount
+    → spell (m.Reply p) key ≡ spell (m.Reply x) other → p.amount ≡ x.amount
+same_amount s p x key other size_p size_x fits_p fits_x h =
+    sym (amount_in s p key size_p fits_p) ∙ ap (λ bytes. number s (take (bytes_in s) (drop 12 bytes))) h ∙ amount_in s x other size_x fits_x
+
+-- the stored Reply is the one to the Request of the last ruling, and has its verdict
+pub record KeepsReply (d : ℕ) (C : List Commit) (x : Verdict × List ℕ) : Type 0 where
+  pub key : List ℕ
+  pub before : List Commit
+  pub stored : stored_reply d C ≡ Some (spell (m.Reply (reply_to before (request_in x.1))) key)
+  pub verdict : (verdict before (request_in x.1)).0 ≡ x.0
+
+keeps-reply : (d : ℕ) (C : List Commit) (x : Verdict × List ℕ) → InOrder C → last_ruling d C ≡ Some x → KeepsReply d C x
 keeps-reply d [] x o h = let no : None ≡ Some x = h in absurd (cc)
 keeps-reply d (Ruled e k v note ∷ C) x o h = either e d
     (λ t y.
     let same : Some (v, note) ≡ Some x = rw t at h in
-    record {
-      key = key_in (registered (request_in note).device C);
-      reply = reply_to C (request_in note);
-      stored = rw t refl;
-      verdict = sym o.0.2 ∙ ap (λ (z : Verdict × List ℕ). z.0) (same_Some _ _ same);
-    })
-    (λ t. let was = keeps-reply d C x o.1 (rw t at h) in record { key = was.key; reply = was.reply; stored = rw t was.stored; verdict = was.verdict })
-keeps-reply d (_ ∷ C) x o h = let was = keeps-reply d C x o.1 h in record { key = was.key; reply = was.reply; stored = was.stored; verdict = was.verdict }
+    subst (λ z. KeepsReply d (Ruled e k v note ∷ C) z) (same_Some _ _ same)
+    (record { key = key_in (registered (request_in note).device C); before = C; stored = rw t refl; verdict = sym o.0.2 }))
+    (λ t. let was = keeps-reply d C x o.1 (rw t at h) in record { key = was.key; before = was.before; stored = rw t was.stored; verdict = was.verdict })
+keeps-reply d (_ ∷ C) x o h = let was = keeps-reply d C x o.1 h in record { key = was.key; before = was.before; stored = was.stored; verdict = was.verdict }
+
+-- == what was granted ==
+
+-- a granted Request has its own amount in the Reply
+amount-granted : (a : Account) (q : Request) → is_granted (verdict_by a q).0 ≡ true → (verdict_by a q).1 ≡ q.amount
+unfolding verdict_by
+amount-granted a q h = go (not (same_kind q.kind Enrol) && has_left a.enrolled a.withdrawn) (same_kind q.kind Enrol && is_enrolled a.enrolled) (out_of_balance q a.bought a.returned) (same_kind q.kind Enrol && not a.opened) ((same_kind q.kind Enrol || same_kind q.kind Reset) && a.suspended) (same_kind q.kind Reset && nat_lt a.balance q.amount) h
+  where
+    given : (s t u x y z : Bool) → Verdict × ℕ
+    given s t u x y z = cond s (NotEnrolled, 0) (cond t (EnrolledAlready, 0) (cond u (Imbalance, a.bought) (cond x (NoCustomer, 0) (cond y (Suspended, 0) (cond z (NoFunds, a.balance) (Granted, q.amount))))))
+
+    go : (s t u x y z : Bool) → is_granted (given s t u x y z).0 ≡ true → (given s t u x y z).1 ≡ q.amount
+    go true t u x y z k = absurd (true≢false (sym k))
+    go false true u x y z k = absurd (true≢false (sym k))
+    go false false true x y z k = absurd (true≢false (sym k))
+    go false false false true y z k = absurd (true≢false (sym k))
+    go false false false false true z k = absurd (true≢false (sym k))
+    go false false false false false true k = absurd (true≢false (sym k))
+    go false false false false false false k = refl
+
+-- an amount that fits its version is written as it is
+written_as : (q : Request) → IsNumber (sum_size q.version) q.amount → written_amount q.version q.amount ≡ q.amount
+written_as q fits = by_size (q.version == 1) refl fits
+  where
+    by_size : (b : Bool) → (q.version == 1) ≡ b → IsNumber (sum_size q.version) q.amount → written_amount q.version q.amount ≡ q.amount
+    by_size true is fit = rw is (let low : IsNumber Four q.amount = rw is at fit in min-eq_left (omega (arith, low)))
+    by_size false is fit = rw is refl
+
+granted_reply : (before : List Commit) (q : Request) → IsNumber (sum_size q.version) q.amount → is_granted (verdict before q).0 ≡ true → (reply_to before q).amount ≡ q.amount
+unfolding verdict reply_to
+granted_reply before q fits granted = ap (written_amount q.version) (amount-granted (account_of before q) q granted) ∙ written_as q fits
+
+-- what f gives of a Request that was not granted doesn't turn on its amount
+abbrev OfGranted : {A : Type 0} → (Verdict → Request → A) → Type 0
+OfGranted f = (v : Verdict) (q : Request) (n : ℕ) → is_granted v ≡ false → f v q ≡ f v (record q { amount = n })
+
+of_adds : OfGranted adds
+unfolding adds
+of_adds v q n denied = rw denied refl
+
+of_takes : OfGranted takes
+unfolding takes
+of_takes v q n denied = rw denied refl
+
+of_told : OfGranted told_of
+of_told v q n denied = rw denied refl
+
+as_granted : {A : Type 0} (f : Verdict → Request → A) → OfGranted f → (v : Verdict) (q : Request) (n : ℕ) → (is_granted v ≡ true → n ≡ q.amount) → f v q ≡ f v (record q { amount = n })
+as_granted f of v q n amount = ⊎_elim
+    (λ (yes : is_granted v ≡ true). ap (λ k. f v (record q { amount = k })) (sym (amount yes)))
+    (λ (denied : is_granted v ≡ false). of v q n denied)
+    (cases_Bool (is_granted v))
 
 -- == the row ==
 
@@ -124,30 +203,81 @@ reads-none : (note : List ℕ) → ruling_read (read []) note ≡ None
 unfolding read
 reads-none note = refl
 
-ruling-last : (r : DeviceRow) (C : List Commit) → InOrder C → IsSoundDevice r → IsRowOf r C → last_ruling r.device C ≡ ruling_in r
-unfolding ruling_in
+grants-none : (note : List ℕ) → granted_read (read []) note ≡ None
+unfolding read
+grants-none note = refl
+
+-- the last ruling, as it is kept and as it was granted
+pub record IsLast (r : DeviceRow) (o : Option (Verdict × List ℕ)) : Type 1 where
+  pub kept : o ≡ ruling_in r
+  pub granted : {A : Type 0} (otherwise : A) (f : Verdict → Request → A) → OfGranted f → by_ruling otherwise f (as_asked o) ≡ by_ruling otherwise f (granted_in r)
+
+none-is : (r : DeviceRow) → r.reply ≡ [] → IsLast r None
+unfolding ruling_in granted_in
+none-is r empty = record {
+  kept = sym (ap (λ b. ruling_read (read b) r.request) empty ∙ reads-none r.request);
+  granted = λ otherwise f of. sym (ap (λ b. by_ruling otherwise f (granted_read (read b) r.request)) empty ∙ ap (by_ruling otherwise f) (grants-none r.request));
+}
+
+some-is : (r : DeviceRow) (p : ReplyMsg) → read r.reply ≡ Ok (m.Reply p) → (is_granted p.verdict ≡ true → p.amount ≡ (request_in r.request).amount) → IsLast r (Some (p.verdict, r.request))
+unfolding ruling_in granted_in
+some-is r p reads amount = record {
+  kept = sym (ap (λ x. ruling_read x r.request) reads);
+  granted = λ otherwise f of. as_granted f of p.verdict (request_in r.request) p.amount amount ∙ sym (ap (λ x. by_ruling otherwise f (granted_read x r.request)) reads);
+}
+
+-- the Request that is kept is read back
+request-read : (q : Request) (key note : List ℕ) → IsWhole (m.Request q) → note ≡ spell (m.Request q) key → request_in note ≡ q
+unfolding request_in
+request-read q key note whole is = ap request_or_none (ap read is ∙ read-spell (m.Request q) key whole)
+
+verdict_to : (before : List Commit) (q : Request) → (verdict before q).0 ≡ (reply_to before q).verdict
+unfolding reply_to
+verdict_to before q = refl
+
+version_to : (before : List Commit) (q : Request) → (reply_to before q).version ≡ q.version
+unfolding reply_to
+version_to before q = refl
+
+ruling-last : (r : DeviceRow) (C : List Commit) → InOrder C → IsSoundDevice r → IsRowOf r C → IsLast r (last_ruling r.device C)
 ruling-last r C o sound is = ⊎_elim
     (λ (none : r.ruled < 1).
     let empty = sound.unruled (omega arith) in
-    none-last r.device C o (let n = is.ruled in omega arith) ∙ sym (ap (λ b. ruling_read (read b) r.request) empty.1 ∙ reads-none r.request))
+    subst (λ (x : Option (Verdict × List ℕ)). IsLast r x) (sym (none-last r.device C o (let n = is.ruled in omega arith))) (none-is r empty.1))
     (λ (some : 1 ≤ r.ruled).
     let was = sound.ruling some in
     let p = was.1 in
     let read_so : read r.reply ≡ Ok (m.Reply p) = ap read was.2.reply ∙ read-spell (m.Reply p) r.key was.2.reply_whole in
-    let kept = go p was.2.reply some (last_ruling r.device C) refl in
-    kept ∙ sym (ap (λ x. ruling_read x r.request) read_so))
+    let kept = go was.0 p was.2 some (last_ruling r.device C) refl in
+    subst (λ (x : Option (Verdict × List ℕ)). IsLast r x) (sym kept.0) (some-is r p read_so kept.1))
     (cases_lt r.ruled 1)
   where
-    go : (p : ReplyMsg) → r.reply ≡ spell (m.Reply p) r.key → 1 ≤ r.ruled → (x : Option (Verdict × List ℕ)) → last_ruling r.device C ≡ x → x ≡ Some (p.verdict, r.request)
-    go p spelt some None h = let n = is.ruled in let z = last-none r.device C h in absurd (omega arith)
-    go p spelt some (Some x) h =
+    go : (q : Request) (p : ReplyMsg) → IsRuling r q p → 1 ≤ r.ruled → (x : Option (Verdict × List ℕ)) → last_ruling r.device C ≡ x
+        → (x ≡ Some (p.verdict, r.request)) × (is_granted p.verdict ≡ true → p.amount ≡ (request_in r.request).amount)
+    go q p ruling some None h = let n = is.ruled in let z = last-none r.device C h in absurd (omega arith)
+    go q p ruling some (Some x) h =
         let k = keeps-reply r.device C x o h in
-        let reply : spell (m.Reply k.reply) k.key ≡ r.reply = sym (ap note_or_none k.stored) ∙ is.reply in
-        let v : x.0 ≡ p.verdict = sym k.verdict ∙ same-verdict k.reply p k.key r.key (reply ∙ spelt) in
+        let kept = reply_to k.before (request_in x.1) in
+        let same : spell (m.Reply kept) k.key ≡ spell (m.Reply p) r.key = sym (ap note_or_none k.stored) ∙ is.reply ∙ ruling.reply in
+        let v : x.0 ≡ p.verdict = sym k.verdict ∙ verdict_to k.before (request_in x.1) ∙ same-verdict kept p k.key r.key same in
         let note : x.1 ≡ r.request = sym (ap stored_note h) ∙ is.request in
-        λ i. Some (v i, note i)
+        let asked : request_in x.1 ≡ q = ap request_in note ∙ request-read q r.key r.request ruling.request_whole ruling.request in (
+          λ i. Some (v i, note i),
+          λ granted. let given : is_granted (verdict k.before (request_in x.1)).0 ≡ true = ap is_granted (k.verdict ∙ v) ∙ granted in
+              let fits : IsNumber (sum_size (request_in x.1).version) (request_in x.1).amount = subst (λ (y : Request). IsNumber (sum_size y.version) y.amount) (sym asked) ruling.request_whole.1.1.1.1.1.1.1.0 in
+              let amount : kept.amount ≡ (request_in x.1).amount = granted_reply k.before (request_in x.1) fits given in
+              let size : sum_size kept.version ≡ sum_size p.version = ap sum_size (version_to k.before (request_in x.1) ∙ ap (λ (y : Request). y.version) asked ∙ ruling.version) in
+              sym (same_amount (sum_size p.version) kept p k.key r.key size refl
+              (subst (λ n. IsNumber (sum_size p.version) n) (sym amount) (subst (λ z. IsNumber z (request_in x.1).amount) (ap sum_size (ap (λ (y : Request). y.version) asked ∙ ruling.version)) fits))
+              ruling.reply_whole.1.1.1.1.1.1.1.0 same)
+              ∙ amount ∙ ap (λ b. (request_in b).amount) note,
+        )
 
-flight-is : (r : DeviceRow) (C : List Commit) → InOrder C → IsSoundDevice r → IsRowOf r C → in_flight r.device C ≡ flight_in r
+shown-asked : (o : Option (Verdict × List ℕ)) → flight_shown o ≡ flight_told (as_asked o)
+shown-asked None = refl
+shown-asked (Some x) = refl
+
+flight-is : (r : DeviceRow) (C : List Commit) → InOrder C → IsSoundDevice r → IsRowOf r C → flight_shown (in_flight r.device C) ≡ flight_told (flight_in r)
 flight-is r C o sound is =
     let top = is.ruled in
     let done = is.settled in
@@ -155,36 +285,37 @@ flight-is r C o sound is =
     ⊎_elim
     (λ (t : nat_lt r.settled r.ruled ≡ true).
     let less = ltb-true r.settled r.ruled t in
-    last-is r.device (settled r.device C + 1) C o (omega arith) (omega arith) ∙ ruling-last r C o sound is ∙ sym (ap (λ b. cond b (ruling_in r) None) t))
+    ap flight_shown (last-is r.device (settled r.device C + 1) C o (omega arith) (omega arith)) ∙ shown-asked (last_ruling r.device C)
+    ∙ (ruling-last r C o sound is).granted None told_of of_told ∙ sym (ap (λ b. flight_told (cond b (granted_in r) None)) t))
     (λ (t : nat_lt r.settled r.ruled ≡ false).
     let most = ltb-false r.settled r.ruled t in
-    above-none r.device (settled r.device C + 1) C (omega arith) ∙ sym (ap (λ b. cond b (ruling_in r) None) t))
+    ap flight_shown (above-none r.device (settled r.device C + 1) C (omega arith)) ∙ sym (ap (λ b. flight_told (cond b (granted_in r) None)) t))
     (cases_Bool (nat_lt r.settled r.ruled))
 
-sum-is : (f : Verdict → Request → ℕ) (sum : ℕ) (r : DeviceRow) (C : List Commit) → InOrder C → IsSoundDevice r → IsRowOf r C → ruled_sum f r.device C ≡ sum
-    → ruled_sum_to f r.device (settled r.device C) C ≡ sum - amount_by f (flight_in r)
-sum-is f sum r C o sound is all =
+sum-is : (f : Verdict → Request → ℕ) → OfGranted f → (sum : ℕ) (r : DeviceRow) (C : List Commit) → InOrder C → IsSoundDevice r → IsRowOf r C → ruled_sum f r.device C ≡ sum
+    → ruled_sum_to f r.device (settled r.device C) C ≡ sum - by_ruling 0 f (flight_in r)
+sum-is f of sum r C o sound is all =
     let top = is.ruled in
     let done = is.settled in
     let le = sound.ruled_le in
     ⊎_elim
     (λ (t : nat_lt r.settled r.ruled ≡ true).
     let less = ltb-true r.settled r.ruled t in
-    let flies : flight_in r ≡ ruling_in r = ap (λ b. cond b (ruling_in r) None) t in
-    let last : amount_by f (last_ruling r.device C) ≡ amount_by f (flight_in r) = ap (amount_by f) (ruling-last r C o sound is ∙ sym flies) in
+    let flies : flight_in r ≡ granted_in r = ap (λ b. cond b (granted_in r) None) t in
+    let last : by_ruling 0 f (as_asked (last_ruling r.device C)) ≡ by_ruling 0 f (flight_in r) = (ruling-last r C o sound is).granted 0 f of ∙ ap (by_ruling 0 f) (sym flies) in
     let parts = sum-to_last f r.device (settled r.device C) C o (omega arith) in
     omega (arith, last, parts, all))
     (λ (t : nat_lt r.settled r.ruled ≡ false).
     let most = ltb-false r.settled r.ruled t in
-    let lands : amount_by f (flight_in r) ≡ 0 = ap (λ b. amount_by f (cond b (ruling_in r) None)) t in
+    let lands : by_ruling 0 f (flight_in r) ≡ 0 = ap (λ b. by_ruling 0 f (cond b (granted_in r) None)) t in
     let whole = sum-to_all f r.device (settled r.device C) C (omega arith) in
     omega (arith, lands, whole, all))
     (cases_Bool (nat_lt r.settled r.ruled))
 
-reconciled-is : (r : DeviceRow) (C : List Commit) (total : ℕ) → IsRowOf r C → in_flight r.device C ≡ flight_in r → acknowledged_resets r.device C ≡ resets_in r → acknowledged_refunds r.device C ≡ refunds_in r
-    → reconcile_plan r.device total (registered r.device C) C ≡ told (answer.Reconciled r.device total (resets_in r - refunds_in r) (flight_shown (flight_in r))) []
+reconciled-is : (r : DeviceRow) (C : List Commit) (total : ℕ) → IsRowOf r C → flight_shown (in_flight r.device C) ≡ flight_told (flight_in r) → acknowledged_resets r.device C ≡ resets_in r → acknowledged_refunds r.device C ≡ refunds_in r
+    → reconcile_plan r.device total (registered r.device C) C ≡ told (answer.Reconciled r.device total (resets_in r - refunds_in r) (flight_told (flight_in r))) []
 reconciled-is r C total is flies resets refunds =
-    ap (λ o. reconcile_plan r.device total o C) is.registered ∙ (λ i. told (answer.Reconciled r.device total (resets i - refunds i) (flight_shown (flies i))) [])
+    ap (λ o. reconcile_plan r.device total o C) is.registered ∙ (λ i. told (answer.Reconciled r.device total (resets i - refunds i) (flies i)) [])
 
 repeated-is : (r : DeviceRow) (C : List Commit) → InOrder C → IsRowOf r C → last_ruling r.device C ≡ ruling_in r → (k : ℕ) (p : ReplyMsg) → read r.reply ≡ Ok (m.Reply p)
     → repeat_plan r.device r.ruled k (last_ruling r.device C) (stored_reply r.device C) ≡ told (answer.Ruled r.device r.ruled p.verdict true k) (e.Sent r.reply ∷ [])
@@ -192,15 +323,15 @@ unfolding ruling_in
 repeated-is r C o is last k p reads =
     let here : last_ruling r.device C ≡ Some (p.verdict, r.request) = last ∙ ap (λ x. ruling_read x r.request) reads in
     let kept = keeps-reply r.device C (p.verdict, r.request) o here in
-    let reply : spell (m.Reply kept.reply) kept.key ≡ r.reply = sym (ap note_or_none kept.stored) ∙ is.reply in
+    let reply : spell (m.Reply (reply_to kept.before (request_in r.request))) kept.key ≡ r.reply = sym (ap note_or_none kept.stored) ∙ is.reply in
     (λ i. repeat_plan r.device r.ruled k (here i) ((kept.stored ∙ ap Some reply) i))
 
 pub standing : StandingByRows
 standing r C o sound is =
-    let last = ruling-last r C o sound is in
+    let last = (ruling-last r C o sound is).kept in
     let flies = flight-is r C o sound is in
-    let resets : acknowledged_resets r.device C ≡ resets_in r = sum-is adds r.buys r C o sound is is.bought in
-    let refunds : acknowledged_refunds r.device C ≡ refunds_in r = sum-is takes r.returns r C o sound is is.returned in
+    let resets : acknowledged_resets r.device C ≡ resets_in r = sum-is adds of_adds r.buys r C o sound is is.bought in
+    let refunds : acknowledged_refunds r.device C ≡ refunds_in r = sum-is takes of_takes r.returns r C o sound is is.returned in
     record {
       last = last;
       in_flight = flies;

@@ -24,11 +24,11 @@ use Rattle.centre_ledger.specs.declared.acts.Deposit.{Deposit}
 use Rattle.centre_ledger.specs.declared.standing.Standing.{Standing}
 use Rattle.centre_ledger.specs.declared.taking.CentreAnswer.{CentreAnswer}
 use Rattle.centre_ledger.specs.declared.taking.CentreAnswer.TheVariants as centre
-use Rattle.centre_ledger.specs.Answers.{deposit_answer, turn_answer, settle_answer, flight_shown}
+use Rattle.centre_ledger.specs.Answers.{deposit_answer, turn_answer, settle_answer}
 use Rattle.centre_ledger.specs.Books.{Books, device_at, customer_at, left_in}
 use Rattle.centre_ledger.specs.Records.{registered_row, opened_row}
 use Rattle.centre_ledger.specs.Rows.{account, enrolled_in, ruled_row, settled_row, deposited_row}
-use Rattle.centre_ledger.specs.Standing.{ruling_in, flight_in, amount_by}
+use Rattle.centre_ledger.specs.Standing.{ruling_in, flight_in, flight_told, by_ruling}
 
 abbrev pub CentreAct : Type 0 → Type 0
 CentreAct A = Act Row CentreRefusal A
@@ -80,8 +80,8 @@ abbrev pub register_act : ℕ → ℕ → List ℕ → Books → CentreAct (Unit
 register_act d origin key b = registered_act d origin key (device_at b d)
 
 -- what is acknowledged and what is in flight, where this ruling is
-abbrev pub standing_by : DeviceRow → Option (Verdict × List ℕ) → Standing
-standing_by r flight = record { centre = (r.buys - amount_by adds flight) - (r.returns - amount_by takes flight); in_flight = flight_shown flight }
+abbrev pub standing_by : DeviceRow → Option (Verdict × Request) → Standing
+standing_by r flight = record { centre = (r.buys - by_ruling 0 adds flight) - (r.returns - by_ruling 0 takes flight); in_flight = flight_told flight }
 
 abbrev pub standing_of : DeviceRow → Standing
 standing_of r = standing_by r (flight_in r)

@@ -25,7 +25,7 @@ use Rattle.centre_ledger.specs.Order.{InOrder}
 use Rattle.centre_ledger.specs.Soundness.{IsSoundDevice, IsSoundCustomer, IsNext, IsVerdict}
 use Rattle.centre_ledger.specs.Rows.{account, enrolled_in, ruled_row, buys_in, returns_in}
 use Rattle.centre_ledger.specs.Records.{IsRowOf, IsCustomerOf, registered_row, opened_row, PaysBy}
-use Rattle.centre_ledger.specs.Standing.{ruling_in, flight_in, resets_in, refunds_in}
+use Rattle.centre_ledger.specs.Standing.{ruling_in, flight_in, flight_told, resets_in, refunds_in}
 
 -- whether the commit is one of the centre about the device
 abbrev pub touches_device : ℕ → Commit → Bool
@@ -198,11 +198,11 @@ pub record Rulings : Type 0 where
 -- the row of a device tells of the commits what is acknowledged, what is in flight, and what is answered again
 pub record Stands (r : DeviceRow) (C : List Commit) : Type 0 where
   pub last : last_ruling r.device C ≡ ruling_in r
-  pub in_flight : in_flight r.device C ≡ flight_in r
+  pub in_flight : flight_shown (in_flight r.device C) ≡ flight_told (flight_in r)
   pub resets : acknowledged_resets r.device C ≡ resets_in r
   pub refunds : acknowledged_refunds r.device C ≡ refunds_in r
   pub reconciled : (total : ℕ) → reconcile_plan r.device total (registered r.device C) C
-      ≡ told (answer.Reconciled r.device total (resets_in r - refunds_in r) (flight_shown (flight_in r))) []
+      ≡ told (answer.Reconciled r.device total (resets_in r - refunds_in r) (flight_told (flight_in r))) []
   -- the verdict of a repeat is that of the Reply that is kept and sent again
   pub repeated : (k : ℕ) (p : ReplyMsg) → read r.reply ≡ Ok (m.Reply p)
       → repeat_plan r.device r.ruled k (last_ruling r.device C) (stored_reply r.device C)

@@ -1,6 +1,8 @@
 -- What a device's row tells of its last ruling, of the one in flight, and of what is acknowledged. Amounts are in mills.
 use Rattle.std.specs.Prelude.{ℕ, ◌-◌, List, Option, Some, None, Result, Ok, nat_lt, if◌then◌else◌}
+use Rattle.bench_base.specs.declared.words.Kind.{Kind}
 use Rattle.bench_base.specs.declared.words.Verdict.{Verdict}
+use Rattle.bench_base.specs.Kinds.{is_granted}
 use Rattle.bench_base.specs.declared.refusals.Unread.{Unread}
 use Rattle.psd_wire.specs.declared.message.Request.{Request}
 use Rattle.psd_wire.specs.declared.message.Message.{Message}
@@ -19,19 +21,36 @@ ruling_read _ request = None
 unfoldable pub ruling_in : DeviceRow → Option (Verdict × List ℕ)
 ruling_in r = ruling_read (read r.reply) r.request
 
--- the last ruling is in flight until it is settled
-abbrev pub flight_in : DeviceRow → Option (Verdict × List ℕ)
-flight_in r = if nat_lt r.settled r.ruled then ruling_in r else None
+-- what was read as a Reply, with the Request as it was granted: with the amount of the Reply
+abbrev pub granted_read : Result Message Unread → List ℕ → Option (Verdict × Request)
+granted_read (Ok (m.Reply p)) request = Some (p.verdict, record (request_in request) { amount = p.amount })
+granted_read _ request = None
 
--- what f gives of a ruling, and 0 where there is none
-abbrev pub amount_by : (Verdict → Request → ℕ) → Option (Verdict × List ℕ) → ℕ
-amount_by f None = 0
-amount_by f (Some x) = f x.0 (request_in x.1)
+-- the last ruling as it was granted
+unfoldable pub granted_in : DeviceRow → Option (Verdict × Request)
+granted_in r = granted_read (read r.reply) r.request
+
+-- the last ruling is in flight until it is settled
+abbrev pub flight_in : DeviceRow → Option (Verdict × Request)
+flight_in r = if nat_lt r.settled r.ruled then granted_in r else None
+
+-- what f gives of a ruling, and else this
+abbrev pub by_ruling : {A : Type 0} → A → (Verdict → Request → A) → Option (Verdict × Request) → A
+by_ruling otherwise f None = otherwise
+by_ruling otherwise f (Some x) = f x.0 x.1
+
+-- kind and granted amount, as they are told
+abbrev pub told_of : Verdict → Request → Option (Kind × ℕ)
+told_of v q = Some (q.kind, if is_granted v then q.amount else 0)
+
+-- those of a ruling in flight
+abbrev pub flight_told : Option (Verdict × Request) → Option (Kind × ℕ)
+flight_told flight = by_ruling None told_of flight
 
 -- the acknowledged resets: all buys but for the reset in flight
 abbrev pub resets_in : DeviceRow → ℕ
-resets_in r = r.buys - amount_by adds (flight_in r)
+resets_in r = r.buys - by_ruling 0 adds (flight_in r)
 
 -- the acknowledged refunds and withdrawals
 abbrev pub refunds_in : DeviceRow → ℕ
-refunds_in r = r.returns - amount_by takes (flight_in r)
+refunds_in r = r.returns - by_ruling 0 takes (flight_in r)

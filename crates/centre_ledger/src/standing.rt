@@ -1,6 +1,7 @@
 //! What a device's row tells of its last ruling, of the one in flight, and of what is acknowledged. Amounts are in mills.
-ghost use Rattle.std.specs.Prelude.{◌≡◌, ◌-◌, if◌then◌else◌};
+ghost use Rattle.std.specs.Prelude.{◌≡◌, ◌-◌, Some, None, if◌then◌else◌};
 ghost use Rattle.bench_base.specs.Kinds as kinds;
+ghost use Rattle.ledger_terms.specs.Requests.{request_in};
 ghost use Rattle.centre_ledger.specs.Acts as act_of;
 ghost use Rattle.centre_ledger.specs.Standing as stands;
 
@@ -29,24 +30,10 @@ pub fn ruling_in(row: &DeviceRow) -> Option<(Verdict, Note)>
     }
 }
 
-fn flight_in(row: &DeviceRow) -> Option<(Verdict, Note)>
-    ensures { result ≡ stands.flight_in row.now }
+fn granted_amount(verdict: Verdict, amount: u64) -> u64
+    ensures { result ≡ (if kinds.is_granted verdict then amount else 0) }
 {
-    if row.settled < row.ruled {
-        ruling_in(row)
-    } else {
-        None
-    }
-}
-
-fn granted_amount(verdict: Verdict, request: &Request) -> u64
-    ensures { result ≡ (if kinds.is_granted verdict then request.now.amount else 0) }
-{
-    if is_granted(verdict) {
-        request.amount
-    } else {
-        0
-    }
+    if is_granted(verdict) { amount } else { 0 }
 }
 
 // With these amounts left out, as not yet settled. A row that no history left may keep a request of another amount than
@@ -67,19 +54,41 @@ fn standing_without(
     }
 }
 
-// With the ruling on this request in flight.
+// With the ruling on this request in flight, which was granted with this amount.
 #[tactic(auto, unfolding(ledger_terms::specs::Requests::request_in, ledger_terms::specs::Sums::adds, ledger_terms::specs::Sums::takes, bench_base::specs::Kinds::same_kind))]
-fn standing_in_flight(row: &DeviceRow, verdict: Verdict, note: &Note) -> Standing
-    ensures { result ≡ act_of.standing_by row.now (Some (record { 0 = verdict; 1 = note.now })) }
+fn standing_in_flight(row: &DeviceRow, verdict: Verdict, note: &Note, amount: u64) -> Standing
+    ensures { result ≡ act_of.standing_by row.now
+        (Some (record { 0 = verdict; 1 = record (request_in note.now) { amount = amount } })) }
 {
     match read_message(note.as_slice()) {
-        Ok(Message::Request(request)) => standing_without(
+        Ok(Message::Request(request)) => {
+            let granted = Request { amount, ..request };
+            standing_without(
+                row,
+                adds(verdict, &granted),
+                takes(verdict, &granted),
+                Some((granted.kind, granted_amount(verdict, amount))),
+            )
+        }
+        _ => standing_without(
             row,
-            adds(verdict, &request),
-            takes(verdict, &request),
-            Some((request.kind, granted_amount(verdict, &request))),
+            0,
+            0,
+            Some((Kind::Audit, granted_amount(verdict, amount))),
         ),
-        _ => standing_without(row, 0, 0, Some((Kind::Audit, 0))),
+    }
+}
+
+// With the last ruling in flight. Its verdict and its amount are those of the reply.
+#[tactic(auto, unfolding(crate::specs::Standing::granted_in))]
+fn standing_unsettled(row: &DeviceRow) -> Standing
+    ensures { result ≡ act_of.standing_by row.now (stands.granted_in row.now) }
+{
+    match read_message(row.reply.as_slice()) {
+        Ok(Message::Reply(reply)) => {
+            standing_in_flight(row, reply.verdict, &row.request, reply.amount)
+        }
+        _ => standing_without(row, 0, 0, None),
     }
 }
 
@@ -87,8 +96,9 @@ fn standing_in_flight(row: &DeviceRow, verdict: Verdict, note: &Note) -> Standin
 pub fn standing_of(row: &DeviceRow) -> Standing
     ensures { result ≡ act_of.standing_of row.now }
 {
-    match flight_in(row) {
-        Some((verdict, note)) => standing_in_flight(row, verdict, &note),
-        None => standing_without(row, 0, 0, None),
+    if row.settled < row.ruled {
+        standing_unsettled(row)
+    } else {
+        standing_without(row, 0, 0, None)
     }
 }
