@@ -3,47 +3,29 @@
 #![tactic(auto)]
 
 mod rates_file;
+mod store_files;
 
 ghost use Rattle.std.specs.Prelude.{◌≡◌, IfOk, length};
 ghost use Rattle.std.specs.List.{All};
 ghost use Rattle.nv_model.specs.Meters.{Works};
 ghost use Rattle.bench.specs.Benches.{IsReady, bench_of};
 
-use bench::{Bench, Stores};
-use bench_base::sizes::{CENTRE_BYTES, DEVICE_BYTES, VERIFIER_BYTES};
+use bench::Bench;
 use bench_base::stream::{IoSink, IoSource};
-use host_jobs::HOST_BYTES;
-use nv_file::FileNv;
+use nv_file::{FileNv, Starting};
 use nv_model::{Fused, Nv};
 use rates_file::RatesFile;
 use read_ahead::ReadAhead;
 use script_replay::run::run;
 use script_replay::status::Status;
 use script_text::read_words;
-use std::fs::{File, OpenOptions};
+use std::fs::{self, File, OpenOptions};
 use std::os::fd::AsRawFd;
+use std::os::unix::fs::{FileTypeExt, OpenOptionsExt};
 use std::process::ExitCode;
 use std::{env, io};
+use store_files::{STORES, is_store, split_stores};
 use thiserror::Error;
-
-/// The storages of devices 1 to 8, in the current folder.
-const DEVICE_FILES: [&str; 8] = [
-    "device-1.nv",
-    "device-2.nv",
-    "device-3.nv",
-    "device-4.nv",
-    "device-5.nv",
-    "device-6.nv",
-    "device-7.nv",
-    "device-8.nv",
-];
-
-/// The storages of the centre, of the host and of the verifier.
-const CENTRE_FILE: &str = "centre.nv";
-
-const HOST_FILE: &str = "host.nv";
-
-const VERIFIER_FILE: &str = "verifier.nv";
 
 /// The rates, a TOML document. A missing file is an empty one.
 const RATES_FILE: &str = "rates.toml";
@@ -120,7 +102,7 @@ fn hold_folder(rt: &HostRuntime) -> Result<Vec<File>, OpenFault> {
     let Ok(mut held) = Vec::with_capacity(rt.alloc(), 4) else {
         return Err(OpenFault::Memory);
     };
-    let fault = OpenFault::File(DEVICE_FILES[0]);
+    let fault = OpenFault::File(STORES[0].name);
     for _ in 0..=3 {
         let Ok(folder) = File::open(rt, ".") else {
             return Err(fault);
@@ -139,69 +121,76 @@ fn hold_folder(rt: &HostRuntime) -> Result<Vec<File>, OpenFault> {
     Err(fault)
 }
 
-// A storage of so many bytes, which is made where it is missing.
-fn open_store(rt: &HostRuntime, name: &'static str, bytes: u32) -> Result<FileNv, OpenFault>
-    ensures { IfOk result (λ nv. Works (⟦<FileNv as Nv>⟧.meters nv)) }
-{
-    match FileNv::start(rt, name, bytes) {
-        Ok(nv) => Ok(nv),
-        Err(_) => Err(OpenFault::File(name)),
-    }
-}
-
-// The storages of the devices, of the centre, of the host and of the verifier.
-fn open_stores(rt: &HostRuntime) -> Result<Stores<FileNv>, OpenFault>
-    ensures eight { IfOk result (λ stores. length stores.devices.items ≡ 8) }
-    ensures fresh { IfOk result (λ stores. All (λ nv. Works (⟦<FileNv as Nv>⟧.meters nv)) stores.devices.items) }
-    ensures fresh_centre { IfOk result (λ stores. Works (⟦<FileNv as Nv>⟧.meters stores.centre)) }
-    ensures fresh_host { IfOk result (λ stores. Works (⟦<FileNv as Nv>⟧.meters stores.host)) }
-    ensures fresh_verifier { IfOk result (λ stores. Works (⟦<FileNv as Nv>⟧.meters stores.verifier)) }
-{
-    let Ok(mut devices) = Vec::with_capacity(rt.alloc(), 8) else {
-        return Err(OpenFault::Memory);
-    };
-    for name in DEVICE_FILES {
-        let nv = open_store(rt, name, DEVICE_BYTES)?;
-        let Ok(()) = devices.push(nv) else {
-            return Err(OpenFault::Memory);
-        };
-    }
-    let centre = open_store(rt, CENTRE_FILE, CENTRE_BYTES)?;
-    let host = open_store(rt, HOST_FILE, HOST_BYTES)?;
-    let verifier = open_store(rt, VERIFIER_FILE, VERIFIER_BYTES)?;
-    Ok(Stores {
-        devices,
-        centre,
-        host,
-        verifier,
-    })
-}
-
-fn open_bench(rt: &HostRuntime) -> Result<Bench<FileNv>, OpenFault>
-    ensures ready { IfOk result (λ bench. IsReady (bench_of bench)) }
-{
-    match Bench::new(rt.alloc(), open_stores(rt)?) {
-        Ok(bench) => Ok(bench),
-        Err(_) => Err(OpenFault::Memory),
-    }
-}
-
+// The rates. Opening a pipe would wait until something writes to it.
 fn open_rates(rt: &HostRuntime) -> Result<RatesFile<IoSource<File>>, OpenFault> {
+    let fault = Err(OpenFault::File(RATES_FILE));
+    match fs::metadata(rt, RATES_FILE) {
+        Ok(found) if found.file_type().is_fifo() => return fault,
+        _ => {}
+    }
     match File::open(rt, RATES_FILE) {
         Ok(file) => Ok(RatesFile::There(IoSource::new(file))),
-        Err(fault) if fault.kind() == io::ErrorKind::NotFound => Ok(RatesFile::Missing),
-        Err(_) => Err(OpenFault::File(RATES_FILE)),
+        Err(error) if error.kind() == io::ErrorKind::NotFound => Ok(RatesFile::Missing),
+        Err(_) => fault,
     }
 }
 
+// Opens the rates, and sees whether the prints would go to a storage.
+fn look_beside(rt: &HostRuntime) -> Result<RatesFile<IoSource<File>>, OpenFault> {
+    let rates = open_rates(rt)?;
+    match fs::metadata(rt, PRINTS_FILE) {
+        Ok(found) if is_store(rt, &found) => Err(OpenFault::File(PRINTS_FILE)),
+        _ => Ok(rates),
+    }
+}
+
+// The printer. Nobody else reads what it prints, since a line of it is postage.
 fn open_printer(rt: &HostRuntime) -> Result<IoSink<File>, OpenFault> {
-    match OpenOptions::new()
-        .append(true)
-        .create(true)
-        .open(rt, PRINTS_FILE)
-    {
-        Ok(file) => Ok(IoSink::new(file)),
-        Err(_) => Err(OpenFault::File(PRINTS_FILE)),
+    let fault = Err(OpenFault::File(PRINTS_FILE));
+    let mut options = OpenOptions::new();
+    options.append(true).create(true);
+    options.mode(0o600);
+    let Ok(file) = options.open(rt, PRINTS_FILE) else {
+        return fault;
+    };
+    // A link may lead to a storage that this start has made.
+    match file.metadata() {
+        Ok(found) if !is_store(rt, &found) => Ok(IoSink::new(file)),
+        _ => fault,
+    }
+}
+
+// Opens the rates and the storages. No storage is made or changed before all of them can be used, the rates can be opened, and
+// the prints go elsewhere.
+fn open_files(rt: &HostRuntime) -> Result<(RatesFile<IoSource<File>>, Vec<FileNv>), OpenFault>
+    ensures eleven { IfOk result (λ opened. length opened.1.items ≡ 11) }
+    ensures fresh { IfOk result (λ opened. All (λ nv. Works (⟦<FileNv as Nv>⟧.meters nv)) opened.1.items) }
+{
+    let starting = match Starting::prepare(rt, &STORES) {
+        Ok(starting) => starting,
+        Err(name) => return Err(OpenFault::File(name)),
+    };
+    let rates = match look_beside(rt) {
+        Ok(rates) => rates,
+        Err(fault) => {
+            starting.discard(rt);
+            return Err(fault);
+        }
+    };
+    match starting.settle(rt) {
+        Ok(stores) => Ok((rates, stores)),
+        Err(name) => Err(OpenFault::File(name)),
+    }
+}
+
+fn bench_over(rt: &HostRuntime, stores: Vec<FileNv>) -> Result<Bench<FileNv>, OpenFault>
+    requires eleven { length stores.items ≡ 11 }
+    requires fresh { All (λ nv. Works (⟦<FileNv as Nv>⟧.meters nv)) stores.items }
+    ensures ready { IfOk result (λ bench. IsReady (bench_of bench)) }
+{
+    match Bench::new(rt.alloc(), split_stores(stores)) {
+        Ok(bench) => Ok(bench),
+        Err(_) => Err(OpenFault::Memory),
     }
 }
 
@@ -213,8 +202,8 @@ fn run_over_files(rt: &HostRuntime) -> Result<Status, OpenFault> {
         return Ok(Status::Words);
     }
     let _folder = hold_folder(rt)?;
-    let mut bench = open_bench(rt)?;
-    let mut rates = open_rates(rt)?;
+    let (mut rates, stores) = open_files(rt)?;
+    let mut bench = bench_over(rt, stores)?;
     let mut printer = open_printer(rt)?;
     let Ok(ahead) = vec![in rt.alloc(); 0; AHEAD] else {
         return Err(OpenFault::Memory);

@@ -3,7 +3,7 @@ ghost use Rattle.std.specs.Prelude.{None, false, true, [], ℕ, ◌≡◌, ◌�
 ghost use Rattle.nv_model.specs.Meters.{Answers, unharmed};
 ghost use Rattle.nv_file.specs.Ranges.{are_apart, joined, leaves_a_gap};
 
-use crate::whole::open_whole;
+use crate::whole;
 use nv_model::{Nv, NvFail};
 use std::fs::{File, Files};
 use std::io;
@@ -13,7 +13,7 @@ use std::os::unix::fs::FileExt;
 const PIECE: u32 = 4096;
 
 /// A call on the file or its folder failed, want of memory in it included; the name is that of a link or of something else
-/// that is no file; or the file has more than 4,294,967,295 bytes.
+/// that is no file; the file has more than 4,294,967,295 bytes; or it belongs to a user or a group that a new file can't be given.
 #[derive(Clone, Copy, Debug, PartialEq, Eq)]
 pub struct StartFault;
 
@@ -47,7 +47,7 @@ impl FileNv {
 
     /// Uses the file at a path, whatever its length, or makes it with `size` zero bytes where there is none. What was there
     /// is written to a new file, which takes the name once it is on the disk: so what is read is on the disk too, and power
-    /// may be cut meanwhile.
+    /// may be cut meanwhile. The new file has the owner, the group and the mode of the old one.
     pub fn start<R: Files<File = File> + AllocGlobal>(
         rt: &R,
         path: &str,
@@ -56,7 +56,27 @@ impl FileNv {
         ensures unharmed { IfOk result (λ nv. ⟦<FileNv as Nv>⟧.meters nv ≡ unharmed) }
         ensures synced { IfOk result (λ nv. unsynced nv ≡ nothing_unsynced) }
     {
-        let (file, size) = open_whole(rt, path, size).map_err(|_| StartFault)?;
+        let store = FileNv::prepare(rt, path, size)?;
+        if whole::give_name(rt, path).is_err() {
+            whole::discard(rt, path);
+            return Err(StartFault);
+        }
+        match whole::sync_folder(rt, path) {
+            Ok(()) => Ok(store),
+            Err(_) => Err(StartFault),
+        }
+    }
+
+    /// The storage of a path in its new file, on the disk, which has not taken the name yet.
+    pub(crate) fn prepare<R: Files<File = File> + AllocGlobal>(
+        rt: &R,
+        path: &str,
+        size: u32,
+    ) -> Result<FileNv, StartFault>
+        ensures unharmed { IfOk result (λ nv. ⟦<FileNv as Nv>⟧.meters nv ≡ unharmed) }
+        ensures synced { IfOk result (λ nv. unsynced nv ≡ nothing_unsynced) }
+    {
+        let (file, size) = whole::prepare(rt, path, size).map_err(|_| StartFault)?;
         Ok(FileNv {
             file,
             size,

@@ -2,6 +2,8 @@
 #![tactic(auto)]
 
 mod file;
+mod starting;
 mod whole;
 
 pub use file::{FileNv, StartFault};
+pub use starting::{Starting, StoreFile};

@@ -1,33 +1,53 @@
 //! Files that are made whole or not at all.
-use std::fs::{File, Files, OpenOptions};
-use std::os::unix::fs::{MetadataExt, OpenOptionsExt};
+use std::fs::{File, Files, Metadata, OpenOptions};
+use std::io::Read;
+use std::os::unix::fs::{MetadataExt, OpenOptionsExt, fchown};
 use std::path::Path;
 use std::{fs, io};
 
-/// Opens the file of a name, or makes it with `size` zero bytes, and answers its number of bytes too. Either way the file
-/// is a new one, with the bytes that were there, on the disk, and its name is on the disk too. What was there may be bytes
-/// that the system shows and the disk hasn't got, and what may be on the disk is never written over.
-pub fn open_whole<R: Files<File = File> + AllocGlobal>(
+/// Writes the bytes of the file of a name, or `size` zero bytes where there is none, to a new file beside its place, whose name
+/// ends in `.part`, and answers that file with its number of bytes. They are on the disk then; where that fails no part is left.
+/// What was there may be bytes that the system shows and the disk hasn't got, and what may be on the disk is never written over.
+pub fn prepare<R: Files<File = File> + AllocGlobal>(
     rt: &R,
     path: &str,
     size: u32,
 ) -> io::Result<(File, u32)> {
     let found = find(rt, path)?;
-    let part = format!(in rt.alloc(); "{path}.part")?;
+    let part = part_of(rt, path)?;
     let made = match found {
         Some(old) => copy(rt, part.as_str(), old),
         None => make(rt, part.as_str(), size),
     };
-    let named = match made {
-        Ok(made) => fs::rename(rt, part.as_str(), path).map(|()| made),
-        Err(error) => Err(error),
-    };
-    if named.is_err() {
+    if made.is_err() {
         let _ = fs::remove_file(rt, part.as_str());
-        return named;
     }
-    sync_folder(rt, path)?;
-    named
+    made
+}
+
+/// Gives what was prepared for a name that name. It is there after a cut of power only once the folder is on the disk.
+pub fn give_name<R: Files<File = File> + AllocGlobal>(rt: &R, path: &str) -> io::Result<()> {
+    fs::rename(rt, part_of(rt, path)?.as_str(), path)
+}
+
+/// Removes what was prepared for a name, as far as it can be removed.
+pub fn discard<R: Files<File = File> + AllocGlobal>(rt: &R, path: &str) {
+    if let Ok(part) = part_of(rt, path) {
+        let _ = fs::remove_file(rt, part.as_str());
+    }
+}
+
+/// Makes sure of the names in the folder of a path.
+pub fn sync_folder<R: Files<File = File>>(rt: &R, path: &str) -> io::Result<()> {
+    let folder = match Path::new(path).parent() {
+        Some(folder) if !folder.as_str().is_empty() => folder.as_str(),
+        _ => ".",
+    };
+    File::open(rt, folder)?.sync_all()
+}
+
+fn part_of<R: AllocGlobal>(rt: &R, path: &str) -> io::Result<String> {
+    Ok(format!(in rt.alloc(); "{path}.part")?)
 }
 
 fn refused() -> io::Error {
@@ -66,32 +86,46 @@ fn create<R: Files<File = File>>(rt: &R, path: &str) -> io::Result<File> {
     options.open(rt, path)
 }
 
-/// A new file of zero bytes.
-fn make<R: Files<File = File>>(rt: &R, path: &str, size: u32) -> io::Result<(File, u32)> {
-    let file = create(rt, path)?;
-    file.set_len(u64::from(size))?;
-    file.sync_all()?;
-    Ok((file, size))
-}
-
-/// A new file with the bytes of another.
-fn copy<R: Files<File = File>>(rt: &R, path: &str, old: File) -> io::Result<(File, u32)> {
-    let len = old.metadata()?.len();
-    let size = u32::try_from(len).map_err(|_| refused())?;
-    let mut old = old;
-    let mut file = create(rt, path)?;
-    if io::copy(&mut old, &mut file)? != len {
+/// Writes all that a reader gives to a new file, to the disk. It has to be so many bytes.
+fn fill(file: &mut File, from: &mut impl Read, len: u64) -> io::Result<()> {
+    if io::copy(from, file)? != len {
         return Err(refused());
     }
-    file.sync_all()?;
+    file.sync_all()
+}
+
+/// A new file of zero bytes. They are written, so that the disk has room for what will be written over them.
+fn make<R: Files<File = File>>(rt: &R, path: &str, size: u32) -> io::Result<(File, u32)> {
+    let mut file = create(rt, path)?;
+    let len = u64::from(size);
+    fill(&mut file, &mut io::repeat(0).take(len), len)?;
     Ok((file, size))
 }
 
-/// Makes sure of the names in the folder of a path.
-fn sync_folder<R: Files<File = File>>(rt: &R, path: &str) -> io::Result<()> {
-    let folder = match Path::new(path).parent() {
-        Some(folder) if !folder.as_str().is_empty() => folder.as_str(),
-        _ => ".",
-    };
-    File::open(rt, folder)?.sync_all()
+/// A new file with the bytes of another, which belongs to whom that one belongs to.
+fn copy<R: Files<File = File>>(rt: &R, path: &str, old: File) -> io::Result<(File, u32)> {
+    let found = old.metadata()?;
+    let size = u32::try_from(found.len()).map_err(|_| refused())?;
+    let mut old = old;
+    let mut file = create(rt, path)?;
+    hand_over(&file, &found)?;
+    fill(&mut file, &mut old, found.len())?;
+    Ok((file, size))
+}
+
+/// Gives a new file the owner, the group and the mode of another. What then belongs to someone else is refused.
+fn hand_over(file: &File, old: &Metadata) -> io::Result<()> {
+    if holders(&file.metadata()?) != holders(old) {
+        fchown(file, Some(old.uid()), Some(old.gid()))?;
+        // A file system without owners may answer that all went well.
+        if holders(&file.metadata()?) != holders(old) {
+            return Err(refused());
+        }
+    }
+    file.set_permissions(old.permissions())
+}
+
+/// The owner and the group of a file.
+fn holders(found: &Metadata) -> (u32, u32) {
+    (found.uid(), found.gid())
 }

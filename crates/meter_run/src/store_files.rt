@@ -1,0 +1,96 @@
+//! The files of the storages, in the current folder.
+ghost use Rattle.std.specs.Prelude.{◌≡◌, length};
+ghost use Rattle.std.specs.List.{All};
+ghost use Rattle.nv_model.specs.Meters.{Works};
+
+use bench::Stores;
+use bench_base::sizes::{CENTRE_BYTES, DEVICE_BYTES, VERIFIER_BYTES};
+use host_jobs::HOST_BYTES;
+use nv_file::{FileNv, StoreFile};
+use nv_model::Nv;
+use std::fs;
+use std::fs::Metadata;
+use std::os::unix::fs::MetadataExt;
+
+/// Those of devices 1 to 8, of the centre, of the host and of the verifier, in the order in which they are looked at.
+pub const STORES: [StoreFile; 11] = [
+    StoreFile {
+        name: "device-1.nv",
+        bytes: DEVICE_BYTES,
+    },
+    StoreFile {
+        name: "device-2.nv",
+        bytes: DEVICE_BYTES,
+    },
+    StoreFile {
+        name: "device-3.nv",
+        bytes: DEVICE_BYTES,
+    },
+    StoreFile {
+        name: "device-4.nv",
+        bytes: DEVICE_BYTES,
+    },
+    StoreFile {
+        name: "device-5.nv",
+        bytes: DEVICE_BYTES,
+    },
+    StoreFile {
+        name: "device-6.nv",
+        bytes: DEVICE_BYTES,
+    },
+    StoreFile {
+        name: "device-7.nv",
+        bytes: DEVICE_BYTES,
+    },
+    StoreFile {
+        name: "device-8.nv",
+        bytes: DEVICE_BYTES,
+    },
+    StoreFile {
+        name: "centre.nv",
+        bytes: CENTRE_BYTES,
+    },
+    StoreFile {
+        name: "host.nv",
+        bytes: HOST_BYTES,
+    },
+    StoreFile {
+        name: "verifier.nv",
+        bytes: VERIFIER_BYTES,
+    },
+];
+
+/// Whether a file is one of the storages, by whatever name it was found.
+pub fn is_store(rt: &HostRuntime, found: &Metadata) -> bool {
+    for file in STORES {
+        if let Ok(store) = fs::symlink_metadata(rt, file.name) {
+            if store.dev() == found.dev() && store.ino() == found.ino() {
+                return true;
+            }
+        }
+    }
+    false
+}
+
+/// The storages by what they are of, where they come in the order of `STORES`.
+pub fn split_stores(stores: Vec<FileNv>) -> Stores<FileNv>
+    requires eleven { length stores.items ≡ 11 }
+    requires fresh { All (λ nv. Works (⟦<FileNv as Nv>⟧.meters nv)) stores.items }
+    ensures eight { length result.devices.items ≡ 8 }
+    ensures fresh_devices { All (λ nv. Works (⟦<FileNv as Nv>⟧.meters nv)) result.devices.items }
+    ensures fresh_centre { Works (⟦<FileNv as Nv>⟧.meters result.centre) }
+    ensures fresh_host { Works (⟦<FileNv as Nv>⟧.meters result.host) }
+    ensures fresh_verifier { Works (⟦<FileNv as Nv>⟧.meters result.verifier) }
+{
+    let mut devices = stores;
+    let (Some(verifier), Some(host), Some(centre)) = (devices.pop(), devices.pop(), devices.pop())
+    else {
+        unreachable!()
+    };
+    Stores {
+        devices,
+        centre,
+        host,
+        verifier,
+    }
+}

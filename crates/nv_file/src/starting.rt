@@ -1,0 +1,84 @@
+//! Storages that start together: none takes its name before the bytes of all are on the disk.
+ghost use Rattle.std.specs.Prelude.{◌≡◌, IfOk, length};
+ghost use Rattle.std.specs.List.{All};
+ghost use Rattle.nv_model.specs.Meters.{unharmed};
+ghost use Rattle.nv_file.specs.Files.{unsynced, nothing_unsynced};
+ghost use Rattle.nv_file.specs.Starts.{stores_of};
+
+use crate::file::FileNv;
+use crate::whole;
+use nv_model::Nv;
+use std::fs::{File, Files};
+
+/// A storage that a start uses: the path of its file, and how many bytes it is made with where it is missing.
+#[derive(Clone, Copy, Debug, PartialEq, Eq)]
+pub struct StoreFile {
+    pub name: &'static str,
+    pub bytes: u32,
+}
+
+/// Storages whose bytes are on the disk, each in a new file beside its place. No storage is changed yet.
+#[derive(Drop)]
+pub struct Starting<'a> {
+    files: &'a [StoreFile],
+    stores: Vec<FileNv>,
+}
+
+impl Starting<'_> {
+    /// Prepares each storage, as `FileNv::start` does. Where one can't be used its name is answered, nothing that was prepared
+    /// is left, and no storage is changed.
+    pub fn prepare<'a, R: Files<File = File> + AllocGlobal>(
+        rt: &R,
+        files: &'a [StoreFile],
+    ) -> Result<Starting<'a>, &'static str>
+        ensures each { IfOk result (λ starting. length (stores_of starting) ≡ length files.now) }
+        ensures unharmed { IfOk result (λ starting. All (λ nv. ⟦<FileNv as Nv>⟧.meters nv ≡ unharmed) (stores_of starting)) }
+        ensures synced { IfOk result (λ starting. All (λ nv. unsynced nv ≡ nothing_unsynced) (stores_of starting)) }
+    {
+        let mut stores = Vec::new(rt.alloc());
+        for file in files {
+            let ready = match FileNv::prepare(rt, file.name, file.bytes) {
+                Ok(store) => stores.push(store).is_ok(),
+                Err(_) => false,
+            };
+            if !ready {
+                discard_all(rt, files);
+                return Err(file.name);
+            }
+        }
+        Ok(Starting { files, stores })
+    }
+
+    /// Gives each storage its name, and makes sure of the names. Where that fails at one its name is answered; those before it
+    /// have theirs, and hold what they held.
+    pub fn settle<R: Files<File = File> + AllocGlobal>(
+        self,
+        rt: &R,
+    ) -> Result<Vec<FileNv>, &'static str>
+        ensures kept { IfOk result (λ stores. stores.items ≡ stores_of self.entry) }
+    {
+        for file in self.files {
+            if whole::give_name(rt, file.name).is_err() {
+                discard_all(rt, self.files);
+                return Err(file.name);
+            }
+        }
+        for file in self.files {
+            if whole::sync_folder(rt, file.name).is_err() {
+                return Err(file.name);
+            }
+        }
+        Ok(self.stores)
+    }
+
+    /// Removes what was prepared. The storages are as they were before.
+    pub fn discard<R: Files<File = File> + AllocGlobal>(self, rt: &R) {
+        discard_all(rt, self.files);
+    }
+}
+
+fn discard_all<R: Files<File = File> + AllocGlobal>(rt: &R, files: &[StoreFile]) {
+    for file in files {
+        whole::discard(rt, file.name);
+    }
+}
