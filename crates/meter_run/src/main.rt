@@ -6,14 +6,12 @@ mod rates_file;
 mod store_files;
 
 ghost use Rattle.std.specs.Prelude.{◌≡◌, IfOk, length};
-ghost use Rattle.std.specs.List.{All};
-ghost use Rattle.nv_model.specs.Meters.{Works};
 ghost use Rattle.bench.specs.Benches.{IsReady, bench_of};
 
 use bench::Bench;
 use bench_base::stream::{IoSink, IoSource};
 use nv_file::{FileNv, Starting};
-use nv_model::{Fused, Nv};
+use nv_model::Fused;
 use rates_file::RatesFile;
 use read_ahead::ReadAhead;
 use script_replay::run::run;
@@ -164,7 +162,6 @@ fn open_printer(rt: &HostRuntime) -> Result<IoSink<File>, OpenFault> {
 // the prints go elsewhere.
 fn open_files(rt: &HostRuntime) -> Result<(RatesFile<IoSource<File>>, Vec<FileNv>), OpenFault>
     ensures eleven { IfOk result (λ opened. length opened.1.items ≡ 11) }
-    ensures fresh { IfOk result (λ opened. All (λ nv. Works (⟦<FileNv as Nv>⟧.meters nv)) opened.1.items) }
 {
     let starting = match Starting::prepare(rt, &STORES) {
         Ok(starting) => starting,
@@ -185,7 +182,6 @@ fn open_files(rt: &HostRuntime) -> Result<(RatesFile<IoSource<File>>, Vec<FileNv
 
 fn bench_over(rt: &HostRuntime, stores: Vec<FileNv>) -> Result<Bench<FileNv>, OpenFault>
     requires eleven { length stores.items ≡ 11 }
-    requires fresh { All (λ nv. Works (⟦<FileNv as Nv>⟧.meters nv)) stores.items }
     ensures ready { IfOk result (λ bench. IsReady (bench_of bench)) }
 {
     match Bench::new(rt.alloc(), split_stores(stores)) {

@@ -1,13 +1,10 @@
 //! The files of the storages, in the current folder.
 ghost use Rattle.std.specs.Prelude.{◌≡◌, length};
-ghost use Rattle.std.specs.List.{All};
-ghost use Rattle.nv_model.specs.Meters.{Works};
 
 use bench::Stores;
 use bench_base::sizes::{CENTRE_BYTES, DEVICE_BYTES, VERIFIER_BYTES};
 use host_jobs::HOST_BYTES;
 use nv_file::{FileNv, StoreFile};
-use nv_model::Nv;
 use std::fs;
 use std::fs::Metadata;
 use std::os::unix::fs::MetadataExt;
@@ -75,12 +72,7 @@ pub fn is_store(rt: &HostRuntime, found: &Metadata) -> bool {
 /// The storages by what they are of, where they come in the order of `STORES`.
 pub fn split_stores(stores: Vec<FileNv>) -> Stores<FileNv>
     requires eleven { length stores.items ≡ 11 }
-    requires fresh { All (λ nv. Works (⟦<FileNv as Nv>⟧.meters nv)) stores.items }
     ensures eight { length result.devices.items ≡ 8 }
-    ensures fresh_devices { All (λ nv. Works (⟦<FileNv as Nv>⟧.meters nv)) result.devices.items }
-    ensures fresh_centre { Works (⟦<FileNv as Nv>⟧.meters result.centre) }
-    ensures fresh_host { Works (⟦<FileNv as Nv>⟧.meters result.host) }
-    ensures fresh_verifier { Works (⟦<FileNv as Nv>⟧.meters result.verifier) }
 {
     let mut devices = stores;
     let (Some(verifier), Some(host), Some(centre)) = (devices.pop(), devices.pop(), devices.pop())
