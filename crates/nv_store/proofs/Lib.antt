@@ -1,6 +1,8 @@
 pub mod Put
 pub mod Gates
 pub mod Then
+pub mod Turn
+pub mod Filling
 pub mod Step
 pub mod OneCell
 pub mod OneStore

@@ -1,5 +1,5 @@
 -- What a commit and a mount over lent parts do: a storage, and the head and payload of its one cell.
-use Rattle.std.specs.Prelude.{◌≡◌, ◌≢◌, ℕ, ◌+◌, ◌*◌, ◌<◌, ◌^◌, List, Some, None, false, Result, Err, OnOk, OnErr, IfOk, IfErr, IsErrOf, MatchResult}
+use Rattle.std.specs.Prelude.{◌≡◌, ◌≢◌, ℕ, ◌+◌, ◌*◌, ◌<◌, ◌^◌, List, Some, None, false, Result, Err, OnOk, OnErr, IfOk, IfErr, IsErrOf, MatchResult, is_ok}
 use Rattle.bench_base.specs.declared.refusals.StoreFail.{StoreFail}
 use Rattle.bench_base.specs.declared.refusals.StoreFail.TheVariants as store
 use Rattle.nv_model.specs.declared.nv.Nv.{Ghosts}
@@ -9,6 +9,7 @@ use Rattle.nv_store.specs.Slot.{slots_at}
 use Rattle.nv_store.specs.Cells.{next_of}
 use Rattle.nv_store.specs.Fails.{ends_failed}
 use Rattle.nv_store.specs.Store.{one_held, OnlyShows, Between, Causes, Holds, commit_calls, next_is_open}
+use Rattle.nv_store.specs.Fills.{Fills, fill, told}
 use Rattle.nv_store.specs.Mounts.{Mounts, MountCauses}
 use Rattle.nv_store.specs.Scans.{IsMixed}
 use Rattle.nv_store.specs.declared.head.Head.{Head}
@@ -47,6 +48,8 @@ pub record CommitsParts {N : Type 0} (g : Ghosts N) (L n : ℕ) (before now : Pa
   pub holds : g.tells → ends_failed result ≡ false → Holds L n now.head now.kept (g.times now.nv) (g.content now.nv)
   pub causes : Causes (g.meters before.nv) (g.meters now.nv) false before.head.count result
   pub calls : OnOk result (UsesExactly (commit_calls (next_is_open n before.head)) (g.meters before.nv).fuse (g.meters now.nv).fuse)
+  pub fills : g.tells → (IsErrOf result store.Worn → ⊥)
+      → Fills (fill L n 0 (before.head.count + 1, payload)) (told g before.nv) (told g now.nv) (is_ok result)
   pub worn : IsErrOf result store.Worn → now.nv ≡ before.nv
   pub size : g.size now.nv ≡ g.size before.nv
 

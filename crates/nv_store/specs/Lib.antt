@@ -3,6 +3,7 @@ pub mod Slot
 pub mod Cells
 pub mod Steps
 pub mod Store
+pub mod Fills
 pub mod Mounts
 pub mod Scans
 pub mod Tables

@@ -67,6 +67,10 @@ abbrev pub commit_calls : Bool → ℕ
 commit_calls true = 6
 commit_calls false = 4
 
+-- so many at all events
+abbrev pub UsesCommit : Option ℕ → Option ℕ → Type 0
+UsesCommit before now = UsesExactly 4 before now ⊎ UsesExactly 6 before now
+
 -- whether the slot that the next commit fills is open
 abbrev pub next_is_open : ℕ → Head → Bool
 next_is_open n head = get_or head.gates (next_of head.count head.place n) false

@@ -1,10 +1,11 @@
 //! The cells of a table over lent parts: committing to one, and reading all.
-ghost use Rattle.std.specs.Prelude.{◌≡◌, ◌≢◌, ◌+◌, ◌*◌, ◌≤◌, ◌<◌, ◌^◌, List, ℕ, length, OnOk, OnErr, IfOk, IfSome, IfNone, true, false};
+ghost use Rattle.std.specs.Prelude.{◌≡◌, ◌≢◌, ◌+◌, ◌*◌, ◌≤◌, ◌<◌, ◌^◌, List, ℕ, length, OnOk, OnErr, IfOk, IfSome, IfNone, true, false, is_ok};
 ghost use Rattle.nv_model.specs.Meters.{Went, UsesExactly};
 ghost use Rattle.nv_model.specs.Moments.{Only, Elapses, Rests};
 ghost use Rattle.nv_store.specs.Slot.{slots_at, IsClear};
 ghost use Rattle.nv_store.specs.Scans.{IsMixed};
-ghost use Rattle.nv_store.specs.Store.{Between, count_of, after_commit, commit_calls};
+ghost use Rattle.nv_store.specs.Store.{Between, UsesCommit, count_of, after_commit, commit_calls};
+ghost use Rattle.nv_store.specs.Fills.{Fills, cell_fill, told};
 ghost use Rattle.nv_store.specs.Mounts.{Mounts};
 ghost use Rattle.nv_store.specs.Tables.{TableKnown, PlacesInside, table_held, cell_is_open};
 
@@ -43,7 +44,10 @@ pub fn commit_cell<N: Nv, const L: usize>(
     ensures same { length payloads.new.items ≡ length payloads.old.items }
     ensures durable { N.tells → OnOk result (Only (N.times nv.new) (N.content nv.new)) }
     ensures time { N.tells → Elapses (N.times nv.old) (N.times nv.new) }
+    ensures fills { N.tells → Fills (cell_fill L 2 cell (count_of (table_held heads.old.items payloads.old.items cell) + 1, payload.now))
+        (told N.Nv nv.old) (told N.Nv nv.new) (is_ok result) }
     ensures went { Went 6 (N.meters nv.old) (N.meters nv.new) result }
+    ensures uses { OnOk result (UsesCommit (N.meters nv.old).fuse (N.meters nv.new).fuse) }
     ensures calls { OnOk result (UsesExactly (commit_calls (cell_is_open heads.old.items cell)) (N.meters nv.old).fuse (N.meters nv.new).fuse) }
     ensures size { N.size nv.new ≡ N.size nv.old }
 {

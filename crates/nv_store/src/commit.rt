@@ -1,11 +1,12 @@
 //! A commit to the cell that begins at a place of the storage.
-ghost use Rattle.std.specs.Prelude.{◌≡◌, ◌+◌, ◌*◌, ◌≤◌, ◌<◌, ◌^◌, List, ℕ, OnOk, OnErr, Some, false};
+ghost use Rattle.std.specs.Prelude.{◌≡◌, ◌+◌, ◌*◌, ◌≤◌, ◌<◌, ◌^◌, List, ℕ, OnOk, OnErr, Some, false, is_ok};
 ghost use Rattle.nv_model.specs.Bytes.{SameOutside};
 ghost use Rattle.nv_model.specs.Meters.{Went, UsesExactly};
 ghost use Rattle.nv_model.specs.Moments.{Only, Elapses};
 ghost use Rattle.nv_store.specs.Slot.{slots_at};
 ghost use Rattle.nv_store.specs.Cells.{Known, Commits, shown, next_of};
 ghost use Rattle.nv_store.specs.Store.{commit_calls, next_is_open};
+ghost use Rattle.nv_store.specs.Fills.{Fills, fill, told};
 
 use crate::MOST_BYTES;
 use crate::head::Head;
@@ -42,6 +43,8 @@ pub fn commit_at<N: Nv, const L: usize>(
     ensures others { N.tells → OnOk result (SameOutside at (slots * (5 + L)) (N.content nv.old) (N.content nv.new)) }
     ensures time { N.tells → Elapses (N.times nv.old) (N.times nv.new) }
     ensures row { OnOk result ((head.new.count ≡ head.old.count + 1) × (kept.new ≡ payload.now) × (head.new.place < slots)) }
+    // It fills the slot whose turn it is.
+    ensures fills { N.tells → Fills (fill L slots at (head.old.count + 1, payload.now)) (told N.Nv nv.old) (told N.Nv nv.new) (is_ok result) }
     ensures place { OnOk result (head.new.place ≡ next_of head.old.count head.old.place slots) }
     ensures same { OnErr result ((head.new ≡ head.old) × (kept.new ≡ kept.old)) }
     ensures went { Went 6 (N.meters nv.old) (N.meters nv.new) result }

@@ -1,11 +1,12 @@
 //! The writes of a commit: closing a slot's gate, writing behind it, and opening it.
-ghost use Rattle.std.specs.Prelude.{◌≡◌, ◌+◌, ◌≤◌, ◌<◌, ◌^◌, ◌++◌, length, take, OnOk, Some, None, IsSome, false, is_some, if◌then◌else◌};
+ghost use Rattle.std.specs.Prelude.{◌≡◌, ◌+◌, ◌≤◌, ◌<◌, ◌^◌, ◌++◌, List, [], ◌∷◌, ℕ, length, take, OnOk, Some, None, IsSome, false, is_some, if◌then◌else◌};
 ghost use Rattle.std.specs.Int.{to_be_bytes, w32};
-ghost use Rattle.nv_model.specs.Bytes.{range};
+ghost use Rattle.nv_model.specs.Bytes.{SameOutside, range};
 ghost use Rattle.nv_model.specs.Meters.{Went, UsesExactly};
 ghost use Rattle.nv_model.specs.Moments.{Only};
 ghost use Rattle.nv_store.specs.Slot.{slot_at};
 ghost use Rattle.nv_store.specs.Store.{commit_calls};
+ghost use Rattle.nv_store.specs.Fills.{FillsSlot, closed};
 ghost use Rattle.nv_store.specs.Steps.{Puts, Steps, IsShut, IsOrShut, IsOrHolds};
 
 use crate::MOST_BYTES;
@@ -37,6 +38,7 @@ pub fn close_gate<N: Nv, const L: usize>(nv: &mut N, at: u32) -> Result<(), NvFa
     requires alone { N.tells → Only (N.times nv.old) (N.content nv.old) }
     requires is_open { N.tells → IsSome (slot_at L at (N.content nv.old)) }
     ensures steps { N.tells → Steps L at (IsOrShut (slot_at L at (N.content nv.old))) IsShut (N.content nv.old) (N.content nv.new) (N.times nv.old) (N.times nv.new) result }
+    ensures puts { N.tells → Puts at (0 ∷ []) (N.content nv.old) (N.content nv.new) (N.times nv.old) (N.times nv.new) result }
     ensures went { Went 2 (N.meters nv.old) (N.meters nv.new) result }
     ensures calls { OnOk result (UsesExactly 2 (N.meters nv.old).fuse (N.meters nv.new).fuse) }
     ensures size { N.size nv.new ≡ N.size nv.old }
@@ -67,6 +69,7 @@ pub fn write_payload<N: Nv, const L: usize>(
     requires alone { N.tells → Only (N.times nv.old) (N.content nv.old) }
     requires shut { N.tells → IsShut (slot_at L at (N.content nv.old)) }
     ensures steps { N.tells → Steps L at IsShut IsShut (N.content nv.old) (N.content nv.new) (N.times nv.old) (N.times nv.new) result }
+    ensures puts { N.tells → Puts (at + 1) (to_be_bytes w32 count ++ payload.now) (N.content nv.old) (N.content nv.new) (N.times nv.old) (N.times nv.new) result }
     ensures written { N.tells → OnOk result (range (N.content nv.new) (at + 1) (4 + L) ≡ to_be_bytes w32 count ++ payload.now) }
     ensures went { Went 2 (N.meters nv.old) (N.meters nv.new) result }
     ensures calls { OnOk result (UsesExactly 2 (N.meters nv.old).fuse (N.meters nv.new).fuse) }
@@ -91,6 +94,7 @@ pub fn open_gate<N: Nv, const L: usize>(
     requires shut { N.tells → IsShut (slot_at L at (N.content nv.old)) }
     requires written { N.tells → range (N.content nv.old) (at + 1) (4 + L) ≡ to_be_bytes w32 count ++ payload.now }
     ensures steps { N.tells → Steps L at (IsOrHolds None (count, payload.now)) (λ s. s ≡ Some (count, payload.now)) (N.content nv.old) (N.content nv.new) (N.times nv.old) (N.times nv.new) result }
+    ensures puts { N.tells → Puts at (165 ∷ []) (N.content nv.old) (N.content nv.new) (N.times nv.old) (N.times nv.new) result }
     ensures went { Went 2 (N.meters nv.old) (N.meters nv.new) result }
     ensures calls { OnOk result (UsesExactly 2 (N.meters nv.old).fuse (N.meters nv.new).fuse) }
     ensures size { N.size nv.new ≡ N.size nv.old }
@@ -106,6 +110,8 @@ fn shut<N: Nv, const L: usize>(nv: &mut N, at: u32, is_open: bool) -> Result<(),
     requires alone { N.tells → Only (N.times nv.old) (N.content nv.old) }
     requires gate { N.tells → is_some (slot_at L at (N.content nv.old)) ≡ is_open }
     ensures steps { N.tells → Steps L at (IsOrShut (slot_at L at (N.content nv.old))) IsShut (N.content nv.old) (N.content nv.new) (N.times nv.old) (N.times nv.new) result }
+    ensures torn { N.tells → (c : List ℕ) → (N.times nv.new).since (N.times nv.old).moment c → SameOutside at 1 (N.content nv.old) c }
+    ensures shuts { N.tells → OnOk result (N.content nv.new ≡ closed L at (N.content nv.old)) }
     ensures went { Went 2 (N.meters nv.old) (N.meters nv.new) result }
     ensures calls { OnOk result (UsesExactly (if is_open then 2 else 0) (N.meters nv.old).fuse (N.meters nv.new).fuse) }
     ensures size { N.size nv.new ≡ N.size nv.old }
@@ -132,6 +138,7 @@ pub fn fill_slot<N: Nv, const L: usize>(
     requires alone { N.tells → Only (N.times nv.old) (N.content nv.old) }
     requires gate { N.tells → is_some (slot_at L at (N.content nv.old)) ≡ is_open }
     ensures steps { N.tells → Steps L at (IsOrHolds (slot_at L at (N.content nv.old)) (count, payload.now)) (λ s. s ≡ Some (count, payload.now)) (N.content nv.old) (N.content nv.new) (N.times nv.old) (N.times nv.new) result }
+    ensures fills { N.tells → FillsSlot L at (count, payload.now) (N.content nv.old) (N.content nv.new) (N.times nv.old) (N.times nv.new) result }
     ensures went { Went 6 (N.meters nv.old) (N.meters nv.new) result }
     ensures calls { OnOk result (UsesExactly (commit_calls is_open) (N.meters nv.old).fuse (N.meters nv.new).fuse) }
     ensures size { N.size nv.new ≡ N.size nv.old }

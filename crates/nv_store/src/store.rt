@@ -1,6 +1,7 @@
 //! What a store of cells promises.
 ghost use Rattle.std.specs.Prelude.{◌≡◌, ◌<◌, Option, ℕ, option_map, false};
 ghost use Rattle.nv_store.specs.Store.{CommitsCell, OnlyShows, StoreView, count_sum, payload_of};
+ghost use Rattle.nv_store.specs.Fills.{FillsCell};
 
 use bench_base::refusals::StoreFail;
 
@@ -33,6 +34,7 @@ pub trait Store<const L: usize> {
     fn commit(&mut self, cell: u32, payload: &[u8; L]) -> Result<(), StoreFail>
         requires { cell < (view self.old).cells }
         ensures commits { CommitsCell tells L slots cell payload.now (view self.old) (view self.new) result }
+        ensures fills { FillsCell tells L slots cell payload.now (view self.old) (view self.new) result }
         ensures kept { keeps self.old self.new };
 
     /// The sum of the counts of the cells.

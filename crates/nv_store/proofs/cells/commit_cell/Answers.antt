@@ -1,5 +1,8 @@
 use Rattle.std.proofs.Common.{ℕ, ◌+◌, ◌*◌, ◌<◌, ◌≤◌, length, arith, rules, ◌^◌, sym, ◌∙◌, subst}
 use Rattle.std.proofs.lemmas.Result.{on_ok_weaker}
+use Rattle.std.specs.Prelude.{is_ok}
+use Rattle.nv_store.specs.Fills.{Fills, cell_fill, told}
+use Rattle.nv_store.proofs.Turn.{commit_uses}
 use Rattle.nv_store.specs.Tables.{table_held}
 use Rattle.nv_store.specs.TableKnows.{held_at}
 use Rattle.nv_store.specs.declared.head.Head.{Head}
@@ -67,3 +70,17 @@ returns-clause-places g c =
     either_way c.commit_at.result (on_ok_weaker c.commit_at.result (λ row some. row.2) c.commit_at.ensures.row)
     (err_weaker c.commit_at.result (λ same. subst (λ (h : Head). 0 < h.count → h.place < 2) (sym same.0) (c.requires.places.each c.args.cell head c.requires.inside at)) c.commit_at.ensures.same) in
     places_more 2 (length heads) (length heads) c.args.cell heads c.commit_at.new.head c.requires.inside (λ k lt differs. lt) c.requires.places inside
+
+pub returns-clause-fills : goal.returns-clause-fills
+returns-clause-fills g c tells =
+    let heads = c.args.heads.now.items in
+    let payloads = c.args.payloads.now.items in
+    let head = c.index_mut.result.now in
+    let payload = c.index_mut-2.result.now in
+    let at = at_item heads c.args.cell head c.requires.inside c.index_mut.ensures.value in
+    let at' = at_item payloads c.args.cell payload (omega (arith, c.requires.same, c.requires.inside)) c.index_mut-2.ensures.value in
+    subst (λ (n : ℕ). Fills (cell_fill g.row.L 2 c.args.cell (n + 1, c.args.payload.now)) (told g.N.Nv c.args.nv.now) (told g.N.Nv c.commit_at.new.nv) (is_ok c.commit_at.result))
+    (sym (count_at heads payloads c.args.cell head payload at at')) (c.commit_at.ensures.fills tells)
+
+pub returns-clause-uses : goal.returns-clause-uses
+returns-clause-uses g c = on_ok_weaker c.commit_at.result (λ used. commit_uses _ _ _ used) c.commit_at.ensures.calls

@@ -19,6 +19,7 @@ returns-then-head g c =
       holds = search rules;
       causes = search rules;
       calls = search rules;
+      fills = search rules;
       worn = search rules;
       size = search rules;
     }
@@ -39,6 +40,7 @@ returns-in-Ok g c =
       holds = λ tells works. record { only = c.in-Ok.ensures.durable tells; known = c.in-Ok.ensures.known tells };
       causes = search rules;
       calls = search rules;
+      fills = λ tells fresh. c.in-Ok.ensures.fills tells;
       worn = search rules;
       size = search rules;
     }
@@ -59,6 +61,7 @@ returns-in-Err g c =
       holds = search rules;
       causes = search rules;
       calls = search rules;
+      fills = λ tells fresh. c.in-Err.ensures.fills tells;
       worn = search rules;
       size = search rules;
     }

@@ -6,6 +6,11 @@ use Rattle.nv_store.specs.Steps.{Puts}
 use Rattle.nv_store.proofs.Gates.{payload_torn, payload_done}
 use Rattle.nv_store.proofs.steps.write_payload.Goals as goal
 
+pub returns-clause-puts : goal.returns-clause-puts
+returns-clause-puts g c tells =
+    let nv = g.N.Nv in
+    subst (λ (b : List ℕ). Puts (c.args.at + 1) b (nv.content c.args.nv.now) (nv.content c.put.new.nv) (nv.times c.args.nv.now) (nv.times c.put.new.nv) c.put.result) c.join.ensures (c.put.ensures.puts tells)
+
 pub returns-clause-steps : goal.returns-clause-steps
 returns-clause-steps g c tells =
     let nv = g.N.Nv in
