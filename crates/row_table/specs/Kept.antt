@@ -1,12 +1,13 @@
 -- A node that keeps the rows of its cells beside the memory of its table, which keeps their counts and payloads.
-use Rattle.std.proofs.Common.{◌≡◌, ◌≢◌, ◌⊎◌, inl, inr, ℕ, zero, suc, ◌+◌, ◌<◌, List, [], ◌∷◌, length, Option, Some, None, refl, sym, ◌∙◌, ap, subst, arith}
+use Rattle.std.proofs.Common.{◌≡◌, ◌≢◌, ◌⊎◌, inl, inr, ℕ, zero, suc, ◌+◌, ◌<◌, Bool, List, [], ◌∷◌, length, Option, Some, None, refl, sym, ◌∙◌, ap, subst, arith}
 use Rattle.std.proofs.lemmas.Bool.{cases_eq}
 use Rattle.std.proofs.lemmas.List.Sums.{sum_by-cons}
 use Rattle.nv_store.specs.Slot.{Held}
+use Rattle.nv_store.specs.Fills.{Fills, Told, cell_fill}
 use Rattle.nv_store.specs.Store.{cell_shown, count_of, count_sum, after_commit, Shows, Between}
 use Rattle.node_acts.specs.RowList.{RowList, row_at, row_of, commits_at, commits_in, put, listed}
 use Rattle.node_acts.specs.RowLaws.{listed_long, listed_at, put_listed, put_here, put_other}
-use Rattle.row_table.specs.Shows.{IsHeldAs, ShowsRows, HasForeignCell}
+use Rattle.row_table.specs.Shows.{IsHeldAs, ShowsRows, HasForeignCell, row_fill}
 
 -- a cell holds a payload that reads as the row, or nothing where there is no row
 abbrev pub IsFilled : {R : Type 0} → (R → List ℕ → Type 0) → Option R → Option Held → Type 0
@@ -95,6 +96,13 @@ module _ {R : Type 0} (cells : ℕ) (reads : ℕ → R → List ℕ → Type 0) 
 
     pub seen_count : (k : ℕ) → k < cells → commits_at (row_at seen k) ≡ count_of (held k)
     seen_count k lt = ap (λ (o : Option (ℕ × R)). commits_at o) (seen_at k lt) ∙ count_kept (reads k) (rows k) (held k) (filled k lt)
+
+    -- what a commit to a cell fills, by what is seen
+    pub seen_fills : (size k : ℕ) (payload bytes : List ℕ) → k < cells → payload ≡ bytes → (before now : Told) (made : Bool)
+        → Fills (cell_fill size 2 k (count_of (held k) + 1, payload)) before now made → Fills (row_fill size seen k bytes) before now made
+    seen_fills size k payload bytes lt same before now made fills =
+        subst (λ (p : List ℕ). Fills (cell_fill size 2 k (commits_at (row_at seen k) + 1, p)) before now made) same
+        (subst (λ (n : ℕ). Fills (cell_fill size 2 k (n + 1, payload)) before now made) (sym (seen_count k lt)) fills)
 
     -- an image that shows what the memory keeps shows what is seen
     pub seen_shown : (size : ℕ) (image : List ℕ) → Shows size 2 cells held image → ShowsRows size cells reads seen image

@@ -2,10 +2,11 @@
 use Rattle.std.specs.Prelude.{◌≡◌, ◌≢◌, ◌⊎◌, ℕ, ◌+◌, ◌*◌, ◌<◌, List, length, Option, Some, None}
 use Rattle.nv_model.specs.declared.nv.Nv.{Ghosts}
 use Rattle.nv_model.specs.Moments.{Only}
+use Rattle.nv_store.specs.Fills.{Fill, cell_fill}
 use Rattle.nv_store.specs.Scans.{IsMixed}
 use Rattle.nv_store.specs.Slot.{Held, slots_at}
 use Rattle.nv_store.specs.Store.{cell_shown, CellClear}
-use Rattle.node_acts.specs.RowList.{RowList, row_at}
+use Rattle.node_acts.specs.RowList.{RowList, row_at, commits_at}
 
 -- a cell holds what is seen of it: nothing, or so many commits and a payload that reads as the row
 abbrev pub IsHeldAs : {R : Type 0} → (R → List ℕ → Type 0) → Option (ℕ × R) → Option Held → Type 0
@@ -13,6 +14,10 @@ IsHeldAs reads None None = Unit {0}
 IsHeldAs reads None (Some h) = ⊥
 IsHeldAs reads (Some x) None = ⊥
 IsHeldAs reads (Some x) (Some h) = (h.0 ≡ x.0) × reads x.1 h.1
+
+-- a commit of these bytes to cell k of a table that shows these rows: with one commit more than the cell has
+abbrev pub row_fill : {R : Type 0} → ℕ → RowList R → ℕ → List ℕ → Fill
+row_fill size s k bytes = cell_fill size 2 k (commits_at (row_at s k) + 1, bytes)
 
 module _ {R : Type 0} (size cells : ℕ) (reads : ℕ → R → List ℕ → Type 0) where
   -- an image that shows these rows: each cell holds what is seen of it, and none is mixed
