@@ -4,3 +4,4 @@ pub mod Called
 pub mod Performed
 pub mod Armed
 pub mod Fails
+pub mod Wrote

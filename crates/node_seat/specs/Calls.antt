@@ -3,12 +3,14 @@ use Rattle.std.specs.Prelude.{◌≡◌, ◌↔◌, ◌&&◌, true, false, not, 
 use Rattle.nv_model.specs.declared.nv.Nv as nv
 use Rattle.nv_store.specs.Turns.{Turn, Spent}
 use Rattle.node_acts.specs.declared.act.Act.{Act}
+use Rattle.node_acts.specs.declared.act.Act.TheVariants.{Refuse, Tell, Commits}
 use Rattle.node_acts.specs.declared.act.Outcome.{Outcome}
 use Rattle.node_acts.specs.declared.act.Outcome.TheVariants as o
 use Rattle.node_acts.specs.Acts.{commit_of, MayCome, CommitsSome, CameOf, after_call, cost, has_failed, is_refusal}
 use Rattle.node_acts.specs.Views.{View}
 use Rattle.node_seat.specs.declared.node.Node.{Ghosts}
-use Rattle.node_seat.specs.Ends.{end_of_call, end_of}
+use Rattle.node_seat.specs.Does.{Writes}
+use Rattle.node_seat.specs.Ends.{end_of_call, end_of, is_done}
 use Rattle.node_seat.specs.Shown.{Allowed, IsAfter, IsNext, IsFitting}
 use Rattle.node_seat.specs.Stands.{times_of, meters_of, Stands}
 
@@ -31,3 +33,9 @@ module _ {K S N C R : Type 0} (n : Ghosts K S N C R) (g : nv.Ghosts S) where
     pub refused : is_refusal result ≡ true → t ≡ s
     pub tells_only : (CommitsSome (λ c. Unit {0}) (act (n.seen s)) → ⊥) → t ≡ s
     pub spent : Spent (cost (act (n.seen s))) (meters_of n g s) (meters_of n g t) (end_of result)
+
+  -- what a call of this act wrote: where it commits, the slot whose turn it is, whole once it is done
+  abbrev pub Wrote : {F A : Type 0} → Act C F A → K → K → Outcome F A → Type 0
+  Wrote (Refuse x) s t result = t ≡ s
+  Wrote (Tell a) s t result = t ≡ s
+  Wrote (Commits c x a) s t result = Writes g (n.fill (n.seen s) x) (n.storage s) (n.storage t) (not (is_refusal result)) (is_done result)

@@ -1,12 +1,14 @@
 -- What the calls of a node do to its record and its storage.
-use Rattle.std.specs.Prelude.{◌≡◌, ◌↔◌, ◌⊎◌, List, ℕ, true, Result, OnOk, IsErrOf}
+use Rattle.std.specs.Prelude.{◌≡◌, ◌↔◌, ◌⊎◌, List, ℕ, Bool, true, Result, OnOk, IsErrOf}
 use Rattle.bench_base.specs.declared.refusals.StoreFail.{StoreFail}
 use Rattle.bench_base.specs.declared.refusals.StoreFail.TheVariants.{Worn, Failed}
 use Rattle.nv_model.specs.declared.nv.Nv.{Ghosts}
 use Rattle.nv_model.specs.declared.nv.NvFail.{NvFail}
 use Rattle.nv_model.specs.Meters.{Restarts}
 use Rattle.nv_model.specs.Moments.{Elapses}
+use Rattle.nv_store.specs.Fills.{Fill, Fills, told}
 use Rattle.nv_store.specs.Mounts.{Mounts}
+use Rattle.nv_store.specs.Store.{UsesCommit}
 use Rattle.nv_store.specs.Turns.{End, Spent}
 use Rattle.node_acts.specs.Views.{Counting}
 
@@ -34,3 +36,8 @@ pub record Stores {S : Type 0} (g : Ghosts S) (IsOld IsNew : List ℕ → Type 0
   pub time : g.tells → Elapses (g.times before) (g.times now)
   pub spent : Spends g 6 before now end
   pub size : g.size now ≡ g.size before
+
+-- by bytes: where it began to write it fills the slot whose turn it is, and where it was made it used four calls or six
+pub record Writes {S : Type 0} (g : Ghosts S) (w : Fill) (before now : S) (began made : Bool) : Type 0 where
+  pub fills : g.tells → began ≡ true → Fills w (told g before) (told g now) made
+  pub calls : made ≡ true → UsesCommit (g.meters before).fuse (g.meters now).fuse

@@ -43,6 +43,23 @@ leaves_running (Err store.Fault) = false
 leaves_running (Err store.Worn) = true
 leaves_running (Err store.Failed) = true
 
+-- whether a commit began to write
+abbrev pub begins : Result (Unit {0}) StoreFail → Bool
+begins (Ok done) = true
+begins (Err store.Power) = true
+begins (Err store.Fault) = true
+begins (Err store.Worn) = false
+begins (Err store.Failed) = false
+
+-- whether a call came to what its act tells
+abbrev pub is_done : {F A : Type 0} → Outcome F A → Bool
+is_done o.Off = false
+is_done (o.Refused x) = false
+is_done (o.Done a) = true
+is_done o.Worn = false
+is_done (o.Power c) = false
+is_done (o.Fault c) = false
+
 -- a call that makes this commit, if it makes one
 abbrev pub end_of_call : {S F A : Type 0} → Outcome F A → Option (Commit × S) → End
 end_of_call o.Off made = Kept

@@ -2,9 +2,10 @@
 ghost use Rattle.std.specs.Prelude.{◌≡◌, ◌+◌, List, Bool, ℕ, OnOk, IsErrOf, true, false, is_ok};
 ghost use Rattle.nv_model.specs.Moments.{Image};
 ghost use Rattle.nv_model.specs.Still.{SameTimes, armed, with_fuse};
+ghost use Rattle.nv_store.specs.Fills.{Fill};
 ghost use Rattle.node_acts.specs.Views.{Counting};
-ghost use Rattle.node_seat.specs.Does.{Reads, RestartIs, Spends, Commits, Stores};
-ghost use Rattle.node_seat.specs.Ends.{end_of_boot, end_of_commit, leaves_running};
+ghost use Rattle.node_seat.specs.Does.{Reads, RestartIs, Spends, Commits, Stores, Writes};
+ghost use Rattle.node_seat.specs.Ends.{begins, end_of_boot, end_of_commit, leaves_running};
 
 use bench_base::refusals::{BootFail, StoreFail};
 use nv_model::{Fuse, NvFail};
@@ -28,6 +29,9 @@ pub trait Node: Drop + Sized {
 
     /// What its record counts, and how a change goes into it.
     ghost counting: { Counting Seen Self.Change };
+
+    /// What the commit of a change of a record writes, and to which cell.
+    ghost fill: { Seen → Self.Change → Fill };
 
     /// What is true of each change that code can make.
     ghost IsKept: { Self.Change → Type 0 };
@@ -91,7 +95,8 @@ pub trait Node: Drop + Sized {
         ensures rests { IsErrOf result StoreFail.Worn → self.new ≡ self.old }
         ensures answers { Commits counting (seen self.old) (seen self.new) change.now result }
         ensures stores { Stores Self.Storage.Nv (IsShown (seen self.old)) (IsShown (counting.after (seen self.old) change.now))
-            (storage self.old) (storage self.new) (end_of_commit result) };
+            (storage self.old) (storage self.new) (end_of_commit result) }
+        ensures writes { Writes Self.Storage.Nv (fill (seen self.old) change.now) (storage self.old) (storage self.new) (begins result) (is_ok result) };
 
     /// The number of commits.
     fn commits(&self) -> u64

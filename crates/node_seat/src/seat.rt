@@ -1,7 +1,7 @@
 //! A node in its place on the bench: it is switched on and off, does its calls, and has its fuse armed.
 ghost use Rattle.std.specs.Prelude.{◌≡◌, true};
 ghost use Rattle.node_acts.specs.declared.act.Act.{Act};
-ghost use Rattle.node_seat.specs.Calls.{CallDoes};
+ghost use Rattle.node_seat.specs.Calls.{CallDoes, Wrote};
 ghost use Rattle.node_seat.specs.Shown.{CanCommit};
 ghost use Rattle.node_seat.specs.Starts.{StartDoes, StopDoes, ArmDoes};
 
@@ -44,8 +44,9 @@ pub fn stop<K: Node>(node: &mut K) -> bool
 /// commit fails is switched off.
 pub fn perform<K: Node, F: Copy, A: Copy>(node: &mut K, act: &Act<K::Change, F, A>) -> Outcome<F, A>
     requires fits { K.Node.is_on node.old ≡ true → CanCommit K.Node (K.Node.seen node.old) act.now }
-    ensures { (by : K.Node.Seen → Act K.Change F A) → by (K.Node.seen node.old) ≡ act.now
+    ensures did { (by : K.Node.Seen → Act K.Change F A) → by (K.Node.seen node.old) ≡ act.now
         → CallDoes K.Node K.Storage.Nv by node.old node.new result }
+    ensures wrote { Wrote K.Node K.Storage.Nv act.now node.old node.new result }
 {
     if !node.is_on() {
         return Outcome::Off;
