@@ -1,11 +1,12 @@
 -- What the storage of a device shows: one cell of sixteen slots, with a payload that reads as its record.
-use Rattle.std.specs.Prelude.{◌≡◌, ℕ, List, Option, Some, None}
+use Rattle.std.specs.Prelude.{◌≡◌, ℕ, ◌+◌, List, Option, Some, None}
 use Rattle.bench_base.specs.declared.sizes.TheConstants.{RECORD_BYTES, SLOTS}
 use Rattle.nv_model.specs.Moments.{Times, Only}
 use Rattle.psd_state.specs.State as state
 use Rattle.psd_state.specs.State.{State}
 use Rattle.psd_state.specs.Seen.{Seen}
-use Rattle.psd_state.specs.Payload.{ReadsAs, Ranges}
+use Rattle.psd_state.specs.Payload.{ReadsAs, Ranges, bytes_of}
+use Rattle.nv_store.specs.Fills.{Fill, fill}
 use Rattle.nv_store.specs.Slot.{Held, slots_at, IsClear}
 use Rattle.nv_store.specs.Store.{cell_shown}
 
@@ -22,6 +23,10 @@ pub record IsShown (count : ℕ) (s : Option State) (image : List ℕ) : Type 0 
 
 abbrev pub ShowsSeen : Seen → List ℕ → Type 0
 ShowsSeen s image = IsShown s.count s.state image
+
+-- a commit of a record: to the one cell, in the spelling of version 2
+abbrev pub fill_of : Seen → State → Fill
+fill_of s next = fill RECORD_BYTES SLOTS 0 (s.count + 1, bytes_of next)
 
 -- the content is the only image, and shows them
 pub record OnlyShown (s : Seen) (now : Times) (content : List ℕ) : Type 0 where

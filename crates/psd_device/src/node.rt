@@ -1,14 +1,14 @@
 //! A device in its storage, on or off.
-ghost use Rattle.std.specs.Prelude.{◌≡◌, ◌==◌, ◌<◌, ◌^◌, OnErr, IsErrOf, true, false};
+ghost use Rattle.std.specs.Prelude.{◌≡◌, ◌==◌, ◌<◌, ◌^◌, OnErr, IsErrOf, true, false, is_ok};
 ghost use Rattle.std.specs.Option.{ForSome};
 ghost use Rattle.nv_model.specs.Meters.{Restarts};
 ghost use Rattle.bench_base.specs.declared.sizes.TheConstants.{RECORD_BYTES, SLOTS, DEVICE_BYTES};
 ghost use Rattle.nv_store.specs.Store.{one_held, Holds};
 ghost use Rattle.nv_ring.specs.Turns.{IsWearOf};
-ghost use Rattle.node_seat.specs.Does.{Reads, Commits, Stores};
-ghost use Rattle.node_seat.specs.Ends.{end_of_commit, leaves_running};
+ghost use Rattle.node_seat.specs.Does.{Reads, Commits, Stores, Writes};
+ghost use Rattle.node_seat.specs.Ends.{begins, end_of_commit, leaves_running};
 ghost use Rattle.psd_state.specs.Seen.{counting};
-ghost use Rattle.psd_device.specs.Shown.{IsHeld, IsKept, ShowsSeen};
+ghost use Rattle.psd_device.specs.Shown.{IsHeld, IsKept, ShowsSeen, fill_of};
 ghost use Rattle.psd_device.specs.Unique.{each_kept-prop, IsHeld-prop};
 
 use bench_base::numbers::DevNo;
@@ -110,6 +110,7 @@ impl<N: Nv> DeviceNode<N> {
         ensures answers { Commits counting (seen_in self.old) (seen_in self.new) next.now result }
         ensures stores { Stores N.Nv (ShowsSeen (seen_in self.old)) (ShowsSeen (counting.after (seen_in self.old) next.now))
             (storage_in self.old) (storage_in self.new) (end_of_commit result) }
+        ensures writes { Writes N.Nv (fill_of (seen_in self.old) next.now) (storage_in self.old) (storage_in self.new) (begins result) (is_ok result) }
         ensures wear { SameWear (wear_in self.old) (wear_in self.new) }
     {
         let payload = next.write_payload();

@@ -1,6 +1,6 @@
 use Rattle.std.proofs.Common.{arith, rules, true}
 use Rattle.nv_store.specs.Lent.{parts}
-use Rattle.nv_store.proofs.OneStore.{one_commits}
+use Rattle.nv_store.proofs.OneStore.{one_commits, one_fills}
 use Rattle.nv_ring.proofs.ring.RingStore.commit.Goals as goal
 
 pub count-requires-clause-room : goal.count-requires-clause-room
@@ -23,3 +23,21 @@ returns-in-Err-Worn-clause-commits g c =
     let s = c.args.self.now in
     let done = c.commit_lent-done in
     one_commits g.N.Nv g.row.L 16 c.args.cell (parts s.nv s.head s.payload) (parts done.new.nv done.new.head done.new.kept) c.args.payload.now done.result s.failed c.if-self.false s.failed c.requires (search rules) done.ensures
+
+pub returns-in-Ok-clause-fills : goal.returns-in-Ok-clause-fills
+returns-in-Ok-clause-fills g c =
+    let s = c.args.self.now in
+    let done = c.commit_lent-done in
+    one_fills g.N.Nv g.row.L 16 c.args.cell (parts s.nv s.head s.payload) (parts done.new.nv done.new.head done.new.kept) c.args.payload.now done.result s.failed s.failed c.requires done.ensures
+
+pub returns-in-Err-Power-clause-fills : goal.returns-in-Err-Power-clause-fills
+returns-in-Err-Power-clause-fills g c =
+    let s = c.args.self.now in
+    let done = c.commit_lent-done in
+    one_fills g.N.Nv g.row.L 16 c.args.cell (parts s.nv s.head s.payload) (parts done.new.nv done.new.head done.new.kept) c.args.payload.now done.result s.failed true c.requires done.ensures
+
+pub returns-in-Err-Worn-clause-fills : goal.returns-in-Err-Worn-clause-fills
+returns-in-Err-Worn-clause-fills g c =
+    let s = c.args.self.now in
+    let done = c.commit_lent-done in
+    one_fills g.N.Nv g.row.L 16 c.args.cell (parts s.nv s.head s.payload) (parts done.new.nv done.new.head done.new.kept) c.args.payload.now done.result s.failed s.failed c.requires done.ensures
