@@ -1,5 +1,5 @@
 -- What a commit of a row leaves.
-use Rattle.std.proofs.Common.{◌≡◌, ◌≢◌, ◌⊎◌, inl, inr, ℕ, ◌<◌, List, Option, Some, Bool, Ok, Err, IsErrOf, true, false, refl, sym, ◌∙◌, ap, subst, arith}
+use Rattle.std.proofs.Common.{◌≡◌, ◌≢◌, ◌⊎◌, inl, inr, ℕ, ◌+◌, ◌<◌, List, Option, Some, Bool, Ok, Err, IsErrOf, true, false, refl, sym, ◌∙◌, ap, subst, arith}
 use Rattle.std.proofs.lemmas.Bool.{cases_eq, false_from_ne_true}
 use Rattle.bench_base.specs.declared.refusals.StoreFail.{StoreFail}
 use Rattle.bench_base.specs.declared.refusals.StoreFail.TheVariants.{Worn}
@@ -7,6 +7,7 @@ use Rattle.bench_base.specs.declared.sizes.TheConstants.{MOST_COMMITS, ROW_BYTES
 use Rattle.nv_model.specs.declared.nv.Nv.{Ghosts}
 use Rattle.nv_store.specs.Slot.{Held}
 use Rattle.nv_model.specs.Meters.{Meters}
+use Rattle.nv_store.specs.Fills.{Fills, Told, cell_fill}
 use Rattle.nv_store.specs.Store.{Between, Causes, count_of}
 use Rattle.node_seat.specs.Does.{Commits}
 use Rattle.node_seat.specs.Ends.{leaves_running}
@@ -16,12 +17,12 @@ use Rattle.nv_store.specs.Rooms.{RoomPuts}
 use Rattle.nv_store.specs.declared.room.Room.{Room}
 use Rattle.node_acts.specs.RowList.{row_at, commits_at, is_worn, put}
 use Rattle.node_acts.specs.RowLaws.{listed_same, worn_is}
-use Rattle.row_table.specs.Kept.{IsFilled, with_count, seen_by, seen_count, still_filled, seen_put, between_seen}
+use Rattle.row_table.specs.Kept.{IsFilled, with_count, seen_by, seen_count, seen_fills, still_filled, seen_put, between_seen}
 use Rattle.centre_ledger.specs.declared.rows.Row.{Row}
 use Rattle.centre_ledger.specs.Books.{Books, AreSound, put_row}
-use Rattle.centre_ledger.specs.Payload.{RowReadsAs}
+use Rattle.centre_ledger.specs.Payload.{RowReadsAs, row_bytes}
 use Rattle.centre_ledger.specs.Seen.{Seen, cell_of, counting}
-use Rattle.centre_protocol.specs.Payloads.{IsPayloadOf, IsShown, HoldRows}
+use Rattle.centre_protocol.specs.Payloads.{IsPayloadOf, IsShown, HoldRows, fill_of}
 use Rattle.centre_protocol.specs.Cells.{HasCell, row_in, cell_inside, is_in, row_here, row_other}
 use Rattle.centre_protocol.specs.Sound.{IsFit}
 use Rattle.centre_protocol.specs.NodeView.{seen_in}
@@ -36,6 +37,12 @@ module _ {N : Type 0} {g : Ghosts N} (k : CentreNode N g) (x : Row) where
   module _ (has : HasCell x) where
     count_here : commits_at (row_at (seen_in k) (cell_of x)) ≡ count_of (kept_in k.room (cell_of x))
     count_here = seen_count CENTRE_CELLS IsPayloadOf (row_in k.accounts) (kept_in k.room) k.filled (cell_of x) (cell_inside x has)
+
+    -- what was written, by what is seen
+    pub fills_seen : (payload : List ℕ) → payload ≡ row_bytes x → (before now : Told) (made : Bool)
+        → Fills (cell_fill ROW_BYTES 2 (cell_of x) (count_of (kept_in k.room (cell_of x)) + 1, payload)) before now made → Fills (fill_of (seen_in k) x) before now made
+    fills_seen payload is before now made fills =
+        seen_fills CENTRE_CELLS IsPayloadOf (row_in k.accounts) (kept_in k.room) k.filled ROW_BYTES (cell_of x) payload (row_bytes x) (cell_inside x has) is before now made fills
 
     full : count_of (kept_in k.room (cell_of x)) ≡ MOST_COMMITS → is_worn (seen_in k) (cell_of x) ≡ true
     full most = (worn_is (seen_in k) (cell_of x)).1 (count_here ∙ most)

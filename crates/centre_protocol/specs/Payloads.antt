@@ -3,13 +3,14 @@ use Rattle.std.specs.Prelude.{◌≡◌, ℕ, ◌+◌, ◌<◌, ◌≤◌, List,
 use Rattle.bench_base.specs.declared.sizes.TheConstants.{ROW_BYTES, CENTRE_CELLS}
 use Rattle.nv_model.specs.declared.nv.Nv.{Ghosts}
 use Rattle.nv_store.specs.Slot.{Held}
-use Rattle.row_table.specs.Shows.{ShowsRows, IsDamagedTable}
+use Rattle.nv_store.specs.Fills.{Fill}
+use Rattle.row_table.specs.Shows.{ShowsRows, IsDamagedTable, row_fill}
 use Rattle.row_table.specs.Kept.{AreFilled}
 use Rattle.centre_ledger.specs.declared.rows.Row.{Row}
 use Rattle.centre_ledger.specs.declared.rows.Row.TheVariants as row
-use Rattle.centre_ledger.specs.Payload.{RowReadsAs}
+use Rattle.centre_ledger.specs.Payload.{RowReadsAs, row_bytes}
 use Rattle.centre_ledger.specs.Books.{AreSound}
-use Rattle.centre_ledger.specs.Seen.{Seen, books_in}
+use Rattle.centre_ledger.specs.Seen.{Seen, cell_of, books_in}
 
 -- the row is that of cell k: device d lies in cell d - 1, customer w in cell w + 7
 abbrev pub IsIn : ℕ → Row → Type 0
@@ -31,3 +32,7 @@ HoldRows rows held = AreFilled CENTRE_CELLS IsPayloadOf rows held
 -- why a boot answers Damaged: the size is another, or what the storage is sure to hold is mixed, no rows, or rows that do not agree
 abbrev pub IsDamaged : {N : Type 0} → Ghosts N → N → Type 0
 IsDamaged g nv = IsDamagedTable ROW_BYTES CENTRE_CELLS IsPayloadOf (λ s. AreSound (books_in s)) g nv
+
+-- a commit of a row: to its cell, in the spelling of version 2
+abbrev pub fill_of : Seen → Row → Fill
+fill_of s x = row_fill ROW_BYTES s (cell_of x) (row_bytes x)

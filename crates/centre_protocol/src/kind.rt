@@ -30,6 +30,8 @@ impl<M: Fuse + Drop> Node for CentreNode<M> {
 
     ghost counting = { seen_by.counting };
 
+    ghost fill = { λ s x. payloads.fill_of s x };
+
     ghost IsKept = { λ x. HasCell x };
 
     ghost IsFit = { λ s x. sound_by.IsFit s x };

@@ -1,14 +1,14 @@
 //! The centre in its storage, on or off.
-ghost use Rattle.std.specs.Prelude.{◌≡◌, ◌<◌, OnErr, IsErrOf, true, false};
+ghost use Rattle.std.specs.Prelude.{◌≡◌, ◌<◌, OnErr, IsErrOf, true, false, is_ok};
 ghost use Rattle.nv_model.specs.Meters.{Restarts};
 ghost use Rattle.bench_base.specs.declared.sizes.TheConstants.{ROW_BYTES, CENTRE_CELLS, CENTRE_BYTES};
 ghost use Rattle.nv_store.specs.RoomView.{cells_of, kept_in};
 ghost use Rattle.nv_store.specs.Rooms.{RoomRuns};
-ghost use Rattle.node_seat.specs.Does.{Reads, Commits, Stores};
-ghost use Rattle.node_seat.specs.Ends.{end_of_commit, leaves_running};
+ghost use Rattle.node_seat.specs.Does.{Reads, Commits, Stores, Writes};
+ghost use Rattle.node_seat.specs.Ends.{begins, end_of_commit, leaves_running};
 ghost use Rattle.centre_ledger.specs.Books.{AreSound};
 ghost use Rattle.centre_ledger.specs.Seen.{counting, books_in};
-ghost use Rattle.centre_protocol.specs.Payloads.{IsShown, HoldRows};
+ghost use Rattle.centre_protocol.specs.Payloads.{IsShown, HoldRows, fill_of};
 ghost use Rattle.centre_protocol.specs.Cells.{HasPlaces, HasCell, row_in};
 ghost use Rattle.centre_protocol.specs.Sound.{IsFit};
 ghost use Rattle.centre_protocol.specs.Unique.{hold_prop};
@@ -102,6 +102,7 @@ impl<N: Nv> CentreNode<N> {
         ensures answers { Commits counting (seen_in self.old) (seen_in self.new) row.now result }
         ensures stores { Stores N.Nv (IsShown (seen_in self.old)) (IsShown (counting.after (seen_in self.old) row.now))
             (storage_in self.old) (storage_in self.new) (end_of_commit result) }
+        ensures writes { Writes N.Nv (fill_of (seen_in self.old) row.now) (storage_in self.old) (storage_in self.new) (begins result) (is_ok result) }
     {
         if self.is_worn(row) {
             return Err(StoreFail::Worn);

@@ -1,6 +1,6 @@
 //! The cell and the payload of a row.
 ghost use Rattle.std.specs.Prelude.{◌≡◌};
-ghost use Rattle.centre_ledger.specs.Payload.{RowReadsAs};
+ghost use Rattle.centre_ledger.specs.Payload.{RowReadsAs, row_bytes};
 ghost use Rattle.centre_ledger.specs.Seen.{cell_of};
 ghost use Rattle.centre_protocol.specs.Cells.{HasCell, IsSoundRow};
 
@@ -21,6 +21,7 @@ pub fn cell_of(row: &Row) -> u32
 /// The spelling of the row, which is sound.
 pub fn payload_of(row: &Row) -> [u8; ROW_BYTES]
     requires sound { IsSoundRow row.now }
+    ensures value { result ≡ row_bytes row.now }
     ensures reads { RowReadsAs row.now result }
 {
     match row {

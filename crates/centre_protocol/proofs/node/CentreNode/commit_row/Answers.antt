@@ -2,11 +2,11 @@ use Rattle.std.proofs.Common.{ℕ, Ok, Err, rules, inl, refl, sym, ◌∙◌, su
 use Rattle.nv_store.specs.RoomView.{kept_in}
 use Rattle.nv_store.specs.Rooms.{RoomCommits}
 use Rattle.nv_store.specs.Store.{count_of}
-use Rattle.node_seat.proofs.Fails.{spent_failed}
+use Rattle.node_seat.proofs.Fails.{spent_failed, writes_as}
 use Rattle.centre_ledger.specs.Seen.{cell_of}
 use Rattle.centre_protocol.specs.Cells.{HasPlaces, put_places}
 use Rattle.centre_protocol.specs.Knows.{shows}
-use Rattle.centre_protocol.proofs.Commits.{rows_fit, between, filled_after, seen_after, filled_still, seen_still, fails_fresh, fails_off, not_found_worn}
+use Rattle.centre_protocol.proofs.Commits.{fills_seen, rows_fit, between, filled_after, seen_after, filled_still, seen_still, fails_fresh, fails_off, not_found_worn}
 use Rattle.centre_protocol.proofs.node.CentreNode.commit_row.Goals as goal
 
 pub put-requires : goal.put-requires
@@ -129,3 +129,21 @@ returns-in-Err-clause-rests g c is =
     let here = c.cell_of-cell.ensures in
     let e = subst (λ (j : ℕ). RoomCommits g.N.Nv j c.payload_of-payload.result k.room c.commit_room.new.room k.nv c.commit_room.new.nv (Err c.in-Err.fail)) here.value c.in-Err.ensures in
     absurd (not_found_worn k c.args.row.now here.has (sym c.if-is_worn.ensures.worn) c.in-Err.fail _ _ e.causes is)
+
+pub returns-in-Ok-clause-writes : goal.returns-in-Ok-clause-writes
+returns-in-Ok-clause-writes g c =
+    let k = c.args.self.now in
+    let e = c.cell_of-cell.ensures in
+    let bytes = c.payload_of-payload.result in
+    let done = subst (λ (j : ℕ). RoomCommits g.N.Nv j bytes k.room c.commit_room.new.room k.nv c.commit_room.new.nv (Ok tt)) e.value c.in-Ok.ensures in
+    writes_as g.N.Nv _ k.nv c.commit_room.new.nv (Ok tt)
+    (λ tells fresh. fills_seen k c.args.row.now e.has bytes c.payload_of-payload.ensures.value _ _ _ (done.fills tells fresh)) done.calls
+
+pub returns-in-Err-clause-writes : goal.returns-in-Err-clause-writes
+returns-in-Err-clause-writes g c =
+    let k = c.args.self.now in
+    let here = c.cell_of-cell.ensures in
+    let bytes = c.payload_of-payload.result in
+    let e = subst (λ (j : ℕ). RoomCommits g.N.Nv j bytes k.room c.commit_room.new.room k.nv c.commit_room.new.nv (Err c.in-Err.fail)) here.value c.in-Err.ensures in
+    writes_as g.N.Nv _ k.nv c.commit_room.new.nv (Err c.in-Err.fail)
+    (λ tells fresh. fills_seen k c.args.row.now here.has bytes c.payload_of-payload.ensures.value _ _ _ (e.fills tells fresh)) e.calls
