@@ -1,5 +1,5 @@
 -- What a commit of a job leaves.
-use Rattle.std.proofs.Common.{◌≡◌, ◌≢◌, ◌⊎◌, inl, inr, ℕ, ◌<◌, List, Option, Some, Bool, Ok, Err, IsErrOf, true, false, refl, sym, ◌∙◌, ap, subst, arith}
+use Rattle.std.proofs.Common.{◌≡◌, ◌≢◌, ◌⊎◌, inl, inr, ℕ, ◌+◌, ◌<◌, List, Option, Some, Bool, Ok, Err, IsErrOf, true, false, refl, sym, ◌∙◌, ap, subst, arith}
 use Rattle.std.specs.Prelude.{IfSome}
 use Rattle.std.proofs.lemmas.Bool.{cases_eq, false_from_ne_true}
 use Rattle.bench_base.specs.declared.refusals.StoreFail.{StoreFail}
@@ -8,6 +8,7 @@ use Rattle.bench_base.specs.declared.sizes.TheConstants.{MOST_COMMITS}
 use Rattle.nv_model.specs.declared.nv.Nv.{Ghosts}
 use Rattle.nv_store.specs.Slot.{Held}
 use Rattle.nv_model.specs.Meters.{Meters}
+use Rattle.nv_store.specs.Fills.{Fills, Told, cell_fill}
 use Rattle.nv_store.specs.Store.{Between, Causes, count_of}
 use Rattle.node_seat.specs.Does.{Commits}
 use Rattle.node_seat.specs.Ends.{leaves_running}
@@ -17,14 +18,14 @@ use Rattle.nv_store.specs.Rooms.{RoomPuts}
 use Rattle.nv_store.specs.declared.room.Room.{Room}
 use Rattle.node_acts.specs.RowList.{row_at, commits_at, is_worn, put}
 use Rattle.node_acts.specs.RowLaws.{listed_same, worn_is}
-use Rattle.row_table.specs.Kept.{IsFilled, with_count, seen_by, seen_count, still_filled, seen_put, between_seen}
+use Rattle.row_table.specs.Kept.{IsFilled, with_count, seen_by, seen_count, seen_fills, still_filled, seen_put, between_seen}
 use Rattle.host_jobs.specs.declared.rows.JobRow.{JobRow}
 use Rattle.host_jobs.specs.declared.sizes.TheConstants.{JOB_BYTES, HOST_CELLS}
-use Rattle.host_jobs.specs.Payload.{JobReadsAs}
+use Rattle.host_jobs.specs.Payload.{JobReadsAs, job_bytes}
 use Rattle.host_jobs.specs.Rows.{Jobs, row_in, put_row}
 use Rattle.host_jobs.specs.Seen.{Seen, cell_of, counting}
 use Rattle.host_jobs.specs.Soundness.{IsSoundJob, IsJobAt, IsNext}
-use Rattle.host_node.specs.Payloads.{IsPayloadOf, IsShown, HoldRows}
+use Rattle.host_node.specs.Payloads.{IsPayloadOf, IsShown, HoldRows, fill_of}
 use Rattle.host_node.specs.Cells.{cell_inside, row_here, row_other}
 use Rattle.host_node.specs.Sound.{IsFit}
 use Rattle.host_node.specs.NodeView.{seen_in}
@@ -44,6 +45,12 @@ module _ {N : Type 0} {g : Ghosts N} (k : HostNode N g) (x : JobRow) where
 
   count_here : commits_at (row_at (seen_in k) (cell_of x)) ≡ count_of (kept_in k.room (cell_of x))
   count_here = seen_count HOST_CELLS IsPayloadOf (row_in k.rows) (kept_in k.room) k.filled (cell_of x) (cell_inside x)
+
+  -- what was written, by what is seen
+  pub fills_seen : (payload : List ℕ) → payload ≡ job_bytes x → (before now : Told) (made : Bool)
+      → Fills (cell_fill JOB_BYTES 2 (cell_of x) (count_of (kept_in k.room (cell_of x)) + 1, payload)) before now made → Fills (fill_of (seen_in k) x) before now made
+  fills_seen payload is before now made fills =
+      seen_fills HOST_CELLS IsPayloadOf (row_in k.rows) (kept_in k.room) k.filled JOB_BYTES (cell_of x) payload (job_bytes x) (cell_inside x) is before now made fills
 
   full : count_of (kept_in k.room (cell_of x)) ≡ MOST_COMMITS → is_worn (seen_in k) (cell_of x) ≡ true
   full most = (worn_is (seen_in k) (cell_of x)).1 (count_here ∙ most)

@@ -2,11 +2,12 @@
 use Rattle.std.specs.Prelude.{◌≡◌, ℕ, List, Option}
 use Rattle.nv_model.specs.declared.nv.Nv.{Ghosts}
 use Rattle.nv_store.specs.Slot.{Held}
-use Rattle.row_table.specs.Shows.{ShowsRows, IsDamagedTable}
+use Rattle.nv_store.specs.Fills.{Fill}
+use Rattle.row_table.specs.Shows.{ShowsRows, IsDamagedTable, row_fill}
 use Rattle.row_table.specs.Kept.{AreFilled}
 use Rattle.host_jobs.specs.declared.rows.JobRow.{JobRow}
 use Rattle.host_jobs.specs.declared.sizes.TheConstants.{JOB_BYTES, HOST_CELLS}
-use Rattle.host_jobs.specs.Payload.{JobReadsAs}
+use Rattle.host_jobs.specs.Payload.{JobReadsAs, job_bytes}
 use Rattle.host_jobs.specs.Seen.{Seen, cell_of, rows_in}
 use Rattle.host_jobs.specs.Soundness.{AreSound}
 
@@ -25,3 +26,7 @@ HoldRows rows held = AreFilled HOST_CELLS IsPayloadOf rows held
 -- why a boot answers Damaged: the size is another, or what the storage is sure to hold is mixed, no jobs, or jobs that do not agree
 abbrev pub IsDamaged : {N : Type 0} → Ghosts N → N → Type 0
 IsDamaged g nv = IsDamagedTable JOB_BYTES HOST_CELLS IsPayloadOf (λ s. AreSound (rows_in s)) g nv
+
+-- a commit of a job: to its cell, in its one spelling
+abbrev pub fill_of : Seen → JobRow → Fill
+fill_of s x = row_fill JOB_BYTES s (cell_of x) (job_bytes x)

@@ -29,6 +29,8 @@ impl<M: Fuse + Drop> Node for HostNode<M> {
 
     ghost counting = { seen_by.counting };
 
+    ghost fill = { λ s x. payloads.fill_of s x };
+
     ghost IsKept = { λ x. Unit {0} };
 
     ghost IsFit = { λ s x. sound_by.IsFit s x };

@@ -1,15 +1,15 @@
 //! The host in its storage, on or off.
-ghost use Rattle.std.specs.Prelude.{◌≡◌, OnErr, IsErrOf, true, false};
+ghost use Rattle.std.specs.Prelude.{◌≡◌, OnErr, IsErrOf, true, false, is_ok};
 ghost use Rattle.nv_model.specs.Meters.{Restarts};
 ghost use Rattle.host_jobs.specs.declared.sizes.TheConstants.{JOB_BYTES, HOST_CELLS, HOST_BYTES};
 ghost use Rattle.nv_store.specs.RoomView.{cells_of, kept_in};
 ghost use Rattle.nv_store.specs.Rooms.{RoomRuns};
-ghost use Rattle.node_seat.specs.Does.{Reads, Commits, Stores};
-ghost use Rattle.node_seat.specs.Ends.{end_of_commit, leaves_running};
+ghost use Rattle.node_seat.specs.Does.{Reads, Commits, Stores, Writes};
+ghost use Rattle.node_seat.specs.Ends.{begins, end_of_commit, leaves_running};
 ghost use Rattle.host_jobs.specs.Rows.{row_in};
 ghost use Rattle.host_jobs.specs.Seen.{counting};
 ghost use Rattle.host_jobs.specs.Soundness.{IsKept};
-ghost use Rattle.host_node.specs.Payloads.{IsShown, HoldRows};
+ghost use Rattle.host_node.specs.Payloads.{IsShown, HoldRows, fill_of};
 ghost use Rattle.host_node.specs.Sound.{IsFit};
 ghost use Rattle.host_node.specs.Unique.{hold_prop, kept_prop};
 
@@ -91,6 +91,7 @@ impl<N: Nv> HostNode<N> {
         ensures answers { Commits counting (seen_in self.old) (seen_in self.new) row.now result }
         ensures stores { Stores N.Nv (IsShown (seen_in self.old)) (IsShown (counting.after (seen_in self.old) row.now))
             (storage_in self.old) (storage_in self.new) (end_of_commit result) }
+        ensures writes { Writes N.Nv (fill_of (seen_in self.old) row.now) (storage_in self.old) (storage_in self.new) (begins result) (is_ok result) }
     {
         if self.is_worn(row) {
             return Err(StoreFail::Worn);

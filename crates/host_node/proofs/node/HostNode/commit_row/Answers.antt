@@ -2,10 +2,10 @@ use Rattle.std.proofs.Common.{ℕ, Ok, Err, rules, inl, refl, sym, ◌∙◌, su
 use Rattle.nv_store.specs.RoomView.{kept_in}
 use Rattle.nv_store.specs.Rooms.{RoomCommits}
 use Rattle.nv_store.specs.Store.{count_of}
-use Rattle.node_seat.proofs.Fails.{spent_failed}
+use Rattle.node_seat.proofs.Fails.{spent_failed, writes_as}
 use Rattle.host_jobs.specs.Seen.{cell_of}
 use Rattle.host_node.specs.Knows.{shows}
-use Rattle.host_node.proofs.Commits.{rows_fit, sound_fit, between, filled_after, seen_after, filled_still, seen_still, fails_fresh, fails_off, not_found_worn}
+use Rattle.host_node.proofs.Commits.{fills_seen, rows_fit, sound_fit, between, filled_after, seen_after, filled_still, seen_still, fails_fresh, fails_off, not_found_worn}
 use Rattle.host_node.proofs.node.HostNode.commit_row.Goals as goal
 
 pub write_payload-payload-requires : goal.write_payload-payload-requires
@@ -137,3 +137,19 @@ returns-in-Err-clause-rests g c is =
     let room = c.commit_room.new.room in
     let e = subst (λ (j : ℕ). RoomCommits g.N.Nv j bytes k.room room k.nv c.commit_room.new.nv (Err c.in-Err.fail)) c.cell_of-cell.ensures c.in-Err.ensures in
     absurd (not_found_worn k x (sym c.if-is_worn.ensures) c.in-Err.fail _ _ e.causes is)
+
+pub returns-in-Ok-clause-writes : goal.returns-in-Ok-clause-writes
+returns-in-Ok-clause-writes g c =
+    let k = c.args.self.now in
+    let bytes = c.write_payload-payload.result in
+    let done = subst (λ (j : ℕ). RoomCommits g.N.Nv j bytes k.room c.commit_room.new.room k.nv c.commit_room.new.nv (Ok tt)) c.cell_of-cell.ensures c.in-Ok.ensures in
+    writes_as g.N.Nv _ k.nv c.commit_room.new.nv (Ok tt)
+    (λ tells fresh. fills_seen k c.args.row.now bytes c.write_payload-payload.ensures.value _ _ _ (done.fills tells fresh)) done.calls
+
+pub returns-in-Err-clause-writes : goal.returns-in-Err-clause-writes
+returns-in-Err-clause-writes g c =
+    let k = c.args.self.now in
+    let bytes = c.write_payload-payload.result in
+    let e = subst (λ (j : ℕ). RoomCommits g.N.Nv j bytes k.room c.commit_room.new.room k.nv c.commit_room.new.nv (Err c.in-Err.fail)) c.cell_of-cell.ensures c.in-Err.ensures in
+    writes_as g.N.Nv _ k.nv c.commit_room.new.nv (Err c.in-Err.fail)
+    (λ tells fresh. fills_seen k c.args.row.now bytes c.write_payload-payload.ensures.value _ _ _ (e.fills tells fresh)) e.calls
