@@ -1,5 +1,5 @@
 -- What a commit of a change leaves.
-use Rattle.std.proofs.Common.{◌≡◌, ◌≢◌, ◌⊎◌, inl, inr, ℕ, ◌<◌, List, option_map, Option, Some, None, Bool, Ok, Err, IsErrOf, true, false, refl, sym, ◌∙◌, ap, subst, arith}
+use Rattle.std.proofs.Common.{◌≡◌, ◌≢◌, ◌⊎◌, inl, inr, ℕ, ◌+◌, ◌<◌, List, option_map, Option, Some, None, Bool, Ok, Err, IsErrOf, true, false, refl, sym, ◌∙◌, ap, subst, arith}
 use Rattle.std.specs.Prelude.{IsSome, is_some, MatchBool}
 use Rattle.std.proofs.lemmas.Bool.{cases_eq, false_from_ne_true}
 use Rattle.bench_base.specs.declared.refusals.StoreFail.{StoreFail}
@@ -8,6 +8,7 @@ use Rattle.bench_base.specs.declared.sizes.TheConstants.{MOST_COMMITS, BLOCK_BYT
 use Rattle.nv_model.specs.declared.nv.Nv.{Ghosts}
 use Rattle.nv_model.specs.Meters.{Meters}
 use Rattle.nv_store.specs.Slot.{Held}
+use Rattle.nv_store.specs.Fills.{Fills, Told, cell_fill}
 use Rattle.nv_store.specs.Store.{Between, Causes, count_of, payload_of}
 use Rattle.nv_store.specs.RoomView.{cells_of, kept_in}
 use Rattle.nv_store.specs.Rooms.{RoomPuts}
@@ -17,17 +18,17 @@ use Rattle.node_seat.specs.Ends.{leaves_running}
 use Rattle.node_seat.proofs.Fails.{ends_running}
 use Rattle.node_acts.specs.RowList.{row_at, commits_at, is_worn}
 use Rattle.node_acts.specs.RowLaws.{listed_same, worn_is}
-use Rattle.row_table.specs.Kept.{IsFilled, with_count, seen_count, still_filled, seen_put, between_seen}
+use Rattle.row_table.specs.Kept.{IsFilled, with_count, seen_count, seen_fills, still_filled, seen_put, between_seen}
 use Rattle.verifier.specs.declared.acts.Change.{Change}
 use Rattle.verifier.specs.declared.index.Entry.{Entry}
 use Rattle.verifier.specs.ActLaws.{IsFit}
 use Rattle.verifier.specs.Index.{IsIndexOf}
-use Rattle.verifier.specs.Payload.{IsPayloadOf, RowReadsAs, row_of}
+use Rattle.verifier.specs.Payload.{IsPayloadOf, RowReadsAs, row_of, row_bytes}
 use Rattle.verifier.specs.Rows.{Row}
 use Rattle.verifier.specs.Seen.{Seen, AreTogether, cell_of, row_with, counting}
 use Rattle.verifier.proofs.Cells.{shown-none}
 use Rattle.verifier.proofs.Laid.{payload-laws}
-use Rattle.verifier_node.specs.Payloads.{IsShown, HoldRows, rows_held, seen_held}
+use Rattle.verifier_node.specs.Payloads.{IsShown, HoldRows, fill_of, rows_held, seen_held}
 use Rattle.verifier_node.specs.Sound.{HasCell}
 use Rattle.verifier_node.specs.Indexes.{CanIndex, Indexes}
 use Rattle.verifier_node.specs.NodeView.{seen_in}
@@ -40,6 +41,12 @@ module _ {N : Type 0} {g : Ghosts N} (k : VerifierNode N g) (x : Change) where
   module _ (has : HasCell x) where
     count_here : commits_at (row_at (seen_in k) (cell_of x)) ≡ count_of (kept_in k.room (cell_of x))
     count_here = seen_count VERIFIER_CELLS IsPayloadOf (rows_held (kept_in k.room)) (kept_in k.room) k.filled (cell_of x) has
+
+    -- what was written, by what is seen
+    pub fills_seen : (payload : List ℕ) → payload ≡ row_bytes (row_with (seen_in k) x) → (before now : Told) (made : Bool)
+        → Fills (cell_fill BLOCK_BYTES 2 (cell_of x) (count_of (kept_in k.room (cell_of x)) + 1, payload)) before now made → Fills (fill_of (seen_in k) x) before now made
+    fills_seen payload is before now made fills =
+        seen_fills VERIFIER_CELLS IsPayloadOf (rows_held (kept_in k.room)) (kept_in k.room) k.filled BLOCK_BYTES (cell_of x) payload (row_bytes (row_with (seen_in k) x)) has is before now made fills
 
     full : count_of (kept_in k.room (cell_of x)) ≡ MOST_COMMITS → is_worn (seen_in k) (cell_of x) ≡ true
     full most = (worn_is (seen_in k) (cell_of x)).1 (count_here ∙ most)

@@ -30,6 +30,8 @@ impl<M: Fuse + Drop> Node for VerifierNode<M> {
 
     ghost counting = { seen_by.counting };
 
+    ghost fill = { λ s x. payloads.fill_of s x };
+
     ghost IsKept = { λ x. sound_by.HasCell x };
 
     ghost IsFit = { λ s x. acts.IsFit s x };

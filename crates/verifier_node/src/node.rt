@@ -1,18 +1,18 @@
 //! The verifier in its storage, on or off.
-ghost use Rattle.std.specs.Prelude.{◌≡◌, ◌<◌, OnErr, IsErrOf, true, false};
+ghost use Rattle.std.specs.Prelude.{◌≡◌, ◌<◌, OnErr, IsErrOf, true, false, is_ok};
 ghost use Rattle.nv_model.specs.Meters.{Restarts};
 ghost use Rattle.bench_base.specs.declared.sizes.TheConstants.{BLOCK_BYTES, VERIFIER_CELLS, VERIFIER_BYTES};
 ghost use Rattle.nv_store.specs.RoomView.{cells_of, kept_in};
 ghost use Rattle.nv_store.specs.Rooms.{RoomRuns};
-ghost use Rattle.node_seat.specs.Does.{Reads, Commits, Stores};
-ghost use Rattle.node_seat.specs.Ends.{end_of_commit, leaves_running};
+ghost use Rattle.node_seat.specs.Does.{Reads, Commits, Stores, Writes};
+ghost use Rattle.node_seat.specs.Ends.{begins, end_of_commit, leaves_running};
 ghost use Rattle.bench_base.specs.Ranges.{IsDevice};
 ghost use Rattle.verifier.specs.Acts as act_of;
 ghost use Rattle.verifier.specs.ActLaws.{IsFit};
 ghost use Rattle.verifier.specs.Index.{IsIndexOf};
 ghost use Rattle.verifier.specs.Seen.{AreTogether, counting, spot_in};
 ghost use Rattle.verifier_node.specs.Indexes.{CanIndex, Indexes};
-ghost use Rattle.verifier_node.specs.Payloads.{IsShown, HoldRows, seen_held};
+ghost use Rattle.verifier_node.specs.Payloads.{IsShown, HoldRows, fill_of, seen_held};
 ghost use Rattle.verifier_node.specs.Sound.{HasCell};
 ghost use Rattle.verifier_node.specs.Unique.{hold_prop};
 
@@ -165,6 +165,7 @@ impl<N: Nv> VerifierNode<N> {
         ensures answers { Commits counting (seen_in self.old) (seen_in self.new) change.now result }
         ensures stores { Stores N.Nv (IsShown (seen_in self.old)) (IsShown (counting.after (seen_in self.old) change.now))
             (storage_in self.old) (storage_in self.new) (end_of_commit result) }
+        ensures writes { Writes N.Nv (fill_of (seen_in self.old) change.now) (storage_in self.old) (storage_in self.new) (begins result) (is_ok result) }
     {
         if self.is_worn(change) {
             return Err(StoreFail::Worn);

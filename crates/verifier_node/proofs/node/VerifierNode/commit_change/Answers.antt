@@ -3,10 +3,10 @@ use Rattle.std.proofs.Common.{◌≡◌, None, ℕ, Ok, Err, rules, inl, refl, s
 use Rattle.nv_store.specs.RoomView.{kept_in}
 use Rattle.nv_store.specs.Rooms.{RoomCommits}
 use Rattle.nv_store.specs.Store.{count_of}
-use Rattle.node_seat.proofs.Fails.{spent_failed}
+use Rattle.node_seat.proofs.Fails.{spent_failed, writes_as}
 use Rattle.verifier.specs.Seen.{cell_of}
 use Rattle.verifier_node.specs.Knows.{shows}
-use Rattle.verifier_node.proofs.Commits.{may_index, between, filled_after, seen_after, together_after, indexed_after, filled_still, seen_still, together_still, indexed_still, fails_fresh, fails_off, not_found_worn}
+use Rattle.verifier_node.proofs.Commits.{fills_seen, may_index, between, filled_after, seen_after, together_after, indexed_after, filled_still, seen_still, together_still, indexed_still, fails_fresh, fails_off, not_found_worn}
 use Rattle.verifier_node.proofs.node.VerifierNode.commit_change.Goals as goal
 
 pub returns-then-is_worn-clause-answers : goal.returns-then-is_worn-clause-answers
@@ -131,3 +131,19 @@ returns-in-Err-clause-rests g c is =
     let k = c.args.self.now in
     let e = subst (λ (j : ℕ). RoomCommits g.N.Nv j c.payload_with-payload.result k.room c.commit_room.new.room k.nv c.commit_room.new.nv (Err c.in-Err.fail)) c.cell_of-cell.ensures c.in-Err.ensures in
     absurd (not_found_worn k c.args.change.now c.requires.fits.inside (sym c.if-is_worn.ensures) c.in-Err.fail _ _ e.causes is)
+
+pub returns-in-Ok-clause-writes : goal.returns-in-Ok-clause-writes
+returns-in-Ok-clause-writes g c =
+    let k = c.args.self.now in
+    let bytes = c.payload_with-payload.result in
+    let done = subst (λ (j : ℕ). RoomCommits g.N.Nv j bytes k.room c.commit_room.new.room k.nv c.commit_room.new.nv (Ok tt)) c.cell_of-cell.ensures c.in-Ok.ensures in
+    writes_as g.N.Nv _ k.nv c.commit_room.new.nv (Ok tt)
+    (λ tells fresh. fills_seen k c.args.change.now c.requires.fits.inside bytes (sym c.payload_with-payload.ensures.reads) _ _ _ (done.fills tells fresh)) done.calls
+
+pub returns-in-Err-clause-writes : goal.returns-in-Err-clause-writes
+returns-in-Err-clause-writes g c =
+    let k = c.args.self.now in
+    let bytes = c.payload_with-payload.result in
+    let e = subst (λ (j : ℕ). RoomCommits g.N.Nv j bytes k.room c.commit_room.new.room k.nv c.commit_room.new.nv (Err c.in-Err.fail)) c.cell_of-cell.ensures c.in-Err.ensures in
+    writes_as g.N.Nv _ k.nv c.commit_room.new.nv (Err c.in-Err.fail)
+    (λ tells fresh. fills_seen k c.args.change.now c.requires.fits.inside bytes (sym c.payload_with-payload.ensures.reads) _ _ _ (e.fills tells fresh)) e.calls
