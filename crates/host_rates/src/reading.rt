@@ -1,9 +1,10 @@
 //! Rates are read from a TOML text.
-ghost use Rattle.std.specs.Prelude.{◌≡◌, ◌&&◌, nat_le, IfOk};
+ghost use Rattle.std.specs.Prelude.{◌≡◌, ◌<◌, ◌&&◌, Err, nat_le, length, IfOk};
 ghost use Rattle.toml.specs.View.{view, table_view};
 ghost use Rattle.host_rates.specs.Answers.{AreRatesOf, Reads, UnlessMemory, answer};
 ghost use Rattle.host_rates.specs.Reading as form;
 ghost use Rattle.host_rates.specs.Tables.{IsRates};
+ghost use Rattle.host_rates.specs.declared.reading.RatesFail.TheVariants.{Length};
 
 use crate::parts::{two, two_in, whole};
 use crate::rates::{Class, Rates, Step};
@@ -198,6 +199,7 @@ fn rates(alloc: Global, table: &Table) -> Result<Rates, RatesFail>
 /// rates, and is want of memory.
 pub fn read_rates(alloc: Global, text: &[u8]) -> Result<Rates, RatesFail>
     ensures exact { UnlessMemory result (answer text.now) }
+    ensures long { 65536 < length text.now → result ≡ Err (Length (length text.now)) }
     ensures of_text { IfOk result (AreRatesOf text.now) }
     ensures form { IfOk result IsRates }
 {
