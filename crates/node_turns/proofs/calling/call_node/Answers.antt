@@ -29,7 +29,7 @@ returns g c =
     let outcome = c.perform-outcome.result in
     record {
       did = λ by say is said_is.
-          let did = c.perform-outcome.ensures by (is ∙ sym {b = does} c.act-act.ensures.value) in (
+          let did = c.perform-outcome.ensures.did by (is ∙ sym {b = does} c.act-act.ensures.value) in (
             said_outcome refuses (say (g.K.Node.seen c.args.place.now)) outcome,
             says_call refuses g.K.Node g.K.Storage.Nv say by c.args.place.now c.perform-outcome.new.node outcome did,
             subst (λ (f : g.row.C-Answer.Denot → Said). g.T.Tell.IsOf c.told.result (call_turn (g.E.Callee.named c.args.callee.now) (saying refuses says does) (said_outcome refuses f outcome))) (sym said_is)

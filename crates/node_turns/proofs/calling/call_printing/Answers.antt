@@ -46,7 +46,7 @@ returns-in-None g c =
     let printer = printer_of g.P.Sink c.args.printer.now in
     record {
       did = λ by say is said_is.
-          let did = c.perform-outcome.ensures by (is ∙ sym {b = does} c.act-act.ensures.value) in
+          let did = c.perform-outcome.ensures.did by (is ∙ sym {b = does} c.act-act.ensures.value) in
           let printed = told_by g c.told.result (g.E.Callee.named c.args.callee.now) refuses says (say (g.K.Node.seen c.args.place.now)) does outcome printer printer said_is (
             call_turn (g.E.Callee.named c.args.callee.now) (saying refuses says does) (said_outcome refuses says outcome),
             told_said refuses says (λ turn. g.T.Tell.IsOf c.told.result turn) (g.E.Callee.named c.args.callee.now) c.act-act.result does outcome c.act-act.ensures.value
@@ -69,7 +69,7 @@ returns-in-Ok g c =
     let outcome = c.perform-outcome.result in
     record {
       did = λ by say is said_is.
-          let did = c.perform-outcome.ensures by (is ∙ sym {b = does} c.act-act.ensures.value) in
+          let did = c.perform-outcome.ensures.did by (is ∙ sym {b = does} c.act-act.ensures.value) in
           let printed = told_by g c.told-in-Ok.result (g.E.Callee.named c.args.callee.now) refuses says (say (g.K.Node.seen c.args.place.now)) does outcome (printer_of g.P.Sink c.args.printer.now) (printer_of g.P.Sink c.print_mark.new.printer) said_is (
             call_turn (g.E.Callee.named c.args.callee.now) (saying refuses says does) (said_outcome refuses says outcome),
             told_said refuses says (λ turn. g.T.Tell.IsOf c.told-in-Ok.result turn) (g.E.Callee.named c.args.callee.now) c.act-act.result does outcome c.act-act.ensures.value
@@ -97,7 +97,7 @@ returns-in-Err g c =
     c.commit_in.ensures ∙ sym (planned_says refuses says c.act-act.result) ∙ ap (λ a. planned_commit (saying refuses says a)) c.act-act.ensures.value in
     record {
       did = λ by say is said_is.
-          let did = c.perform-outcome.ensures by (is ∙ sym {b = does} c.act-act.ensures.value) in
+          let did = c.perform-outcome.ensures.did by (is ∙ sym {b = does} c.act-act.ensures.value) in
           let printed = told_by g c.unprinted.result (g.E.Callee.named c.args.callee.now) refuses says (say (g.K.Node.seen c.args.place.now)) does outcome before now said_is (
             unprinted_turn c.commit_in.result job,
             c.unprinted.ensures,
