@@ -52,6 +52,38 @@ fn committed_by(
     committed(mounted_cell(storage(alloc, &[0; 144], plan)?)?, payloads)
 }
 
+/// What a cell of two commits holds once its third was cut at its second write, all of which is torn.
+fn cut_behind_its_gate(alloc: Global) -> Option<[u8; 144]> {
+    let mut cell = mounted_cell(storage(alloc, &[0; 144], &[])?)?;
+    cell.put(0, b"one.").ok()?;
+    cell.put(0, b"two.").ok()?;
+    cell.burn(2, 0, b'#');
+    if cell.put(0, b"new.") != Err(StoreFail::Power) {
+        return None;
+    }
+    bytes_in(cell.again()?.taken_out())
+}
+
+#[test]
+fn closes_a_gate_by_zero(rt: HostRuntime) {
+    let bytes = cut_behind_its_gate(rt.alloc()).expect(&rt, "a cut, and a mount");
+    holds(
+        &rt,
+        &bytes[..9] == b"\0########".as_slice(),
+        "the slot that was closed",
+    );
+    holds(
+        &rt,
+        &bytes[9..18] == b"\xA5\0\0\0\x02two.".as_slice(),
+        "the current one",
+    );
+    holds(
+        &rt,
+        &bytes[18..] == [0; 126].as_slice(),
+        "what stands behind both",
+    );
+}
+
 #[test]
 fn shows_its_commits_after_a_fault(rt: HostRuntime) {
     // The mount makes a sync and two reads, and the first two commits four calls each.
