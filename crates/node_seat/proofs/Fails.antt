@@ -1,5 +1,5 @@
 -- What a commit that failed cost, and whether the node goes on.
-use Rattle.std.proofs.Common.{◌≡◌, ℕ, true, false, Ok, Err, Result, IsErrOf, OnOk, refl}
+use Rattle.std.proofs.Common.{◌≡◌, ℕ, false, Ok, Err, Result, IsErrOf, OnOk, refl}
 use Rattle.bench_base.specs.declared.refusals.StoreFail.{StoreFail}
 use Rattle.bench_base.specs.declared.refusals.StoreFail.TheVariants.{Power, Fault, Worn, Failed}
 use Rattle.nv_model.specs.Meters.{Meters}
