@@ -65,7 +65,9 @@ fn is_next_ask(before: &[Commit], device: DevNo, number: u32) -> bool
 }
 
 fn is_next_ruling(before: &[Commit], device: DevNo, number: u32, note: &Note) -> bool
-    ensures { IsTrue result ↔ ((ruling_of device number (reverse before.now) ≡ None) × (note_of device number (reverse before.now) ≡ Some note.now)) }
+    ensures { IsTrue result
+        ↔ ((ruling_of device number (reverse before.now) ≡ None)
+        × (note_of device number (reverse before.now) ≡ Some note.now)) }
 {
     let asked = match note_of(before, device, number) {
         Some(found) => found.as_slice() == note.as_slice(),
@@ -172,7 +174,8 @@ fn is_whole_refund(before: &[Commit], device: DevNo, verdict: Verdict, note: &No
 
 // The state of `debited_since` after this commit, where `before` was the one before it.
 fn debited_after(commit: &Commit, device: DevNo, number: u32, before: bool) -> bool
-    ensures { (C : List ACommit) → debited_since device number C ≡ before → result ≡ debited_since device number (commit.now ∷ C) }
+    ensures { (C : List ACommit) → debited_since device number C ≡ before
+        → result ≡ debited_since device number (commit.now ∷ C) }
 {
     match *commit {
         Commit::Asked(d, n, _) if d == device && n == number => false,
@@ -199,7 +202,8 @@ fn leaves_nothing(
     number: u32,
     verdict: Verdict,
 ) -> bool
-    ensures { IsTrue result ↔ (is_granted verdict ≡ true → empties (request_of device number (reverse before.now)).kind ≡ true
+    ensures { IsTrue result
+        ↔ (is_granted verdict ≡ true → empties (request_of device number (reverse before.now)).kind ≡ true
         → (debited_since device number (reverse before.now) ≡ false) × (descending device (reverse commits.now) ≡ 0)) }
 {
     let request = request_of(before, device, number);

@@ -93,7 +93,8 @@ pub(crate) fn is_frozen(commits: &[Commit], device: DevNo) -> bool
 
 // Whether this commit after those before it applies a granted transaction of the kind.
 fn applies_kind(commit: &Commit, before: &[Commit], device: DevNo, kind: Kind) -> bool
-    ensures { applied_kind kind device (commit.now ∷ reverse before.now) ≡ (result || applied_kind kind device (reverse before.now)) }
+    ensures { applied_kind kind device (commit.now ∷ reverse before.now) ≡
+        (result || applied_kind kind device (reverse before.now)) }
 {
     match *commit {
         Commit::Applied(d, n, verdict) if d == device => {
@@ -131,7 +132,8 @@ pub(crate) fn phase(commits: &[Commit], device: DevNo) -> Phase
 
 // The deadline after this commit, where `earlier` was the one before it.
 fn deadline_after(commit: &Commit, before: &[Commit], device: DevNo, earlier: i32) -> i32
-    ensures { deadline device (reverse before.now) ≡ earlier → result ≡ deadline device (commit.now ∷ reverse before.now) }
+    ensures { deadline device (reverse before.now) ≡ earlier
+        → result ≡ deadline device (commit.now ∷ reverse before.now) }
 {
     match *commit {
         Commit::Applied(d, n, verdict) if d == device => {

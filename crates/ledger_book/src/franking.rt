@@ -93,7 +93,8 @@ fn mark_after(
 #[tactic(auto, unfolding(ledger_terms::specs::Franking::indicium_after), using(crate::proofs::Marks::spell_carried))]
 fn marked_in(commit: &Commit, before: &[Commit], device: DevNo, piece: u32) -> Option<[u8; 64]>
     requires { Debits todays_rules (commit.now ∷ reverse before.now) }
-    ensures { marked device piece (commit.now ∷ reverse before.now) ≡ first_of (marked device piece (reverse before.now)) result }
+    ensures { marked device piece (commit.now ∷ reverse before.now) ≡ first_of
+        (marked device piece (reverse before.now)) result }
 {
     match *commit {
         Commit::Debited(d, p, postage, class, day, version) if d == device && p == piece => {

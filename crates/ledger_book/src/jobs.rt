@@ -70,7 +70,8 @@ pub(crate) fn is_begun(commits: &[Commit], job: u32) -> bool
 
 // Whether this commit after those before it is a Held of the piece.
 fn holds_piece(commit: &Commit, before: &[Commit], device: DevNo, piece: u32) -> bool
-    ensures { held_piece device piece (commit.now ∷ reverse before.now) ≡ (result || held_piece device piece (reverse before.now)) }
+    ensures { held_piece device piece (commit.now ∷ reverse before.now) ≡
+        (result || held_piece device piece (reverse before.now)) }
 {
     match *commit {
         Commit::Held(job, _) => match named(before, job) {

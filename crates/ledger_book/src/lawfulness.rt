@@ -12,7 +12,8 @@ use std::alloc::{AllocError, Global};
 
 // The clauses that speak of commits alone.
 fn lawful_commits(commits: &[Commit]) -> bool
-    ensures { IsTrue result ↔ (Numbering (reverse commits.now) × Debits todays_rules (reverse commits.now) × Refunds (reverse commits.now)
+    ensures { IsTrue result
+        ↔ (Numbering (reverse commits.now) × Debits todays_rules (reverse commits.now) × Refunds (reverse commits.now)
         × Registers (reverse commits.now) × Balances (reverse commits.now) × Days todays_rules (reverse commits.now)) }
 {
     numbering(commits)

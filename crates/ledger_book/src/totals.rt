@@ -82,7 +82,8 @@ pub(crate) fn ascending(commits: &[Commit], device: DevNo) -> u128
 
 // What a commit after those before it adds to the sum of that side over what was applied.
 fn applied_in(commit: &Commit, before: &[Commit], device: DevNo, side: Side) -> u64
-    ensures value { applied_sum (amount_of side) device (commit.now ∷ reverse before.now) ≡ applied_sum (amount_of side) device (reverse before.now) + result }
+    ensures value { applied_sum (amount_of side) device (commit.now ∷ reverse before.now) ≡ applied_sum
+        (amount_of side) device (reverse before.now) + result }
     ensures small { result < 2 ^ 64 }
 {
     match *commit {

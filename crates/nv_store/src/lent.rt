@@ -34,7 +34,8 @@ pub fn commit_lent<N: Nv, const L: usize>(
     requires inside { 0 < head.old.count → head.old.place < slots }
     requires holds { N.tells → Holds L slots head.old kept.old (N.times nv.old) (N.content nv.old) }
 
-    ensures { CommitsParts N.Nv L slots (parts nv.old head.old kept.old) (parts nv.new head.new kept.new) payload.now result }
+    ensures { CommitsParts N.Nv L slots (parts nv.old head.old kept.old)
+        (parts nv.new head.new kept.new) payload.now result }
 {
     if head.count == u32::MAX {
         return Err(StoreFail::Worn);
@@ -60,7 +61,9 @@ fn settle<N: Nv, const L: usize>(
     ensures went { Went 1 (N.meters nv.old) (N.meters nv.new) result }
     ensures size { N.size nv.new ≡ N.size nv.old }
     ensures place { IfOk result (λ found. IfSome found (λ head. head.place < slots)) }
-    ensures known { N.tells → IfOk result (λ found. IfSome found (λ head. Known slots (slots_at L 0 (N.content nv.new)) head.count head.place head.gates kept.new)) }
+    ensures known { N.tells
+        → IfOk result (λ found. IfSome found (λ head. Known slots
+        (slots_at L 0 (N.content nv.new)) head.count head.place head.gates kept.new)) }
     ensures mixed { N.tells → IfOk result (λ found. IfNone found (IsMixed slots (slots_at L 0 (N.content nv.new)))) }
 {
     nv.sync()?;

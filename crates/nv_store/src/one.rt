@@ -104,7 +104,8 @@ impl<M: Nv, const L: usize> Cell<Fused<M>, L> {
 
     /// Arms the fuse of the storage: see `Fused::arm`.
     pub fn arm(&mut self, calls: u32, keep: u32, byte: u8)
-        ensures armed { state_of (storage_of self.new) ≡ record (state_of (storage_of self.old)) { fuse = Some calls; keep = keep; byte = byte } }
+        ensures armed { state_of (storage_of self.new) ≡ record
+            (state_of (storage_of self.old)) { fuse = Some calls; keep = keep; byte = byte } }
         ensures inside { inside (storage_of self.new) ≡ inside (storage_of self.old) }
         ensures held { held_by self.new ≡ held_by self.old }
         ensures failed { has_failed self.new ≡ has_failed self.old }

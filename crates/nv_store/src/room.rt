@@ -36,15 +36,18 @@ impl<const L: usize> Room<L> {
 /// Whether the cell has as many commits as can be counted.
 pub fn is_worn<const L: usize>(room: &Room<L>, cell: u32) -> bool
     requires { cell < length room.now.heads.items }
-    ensures worn { result ≡ true → count_of (table_held room.now.heads.items room.now.payloads.items cell) ≡ MOST_COMMITS }
-    ensures less { result ≡ false → count_of (table_held room.now.heads.items room.now.payloads.items cell) < MOST_COMMITS }
+    ensures worn { result ≡ true
+        → count_of (table_held room.now.heads.items room.now.payloads.items cell) ≡ MOST_COMMITS }
+    ensures less { result ≡ false
+        → count_of (table_held room.now.heads.items room.now.payloads.items cell) < MOST_COMMITS }
 {
     room.heads[cell as usize].count == MOST_COMMITS
 }
 
 /// The sum of the counts.
 pub fn sum_counts<const L: usize>(room: &Room<L>) -> u64
-    ensures { result ≡ count_sum (length room.now.heads.items) (table_held room.now.heads.items room.now.payloads.items) }
+    ensures { result ≡ count_sum (length room.now.heads.items)
+        (table_held room.now.heads.items room.now.payloads.items) }
 {
     let mut total = 0;
     for cell in 0..room.heads.len() {
@@ -56,7 +59,8 @@ pub fn sum_counts<const L: usize>(room: &Room<L>) -> u64
 /// The payload of a cell, None where it is blank.
 pub fn payload_at<const L: usize>(room: &Room<L>, cell: u32) -> Option<&[u8; L]>
     requires inside { cell < length room.now.heads.items }
-    ensures payload { option_map (λ x. x.now) result ≡ payload_of (table_held room.now.heads.items room.now.payloads.items cell) }
+    ensures payload { option_map (λ x. x.now) result ≡ payload_of
+        (table_held room.now.heads.items room.now.payloads.items cell) }
     ensures few { count_of (table_held room.now.heads.items room.now.payloads.items cell) ≤ MOST_COMMITS }
 {
     if room.heads[cell as usize].count == 0 {

@@ -100,7 +100,9 @@ fn scan_slots<N: Nv, const L: usize>(nv: &mut N, at: u32, slots: u32) -> Result<
     ensures went { Went 0 (N.meters nv.old) (N.meters nv.new) result }
     ensures size { N.size nv.new ≡ N.size nv.old }
     ensures place { IfOk result (λ scan. 0 < slots → scan.head.place < slots) }
-    ensures scanned { N.tells → IfOk result (λ scan. Scanned slots (slots_at L at (N.content nv.old)) scan.head.count scan.head.place scan.head.gates scan.counts) }
+    ensures scanned { N.tells
+        → IfOk result (λ scan. Scanned slots (slots_at L at (N.content nv.old)) scan.head.count scan.head.place
+        scan.head.gates scan.counts) }
 {
     let mut scan = Scan {
         head: Head::blank(),
@@ -116,8 +118,10 @@ fn scan_slots<N: Nv, const L: usize>(nv: &mut N, at: u32, slots: u32) -> Result<
 /// Whether an open slot before this one has its count.
 fn repeats(gates: &[bool; 16], counts: &[u32; 16], place: u32) -> bool
     requires { place < 16 }
-    ensures found { result ≡ true → (j : ℕ) × (j < place) × (get_or gates.now j false ≡ true) × (get_or counts.now j 0 ≡ get_or counts.now place 0) }
-    ensures none { result ≡ false → (j : ℕ) → j < place → get_or gates.now j false ≡ true → get_or counts.now j 0 ≢ get_or counts.now place 0 }
+    ensures found { result ≡ true → (j : ℕ) × (j < place) × (get_or gates.now j false ≡ true)
+        × (get_or counts.now j 0 ≡ get_or counts.now place 0) }
+    ensures none { result ≡ false → (j : ℕ) → j < place → get_or gates.now j false ≡ true
+        → get_or counts.now j 0 ≢ get_or counts.now place 0 }
 {
     for j in 0..place {
         if gates[j as usize] && counts[j as usize] == counts[place as usize] {
@@ -158,7 +162,8 @@ fn read_payload<N: Nv, const L: usize>(
     ensures rests { N.tells → Rests (N.content nv.old) (N.content nv.new) (N.times nv.old) (N.times nv.new) }
     ensures went { Went 0 (N.meters nv.old) (N.meters nv.new) result }
     ensures size { N.size nv.new ≡ N.size nv.old }
-    ensures payload { N.tells → OnOk result (0 < head.now.count → kept.new ≡ range (N.content nv.old) (at + head.now.place * (5 + L) + 5) L) }
+    ensures payload { N.tells
+        → OnOk result (0 < head.now.count → kept.new ≡ range (N.content nv.old) (at + head.now.place * (5 + L) + 5) L) }
 {
     if head.count == 0 {
         return Ok(());
@@ -183,7 +188,9 @@ pub fn find_cell<N: Nv, const L: usize>(
     ensures went { Went 0 (N.meters nv.old) (N.meters nv.new) result }
     ensures size { N.size nv.new ≡ N.size nv.old }
     ensures place { IfOk result (λ found. IfSome found (λ head. head.place < slots)) }
-    ensures known { N.tells → IfOk result (λ found. IfSome found (λ head. Known slots (slots_at L at (N.content nv.old)) head.count head.place head.gates kept.new)) }
+    ensures known { N.tells
+        → IfOk result (λ found. IfSome found (λ head. Known slots
+        (slots_at L at (N.content nv.old)) head.count head.place head.gates kept.new)) }
     ensures mixed { N.tells → IfOk result (λ found. IfNone found (IsMixed slots (slots_at L at (N.content nv.old)))) }
 {
     let scan = scan_slots::<N, L>(nv, at, slots)?;

@@ -20,7 +20,8 @@ fn put<N: Nv>(nv: &mut N, at: u32, bytes: &[u8]) -> Result<(), NvFail>
     requires room { at + length bytes.now ≤ N.size nv.old }
     requires powered { (N.meters nv.old).lost ≡ false }
     requires alone { N.tells → Only (N.times nv.old) (N.content nv.old) }
-    ensures puts { N.tells → Puts at bytes.now (N.content nv.old) (N.content nv.new) (N.times nv.old) (N.times nv.new) result }
+    ensures puts { N.tells
+        → Puts at bytes.now (N.content nv.old) (N.content nv.new) (N.times nv.old) (N.times nv.new) result }
     ensures durable { N.tells → OnOk result (Only (N.times nv.new) (N.content nv.new)) }
     ensures went { Went 2 (N.meters nv.old) (N.meters nv.new) result }
     ensures calls { OnOk result (UsesExactly 2 (N.meters nv.old).fuse (N.meters nv.new).fuse) }
@@ -37,8 +38,11 @@ pub fn close_gate<N: Nv, const L: usize>(nv: &mut N, at: u32) -> Result<(), NvFa
     requires powered { (N.meters nv.old).lost ≡ false }
     requires alone { N.tells → Only (N.times nv.old) (N.content nv.old) }
     requires is_open { N.tells → IsSome (slot_at L at (N.content nv.old)) }
-    ensures steps { N.tells → Steps L at (IsOrShut (slot_at L at (N.content nv.old))) IsShut (N.content nv.old) (N.content nv.new) (N.times nv.old) (N.times nv.new) result }
-    ensures puts { N.tells → Puts at (0 ∷ []) (N.content nv.old) (N.content nv.new) (N.times nv.old) (N.times nv.new) result }
+    ensures steps { N.tells
+        → Steps L at (IsOrShut (slot_at L at (N.content nv.old))) IsShut (N.content nv.old) (N.content nv.new)
+        (N.times nv.old) (N.times nv.new) result }
+    ensures puts { N.tells
+        → Puts at (0 ∷ []) (N.content nv.old) (N.content nv.new) (N.times nv.old) (N.times nv.new) result }
     ensures went { Went 2 (N.meters nv.old) (N.meters nv.new) result }
     ensures calls { OnOk result (UsesExactly 2 (N.meters nv.old).fuse (N.meters nv.new).fuse) }
     ensures size { N.size nv.new ≡ N.size nv.old }
@@ -68,9 +72,13 @@ pub fn write_payload<N: Nv, const L: usize>(
     requires powered { (N.meters nv.old).lost ≡ false }
     requires alone { N.tells → Only (N.times nv.old) (N.content nv.old) }
     requires shut { N.tells → IsShut (slot_at L at (N.content nv.old)) }
-    ensures steps { N.tells → Steps L at IsShut IsShut (N.content nv.old) (N.content nv.new) (N.times nv.old) (N.times nv.new) result }
-    ensures puts { N.tells → Puts (at + 1) (to_be_bytes w32 count ++ payload.now) (N.content nv.old) (N.content nv.new) (N.times nv.old) (N.times nv.new) result }
-    ensures written { N.tells → OnOk result (range (N.content nv.new) (at + 1) (4 + L) ≡ to_be_bytes w32 count ++ payload.now) }
+    ensures steps { N.tells
+        → Steps L at IsShut IsShut (N.content nv.old) (N.content nv.new) (N.times nv.old) (N.times nv.new) result }
+    ensures puts { N.tells
+        → Puts (at + 1) (to_be_bytes w32 count ++ payload.now) (N.content nv.old) (N.content nv.new) (N.times nv.old)
+        (N.times nv.new) result }
+    ensures written { N.tells
+        → OnOk result (range (N.content nv.new) (at + 1) (4 + L) ≡ to_be_bytes w32 count ++ payload.now) }
     ensures went { Went 2 (N.meters nv.old) (N.meters nv.new) result }
     ensures calls { OnOk result (UsesExactly 2 (N.meters nv.old).fuse (N.meters nv.new).fuse) }
     ensures size { N.size nv.new ≡ N.size nv.old }
@@ -93,8 +101,11 @@ pub fn open_gate<N: Nv, const L: usize>(
     requires alone { N.tells → Only (N.times nv.old) (N.content nv.old) }
     requires shut { N.tells → IsShut (slot_at L at (N.content nv.old)) }
     requires written { N.tells → range (N.content nv.old) (at + 1) (4 + L) ≡ to_be_bytes w32 count ++ payload.now }
-    ensures steps { N.tells → Steps L at (IsOrHolds None (count, payload.now)) (λ s. s ≡ Some (count, payload.now)) (N.content nv.old) (N.content nv.new) (N.times nv.old) (N.times nv.new) result }
-    ensures puts { N.tells → Puts at (165 ∷ []) (N.content nv.old) (N.content nv.new) (N.times nv.old) (N.times nv.new) result }
+    ensures steps { N.tells
+        → Steps L at (IsOrHolds None (count, payload.now)) (λ s. s ≡ Some (count, payload.now)) (N.content nv.old)
+        (N.content nv.new) (N.times nv.old) (N.times nv.new) result }
+    ensures puts { N.tells
+        → Puts at (165 ∷ []) (N.content nv.old) (N.content nv.new) (N.times nv.old) (N.times nv.new) result }
     ensures went { Went 2 (N.meters nv.old) (N.meters nv.new) result }
     ensures calls { OnOk result (UsesExactly 2 (N.meters nv.old).fuse (N.meters nv.new).fuse) }
     ensures size { N.size nv.new ≡ N.size nv.old }
@@ -109,8 +120,11 @@ fn shut<N: Nv, const L: usize>(nv: &mut N, at: u32, is_open: bool) -> Result<(),
     requires powered { (N.meters nv.old).lost ≡ false }
     requires alone { N.tells → Only (N.times nv.old) (N.content nv.old) }
     requires gate { N.tells → is_some (slot_at L at (N.content nv.old)) ≡ is_open }
-    ensures steps { N.tells → Steps L at (IsOrShut (slot_at L at (N.content nv.old))) IsShut (N.content nv.old) (N.content nv.new) (N.times nv.old) (N.times nv.new) result }
-    ensures torn { N.tells → (c : List ℕ) → (N.times nv.new).since (N.times nv.old).moment c → SameOutside at 1 (N.content nv.old) c }
+    ensures steps { N.tells
+        → Steps L at (IsOrShut (slot_at L at (N.content nv.old))) IsShut (N.content nv.old) (N.content nv.new)
+        (N.times nv.old) (N.times nv.new) result }
+    ensures torn { N.tells → (c : List ℕ) → (N.times nv.new).since (N.times nv.old).moment c
+        → SameOutside at 1 (N.content nv.old) c }
     ensures shuts { N.tells → OnOk result (N.content nv.new ≡ closed L at (N.content nv.old)) }
     ensures went { Went 2 (N.meters nv.old) (N.meters nv.new) result }
     ensures calls { OnOk result (UsesExactly (if is_open then 2 else 0) (N.meters nv.old).fuse (N.meters nv.new).fuse) }
@@ -137,8 +151,13 @@ pub fn fill_slot<N: Nv, const L: usize>(
     requires powered { (N.meters nv.old).lost ≡ false }
     requires alone { N.tells → Only (N.times nv.old) (N.content nv.old) }
     requires gate { N.tells → is_some (slot_at L at (N.content nv.old)) ≡ is_open }
-    ensures steps { N.tells → Steps L at (IsOrHolds (slot_at L at (N.content nv.old)) (count, payload.now)) (λ s. s ≡ Some (count, payload.now)) (N.content nv.old) (N.content nv.new) (N.times nv.old) (N.times nv.new) result }
-    ensures fills { N.tells → FillsSlot L at (count, payload.now) (N.content nv.old) (N.content nv.new) (N.times nv.old) (N.times nv.new) result }
+    ensures steps { N.tells
+        → Steps L at (IsOrHolds (slot_at L at (N.content nv.old)) (count, payload.now))
+        (λ s. s ≡ Some (count, payload.now)) (N.content nv.old) (N.content nv.new) (N.times nv.old)
+        (N.times nv.new) result }
+    ensures fills { N.tells
+        → FillsSlot L at (count, payload.now) (N.content nv.old) (N.content nv.new) (N.times nv.old)
+        (N.times nv.new) result }
     ensures went { Went 6 (N.meters nv.old) (N.meters nv.new) result }
     ensures calls { OnOk result (UsesExactly (commit_calls is_open) (N.meters nv.old).fuse (N.meters nv.new).fuse) }
     ensures size { N.size nv.new ≡ N.size nv.old }
