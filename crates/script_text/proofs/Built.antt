@@ -1,7 +1,7 @@
 -- A line that is written word by word.
 use Rattle.std.proofs.Common.{◌≡◌, ℕ, List, [], ◌∷◌, ◌++◌, refl, sym, ap, ◌∙◌}
 use Rattle.std.proofs.lemmas.List.{append-nil, append_assoc}
-use Rattle.script_text.specs.Words.{spaced}
+use Rattle.script_words.specs.Words.{spaced}
 
 -- the line so far: how it starts, and the words behind that
 pub record Built (start : List ℕ) (ws : List (List ℕ)) (line : List ℕ) : Type 0 where

@@ -12,10 +12,10 @@ use Rattle.bench_base.specs.declared.events.Event.TheVariants as ev
 use Rattle.bench_base.specs.Table.{IsBytes}
 use Rattle.bench_base.specs.Ranges.{IsWholeEvent, IsDevice, IsCustomer, IsWord, IsNode, TakesBytes, IsAsk}
 use Rattle.script_text.specs.Grammar.{AreWordsOf, words_of, ask_words, flag_word, Spells}
-use Rattle.script_text.specs.Words.{words_in, joined, device_word, node_word, hex_word, given_word, kind_word}
-use Rattle.script_text.proofs.HexDigits.{AreLower-encode, Printed-are_lower}
-use Rattle.script_text.proofs.Numbers.{Printed-decimal}
-use Rattle.script_text.proofs.Splits.{Printed, ArePrinted, AreSolid-printed, HasFirst, words_in-joined, joined-words_in}
+use Rattle.script_words.specs.Words.{words_in, joined, device_word, node_word, hex_word, given_word, kind_word}
+use Rattle.script_words.proofs.HexDigits.{AreLower-encode, Printed-are_lower}
+use Rattle.script_words.proofs.Numbers.{Printed-decimal}
+use Rattle.script_words.proofs.Splits.{Printed, ArePrinted, AreSolid-printed, HasFirst, words_in-joined, joined-words_in}
 
 cell : (n : ℕ) → 32 < 48 + n
 cell n = omega arith

@@ -8,7 +8,7 @@ use Rattle.bench_base.specs.declared.events.Event.{Event}
 use Rattle.bench_base.specs.declared.events.Event.TheVariants as ev
 use Rattle.bench_base.specs.Ranges.{IsWholeEvent, IsAsk, IsDevice, IsNode, TakesBytes}
 use Rattle.script_text.specs.Grammar.{AreWordsOf, words_of, ask_words, Spells, IsSkipped}
-use Rattle.script_text.specs.Words.{words_in, joined, device_word}
+use Rattle.script_words.specs.Words.{words_in, joined, device_word}
 use Rattle.script_text.specs.Keywords.{keyword_word}
 use Rattle.script_text.specs.declared.keyword.Keyword.{Keyword}
 use Rattle.script_text.specs.declared.keyword.Keyword.TheVariants as kw

@@ -3,13 +3,10 @@ pub mod ByKeyword
 pub mod DayTexts
 pub mod EventWords
 pub mod EventsBack
-pub mod HexDigits
 pub mod LineForms
-pub mod Numbers
 pub mod Programs
 pub mod ReadBack
 pub mod RefusalsBack
 pub mod RepliesBack
 pub mod ReplyWords
-pub mod Splits
 pub mod Tallies

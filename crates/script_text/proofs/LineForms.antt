@@ -8,17 +8,17 @@ use Rattle.bench_base.specs.declared.words.Node.{Node}
 use Rattle.bench_base.specs.declared.words.Node.TheVariants.{Device, Centre, Host, Verifier}
 use Rattle.bench_base.specs.declared.events.Event.{Event}
 use Rattle.bench_base.specs.Ranges.{IsNode, IsGiven, TakesBytes, IsDevice, IsAsk}
-use Rattle.script_text.specs.declared.events.LineFault.{LineFault}
+use Rattle.script_words.specs.declared.word.LineFault.{LineFault}
 use Rattle.script_text.specs.declared.keyword.Keyword.TheVariants as kw
-use Rattle.script_text.specs.declared.values.Byte.{Byte}
-use Rattle.script_text.specs.declared.values.Msg.{Msg}
-use Rattle.script_text.specs.declared.values.Hex.{Hex}
+use Rattle.script_words.specs.declared.values.Byte.{Byte}
+use Rattle.script_words.specs.declared.values.Msg.{Msg}
+use Rattle.script_words.specs.declared.values.Hex.{Hex}
 use Rattle.script_text.specs.Grammar.{ask_words}
 use Rattle.script_text.specs.Reading.{AreNoWords, IsEventOf, IsEventBehind}
-use Rattle.script_text.specs.Words.{words_in, node_word, given_word, byte_word, device_word, kind_word}
+use Rattle.script_words.specs.Words.{words_in, node_word, given_word, byte_word, device_word, kind_word}
 use Rattle.script_text.proofs.ByKeyword.{no_event}
-use Rattle.script_text.proofs.Numbers.{same_number}
-use Rattle.script_text.proofs.Splits.{HasFirst, not_one, words_in-some}
+use Rattle.script_words.proofs.Numbers.{same_number}
+use Rattle.script_words.proofs.Splits.{HasFirst, not_one, words_in-some}
 
 behind : (v w : List ℕ) (vs ws : List (List ℕ)) → v ∷ vs ≡ w ∷ ws → vs ≡ ws
 behind v w vs ws e = cc

@@ -3,7 +3,7 @@ use Rattle.std.proofs.Common.{◌≡◌, ℕ, List, [], length, get_or, Option, 
 use Rattle.script_text.specs.Programs.{program_words, AreInRange}
 use Rattle.script_text.specs.declared.program.Words.{Words}
 use Rattle.script_text.specs.declared.program.Words.TheVariants.{Replay, Generate}
-use Rattle.script_text.proofs.Numbers.{same_number}
+use Rattle.script_words.proofs.Numbers.{same_number}
 
 one_call : (v w : Words) → AreInRange v → AreInRange w → program_words v ≡ program_words w → v ≡ w
 one_call Replay Replay h k e = refl

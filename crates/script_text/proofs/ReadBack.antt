@@ -15,10 +15,10 @@ use Rattle.bench_base.specs.declared.words.Kind.TheVariants.{Enrol, Reset, Audit
 use Rattle.bench_base.specs.declared.words.Node.{Node}
 use Rattle.bench_base.specs.declared.words.Node.TheVariants.{Device, Centre, Host, Verifier}
 use Rattle.bench_base.specs.Table.{IsBytes}
-use Rattle.script_text.specs.Words.{device_word, node_word, hex_word, byte_word, given_word, kind_word, new_word, IsLowerDigit}
+use Rattle.script_words.specs.Words.{device_word, node_word, hex_word, byte_word, given_word, kind_word, new_word, IsLowerDigit}
 use Rattle.script_text.proofs.EventWords.{one_byte}
-use Rattle.script_text.proofs.HexDigits.{AreLower-encode, AreLower}
-use Rattle.script_text.proofs.Numbers.{own}
+use Rattle.script_words.proofs.HexDigits.{AreLower-encode, AreLower}
+use Rattle.script_words.proofs.Numbers.{own}
 use Rattle.script_text.proofs.ByKeyword.{code}
 
 -- two words are the same

@@ -33,11 +33,11 @@ use Rattle.bench_base.specs.Ranges.{IsDay}
 use Rattle.script_text.specs.Refusals.{Part, said, of_number, of_short, of_sum, of_customer, of_day, of_kind, of_phase, of_state, of_cause, of_fault, part_word, phase_word, state_word, unread_word, fault_word, dev_parts, centre_parts, rate_parts, host_parts, scan_parts, dev_words, centre_words, host_words, scan_words}
 use Rattle.script_text.specs.Texts.{verdict_word, flagged_word, pending_word, flight_words, reply_words, text_of}
 use Rattle.script_text.specs.Told.{AreWhole, IsFlight, IsWholeReply}
-use Rattle.script_text.specs.Words.{words_in, joined, spaced, new_word}
+use Rattle.script_words.specs.Words.{words_in, joined, spaced, new_word}
 use Rattle.script_text.proofs.EventWords.{dash, literal, is_printed, number, word, class_word, customer, device, node, digits, kind}
-use Rattle.script_text.proofs.Numbers.{Printed-decimal}
+use Rattle.script_words.proofs.Numbers.{Printed-decimal}
 use Rattle.script_text.proofs.ReadBack.{IsSmall}
-use Rattle.script_text.proofs.Splits.{Printed, ArePrinted, AreSolid-printed, words_in-joined}
+use Rattle.script_words.proofs.Splits.{Printed, ArePrinted, AreSolid-printed, words_in-joined}
 
 newness : (b : Bool) → Printed (new_word b)
 newness true = literal (codes "again") refl

@@ -6,7 +6,7 @@ use Rattle.bench_base.specs.declared.words.Kind.TheVariants.{Enrol, Reset}
 use Rattle.bench_base.specs.declared.events.Event.{Event}
 use Rattle.bench_base.specs.declared.events.Event.TheVariants as ev
 use Rattle.bench_base.specs.Events.{needs}
-use Rattle.script_text.specs.Words.{joined, device_word, node_word, hex_word, byte_word, given_word, kind_word}
+use Rattle.script_words.specs.Words.{joined, device_word, node_word, hex_word, byte_word, given_word, kind_word}
 
 -- the kind of what is asked for, and the one number that counts for it
 abbrev pub ask_words : Kind → ℕ → ℕ → List (List ℕ)

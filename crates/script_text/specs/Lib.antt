@@ -7,4 +7,3 @@ pub mod Refusals
 pub mod Summaries
 pub mod Texts
 pub mod Told
-pub mod Words

@@ -4,7 +4,7 @@ use Rattle.bench_base.specs.Ranges.{IsWholeEvent}
 use Rattle.bench_base.specs.declared.events.Event.{Event}
 use Rattle.script_text.specs.Grammar.{AreWordsOf}
 use Rattle.script_text.specs.Keywords.{keyword_word}
-use Rattle.script_text.specs.declared.events.LineFault.{LineFault}
+use Rattle.script_words.specs.declared.word.LineFault.{LineFault}
 use Rattle.script_text.specs.declared.keyword.Keyword.{Keyword}
 
 -- no event has these words

@@ -20,7 +20,7 @@ use Rattle.bench_base.specs.declared.refusals.HostRefusal.{HostRefusal}
 use Rattle.bench_base.specs.declared.refusals.HostRefusal.TheVariants as host
 use Rattle.bench_base.specs.declared.refusals.ScanRefusal.{ScanRefusal}
 use Rattle.bench_base.specs.declared.refusals.ScanRefusal.TheVariants as scan
-use Rattle.script_text.specs.Words.{kind_word}
+use Rattle.script_words.specs.Words.{kind_word}
 
 abbrev pub phase_word : Phase → List ℕ
 phase_word phase.Blank = codes "blank"

@@ -7,7 +7,7 @@ use Rattle.bench_base.specs.declared.words.Verdict.TheVariants.{Granted, NotEnro
 use Rattle.bench_base.specs.declared.events.Reply.{Reply}
 use Rattle.bench_base.specs.declared.events.Reply.TheVariants as reply
 use Rattle.script_text.specs.Refusals.{phase_word, dev_words, centre_words, host_words, scan_words}
-use Rattle.script_text.specs.Words.{joined, device_word, node_word, hex_word, kind_word, new_word}
+use Rattle.script_words.specs.Words.{joined, device_word, node_word, hex_word, kind_word, new_word}
 
 abbrev pub verdict_number : Verdict → ℕ
 verdict_number Granted = 0

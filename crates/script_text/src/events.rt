@@ -4,16 +4,12 @@ ghost use Rattle.bench_base.specs.Ranges.{IsWholeEvent};
 ghost use Rattle.bench_base.specs.declared.events.Event.{Event};
 ghost use Rattle.script_text.specs.Grammar.{Spells, IsSkipped};
 ghost use Rattle.script_text.specs.Reading.{IsEventOf, IsEventBehind};
-ghost use Rattle.script_text.specs.Words.{words_in};
+ghost use Rattle.script_words.specs.Words.{words_in};
 
 use crate::forms;
 use crate::keyword::{Keyword, read_keyword};
-use crate::word::split_word;
 use bench_base::events::Event;
-
-/// No event has the line.
-#[derive(Clone, Copy, Debug, PartialEq, Eq)]
-pub struct LineFault;
+use script_words::{LineFault, split_word};
 
 // The event of a line of one word.
 fn read_alone(word: &[u8]) -> Result<Event, LineFault>

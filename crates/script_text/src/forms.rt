@@ -2,19 +2,19 @@
 ghost use Rattle.std.specs.Prelude.{◌≡◌, ℕ, [], ◌∷◌, ◌⊎◌, Ok, IfOk, OnErr};
 ghost use Rattle.bench_base.specs.Ranges.{IsDevice};
 ghost use Rattle.bench_base.specs.declared.words.Kind.{Kind};
-ghost use Rattle.script_text.specs.Words.{device_word, kind_word};
+ghost use Rattle.script_words.specs.Words.{device_word, kind_word};
 ghost use Rattle.script_text.specs.Reading.{IsEventBehind};
-ghost use Rattle.script_text.specs.Words.{words_in};
+ghost use Rattle.script_words.specs.Words.{words_in};
 ghost use Rattle.script_text.specs.declared.keyword.Keyword.{Keyword};
 
-use crate::events::LineFault;
-use crate::values::{Byte, Hex, Msg};
-use crate::word::{five, four, one, split_word, three, two};
 use bench_base::bytes::Given;
 use bench_base::events::Event;
 use bench_base::numbers::{Customer, DevNo};
 use bench_base::words::{Key, Kind, Node};
 use psd_audit::read_date;
+use script_words::LineFault;
+use script_words::values::{Byte, Hex, Msg};
+use script_words::word::{five, four, one, split_word, three, two};
 
 pub fn day(rest: &[u8]) -> Result<Event, LineFault>
     ensures read { IsEventBehind Keyword.Day (words_in rest.now) result }

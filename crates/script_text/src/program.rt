@@ -4,7 +4,7 @@ ghost use Rattle.bench_base.specs.Ranges.{IsWord};
 ghost use Rattle.script_text.specs.Programs.{program_words, AreInRange};
 ghost use Rattle.script_text.specs.declared.program.Words.{Words};
 
-use crate::word::Word;
+use script_words::word::Word;
 
 /// The most turns of a generated run.
 const MOST_TURNS: u32 = 90_000;

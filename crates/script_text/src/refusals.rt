@@ -1,13 +1,13 @@
 //! The words of refusals.
 ghost use Rattle.std.specs.Prelude.{◌≡◌, ◌+◌, ◌≤◌, ◌++◌, length};
 ghost use Rattle.script_text.specs.Refusals.{dev_words, centre_words, rate_words, host_words, scan_words, phase_word, state_word, unread_word, fault_word};
-ghost use Rattle.script_text.specs.Words.{spaced};
+ghost use Rattle.script_words.specs.Words.{spaced};
 
-use crate::line::Line;
 use bench_base::refusals::{
     CentreRefusal, DevRefusal, HostRefusal, MarkFault, RateRefusal, ScanRefusal, Unread,
 };
 use bench_base::words::{JobState, Phase};
+use script_words::line::Line;
 
 /// The word of the phase.
 pub fn phase_word(phase: Phase) -> &'static [u8]

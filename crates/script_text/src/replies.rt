@@ -1,11 +1,10 @@
 //! The text that stands in the report for a reply.
 ghost use Rattle.std.specs.Prelude.{◌≡◌, ◌+◌, ◌≤◌, ◌++◌, ◌∷◌, [], length, codes};
 ghost use Rattle.std.specs.Fmt.{signed_decimal};
-ghost use Rattle.script_text.specs.Words.{spaced};
+ghost use Rattle.script_words.specs.Words.{spaced};
 ghost use Rattle.script_text.specs.Texts.{text_of, verdict_number, pending_word, flight_words};
 ghost use Rattle.bench_base.specs.declared.events.Reply.{Reply};
 
-use crate::line::{Line, numbered, of_device, of_node, starting};
 use crate::refusals::{
     phase_word, put_centre_refusal, put_dev_refusal, put_host_refusal, put_scan_refusal,
 };
@@ -13,6 +12,7 @@ use bench_base::events::{DevView, Reply};
 use bench_base::numbers::{Customer, DevNo};
 use bench_base::refusals::{CentreRefusal, DevRefusal, HostRefusal, ScanRefusal};
 use bench_base::words::{Kind, Node, Verdict};
+use script_words::line::{Line, numbered, of_device, of_node, starting};
 
 // The number of the verdict.
 fn verdict_code(verdict: Verdict) -> u8

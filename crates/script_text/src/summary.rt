@@ -4,8 +4,8 @@ ghost use Rattle.bench_base.specs.declared.events.Reply.{Reply};
 ghost use Rattle.script_text.specs.Summaries.{column_of, nothing, one_in, together, tally_of, summary_text};
 
 use crate::column::{Column, column_of};
-use crate::line::{Line, numbered};
 use bench_base::events::Reply;
+use script_words::line::{Line, numbered};
 use std::marker::Model;
 
 /// How many events a run had, and how many of them were refused, lost power, met a fault of storage, released a mark, or had a

@@ -5,8 +5,8 @@ use Rattle.bench_base.specs.declared.events.Event.{Event}
 use Rattle.script_text.specs.Grammar.{Spells}
 use Rattle.script_text.specs.Keywords.{keyword_word}
 use Rattle.script_text.specs.Reading.{AreNoWords, IsEventOf, IsEventBehind}
-use Rattle.script_text.specs.Words.{words_in}
-use Rattle.script_text.specs.declared.events.LineFault.{LineFault}
+use Rattle.script_words.specs.Words.{words_in}
+use Rattle.script_words.specs.declared.word.LineFault.{LineFault}
 use Rattle.script_text.specs.declared.keyword.Keyword.{Keyword}
 use Rattle.script_text.proofs.ByKeyword.{no_keyword}
 use Rattle.script_text.proofs.EventWords.{spelled, words_spelled}

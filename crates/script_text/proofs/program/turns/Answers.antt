@@ -1,5 +1,5 @@
 use Rattle.std.proofs.Common.{arith}
-use Rattle.script_text.proofs.Numbers.{same_number}
+use Rattle.script_words.proofs.Numbers.{same_number}
 use Rattle.script_text.proofs.program.turns.Goals as goal
 
 pub returns-then-count-gt-MOST_TURNS-clause-none : goal.returns-then-count-gt-MOST_TURNS-clause-none

@@ -1,6 +1,6 @@
 use Rattle.std.proofs.Common.{codes, decimal}
 use Rattle.script_text.specs.Texts.{reply_words, flight_words}
-use Rattle.script_text.specs.Words.{device_word}
+use Rattle.script_words.specs.Words.{device_word}
 use Rattle.script_text.proofs.Built.{first_word, with_word, with_words, with_named}
 use Rattle.script_text.proofs.replies.put_reconciled.Goals as goal
 

@@ -2,7 +2,7 @@ use Rattle.std.proofs.Common.{codes, decimal}
 use Rattle.std.specs.Fmt.{signed_decimal}
 use Rattle.script_text.specs.Refusals.{phase_word}
 use Rattle.script_text.specs.Texts.{reply_words, pending_word}
-use Rattle.script_text.specs.Words.{device_word}
+use Rattle.script_words.specs.Words.{device_word}
 use Rattle.script_text.proofs.Built.{first_word, with_word, with_named}
 use Rattle.script_text.proofs.replies.put_status.Goals as goal
 

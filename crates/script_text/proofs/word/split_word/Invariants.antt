@@ -1,6 +1,0 @@
-use Rattle.std.proofs.Common.{take}
-use Rattle.script_text.proofs.Splits.{Solid}
-use Rattle.script_text.proofs.word.split_word.Given as goal
-
-abbrev pub invariant-loop-i : goal.invariant-loop-i
-invariant-loop-i l = Solid (take l.i l.bytes)
