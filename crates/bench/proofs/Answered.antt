@@ -34,7 +34,7 @@ use Rattle.bench_views.specs.Follows.{OthersAreQuiet, quiet_by}
 use Rattle.bench_views.specs.Tariff.{Quote, quote}
 use Rattle.bench_views.specs.Taken.{taken, as_given}
 use Rattle.bench_views.proofs.Events.{each_quiet, IsOfNone, some-same}
-use Rattle.bench.specs.Benches.{Bench, Nodes, OfState, Of, IsReady, Stands}
+use Rattle.bench.specs.Benches.{Nodes, OfState, Of, IsReady, Stands, BenchOf}
 use Rattle.bench.specs.Calls.{dated}
 use Rattle.bench.specs.Outside.{Outside, ReadsRates}
 use Rattle.bench.specs.Steps.{Steps, DoesAsked, ComparesViews}
@@ -127,12 +127,12 @@ pub record Answers (x : Event) (reply : Reply) : Type 0 where
   pub dated : reply ≢ r.NoDay
   pub prints : IsUnprinted reply
 
-module _ {D C H V S XD XC XH XV RD RC RH RV N : Type 0} (n : Nodes D C H V S XD XC XH XV RD RC RH RV) (g : nv.Ghosts S) (f : fuse.Ghosts S) (h : nv.Ghosts N) (old : Bench D C H V) (ready : IsReady old) (out : Outside) where
-  abbrev StandsIs : Ledger → OfState S
-  StandsIs L o i d s = node.Stands o.ghosts g d (view_in i (o.kind.seen d) L) s
+module _ (n : Nodes) (old : BenchOf n) (ready : IsReady old) (out : Outside) where
+  abbrev StandsIs : Ledger → OfState n.Storage
+  StandsIs L o i d s = node.Stands o.ghosts n.storage d (view_in i (o.kind.seen d) L) s
 
-  pub steps_day : (t : ℤ) → IsWholeEvent (ev.Day t) → Steps n g f h (ev.Day t) [] (turn_of (r.Day t) (entry.Day t ∷ [])) old (record old { day = Some t }) out out
-  steps_day t whole = quiet n g f h (ev.Day t) (ev.Day t) [] (r.Day t) (entry.Day t ∷ []) old (record old { day = Some t }) out out
+  pub steps_day : (t : ℤ) → IsWholeEvent (ev.Day t) → Steps n (ev.Day t) [] (turn_of (r.Day t) (entry.Day t ∷ [])) old (record old { day = Some t }) out out
+  steps_day t whole = quiet n (ev.Day t) (ev.Day t) [] (r.Day t) (entry.Day t ∷ []) old (record old { day = Some t }) out out
       (record { devices = refl; centre = refl; host = refl; verifier = refl }) refl ready whole
       (record {
         given = refl;
@@ -144,10 +144,11 @@ module _ {D C H V S XD XC XH XV RD RC RH RV N : Type 0} (n : Nodes D C H V S XD 
         dated = refl;
         dates = λ u is. ap (λ (x : ℤ). turn_of (r.Day x) (entry.Day x ∷ [])) (cc);
         ends = λ is. cc;
+        compares = λ i is. let wrong : ⊥ = cc in absurd wrong;
         message = λ k is. cc;
         unsent = refl;
         refused = λ is. absurd (true≢false (sym is));
-        switches = of_all n (SwitchesIs n g f h (ev.Day t) (ev.Day t) [] (r.Day t) (entry.Day t ∷ []) old (record old { day = Some t }) out out) old (λ o i d s some is. no_some i is);
+        switches = of_all n (SwitchesIs n (ev.Day t) (ev.Day t) [] (r.Day t) (entry.Day t ∷ []) old (record old { day = Some t }) out out) old (λ o i d s some is. no_some i is);
         unarmed = λ some m calls keep byte is. cc;
         rates = record {
           reads = λ is. cc;
@@ -165,14 +166,14 @@ module _ {D C H V S XD XC XH XV RD RC RH RV N : Type 0} (n : Nodes D C H V S XD 
         stands = record {
           day = record { day = refl; rates = stands.day.rates; messages = stands.day.messages };
           nodes = λ m. of_with n (StandsIs L) (StandsIs (entry.Day t ∷ L)) old
-              (λ o i d s st. again o.ghosts g d (view_in i (o.kind.seen d) L) s (view_in i (o.kind.seen d) (entry.Day t ∷ L)) refl refl refl st) m (stands.nodes m);
+              (λ o i d s st. again o.ghosts n.storage d (view_in i (o.kind.seen d) L) s (view_in i (o.kind.seen d) (entry.Day t ∷ L)) refl refl refl st) m (stands.nodes m);
         };
         still = λ k. refl;
       })
       (λ tells. record { asks = take.Day t; taken_is = refl; does = λ today day. tt; not_read = refl })
 
-  pub steps_end : IsWholeEvent ev.End → Steps n g f h ev.End [] (turn_of r.End []) old old out out
-  steps_end whole = quiet n g f h ev.End ev.End [] r.End [] old old out out (all_rest old) refl ready whole
+  pub steps_end : IsWholeEvent ev.End → Steps n ev.End [] (turn_of r.End []) old old out out
+  steps_end whole = quiet n ev.End ev.End [] r.End [] old old out out (all_rest old) refl ready whole
       (record {
         given = refl;
         power = λ i. refl;
@@ -183,10 +184,11 @@ module _ {D C H V S XD XC XH XV RD RC RH RV N : Type 0} (n : Nodes D C H V S XD 
         dated = refl;
         dates = λ u is. cc;
         ends = λ is. refl;
+        compares = λ i is. let wrong : ⊥ = cc in absurd wrong;
         message = λ k is. cc;
         unsent = refl;
         refused = λ is. absurd (true≢false (sym is));
-        switches = of_all n (SwitchesIs n g f h ev.End ev.End [] r.End [] old old out out) old (λ o i d s some is. no_some i is);
+        switches = of_all n (SwitchesIs n ev.End ev.End [] r.End [] old old out out) old (λ o i d s some is. no_some i is);
         unarmed = λ some m calls keep byte is. cc;
         rates = reads_nothing ev.End r.End old.day old.rates out (λ is. cc);
         printer = refl;
@@ -201,8 +203,8 @@ module _ {D C H V S XD XC XH XV RD RC RH RV N : Type 0} (n : Nodes D C H V S XD 
       })
       (λ tells. record { asks = take.End; taken_is = refl; does = λ today day. tt; not_read = refl })
 
-  pub steps_none : (e : Event) (x : Taken) → IsWholeEvent e → needs_day e ≡ true → taken old.messages (quote old.rates) e ≡ Some x → old.day ≡ None → Steps n g f h e [] (turn_of r.NoDay []) old old out out
-  steps_none e x whole needs taken_is none = quiet n g f h e (as_given old.messages e) [] r.NoDay [] old old out out (all_rest old) refl ready whole
+  pub steps_none : (e : Event) (x : Taken) → IsWholeEvent e → needs_day e ≡ true → taken old.messages (quote old.rates) e ≡ Some x → old.day ≡ None → Steps n e [] (turn_of r.NoDay []) old old out out
+  steps_none e x whole needs taken_is none = quiet n e (as_given old.messages e) [] r.NoDay [] old old out out (all_rest old) refl ready whole
       (record {
         given = refl;
         power = λ i. refl;
@@ -213,10 +215,11 @@ module _ {D C H V S XD XC XH XV RD RC RH RV N : Type 0} (n : Nodes D C H V S XD 
         dated = leaves_day e needs old.day;
         dates = λ u is. absurd (not_day e needs u is);
         ends = λ is. absurd (not_end e needs is);
+        compares = λ i is. (refl, refl, λ some. absurd (is_none old.day some none));
         message = λ k is some. absurd (is_none old.day some none);
         unsent = refl;
         refused = λ is. (refl, refl);
-        switches = of_all n (SwitchesIs n g f h e (as_given old.messages e) [] r.NoDay [] old old out out) old (λ o i d s some. absurd (is_none old.day some none));
+        switches = of_all n (SwitchesIs n e (as_given old.messages e) [] r.NoDay [] old old out out) old (λ o i d s some. absurd (is_none old.day some none));
         unarmed = λ some m calls keep byte is. is_none old.day some none;
         rates = reads_nothing e r.NoDay old.day old.rates out (λ is some. is_none old.day some none);
         printer = refl;
@@ -239,19 +242,21 @@ module _ {D C H V S XD XC XH XV RD RC RH RV N : Type 0} (n : Nodes D C H V S XD 
     module _ (e : Event) (x : Taken) (reply : Reply) (whole : IsWholeEvent e) (needs : needs_day e ≡ true) (taken_is : taken old.messages (quote old.rates) e ≡ Some x) (given : as_given old.messages e ≡ e)
         (answers : Answers e reply) where
       pub record OnDay (today : ℤ) : Type 0 where
-        pub shown : (L : Ledger) → Stands n g old L → g.tells → quiet_by n.kinds L x ≡ Some reply
-        pub does : g.tells → DoesAsked n g today (turn_of reply []) old old out out x
+        pub shown : (L : Ledger) → Stands n old L → n.storage.tells → quiet_by n.kinds L x ≡ Some reply
+        pub does : n.storage.tells → DoesAsked n today (turn_of reply []) old old out out x
         pub message : (k : ℕ) → x ≡ take.NoMessage k → reply ≡ r.NoMessage k
-        pub switches : (m : Node) → Of n (SwitchesIs n g f h e e [] reply [] old old out out) old m
+        pub switches : (m : Node) → Of n (SwitchesIs n e e [] reply [] old old out out) old m
         pub unarmed : (m : Node) (calls keep byte : ℕ) → e ≡ ev.Cut m calls keep byte → ⊥
         pub not_rates : e ≢ ev.Rates
+        pub finds : (d : ℕ) → e ≡ ev.Reconcile d → (i : ℕ) (s : n.Devices) → d ≡ i + 1 → slice_get old.devices i ≡ Some s
+            → (reply ≡ r.OffNode Centre) ↔ ((n.devices.is_on s ≡ true) × (n.centre.is_on old.centre ≡ false))
 
       -- by the day, or that there is none
-      steps_on : ((today : ℤ) → old.day ≡ Some today → OnDay today) → Steps n g f h e [] (turn_of (dated old.day reply) []) old old out out
+      steps_on : ((today : ℤ) → old.day ≡ Some today → OnDay today) → Steps n e [] (turn_of (dated old.day reply) []) old old out out
       steps_on each = by old.day refl
         where
-          answered : (today : ℤ) → old.day ≡ Some today → OnDay today → Steps n g f h e [] (turn_of reply []) old old out out
-          answered today day_is on = quiet n g f h e e [] reply [] old old out out (all_rest old) refl ready whole
+          answered : (today : ℤ) → old.day ≡ Some today → OnDay today → Steps n e [] (turn_of reply []) old old out out
+          answered today day_is on = quiet n e e [] reply [] old old out out (all_rest old) refl ready whole
               (record {
                 given = given;
                 power = answers.power;
@@ -262,6 +267,7 @@ module _ {D C H V S XD XC XH XV RD RC RH RV N : Type 0} (n : Nodes D C H V S XD 
                 dated = leaves_day e needs old.day;
                 dates = λ u is. absurd (not_day e needs u is);
                 ends = λ is. absurd (not_end e needs is);
+                compares = λ i is. (refl, refl, λ some. on.finds i is);
                 message = λ k is some. on.message k (some-same (sym taken_is ∙ is));
                 unsent = refl;
                 refused = λ is. (refl, refl);
@@ -284,29 +290,29 @@ module _ {D C H V S XD XC XH XV RD RC RH RV N : Type 0} (n : Nodes D C H V S XD 
               (λ tells. record {
                 asks = x;
                 taken_is = taken_is;
-                does = λ u day. subst (λ (t : ℤ). DoesAsked n g t (turn_of reply []) old old out out x) (some-same (sym day_is ∙ day)) (on.does tells);
+                does = λ u day. subst (λ (t : ℤ). DoesAsked n t (turn_of reply []) old old out out x) (some-same (sym day_is ∙ day)) (on.does tells);
                 not_read = answers.not_read;
               })
 
-          by : (o : Option ℤ) → old.day ≡ o → Steps n g f h e [] (turn_of (dated o reply) []) old old out out
+          by : (o : Option ℤ) → old.day ≡ o → Steps n e [] (turn_of (dated o reply) []) old old out out
           by None is = steps_none e x whole needs taken_is is
           by (Some today) is = answered today is (each today is)
 
     module _ (e : Event) (whole : IsWholeEvent e) where
-      pub steps_missing : (k : ℕ) → taken old.messages (quote old.rates) e ≡ Some (take.NoMessage k) → Steps n g f h e [] (turn_of (dated old.day (r.NoMessage k)) []) old old out out
+      pub steps_missing : (k : ℕ) → taken old.messages (quote old.rates) e ≡ Some (take.NoMessage k) → Steps n e [] (turn_of (dated old.day (r.NoMessage k)) []) old old out out
       steps_missing k is = ⊎_elim
           (λ (at : e ≡ ev.Deliver k). steps (ap needs_day at) (inl at) (λ m calls keep byte same. let wrong : ev.Deliver k ≡ ev.Cut m calls keep byte = sym at ∙ same in cc)
-          (λ same. let wrong : ev.Deliver k ≡ ev.Rates = sym at ∙ same in cc))
+          (λ same. let wrong : ev.Deliver k ≡ ev.Rates = sym at ∙ same in cc) (λ d same. let wrong : ev.Deliver k ≡ ev.Reconcile d = sym at ∙ same in cc))
           (λ (at : (scan : ℕ) × (e ≡ ev.ScanMsg scan k)). steps (ap needs_day at.1) (inr at) (λ m calls keep byte same. let wrong : ev.ScanMsg at.0 k ≡ ev.Cut m calls keep byte = sym at.1 ∙ same in cc)
-          (λ same. let wrong : ev.ScanMsg at.0 k ≡ ev.Rates = sym at.1 ∙ same in cc))
+          (λ same. let wrong : ev.ScanMsg at.0 k ≡ ev.Rates = sym at.1 ∙ same in cc) (λ d same. let wrong : ev.ScanMsg at.0 k ≡ ev.Reconcile d = sym at.1 ∙ same in cc))
           found.1
         where
           found : IsQuietAs old.messages e (take.NoMessage k)
           found = quiet_is old.messages (quote old.rates) e (take.NoMessage k) is tt
 
-          steps : needs_day e ≡ true → MayGet e (r.NoMessage k) → ((m : Node) (calls keep byte : ℕ) → e ≡ ev.Cut m calls keep byte → ⊥) → e ≢ ev.Rates
-              → Steps n g f h e [] (turn_of (dated old.day (r.NoMessage k)) []) old old out out
-          steps needs gets unarmed not_rates = steps_on e (take.NoMessage k) (r.NoMessage k) whole needs is found.0
+          steps : needs_day e ≡ true → MayGet e (r.NoMessage k) → ((m : Node) (calls keep byte : ℕ) → e ≡ ev.Cut m calls keep byte → ⊥) → e ≢ ev.Rates → ((d : ℕ) → e ≢ ev.Reconcile d)
+              → Steps n e [] (turn_of (dated old.day (r.NoMessage k)) []) old old out out
+          steps needs gets unarmed not_rates not_compare = steps_on e (take.NoMessage k) (r.NoMessage k) whole needs is found.0
               (record {
                 gets = gets;
                 says = refl;
@@ -321,20 +327,22 @@ module _ {D C H V S XD XC XH XV RD RC RH RV N : Type 0} (n : Nodes D C H V S XD 
                 shown = λ L stands tells. refl;
                 does = λ tells. tt;
                 message = λ j same. ap (λ (i : ℕ). r.NoMessage i) (cc);
-                switches = of_all n (SwitchesIs n g f h e e [] (r.NoMessage k) [] old old out out) old (λ o i d s some at there. absurd (there k refl));
+                switches = of_all n (SwitchesIs n e e [] (r.NoMessage k) [] old old out out) old (λ o i d s some at there. absurd (there k refl));
                 unarmed = unarmed;
                 not_rates = not_rates;
+                finds = λ d same. absurd (not_compare d same);
               })
 
       pub steps_compared : (d : ℕ) (reply : Reply) → taken old.messages (quote old.rates) e ≡ Some (take.Reconcile d) → Answers (ev.Reconcile d) reply → ((was : Bool) → was ≡ on_after reply was)
-          → ((i : ℕ) (s : D) → d ≡ i + 1 → slice_get old.devices i ≡ Some s → (reply ≡ r.OffNode (Device d)) ↔ (n.devices.is_on s ≡ false))
-          → ((i : ℕ) (s : D) → d ≡ i + 1 → slice_get old.devices i ≡ Some s → ComparesViews n g d reply old.centre s) → Steps n g f h e [] (turn_of (dated old.day reply) []) old old out out
-      steps_compared d reply is answers leaves off compares =
+          → ((i : ℕ) (s : n.Devices) → d ≡ i + 1 → slice_get old.devices i ≡ Some s → (reply ≡ r.OffNode (Device d)) ↔ (n.devices.is_on s ≡ false))
+          → ((i : ℕ) (s : n.Devices) → d ≡ i + 1 → slice_get old.devices i ≡ Some s → (reply ≡ r.OffNode Centre) ↔ ((n.devices.is_on s ≡ true) × (n.centre.is_on old.centre ≡ false)))
+          → ((i : ℕ) (s : n.Devices) → d ≡ i + 1 → slice_get old.devices i ≡ Some s → ComparesViews n d reply old.centre s) → Steps n e [] (turn_of (dated old.day reply) []) old old out out
+      steps_compared d reply is answers leaves off finds compares =
           let found : e ≡ ev.Reconcile d = quiet_is old.messages (quote old.rates) e (take.Reconcile d) is tt in
           let own = subst IsWholeEvent found whole in
           let s = get_some old.devices (d - 1) (omega (arith, own.0, own.1, ready.eight)) in
           let at : d ≡ d - 1 + 1 = omega (arith, own.0) in
-          subst (λ (x : Event). Steps n g f h x [] (turn_of (dated old.day reply) []) old old out out) (sym found)
+          subst (λ (x : Event). Steps n x [] (turn_of (dated old.day reply) []) old old out out) (sym found)
           (steps_on (ev.Reconcile d) (take.Reconcile d) reply own refl refl refl answers (λ today day. record {
             shown = λ L stands tells. ap (λ x. Some x) (sym (compares (d - 1) s.0 at s.1 (view_in (Device d) (n.kinds.devices.seen d) L) (view_in Centre (n.kinds.centre.seen tt) L)
                 (stands.nodes (Device d) (d - 1) s.0 at s.1) (stands.nodes Centre) tells));
@@ -343,12 +351,13 @@ module _ {D C H V S XD XC XH XV RD RC RH RV N : Type 0} (n : Nodes D C H V S XD 
             switches = λ m. switches_at m;
             unarmed = λ m calls keep byte same. cc;
             not_rates = λ same. cc;
+            finds = λ u same i s at there. let one : d ≡ u = cc in finds i s (one ∙ at) there;
           }))
         where
-          switches_at : (m : Node) → Of n (SwitchesIs n g f h (ev.Reconcile d) (ev.Reconcile d) [] reply [] old old out out) old m
+          switches_at : (m : Node) → Of n (SwitchesIs n (ev.Reconcile d) (ev.Reconcile d) [] reply [] old old out out) old m
           switches_at (Device k) = λ i u next was some at there. switches_of k i u (let one : Some (Device d) ≡ Some (Device k) = at in cc) next was
             where
-              switches_of : (k i : ℕ) (u : D) → d ≡ k → k ≡ i + 1 → slice_get old.devices i ≡ Some u → Switches (Device k) (ev.Reconcile d) reply (n.devices.is_on u) (n.devices.is_on u)
+              switches_of : (k i : ℕ) (u : n.Devices) → d ≡ k → k ≡ i + 1 → slice_get old.devices i ≡ Some u → Switches (Device k) (ev.Reconcile d) reply (n.devices.is_on u) (n.devices.is_on u)
               switches_of k i u same next was = record {
                 off = λ on. subst (λ (j : ℕ). (reply ≡ r.OffNode (Device j)) ↔ (n.devices.is_on u ≡ false)) same (off i u (same ∙ next) was);
                 already = λ is. cc;

@@ -12,7 +12,7 @@ use Rattle.nv_model.specs.declared.nv.Nv as nv
 use Rattle.node_acts.specs.Kinds.{view_in}
 use Rattle.node_seat.specs.declared.node.Node.{Ghosts}
 use Rattle.node_seat.specs.Stands as node
-use Rattle.bench.specs.Benches.{Bench, Nodes, Of, Stands}
+use Rattle.bench.specs.Benches.{Nodes, Of, Stands, BenchOf}
 use Rattle.bench.specs.Places.{Pairs, IsStopped, Begun, StopsAt}
 use Rattle.bench.proofs.Making.{get_some, pairs_at, pairs_length}
 use Rattle.bench.proofs.Sets.{get_set_same, get_set_other, same_some}
@@ -60,18 +60,18 @@ module _ {K S N C R : Type 0} (n : Ghosts K S N C R) (g : nv.Ghosts S) where
   pub all_stopped : (k : ℕ) (old new : List K) → k ≡ length old → Stopping n g k old new → Pairs (IsStopped n g) old new
   all_stopped k old new all stopping = pairs_of (IsStopped n g) old new stopping.size (λ i s t lt was is. stopping.stopped i s t (omega arith) was is)
 
-pub begun_stands : {D C H V S XD XC XH XV RD RC RH RV : Type 0} (n : Nodes D C H V S XD XC XH XV RD RC RH RV) (g : nv.Ghosts S) (old new : Bench D C H V) (L : Ledger)
-    → new.day ≡ None → new.messages ≡ [] → new.rates ≡ None → Begun n g old new → Stands n g old L → Stands n g new (Begin ∷ L)
-begun_stands n g old new L no_day no_messages no_rates begun stands = record {
+pub begun_stands : (n : Nodes) (old new : BenchOf n) (L : Ledger)
+    → new.day ≡ None → new.messages ≡ [] → new.rates ≡ None → Begun n old new → Stands n old L → Stands n new (Begin ∷ L)
+begun_stands n old new L no_day no_messages no_rates begun stands = record {
   day = no_day_is new.day new.messages new.rates (Begin ∷ L) no_day no_messages no_rates (none_day L);
   nodes = each;
 }
   where
-    each : (m : Node) → Of n (λ k i d s. node.Stands k.ghosts g d (view_in i (k.kind.seen d) (Begin ∷ L)) s) new m
+    each : (m : Node) → Of n (λ k i d s. node.Stands k.ghosts n.storage d (view_in i (k.kind.seen d) (Begin ∷ L)) s) new m
     each (Device d) = λ i t is at.
         let lt : i < length new.devices = slice_get_within new.devices i t at in
-        let s = get_some old.devices i (omega (arith, pairs_length (IsStopped n.devices g) old.devices new.devices begun.devices)) in
-        (pairs_at (IsStopped n.devices g) old.devices new.devices begun.devices i s.0 t s.1 at).stands d (view_in (Device d) (n.kinds.devices.seen d) L) (stands.nodes (Device d) i s.0 is s.1)
+        let s = get_some old.devices i (omega (arith, pairs_length (IsStopped n.devices n.storage) old.devices new.devices begun.devices)) in
+        (pairs_at (IsStopped n.devices n.storage) old.devices new.devices begun.devices i s.0 t s.1 at).stands d (view_in (Device d) (n.kinds.devices.seen d) L) (stands.nodes (Device d) i s.0 is s.1)
     each Centre = begun.centre.stands tt (view_in Centre (n.kinds.centre.seen tt) L) (stands.nodes Centre)
     each Host = begun.host.stands tt (view_in Host (n.kinds.host.seen tt) L) (stands.nodes Host)
     each Verifier = begun.verifier.stands tt (view_in Verifier (n.kinds.verifier.seen tt) L) (stands.nodes Verifier)

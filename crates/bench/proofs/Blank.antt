@@ -87,13 +87,13 @@ blank_store h k m d store node blank = (
   },
 )
 
-pub blank_stand : {D C H V S XD XC XH XV RD RC RH RV N : Type 0} (n : Nodes D C H V S XD XC XH XV RD RC RH RV) (h : nv.Ghosts N) (stores : benches.Places N)
+pub blank_stand : (n : Nodes) (stores : benches.Places n.Inner)
     → ((d : ℕ) → IsBlankNode (benches.devices n) (Device d) d) → IsBlankNode (benches.centre n) Centre tt → IsBlankNode (benches.host n) Host tt → IsBlankNode (benches.verifier n) Verifier tt
-    → AreBlank h stores → StoresStand n h stores []
-blank_stand {N} n h stores devices centre host verifier blank = record { day = record { day = refl; messages = refl; rates = tt }; nodes = each }
+    → AreBlank n.inner stores → StoresStand n stores []
+blank_stand n stores devices centre host verifier blank = record { day = record { day = refl; messages = refl; rates = tt }; nodes = each }
   where
-    each : (m : Node) (store : N) → store_of stores m ≡ Some store → StoreStandsOff n h [] store m
-    each (Device d) store is = blank_store h (benches.devices n) (Device d) d store (devices d) (blank (Device d) store is)
-    each Centre store is = blank_store h (benches.centre n) Centre tt store centre (blank Centre store is)
-    each Host store is = blank_store h (benches.host n) Host tt store host (blank Host store is)
-    each Verifier store is = blank_store h (benches.verifier n) Verifier tt store verifier (blank Verifier store is)
+    each : (m : Node) (store : n.Inner) → store_of stores m ≡ Some store → StoreStandsOff n [] store m
+    each (Device d) store is = blank_store n.inner (benches.devices n) (Device d) d store (devices d) (blank (Device d) store is)
+    each Centre store is = blank_store n.inner (benches.centre n) Centre tt store centre (blank Centre store is)
+    each Host store is = blank_store n.inner (benches.host n) Host tt store host (blank Host store is)
+    each Verifier store is = blank_store n.inner (benches.verifier n) Verifier tt store verifier (blank Verifier store is)

@@ -1,5 +1,5 @@
 -- What the bench answers where it compares a device with the centre.
-use Rattle.std.proofs.Common.{◌≡◌, inl, inr, ℕ, ◌+◌, Option, Some, None, Bool, true, false, ◌↔◌, refl, ◌∙◌, ap, true≢false, if◌then◌else◌}
+use Rattle.std.proofs.Common.{◌≡◌, inl, inr, ℕ, ◌+◌, Option, Some, None, Bool, true, false, ◌↔◌, refl, sym, ◌∙◌, ap, true≢false, if◌then◌else◌}
 use Rattle.bench_base.specs.declared.words.Kind.{Kind}
 use Rattle.bench_base.specs.declared.words.Node.TheVariants.{Device, Centre}
 use Rattle.bench_base.specs.declared.refusals.CentreRefusal.{CentreRefusal}
@@ -53,6 +53,17 @@ module _ (d : ℕ) (v : View device.Seen) (w : View centre.Seen) where
       by true true = (
         λ is. absurd (each_compared (λ x. x ≡ r.OffNode (Device d) → ⊥) d (λ e. cc) (λ x e. cc) (λ a b c e. cc) v.state.state (standing_act d (books_in w.state)) is),
         λ is. absurd (true≢false is),
+      )
+
+  pub compare_off_centre : (compare d v w ≡ r.OffNode Centre) ↔ ((v.on ≡ true) × (w.on ≡ false))
+  compare_off_centre = by v.on w.on
+    where
+      by : (a b : Bool) → ((if a then (if b then shown else r.OffNode Centre) else r.OffNode (Device d)) ≡ r.OffNode Centre) ↔ ((a ≡ true) × (b ≡ false))
+      by false b = (λ is. cc, λ is. absurd (true≢false (sym is.0)))
+      by true false = (λ is. (refl, refl), λ is. refl)
+      by true true = (
+        λ is. absurd (each_compared (λ x. x ≡ r.OffNode Centre → ⊥) d (λ e. cc) (λ x e. cc) (λ a b c e. cc) v.state.state (standing_act d (books_in w.state)) is),
+        λ is. absurd (true≢false is.1),
       )
 
   pub compare_leaves : (was : Bool) → was ≡ on_after (compare d v w) was

@@ -275,40 +275,41 @@ pub record IsOfNode (m : Node) (e : Event) : Type 0 where
   pub leaves : (o : Option ℤ) → day_after e o ≡ o
   pub no_day : (t : ℤ) → e ≢ ev.Day t
   pub no_end : e ≢ ev.End
+  pub no_compare : (d : ℕ) → e ≢ ev.Reconcile d
 
 asked_of : {C : Type 0} (m : Node) (of_call : C → Event) → ((c : C) → IsOfNode m (of_call c)) → (asked : Asked C) → IsOfNode m (asked_event m of_call asked)
-asked_of m of_call each On = record { node = refl; dated = refl; leaves = λ o. refl; no_day = λ t e. cc; no_end = λ e. cc }
-asked_of m of_call each Off = record { node = refl; dated = refl; leaves = λ o. refl; no_day = λ t e. cc; no_end = λ e. cc }
-asked_of m of_call each (Cut calls keep byte) = record { node = refl; dated = refl; leaves = λ o. refl; no_day = λ t e. cc; no_end = λ e. cc }
+asked_of m of_call each On = record { node = refl; dated = refl; leaves = λ o. refl; no_day = λ t e. cc; no_end = λ e. cc; no_compare = λ i e. cc }
+asked_of m of_call each Off = record { node = refl; dated = refl; leaves = λ o. refl; no_day = λ t e. cc; no_end = λ e. cc; no_compare = λ i e. cc }
+asked_of m of_call each (Cut calls keep byte) = record { node = refl; dated = refl; leaves = λ o. refl; no_day = λ t e. cc; no_end = λ e. cc; no_compare = λ i e. cc }
 asked_of m of_call each (Call c) = each c
 
 device_call_of : (d : ℕ) (c : DeviceCall) → IsOfNode (Device d) (device_call_event d c)
-device_call_of d (device.Make key) = record { node = refl; dated = refl; leaves = λ o. refl; no_day = λ t e. cc; no_end = λ e. cc }
-device_call_of d (device.Debit piece postage class) = record { node = refl; dated = refl; leaves = λ o. refl; no_day = λ t e. cc; no_end = λ e. cc }
-device_call_of d (device.Ask kind who amount k) = record { node = refl; dated = refl; leaves = λ o. refl; no_day = λ t e. cc; no_end = λ e. cc }
-device_call_of d (device.Resend k) = record { node = refl; dated = refl; leaves = λ o. refl; no_day = λ t e. cc; no_end = λ e. cc }
-device_call_of d (device.Ack k) = record { node = refl; dated = refl; leaves = λ o. refl; no_day = λ t e. cc; no_end = λ e. cc }
-device_call_of d device.Status = record { node = refl; dated = refl; leaves = λ o. refl; no_day = λ t e. cc; no_end = λ e. cc }
-device_call_of d (device.Take bytes k) = record { node = refl; dated = refl; leaves = λ o. refl; no_day = λ t e. cc; no_end = λ e. cc }
+device_call_of d (device.Make key) = record { node = refl; dated = refl; leaves = λ o. refl; no_day = λ t e. cc; no_end = λ e. cc; no_compare = λ i e. cc }
+device_call_of d (device.Debit piece postage class) = record { node = refl; dated = refl; leaves = λ o. refl; no_day = λ t e. cc; no_end = λ e. cc; no_compare = λ i e. cc }
+device_call_of d (device.Ask kind who amount k) = record { node = refl; dated = refl; leaves = λ o. refl; no_day = λ t e. cc; no_end = λ e. cc; no_compare = λ i e. cc }
+device_call_of d (device.Resend k) = record { node = refl; dated = refl; leaves = λ o. refl; no_day = λ t e. cc; no_end = λ e. cc; no_compare = λ i e. cc }
+device_call_of d (device.Ack k) = record { node = refl; dated = refl; leaves = λ o. refl; no_day = λ t e. cc; no_end = λ e. cc; no_compare = λ i e. cc }
+device_call_of d device.Status = record { node = refl; dated = refl; leaves = λ o. refl; no_day = λ t e. cc; no_end = λ e. cc; no_compare = λ i e. cc }
+device_call_of d (device.Take bytes k) = record { node = refl; dated = refl; leaves = λ o. refl; no_day = λ t e. cc; no_end = λ e. cc; no_compare = λ i e. cc }
 
 centre_call_of : (c : CentreCall) → IsOfNode Centre (centre_call_event c)
-centre_call_of (call.Register d origin key) = record { node = refl; dated = refl; leaves = λ o. refl; no_day = λ t e. cc; no_end = λ e. cc }
-centre_call_of (call.Open w) = record { node = refl; dated = refl; leaves = λ o. refl; no_day = λ t e. cc; no_end = λ e. cc }
-centre_call_of (call.Deposit w receipt amount) = record { node = refl; dated = refl; leaves = λ o. refl; no_day = λ t e. cc; no_end = λ e. cc }
-centre_call_of (call.Flag w suspended) = record { node = refl; dated = refl; leaves = λ o. refl; no_day = λ t e. cc; no_end = λ e. cc }
-centre_call_of (call.Balance w) = record { node = refl; dated = refl; leaves = λ o. refl; no_day = λ t e. cc; no_end = λ e. cc }
-centre_call_of (call.Take bytes k) = record { node = refl; dated = refl; leaves = λ o. refl; no_day = λ t e. cc; no_end = λ e. cc }
+centre_call_of (call.Register d origin key) = record { node = refl; dated = refl; leaves = λ o. refl; no_day = λ t e. cc; no_end = λ e. cc; no_compare = λ i e. cc }
+centre_call_of (call.Open w) = record { node = refl; dated = refl; leaves = λ o. refl; no_day = λ t e. cc; no_end = λ e. cc; no_compare = λ i e. cc }
+centre_call_of (call.Deposit w receipt amount) = record { node = refl; dated = refl; leaves = λ o. refl; no_day = λ t e. cc; no_end = λ e. cc; no_compare = λ i e. cc }
+centre_call_of (call.Flag w suspended) = record { node = refl; dated = refl; leaves = λ o. refl; no_day = λ t e. cc; no_end = λ e. cc; no_compare = λ i e. cc }
+centre_call_of (call.Balance w) = record { node = refl; dated = refl; leaves = λ o. refl; no_day = λ t e. cc; no_end = λ e. cc; no_compare = λ i e. cc }
+centre_call_of (call.Take bytes k) = record { node = refl; dated = refl; leaves = λ o. refl; no_day = λ t e. cc; no_end = λ e. cc; no_compare = λ i e. cc }
 
 host_call_of : (c : HostCall) → IsOfNode Host (host_call_event c)
-host_call_of (host.Order d piece class grams zone price) = record { node = refl; dated = refl; leaves = λ o. refl; no_day = λ t e. cc; no_end = λ e. cc }
-host_call_of (host.Send j k) = record { node = refl; dated = refl; leaves = λ o. refl; no_day = λ t e. cc; no_end = λ e. cc }
-host_call_of (host.Print j) = record { node = refl; dated = refl; leaves = λ o. refl; no_day = λ t e. cc; no_end = λ e. cc }
-host_call_of (host.Close j) = record { node = refl; dated = refl; leaves = λ o. refl; no_day = λ t e. cc; no_end = λ e. cc }
-host_call_of (host.Take bytes) = record { node = refl; dated = refl; leaves = λ o. refl; no_day = λ t e. cc; no_end = λ e. cc }
+host_call_of (host.Order d piece class grams zone price) = record { node = refl; dated = refl; leaves = λ o. refl; no_day = λ t e. cc; no_end = λ e. cc; no_compare = λ i e. cc }
+host_call_of (host.Send j k) = record { node = refl; dated = refl; leaves = λ o. refl; no_day = λ t e. cc; no_end = λ e. cc; no_compare = λ i e. cc }
+host_call_of (host.Print j) = record { node = refl; dated = refl; leaves = λ o. refl; no_day = λ t e. cc; no_end = λ e. cc; no_compare = λ i e. cc }
+host_call_of (host.Close j) = record { node = refl; dated = refl; leaves = λ o. refl; no_day = λ t e. cc; no_end = λ e. cc; no_compare = λ i e. cc }
+host_call_of (host.Take bytes) = record { node = refl; dated = refl; leaves = λ o. refl; no_day = λ t e. cc; no_end = λ e. cc; no_compare = λ i e. cc }
 
 verifier_call_of : (c : VerifierCall) → IsOfNode Verifier (verifier_call_event c)
-verifier_call_of (verifier.Trust d key) = record { node = refl; dated = refl; leaves = λ o. refl; no_day = λ t e. cc; no_end = λ e. cc }
-verifier_call_of (verifier.Scan n bytes) = record { node = refl; dated = refl; leaves = λ o. refl; no_day = λ t e. cc; no_end = λ e. cc }
+verifier_call_of (verifier.Trust d key) = record { node = refl; dated = refl; leaves = λ o. refl; no_day = λ t e. cc; no_end = λ e. cc; no_compare = λ i e. cc }
+verifier_call_of (verifier.Scan n bytes) = record { node = refl; dated = refl; leaves = λ o. refl; no_day = λ t e. cc; no_end = λ e. cc; no_compare = λ i e. cc }
 
 pub of_device : (d : ℕ) (asked : Asked DeviceCall) → IsOfNode (Device d) (device_event d asked)
 of_device d asked = asked_of (Device d) (device_call_event d) (device_call_of d) asked

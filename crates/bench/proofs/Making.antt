@@ -20,6 +20,12 @@ pairs_at P (a ∷ xs) (b ∷ ys) pairs zero x y here there =
     subst (λ v. P v y) left (subst (λ v. P a v) right pairs.0)
 pairs_at P (a ∷ xs) (b ∷ ys) pairs (suc i) x y here there = pairs_at P xs ys pairs.1 i x y here there
 
+pub pairs_as : {X Y : Type 0} (P Q : X → Y → Type 0) → ((x : X) (y : Y) → P x y → Q x y) → (xs : List X) (ys : List Y) → Pairs P xs ys → Pairs Q xs ys
+pairs_as P Q each [] [] pairs = tt
+pairs_as P Q each [] (b ∷ ys) pairs = absurd pairs
+pairs_as P Q each (a ∷ xs) [] pairs = absurd pairs
+pairs_as P Q each (a ∷ xs) (b ∷ ys) pairs = (each a b pairs.0, pairs_as P Q each xs ys pairs.1)
+
 pub pairs_length : {X Y : Type 0} (P : X → Y → Type 0) (xs : List X) (ys : List Y) → Pairs P xs ys → length ys ≡ length xs
 pairs_length P [] [] pairs = refl
 pairs_length P [] (b ∷ ys) pairs = absurd pairs

@@ -39,7 +39,7 @@ use Rattle.bench_views.specs.Tariff.{IsOfTexts, Quote, quote, quote_in}
 use Rattle.bench_views.specs.Taken.{taken, as_given}
 use Rattle.bench_views.specs.Follows.{Follows, FollowsAlways}
 use Rattle.bench_views.proofs.Events.{some-same}
-use Rattle.bench.specs.Benches.{Bench, Nodes, OneKind, OfChange, At, IsReady, Stands, devices, centre, host, verifier}
+use Rattle.bench.specs.Benches.{Nodes, OneKind, OfChange, At, IsReady, Stands, devices, centre, host, verifier, BenchOf}
 use Rattle.bench.specs.Outside.{Outside}
 use Rattle.bench.specs.Steps.{notes_in, Steps, StepsByViews, DoesAsked, ShowsLedger, HoldsImage, after_stop}
 use Rattle.bench.proofs.Events.{IsOfNode, no_day}
@@ -63,11 +63,11 @@ taken_by τ prices texts H pool kept e x sent keeps is =
 
 -- == the node of an event, in its place ==
 
-module _ {D C H V S XD XC XH XV RD RC RH RV : Type 0} (n : Nodes D C H V S XD XC XH XV RD RC RH RV) (g : nv.Ghosts S) (old new : Bench D C H V) where
+module _ (n : Nodes) (old new : BenchOf n) where
   -- node m, which is d of this kind, was s and is t: what holds of that holds at m, and it stands as m does
-  pub record IsAt (m : Node) (o : OneKind S) (d : o.Name) (s t : o.Own) : Type 1 where
-    pub put : (P : OfChange S) → P o m d s t → At n P old new m
-    pub stood : (L : Ledger) → Stands n g old L → node.Stands o.ghosts g d (view_in m (o.kind.seen d) L) s
+  pub record IsAt (m : Node) (o : OneKind n.Storage) (d : o.Name) (s t : o.Own) : Type 1 where
+    pub put : (P : OfChange n.Storage) → P o m d s t → At n P old new m
+    pub stood : (L : Ledger) → Stands n old L → node.Stands o.ghosts n.storage d (view_in m (o.kind.seen d) L) s
     pub rest : OthersRest m old new
     pub same : t ≡ s → new.messages ≡ old.messages → new ≡ old
 
@@ -79,7 +79,7 @@ module _ {D C H V S XD XC XH XV RD RC RH RV : Type 0} (n : Nodes D C H V S XD XC
       day = day;
       rates = rates;
       size = ap length devices;
-      devices = λ i s t differs was is. same_some s t (slice_get old.devices i) (slice_get new.devices i) (ap (λ (l : List D). slice_get l i) (sym devices)) was is;
+      devices = λ i s t differs was is. same_some s t (slice_get old.devices i) (slice_get new.devices i) (ap (λ (l : List n.Devices). slice_get l i) (sym devices)) was is;
       centre = λ differs. absurd (differs refl);
       host = λ differs. host;
       verifier = λ differs. verifier;
@@ -95,7 +95,7 @@ module _ {D C H V S XD XC XH XV RD RC RH RV : Type 0} (n : Nodes D C H V S XD XC
       day = day;
       rates = rates;
       size = ap length devices;
-      devices = λ i s t differs was is. same_some s t (slice_get old.devices i) (slice_get new.devices i) (ap (λ (l : List D). slice_get l i) (sym devices)) was is;
+      devices = λ i s t differs was is. same_some s t (slice_get old.devices i) (slice_get new.devices i) (ap (λ (l : List n.Devices). slice_get l i) (sym devices)) was is;
       centre = λ differs. centre;
       host = λ differs. absurd (differs refl);
       verifier = λ differs. verifier;
@@ -111,7 +111,7 @@ module _ {D C H V S XD XC XH XV RD RC RH RV : Type 0} (n : Nodes D C H V S XD XC
       day = day;
       rates = rates;
       size = ap length devices;
-      devices = λ i s t differs was is. same_some s t (slice_get old.devices i) (slice_get new.devices i) (ap (λ (l : List D). slice_get l i) (sym devices)) was is;
+      devices = λ i s t differs was is. same_some s t (slice_get old.devices i) (slice_get new.devices i) (ap (λ (l : List n.Devices). slice_get l i) (sym devices)) was is;
       centre = λ differs. centre;
       host = λ differs. host;
       verifier = λ differs. absurd (differs refl);
@@ -120,22 +120,22 @@ module _ {D C H V S XD XC XH XV RD RC RH RV : Type 0} (n : Nodes D C H V S XD XC
   }
 
   -- the device in a place, which was set
-  module _ (d place : ℕ) (s t : D) (is_device : d ≡ place + 1) (was : slice_get old.devices place ≡ Some s) (set : new.devices ≡ slice_set old.devices place t) where
+  module _ (d place : ℕ) (s t : n.Devices) (is_device : d ≡ place + 1) (was : slice_get old.devices place ≡ Some s) (set : new.devices ≡ slice_set old.devices place t) where
     now_is : slice_get new.devices place ≡ Some t
-    now_is = ap (λ (l : List D). slice_get l place) set ∙ get_set_same old.devices place t (slice_get_within old.devices place s was)
+    now_is = ap (λ (l : List n.Devices). slice_get l place) set ∙ get_set_same old.devices place t (slice_get_within old.devices place s was)
 
     others_stay : (i : ℕ) → i ≢ place → slice_get new.devices i ≡ slice_get old.devices i
-    others_stay i differs = ap (λ (l : List D). slice_get l i) set ∙ get_set_other old.devices place t i differs
+    others_stay i differs = ap (λ (l : List n.Devices). slice_get l i) set ∙ get_set_other old.devices place t i differs
 
     elsewhere : (i : ℕ) → Device (i + 1) ≢ Device d → i ≢ place
     elsewhere i differs same = differs (ap Device (omega (arith, same, is_device)))
 
-    pub here : (P : D → D → Type 0) → P s t → (i : ℕ) (a b : D) → d ≡ i + 1 → slice_get old.devices i ≡ Some a → slice_get new.devices i ≡ Some b → P a b
+    pub here : (P : n.Devices → n.Devices → Type 0) → P s t → (i : ℕ) (a b : n.Devices) → d ≡ i + 1 → slice_get old.devices i ≡ Some a → slice_get new.devices i ≡ Some b → P a b
     here P holds = λ i a b next there now.
         let at : i ≡ place = omega (arith, next, is_device) in
         let before : s ≡ a = same_some a s (slice_get old.devices i) (slice_get old.devices place) (ap (λ (k : ℕ). slice_get old.devices k) at) there was in
         let after : t ≡ b = same_some b t (slice_get new.devices i) (slice_get new.devices place) (ap (λ (k : ℕ). slice_get new.devices k) at) now now_is in
-        subst (λ (u : D). P u b) before (subst (λ (u : D). P s u) after holds)
+        subst (λ (u : n.Devices). P u b) before (subst (λ (u : n.Devices). P s u) after holds)
 
     pub at_device : new.day ≡ old.day → new.rates ≡ old.rates → new.centre ≡ old.centre → new.host ≡ old.host → new.verifier ≡ old.verifier → IsAt (Device d) (devices n) d s t
     at_device day rates centre host verifier = record {
@@ -154,7 +154,7 @@ module _ {D C H V S XD XC XH XV RD RC RH RV : Type 0} (n : Nodes D C H V S XD XC
         day = day k;
         messages = unsent k;
         rates = rates k;
-        devices = (set ∙ ap (λ (u : D). slice_set old.devices place u) same ∙ set_there old.devices place s was) k;
+        devices = (set ∙ ap (λ (u : n.Devices). slice_set old.devices place u) same ∙ set_there old.devices place s was) k;
         centre = centre k;
         host = host k;
         verifier = verifier k;
@@ -163,12 +163,12 @@ module _ {D C H V S XD XC XH XV RD RC RH RV : Type 0} (n : Nodes D C H V S XD XC
 
 -- == what it does to the bench ==
 
-module _ {D C H V S XD XC XH XV RD RC RH RV : Type 0} (n : Nodes D C H V S XD XC XH XV RD RC RH RV) (g : nv.Ghosts S) (f : fuse.Ghosts S) (e x : Event) (today : ℤ) (old new : Bench D C H V) (turn : Turn)
-    (before now : Outside) (m : Node) (o : OneKind S) (d : o.Name) (asked : Asked o.Call) (s t : o.Own) where
+module _ (n : Nodes) (e x : Event) (today : ℤ) (old new : BenchOf n) (turn : Turn)
+    (before now : Outside) (m : Node) (o : OneKind n.Storage) (d : o.Name) (asked : Asked o.Call) (s t : o.Own) where
   -- the event asks this of a node that is on the bench, and came to this turn of it
   pub record IsAsked (taken_as : Asked o.Call → Taken) : Type 1 where
-    pub located : IsAt n g old new m o d s t
-    pub did : NodeTurn o.ghosts g f o.kind m d today x asked s t turn
+    pub located : IsAt n old new m o d s t
+    pub did : NodeTurn o.ghosts n.storage n.fuse o.kind m d today x asked s t turn
     pub given : as_given old.messages e ≡ x
     pub of : IsOfNode m x
     pub dated : old.day ≡ Some today
@@ -178,11 +178,11 @@ module _ {D C H V S XD XC XH XV RD RC RH RV : Type 0} (n : Nodes D C H V S XD XC
     pub feed : now.rates ≡ before.rates
     pub mark : Option (List ℕ)
     pub printer : PrinterDid turn.reply mark before.printer now.printer
-    pub prints : (v : View o.ghosts.Seen) → node.Stands o.ghosts g d v s → g.tells → PrinterDid turn.reply (print_of (plan_by o.ghosts o.kind m d today v asked).after) before.printer now.printer
-    pub does : g.tells → DoesAsked n g today turn old new before now (taken_as asked)
+    pub prints : (v : View o.ghosts.Seen) → node.Stands o.ghosts n.storage d v s → n.storage.tells → PrinterDid turn.reply (print_of (plan_by o.ghosts o.kind m d today v asked).after) before.printer now.printer
+    pub does : n.storage.tells → DoesAsked n today turn old new before now (taken_as asked)
 
   module _ (taken_as : Asked o.Call → Taken) (is : IsAsked taken_as) where
-    did : NodeDid n g f m e x turn old new before now
+    did : NodeDid n m e x turn old new before now
     did = record {
       given = is.given;
       of = is.of;
@@ -201,40 +201,40 @@ module _ {D C H V S XD XC XH XV RD RC RH RV : Type 0} (n : Nodes D C H V S XD XC
       mark = is.mark;
       printer = is.printer;
       switches = is.located.put (λ o i d s t. Switches i x turn.reply (o.ghosts.is_on s) (o.ghosts.is_on t)) is.did.switches;
-      charged = is.located.put (λ o i d s t. Charged i x turn.reply (meters_of o.ghosts g s) (meters_of o.ghosts g t)) is.did.charged;
-      armed = λ calls keep byte cut. is.located.put (λ o i d s t. IsArmed o.ghosts f t calls keep byte) (is.did.armed calls keep byte cut);
-      unwritten = λ tells none. is.located.put (λ o i d s t. Mounts (times_of o.ghosts g s) (times_of o.ghosts g t)) (is.did.unwritten tells none);
+      charged = is.located.put (λ o i d s t. Charged i x turn.reply (meters_of o.ghosts n.storage s) (meters_of o.ghosts n.storage t)) is.did.charged;
+      armed = λ calls keep byte cut. is.located.put (λ o i d s t. IsArmed o.ghosts n.fuse t calls keep byte) (is.did.armed calls keep byte cut);
+      unwritten = λ tells none. is.located.put (λ o i d s t. Mounts (times_of o.ghosts n.storage s) (times_of o.ghosts n.storage t)) (is.did.unwritten tells none);
       found = λ tells on read. is.located.put (λ o i d s t. (turn.reply ≡ r.Damaged i) ↔ HasDamage o.ghosts d t) (is.did.found tells on read);
     }
 
-    shown : g.tells → StepsByViews n g e turn old new before now
+    shown : n.storage.tells → StepsByViews n e turn old new before now
     shown tells = record {
       does = λ u y day taken_is.
           let when : today ≡ u = some-same (sym is.dated ∙ day) in
           let what : taken_as asked ≡ y = some-same (sym is.taken_is ∙ taken_is) in
-          subst (λ (j : ℤ). DoesAsked n g j turn old new before now y) when (subst (λ (z : Taken). DoesAsked n g today turn old new before now z) what (is.does tells));
-      unwritten = at_unwritten n g f m e x turn old new before now did tells;
-      damaged = at_damaged n g f m e x turn old new before now did tells;
+          subst (λ (j : ℤ). DoesAsked n j turn old new before now y) when (subst (λ (z : Taken). DoesAsked n today turn old new before now z) what (is.does tells));
+      unwritten = at_unwritten n m e x turn old new before now did tells;
+      damaged = at_damaged n m e x turn old new before now did tells;
     }
 
-    module _ {N : Type 0} (h : nv.Ghosts N) (τ : Tariff) (L : Ledger) (stands : Stands n g old L) (tells : g.tells) (law : Follows o.ghosts.counting o.kind m d n.kinds τ L e today asked) where
-      st : node.Stands o.ghosts g d (view_in m (o.kind.seen d) L) s
+    module _ (τ : Tariff) (L : Ledger) (stands : Stands n old L) (tells : n.storage.tells) (law : Follows o.ghosts.counting o.kind m d n.kinds τ L e today asked) where
+      st : node.Stands o.ghosts n.storage d (view_in m (o.kind.seen d) L) s
       st = is.located.stood L stands
 
-      on : NodeDidOn n g f m e x turn old new before now h τ L
+      on : NodeDidOn n m e x turn old new before now τ L
       on = record {
-        moves = (one.done o.ghosts g f o.kind m d today e x asked s t turn is.did n.kinds τ L st tells law).moves;
-        entries = one.adds o.ghosts g f o.kind m d today e x asked s t turn is.did n.kinds τ L st tells law;
-        stands = is.located.put (λ o i d s t. node.Stands o.ghosts g d (view_in i (o.kind.seen d) (ledger.entries τ todays_rules L e [] turn.reply)) t)
-            (one.stands_now o.ghosts g f o.kind m d today e x asked s t turn is.did n.kinds τ L st tells law);
-        others = (one.done o.ghosts g f o.kind m d today e x asked s t turn is.did n.kinds τ L st tells law).others;
-        rests = (one.done o.ghosts g f o.kind m d today e x asked s t turn is.did n.kinds τ L st tells law).rests;
-        sent = one.sends o.ghosts g f o.kind m d today e x asked s t turn is.did n.kinds τ L st tells law;
-        closes = one.closes o.ghosts g f o.kind m d today e x asked s t turn is.did n.kinds τ L st tells law;
-        shows = is.located.put (λ o i d. ShowsLedger o.ghosts g (o.kind.seen d) i τ L e []) (one.shows o.ghosts g f o.kind m d today e x asked s t turn is.did n.kinds τ L st tells law);
-        open_others = one.open_others o.ghosts g f o.kind m d today e x asked s t turn is.did n.kinds τ L st tells law;
-        left = is.located.put (λ o i d s t. (store : N) → h.size store ≡ o.ghosts.bytes → HoldsImage o.ghosts g h s t store → StoreStands o.ghosts h d (view_in i (o.kind.seen d) (after_stop τ L e [])) store)
-            (λ store size images. one.left o.ghosts g f o.kind m d today e x asked s t turn is.did n.kinds τ L st tells law h store size images);
+        moves = (one.done o.ghosts n.storage n.fuse o.kind m d today e x asked s t turn is.did n.kinds τ L st tells law).moves;
+        entries = one.adds o.ghosts n.storage n.fuse o.kind m d today e x asked s t turn is.did n.kinds τ L st tells law;
+        stands = is.located.put (λ o i d s t. node.Stands o.ghosts n.storage d (view_in i (o.kind.seen d) (ledger.entries τ todays_rules L e [] turn.reply)) t)
+            (one.stands_now o.ghosts n.storage n.fuse o.kind m d today e x asked s t turn is.did n.kinds τ L st tells law);
+        others = (one.done o.ghosts n.storage n.fuse o.kind m d today e x asked s t turn is.did n.kinds τ L st tells law).others;
+        rests = (one.done o.ghosts n.storage n.fuse o.kind m d today e x asked s t turn is.did n.kinds τ L st tells law).rests;
+        sent = one.sends o.ghosts n.storage n.fuse o.kind m d today e x asked s t turn is.did n.kinds τ L st tells law;
+        closes = one.closes o.ghosts n.storage n.fuse o.kind m d today e x asked s t turn is.did n.kinds τ L st tells law;
+        shows = is.located.put (λ o i d. ShowsLedger o.ghosts n.storage (o.kind.seen d) i τ L e []) (one.shows o.ghosts n.storage n.fuse o.kind m d today e x asked s t turn is.did n.kinds τ L st tells law);
+        open_others = one.open_others o.ghosts n.storage n.fuse o.kind m d today e x asked s t turn is.did n.kinds τ L st tells law;
+        left = is.located.put (λ o i d s t. (store : n.Inner) → n.inner.size store ≡ o.ghosts.bytes → HoldsImage o.ghosts n.storage n.inner s t store → StoreStands o.ghosts n.inner d (view_in i (o.kind.seen d) (after_stop τ L e [])) store)
+            (λ store size images. one.left o.ghosts n.storage n.fuse o.kind m d today e x asked s t turn is.did n.kinds τ L st tells law n.inner store size images);
         printed = subst (λ (p : Plan). PrinterDid turn.reply (print_of p.after) before.printer now.printer) (sym law.plan) (is.prints (view_in m (o.kind.seen d) L) st tells);
       }
 
@@ -242,17 +242,17 @@ module _ {D C H V S XD XC XH XV RD RC RH RV : Type 0} (n : Nodes D C H V S XD XC
     each_some f None holds = tt
     each_some f (Some y) holds = f y.1 holds
 
-    pub steps : {N : Type 0} (h : nv.Ghosts N) → IsWholeEvent e → IsReady old → KeptPrices → (IsWhole : Asked o.Call → Type 0) → IsWhole asked
+    pub steps : IsWholeEvent e → IsReady old → KeptPrices → (IsWhole : Asked o.Call → Type 0) → IsWhole asked
         → (IsKnown : o.ghosts.Seen → Type 0) → ((k : o.ghosts.Seen) → o.ghosts.IsSound d k → IsKnown k)
-        → FollowsAlways o.ghosts.counting o.kind m d n.kinds taken_as IsWhole IsKnown → Steps n g f h e [] turn old new before now
-    steps h whole ready prices IsWhole bytes IsKnown knows follows = record {
+        → FollowsAlways o.ghosts.counting o.kind m d n.kinds taken_as IsWhole IsKnown → Steps n e [] turn old new before now
+    steps whole ready prices IsWhole bytes IsKnown knows follows = record {
       history = λ τ L texts history unforged stands tells.
           let v = view_in m (o.kind.seen d) L in
           let st = is.located.stood L stands in
           let law = follows τ L e today asked history unforged (sym stands.day.day ∙ is.dated) whole
           (taken_by τ prices texts L old.messages old.rates e (taken_as asked) stands.day.messages stands.day.rates is.taken_is) bytes
           (knows v.state ((st.store.sound tells).state)) (each_some (λ k next. knows k next.0) (node_commit (o.kind.commit d today v) asked) (is.did.keeps v st tells)) in
-          at_on n g f m e x turn old new before now did h τ L (on h τ L stands tells law) history unforged whole ready stands tells;
+          at_on n m e x turn old new before now did τ L (on τ L stands tells law) history unforged whole ready stands tells;
       shown = shown;
-      always = at_alone n g f m e x turn old new before now did;
+      always = at_alone n m e x turn old new before now did;
     }

@@ -39,7 +39,7 @@ use Rattle.bench_views.specs.Tariff.{quote}
 use Rattle.bench_views.specs.Taken.{taken, as_given}
 use Rattle.bench_views.specs.Messages.{sent_in}
 use Rattle.bench_views.specs.Follows.{OthersStay, Rests}
-use Rattle.bench.specs.Benches.{Bench, Places, Nodes, OneKind, OfState, OfChange, At, Of, By, IsReady, Stands, StoresStand, StoreStandsOff, store_of, devices, centre, host, verifier}
+use Rattle.bench.specs.Benches.{Places, Nodes, OneKind, OfState, OfChange, At, Of, By, IsReady, Stands, StoresStand, StoreStandsOff, store_of, devices, centre, host, verifier, BenchOf}
 use Rattle.bench.specs.Outside.{Feed, Outside}
 use Rattle.bench.specs.Steps.{Steps, StepsOn, StepsAlone, ShowsLedger, HoldsImage, AreLeft, StayClosed, Leaves, notes_in, sending, with_open, after_stop, tells_failure}
 use Rattle.bench.proofs.Events.{IsOfNode, NeedsAlike, given_alike, node_is, untold, same_or_not}
@@ -55,7 +55,7 @@ still_closed : {S : Type 0} (k : Node) (seen : List Commit → S) (H L : Ledger)
 still_closed {S} k seen H L same none =
     none_mapped (λ c. seen (c ∷ counted L)) (torn_of k L) (ap (λ (w : View S). w.next) same ∙ ap (λ (o : Option Commit). option_map (λ c. seen (c ∷ counted H)) o) none)
 
-module _ {D C H V S XD XC XH XV RD RC RH RV : Type 0} (n : Nodes D C H V S XD XC XH XV RD RC RH RV) where
+module _ (n : Nodes) where
   -- of node k the same is seen as before
   abbrev pub SeenSame : Ledger → Ledger → Node → Type 0
   SeenSame L M k = By n (λ o i d. view_in i (o.kind.seen d) M ≡ view_in i (o.kind.seen d) L) k
@@ -73,23 +73,23 @@ module _ {D C H V S XD XC XH XV RD RC RH RV : Type 0} (n : Nodes D C H V S XD XC
   closed_same L M Verifier same none = still_closed Verifier (n.kinds.verifier.seen tt) L M same none
 
   -- what is left of a node in its place
-  pub left_in : {N : Type 0} (h : nv.Ghosts N) (old new : Bench D C H V) (stores : Places N) (L : Ledger) → IsReady old → length new.devices ≡ length old.devices → length stores.devices ≡ 8
-      → (m : Node) (store : N) → store_of stores m ≡ Some store → is_on m L ≡ false → At n (λ o i d s t. StoreStands o.ghosts h d (view_in i (o.kind.seen d) L) store) old new m
-      → StoreStandsOff n h L store m
-  left_in h old new stores L ready size eight (Device zero) store there off at = absurd (none_some there)
+  pub left_in : (old new : BenchOf n) (stores : Places n.Inner) (L : Ledger) → IsReady old → length new.devices ≡ length old.devices → length stores.devices ≡ 8
+      → (m : Node) (store : n.Inner) → store_of stores m ≡ Some store → is_on m L ≡ false → At n (λ o i d s t. StoreStands o.ghosts n.inner d (view_in i (o.kind.seen d) L) store) old new m
+      → StoreStandsOff n L store m
+  left_in old new stores L ready size eight (Device zero) store there off at = absurd (none_some there)
     where
       none_some : ◌≡◌ {A = Option _} None (Some store) → ⊥
       none_some is = cc
-  left_in h old new stores L ready size eight (Device (suc i)) store there off at =
+  left_in old new stores L ready size eight (Device (suc i)) store there off at =
       let lt = slice_get_within stores.devices i store there in
       let s = get_some old.devices i (omega (arith, lt, eight, ready.eight)) in
       let t = get_some new.devices i (omega (arith, lt, eight, ready.eight, size)) in
       (off, at i s.0 t.0 (omega arith) s.1 t.1)
-  left_in h old new stores L ready size eight Centre store there off at = (off, at)
-  left_in h old new stores L ready size eight Host store there off at = (off, at)
-  left_in h old new stores L ready size eight Verifier store there off at = (off, at)
+  left_in old new stores L ready size eight Centre store there off at = (off, at)
+  left_in old new stores L ready size eight Host store there off at = (off, at)
+  left_in old new stores L ready size eight Verifier store there off at = (off, at)
 
-module _ {D C H V S XD XC XH XV RD RC RH RV : Type 0} (n : Nodes D C H V S XD XC XH XV RD RC RH RV) (g : nv.Ghosts S) (f : fuse.Ghosts S) (m : Node) (e x : Event) (turn : Turn) (old new : Bench D C H V)
+module _ (n : Nodes) (m : Node) (e x : Event) (turn : Turn) (old new : BenchOf n)
     (before now : Outside) where
   -- what node m did in event e, which is x where it is given, whatever the storages tell
   pub record NodeDid : Type 0 where
@@ -107,25 +107,25 @@ module _ {D C H V S XD XC XH XV RD RC RH RV : Type 0} (n : Nodes D C H V S XD XC
     pub mark : Option (List ℕ)
     pub printer : PrinterDid turn.reply mark before.printer now.printer
     pub switches : At n (λ o i d s t. Switches i x turn.reply (o.ghosts.is_on s) (o.ghosts.is_on t)) old new m
-    pub charged : At n (λ o i d s t. Charged i x turn.reply (meters_of o.ghosts g s) (meters_of o.ghosts g t)) old new m
-    pub armed : (calls keep byte : ℕ) → x ≡ ev.Cut m calls keep byte → At n (λ o i d s t. IsArmed o.ghosts f t calls keep byte) old new m
-    pub unwritten : g.tells → may_commit x ≡ false → At n (λ o i d s t. Mounts (times_of o.ghosts g s) (times_of o.ghosts g t)) old new m
-    pub found : g.tells → x ≡ ev.On m → has_read turn.reply ≡ true → At n (λ o i d s t. (turn.reply ≡ r.Damaged i) ↔ HasDamage o.ghosts d t) old new m
+    pub charged : At n (λ o i d s t. Charged i x turn.reply (meters_of o.ghosts n.storage s) (meters_of o.ghosts n.storage t)) old new m
+    pub armed : (calls keep byte : ℕ) → x ≡ ev.Cut m calls keep byte → At n (λ o i d s t. IsArmed o.ghosts n.fuse t calls keep byte) old new m
+    pub unwritten : n.storage.tells → may_commit x ≡ false → At n (λ o i d s t. Mounts (times_of o.ghosts n.storage s) (times_of o.ghosts n.storage t)) old new m
+    pub found : n.storage.tells → x ≡ ev.On m → has_read turn.reply ≡ true → At n (λ o i d s t. (turn.reply ≡ r.Damaged i) ↔ HasDamage o.ghosts d t) old new m
 
   module _ (did : NodeDid) where
     -- == whatever the storages tell ==
 
-    abbrev ChargedIs : OfChange S
-    ChargedIs o i d s t = Charged i x turn.reply (meters_of o.ghosts g s) (meters_of o.ghosts g t)
+    abbrev ChargedIs : OfChange n.Storage
+    ChargedIs o i d s t = Charged i x turn.reply (meters_of o.ghosts n.storage s) (meters_of o.ghosts n.storage t)
 
     charged_at : (k : Node) → At n ChargedIs old new k
     charged_at = walk n m old new did.rest ChargedIs did.charged (λ j differs. let none = untold m x j turn.reply did.of did.reply differs in rests j none.0 none.1)
       where
         rests : (j : Node) → tells_power j turn.reply ≡ false → tells_fault j turn.reply ≡ false → Of n (λ o i d s. ChargedIs o i d s s) old j
-        rests (Device d) power fault = λ i s next was. rests_charged (Device d) x turn.reply (meters_of n.devices g s) power fault
-        rests Centre power fault = rests_charged Centre x turn.reply (meters_of n.centre g old.centre) power fault
-        rests Host power fault = rests_charged Host x turn.reply (meters_of n.host g old.host) power fault
-        rests Verifier power fault = rests_charged Verifier x turn.reply (meters_of n.verifier g old.verifier) power fault
+        rests (Device d) power fault = λ i s next was. rests_charged (Device d) x turn.reply (meters_of n.devices n.storage s) power fault
+        rests Centre power fault = rests_charged Centre x turn.reply (meters_of n.centre n.storage old.centre) power fault
+        rests Host power fault = rests_charged Host x turn.reply (meters_of n.host n.storage old.host) power fault
+        rests Verifier power fault = rests_charged Verifier x turn.reply (meters_of n.verifier n.storage old.verifier) power fault
 
     alike : NeedsAlike e x
     alike = subst (NeedsAlike e) did.given (given_alike old.messages e)
@@ -134,13 +134,13 @@ module _ {D C H V S XD XC XH XV RD RC RH RV : Type 0} (n : Nodes D C H V S XD XC
     is_given : (y : Event) → as_given old.messages y ≡ y → e ≡ y → x ≡ y
     is_given y same is = sym did.given ∙ ap (as_given old.messages) is ∙ same
 
-    abbrev SwitchesIs : OfChange S
+    abbrev SwitchesIs : OfChange n.Storage
     SwitchesIs o i d s t = Switches i x turn.reply (o.ghosts.is_on s) (o.ghosts.is_on t)
 
-    abbrev ArmedIs : ℕ → ℕ → ℕ → OfChange S
-    ArmedIs calls keep byte o i d s t = IsArmed o.ghosts f t calls keep byte
+    abbrev ArmedIs : ℕ → ℕ → ℕ → OfChange n.Storage
+    ArmedIs calls keep byte o i d s t = IsArmed o.ghosts n.fuse t calls keep byte
 
-    abbrev RestsIs : OfChange S
+    abbrev RestsIs : OfChange n.Storage
     RestsIs o i d s t = t ≡ s
 
     switches_at : (k : Node) → node_for x ≡ Some k → At n SwitchesIs old new k
@@ -155,17 +155,17 @@ module _ {D C H V S XD XC XH XV RD RC RH RV : Type 0} (n : Nodes D C H V S XD XC
     rests_at : (k : Node) → (node_for x ≡ Some k → ⊥) → At n RestsIs old new k
     rests_at k not = stays n m old new did.rest RestsIs k (λ same. not (did.of.node ∙ ap (λ (j : Node). Some j) (sym same))) (of_all n (λ o i d s. s ≡ s) old (λ o i d s. refl) k)
 
-    leaves_at : (k : Node) → At n (λ o i d. Leaves o.ghosts g f i x old.day turn.reply) old new k
+    leaves_at : (k : Node) → At n (λ o i d. Leaves o.ghosts n.storage n.fuse i x old.day turn.reply) old new k
     leaves_at k = together k (charged_at k) (switches_at k) (armed_at k) (rests_at k)
       where
-        one : (o : OneKind S) (i : Node) (s t : o.Own) → Charged i x turn.reply (meters_of o.ghosts g s) (meters_of o.ghosts g t)
-            → (node_for x ≡ Some i → Switches i x turn.reply (o.ghosts.is_on s) (o.ghosts.is_on t)) → ((calls keep byte : ℕ) → x ≡ ev.Cut i calls keep byte → IsArmed o.ghosts f t calls keep byte)
-            → ((node_for x ≡ Some i → ⊥) → t ≡ s) → Leaves o.ghosts g f i x old.day turn.reply s t
+        one : (o : OneKind n.Storage) (i : Node) (s t : o.Own) → Charged i x turn.reply (meters_of o.ghosts n.storage s) (meters_of o.ghosts n.storage t)
+            → (node_for x ≡ Some i → Switches i x turn.reply (o.ghosts.is_on s) (o.ghosts.is_on t)) → ((calls keep byte : ℕ) → x ≡ ev.Cut i calls keep byte → IsArmed o.ghosts n.fuse t calls keep byte)
+            → ((node_for x ≡ Some i → ⊥) → t ≡ s) → Leaves o.ghosts n.storage n.fuse i x old.day turn.reply s t
         one o i s t charged switches armed rests = record { switches = λ some at there. switches at; charged = charged; armed = λ some calls keep byte at. armed calls keep byte at; rests = rests }
 
         together : (j : Node) → At n ChargedIs old new j → (node_for x ≡ Some j → At n SwitchesIs old new j)
             → ((calls keep byte : ℕ) → x ≡ ev.Cut j calls keep byte → At n (ArmedIs calls keep byte) old new j) → ((node_for x ≡ Some j → ⊥) → At n RestsIs old new j)
-            → At n (λ o i d. Leaves o.ghosts g f i x old.day turn.reply) old new j
+            → At n (λ o i d. Leaves o.ghosts n.storage n.fuse i x old.day turn.reply) old new j
         together (Device d) charged switches armed rests = λ i s t next was is.
             one (devices n) (Device d) s t (charged i s t next was is) (λ at. switches at i s t next was is) (λ calls keep byte at. armed calls keep byte at i s t next was is) (λ not. rests not i s t next was is)
         together Centre charged switches armed rests = one (centre n) Centre old.centre new.centre charged switches armed rests
@@ -175,18 +175,19 @@ module _ {D C H V S XD XC XH XV RD RC RH RV : Type 0} (n : Nodes D C H V S XD XC
     no_rates : e ≡ ev.Rates → ⊥
     no_rates is = let none : ◌≡◌ {A = Option Node} None (Some m) = sym (ap node_for (is_given ev.Rates refl is)) ∙ did.of.node in cc
 
-    pub at_alone : StepsAlone n g f e [] turn old new before now
+    pub at_alone : StepsAlone n e [] turn old new before now
     at_alone = record {
       reply = subst (λ (y : Event). MayGet y turn.reply) (sym did.given) did.reply;
       day = λ needs. (λ is. absurd (did.on_day is), λ none. absurd (did.dated none));
       dated = did.rest.day ∙ sym (alike.leaves old.day ∙ did.of.leaves old.day);
       dates = λ t is. absurd (did.of.no_day t (is_given (ev.Day t) refl is));
       ends = λ is. absurd (did.of.no_end (is_given ev.End refl is));
+      compares = λ k is. absurd (did.of.no_compare k (is_given (ev.Reconcile k) refl is));
       message = λ k is some. absurd (did.there k is);
       sends = did.sends;
       refused = did.refused;
       adds = subst (λ (y : Event). Adds y (told_by turn.reply) turn.entries) (sym did.given) did.adds;
-      nodes = λ k. subst (λ (y : Event). At n (λ o i d. Leaves o.ghosts g f i y old.day turn.reply) old new k) (sym did.given) (leaves_at k);
+      nodes = λ k. subst (λ (y : Event). At n (λ o i d. Leaves o.ghosts n.storage n.fuse i y old.day turn.reply) old new k) (sym did.given) (leaves_at k);
       rates = record {
         reads = λ is. absurd (no_rates is);
         no_day = λ none. absurd (did.dated none);
@@ -198,13 +199,13 @@ module _ {D C H V S XD XC XH XV RD RC RH RV : Type 0} (n : Nodes D C H V S XD XC
 
     -- == by what the storages show ==
 
-    abbrev MountsIs : OfChange S
-    MountsIs o i d s t = Mounts (times_of o.ghosts g s) (times_of o.ghosts g t)
+    abbrev MountsIs : OfChange n.Storage
+    MountsIs o i d s t = Mounts (times_of o.ghosts n.storage s) (times_of o.ghosts n.storage t)
 
-    pub at_unwritten : g.tells → may_commit e ≡ false → (k : Node) → At n MountsIs old new k
-    at_unwritten tells none = walk n m old new did.rest MountsIs (did.unwritten tells (sym alike.commits ∙ none)) (λ j differs. of_all n (λ o i d s. MountsIs o i d s s) old (λ o i d s. mounts_none (times_of o.ghosts g s)) j)
+    pub at_unwritten : n.storage.tells → may_commit e ≡ false → (k : Node) → At n MountsIs old new k
+    at_unwritten tells none = walk n m old new did.rest MountsIs (did.unwritten tells (sym alike.commits ∙ none)) (λ j differs. of_all n (λ o i d s. MountsIs o i d s s) old (λ o i d s. mounts_none (times_of o.ghosts n.storage s)) j)
 
-    pub at_damaged : g.tells → (k : Node) → e ≡ ev.On k → has_read turn.reply ≡ true → At n (λ o i d s t. (turn.reply ≡ r.Damaged i) ↔ HasDamage o.ghosts d t) old new k
+    pub at_damaged : n.storage.tells → (k : Node) → e ≡ ev.On k → has_read turn.reply ≡ true → At n (λ o i d s t. (turn.reply ≡ r.Damaged i) ↔ HasDamage o.ghosts d t) old new k
     at_damaged tells k is read =
         let on = is_given (ev.On k) refl is in
         let same = node_is m x k did.of (ap node_for on) in
@@ -214,31 +215,31 @@ module _ {D C H V S XD XC XH XV RD RC RH RV : Type 0} (n : Nodes D C H V S XD XC
   -- == by the ledger ==
 
   -- what node m did by a ledger for which the bench stood, and that each other node is seen as before
-  pub record NodeDidOn {N : Type 0} (h : nv.Ghosts N) (τ : Tariff) (L : Ledger) : Type 0 where
+  pub record NodeDidOn (τ : Tariff) (L : Ledger) : Type 0 where
     pub moves : Moves τ todays_rules L e [] turn.reply
     pub entries : turn.entries ≡ in_order (after (plan τ todays_rules L e []) turn.reply [])
-    pub stands : At n (λ o i d s t. node.Stands o.ghosts g d (view_in i (o.kind.seen d) (ledger.entries τ todays_rules L e [] turn.reply)) t) old new m
+    pub stands : At n (λ o i d s t. node.Stands o.ghosts n.storage d (view_in i (o.kind.seen d) (ledger.entries τ todays_rules L e [] turn.reply)) t) old new m
     pub others : OthersStay n.kinds m L (ledger.entries τ todays_rules L e [] turn.reply)
     pub rests : Rests L (ledger.entries τ todays_rules L e [] turn.reply)
     pub sent : sent_in (ledger.entries τ todays_rules L e [] turn.reply) ≡ sent_in L ++ notes_in turn.entries
     pub closes : tells_failure turn.reply ≡ false → torn_of m L ≡ None → torn_of m (ledger.entries τ todays_rules L e [] turn.reply) ≡ None
-    pub shows : At n (λ o i d. ShowsLedger o.ghosts g (o.kind.seen d) i τ L e []) old new m
+    pub shows : At n (λ o i d. ShowsLedger o.ghosts n.storage (o.kind.seen d) i τ L e []) old new m
     pub open_others : OthersStay n.kinds m L (with_open (plan τ todays_rules L e []).commit L)
-    pub left : At n (λ o i d s t. (store : N) → h.size store ≡ o.ghosts.bytes → HoldsImage o.ghosts g h s t store → StoreStands o.ghosts h d (view_in i (o.kind.seen d) (after_stop τ L e [])) store) old new m
+    pub left : At n (λ o i d s t. (store : n.Inner) → n.inner.size store ≡ o.ghosts.bytes → HoldsImage o.ghosts n.storage n.inner s t store → StoreStands o.ghosts n.inner d (view_in i (o.kind.seen d) (after_stop τ L e [])) store) old new m
     pub printed : PrinterDid turn.reply (print_of (plan τ todays_rules L e []).after) before.printer now.printer
 
-  module _ (did : NodeDid) {N : Type 0} (h : nv.Ghosts N) (τ : Tariff) (L : Ledger) (on : NodeDidOn h τ L) (history : History τ editions L) (unforged : Unforged e L) (whole : IsWholeEvent e)
-      (ready : IsReady old) (stands : Stands n g old L) (tells : g.tells) where
+  module _ (did : NodeDid) (τ : Tariff) (L : Ledger) (on : NodeDidOn τ L) (history : History τ editions L) (unforged : Unforged e L) (whole : IsWholeEvent e)
+      (ready : IsReady old) (stands : Stands n old L) (tells : n.storage.tells) where
     abbrev M : Ledger
     M = ledger.entries τ todays_rules L e [] turn.reply
 
-    abbrev StandsIs : Ledger → OfState S
-    StandsIs K o i d s = node.Stands o.ghosts g d (view_in i (o.kind.seen d) K) s
+    abbrev StandsIs : Ledger → OfState n.Storage
+    StandsIs K o i d s = node.Stands o.ghosts n.storage d (view_in i (o.kind.seen d) K) s
 
     -- a node of which the same is seen stands for it
     stands_same : (K : Ledger) (j : Node) → SeenSame n L K j → Of n (StandsIs K) old j
     stands_same K j same = of_by n (λ o i d. view_in i (o.kind.seen d) K ≡ view_in i (o.kind.seen d) L) (StandsIs L) (StandsIs K) old
-        (λ o i d s is st. subst (λ (w : View o.ghosts.Seen). node.Stands o.ghosts g d w s) (sym is) st) j same (stands.nodes j)
+        (λ o i d s is st. subst (λ (w : View o.ghosts.Seen). node.Stands o.ghosts n.storage d w s) (sym is) st) j same (stands.nodes j)
 
     stands_at : (k : Node) → At n (λ o i d s t. StandsIs M o i d t) old new k
     stands_at = walk n m old new did.rest (λ o i d s t. StandsIs M o i d t) on.stands (λ j differs. stands_same M j (seen_same n m L M on.others j differs))
@@ -250,7 +251,7 @@ module _ {D C H V S XD XC XH XV RD RC RH RV : Type 0} (n : Nodes D C H V S XD XC
     now_stands Host at = at
     now_stands Verifier at = at
 
-    at_stands : Stands n g new M
+    at_stands : Stands n new M
     at_stands = record {
       day = record {
         day = did.rest.day ∙ stands.day.day ∙ sym on.rests.day;
@@ -267,32 +268,32 @@ module _ {D C H V S XD XC XH XV RD RC RH RV : Type 0} (n : Nodes D C H V S XD XC
         (λ (differs : k ≢ m). closed_same n L M k (seen_same n m L M on.others k differs) none)
         (same_or_not k m)
 
-    abbrev ShowsIs : OfChange S
-    ShowsIs o i d s t = ShowsLedger o.ghosts g (o.kind.seen d) i τ L e [] s t
+    abbrev ShowsIs : OfChange n.Storage
+    ShowsIs o i d s t = ShowsLedger o.ghosts n.storage (o.kind.seen d) i τ L e [] s t
 
     at_shows : (k : Node) → At n ShowsIs old new k
     at_shows = walk n m old new did.rest ShowsIs on.shows (λ j differs. of_with n (StandsIs L) (λ o i d s. ShowsIs o i d s s) old (λ o i d s st image since. inl (st.store.shows tells image since)) j (stands.nodes j))
 
-    module _ (stores : Places N) (are : AreLeft n g h old new stores) where
-      abbrev LeftIs : OfChange S
-      LeftIs o i d s t = (store : N) → h.size store ≡ o.ghosts.bytes → HoldsImage o.ghosts g h s t store → StoreStands o.ghosts h d (view_in i (o.kind.seen d) (after_stop τ L e [])) store
+    module _ (stores : Places n.Inner) (are : AreLeft n old new stores) where
+      abbrev LeftIs : OfChange n.Storage
+      LeftIs o i d s t = (store : n.Inner) → n.inner.size store ≡ o.ghosts.bytes → HoldsImage o.ghosts n.storage n.inner s t store → StoreStands o.ghosts n.inner d (view_in i (o.kind.seen d) (after_stop τ L e [])) store
 
       abbrev open_ledger : Ledger
       open_ledger = with_open (plan τ todays_rules L e []).commit L
 
       left_at : (k : Node) → At n LeftIs old new k
       left_at = walk n m old new did.rest LeftIs on.left (λ j differs. of_by n (λ o i d. view_in i (o.kind.seen d) open_ledger ≡ view_in i (o.kind.seen d) L) (StandsIs L) (λ o i d s. LeftIs o i d s s) old
-          (λ o i d s same st store size images. rest_left o.ghosts g h i d (o.kind.seen d) L open_ledger s store tells st same size images) j (seen_same n m L open_ledger on.open_others j differs) (stands.nodes j))
+          (λ o i d s same st store size images. rest_left o.ghosts n.storage n.inner i d (o.kind.seen d) L open_ledger s store tells st same size images) j (seen_same n m L open_ledger on.open_others j differs) (stands.nodes j))
 
-      at_left : StoresStand n h stores (after_stop τ L e [])
+      at_left : StoresStand n stores (after_stop τ L e [])
       at_left = record {
         day = none_day _;
-        nodes = λ k store there. left_in n h old new stores (after_stop τ L e []) ready did.rest.size are.eight k store there refl
-            (at_both n LeftIs (λ o i d s t. (h.size store ≡ o.ghosts.bytes) × HoldsImage o.ghosts g h s t store)
-            (λ o i d s t. StoreStands o.ghosts h d (view_in i (o.kind.seen d) (after_stop τ L e [])) store) old new (λ o i d s t left held. left store held.0 held.1) k (left_at k) (are.each k store there));
+        nodes = λ k store there. left_in n old new stores (after_stop τ L e []) ready did.rest.size are.eight k store there refl
+            (at_both n LeftIs (λ o i d s t. (n.inner.size store ≡ o.ghosts.bytes) × HoldsImage o.ghosts n.storage n.inner s t store)
+            (λ o i d s t. StoreStands o.ghosts n.inner d (view_in i (o.kind.seen d) (after_stop τ L e [])) store) old new (λ o i d s t left held. left store held.0 held.1) k (left_at k) (are.each k store there));
       }
 
-    pub at_on : StepsOn n g h τ L e [] turn old new before now
+    pub at_on : StepsOn n τ L e [] turn old new before now
     at_on = record {
       moves = on.moves;
       entries = on.entries;
@@ -304,19 +305,19 @@ module _ {D C H V S XD XC XH XV RD RC RH RV : Type 0} (n : Nodes D C H V S XD XC
     }
 
 -- what is told of a turn is what it tells
-pub told_steps : {D C H V S XD XC XH XV RD RC RH RV N : Type 0} (n : Nodes D C H V S XD XC XH XV RD RC RH RV) (g : nv.Ghosts S) (f : fuse.Ghosts S) (h : nv.Ghosts N) (e : Event) (text : List ℕ) (told turn : Turn) (old new : Bench D C H V) (before now : Outside)
-    → told ≡ turn → Steps n g f h e text turn old new before now → Steps n g f h e text told old new before now
-told_steps n g f h e text told turn old new before now is steps = subst (λ (t : Turn). Steps n g f h e text t old new before now) (sym is) steps
+pub told_steps : (n : Nodes) (e : Event) (text : List ℕ) (told turn : Turn) (old new : BenchOf n) (before now : Outside)
+    → told ≡ turn → Steps n e text turn old new before now → Steps n e text told old new before now
+told_steps n e text told turn old new before now is steps = subst (λ (t : Turn). Steps n e text t old new before now) (sym is) steps
 
 -- what is sent, once it was
-pub sent_steps : {D C H V S XD XC XH XV RD RC RH RV N : Type 0} (n : Nodes D C H V S XD XC XH XV RD RC RH RV) (g : nv.Ghosts S) (f : fuse.Ghosts S) (h : nv.Ghosts N) (e : Event) (text : List ℕ) (turn : Turn) (old left new : Bench D C H V) (before now : Outside)
-    → new ≡ sending turn left → Steps n g f h e text turn old (sending turn left) before now → Steps n g f h e text turn old new before now
-sent_steps {D} {C} {H} {V} n g f h e text turn old left new before now is steps = subst (λ (b : Bench D C H V). Steps n g f h e text turn old b before now) (sym is) steps
+pub sent_steps : (n : Nodes) (e : Event) (text : List ℕ) (turn : Turn) (old left new : BenchOf n) (before now : Outside)
+    → new ≡ sending turn left → Steps n e text turn old (sending turn left) before now → Steps n e text turn old new before now
+sent_steps n e text turn old left new before now is steps = subst (λ (b : BenchOf n). Steps n e text turn old b before now) (sym is) steps
 
 -- what an event did that is this one
-pub same_steps : {D C H V S XD XC XH XV RD RC RH RV N : Type 0} (n : Nodes D C H V S XD XC XH XV RD RC RH RV) (g : nv.Ghosts S) (f : fuse.Ghosts S) (h : nv.Ghosts N) (e x : Event) (text : List ℕ) (turn : Turn) (old new : Bench D C H V) (before now : Outside)
-    → e ≡ x → Steps n g f h x text turn old new before now → Steps n g f h e text turn old new before now
-same_steps n g f h e x text turn old new before now is steps = subst (λ (y : Event). Steps n g f h y text turn old new before now) (sym is) steps
+pub same_steps : (n : Nodes) (e x : Event) (text : List ℕ) (turn : Turn) (old new : BenchOf n) (before now : Outside)
+    → e ≡ x → Steps n x text turn old new before now → Steps n e text turn old new before now
+same_steps n e x text turn old new before now is steps = subst (λ (y : Event). Steps n y text turn old new before now) (sym is) steps
 
 -- what holds of each value holds of the one that was answered
 pub each_ok : {A E : Type 0} (P Q : A → Type 0) → ((a : A) → P a → Q a) → (x : Result A E) → IfOk x P → IfOk x Q

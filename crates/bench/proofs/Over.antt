@@ -1,5 +1,5 @@
 -- A bench that is made over storages, and taken apart.
-use Rattle.std.proofs.Common.{◌≡◌, ℕ, ℤ, zero, suc, [], ◌∷◌, List, Option, Some, None, false, refl, sym, ◌∙◌, subst, arith, true≢false}
+use Rattle.std.proofs.Common.{◌≡◌, ℕ, ℤ, zero, suc, [], ◌∷◌, List, Option, Some, None, Bool, false, refl, sym, ◌∙◌, subst, arith, true≢false}
 use Rattle.std.specs.Prelude.{slice_get}
 use Rattle.std.proofs.lemmas.Option.{slice_get_within}
 use Rattle.bench_base.specs.declared.words.Node.{Node}
@@ -8,17 +8,15 @@ use Rattle.bench_base.specs.declared.ledger.Entry.TheVariants.{Begin}
 use Rattle.bench_base.specs.Ledger.{Ledger, is_on}
 use Rattle.nv_model.specs.declared.nv.Nv as nv
 use Rattle.nv_model.specs.Moments.{Times, Image}
-use Rattle.nv_model.specs.declared.fused.Fused.{Fused}
-use Rattle.nv_model.specs.Fuses.{inside}
 use Rattle.node_acts.specs.Kinds.{view_in}
 use Rattle.node_acts.specs.Views.{View, stopped}
 use Rattle.node_seat.specs.declared.node.Node.{Ghosts}
 use Rattle.node_seat.specs.Stands as node
 use Rattle.node_seat.specs.Stands.{StoreStands}
 use Rattle.host_rates.specs.Tables.{RateTable}
-use Rattle.bench.specs.Benches.{Bench, Nodes, OneKind, Of, HasDay, Stands, StoreStandsOff, StoresStand, store_of}
+use Rattle.bench.specs.Benches.{Nodes, BenchOf, OneKind, Of, HasDay, Stands, StoreStandsOff, StoresStand, store_of}
 use Rattle.bench.specs.Benches as benches
-use Rattle.bench.specs.Places.{Pairs, IsOver}
+use Rattle.bench.specs.Places.{Pairs}
 use Rattle.bench.proofs.Making.{get_some, pairs_at, pairs_length}
 
 -- a run that begins has no day
@@ -30,18 +28,23 @@ pub no_day_is : (today : Option ℤ) (sent : List (List ℕ)) (kept : Option Rat
 no_day_is today sent kept L no_day no_messages no_rates day =
     subst (λ o. HasDay o sent kept L) (sym no_day) (subst (λ l. HasDay None l kept L) (sym no_messages) (subst (λ r. HasDay None [] r L) (sym no_rates) day))
 
-module _ {N : Type 0} {h : nv.Ghosts N} (g : nv.Ghosts (Fused N h)) (sizes : (s : Fused N h) → g.size s ≡ h.size (inside s)) (times : (s : Fused N h) → g.times s ≡ h.times (inside s)) where
+-- a node that is off or on, over this storage: it is off, and this is the one inside
+pub record IsOff {S N : Type 0} (inside : S → N) (store : N) (is_on : Bool) (storage : S) : Type 0 where
+  pub off : is_on ≡ false
+  pub within : inside storage ≡ store
+
+module _ {S N : Type 0} (g : nv.Ghosts S) (h : nv.Ghosts N) (inside : S → N) (sizes : (s : S) → g.size s ≡ h.size (inside s)) (times : (s : S) → g.times s ≡ h.times (inside s)) where
   -- == one storage, with its fuse and without ==
 
-  module _ {K D X R : Type 0} (n : Ghosts K (Fused N h) D X R) (d : D) (v : View n.Seen) where
-    fused_stands : (s : Fused N h) → (g.tells → h.tells) → StoreStands n h d v (inside s) → StoreStands n g d v s
+  module _ {K D X R : Type 0} (n : Ghosts K S D X R) (d : D) (v : View n.Seen) where
+    fused_stands : (s : S) → (g.tells → h.tells) → StoreStands n h d v (inside s) → StoreStands n g d v s
     fused_stands s told st = record {
       size = sizes s ∙ st.size;
       sound = λ tells. let sound = st.sound (told tells) in record { state = sound.state; next = sound.next; more = sound.more };
       shows = λ tells image seen. st.shows (told tells) image (subst (λ (t : Times). Image t image) (times s) seen);
     }
 
-    unfused_stands : (s : Fused N h) → (h.tells → g.tells) → StoreStands n g d v s → StoreStands n h d (stopped v) (inside s)
+    unfused_stands : (s : S) → (h.tells → g.tells) → StoreStands n g d v s → StoreStands n h d (stopped v) (inside s)
     unfused_stands s told st = record {
       size = sym (sizes s) ∙ st.size;
       sound = λ tells. let sound = st.sound (told tells) in record { state = sound.state; next = sound.next; more = sound.more };
@@ -49,7 +52,7 @@ module _ {N : Type 0} {h : nv.Ghosts N} (g : nv.Ghosts (Fused N h)) (sizes : (s 
     }
 
     -- a node that is off, over the storage
-    node_over : (s : K) (store : N) → (g.tells → h.tells) → IsOver store (n.is_on s) (n.storage s) → v.on ≡ false → StoreStands n h d v store → node.Stands n g d v s
+    node_over : (s : K) (store : N) → (g.tells → h.tells) → IsOff inside store (n.is_on s) (n.storage s) → v.on ≡ false → StoreStands n h d v store → node.Stands n g d v s
     node_over s store told over off st = record {
       on = over.off ∙ sym off;
       store = fused_stands (n.storage s) told (subst (λ (t : N). StoreStands n h d v t) (sym over.within) st);
@@ -62,8 +65,8 @@ module _ {N : Type 0} {h : nv.Ghosts N} (g : nv.Ghosts (Fused N h)) (sizes : (s 
 
   -- == a node, whatever its kind ==
 
-  module _ (k : OneKind (Fused N h)) (m : Node) (d : k.Name) (s : k.Own) (L : Ledger) where
-    kind_over : (store : N) → (g.tells → h.tells) → IsOver store (k.ghosts.is_on s) (k.ghosts.storage s)
+  module _ (k : OneKind S) (m : Node) (d : k.Name) (s : k.Own) (L : Ledger) where
+    kind_over : (store : N) → (g.tells → h.tells) → IsOff inside store (k.ghosts.is_on s) (k.ghosts.storage s)
         → (is_on m L ≡ false) × StoreStands k.ghosts h d (view_in m (k.kind.seen d) L) store → node.Stands k.ghosts g d (view_in m (k.kind.seen d) L) s
     kind_over store told over st = node_over k.ghosts d (view_in m (k.kind.seen d) L) s store told over st.0 st.1
 
@@ -71,59 +74,59 @@ module _ {N : Type 0} {h : nv.Ghosts N} (g : nv.Ghosts (Fused N h)) (sizes : (s 
         → (is_on m (Begin ∷ L) ≡ false) × StoreStands k.ghosts h d (view_in m (k.kind.seen d) (Begin ∷ L)) store
     kind_inside store told within st = (refl, node_inside k.ghosts d (view_in m (k.kind.seen d) L) s store told within st)
 
-  -- == the bench ==
+-- == the bench ==
 
-  module _ {D C H V XD XC XH XV RD RC RH RV : Type 0} (n : Nodes D C H V (Fused N h) XD XC XH XV RD RC RH RV) where
-    -- each node is off over the storage in its place, and each storage the one inside the fuse of the node in its place, as its kind sees it
-    pub record NodesOver (stores : benches.Places N) (bench : Bench D C H V) : Type 0 where
-      pub devices : Pairs (λ store s. IsOver store (n.devices.is_on s) (n.devices.storage s)) stores.devices bench.devices
-      pub centre : IsOver stores.centre (n.centre.is_on bench.centre) (n.centre.storage bench.centre)
-      pub host : IsOver stores.host (n.host.is_on bench.host) (n.host.storage bench.host)
-      pub verifier : IsOver stores.verifier (n.verifier.is_on bench.verifier) (n.verifier.storage bench.verifier)
+module _ (n : Nodes) (inside : n.Storage → n.Inner) (sizes : (s : n.Storage) → n.storage.size s ≡ n.inner.size (inside s)) (times : (s : n.Storage) → n.storage.times s ≡ n.inner.times (inside s)) where
+  -- each node is off over the storage in its place, and each storage the one inside the node in its place, as its kind sees it
+  pub record NodesOver (stores : benches.Places n.Inner) (bench : BenchOf n) : Type 0 where
+    pub devices : Pairs (λ store s. IsOff inside store (n.devices.is_on s) (n.devices.storage s)) stores.devices bench.devices
+    pub centre : IsOff inside stores.centre (n.centre.is_on bench.centre) (n.centre.storage bench.centre)
+    pub host : IsOff inside stores.host (n.host.is_on bench.host) (n.host.storage bench.host)
+    pub verifier : IsOff inside stores.verifier (n.verifier.is_on bench.verifier) (n.verifier.storage bench.verifier)
 
-    pub record NodesInside (bench : Bench D C H V) (stores : benches.Places N) : Type 0 where
-      pub devices : Pairs (λ s store. store ≡ inside (n.devices.storage s)) bench.devices stores.devices
-      pub centre : stores.centre ≡ inside (n.centre.storage bench.centre)
-      pub host : stores.host ≡ inside (n.host.storage bench.host)
-      pub verifier : stores.verifier ≡ inside (n.verifier.storage bench.verifier)
+  pub record NodesInside (bench : BenchOf n) (stores : benches.Places n.Inner) : Type 0 where
+    pub devices : Pairs (λ s store. store ≡ inside (n.devices.storage s)) bench.devices stores.devices
+    pub centre : stores.centre ≡ inside (n.centre.storage bench.centre)
+    pub host : stores.host ≡ inside (n.host.storage bench.host)
+    pub verifier : stores.verifier ≡ inside (n.verifier.storage bench.verifier)
 
-    pub over_stands : (g.tells → h.tells) → (stores : benches.Places N) (bench : Bench D C H V) (L : Ledger) → bench.day ≡ None → bench.messages ≡ [] → bench.rates ≡ None
-        → NodesOver stores bench → StoresStand n h stores L → Stands n g bench L
-    over_stands told stores bench L no_day no_messages no_rates over stands = record {
-      day = no_day_is bench.day bench.messages bench.rates L no_day no_messages no_rates stands.day;
-      nodes = each;
-    }
-      where
-        device : (i : ℕ) (s : D) → slice_get bench.devices i ≡ Some s → node.Stands n.devices g (suc i) (view_in (Device (suc i)) (n.kinds.devices.seen (suc i)) L) s
-        device i s at =
-            let lt = slice_get_within bench.devices i s at in
-            let store = get_some stores.devices i (omega (arith, pairs_length (λ store s. IsOver store (n.devices.is_on s) (n.devices.storage s)) stores.devices bench.devices over.devices)) in
-            kind_over (benches.devices n) (Device (suc i)) (suc i) s L store.0 told
-            (pairs_at (λ store s. IsOver store (n.devices.is_on s) (n.devices.storage s)) stores.devices bench.devices over.devices i store.0 s store.1 at)
-            (stands.nodes (Device (suc i)) store.0 store.1)
+  pub over_stands : (n.storage.tells → n.inner.tells) → (stores : benches.Places n.Inner) (bench : BenchOf n) (L : Ledger) → bench.day ≡ None → bench.messages ≡ [] → bench.rates ≡ None
+      → NodesOver stores bench → StoresStand n stores L → Stands n bench L
+  over_stands told stores bench L no_day no_messages no_rates over stands = record {
+    day = no_day_is bench.day bench.messages bench.rates L no_day no_messages no_rates stands.day;
+    nodes = each;
+  }
+    where
+      device : (i : ℕ) (s : n.Devices) → slice_get bench.devices i ≡ Some s → node.Stands n.devices n.storage (suc i) (view_in (Device (suc i)) (n.kinds.devices.seen (suc i)) L) s
+      device i s at =
+          let lt = slice_get_within bench.devices i s at in
+          let store = get_some stores.devices i (omega (arith, pairs_length (λ store s. IsOff inside store (n.devices.is_on s) (n.devices.storage s)) stores.devices bench.devices over.devices)) in
+          kind_over n.storage n.inner inside sizes times (benches.devices n) (Device (suc i)) (suc i) s L store.0 told
+          (pairs_at (λ store s. IsOff inside store (n.devices.is_on s) (n.devices.storage s)) stores.devices bench.devices over.devices i store.0 s store.1 at)
+          (stands.nodes (Device (suc i)) store.0 store.1)
 
-        each : (m : Node) → Of n (λ k i d s. node.Stands k.ghosts g d (view_in i (k.kind.seen d) L) s) bench m
-        each (Device d) = λ i s is at.
-            let number : suc i ≡ d = omega (arith, is) in
-            subst (λ (e : ℕ). node.Stands n.devices g e (view_in (Device e) (n.kinds.devices.seen e) L) s) number (device i s at)
-        each Centre = kind_over (benches.centre n) Centre tt bench.centre L stores.centre told over.centre (stands.nodes Centre stores.centre refl)
-        each Host = kind_over (benches.host n) Host tt bench.host L stores.host told over.host (stands.nodes Host stores.host refl)
-        each Verifier = kind_over (benches.verifier n) Verifier tt bench.verifier L stores.verifier told over.verifier (stands.nodes Verifier stores.verifier refl)
+      each : (m : Node) → Of n (λ k i d s. node.Stands k.ghosts n.storage d (view_in i (k.kind.seen d) L) s) bench m
+      each (Device d) = λ i s is at.
+          let number : suc i ≡ d = omega (arith, is) in
+          subst (λ (e : ℕ). node.Stands n.devices n.storage e (view_in (Device e) (n.kinds.devices.seen e) L) s) number (device i s at)
+      each Centre = kind_over n.storage n.inner inside sizes times (benches.centre n) Centre tt bench.centre L stores.centre told over.centre (stands.nodes Centre stores.centre refl)
+      each Host = kind_over n.storage n.inner inside sizes times (benches.host n) Host tt bench.host L stores.host told over.host (stands.nodes Host stores.host refl)
+      each Verifier = kind_over n.storage n.inner inside sizes times (benches.verifier n) Verifier tt bench.verifier L stores.verifier told over.verifier (stands.nodes Verifier stores.verifier refl)
 
-    pub inside_stands : (h.tells → g.tells) → (bench : Bench D C H V) (stores : benches.Places N) (L : Ledger) → NodesInside bench stores → Stands n g bench L → StoresStand n h stores (Begin ∷ L)
-    inside_stands told bench stores L within stands = record { day = none_day L; nodes = each }
-      where
-        same : (a b : N) → Some a ≡ Some b → a ≡ b
-        same a b is = cc
+  pub inside_stands : (n.inner.tells → n.storage.tells) → (bench : BenchOf n) (stores : benches.Places n.Inner) (L : Ledger) → NodesInside bench stores → Stands n bench L → StoresStand n stores (Begin ∷ L)
+  inside_stands told bench stores L within stands = record { day = none_day L; nodes = each }
+    where
+      same : (a b : n.Inner) → Some a ≡ Some b → a ≡ b
+      same a b is = cc
 
-        each : (m : Node) (store : N) → store_of stores m ≡ Some store → StoreStandsOff n h (Begin ∷ L) store m
-        each (Device zero) store is = absurd (cc)
-        each (Device (suc i)) store is =
-            let lt = slice_get_within stores.devices i store is in
-            let s = get_some bench.devices i (omega (arith, lt, pairs_length (λ s store. store ≡ inside (n.devices.storage s)) bench.devices stores.devices within.devices)) in
-            kind_inside (benches.devices n) (Device (suc i)) (suc i) s.0 L store told
-            (pairs_at (λ s store. store ≡ inside (n.devices.storage s)) bench.devices stores.devices within.devices i s.0 store s.1 is)
-            (stands.nodes (Device (suc i)) i s.0 (omega arith) s.1)
-        each Centre store is = kind_inside (benches.centre n) Centre tt bench.centre L store told (sym (same stores.centre store is) ∙ within.centre) (stands.nodes Centre)
-        each Host store is = kind_inside (benches.host n) Host tt bench.host L store told (sym (same stores.host store is) ∙ within.host) (stands.nodes Host)
-        each Verifier store is = kind_inside (benches.verifier n) Verifier tt bench.verifier L store told (sym (same stores.verifier store is) ∙ within.verifier) (stands.nodes Verifier)
+      each : (m : Node) (store : n.Inner) → store_of stores m ≡ Some store → StoreStandsOff n (Begin ∷ L) store m
+      each (Device zero) store is = absurd (cc)
+      each (Device (suc i)) store is =
+          let lt = slice_get_within stores.devices i store is in
+          let s = get_some bench.devices i (omega (arith, lt, pairs_length (λ s store. store ≡ inside (n.devices.storage s)) bench.devices stores.devices within.devices)) in
+          kind_inside n.storage n.inner inside sizes times (benches.devices n) (Device (suc i)) (suc i) s.0 L store told
+          (pairs_at (λ s store. store ≡ inside (n.devices.storage s)) bench.devices stores.devices within.devices i s.0 store s.1 is)
+          (stands.nodes (Device (suc i)) i s.0 (omega arith) s.1)
+      each Centre store is = kind_inside n.storage n.inner inside sizes times (benches.centre n) Centre tt bench.centre L store told (sym (same stores.centre store is) ∙ within.centre) (stands.nodes Centre)
+      each Host store is = kind_inside n.storage n.inner inside sizes times (benches.host n) Host tt bench.host L store told (sym (same stores.host store is) ∙ within.host) (stands.nodes Host)
+      each Verifier store is = kind_inside n.storage n.inner inside sizes times (benches.verifier n) Verifier tt bench.verifier L store told (sym (same stores.verifier store is) ∙ within.verifier) (stands.nodes Verifier)

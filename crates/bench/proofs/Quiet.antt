@@ -34,17 +34,17 @@ use Rattle.bench_views.specs.declared.taken.Taken.TheVariants as take
 use Rattle.bench_views.specs.Tariff.{IsOfTexts, quote}
 use Rattle.bench_views.specs.Taken.{taken, as_given}
 use Rattle.bench_views.proofs.Events.{some-same}
-use Rattle.bench.specs.Benches.{Bench, Places, Nodes, OfState, OfChange, Of, At, IsReady, Stands, StoresStand}
+use Rattle.bench.specs.Benches.{Bench, Places, Nodes, OfState, OfChange, Of, At, IsReady, Stands, StoresStand, BenchOf}
 use Rattle.bench.specs.Outside.{Outside, ReadsRates}
-use Rattle.bench.specs.Steps.{Steps, StepsOn, StepsByViews, StepsAlone, DoesAsked, ShowsLedger, AreLeft, StayClosed, Leaves, notes_in, sending, with_open, after_stop}
+use Rattle.bench.specs.Steps.{Steps, StepsOn, StepsByViews, StepsAlone, DoesAsked, FindsOff, ShowsLedger, AreLeft, StayClosed, Leaves, notes_in, sending, with_open, after_stop}
 use Rattle.bench.proofs.Charges.{rests_charged}
 use Rattle.bench.proofs.EachKind.{AllRest, of_all, of_with, still}
 use Rattle.bench.proofs.Left.{rest_stopped}
 use Rattle.bench.proofs.Stops.{stop_history}
 use Rattle.bench.proofs.Unprinted.{IsUnprinted, prints_nothing}
 
-module _ {D C H V S XD XC XH XV RD RC RH RV N : Type 0} (n : Nodes D C H V S XD XC XH XV RD RC RH RV) (g : nv.Ghosts S) (f : fuse.Ghosts S) (h : nv.Ghosts N) (e x : Event) (text : List ℕ)
-    (reply : Reply) (told : List Entry) (old new : Bench D C H V) (before now : Outside) where
+module _ (n : Nodes) (e x : Event) (text : List ℕ)
+    (reply : Reply) (told : List Entry) (old new : BenchOf n) (before now : Outside) where
   abbrev turn : Turn
   turn = turn_of reply told
 
@@ -53,17 +53,17 @@ module _ {D C H V S XD XC XH XV RD RC RH RV N : Type 0} (n : Nodes D C H V S XD 
     pub moves : Moves τ todays_rules L e text reply
     pub silent : (plan τ todays_rules L e text).commit ≡ None
     pub adds : (K : Ledger) → after (plan τ todays_rules L e text) reply K ≡ told ++ K
-    pub stands : Stands n g new (told ++ L)
+    pub stands : Stands n new (told ++ L)
     pub still : (k : Node) → torn_of k (told ++ L) ≡ torn_of k L
 
   -- by what the storages show
   pub record QuietShown : Type 0 where
     pub asks : Taken
     pub taken_is : taken old.messages (quote old.rates) e ≡ Some asks
-    pub does : (today : ℤ) → old.day ≡ Some today → DoesAsked n g today turn old new before now asks
+    pub does : (today : ℤ) → old.day ≡ Some today → DoesAsked n today turn old new before now asks
     pub not_read : has_read reply ≡ false
 
-  abbrev pub SwitchesIs : OfState S
+  abbrev pub SwitchesIs : OfState n.Storage
   SwitchesIs o i d s = IsSome old.day → node_for x ≡ Some i → ((k : ℕ) → reply ≢ r.NoMessage k) → Switches i x reply (o.ghosts.is_on s) (o.ghosts.is_on s)
 
   -- whatever they tell; the event is x where it is given
@@ -77,6 +77,7 @@ module _ {D C H V S XD XC XH XV RD RC RH RV N : Type 0} (n : Nodes D C H V S XD 
     pub dated : new.day ≡ day_after e old.day
     pub dates : (t : ℤ) → e ≡ ev.Day t → turn ≡ turn_of (r.Day t) (entry.Day t ∷ [])
     pub ends : e ≡ ev.End → turn ≡ turn_of r.End []
+    pub compares : (d : ℕ) → e ≡ ev.Reconcile d → (new ≡ old) × (told ≡ []) × FindsOff n d reply old
     pub message : (k : ℕ) → taken old.messages (quote old.rates) e ≡ Some (take.NoMessage k) → IsSome old.day → reply ≡ r.NoMessage k
     pub unsent : notes_in (in_order told) ≡ []
     pub refused : is_refusal reply ≡ true → (new ≡ old) × (told ≡ [])
@@ -89,25 +90,25 @@ module _ {D C H V S XD XC XH XV RD RC RH RV N : Type 0} (n : Nodes D C H V S XD 
   module _ (rest : AllRest old new) (unsent : new.messages ≡ old.messages) (ready : IsReady old) (whole : IsWholeEvent e) (alone : QuietAlone) where
     -- == by a ledger ==
 
-    module _ (τ : Tariff) (L : Ledger) (on : QuietOn τ L) (history : History τ editions L) (stands : Stands n g old L) (tells : g.tells) where
-      abbrev StandsIs : OfState S
-      StandsIs o i d s = node.Stands o.ghosts g d (view_in i (o.kind.seen d) L) s
+    module _ (τ : Tariff) (L : Ledger) (on : QuietOn τ L) (history : History τ editions L) (stands : Stands n old L) (tells : n.storage.tells) where
+      abbrev StandsIs : OfState n.Storage
+      StandsIs o i d s = node.Stands o.ghosts n.storage d (view_in i (o.kind.seen d) L) s
 
-      abbrev ShowsIs : OfChange S
-      ShowsIs o i d s t = ShowsLedger o.ghosts g (o.kind.seen d) i τ L e text s t
+      abbrev ShowsIs : OfChange n.Storage
+      ShowsIs o i d s t = ShowsLedger o.ghosts n.storage (o.kind.seen d) i τ L e text s t
 
       shows : (m : Node) → At n ShowsIs old new m
       shows m = still n old new rest ShowsIs m (of_with n StandsIs (λ o i d s. ShowsIs o i d s s) old (λ o i d s st image since. inl (st.store.shows tells image since)) m (stands.nodes m))
 
       -- where the process is stopped within it
-      left : (stores : Places N) → AreLeft n g h old new stores → StoresStand n h stores (after_stop τ L e text)
-      left stores are = subst (λ (o : Option Commit). StoresStand n h stores (entry.Begin ∷ with_open o L)) (sym on.silent) (rest_stopped n g h old new rest ready L stands tells stores are)
+      left : (stores : Places n.Inner) → AreLeft n old new stores → StoresStand n stores (after_stop τ L e text)
+      left stores are = subst (λ (o : Option Commit). StoresStand n stores (entry.Begin ∷ with_open o L)) (sym on.silent) (rest_stopped n old new rest ready L stands tells stores are)
 
-      quiet_on : Unforged e L → StepsOn n g h τ L e text turn old new before now
+      quiet_on : Unforged e L → StepsOn n τ L e text turn old new before now
       quiet_on unforged = record {
         moves = on.moves;
         entries = ap in_order (sym (append-nil told) ∙ sym (on.adds []));
-        stands = subst (λ (M : Ledger). Stands n g new M) (sym (on.adds L)) on.stands;
+        stands = subst (λ (M : Ledger). Stands n new M) (sym (on.adds L)) on.stands;
         closed = λ fine. subst (λ (M : Ledger). StayClosed L M) (sym (on.adds L)) (λ k none. on.still k ∙ none);
         any_moment = shows;
         stopped = λ stores are. (stop_history τ L e text history whole unforged, left stores are);
@@ -116,42 +117,43 @@ module _ {D C H V S XD XC XH XV RD RC RH RV N : Type 0} (n : Nodes D C H V S XD 
 
     -- == by what the storages show ==
 
-    quiet_shown : QuietShown → StepsByViews n g e turn old new before now
+    quiet_shown : QuietShown → StepsByViews n e turn old new before now
     quiet_shown shown = record {
-      does = λ today y day is. subst (λ (z : Taken). DoesAsked n g today turn old new before now z) (some-same (sym shown.taken_is ∙ is)) (shown.does today day);
-      unwritten = λ none m. still n old new rest (λ o i d s t. Mounts (times_of o.ghosts g s) (times_of o.ghosts g t)) m
-          (of_all n (λ o i d s. Mounts (times_of o.ghosts g s) (times_of o.ghosts g s)) old (λ o i d s. mounts_none (times_of o.ghosts g s)) m);
+      does = λ today y day is. subst (λ (z : Taken). DoesAsked n today turn old new before now z) (some-same (sym shown.taken_is ∙ is)) (shown.does today day);
+      unwritten = λ none m. still n old new rest (λ o i d s t. Mounts (times_of o.ghosts n.storage s) (times_of o.ghosts n.storage t)) m
+          (of_all n (λ o i d s. Mounts (times_of o.ghosts n.storage s) (times_of o.ghosts n.storage s)) old (λ o i d s. mounts_none (times_of o.ghosts n.storage s)) m);
       damaged = λ m on read. absurd (true≢false (sym read ∙ shown.not_read));
     }
 
     -- == whatever they tell ==
 
-    leaves : (m : Node) → At n (λ o i d. Leaves o.ghosts g f i x old.day reply) old new m
-    leaves m = still n old new rest (λ o i d. Leaves o.ghosts g f i x old.day reply) m
-        (of_with n SwitchesIs (λ o i d s. Leaves o.ghosts g f i x old.day reply s s) old (λ o i d s switches. record {
+    leaves : (m : Node) → At n (λ o i d. Leaves o.ghosts n.storage n.fuse i x old.day reply) old new m
+    leaves m = still n old new rest (λ o i d. Leaves o.ghosts n.storage n.fuse i x old.day reply) m
+        (of_with n SwitchesIs (λ o i d s. Leaves o.ghosts n.storage n.fuse i x old.day reply s s) old (λ o i d s switches. record {
           switches = switches;
-          charged = rests_charged i x reply (meters_of o.ghosts g s) (alone.power i) (alone.fault i);
+          charged = rests_charged i x reply (meters_of o.ghosts n.storage s) (alone.power i) (alone.fault i);
           armed = λ some calls keep byte is. absurd (alone.unarmed some i calls keep byte is);
           rests = λ not. refl;
         }) m (alone.switches m))
 
-    quiet_alone : StepsAlone n g f e text turn old new before now
+    quiet_alone : StepsAlone n e text turn old new before now
     quiet_alone = record {
       reply = subst (λ (y : Event). MayGet y reply) (sym alone.given) alone.gets;
       day = alone.day;
       dated = alone.dated;
       dates = alone.dates;
       ends = alone.ends;
+      compares = λ d is. let left = alone.compares d is in (left.0, ap in_order left.1, left.2);
       message = alone.message;
       sends = unsent ∙ sym (append-nil old.messages) ∙ ap (λ (l : List (List ℕ)). old.messages ++ l) (sym alone.unsent);
       refused = λ is. let left = alone.refused is in (left.0, ap in_order left.1);
       adds = subst (λ (y : Event). Adds y (told_by reply) (in_order told)) (sym alone.given) alone.says;
-      nodes = λ m. subst (λ (y : Event). At n (λ o i d. Leaves o.ghosts g f i y old.day reply) old new m) (sym alone.given) (leaves m);
+      nodes = λ m. subst (λ (y : Event). At n (λ o i d. Leaves o.ghosts n.storage n.fuse i y old.day reply) old new m) (sym alone.given) (leaves m);
       rates = alone.rates;
       printer = (None, prints_nothing reply None before.printer now.printer alone.printer alone.prints);
     }
 
-    pub quiet : ((τ : Tariff) (L : Ledger) → IsOfTexts τ → History τ editions L → Stands n g old L → g.tells → QuietOn τ L) → (g.tells → QuietShown) → Steps n g f h e text turn old new before now
+    pub quiet : ((τ : Tariff) (L : Ledger) → IsOfTexts τ → History τ editions L → Stands n old L → n.storage.tells → QuietOn τ L) → (n.storage.tells → QuietShown) → Steps n e text turn old new before now
     quiet on shown = record {
       history = λ τ L texts history unforged stands tells. quiet_on τ L (on τ L texts history stands tells) history stands tells unforged;
       shown = λ tells. quiet_shown (shown tells);
@@ -163,6 +165,6 @@ module _ {D C H V S XD XC XH XV RD RC RH RV N : Type 0} (n : Nodes D C H V S XD 
 unsent : {D C H V : Type 0} (t : Turn) (b : Bench D C H V) → notes_in t.entries ≡ [] → sending t b ≡ b
 unsent t b none = λ k. record b { messages = (ap (λ (l : List (List ℕ)). b.messages ++ l) none ∙ append-nil b.messages) k }
 
-pub as_sent : {D C H V S XD XC XH XV RD RC RH RV N : Type 0} (n : Nodes D C H V S XD XC XH XV RD RC RH RV) (g : nv.Ghosts S) (f : fuse.Ghosts S) (h : nv.Ghosts N) (e : Event) (text : List ℕ) (turn : Turn)
-    (old new : Bench D C H V) (before now : Outside) → notes_in turn.entries ≡ [] → Steps n g f h e text turn old new before now → Steps n g f h e text turn old (sending turn new) before now
-as_sent {D} {C} {H} {V} n g f h e text turn old new before now none steps = subst (λ (b : Bench D C H V). Steps n g f h e text turn old b before now) (sym (unsent turn new none)) steps
+pub as_sent : (n : Nodes) (e : Event) (text : List ℕ) (turn : Turn)
+    (old new : BenchOf n) (before now : Outside) → notes_in turn.entries ≡ [] → Steps n e text turn old new before now → Steps n e text turn old (sending turn new) before now
+as_sent n e text turn old new before now none steps = subst (λ (b : BenchOf n). Steps n e text turn old b before now) (sym (unsent turn new none)) steps

@@ -32,7 +32,7 @@ use Rattle.ledger_moves.specs.Histories.{History}
 use Rattle.ledger_moves.specs.Moves.{plan, rates_plan, reading_plan}
 use Rattle.bench_views.specs.declared.taken.Taken.TheVariants as take
 use Rattle.bench_views.specs.Tariff.{IsOfTexts}
-use Rattle.bench.specs.Benches.{Bench, Nodes, OfState, IsReady, Stands}
+use Rattle.bench.specs.Benches.{Nodes, OfState, IsReady, Stands, BenchOf}
 use Rattle.bench.specs.Outside.{Outside, ReadsText, ReadsRates, failed, read, rates_turn, rates_after}
 use Rattle.bench.specs.Steps.{Steps, notes_in}
 use Rattle.bench.proofs.Answered.{again, no_some}
@@ -165,13 +165,13 @@ plan_rates τ H text today is = rw is refl
 
 -- == what it does to the bench ==
 
-module _ {D C H V S XD XC XH XV RD RC RH RV N : Type 0} (n : Nodes D C H V S XD XC XH XV RD RC RH RV) (g : nv.Ghosts S) (f : fuse.Ghosts S) (h : nv.Ghosts N) (text : List ℕ) (turn : Turn) (today : ℤ)
-    (old : Bench D C H V) (kept : Option RateTable) (before now : Outside) (ready : IsReady old) (day_is : old.day ≡ Some today) (printer : now.printer ≡ before.printer) (later : before.rates.faults ≤ now.rates.faults) where
-  abbrev new : Bench D C H V
+module _ (n : Nodes) (text : List ℕ) (turn : Turn) (today : ℤ)
+    (old : BenchOf n) (kept : Option RateTable) (before now : Outside) (ready : IsReady old) (day_is : old.day ≡ Some today) (printer : now.printer ≡ before.printer) (later : before.rates.faults ≤ now.rates.faults) where
+  abbrev new : BenchOf n
   new = record old { rates = kept }
 
-  abbrev StandsIs : Ledger → OfState S
-  StandsIs L o i d s = node.Stands o.ghosts g d (view_in i (o.kind.seen d) L) s
+  abbrev StandsIs : Ledger → OfState n.Storage
+  StandsIs L o i d s = node.Stands o.ghosts n.storage d (view_in i (o.kind.seen d) L) s
 
   reads : (reply : Reply) (tells : List Entry) → turn ≡ turn_of reply tells → ReadsText text turn old.rates kept before.rates now.rates → ReadsRates ev.Rates text (turn_of reply tells) old.day old.rates kept before.rates now.rates
   reads reply tells is what = record {
@@ -183,9 +183,9 @@ module _ {D C H V S XD XC XH XV RD RC RH RV N : Type 0} (n : Nodes D C H V S XD 
 
   -- by what is told of it
   by_told : (reply : Reply) (tells : List Entry) → turn ≡ turn_of reply tells → Told text reply tells → ReadsText text turn old.rates kept before.rates now.rates → (is_refusal reply ≡ true → (new ≡ old) × (tells ≡ []))
-      → ((τ : Tariff) (L : Ledger) → IsOfTexts τ → History τ editions L → Stands n g old L → g.tells → QuietOn n g f h ev.Rates ev.Rates text reply tells old new before now τ L)
-      → Steps n g f h ev.Rates text (turn_of reply tells) old new before now
-  by_told reply tells is so what refused on = quiet n g f h ev.Rates ev.Rates text reply tells old new before now (record { devices = refl; centre = refl; host = refl; verifier = refl }) refl ready tt
+      → ((τ : Tariff) (L : Ledger) → IsOfTexts τ → History τ editions L → Stands n old L → n.storage.tells → QuietOn n ev.Rates ev.Rates text reply tells old new before now τ L)
+      → Steps n ev.Rates text (turn_of reply tells) old new before now
+  by_told reply tells is so what refused on = quiet n ev.Rates ev.Rates text reply tells old new before now (record { devices = refl; centre = refl; host = refl; verifier = refl }) refl ready tt
       (record {
         given = refl;
         power = so.power;
@@ -196,10 +196,11 @@ module _ {D C H V S XD XC XH XV RD RC RH RV N : Type 0} (n : Nodes D C H V S XD 
         dated = refl;
         dates = λ t same. cc;
         ends = λ same. cc;
+        compares = λ i same. let wrong : ⊥ = cc in absurd wrong;
         message = λ k same. cc;
         unsent = so.unsent;
         refused = refused;
-        switches = of_all n (SwitchesIs n g f h ev.Rates ev.Rates text reply tells old new before now) old (λ o i d s some at. no_some i at);
+        switches = of_all n (SwitchesIs n ev.Rates ev.Rates text reply tells old new before now) old (λ o i d s some at. no_some i at);
         unarmed = λ some m calls keep byte same. cc;
         rates = reads reply tells is what;
         printer = printer;
@@ -216,17 +217,17 @@ module _ {D C H V S XD XC XH XV RD RC RH RV N : Type 0} (n : Nodes D C H V S XD 
   keeps_of L keeps (Err (fail.Memory y)) is = keeps
 
   -- the bench stands for the ledger with what is told
-  stands_of : (L : Ledger) (x : Result RateTable RatesFail) → kept ≡ rates_after old.rates x → answer text ≡ x → Stands n g old L → Stands n g new ((plan_of text x).after ++ L)
+  stands_of : (L : Ledger) (x : Result RateTable RatesFail) → kept ≡ rates_after old.rates x → answer text ≡ x → Stands n old L → Stands n new ((plan_of text x).after ++ L)
   stands_of L x kept_is is stands = by x kept_is (subst (λ (o : Option RateTable). Keeps (rates_in ((plan_of text x).after ++ L)) o) (sym kept_is) (keeps_of L stands.day.rates x is))
     where
-      as_it_was : Keeps (rates_in L) kept → Stands n g new L
+      as_it_was : Keeps (rates_in L) kept → Stands n new L
       as_it_was keeps = record { day = record { day = stands.day.day; messages = stands.day.messages; rates = keeps }; nodes = stands.nodes }
 
-      by : (y : Result RateTable RatesFail) → kept ≡ rates_after old.rates y → Keeps (rates_in ((plan_of text y).after ++ L)) kept → Stands n g new ((plan_of text y).after ++ L)
+      by : (y : Result RateTable RatesFail) → kept ≡ rates_after old.rates y → Keeps (rates_in ((plan_of text y).after ++ L)) kept → Stands n new ((plan_of text y).after ++ L)
       by (Ok y) same keeps = record {
         day = record { day = stands.day.day; messages = stands.day.messages; rates = keeps };
         nodes = λ m. of_with n (StandsIs L) (StandsIs (entry.Rates text ∷ L)) old
-            (λ o i d s st. again o.ghosts g d (view_in i (o.kind.seen d) L) s (view_in i (o.kind.seen d) (entry.Rates text ∷ L)) refl refl refl st) m (stands.nodes m);
+            (λ o i d s st. again o.ghosts n.storage d (view_in i (o.kind.seen d) L) s (view_in i (o.kind.seen d) (entry.Rates text ∷ L)) refl refl refl st) m (stands.nodes m);
       }
       by (Err (fail.Length k)) same keeps = as_it_was keeps
       by (Err fail.Toml) same keeps = as_it_was keeps
@@ -265,12 +266,12 @@ module _ {D C H V S XD XC XH XV RD RC RH RV N : Type 0} (n : Nodes D C H V S XD 
   still_of (Err (fail.Memory y)) L m = refl
 
   -- by the ledger, the plan is that of what the text reads as
-  plan_is : (τ : Tariff) (L : Ledger) → IsOfTexts τ → Stands n g old L → plan τ todays_rules L ev.Rates text ≡ plan_of text (answer text)
+  plan_is : (τ : Tariff) (L : Ledger) → IsOfTexts τ → Stands n old L → plan τ todays_rules L ev.Rates text ≡ plan_of text (answer text)
   plan_is τ L of stands = plan_rates τ L text today (sym stands.day.day ∙ day_is) ∙ planned τ of text
 
   read_steps : (x : Result RateTable RatesFail) → answer text ≡ x → turn ≡ turn_of (plan_of text x).reply (plan_of text x).after → kept ≡ rates_after old.rates x → ReadsText text turn old.rates kept before.rates now.rates
-      → Steps n g f h ev.Rates text turn old new before now
-  read_steps x is turn_as kept_is what = subst (λ (t : Turn). Steps n g f h ev.Rates text t old new before now) (sym turn_as)
+      → Steps n ev.Rates text turn old new before now
+  read_steps x is turn_as kept_is what = subst (λ (t : Turn). Steps n ev.Rates text t old new before now) (sym turn_as)
       (by_told (plan_of text x).reply (plan_of text x).after turn_as (told_of text x) what (refused_of x kept_is) (λ τ L texts history stands tells.
       let plan_as : plan τ todays_rules L ev.Rates text ≡ plan_of text x = plan_is τ L texts stands ∙ ap (plan_of text) is in
       record {
@@ -281,16 +282,16 @@ module _ {D C H V S XD XC XH XV RD RC RH RV N : Type 0} (n : Nodes D C H V S XD 
         still = λ k. still_of x L k;
       }))
 
-  failed_steps : turn ≡ turn_of r.RatesFault [] → kept ≡ old.rates → ReadsText text turn old.rates kept before.rates now.rates → Steps n g f h ev.Rates text turn old new before now
-  failed_steps turn_as kept_is what = subst (λ (t : Turn). Steps n g f h ev.Rates text t old new before now) (sym turn_as)
+  failed_steps : turn ≡ turn_of r.RatesFault [] → kept ≡ old.rates → ReadsText text turn old.rates kept before.rates now.rates → Steps n ev.Rates text turn old new before now
+  failed_steps turn_as kept_is what = subst (λ (t : Turn). Steps n ev.Rates text t old new before now) (sym turn_as)
       (by_told r.RatesFault [] turn_as (told_fault text) what (λ is. absurd (true≢false (sym is))) (λ τ L texts history stands tells. record {
         moves = (tt, inr (inr (inr (record { event = refl; reply_is = refl; dated = ap is_some (sym stands.day.day ∙ day_is) }))));
         silent = ap (λ (p : Plan). p.commit) (plan_is τ L texts stands) ∙ commit_of (answer text);
         adds = λ K. refl;
-        stands = subst (λ (b : Bench D C H V). Stands n g b L) (sym (kept_on kept_is)) stands;
+        stands = subst (λ (b : BenchOf n). Stands n b L) (sym (kept_on kept_is)) stands;
         still = λ k. refl;
       }))
 
-  pub steps_rates : ReadsText text turn old.rates kept before.rates now.rates → Steps n g f h ev.Rates text turn old new before now
+  pub steps_rates : ReadsText text turn old.rates kept before.rates now.rates → Steps n ev.Rates text turn old new before now
   steps_rates (failed turn_as kept_is consumes short rose) = failed_steps turn_as kept_is (failed turn_as kept_is consumes short rose)
   steps_rates (read takes turn_as kept_is) = read_steps (answer text) refl (turn_as ∙ turn_is text (answer text)) kept_is (read takes turn_as kept_is)

@@ -10,8 +10,6 @@ use Rattle.bench_base.specs.declared.events.Event.{Event}
 use Rattle.bench_base.specs.Ledger.{Ledger, day_in, rates_in, is_on}
 use Rattle.nv_model.specs.declared.nv.Nv as nv
 use Rattle.nv_model.specs.declared.fuse.Fuse as fuse
-use Rattle.nv_model.specs.declared.fused.Fused.{Fused}
-use Rattle.nv_model.specs.Fuses.{state_of}
 use Rattle.nv_model.specs.Moments.{Image}
 use Rattle.node_acts.specs.Kinds.{Kind, view_in}
 use Rattle.node_seat.specs.declared.node.Node.{Ghosts}
@@ -75,10 +73,6 @@ store_of stores Centre = Some stores.centre
 store_of stores Host = Some stores.host
 store_of stores Verifier = Some stores.verifier
 
--- the fuse of a storage that has one
-abbrev pub fuse_in : {N : Type 0} {h : nv.Ghosts N} → fuse.Ghosts (Fused N h)
-fuse_in = record { fuse_of = λ s. state_of s }
-
 -- eight devices
 pub record IsReady {D C H V : Type 0} (bench : Bench D C H V) : Type 0 where
   pub eight : length bench.devices ≡ 8
@@ -104,17 +98,62 @@ bytes_of Verifier = VERIFIER_BYTES
 abbrev pub AreBlank : {N : Type 0} → nv.Ghosts N → Places N → Type 0
 AreBlank {N} h stores = (m : Node) (store : N) → store_of stores m ≡ Some store → IsBlank h (bytes_of m) store
 
--- The nodes of a bench, over storages S: what each kind keeps, and what the ledger shows of it.
-pub record Nodes (D C H V S XD XC XH XV RD RC RH RV : Type 0) : Type 1 where
-  pub devices : Ghosts D S ℕ XD RD
-  pub centre : Ghosts C S (Unit {0}) XC RC
-  pub host : Ghosts H S (Unit {0}) XH RH
-  pub verifier : Ghosts V S (Unit {0}) XV RV
+-- The nodes of a bench: the types of the nodes, of what a commit changes of each and of the memory that it runs in; what each kind keeps,
+-- and what the ledger shows of it. The nodes are over storages that have fuses, and the bench is made of the storages inside.
+pub record Nodes : Type 1 where
+  pub Devices : Type 0
+  pub Centres : Type 0
+  pub Hosts : Type 0
+  pub Verifiers : Type 0
+  pub DeviceChange : Type 0
+  pub CentreChange : Type 0
+  pub HostChange : Type 0
+  pub VerifierChange : Type 0
+  pub DeviceSpare : Type 0
+  pub CentreSpare : Type 0
+  pub HostSpare : Type 0
+  pub VerifierSpare : Type 0
+  pub Storage : Type 0
+  pub Inner : Type 0
+  pub devices : Ghosts Devices Storage ℕ DeviceChange DeviceSpare
+  pub centre : Ghosts Centres Storage (Unit {0}) CentreChange CentreSpare
+  pub host : Ghosts Hosts Storage (Unit {0}) HostChange HostSpare
+  pub verifier : Ghosts Verifiers Storage (Unit {0}) VerifierChange VerifierSpare
   pub kinds : Kinds devices.Seen centre.Seen host.Seen verifier.Seen
+  pub storage : nv.Ghosts Storage
+  pub fuse : fuse.Ghosts Storage
+  pub inner : nv.Ghosts Inner
 
-abbrev pub nodes : {D C H V S XD XC XH XV RD RC RH RV : Type 0} (d : Ghosts D S ℕ XD RD) (c : Ghosts C S (Unit {0}) XC RC) (h : Ghosts H S (Unit {0}) XH RH) (v : Ghosts V S (Unit {0}) XV RV)
-    → Kinds d.Seen c.Seen h.Seen v.Seen → Nodes D C H V S XD XC XH XV RD RC RH RV
-nodes d c h v k = record { devices = d; centre = c; host = h; verifier = v; kinds = k }
+abbrev pub bench_nodes : {D C H V XD XC XH XV RD RC RH RV S N : Type 0} (d : Ghosts D S ℕ XD RD) (c : Ghosts C S (Unit {0}) XC RC) (h : Ghosts H S (Unit {0}) XH RH) (v : Ghosts V S (Unit {0}) XV RV)
+    → Kinds d.Seen c.Seen h.Seen v.Seen → nv.Ghosts S → fuse.Ghosts S → nv.Ghosts N → Nodes
+bench_nodes {D} {C} {H} {V} {XD} {XC} {XH} {XV} {RD} {RC} {RH} {RV} {S} {N} d c h v kinds storage armed inner = record {
+  Devices = D;
+  Centres = C;
+  Hosts = H;
+  Verifiers = V;
+  DeviceChange = XD;
+  CentreChange = XC;
+  HostChange = XH;
+  VerifierChange = XV;
+  DeviceSpare = RD;
+  CentreSpare = RC;
+  HostSpare = RH;
+  VerifierSpare = RV;
+  Storage = S;
+  Inner = N;
+  devices = d;
+  centre = c;
+  host = h;
+  verifier = v;
+  kinds = kinds;
+  storage = storage;
+  fuse = armed;
+  inner = inner;
+}
+
+-- a bench of such nodes
+abbrev pub BenchOf : Nodes → Type 0
+BenchOf n = Bench n.Devices n.Centres n.Hosts n.Verifiers
 
 -- == what holds of a node, whatever its kind ==
 
@@ -139,54 +178,55 @@ OfState S = (k : OneKind S) (m : Node) (d : k.Name) (s : k.Own) → Type 0
 abbrev pub OfChange : Type 0 → Type 1
 OfChange S = (k : OneKind S) (m : Node) (d : k.Name) (s t : k.Own) → Type 0
 
-module _ {D C H V S XD XC XH XV RD RC RH RV : Type 0} (n : Nodes D C H V S XD XC XH XV RD RC RH RV) where
-  abbrev pub devices : OneKind S
-  devices = record { Own = D; Name = ℕ; Change = XD; Spare = RD; Call = DeviceCall; ghosts = n.devices; kind = n.kinds.devices }
+module _ (n : Nodes) where
+  abbrev pub devices : OneKind n.Storage
+  devices = record { Own = n.Devices; Name = ℕ; Change = n.DeviceChange; Spare = n.DeviceSpare; Call = DeviceCall; ghosts = n.devices; kind = n.kinds.devices }
 
-  abbrev pub centre : OneKind S
-  centre = record { Own = C; Name = Unit {0}; Change = XC; Spare = RC; Call = CentreCall; ghosts = n.centre; kind = n.kinds.centre }
+  abbrev pub centre : OneKind n.Storage
+  centre = record { Own = n.Centres; Name = Unit {0}; Change = n.CentreChange; Spare = n.CentreSpare; Call = CentreCall; ghosts = n.centre; kind = n.kinds.centre }
 
-  abbrev pub host : OneKind S
-  host = record { Own = H; Name = Unit {0}; Change = XH; Spare = RH; Call = HostCall; ghosts = n.host; kind = n.kinds.host }
+  abbrev pub host : OneKind n.Storage
+  host = record { Own = n.Hosts; Name = Unit {0}; Change = n.HostChange; Spare = n.HostSpare; Call = HostCall; ghosts = n.host; kind = n.kinds.host }
 
-  abbrev pub verifier : OneKind S
-  verifier = record { Own = V; Name = Unit {0}; Change = XV; Spare = RV; Call = VerifierCall; ghosts = n.verifier; kind = n.kinds.verifier }
+  abbrev pub verifier : OneKind n.Storage
+  verifier = record { Own = n.Verifiers; Name = Unit {0}; Change = n.VerifierChange; Spare = n.VerifierSpare; Call = VerifierCall; ghosts = n.verifier; kind = n.kinds.verifier }
 
   -- P holds of this node
-  abbrev pub By : OfName S → Node → Type 0
+  abbrev pub By : OfName n.Storage → Node → Type 0
   By P (Device d) = P devices (Device d) d
   By P Centre = P centre Centre tt
   By P Host = P host Host tt
   By P Verifier = P verifier Verifier tt
 
   -- as it stands on the bench
-  abbrev pub Of : OfState S → Bench D C H V → Node → Type 0
-  Of P bench (Device d) = (i : ℕ) (s : D) → d ≡ i + 1 → slice_get bench.devices i ≡ Some s → P devices (Device d) d s
+  abbrev pub Of : OfState n.Storage → BenchOf n → Node → Type 0
+  Of P bench (Device d) = (i : ℕ) (s : n.Devices) → d ≡ i + 1 → slice_get bench.devices i ≡ Some s → P devices (Device d) d s
   Of P bench Centre = P centre Centre tt bench.centre
   Of P bench Host = P host Host tt bench.host
   Of P bench Verifier = P verifier Verifier tt bench.verifier
 
   -- as it stood on the one bench, and as it stands on the other
-  abbrev pub At : OfChange S → Bench D C H V → Bench D C H V → Node → Type 0
-  At P old new (Device d) = (i : ℕ) (s t : D) → d ≡ i + 1 → slice_get old.devices i ≡ Some s → slice_get new.devices i ≡ Some t → P devices (Device d) d s t
+  abbrev pub At : OfChange n.Storage → BenchOf n → BenchOf n → Node → Type 0
+  At P old new (Device d) =
+      (i : ℕ) (s t : n.Devices) → d ≡ i + 1 → slice_get old.devices i ≡ Some s → slice_get new.devices i ≡ Some t → P devices (Device d) d s t
   At P old new Centre = P centre Centre tt old.centre new.centre
   At P old new Host = P host Host tt old.host new.host
   At P old new Verifier = P verifier Verifier tt old.verifier new.verifier
 
   -- the bench stands for the ledger: so does each node of it
-  pub record Stands (g : nv.Ghosts S) (bench : Bench D C H V) (L : Ledger) : Type 0 where
+  pub record Stands (bench : BenchOf n) (L : Ledger) : Type 0 where
     pub day : HasDay bench.day bench.messages bench.rates L
-    pub nodes : (m : Node) → Of (λ k i d s. node.Stands k.ghosts g d (view_in i (k.kind.seen d) L) s) bench m
+    pub nodes : (m : Node) → Of (λ k i d s. node.Stands k.ghosts n.storage d (view_in i (k.kind.seen d) L) s) bench m
 
   -- a storage stands for the ledger, whose node is off
-  abbrev pub StoreStandsOff : {N : Type 0} → nv.Ghosts N → Ledger → N → Node → Type 0
-  StoreStandsOff h L store m = (is_on m L ≡ false) × By (λ k i d. StoreStands k.ghosts h d (view_in i (k.kind.seen d) L) store) m
+  abbrev pub StoreStandsOff : Ledger → n.Inner → Node → Type 0
+  StoreStandsOff L store m = (is_on m L ≡ false) × By (λ k i d. StoreStands k.ghosts n.inner d (view_in i (k.kind.seen d) L) store) m
 
   -- the storages stand for the ledger: no node is on, and there is no day
-  pub record StoresStand {N : Type 0} (h : nv.Ghosts N) (stores : Places N) (L : Ledger) : Type 0 where
+  pub record StoresStand (stores : Places n.Inner) (L : Ledger) : Type 0 where
     pub day : HasDay None [] None L
-    pub nodes : (m : Node) (store : N) → store_of stores m ≡ Some store → StoreStandsOff h L store m
+    pub nodes : (m : Node) (store : n.Inner) → store_of stores m ≡ Some store → StoreStandsOff L store m
 
   -- P holds of each history for which the bench stands and at which the event is unforged, by a tariff of texts, where its storages tell
-  abbrev pub ForEach : nv.Ghosts S → Bench D C H V → Event → (Tariff → Ledger → Type 0) → Type 0
-  ForEach g bench e P = (τ : Tariff) (L : Ledger) → IsOfTexts τ → History τ editions L → Unforged e L → Stands g bench L → g.tells → P τ L
+  abbrev pub ForEach : BenchOf n → Event → (Tariff → Ledger → Type 0) → Type 0
+  ForEach bench e P = (τ : Tariff) (L : Ledger) → IsOfTexts τ → History τ editions L → Unforged e L → Stands bench L → n.storage.tells → P τ L

@@ -14,7 +14,7 @@ use Rattle.host_node.specs.declared.node.HostNode.{HostNode}
 use Rattle.host_node.specs.NodeView as host
 use Rattle.verifier_node.specs.declared.node.VerifierNode.{VerifierNode}
 use Rattle.verifier_node.specs.NodeView as verifier
-use Rattle.bench.specs.Benches.{Bench, Nodes}
+use Rattle.bench.specs.Benches.{Bench, Nodes, BenchOf}
 use Rattle.bench.specs.Benches as benches
 
 -- two lists, of which each two elements at one place are related
@@ -90,8 +90,8 @@ module _ {K S N C R : Type 0} (n : Ghosts K S N C R) (g : nv.Ghosts S) where
     pub stops : IsStopped before now
 
 -- a run begins: each node was switched off
-pub record Begun {D C H V S XD XC XH XV RD RC RH RV : Type 0} (n : Nodes D C H V S XD XC XH XV RD RC RH RV) (g : nv.Ghosts S) (old new : Bench D C H V) : Type 0 where
-  pub devices : AreStopped n.devices g old.devices new.devices
-  pub centre : IsStopped n.centre g old.centre new.centre
-  pub host : IsStopped n.host g old.host new.host
-  pub verifier : IsStopped n.verifier g old.verifier new.verifier
+pub record Begun (n : Nodes) (old new : BenchOf n) : Type 0 where
+  pub devices : AreStopped n.devices n.storage old.devices new.devices
+  pub centre : IsStopped n.centre n.storage old.centre new.centre
+  pub host : IsStopped n.host n.storage old.host new.host
+  pub verifier : IsStopped n.verifier n.storage old.verifier new.verifier

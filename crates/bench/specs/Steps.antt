@@ -41,7 +41,7 @@ use Rattle.bench_views.specs.declared.taken.Taken.{Taken}
 use Rattle.bench_views.specs.declared.taken.Taken.TheVariants as take
 use Rattle.bench_views.specs.Tariff.{quote}
 use Rattle.bench_views.specs.Taken.{taken, as_given}
-use Rattle.bench.specs.Benches.{Bench, Places, Nodes, At, Stands, StoresStand, ForEach, store_of}
+use Rattle.bench.specs.Benches.{Bench, BenchOf, Places, Nodes, At, Stands, StoresStand, ForEach, store_of}
 use Rattle.bench.specs.Outside.{Outside, ReadsRates}
 
 -- == of one node, of any kind ==
@@ -125,77 +125,83 @@ after_stop τ H e text = entry.Begin ∷ with_open (plan τ todays_rules H e tex
 
 -- == of the bench ==
 
-module _ {D C H V S XD XC XH XV RD RC RH RV : Type 0} (n : Nodes D C H V S XD XC XH XV RD RC RH RV) (g : nv.Ghosts S) where
+module _ (n : Nodes) where
   -- Storages that a stop leaves: of each, whatever it may hold is an image that its node had at some moment between these benches,
   -- before and after the event.
-  pub record AreLeft {N : Type 0} (h : nv.Ghosts N) (old new : Bench D C H V) (stores : Places N) : Type 0 where
+  pub record AreLeft (old new : BenchOf n) (stores : Places n.Inner) : Type 0 where
     pub eight : length stores.devices ≡ 8
-    pub each : (m : Node) (store : N) → store_of stores m ≡ Some store → At n (λ k i d s t. (h.size store ≡ k.ghosts.bytes) × HoldsImage k.ghosts g h s t store) old new m
+    pub each : (m : Node) (store : n.Inner) → store_of stores m ≡ Some store → At n (λ k i d s t. (n.inner.size store ≡ k.ghosts.bytes) × HoldsImage k.ghosts n.storage n.inner s t store) old new m
 
   -- whatever a stop between these benches leaves stands for this ledger, which is a history
-  abbrev pub LeftFor : {N : Type 0} → nv.Ghosts N → Tariff → Bench D C H V → Bench D C H V → Ledger → Type 0
-  LeftFor {N} h τ old new L = (stores : Places N) → AreLeft h old new stores → History τ editions L × StoresStand n h stores L
+  abbrev pub LeftFor : Tariff → BenchOf n → BenchOf n → Ledger → Type 0
+  LeftFor τ old new L = (stores : Places n.Inner) → AreLeft old new stores → History τ editions L × StoresStand n stores L
 
   -- the reply is what any two views show for which the device and the centre stood
-  abbrev pub ComparesViews : ℕ → Reply → C → D → Type 0
-  ComparesViews d reply centre device = (v : View n.devices.Seen) (w : View n.centre.Seen) → node.Stands n.devices g d v device → node.Stands n.centre g tt w centre → g.tells
+  abbrev pub ComparesViews : ℕ → Reply → n.Centres → n.Devices → Type 0
+  ComparesViews d reply centre device = (v : View n.devices.Seen) (w : View n.centre.Seen) → node.Stands n.devices n.storage d v device → node.Stands n.centre n.storage tt w centre → n.storage.tells
       → reply ≡ n.kinds.compare d v w
 
   -- By a history for which the bench stood, where the event took this text of the rates: the reply is one that the event may get
   -- there, the entries are those of the event and the reply, the bench stands for the history with them, and only a failure leaves a
   -- commit open. At every moment meanwhile the storages show the ledger, or the ledger and the one commit of the event; so where
   -- the process is stopped they stand for it. The printer took the mark that the event prints.
-  pub record StepsOn {N : Type 0} (h : nv.Ghosts N) (τ : Tariff) (L : Ledger) (e : Event) (text : List ℕ) (turn : Turn) (old new : Bench D C H V) (before now : Outside) : Type 0 where
+  pub record StepsOn (τ : Tariff) (L : Ledger) (e : Event) (text : List ℕ) (turn : Turn) (old new : BenchOf n) (before now : Outside) : Type 0 where
     pub moves : Moves τ todays_rules L e text turn.reply
     pub entries : turn.entries ≡ in_order (after (plan τ todays_rules L e text) turn.reply [])
-    pub stands : Stands n g new (ledger.entries τ todays_rules L e text turn.reply)
+    pub stands : Stands n new (ledger.entries τ todays_rules L e text turn.reply)
     pub closed : tells_failure turn.reply ≡ false → StayClosed L (ledger.entries τ todays_rules L e text turn.reply)
-    pub any_moment : (m : Node) → At n (λ k i d. ShowsLedger k.ghosts g (k.kind.seen d) i τ L e text) old new m
-    pub stopped : LeftFor h τ old new (after_stop τ L e text)
+    pub any_moment : (m : Node) → At n (λ k i d. ShowsLedger k.ghosts n.storage (k.kind.seen d) i τ L e text) old new m
+    pub stopped : LeftFor τ old new (after_stop τ L e text)
     pub printed : PrinterDid turn.reply (print_of (plan τ todays_rules L e text).after) before.printer now.printer
 
+  -- to compare device d with the centre finds the centre off exactly where it is and the device is not
+  abbrev pub FindsOff : ℕ → Reply → BenchOf n → Type 0
+  FindsOff d reply old = IsSome old.day → (i : ℕ) (s : n.Devices) → d ≡ i + 1 → slice_get old.devices i ≡ Some s
+      → (reply ≡ r.OffNode Centre) ↔ ((n.devices.is_on s ≡ true) × (n.centre.is_on old.centre ≡ false))
+
   -- what this asks on that day was done: of a node as any view allows for which it stood; and two nodes are compared as any two views show
-  abbrev pub DoesAsked : ℤ → Turn → Bench D C H V → Bench D C H V → Outside → Outside → Taken → Type 0
+  abbrev pub DoesAsked : ℤ → Turn → BenchOf n → BenchOf n → Outside → Outside → Taken → Type 0
   DoesAsked today turn old new before now (take.Day t) = Unit {0}
   DoesAsked today turn old new before now take.End = Unit {0}
   DoesAsked today turn old new before now take.Rates = Unit {0}
   DoesAsked today turn old new before now (take.NoMessage k) = Unit {0}
-  DoesAsked today turn old new before now (take.Reconcile d) = (i : ℕ) (s : D) → d ≡ i + 1 → slice_get old.devices i ≡ Some s → ComparesViews d turn.reply old.centre s
-  DoesAsked today turn old new before now (take.Device d asked) = (i : ℕ) (s t : D) → d ≡ i + 1 → slice_get old.devices i ≡ Some s → slice_get new.devices i ≡ Some t
-      → MovesViews n.devices g n.kinds.devices (Device d) d today asked turn s t
-  DoesAsked today turn old new before now (take.Centre asked) = MovesViews n.centre g n.kinds.centre Centre tt today asked turn old.centre new.centre
+  DoesAsked today turn old new before now (take.Reconcile d) = (i : ℕ) (s : n.Devices) → d ≡ i + 1 → slice_get old.devices i ≡ Some s → ComparesViews d turn.reply old.centre s
+  DoesAsked today turn old new before now (take.Device d asked) = (i : ℕ) (s t : n.Devices) → d ≡ i + 1 → slice_get old.devices i ≡ Some s → slice_get new.devices i ≡ Some t
+      → MovesViews n.devices n.storage n.kinds.devices (Device d) d today asked turn s t
+  DoesAsked today turn old new before now (take.Centre asked) = MovesViews n.centre n.storage n.kinds.centre Centre tt today asked turn old.centre new.centre
   DoesAsked today turn old new before now (take.Host asked) =
-      MovesViews n.host g n.kinds.host Host tt today asked turn old.host new.host × PrintsViews n.host g n.kinds.host Host tt today asked turn old.host before now
-  DoesAsked today turn old new before now (take.Verifier asked) = MovesViews n.verifier g n.kinds.verifier Verifier tt today asked turn old.verifier new.verifier
+      MovesViews n.host n.storage n.kinds.host Host tt today asked turn old.host new.host × PrintsViews n.host n.storage n.kinds.host Host tt today asked turn old.host before now
+  DoesAsked today turn old new before now (take.Verifier asked) = MovesViews n.verifier n.storage n.kinds.verifier Verifier tt today asked turn old.verifier new.verifier
 
   -- By what the storages show, whether or not a history leads to it: the event does what any view allows for which its node stood,
   -- and compares what any two views show; one that commits nothing writes nothing; and damage is told exactly where the storage
   -- that an `on` read is none of the node.
-  pub record StepsByViews (e : Event) (turn : Turn) (old new : Bench D C H V) (before now : Outside) : Type 0 where
+  pub record StepsByViews (e : Event) (turn : Turn) (old new : BenchOf n) (before now : Outside) : Type 0 where
     pub does : (today : ℤ) (x : Taken) → old.day ≡ Some today → taken old.messages (quote old.rates) e ≡ Some x → DoesAsked today turn old new before now x
-    pub unwritten : may_commit e ≡ false → (m : Node) → At n (λ k i d s t. Mounts (times_of k.ghosts g s) (times_of k.ghosts g t)) old new m
+    pub unwritten : may_commit e ≡ false → (m : Node) → At n (λ k i d s t. Mounts (times_of k.ghosts n.storage s) (times_of k.ghosts n.storage t)) old new m
     pub damaged : (m : Node) → e ≡ ev.On m → has_read turn.reply ≡ true → At n (λ k i d s t. (turn.reply ≡ r.Damaged i) ↔ HasDamage k.ghosts d t) old new m
 
   -- Whatever the storages tell: which replies the event may get at all, where to deliver a message is to give it to the node that
-  -- it is for, and to scan one is to scan its bytes; whether it has a day, and the day after it; the turns of `day` and `end`; a message
-  -- that nobody sent; that what is sent, and nothing else, becomes the next message; what is refused; what a reply alone says of the
+  -- it is for, and to scan one is to scan its bytes; whether it has a day, and the day after it; the turns of `day` and `end`; that to
+  -- compare changes and adds nothing, and finds the centre off exactly where it is; a message that nobody sent; that what is sent, and nothing else, becomes the next message; what is refused; what a reply alone says of the
   -- entries; what is left of each node, and that each but its own is as it was; what is read of the rates, and what the printer takes.
-  pub record StepsAlone (f : fuse.Ghosts S) (e : Event) (text : List ℕ) (turn : Turn) (old new : Bench D C H V) (before now : Outside) : Type 0 where
+  pub record StepsAlone (e : Event) (text : List ℕ) (turn : Turn) (old new : BenchOf n) (before now : Outside) : Type 0 where
     pub reply : MayGet (as_given old.messages e) turn.reply
     pub day : needs_day e ≡ true → (turn.reply ≡ r.NoDay) ↔ (old.day ≡ None)
     pub dated : new.day ≡ day_after e old.day
     pub dates : (t : ℤ) → e ≡ ev.Day t → turn ≡ turn_of (r.Day t) (entry.Day t ∷ [])
     pub ends : e ≡ ev.End → turn ≡ turn_of r.End []
+    pub compares : (d : ℕ) → e ≡ ev.Reconcile d → (new ≡ old) × (turn.entries ≡ in_order []) × FindsOff d turn.reply old
     pub message : (k : ℕ) → taken old.messages (quote old.rates) e ≡ Some (take.NoMessage k) → IsSome old.day → turn.reply ≡ r.NoMessage k
     pub sends : new.messages ≡ old.messages ++ notes_in turn.entries
     pub refused : is_refusal turn.reply ≡ true → (new ≡ old) × (turn.entries ≡ in_order [])
     pub adds : Adds (as_given old.messages e) (told_by turn.reply) turn.entries
-    pub nodes : (m : Node) → At n (λ k i d. Leaves k.ghosts g f i (as_given old.messages e) old.day turn.reply) old new m
+    pub nodes : (m : Node) → At n (λ k i d. Leaves k.ghosts n.storage n.fuse i (as_given old.messages e) old.day turn.reply) old new m
     pub rates : ReadsRates e text turn old.day old.rates new.rates before.rates now.rates
     pub printer : (mark : Option (List ℕ)) × PrinterDid turn.reply mark before.printer now.printer
 
   -- what one event does to the bench, in three parts
-  pub record Steps {N : Type 0} (f : fuse.Ghosts S) (h : nv.Ghosts N) (e : Event) (text : List ℕ) (turn : Turn) (old new : Bench D C H V) (before now : Outside) : Type 0 where
-    pub history : ForEach n g old e (λ τ L. StepsOn h τ L e text turn old new before now)
-    pub shown : g.tells → StepsByViews e turn old new before now
-    pub always : StepsAlone f e text turn old new before now
+  pub record Steps (e : Event) (text : List ℕ) (turn : Turn) (old new : BenchOf n) (before now : Outside) : Type 0 where
+    pub history : ForEach n old e (λ τ L. StepsOn τ L e text turn old new before now)
+    pub shown : n.storage.tells → StepsByViews e turn old new before now
+    pub always : StepsAlone e text turn old new before now

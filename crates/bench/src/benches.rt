@@ -49,8 +49,23 @@ pub struct BenchOver<M: Nv, N> {
 /// Eight devices, the centre, the host and the verifier over storages of type N, each with a fuse.
 pub type Bench<N> = BenchOver<Fused<N>, N>;
 
-impl<M: Fuse + Drop, N> BenchOver<M, N> {
-    ghost use Rattle.bench.specs.Benches.{IsReady, Stands, nodes, bench_of};
+/// What its nodes are, as contracts see them.
+pub trait HasNodes {
+    ghost use Rattle.bench.specs.Benches.{Nodes};
+
+    /// The kinds of its nodes, with the storage under them, its fuse, and the storage that it is made of.
+    ghost nodes: { Nodes };
+}
+
+impl<M: Fuse + Drop, N: Nv> HasNodes for BenchOver<M, N> {
+    ghost use Rattle.bench.specs.Benches.{bench_nodes};
+
+    ghost nodes = { bench_nodes ⟦<DeviceNode<M> as Node>⟧ ⟦<CentreNode<M> as Node>⟧ ⟦<HostNode<M> as Node>⟧
+        ⟦<VerifierNode<M> as Node>⟧ bench_kinds M.Nv M.Fuse.own N.Nv };
+}
+
+impl<M: Fuse + Drop, N: Nv> BenchOver<M, N> {
+    ghost use Rattle.bench.specs.Benches.{IsReady, Stands, bench_of};
     ghost use Rattle.bench.specs.Places.{Begun};
 
     /// Begins a run: each node is switched off, and the day, the rates and the messages are forgotten. The fuses stay.
@@ -60,9 +75,9 @@ impl<M: Fuse + Drop, N> BenchOver<M, N> {
         ensures no_day { (bench_of self.new).day ≡ None }
         ensures no_messages { (bench_of self.new).messages ≡ [] }
         ensures no_rates { (bench_of self.new).rates ≡ None }
-        ensures stands { (H : Ledger) → Stands (nodes ⟦<DeviceNode<M> as Node>⟧ ⟦<CentreNode<M> as Node>⟧ ⟦<HostNode<M> as Node>⟧ ⟦<VerifierNode<M> as Node>⟧ bench_kinds) M.Nv (bench_of self.old) H
-            → Stands (nodes ⟦<DeviceNode<M> as Node>⟧ ⟦<CentreNode<M> as Node>⟧ ⟦<HostNode<M> as Node>⟧ ⟦<VerifierNode<M> as Node>⟧ bench_kinds) M.Nv (bench_of self.new) (Begin ∷ H) }
-        ensures begun { Begun (nodes ⟦<DeviceNode<M> as Node>⟧ ⟦<CentreNode<M> as Node>⟧ ⟦<HostNode<M> as Node>⟧ ⟦<VerifierNode<M> as Node>⟧ bench_kinds) M.Nv (bench_of self.old) (bench_of self.new) }
+        ensures stands { (H : Ledger) → Stands ⟦<BenchOver<M, N> as HasNodes>⟧.nodes (bench_of self.old) H
+            → Stands ⟦<BenchOver<M, N> as HasNodes>⟧.nodes (bench_of self.new) (Begin ∷ H) }
+        ensures begun { Begun ⟦<BenchOver<M, N> as HasNodes>⟧.nodes (bench_of self.old) (bench_of self.new) }
     {
         self.day = None;
         self.rates = None;
@@ -81,7 +96,8 @@ impl<M: Nv, N> BenchOver<M, N> {
     /// Sends this message, if there is one: it is the next of the run.
     pub(crate) fn send(&mut self, sent: Option<Note>)
         requires few { length (bench_of self.old).messages < MOST_MESSAGES }
-        ensures { bench_of self.new ≡ record (bench_of self.old) { messages = (bench_of self.old).messages ++ notes_of sent } }
+        ensures { bench_of self.new
+            ≡ record (bench_of self.old) { messages = (bench_of self.old).messages ++ notes_of sent } }
     {
         if let Some(note) = sent {
             match self.messages.push(note) {
@@ -122,7 +138,7 @@ impl Rooms {
 
 impl<N: Nv + Drop> Bench<N> {
     ghost use Rattle.nv_model.specs.Meters.{Works};
-    ghost use Rattle.bench.specs.Benches.{IsReady, Stands, StoresStand, AreBlank, nodes, bench_of, places_of, store_of};
+    ghost use Rattle.bench.specs.Benches.{IsReady, Stands, StoresStand, AreBlank, bench_of, places_of, store_of};
     ghost use Rattle.bench.specs.Places.{AreOver, AreInside};
 
     /// A bench over these storages, which have power and no fuse: all nodes are off, and there is no day, no rates and no message. The
@@ -137,10 +153,11 @@ impl<N: Nv + Drop> Bench<N> {
         ensures no_messages { IfOk result (λ bench. (bench_of bench).messages ≡ []) }
         ensures no_rates { IfOk result (λ bench. (bench_of bench).rates ≡ None) }
         ensures over { IfOk result (λ bench. AreOver (places_of stores) (bench_of bench)) }
-        ensures stands { IfOk result (λ bench. (H : Ledger) → StoresStand (nodes ⟦<DeviceNode<Fused<N>> as Node>⟧ ⟦<CentreNode<Fused<N>> as Node>⟧ ⟦<HostNode<Fused<N>> as Node>⟧ ⟦<VerifierNode<Fused<N>> as Node>⟧ bench_kinds) N.Nv (places_of stores) H
-            → Stands (nodes ⟦<DeviceNode<Fused<N>> as Node>⟧ ⟦<CentreNode<Fused<N>> as Node>⟧ ⟦<HostNode<Fused<N>> as Node>⟧ ⟦<VerifierNode<Fused<N>> as Node>⟧ bench_kinds) ⟦<Fused<N> as Nv>⟧ (bench_of bench) H) }
+        ensures stands { IfOk result (λ bench. (H : Ledger)
+            → StoresStand ⟦<Bench<N> as HasNodes>⟧.nodes (places_of stores) H
+            → Stands ⟦<Bench<N> as HasNodes>⟧.nodes (bench_of bench) H) }
         ensures blank { IfOk result (λ bench. AreBlank N.Nv (places_of stores)
-            → Stands (nodes ⟦<DeviceNode<Fused<N>> as Node>⟧ ⟦<CentreNode<Fused<N>> as Node>⟧ ⟦<HostNode<Fused<N>> as Node>⟧ ⟦<VerifierNode<Fused<N>> as Node>⟧ bench_kinds) ⟦<Fused<N> as Nv>⟧ (bench_of bench) []) }
+            → Stands ⟦<Bench<N> as HasNodes>⟧.nodes (bench_of bench) []) }
         ensures back { IfErr result (λ left. left ≡ stores) }
     {
         let rooms = match Rooms::new(alloc) {
@@ -188,8 +205,8 @@ impl<N: Nv + Drop> Bench<N> {
     pub fn into_stores(self) -> Stores<N>
         requires ready { IsReady (bench_of self) }
         ensures inside { AreInside (bench_of self) (places_of result) }
-        ensures stands { (H : Ledger) → Stands (nodes ⟦<DeviceNode<Fused<N>> as Node>⟧ ⟦<CentreNode<Fused<N>> as Node>⟧ ⟦<HostNode<Fused<N>> as Node>⟧ ⟦<VerifierNode<Fused<N>> as Node>⟧ bench_kinds) ⟦<Fused<N> as Nv>⟧ (bench_of self) H
-            → StoresStand (nodes ⟦<DeviceNode<Fused<N>> as Node>⟧ ⟦<CentreNode<Fused<N>> as Node>⟧ ⟦<HostNode<Fused<N>> as Node>⟧ ⟦<VerifierNode<Fused<N>> as Node>⟧ bench_kinds) N.Nv (places_of result) (Begin ∷ H) }
+        ensures stands { (H : Ledger) → Stands ⟦<Bench<N> as HasNodes>⟧.nodes (bench_of self) H
+            → StoresStand ⟦<Bench<N> as HasNodes>⟧.nodes (places_of result) (Begin ∷ H) }
     {
         let BenchOver {
             devices,

@@ -27,7 +27,8 @@ fn centre_called<T: Tell, M: Fuse + Drop>(
     requires ranged { IsRangedCall asked.now }
     ensures bytes { IsBytesCall asked.now }
     ensures did { (turn : Turn) × T.IsOf result turn
-        × NodeTurn ⟦<CentreNode<M> as Node>⟧ M.Nv M.Fuse.own centre_kind node.Centre tt day (centre_event (Asked.Call asked.now)) (Asked.Call asked.now) place.old place.new turn }
+        × NodeTurn ⟦<CentreNode<M> as Node>⟧ M.Nv M.Fuse.own centre_kind node.Centre tt day
+        (centre_event (Asked.Call asked.now)) (Asked.Call asked.now) place.old place.new turn }
 {
     hands_bytes(asked);
     let callee = CentreCallee;
@@ -98,7 +99,8 @@ pub fn centre_turn<T: Tell, M: Fuse + Drop>(
     requires ranged { IsRanged asked.now }
     ensures bytes { AreBytes asked.now }
     ensures did { (turn : Turn) × T.IsOf result turn
-        × NodeTurn ⟦<CentreNode<M> as Node>⟧ M.Nv M.Fuse.own centre_kind node.Centre tt day (centre_event asked.now) asked.now place.old place.new turn }
+        × NodeTurn ⟦<CentreNode<M> as Node>⟧ M.Nv M.Fuse.own centre_kind node.Centre tt day
+        (centre_event asked.now) asked.now place.old place.new turn }
 {
     match asked {
         Asked::On => start(place, (), &NodeNo::Centre),

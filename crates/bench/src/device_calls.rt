@@ -87,7 +87,8 @@ impl<M: Fuse + Drop> Call<DeviceNode<M>, DevRefusal> for DebitCall {
 
     ghost IsAsked = { λ c. Unit {0} };
 
-    ghost does = { λ c k. acts.debit_act todays_rules c.device (debit_by c.device c.piece c.postage c.class) c.day (seen_in k).state };
+    ghost does = { λ c k. acts.debit_act todays_rules c.device (debit_by c.device c.piece c.postage c.class) c.day
+        (seen_in k).state };
 
     ghost says = { λ c f. views.marked c.device c.piece f };
 

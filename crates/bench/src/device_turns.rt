@@ -28,7 +28,8 @@ fn device_called<T: Tell, M: Fuse + Drop>(
     asked: &DeviceCall,
 ) -> T
     ensures did { (turn : Turn) × T.IsOf result turn
-        × NodeTurn ⟦<DeviceNode<M> as Node>⟧ M.Nv M.Fuse.own device_kind (node.Device device) device day (device_event device (Asked.Call asked.now)) (Asked.Call asked.now) place.old place.new turn }
+        × NodeTurn ⟦<DeviceNode<M> as Node>⟧ M.Nv M.Fuse.own device_kind (node.Device device) device day
+        (device_event device (Asked.Call asked.now)) (Asked.Call asked.now) place.old place.new turn }
 {
     let callee = DeviceCallee(device);
     match asked {
@@ -101,7 +102,8 @@ fn device_did<T: Tell, M: Fuse + Drop>(
     asked: &Asked<DeviceCall>,
 ) -> T
     ensures did { (turn : Turn) × T.IsOf result turn
-        × NodeTurn ⟦<DeviceNode<M> as Node>⟧ M.Nv M.Fuse.own device_kind (node.Device device) device day (device_event device asked.now) asked.now place.old place.new turn }
+        × NodeTurn ⟦<DeviceNode<M> as Node>⟧ M.Nv M.Fuse.own device_kind (node.Device device) device day
+        (device_event device asked.now) asked.now place.old place.new turn }
 {
     match asked {
         Asked::On => start(place, device, &NodeNo::Device(device)),
@@ -123,7 +125,8 @@ pub fn device_turn<T: Tell, M: Fuse + Drop>(
 ) -> T
     requires eight { length devices.old.items ≡ 8 }
     ensures did { (turn : Turn) × T.IsOf result turn
-        × DeviceTurn ⟦<DeviceNode<M> as Node>⟧ M.Nv M.Fuse.own device_kind device day asked.now devices.old.items devices.new.items turn }
+        × DeviceTurn ⟦<DeviceNode<M> as Node>⟧ M.Nv M.Fuse.own device_kind device day asked.now
+        devices.old.items devices.new.items turn }
 {
     let place = device.get() as usize - 1;
     device_did(&mut devices[place], device, day, asked)

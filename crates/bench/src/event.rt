@@ -1,18 +1,17 @@
 //! One event.
-ghost use Rattle.std.specs.Prelude.{◌≡◌, ◌≢◌, ◌<◌, ℕ, List, [], ◌∷◌, length, IfOk, OnErr};
+ghost use Rattle.std.specs.Prelude.{◌≡◌, ◌≢◌, ◌↔◌, IsTrue, ◌<◌, ℕ, List, [], ◌∷◌, length, IfOk, OnErr};
 ghost use Rattle.bench_base.specs.declared.events.Event.TheVariants as ev;
 ghost use Rattle.bench_base.specs.Ranges.{IsWholeEvent};
 ghost use Rattle.node_turns.specs.declared.turn.Turn.{Turn};
 ghost use Rattle.node_turns.specs.Printing.{Printer, printer_of};
 ghost use Rattle.node_turns.specs.Turns as turns;
-ghost use Rattle.bench_views.specs.Kinds.{bench_kinds};
 ghost use Rattle.bench.specs.declared.benches.TheConstants.{MOST_MESSAGES};
-ghost use Rattle.bench.specs.Benches.{IsReady, nodes, bench_of, fuse_in};
+ghost use Rattle.bench.specs.Benches.{IsReady, bench_of};
 ghost use Rattle.bench.specs.Calls.{dated};
 ghost use Rattle.bench.specs.Outside.{Feed, WantsMemory, beside, feed_of, outside};
 ghost use Rattle.bench.specs.Steps.{Steps, sending};
 
-use crate::benches::{Bench, BenchOver};
+use crate::benches::{Bench, BenchOver, HasNodes};
 use crate::centre_turns::centre_turn;
 use crate::comparing::compare;
 use crate::device_turns::device_turn;
@@ -25,15 +24,10 @@ use bench_base::numbers::DayNo;
 use bench_base::stream::{Sink, Source};
 use bench_views::laws::{host_follows, nodes_follow, verifier_follows};
 use bench_views::{Taken, take};
-use centre_protocol::CentreNode;
-use host_node::HostNode;
 use host_rates::theorems::prices_by_text;
-use node_seat::Node;
 use node_turns::{Sending, Tell, Turn};
-use nv_model::{Fuse, Fused, Nv};
-use psd_device::DeviceNode;
+use nv_model::{Fuse, Nv};
 use std::alloc::{AllocError, Global};
-use verifier_node::VerifierNode;
 
 // The reply to an event that needs a day.
 fn on_day(day: Option<DayNo>, reply: Reply) -> Reply
@@ -59,6 +53,41 @@ fn begun<T: Tell>(day: DayNo) -> T
     T::one(Reply::Day(day), Entry::Day(day))
 }
 
+// Whether it is a `rates`.
+fn is_rates(event: &Event) -> bool
+    ensures { IsTrue result ↔ (event.now ≡ ev.Rates) }
+{
+    match event {
+        Event::Rates => true,
+        Event::Day(_)
+        | Event::Make(_, _)
+        | Event::On(_)
+        | Event::Off(_)
+        | Event::Cut(_, _, _, _)
+        | Event::Debit(_, _, _, _)
+        | Event::Ask(_, _, _, _)
+        | Event::Resend(_)
+        | Event::Ack(_)
+        | Event::Status(_)
+        | Event::Register(_, _, _)
+        | Event::OpenCustomer(_)
+        | Event::Deposit(_, _, _)
+        | Event::Flag(_, _)
+        | Event::Balance(_)
+        | Event::Deliver(_)
+        | Event::Give(_, _)
+        | Event::Order(_, _, _, _, _)
+        | Event::Send(_)
+        | Event::Print(_)
+        | Event::Close(_)
+        | Event::Trust(_, _)
+        | Event::ScanMsg(_, _)
+        | Event::ScanHex(_, _)
+        | Event::Reconcile(_)
+        | Event::End => false,
+    }
+}
+
 // What a `rates` does. It alone may want memory, and it sends nothing.
 fn rates_turn<T: Tell, M: Fuse + Drop, N: Nv, R: Source>(
     alloc: Global,
@@ -68,9 +97,12 @@ fn rates_turn<T: Tell, M: Fuse + Drop, N: Nv, R: Source>(
     requires ready { IsReady (bench_of bench.old) }
     ensures ready { IsReady (bench_of bench.new) }
     ensures did { IfOk result (λ told. (text : List ℕ) × (turn : Turn) × T.IsOf told turn
-        × ((printer : Printer) → Steps (nodes ⟦<DeviceNode<M> as Node>⟧ ⟦<CentreNode<M> as Node>⟧ ⟦<HostNode<M> as Node>⟧ ⟦<VerifierNode<M> as Node>⟧ bench_kinds) M.Nv M.Fuse.own N.Nv ev.Rates text turn (bench_of bench.old) (bench_of bench.new) (beside (feed_of R.Source rates.old) printer) (beside (feed_of R.Source rates.new) printer))) }
+        × ((printer : Printer) → Steps ⟦<BenchOver<M, N> as HasNodes>⟧.nodes ev.Rates text turn
+        (bench_of bench.old) (bench_of bench.new)
+        (beside (feed_of R.Source rates.old) printer) (beside (feed_of R.Source rates.new) printer))) }
     ensures memory { OnErr result ((bench_of bench.new ≡ bench_of bench.old)
-        × ((printer : Printer) → WantsMemory ev.Rates (bench_of bench.old).day (beside (feed_of R.Source rates.old) printer) (beside (feed_of R.Source rates.new) printer))) }
+        × ((printer : Printer) → WantsMemory ev.Rates (bench_of bench.old).day
+        (beside (feed_of R.Source rates.old) printer) (beside (feed_of R.Source rates.new) printer))) }
 {
     match bench.day {
         None => Ok(no_day()),
@@ -92,7 +124,9 @@ fn turn_of<T: Tell, M: Fuse + Drop, N: Nv, P: Sink>(
     requires few { length (bench_of bench.old).messages < MOST_MESSAGES }
     ensures ready { IsReady (bench_of bench.new) }
     ensures did { (turn : Turn) × T.IsOf result turn × ((bench_of bench.new).messages ≡ (bench_of bench.old).messages)
-        × ((feed : Feed) → Steps (nodes ⟦<DeviceNode<M> as Node>⟧ ⟦<CentreNode<M> as Node>⟧ ⟦<HostNode<M> as Node>⟧ ⟦<VerifierNode<M> as Node>⟧ bench_kinds) M.Nv M.Fuse.own N.Nv event.now [] turn (bench_of bench.old) (sending turn (bench_of bench.new)) (beside feed (printer_of P.Sink printer.old)) (beside feed (printer_of P.Sink printer.new))) }
+        × ((feed : Feed) → Steps ⟦<BenchOver<M, N> as HasNodes>⟧.nodes event.now [] turn
+        (bench_of bench.old) (sending turn (bench_of bench.new))
+        (beside feed (printer_of P.Sink printer.old)) (beside feed (printer_of P.Sink printer.new))) }
 {
     // What the bench sees of its nodes follows from the ledger.
     nodes_follow();
@@ -148,10 +182,13 @@ pub fn react<T: Tell, M: Fuse + Drop, N: Nv, R: Source, P: Sink>(
     requires few { length (bench_of bench.old).messages < MOST_MESSAGES }
     ensures ready { IsReady (bench_of bench.new) }
     ensures did { IfOk result (λ told. (text : List ℕ) × (turn : Turn) × T.IsOf told turn
-        × Steps (nodes ⟦<DeviceNode<M> as Node>⟧ ⟦<CentreNode<M> as Node>⟧ ⟦<HostNode<M> as Node>⟧ ⟦<VerifierNode<M> as Node>⟧ bench_kinds) M.Nv M.Fuse.own N.Nv event.now text turn (bench_of bench.old) (bench_of bench.new) (outside R.Source rates.old P.Sink printer.old) (outside R.Source rates.new P.Sink printer.new)) }
-    ensures memory { OnErr result ((bench_of bench.new ≡ bench_of bench.old) × WantsMemory event.now (bench_of bench.old).day (outside R.Source rates.old P.Sink printer.old) (outside R.Source rates.new P.Sink printer.new)) }
+        × Steps ⟦<BenchOver<M, N> as HasNodes>⟧.nodes event.now text turn (bench_of bench.old) (bench_of bench.new)
+        (outside R.Source rates.old P.Sink printer.old) (outside R.Source rates.new P.Sink printer.new)) }
+    ensures memory { OnErr result ((bench_of bench.new ≡ bench_of bench.old)
+        × WantsMemory event.now (bench_of bench.old).day
+        (outside R.Source rates.old P.Sink printer.old) (outside R.Source rates.new P.Sink printer.new)) }
 {
-    if let Event::Rates = event {
+    if is_rates(event) {
         return rates_turn(alloc, bench, rates);
     }
     let Sending { told, sent } = turn_of(bench, event, printer);
@@ -182,8 +219,11 @@ pub fn step<R: Source, P: Sink, N: Nv + Drop>(
     requires few { length (bench_of bench.old).messages < MOST_MESSAGES }
     ensures ready { IsReady (bench_of bench.new) }
     ensures did { IfOk result (λ turn. (text : List ℕ)
-        × Steps (nodes ⟦<DeviceNode<Fused<N>> as Node>⟧ ⟦<CentreNode<Fused<N>> as Node>⟧ ⟦<HostNode<Fused<N>> as Node>⟧ ⟦<VerifierNode<Fused<N>> as Node>⟧ bench_kinds) ⟦<Fused<N> as Nv>⟧ fuse_in N.Nv event.now text turn (bench_of bench.old) (bench_of bench.new) (outside R.Source rates.old P.Sink printer.old) (outside R.Source rates.new P.Sink printer.new)) }
-    ensures memory { OnErr result ((bench_of bench.new ≡ bench_of bench.old) × WantsMemory event.now (bench_of bench.old).day (outside R.Source rates.old P.Sink printer.old) (outside R.Source rates.new P.Sink printer.new)) }
+        × Steps ⟦<Bench<N> as HasNodes>⟧.nodes event.now text turn (bench_of bench.old) (bench_of bench.new)
+        (outside R.Source rates.old P.Sink printer.old) (outside R.Source rates.new P.Sink printer.new)) }
+    ensures memory { OnErr result ((bench_of bench.new ≡ bench_of bench.old)
+        × WantsMemory event.now (bench_of bench.old).day
+        (outside R.Source rates.old P.Sink printer.old) (outside R.Source rates.new P.Sink printer.new)) }
 {
     react(alloc, bench, event, rates, printer)
 }

@@ -27,8 +27,11 @@ fn host_called<T: Tell, M: Fuse + Drop, P: Sink>(
 ) -> T
     requires ranged { IsRangedJob asked.now }
     ensures did { (turn : Turn) × T.IsOf result turn
-        × NodeTurn ⟦<HostNode<M> as Node>⟧ M.Nv M.Fuse.own host_kind node.Host tt day (host_event (Asked.Call asked.now)) (Asked.Call asked.now) place.old place.new turn
-        × NodePrints ⟦<HostNode<M> as Node>⟧ M.Nv host_kind node.Host tt day (Asked.Call asked.now) place.old turn.reply (printer_of P.Sink printer.old) (printer_of P.Sink printer.new) }
+        × NodeTurn ⟦<HostNode<M> as Node>⟧ M.Nv M.Fuse.own host_kind node.Host tt day
+        (host_event (Asked.Call asked.now)) (Asked.Call asked.now) place.old place.new turn
+        × NodePrints ⟦<HostNode<M> as Node>⟧ M.Nv host_kind node.Host tt day
+        (Asked.Call asked.now) place.old turn.reply
+        (printer_of P.Sink printer.old) (printer_of P.Sink printer.new) }
 {
     let callee = HostCallee;
     match asked {
@@ -76,8 +79,10 @@ pub fn host_turn<T: Tell, M: Fuse + Drop, P: Sink>(
 ) -> T
     requires ranged { IsRangedOfHost asked.now }
     ensures did { (turn : Turn) × T.IsOf result turn
-        × NodeTurn ⟦<HostNode<M> as Node>⟧ M.Nv M.Fuse.own host_kind node.Host tt day (host_event asked.now) asked.now place.old place.new turn
-        × NodePrints ⟦<HostNode<M> as Node>⟧ M.Nv host_kind node.Host tt day asked.now place.old turn.reply (printer_of P.Sink printer.old) (printer_of P.Sink printer.new) }
+        × NodeTurn ⟦<HostNode<M> as Node>⟧ M.Nv M.Fuse.own host_kind node.Host tt day
+        (host_event asked.now) asked.now place.old place.new turn
+        × NodePrints ⟦<HostNode<M> as Node>⟧ M.Nv host_kind node.Host tt day asked.now place.old turn.reply
+        (printer_of P.Sink printer.old) (printer_of P.Sink printer.new) }
 {
     match asked {
         Asked::On => start(place, (), &NodeNo::Host),

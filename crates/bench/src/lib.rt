@@ -16,7 +16,7 @@ mod stores;
 mod verifier_calls;
 mod verifier_turns;
 
-pub use benches::{Bench, BenchOver, MOST_MESSAGES};
+pub use benches::{Bench, BenchOver, HasNodes, MOST_MESSAGES};
 pub use event::{react, step};
 pub use node_turns::{Tell, Turn};
 pub use stores::Stores;

@@ -23,7 +23,8 @@ fn told<T: Tell>(
     read: Result<Rates, RatesFail>,
 ) -> Result<T, AllocError>
     requires exact { UnlessMemory read (answer text.items) }
-    ensures ok { IfOk result (λ told. T.IsOf told (rates_turn text.items (answer text.items)) × (kept.new ≡ rates_after kept.old (answer text.items))) }
+    ensures ok { IfOk result (λ told. T.IsOf told (rates_turn text.items (answer text.items))
+        × (kept.new ≡ rates_after kept.old (answer text.items))) }
     ensures memory { OnErr result (kept.new ≡ kept.old) }
 {
     match read {
@@ -46,8 +47,10 @@ pub fn read_turn<T: Tell, R: Source>(
     kept: &mut Option<Rates>,
     source: &mut R,
 ) -> Result<T, AllocError>
-    ensures ok { IfOk result (λ told. (text : List ℕ) × (turn : Turn) × T.IsOf told turn × ReadsText text turn kept.old kept.new (feed_of R.Source source.old) (feed_of R.Source source.new)) }
-    ensures memory { OnErr result ((kept.new ≡ kept.old) × (text : List ℕ) × Consumes (R.left source.old) (R.left source.new) text × (length text ≤ 65537)) }
+    ensures ok { IfOk result (λ told. (text : List ℕ) × (turn : Turn) × T.IsOf told turn
+        × ReadsText text turn kept.old kept.new (feed_of R.Source source.old) (feed_of R.Source source.new)) }
+    ensures memory { OnErr result ((kept.new ≡ kept.old) × (text : List ℕ)
+        × Consumes (R.left source.old) (R.left source.new) text × (length text ≤ 65537)) }
     ensures later { R.faults source.old ≤ R.faults source.new }
 {
     let text = match take_text(alloc, source, MOST_BYTES) {

@@ -25,7 +25,8 @@ fn verifier_called<T: Tell, M: Fuse + Drop>(
     requires ranged { IsRangedScan asked.now }
     ensures bytes { IsBytesCall asked.now }
     ensures did { (turn : Turn) × T.IsOf result turn
-        × NodeTurn ⟦<VerifierNode<M> as Node>⟧ M.Nv M.Fuse.own verifier_kind node.Verifier tt day (verifier_event (Asked.Call asked.now)) (Asked.Call asked.now) place.old place.new turn }
+        × NodeTurn ⟦<VerifierNode<M> as Node>⟧ M.Nv M.Fuse.own verifier_kind node.Verifier tt day
+        (verifier_event (Asked.Call asked.now)) (Asked.Call asked.now) place.old place.new turn }
 {
     scans_bytes(asked);
     let callee = VerifierCallee;
@@ -58,7 +59,8 @@ pub fn verifier_turn<T: Tell, M: Fuse + Drop>(
     requires ranged { IsRangedOfVerifier asked.now }
     ensures bytes { AreBytes asked.now }
     ensures did { (turn : Turn) × T.IsOf result turn
-        × NodeTurn ⟦<VerifierNode<M> as Node>⟧ M.Nv M.Fuse.own verifier_kind node.Verifier tt day (verifier_event asked.now) asked.now place.old place.new turn }
+        × NodeTurn ⟦<VerifierNode<M> as Node>⟧ M.Nv M.Fuse.own verifier_kind node.Verifier tt day
+        (verifier_event asked.now) asked.now place.old place.new turn }
 {
     match asked {
         Asked::On => start(place, (), &NodeNo::Verifier),

@@ -14,41 +14,28 @@ use Rattle.node_turns.specs.declared.turn.Turn.{Turn}
 use Rattle.node_turns.specs.Printing.{printer_of}
 use Rattle.node_turns.specs.Turns.{turn_of}
 use Rattle.psd_state.specs.State.{State, Holds}
-use Rattle.psd_state.specs.declared.record.DevRec.{DevRec}
 use Rattle.psd_device.specs.Boots.{IsOwn}
 use Rattle.psd_device.specs.declared.node.DeviceNode.{DeviceNode}
-use Rattle.psd_device.specs.contracts.kind.DeviceNodeNode.TheImpl as device
 use Rattle.psd_device.specs.NodeView as device_view
-use Rattle.centre_ledger.specs.declared.rows.Row.{Row}
-use Rattle.centre_protocol.specs.declared.node.CentreNode.{CentreNode}
-use Rattle.centre_protocol.specs.declared.room.CentreRoom.{CentreRoom}
-use Rattle.centre_protocol.specs.contracts.kind.CentreNodeNode.TheImpl as centre
-use Rattle.host_jobs.specs.declared.rows.JobRow.{JobRow}
-use Rattle.host_node.specs.declared.node.HostNode.{HostNode}
-use Rattle.host_node.specs.declared.room.HostRoom.{HostRoom}
-use Rattle.host_node.specs.contracts.kind.HostNodeNode.TheImpl as host
-use Rattle.verifier.specs.declared.acts.Change.{Change}
-use Rattle.verifier_node.specs.declared.node.VerifierNode.{VerifierNode}
-use Rattle.verifier_node.specs.declared.room.VerifierRoom.{VerifierRoom}
-use Rattle.verifier_node.specs.contracts.kind.VerifierNodeNode.TheImpl as verifier
+use Rattle.centre_protocol.specs.NodeView as centre_view
 use Rattle.bench_views.specs.declared.taken.Taken.{Taken}
 use Rattle.bench_views.specs.declared.taken.Taken.TheVariants as take
 use Rattle.bench_views.specs.Devices as device_kinds
 use Rattle.bench_views.specs.Centre as centres
 use Rattle.bench_views.specs.Host as hosts
 use Rattle.bench_views.specs.Verifier as verifiers
-use Rattle.bench_views.specs.Kinds.{bench_kinds}
 use Rattle.bench_views.specs.Comparing.{compare}
 use Rattle.bench_views.specs.Tariff.{Quote, quote}
 use Rattle.bench_views.specs.Taken.{taken, as_given, IsPriced}
-use Rattle.bench.specs.Benches.{Bench, Nodes, IsReady, nodes, bench_of, devices, centre as centre_of, host as host_of, verifier as verifier_of}
+use Rattle.bench.specs.contracts.benches.BenchOverHasNodes.TheImpl.{ghosts}
+use Rattle.bench.specs.Benches.{Nodes, BenchOf, IsReady, bench_of, devices, centre as centre_of, host as host_of, verifier as verifier_of}
 use Rattle.bench.specs.Calls.{dated, device_event, centre_event, host_event, verifier_event}
 use Rattle.bench.specs.Comparing.{ShowsAt, running_device, running_centre}
 use Rattle.bench.specs.Outside.{Outside, beside}
 use Rattle.bench.specs.Steps.{Steps, ComparesViews, sending}
 use Rattle.bench.proofs.Answered.{Answers, quiet_is, steps_day, steps_end, steps_none, steps_missing, steps_compared}
 use Rattle.bench.proofs.AskedNodes.{device_asked, centre_asked, host_asked, verifier_asked}
-use Rattle.bench.proofs.Compares.{compare_answers, compare_off, compare_leaves, compare_same}
+use Rattle.bench.proofs.Compares.{compare_answers, compare_off, compare_off_centre, compare_leaves, compare_same}
 use Rattle.bench.proofs.Events.{IsOfNode, given_alike, of_device, of_centre, of_host, of_verifier, device_given, centre_given, host_given, verifier_given, centre_ranged, host_ranged, verifier_ranged}
 use Rattle.bench.proofs.Making.{get_some}
 use Rattle.bench.proofs.NodeEvents.{steps}
@@ -56,17 +43,15 @@ use Rattle.bench.proofs.Quiet.{as_sent}
 use Rattle.bench.proofs.event.turn_of.Given.{Over}
 use Rattle.bench.proofs.event.turn_of.Goals as goal
 
-abbrev nodes_in : (g : Over) → Nodes (DeviceNode g.row.M.Denot g.M.Nv) (CentreNode g.row.M.Denot g.M.Nv) (HostNode g.row.M.Denot g.M.Nv) (VerifierNode g.row.M.Denot g.M.Nv) g.row.M.Denot DevRec Row JobRow Change (Unit {0}) CentreRoom
-    HostRoom VerifierRoom
-nodes_in g = nodes (device.ghosts g.row.M g.M.Fuse g.M.Fuse-dict g.M.Nv g.M.Nv-dict g.M.Destruct-dict) (centre.ghosts g.row.M g.M.Fuse g.M.Fuse-dict g.M.Nv g.M.Nv-dict g.M.Destruct-dict)
-    (host.ghosts g.row.M g.M.Fuse g.M.Fuse-dict g.M.Nv g.M.Nv-dict g.M.Destruct-dict) (verifier.ghosts g.row.M g.M.Fuse g.M.Fuse-dict g.M.Nv g.M.Nv-dict g.M.Destruct-dict) bench_kinds
+abbrev nodes_in : Over → Nodes
+nodes_in g = (ghosts g.row.M g.row.N g.M.Fuse g.M.Fuse-dict g.M.Nv g.M.Nv-dict g.N.Nv g.N.Nv-dict g.M.Destruct-dict).nodes
 
 module _ (g : Over) where
   abbrev B : Type 0
-  B = Bench (DeviceNode g.row.M.Denot g.M.Nv) (CentreNode g.row.M.Denot g.M.Nv) (HostNode g.row.M.Denot g.M.Nv) (VerifierNode g.row.M.Denot g.M.Nv)
+  B = BenchOf (nodes_in g)
 
   abbrev Stepped : Event → Turn → B → B → Outside → Type 0
-  Stepped e turn old new out = Steps (nodes_in g) g.M.Nv g.M.Fuse g.N.Nv e [] turn old new out out
+  Stepped e turn old new out = Steps (nodes_in g) e [] turn old new out out
 
   -- what the laws ask of a record
   known_device : (k : ℕ) (s : (nodes_in g).devices.Seen) → (nodes_in g).devices.IsSound k s → device_kinds.IsKnown s
@@ -100,9 +85,9 @@ returns-in-Day-clause-did g c =
       c.begun.ensures,
       refl,
       λ feed. let out = beside feed (printer_of g.P.Sink c.args.printer.now) in
-          as_sent (nodes_in g) g.M.Nv g.M.Fuse g.N.Nv c.args.event.now [] turn old (record old { day = Some t }) out out refl
+          as_sent (nodes_in g) c.args.event.now [] turn old (record old { day = Some t }) out out refl
           (subst (λ (e : Event). Stepped g e turn old (record old { day = Some t }) out) (sym e_is)
-          (steps_day (nodes_in g) g.M.Nv g.M.Fuse g.N.Nv old c.requires.ready out t (subst IsWholeEvent e_is c.requires.whole))),
+          (steps_day (nodes_in g) old c.requires.ready out t (subst IsWholeEvent e_is c.requires.whole))),
     )
 
 pub returns-in-End-clause-did : goal.returns-in-End-clause-did
@@ -114,8 +99,8 @@ returns-in-End-clause-did g c =
       c.silent.ensures,
       refl,
       λ feed. let out = beside feed (printer_of g.P.Sink c.args.printer.now) in
-          as_sent (nodes_in g) g.M.Nv g.M.Fuse g.N.Nv c.args.event.now [] (turn_of r.End []) old old out out refl
-          (subst (λ (e : Event). Stepped g e (turn_of r.End []) old old out) (sym e_is) (steps_end (nodes_in g) g.M.Nv g.M.Fuse g.N.Nv old c.requires.ready out (subst IsWholeEvent e_is c.requires.whole))),
+          as_sent (nodes_in g) c.args.event.now [] (turn_of r.End []) old old out out refl
+          (subst (λ (e : Event). Stepped g e (turn_of r.End []) old old out) (sym e_is) (steps_end (nodes_in g) old c.requires.ready out (subst IsWholeEvent e_is c.requires.whole))),
     )
 
 -- == what the bench answers by what it sees ==
@@ -124,7 +109,7 @@ returns-in-End-clause-did g c =
 dated_as : (g : Over) (e : Event) (told reply : Reply) (old : B g) (out : Outside) → told ≡ dated old.day reply → Stepped g e (turn_of (dated old.day reply) []) old old out
     → Stepped g e (turn_of told []) old (sending (turn_of told []) old) out
 dated_as g e told reply old out is steps =
-    as_sent (nodes_in g) g.M.Nv g.M.Fuse g.N.Nv e [] (turn_of told []) old old out out refl (subst (λ (x : Reply). Stepped g e (turn_of x []) old old out) (sym is) steps)
+    as_sent (nodes_in g) e [] (turn_of told []) old old out out refl (subst (λ (x : Reply). Stepped g e (turn_of x []) old old out) (sym is) steps)
 
 pub returns-in-NoMessage-clause-did : goal.returns-in-NoMessage-clause-did
 returns-in-NoMessage-clause-did g c =
@@ -136,12 +121,12 @@ returns-in-NoMessage-clause-did g c =
       refl,
       λ feed. let out = beside feed (printer_of g.P.Sink c.args.printer.now) in
           dated_as g c.args.event.now c.on_day.result (r.NoMessage k) old out c.on_day.ensures
-          (steps_missing (nodes_in g) g.M.Nv g.M.Fuse g.N.Nv old c.requires.ready out centres.IsKnown (known_centre g) c.nodes_follow.ensures.quiet c.prices_by_text.ensures.kept c.args.event.now c.requires.whole k is),
+          (steps_missing (nodes_in g) old c.requires.ready out centres.IsKnown (known_centre g) c.nodes_follow.ensures.quiet c.prices_by_text.ensures.kept c.args.event.now c.requires.whole k is),
     )
 
 -- what a device and the centre show, as they run, is what any two views show for which they stand
 compares : (g : Over) (d : ℕ) (reply : Reply) (old : B g) → ShowsAt d old.devices old.centre reply → (i : ℕ) (s : DeviceNode g.row.M.Denot g.M.Nv) → d ≡ i + 1 → slice_get old.devices i ≡ Some s
-    → ComparesViews (nodes_in g) g.M.Nv d reply old.centre s
+    → ComparesViews (nodes_in g) d reply old.centre s
 compares g d reply old shows i s next is v w device centre tells =
     shows i s next is ∙ compare_same d (running_device s) v (running_centre old.centre) w device.on centre.on (λ on. (device.runs on).seen tells) (λ on. (centre.runs on).seen tells)
 
@@ -161,11 +146,12 @@ returns-in-Reconcile-clause-did g c =
       refl,
       λ feed. let out = beside feed (printer_of g.P.Sink c.args.printer.now) in
           dated_as g c.args.event.now c.on_day-in-Reconcile.result c.compare.result old out c.on_day-in-Reconcile.ensures
-          (steps_compared (nodes_in g) g.M.Nv g.M.Fuse g.N.Nv old c.requires.ready out centres.IsKnown (known_centre g) c.nodes_follow.ensures.quiet c.prices_by_text.ensures.kept c.args.event.now c.requires.whole d
+          (steps_compared (nodes_in g) old c.requires.ready out centres.IsKnown (known_centre g) c.nodes_follow.ensures.quiet c.prices_by_text.ensures.kept c.args.event.now c.requires.whole d
           c.compare.result is
           (subst (λ (x : Reply). Answers (ev.Reconcile d) x) (sym one) (compare_answers d (running_device s.0) (running_centre old.centre)))
           (λ was. subst (λ (x : Reply). was ≡ on_after x was) (sym one) (compare_leaves d (running_device s.0) (running_centre old.centre) was))
           (λ i u next was. subst (λ (x : Reply). (x ≡ r.OffNode (Device d)) ↔ (device_view.is_on u ≡ false)) (sym (shows i u next was)) (compare_off d (running_device u) (running_centre old.centre)))
+          (λ i u next was. subst (λ (x : Reply). (x ≡ r.OffNode Centre) ↔ ((device_view.is_on u ≡ true) × (centre_view.is_on old.centre ≡ false))) (sym (shows i u next was)) (compare_off_centre d (running_device u) (running_centre old.centre)))
           (compares g d c.compare.result old shows)),
     )
 
@@ -177,7 +163,7 @@ needs pool e x m given of = (given_alike pool e).day ∙ ap needs_day given ∙ 
 
 none_told : (g : Over) (e : Event) (x : Taken) (old : B g) (out : Outside) → IsReady old → IsWholeEvent e → needs_day e ≡ true → taken old.messages (quote old.rates) e ≡ Some x → old.day ≡ None
     → Stepped g e (turn_of r.NoDay []) old (sending (turn_of r.NoDay []) old) out
-none_told g e x old out ready whole needs is none = as_sent (nodes_in g) g.M.Nv g.M.Fuse g.N.Nv e [] (turn_of r.NoDay []) old old out out refl (steps_none (nodes_in g) g.M.Nv g.M.Fuse g.N.Nv old ready out e x whole needs is none)
+none_told g e x old out ready whole needs is none = as_sent (nodes_in g) e [] (turn_of r.NoDay []) old old out out refl (steps_none (nodes_in g) old ready out e x whole needs is none)
 
 pub returns-in-None-clause-did : goal.returns-in-None-clause-did
 returns-in-None-clause-did g c =
@@ -247,8 +233,8 @@ returns-in-Some-today-clause-did g c =
       did.1,
       refl,
       λ feed. let out = beside feed (printer_of g.P.Sink c.args.printer.now) in
-          steps (nodes_in g) g.M.Nv g.M.Fuse e (device_event b.device b.asked) today old new did.0 out out (Device b.device) (devices (nodes_in g)) b.device b.asked did.2.before did.2.now (take.Device b.device)
-          (device_asked (nodes_in g) g.M.Nv g.M.Fuse e today old new did.0 out out c.in-Some-today.is refl refl refl refl b.device b.asked did.2 refl refl refl refl is) g.N.Nv
+          steps (nodes_in g) e (device_event b.device b.asked) today old new did.0 out out (Device b.device) (devices (nodes_in g)) b.device b.asked did.2.before did.2.now (take.Device b.device)
+          (device_asked (nodes_in g) e today old new did.0 out out c.in-Some-today.is refl refl refl refl b.device b.asked did.2 refl refl refl refl is)
           c.requires.whole c.requires.ready c.prices_by_text.ensures.kept (λ asked. Unit {0}) tt device_kinds.IsKnown (known_device g b.device) (c.nodes_follow.ensures.devices b.device),
     )
 
@@ -272,8 +258,8 @@ returns-in-Some-today-2-clause-did g c =
       did.1,
       refl,
       λ feed. let out = beside feed (printer_of g.P.Sink c.args.printer.now) in
-          steps (nodes_in g) g.M.Nv g.M.Fuse e (centre_event b.asked) today old new did.0 out out Centre (centre_of (nodes_in g)) tt b.asked old.centre new.centre take.Centre
-          (centre_asked (nodes_in g) g.M.Nv g.M.Fuse e today old new did.0 out out c.in-Some-today-2.is refl refl refl refl b.asked did.2 refl refl refl refl is) g.N.Nv
+          steps (nodes_in g) e (centre_event b.asked) today old new did.0 out out Centre (centre_of (nodes_in g)) tt b.asked old.centre new.centre take.Centre
+          (centre_asked (nodes_in g) e today old new did.0 out out c.in-Some-today-2.is refl refl refl refl b.asked did.2 refl refl refl refl is)
           c.requires.whole c.requires.ready c.prices_by_text.ensures.kept centres.AreBytes c.centre_turn.ensures.bytes centres.IsKnown (known_centre g) c.nodes_follow.ensures.centre,
     )
 
@@ -299,8 +285,8 @@ returns-in-Some-today-3-clause-did g c =
       refl,
       λ feed. let before = beside feed (printer_of g.P.Sink c.args.printer.now) in
           let now = beside feed (printer_of g.P.Sink c.host_turn.new.printer) in
-          steps (nodes_in g) g.M.Nv g.M.Fuse e (host_event b.asked) today old new did.0 before now Host (host_of (nodes_in g)) tt b.asked old.host new.host take.Host
-          (host_asked (nodes_in g) g.M.Nv g.M.Fuse e today old new did.0 before now c.in-Some-today-3.is refl refl refl refl b.asked did.2 did.3 refl refl refl is) g.N.Nv
+          steps (nodes_in g) e (host_event b.asked) today old new did.0 before now Host (host_of (nodes_in g)) tt b.asked old.host new.host take.Host
+          (host_asked (nodes_in g) e today old new did.0 before now c.in-Some-today-3.is refl refl refl refl b.asked did.2 did.3 refl refl refl is)
           c.requires.whole c.requires.ready c.prices_by_text.ensures.kept (λ asked. Unit {0}) tt hosts.IsKnown (known_host g) c.host_follows.ensures,
     )
 
@@ -324,7 +310,7 @@ returns-in-Some-today-4-clause-did g c =
       did.1,
       refl,
       λ feed. let out = beside feed (printer_of g.P.Sink c.args.printer.now) in
-          steps (nodes_in g) g.M.Nv g.M.Fuse e (verifier_event b.asked) today old new did.0 out out Verifier (verifier_of (nodes_in g)) tt b.asked old.verifier new.verifier take.Verifier
-          (verifier_asked (nodes_in g) g.M.Nv g.M.Fuse e today old new did.0 out out c.in-Some-today-4.is refl refl refl refl b.asked did.2 refl refl refl refl is) g.N.Nv
+          steps (nodes_in g) e (verifier_event b.asked) today old new did.0 out out Verifier (verifier_of (nodes_in g)) tt b.asked old.verifier new.verifier take.Verifier
+          (verifier_asked (nodes_in g) e today old new did.0 out out c.in-Some-today-4.is refl refl refl refl b.asked did.2 refl refl refl refl is)
           c.requires.whole c.requires.ready c.prices_by_text.ensures.kept verifiers.AreBytes c.verifier_turn.ensures.bytes verifiers.IsKnown (known_verifier g) c.verifier_follows.ensures,
     )

@@ -1,5 +1,6 @@
 use Rattle.std.proofs.Common.{true, false, ◌≡◌, refl, sym, subst, arith}
 use Rattle.nv_model.specs.contracts.fused.FusedNv.TheImpl.{ghosts}
+use Rattle.nv_model.specs.Fuses.{inside}
 use Rattle.bench.specs.Places.{IsInDevice}
 use Rattle.bench.proofs.Making.{Moved, empty_list, moved_start, moved_more, moved_some, moved_done}
 use Rattle.bench.proofs.Over.{inside_stands}
@@ -38,5 +39,5 @@ returns-clause-inside g c = record {
 pub returns-clause-stands : goal.returns-clause-stands
 returns-clause-stands g c L stands =
     let within = returns-clause-inside g c in
-    inside_stands (ghosts g.row.N g.N.Nv g.N.Nv-dict) (λ f. refl) (λ f. refl) _ (λ t. t) _ _ L
+    inside_stands _ inside (λ f. refl) (λ f. refl) (λ t. t) _ _ L
     (record { devices = within.devices; centre = within.centre; host = within.host; verifier = within.verifier }) stands

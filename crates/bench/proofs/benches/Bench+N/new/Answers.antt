@@ -2,6 +2,7 @@ use Rattle.std.proofs.Common.{[], None, suc, replicate, true, false, ◌≡◌, 
 use Rattle.bench_base.specs.declared.words.Node.TheVariants.{Device, Centre, Host, Verifier}
 use Rattle.bench_base.specs.declared.sizes.TheConstants.{RECORD_BYTES, SLOTS, DEVICE_BYTES, ROW_BYTES, CENTRE_CELLS, CENTRE_BYTES, BLOCK_BYTES, VERIFIER_CELLS, VERIFIER_BYTES}
 use Rattle.nv_model.specs.contracts.fused.FusedNv.TheImpl.{ghosts}
+use Rattle.nv_model.specs.Fuses.{inside}
 use Rattle.psd_device.specs.Knows.{shown_as}
 use Rattle.centre_protocol.specs.Payloads as centre
 use Rattle.host_jobs.specs.declared.sizes.TheConstants.{JOB_BYTES, HOST_CELLS, HOST_BYTES}
@@ -12,7 +13,7 @@ use Rattle.bench_views.specs.Centre.{seen_in}
 use Rattle.host_jobs.specs.Records as jobs
 use Rattle.verifier.specs.Records as scans
 use Rattle.bench.specs.Places.{IsDeviceOver}
-use Rattle.bench.proofs.Making.{Moved, moved_start, moved_more, moved_some, moved_done, moved_from, moved_none, pairs_length}
+use Rattle.bench.proofs.Making.{Moved, moved_start, moved_more, moved_some, moved_done, moved_from, moved_none, pairs_as, pairs_length}
 use Rattle.bench.proofs.Blank.{blank_stand, blank_shown, zeros_show}
 use Rattle.bench.proofs.BlankCentre.{centre_nothing, centre_sound}
 use Rattle.bench.proofs.BlankHost.{host_nothing, host_sound}
@@ -79,12 +80,17 @@ returns-clause-ready g c = record {
 pub returns-clause-stands : goal.returns-clause-stands
 returns-clause-stands g c L stands =
     let over = returns-clause-over g c in
-    over_stands (ghosts g.row.N g.N.Nv g.N.Nv-dict) (λ f. refl) (λ f. refl) _ (λ t. t) _ _ L refl c.in-Ok-with_capacity-2.ensures.items refl
-    (record { devices = over.devices; centre = over.centre; host = over.host; verifier = over.verifier }) stands
+    over_stands _ inside (λ f. refl) (λ f. refl) (λ t. t) _ _ L refl c.in-Ok-with_capacity-2.ensures.items refl
+    (record {
+      devices = pairs_as _ _ (λ store s one. record { off = one.off; within = one.within }) _ _ over.devices;
+      centre = record { off = over.centre.off; within = over.centre.within };
+      host = record { off = over.host.off; within = over.host.within };
+      verifier = record { off = over.verifier.off; within = over.verifier.within };
+    }) stands
 
 pub returns-clause-blank : goal.returns-clause-blank
 returns-clause-blank g c blank =
-    returns-clause-stands g c [] (blank_stand _ g.N.Nv _
+    returns-clause-stands g c [] (blank_stand _ _
     (λ d. record {
       size = refl;
       sound = record { few = omega arith; blank = (λ e. refl, λ e. refl); own = tt };

@@ -11,4 +11,4 @@ returns-clause-begun g c = record {
 }
 
 pub returns-clause-stands : goal.returns-clause-stands
-returns-clause-stands g c L stands = begun_stands _ _ _ _ L refl c.clear.ensures.items refl (returns-clause-begun g c) stands
+returns-clause-stands g c L stands = begun_stands _ _ _ L refl c.clear.ensures.items refl (returns-clause-begun g c) stands
