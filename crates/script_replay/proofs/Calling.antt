@@ -3,19 +3,21 @@ use Rattle.std.proofs.Common.{◌≡◌, ℕ, List, [], Option, Some, sym, ◌�
 use Rattle.script_text.specs.declared.program.Words.{Words}
 use Rattle.script_text.specs.declared.program.Words.TheVariants.{Replay, Generate}
 use Rattle.script_text.specs.Programs.{program_words, AreInRange}
-use Rattle.script_replay.specs.Deeds.{Deed}
+use Rattle.desk_runs.specs.Deeds.{Done, done_in}
 use Rattle.script_replay.specs.Generated.{Generated}
-use Rattle.script_replay.specs.Run.{Replayed}
+use Rattle.line_runs.specs.Runs.{Replayed}
+use Rattle.desk_runs.specs.Scripts.{script_lines}
 use Rattle.script_replay.specs.Streams.{Streams, AreNone, Ran}
-use Rattle.script_replay.specs.declared.status.Status.{Status}
-use Rattle.script_replay.proofs.Deeds.{said}
+use Rattle.line_runs.specs.declared.status.Status.{Status}
+use Rattle.line_runs.proofs.Turns.{said}
+use Rattle.line_runs.specs.declared.status.SideStatus.TheVariants.{Run}
 
 -- the words call for one thing
 pub apart : (seed count : ℕ) → program_words Replay ≡ program_words (Generate seed count) → ⊥
 apart seed count is = cc
 
-module _ (outcome : Status) (given : List (List ℕ)) (WasDone : List Deed → Type 0) (before now : Streams) where
-  pub ran_replay : given ≡ program_words Replay → Replayed outcome WasDone before.left now.left before.taken now.taken → Ran outcome given WasDone before now
+module _ (outcome : Status) (given : List (List ℕ)) (WasDone : List Done → Type 0) (before now : Streams) where
+  pub ran_replay : given ≡ program_words Replay → Replayed script_lines (Run outcome) (λ deeds. WasDone (done_in deeds)) before.left now.left before.taken now.taken → Ran outcome given WasDone before now
   ran_replay is r = record {
     replays = λ same. r;
     generates = λ seed count within other. absurd (apart seed count (sym is ∙ other));
@@ -42,15 +44,15 @@ module _ (outcome : Status) (given : List (List ℕ)) (WasDone : List Deed → T
   }
 
 -- the same deeds, with more said of them
-pub generated_said : (P Q : List Deed → Type 0) (outcome : Status) (seed count : ℕ) (t u : Option (List ℕ)) → ((deeds : List Deed) → P deeds → Q deeds) → Generated outcome seed count P t u
+pub generated_said : (P Q : List Done → Type 0) (outcome : Status) (seed count : ℕ) (t u : Option (List ℕ)) → ((deeds : List Done) → P deeds → Q deeds) → Generated outcome seed count P t u
     → Generated outcome seed count Q t u
 generated_said P Q outcome seed count t u more r =
     record { done = r.done; all = r.all; unforged = r.unforged; text = r.text; ends = r.ends; appended = r.appended; did = more _ r.did }
 
-pub all_said : (P Q : List Deed → Type 0) (outcome : Status) (given : List (List ℕ)) (before now : Streams) → ((deeds : List Deed) → P deeds → Q deeds) → Ran outcome given P before now
+pub all_said : (P Q : List Done → Type 0) (outcome : Status) (given : List (List ℕ)) (before now : Streams) → ((deeds : List Done) → P deeds → Q deeds) → Ran outcome given P before now
     → Ran outcome given Q before now
 all_said P Q outcome given before now more r = record {
-  replays = λ is. said P Q outcome before.left now.left before.taken now.taken more (r.replays is);
+  replays = λ is. said script_lines (λ deeds. P (done_in deeds)) (λ deeds. Q (done_in deeds)) (Run outcome) before.left now.left before.taken now.taken (λ deeds. more (done_in deeds)) (r.replays is);
   generates = λ seed count within is. generated_said P Q outcome seed count before.taken now.taken more (r.generates seed count within is);
   nothing = λ none. more [] (r.nothing none);
 }

@@ -18,18 +18,19 @@ use Rattle.node_seat.specs.Stands.{meters_of}
 use Rattle.node_turns.specs.Costs.{Charged}
 use Rattle.node_turns.specs.Printing.{Printer}
 use Rattle.bench_views.specs.Taken.{as_given}
-use Rattle.bench.specs.Benches.{Bench, Nodes, At, IsReady}
+use Rattle.bench.specs.Benches.{Nodes, At, IsReady, BenchOf}
 use Rattle.bench.specs.Outside.{Outside}
 use Rattle.bench.specs.Costs.{Balanced, armed, one_if}
 use Rattle.bench.specs.Places.{Begun, IsStopped}
 use Rattle.bench.proofs.Making.{pairs_at}
-use Rattle.script_replay.specs.Chains.{Scene, scene, DidEvent, DidDeeds}
+use Rattle.script_replay.specs.Chains.{Scene, scene, DidEvent, DidEvents, SceneOf}
 use Rattle.script_replay.specs.Counts.{BalancedAt, AreBalanced}
-use Rattle.script_replay.specs.Deeds.{Done, Deed, Skipped, Did}
+use Rattle.desk_runs.specs.Deeds.{Done}
 use Rattle.script_replay.specs.Faults.{tells_printer, tells_rates, FaultsTold}
 use Rattle.script_replay.specs.Run.{Leaves}
-use Rattle.script_replay.specs.declared.status.Status.{Status}
-use Rattle.script_replay.specs.declared.status.Status.TheVariants as status
+use Rattle.line_runs.specs.declared.status.Status.TheVariants as status
+use Rattle.line_runs.specs.declared.status.SideStatus.{SideStatus}
+use Rattle.line_runs.specs.declared.status.SideStatus.TheVariants.{Run, Stopped}
 use Rattle.script_replay.proofs.Faults.{none_told, more_told, told_still, printer_told, rates_told}
 
 -- == one event ==
@@ -113,9 +114,9 @@ after_still p f k was mid is first second =
     }
 
 -- what an event costs a node, and what the others do
-deed_balanced : (m : Node) (given : Event) (line : List ℕ) (d : Done) (reply : Reply) (rest : List Deed) (was mid is : Meters) → d.reply ≡ reply → Charged m given reply was mid
-    → BalancedAt m rest mid is → BalancedAt m (Did line d ∷ rest) was is
-deed_balanced m given line d reply rest was mid is told charged others =
+deed_balanced : (m : Node) (given : Event) (d : Done) (reply : Reply) (rest : List Done) (was mid is : Meters) → d.reply ≡ reply → Charged m given reply was mid
+    → BalancedAt m rest mid is → BalancedAt m (d ∷ rest) was is
+deed_balanced m given d reply rest was mid is told charged others =
     two_balanced _ _ _ _ _ _ was mid is (one_balanced m given d.reply was mid (subst (λ (x : Reply). Charged m given x was mid) (sym told) charged)) others
 
 -- == a run's end ==
@@ -133,104 +134,104 @@ left_same behind new same = record {
 }
 
 -- at the end of the run the bench and the printer are as the deeds left them
-pub left_so : {D C H V : Type 0} (outcome : Status) (behind new : Scene D C H V) → Leaves outcome behind new → LeftSo behind new
-left_so status.Done behind new is = left_same behind new is
-left_so status.Words behind new is = left_same behind new is
-left_so (status.Script line) behind new is = left_same behind new is
-left_so status.ReadFault behind new is = left_same behind new is
-left_so status.WriteFault behind new is = left_same behind new is
-left_so status.Memory behind new is = record { bench = is.0; printer = is.1.printer; later = is.1.later }
-left_so status.TooLong behind new is = left_same behind new is
+pub left_so : {D C H V : Type 0} (outcome : SideStatus) (behind new : Scene D C H V) → Leaves outcome behind new → LeftSo behind new
+left_so (Run status.Done) behind new is = left_same behind new is
+left_so (Run status.Words) behind new is = left_same behind new is
+left_so (Run (status.Script line)) behind new is = left_same behind new is
+left_so (Run status.ReadFault) behind new is = left_same behind new is
+left_so (Run status.WriteFault) behind new is = left_same behind new is
+left_so (Run status.Memory) behind new is = record { bench = is.0; printer = is.1.printer; later = is.1.later }
+left_so (Run status.TooLong) behind new is = left_same behind new is
+left_so Stopped behind new is = left_same behind new is
 
-module _ {D C H V S XD XC XH XV RD RC RH RV N : Type 0} (n : Nodes D C H V S XD XC XH XV RD RC RH RV) (g : nv.Ghosts S) (f : fuse.Ghosts S) (h : nv.Ghosts N) where
-  same_node_at : (devices : List D) (i : ℕ) (s t : D) → slice_get devices i ≡ Some s → slice_get devices i ≡ Some t → s ≡ t
+module _ (n : Nodes) where
+  same_node_at : (devices : List n.Devices) (i : ℕ) (s t : n.Devices) → slice_get devices i ≡ Some s → slice_get devices i ≡ Some t → s ≡ t
   same_node_at devices i s t a b = cc
 
   -- a storage that stays as it is
-  still_at : {K X A R : Type 0} (k : Ghosts K S X A R) (s t : K) → k.storage t ≡ k.storage s → Balanced 0 0 0 (meters_of k g s) (meters_of k g t)
-  still_at k s t same = subst (Balanced 0 0 0 (meters_of k g s)) (ap g.meters (sym same)) (none_balanced (meters_of k g s))
+  still_at : {K X A R : Type 0} (k : Ghosts K n.Storage X A R) (s t : K) → k.storage t ≡ k.storage s → Balanced 0 0 0 (meters_of k n.storage s) (meters_of k n.storage t)
+  still_at k s t same = subst (Balanced 0 0 0 (meters_of k n.storage s)) (ap n.storage.meters (sym same)) (none_balanced (meters_of k n.storage s))
 
-  still_balanced : (old new : Bench D C H V) → Begun n g old new → (m : Node) → At n (λ k i d s t. BalancedAt i [] (meters_of k.ghosts g s) (meters_of k.ghosts g t)) old new m
-  still_balanced old new begun (Device d) = λ i s t next hs ht. still_at n.devices s t (pairs_at (IsStopped n.devices g) old.devices new.devices begun.devices i s t hs ht).storage
+  still_balanced : (old new : BenchOf n) → Begun n old new → (m : Node) → At n (λ k i d s t. BalancedAt i [] (meters_of k.ghosts n.storage s) (meters_of k.ghosts n.storage t)) old new m
+  still_balanced old new begun (Device d) = λ i s t next hs ht. still_at n.devices s t (pairs_at (IsStopped n.devices n.storage) old.devices new.devices begun.devices i s t hs ht).storage
   still_balanced old new begun Centre = still_at n.centre old.centre new.centre begun.centre.storage
   still_balanced old new begun Host = still_at n.host old.host new.host begun.host.storage
   still_balanced old new begun Verifier = still_at n.verifier old.verifier new.verifier begun.verifier.storage
 
-  same_balanced : (old : Bench D C H V) (m : Node) → At n (λ k i d s t. BalancedAt i [] (meters_of k.ghosts g s) (meters_of k.ghosts g t)) old old m
+  same_balanced : (old : BenchOf n) (m : Node) → At n (λ k i d s t. BalancedAt i [] (meters_of k.ghosts n.storage s) (meters_of k.ghosts n.storage t)) old old m
   same_balanced old (Device d) = λ i s t next hs ht. still_at n.devices s t (ap n.devices.storage (same_node_at old.devices i t s ht hs))
   same_balanced old Centre = still_at n.centre old.centre old.centre refl
   same_balanced old Host = still_at n.host old.host old.host refl
   same_balanced old Verifier = still_at n.verifier old.verifier old.verifier refl
 
-  none_done : (old : Scene D C H V) → AreBalanced n g old old []
+  none_done : (old : SceneOf n) → AreBalanced n old old []
   none_done old = record { nodes = same_balanced old.bench; printer = none_told old.outside.printer.faults; rates = none_told old.outside.rates.faults }
 
   -- one deed, and the others
-  first_nodes : (old mid new : Scene D C H V) (line : List ℕ) (d : Done) (rest : List Deed) → IsReady old.bench → DidEvent n g f h old mid d → AreBalanced n g mid new rest
-      → (m : Node) → At n (λ k i x s t. BalancedAt i (Did line d ∷ rest) (meters_of k.ghosts g s) (meters_of k.ghosts g t)) old.bench new.bench m
-  first_nodes old mid new line d rest ready event others (Device x) = λ i s t next hs ht.
+  first_nodes : (old mid new : SceneOf n) (d : Done) (rest : List Done) → IsReady old.bench → DidEvent n old mid d → AreBalanced n mid new rest
+      → (m : Node) → At n (λ k i x s t. BalancedAt i (d ∷ rest) (meters_of k.ghosts n.storage s) (meters_of k.ghosts n.storage t)) old.bench new.bench m
+  first_nodes old mid new d rest ready event others (Device x) = λ i s t next hs ht.
       let inside : i < length mid.bench.devices = omega (arith, slice_get_within old.bench.devices i s hs, ready.eight, event.ready.eight) in
       let u = get_or mid.bench.devices i s in
       let there = slice_get-get_or mid.bench.devices i s inside in
-      deed_balanced (Device x) (as_given old.bench.messages d.event) line d event.turn.reply rest (meters_of n.devices g s) (meters_of n.devices g u) (meters_of n.devices g t) event.told
+      deed_balanced (Device x) (as_given old.bench.messages d.event) d event.turn.reply rest (meters_of n.devices n.storage s) (meters_of n.devices n.storage u) (meters_of n.devices n.storage t) event.told
       (event.steps.always.nodes (Device x) i s u next hs there).charged (others.nodes (Device x) i u t next there ht)
-  first_nodes old mid new line d rest ready event others Centre =
-      deed_balanced Centre (as_given old.bench.messages d.event) line d event.turn.reply rest (meters_of n.centre g old.bench.centre) (meters_of n.centre g mid.bench.centre)
-      (meters_of n.centre g new.bench.centre) event.told (event.steps.always.nodes Centre).charged (others.nodes Centre)
-  first_nodes old mid new line d rest ready event others Host =
-      deed_balanced Host (as_given old.bench.messages d.event) line d event.turn.reply rest (meters_of n.host g old.bench.host) (meters_of n.host g mid.bench.host)
-      (meters_of n.host g new.bench.host) event.told (event.steps.always.nodes Host).charged (others.nodes Host)
-  first_nodes old mid new line d rest ready event others Verifier =
-      deed_balanced Verifier (as_given old.bench.messages d.event) line d event.turn.reply rest (meters_of n.verifier g old.bench.verifier) (meters_of n.verifier g mid.bench.verifier)
-      (meters_of n.verifier g new.bench.verifier) event.told (event.steps.always.nodes Verifier).charged (others.nodes Verifier)
+  first_nodes old mid new d rest ready event others Centre =
+      deed_balanced Centre (as_given old.bench.messages d.event) d event.turn.reply rest (meters_of n.centre n.storage old.bench.centre) (meters_of n.centre n.storage mid.bench.centre)
+      (meters_of n.centre n.storage new.bench.centre) event.told (event.steps.always.nodes Centre).charged (others.nodes Centre)
+  first_nodes old mid new d rest ready event others Host =
+      deed_balanced Host (as_given old.bench.messages d.event) d event.turn.reply rest (meters_of n.host n.storage old.bench.host) (meters_of n.host n.storage mid.bench.host)
+      (meters_of n.host n.storage new.bench.host) event.told (event.steps.always.nodes Host).charged (others.nodes Host)
+  first_nodes old mid new d rest ready event others Verifier =
+      deed_balanced Verifier (as_given old.bench.messages d.event) d event.turn.reply rest (meters_of n.verifier n.storage old.bench.verifier) (meters_of n.verifier n.storage mid.bench.verifier)
+      (meters_of n.verifier n.storage new.bench.verifier) event.told (event.steps.always.nodes Verifier).charged (others.nodes Verifier)
 
-  first_printer : (old mid : Scene D C H V) (d : Done) → DidEvent n g f h old mid d → FaultsTold (one_if (tells_printer d.reply)) old.outside.printer.faults mid.outside.printer.faults
+  first_printer : (old mid : SceneOf n) (d : Done) → DidEvent n old mid d → FaultsTold (one_if (tells_printer d.reply)) old.outside.printer.faults mid.outside.printer.faults
   first_printer old mid d event =
       subst (λ (x : Reply). FaultsTold (one_if (tells_printer x)) old.outside.printer.faults mid.outside.printer.faults) (sym event.told)
       (printer_told event.turn.reply event.steps.always.printer.0 old.outside.printer mid.outside.printer event.steps.always.printer.1)
 
-  first_rates : (old mid : Scene D C H V) (d : Done) → DidEvent n g f h old mid d → FaultsTold (one_if (tells_rates d.reply)) old.outside.rates.faults mid.outside.rates.faults
+  first_rates : (old mid : SceneOf n) (d : Done) → DidEvent n old mid d → FaultsTold (one_if (tells_rates d.reply)) old.outside.rates.faults mid.outside.rates.faults
   first_rates old mid d event =
       rates_told old.bench.messages d.event d.reply d.text event.turn old.bench.day old.bench.rates mid.bench.rates old.outside.rates mid.outside.rates event.told
       event.steps.always.rates event.steps.always.day (subst (λ (x : Reply). MayGet (as_given old.bench.messages d.event) x) (sym event.told) event.steps.always.reply)
 
-  first_done : (old mid new : Scene D C H V) (line : List ℕ) (d : Done) (rest : List Deed) → IsReady old.bench → DidEvent n g f h old mid d → AreBalanced n g mid new rest
-      → AreBalanced n g old new (Did line d ∷ rest)
-  first_done old mid new line d rest ready event others = record {
-    nodes = first_nodes old mid new line d rest ready event others;
+  first_done : (old mid new : SceneOf n) (d : Done) (rest : List Done) → IsReady old.bench → DidEvent n old mid d → AreBalanced n mid new rest
+      → AreBalanced n old new (d ∷ rest)
+  first_done old mid new d rest ready event others = record {
+    nodes = first_nodes old mid new d rest ready event others;
     printer = more_told _ _ old.outside.printer.faults mid.outside.printer.faults new.outside.printer.faults (first_printer old mid d event) others.printer;
     rates = more_told _ _ old.outside.rates.faults mid.outside.rates.faults new.outside.rates.faults (first_rates old mid d event) others.rates;
   }
 
-  steps_balanced : (old new : Scene D C H V) (deeds : List Deed) → IsReady old.bench → DidDeeds n g f h old new deeds → AreBalanced n g old new deeds
-  steps_balanced old new [] ready did = subst (λ (x : Scene D C H V). AreBalanced n g old x []) (sym did) (none_done old)
-  steps_balanced old new (Skipped line ∷ rest) ready did = let same = steps_balanced old new rest ready did in record { nodes = same.nodes; printer = same.printer; rates = same.rates }
-  steps_balanced old new (Did line d ∷ rest) ready did = first_done old did.0 new line d rest ready did.1 (steps_balanced did.0 new rest did.1.ready did.2)
+  steps_balanced : (old new : SceneOf n) (deeds : List Done) → IsReady old.bench → DidEvents n old new deeds → AreBalanced n old new deeds
+  steps_balanced old new [] ready did = subst (λ (x : SceneOf n). AreBalanced n old x []) (sym did) (none_done old)
+  steps_balanced old new (d ∷ rest) ready did = first_done old did.0 new d rest ready did.1 (steps_balanced did.0 new rest did.1.ready did.2)
 
   -- the run begins before
-  begun_nodes : (old begun : Bench D C H V) (new : Scene D C H V) (was : Outside) (deeds : List Deed) → IsReady old → IsReady begun → Begun n g old begun → AreBalanced n g (scene begun was) new deeds
-      → (m : Node) → At n (λ k i d s t. BalancedAt i deeds (meters_of k.ghosts g s) (meters_of k.ghosts g t)) old new.bench m
+  begun_nodes : (old begun : BenchOf n) (new : SceneOf n) (was : Outside) (deeds : List Done) → IsReady old → IsReady begun → Begun n old begun → AreBalanced n (scene begun was) new deeds
+      → (m : Node) → At n (λ k i d s t. BalancedAt i deeds (meters_of k.ghosts n.storage s) (meters_of k.ghosts n.storage t)) old new.bench m
   begun_nodes old begun new was deeds ready ready' begins others (Device d) = λ i s t next hs ht.
       let inside : i < length begun.devices = omega (arith, slice_get_within old.devices i s hs, ready.eight, ready'.eight) in
       let u = get_or begun.devices i s in
       let there = slice_get-get_or begun.devices i s inside in
-      after_still _ _ _ (meters_of n.devices g s) (meters_of n.devices g u) (meters_of n.devices g t) (still_balanced old begun begins (Device d) i s u next hs there)
+      after_still _ _ _ (meters_of n.devices n.storage s) (meters_of n.devices n.storage u) (meters_of n.devices n.storage t) (still_balanced old begun begins (Device d) i s u next hs there)
       (others.nodes (Device d) i u t next there ht)
   begun_nodes old begun new was deeds ready ready' begins others Centre =
-      after_still _ _ _ (meters_of n.centre g old.centre) (meters_of n.centre g begun.centre) (meters_of n.centre g new.bench.centre) (still_balanced old begun begins Centre) (others.nodes Centre)
+      after_still _ _ _ (meters_of n.centre n.storage old.centre) (meters_of n.centre n.storage begun.centre) (meters_of n.centre n.storage new.bench.centre) (still_balanced old begun begins Centre) (others.nodes Centre)
   begun_nodes old begun new was deeds ready ready' begins others Host =
-      after_still _ _ _ (meters_of n.host g old.host) (meters_of n.host g begun.host) (meters_of n.host g new.bench.host) (still_balanced old begun begins Host) (others.nodes Host)
+      after_still _ _ _ (meters_of n.host n.storage old.host) (meters_of n.host n.storage begun.host) (meters_of n.host n.storage new.bench.host) (still_balanced old begun begins Host) (others.nodes Host)
   begun_nodes old begun new was deeds ready ready' begins others Verifier =
-      after_still _ _ _ (meters_of n.verifier g old.verifier) (meters_of n.verifier g begun.verifier) (meters_of n.verifier g new.bench.verifier)
+      after_still _ _ _ (meters_of n.verifier n.storage old.verifier) (meters_of n.verifier n.storage begun.verifier) (meters_of n.verifier n.storage new.bench.verifier)
       (still_balanced old begun begins Verifier) (others.nodes Verifier)
 
-  pub run_balanced : (old : Scene D C H V) (begun : Bench D C H V) (behind new : Scene D C H V) (deeds : List Deed) → IsReady old.bench → IsReady begun → Begun n g old.bench begun
-      → DidDeeds n g f h (scene begun old.outside) behind deeds → LeftSo behind new → AreBalanced n g old new deeds
+  pub run_balanced : (old : SceneOf n) (begun : BenchOf n) (behind new : SceneOf n) (deeds : List Done) → IsReady old.bench → IsReady begun → Begun n old.bench begun
+      → DidEvents n (scene begun old.outside) behind deeds → LeftSo behind new → AreBalanced n old new deeds
   run_balanced old begun behind new deeds ready ready' begins did left =
       let all = steps_balanced (scene begun old.outside) behind deeds ready' did in
       let still : behind.outside.printer.faults ≤ new.outside.printer.faults = let same = ap (λ (p : Printer). p.faults) left.printer in omega (arith, same) in
       record {
-        nodes = λ m. subst (λ (b : Bench D C H V). At n (λ k i d s t. BalancedAt i deeds (meters_of k.ghosts g s) (meters_of k.ghosts g t)) old.bench b m) (sym left.bench)
+        nodes = λ m. subst (λ (b : BenchOf n). At n (λ k i d s t. BalancedAt i deeds (meters_of k.ghosts n.storage s) (meters_of k.ghosts n.storage t)) old.bench b m) (sym left.bench)
             (begun_nodes old.bench begun behind old.outside deeds ready ready' begins all m);
         printer = told_still _ old.outside.printer.faults behind.outside.printer.faults new.outside.printer.faults all.printer still;
         rates = told_still _ old.outside.rates.faults behind.outside.rates.faults new.outside.rates.faults all.rates left.later;

@@ -22,7 +22,7 @@ use Rattle.bench.specs.Costs.{one_if}
 use Rattle.bench.specs.Outside.{Feed, rates_turn, ReadsText, ReadsNothing, ReadsRates}
 use Rattle.script_replay.specs.Faults.{tells_printer, tells_rates, FaultsTold}
 use Rattle.script_replay.specs.Marks.{IsPrinted}
-use Rattle.script_replay.proofs.Deeds.{cut_off}
+use Rattle.desk_runs.proofs.Texts.{cut_off}
 
 -- == to deliver a message is to give its bytes, and to scan one is to scan its bytes; any other event is given as it is ==
 

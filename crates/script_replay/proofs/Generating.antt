@@ -23,14 +23,16 @@ use Rattle.generator.specs.Given.{GivesOnlyDebits, NeedsNoStream}
 use Rattle.script_text.specs.Summaries.{Tally, tally_of, one_in, column_of}
 use Rattle.script_text.specs.declared.column.Column.{Column}
 use Rattle.script_text.specs.declared.column.Column.TheVariants as column
-use Rattle.script_replay.specs.Chains.{Scene, DidEvent, DidDeeds}
-use Rattle.script_replay.specs.Deeds.{Done, Deed, Did, ledger_by, AreUnforged}
-use Rattle.script_replay.specs.Generated.{unlined, events_of, replies_of, summary_line, EndsWith, InTheMidst, Generated}
+use Rattle.script_replay.specs.Chains.{DidEvent, DidEvents, SceneOf}
+use Rattle.desk_runs.specs.Deeds.{Done}
+use Rattle.script_replay.specs.Deeds.{ledger_by, AreUnforged}
+use Rattle.script_replay.specs.Generated.{events_of, replies_of, summary_line, EndsWith, InTheMidst, Generated}
 use Rattle.script_replay.specs.Run.{Unforged}
-use Rattle.script_replay.specs.Turns.{Ended}
-use Rattle.script_replay.specs.declared.status.Status.{Status}
-use Rattle.script_replay.specs.declared.status.Status.TheVariants as status
-use Rattle.script_replay.proofs.Deeds.{AreDone}
+use Rattle.line_runs.specs.Turns.{AreDone, Ended}
+use Rattle.line_runs.specs.declared.status.Status.{Status}
+use Rattle.line_runs.specs.declared.status.Status.TheVariants as status
+use Rattle.line_runs.specs.declared.status.SideStatus.{SideStatus}
+use Rattle.line_runs.specs.declared.status.SideStatus.TheVariants.{Run}
 use Rattle.script_replay.proofs.Faults.{given_as}
 
 -- == one event more ==
@@ -54,13 +56,13 @@ unforged H (ev.Give n bytes) debit = subst (λ x. IsKnown bytes x n H) (sym debi
 unforged H (ev.ScanHex scan bytes) debit = absurd debit
 unforged H _ debit = tt
 
-pub none_forged : (τ : Tariff) (H : Ledger) (done : List Done) → AllByRecursion GivesOnlyDebits (events_of done) → AreUnforged τ Unforged H (unlined done)
+pub none_forged : (τ : Tariff) (H : Ledger) (done : List Done) → AllByRecursion GivesOnlyDebits (events_of done) → AreUnforged τ Unforged H done
 none_forged τ H [] each = tt
 none_forged τ H (d ∷ rest) each = (unforged H d.event each.0, none_forged τ (ledger_by τ H d) rest each.1)
 
 -- == so far ==
 
-module _ {B : Type 0} (Does : B → B → List Deed → Type 0) (Leaves : Status → B → B → Type 0) (chain : AreDone Does Leaves) (seed count : ℕ) where
+module _ {B : Type 0} (Does : B → B → List Done → Type 0) (Leaves : SideStatus → B → B → Type 0) (chain : AreDone Does Leaves) (seed count : ℕ) where
   -- the next event is one of them
   pub next_is : (P : Event → Type 0) → AllByRecursion P (generated seed count) → (to_come : List Event) (tally : Tally) (old new : B) → InTheMidst Does seed count to_come tally old new
       → (e : Event) (rest : List Event) → to_come ≡ e ∷ rest → P e
@@ -68,25 +70,25 @@ module _ {B : Type 0} (Does : B → B → List Deed → Type 0) (Leaves : Status
       next_of P (events_of midst.done) e rest (subst (AllByRecursion P) (sym midst.all ∙ ap (λ (l : List Event). events_of midst.done ++ l) is) each)
 
   pub midst_more : (to_come rest : List Event) (tally now : Tally) (old mid new : B) (e : Event) (d : Done) → InTheMidst Does seed count to_come tally old mid → to_come ≡ e ∷ rest → d.event ≡ e
-      → Does mid new (Did [] d ∷ []) → ((replies : List Reply) → tally ≡ tally_of replies → now ≡ tally_of (replies ++ d.reply ∷ [])) → InTheMidst Does seed count rest now old new
+      → Does mid new (d ∷ []) → ((replies : List Reply) → tally ≡ tally_of replies → now ≡ tally_of (replies ++ d.reply ∷ [])) → InTheMidst Does seed count rest now old new
   midst_more to_come rest tally now old mid new e d midst is same did counted =
       let events : events_of (midst.done ++ d ∷ []) ≡ events_of midst.done ++ d.event ∷ [] = one_more (λ (x : Done). x.event) midst.done d in
       record {
         done = midst.done ++ d ∷ [];
         all = ap (λ (l : List Event). l ++ rest) events ∙ append_assoc (events_of midst.done) (d.event ∷ []) rest ∙ ap (λ (x : Event). events_of midst.done ++ x ∷ rest) same
             ∙ ap (λ (l : List Event). events_of midst.done ++ l) (sym is) ∙ midst.all;
-        did = subst (λ (l : List Deed). Does old new l) (sym (one_more (λ x. Did [] x) midst.done d)) (chain.both old mid new (unlined midst.done) (Did [] d ∷ []) midst.did did);
+        did = chain.both old mid new midst.done (d ∷ []) midst.did did;
         tally_is = counted (replies_of midst.done) midst.tally_is ∙ ap tally_of (sym (one_more (λ (x : Done). x.reply) midst.done d));
       }
 
-  not_for_memory : (outcome : Status) (text line : List ℕ) → EndsWith outcome text line → outcome ≢ status.Memory
-  not_for_memory outcome text line ends is = subst (λ (s : Status). EndsWith s text line) is ends
+  not_for_memory : (outcome : Status) (text line : List ℕ) → EndsWith outcome text line → Run outcome ≢ Run status.Memory
+  not_for_memory outcome text line ends is = let same : outcome ≡ status.Memory = cc in subst (λ (s : Status). EndsWith s text line) same ends
 
   -- all events were done, and the summary of the replies was written
   pub all_generated : (outcome : Status) (tally : Tally) (old new : B) (taken0 taken1 : Option (List ℕ)) (midst : InTheMidst Does seed count [] tally old new)
       → AllByRecursion GivesOnlyDebits (generated seed count)
       → ((replies : List Reply) → tally ≡ tally_of replies → (text : List ℕ) × EndsWith outcome text (summary_line seed count replies) × Appends taken0 taken1 text)
-      → Generated outcome seed count (Ended Does Leaves outcome old new) taken0 taken1
+      → Generated outcome seed count (Ended Does Leaves (Run outcome) old new) taken0 taken1
   all_generated outcome tally old new taken0 taken1 midst debits written =
       let w = written (replies_of midst.done) midst.tally_is in
       let all : events_of midst.done ≡ generated seed count = sym (append-nil (events_of midst.done)) ∙ midst.all in
@@ -97,13 +99,13 @@ module _ {B : Type 0} (Does : B → B → List Deed → Type 0) (Leaves : Status
         text = w.0;
         ends = w.1;
         appended = w.2;
-        did = record { behind = new; did = midst.did; leaves = chain.rests outcome new (not_for_memory outcome w.0 (summary_line seed count (replies_of midst.done)) w.1) };
+        did = record { behind = new; did = midst.did; leaves = chain.rests (Run outcome) new (not_for_memory outcome w.0 (summary_line seed count (replies_of midst.done)) w.1) };
       }
 
 -- == how many there were ==
 
 -- fewer than all, while there are some to come
-pub few_done : {B : Type 0} (Does : B → B → List Deed → Type 0) (seed count : ℕ) (to_come rest : List Event) (tally : Tally) (old new : B) (midst : InTheMidst Does seed count to_come tally old new)
+pub few_done : {B : Type 0} (Does : B → B → List Done → Type 0) (seed count : ℕ) (to_come rest : List Event) (tally : Tally) (old new : B) (midst : InTheMidst Does seed count to_come tally old new)
     (e : Event) → to_come ≡ e ∷ rest → length (generated seed count) ≤ 28 + count * 5 → length midst.done < 28 + count * 5
 few_done Does seed count to_come rest tally old new midst e is few =
     let all = ap (λ (l : List Event). length l) (sym midst.all) ∙ length-append (events_of midst.done) to_come in
@@ -123,9 +125,6 @@ one_event column.Uncounted = refl
 pub tally_events : (replies : List Reply) → (tally_of replies).events ≡ length replies
 tally_events [] = refl
 tally_events (reply ∷ rest) = let more = tally_events rest in let one = one_event (column_of reply) in omega (arith, more, one)
-
-pub unlined_length : (done : List Done) → length (unlined done) ≡ length done
-unlined_length done = length-map done (λ x. Did [] x)
 
 pub replies_length : (done : List Done) → length (replies_of done) ≡ length done
 replies_length done = length-map done (λ (x : Done). x.reply)
@@ -155,15 +154,15 @@ both_streams rates printer = record { rates = rates; printer = printer }
 outside_same : (a b : Outside) → b.rates ≡ a.rates → b.printer ≡ a.printer → b ≡ a
 outside_same a b rates printer = ap (λ (x : Feed). both_streams x b.printer) rates ∙ ap (λ (x : Printer). both_streams a.rates x) printer
 
-module _ {D C H V S XD XC XH XV RD RC RH RV N : Type 0} (n : Nodes D C H V S XD XC XH XV RD RC RH RV) (g : nv.Ghosts S) (f : fuse.Ghosts S) (h : nv.Ghosts N) where
-  printer_rests : (old new : Scene D C H V) (d : Done) → DidEvent n g f h old new d → NeedsNoStream d.event → new.outside.printer ≡ old.outside.printer
+module _ (n : Nodes) where
+  printer_rests : (old new : SceneOf n) (d : Done) → DidEvent n old new d → NeedsNoStream d.event → new.outside.printer ≡ old.outside.printer
   printer_rests old new d did alone =
       let gets = λ (x : Reply) (is : did.turn.reply ≡ x). subst (λ (y : Reply). MayGet (as_given old.bench.messages d.event) y) is did.steps.always.reply in
       did.steps.always.printer.1.rests (λ j is. alone.printer j (only_print old.bench.messages d.event j (gets (r.Printed j) is)))
       (λ j is. alone.printer j (only_print old.bench.messages d.event j (gets (r.PrinterFault j) is)))
 
-  pub streams_rest : (old new : Scene D C H V) (done : List Done) → DidDeeds n g f h old new (unlined done) → AllByRecursion NeedsNoStream (events_of done) → new.outside ≡ old.outside
-  streams_rest old new [] did each = ap (λ (x : Scene D C H V). x.outside) did
+  pub streams_rest : (old new : SceneOf n) (done : List Done) → DidEvents n old new done → AllByRecursion NeedsNoStream (events_of done) → new.outside ≡ old.outside
+  streams_rest old new [] did each = ap (λ (x : SceneOf n). x.outside) did
   streams_rest old new (d ∷ rest) did each =
       let mid = did.0 in
       let rates : mid.outside.rates ≡ old.outside.rates = (did.1.steps.always.rates.others each.0.rates).rests in
@@ -171,6 +170,6 @@ module _ {D C H V S XD XC XH XV RD RC RH RV N : Type 0} (n : Nodes D C H V S XD 
       streams_rest mid new rest did.2 each.1 ∙ outside_same old.outside mid.outside rates printer
 
   -- of a run of which nothing is to come
-  pub all_rest : (seed count : ℕ) (to_come : List Event) (tally : Tally) (old new : Scene D C H V) → InTheMidst (DidDeeds n g f h) seed count to_come tally old new → to_come ≡ []
+  pub all_rest : (seed count : ℕ) (to_come : List Event) (tally : Tally) (old new : SceneOf n) → InTheMidst (DidEvents n) seed count to_come tally old new → to_come ≡ []
       → AllByRecursion NeedsNoStream (generated seed count) → new.outside ≡ old.outside
   all_rest seed count to_come tally old new midst is each = streams_rest old new midst.done midst.did (all_of NeedsNoStream (events_of midst.done) to_come (subst (AllByRecursion NeedsNoStream) (sym midst.all) each))

@@ -4,10 +4,17 @@ use Rattle.std.specs.Io.KnownBytes.{Consumes, Appends}
 use Rattle.nv_model.specs.declared.nv.Nv as nv
 use Rattle.nv_model.specs.declared.fuse.Fuse as fuse
 use Rattle.node_turns.specs.declared.turn.Turn.{Turn}
-use Rattle.bench.specs.Benches.{Bench, Nodes, IsReady}
-use Rattle.bench.specs.Outside.{Outside}
+use Rattle.psd_device.specs.declared.node.DeviceNode.{DeviceNode}
+use Rattle.centre_protocol.specs.declared.node.CentreNode.{CentreNode}
+use Rattle.host_node.specs.declared.node.HostNode.{HostNode}
+use Rattle.verifier_node.specs.declared.node.VerifierNode.{VerifierNode}
+use Rattle.bench_base.specs.declared.stream.Source as source
+use Rattle.bench_base.specs.declared.stream.Sink as sink
+use Rattle.bench.specs.declared.benches.BenchOver.{BenchOver}
+use Rattle.bench.specs.Benches.{Bench, Nodes, IsReady, bench_of}
+use Rattle.bench.specs.Outside.{Outside, outside}
 use Rattle.bench.specs.Steps.{Steps}
-use Rattle.script_replay.specs.Deeds.{Done, Deed, Skipped, Did}
+use Rattle.desk_runs.specs.Deeds.{Done, Deed, done_in}
 use Rattle.script_replay.specs.Marks.{IsPrinted}
 
 -- a bench and its two streams
@@ -18,19 +25,34 @@ pub record Scene (D C H V : Type 0) : Type 0 where
 abbrev pub scene : {D C H V : Type 0} → Bench D C H V → Outside → Scene D C H V
 scene bench outside = record { bench = bench; outside = outside }
 
-module _ {D C H V S XD XC XH XV RD RC RH RV N : Type 0} (n : Nodes D C H V S XD XC XH XV RD RC RH RV) (g : nv.Ghosts S) (f : fuse.Ghosts S) (h : nv.Ghosts N) where
+-- one of a bench over storages
+abbrev pub SceneOver : {M : Type 0} → nv.Ghosts M → Type 0
+SceneOver {M} g = Scene (DeviceNode M g) (CentreNode M g) (HostNode M g) (VerifierNode M g)
+
+-- and one of a bench with such nodes
+abbrev pub SceneOf : Nodes → Type 0
+SceneOf n = Scene n.Devices n.Centres n.Hosts n.Verifiers
+
+-- what a run works on: a bench beside the rates that it reads and the printer
+abbrev pub scene_of : {R P M N : Type 0} {g : nv.Ghosts M} → source.Ghosts R → sink.Ghosts P → BenchOver M N g → R → P → SceneOver g
+scene_of r p bench rates printer = scene (bench_of bench) (outside r rates p printer)
+
+module _ (n : Nodes) where
   -- the bench did one event by a step, told its reply, took this text of the rates and printed this
-  pub record DidEvent (old new : Scene D C H V) (d : Done) : Type 0 where
+  pub record DidEvent (old new : SceneOf n) (d : Done) : Type 0 where
     pub ready : IsReady new.bench
     pub turn : Turn
     pub told : d.reply ≡ turn.reply
-    pub steps : Steps n g f h d.event d.text turn old.bench new.bench old.outside new.outside
+    pub steps : Steps n d.event d.text turn old.bench new.bench old.outside new.outside
     pub taken : Consumes old.outside.rates.left new.outside.rates.left d.text
     pub marked : (mark : Option (List ℕ)) × IsPrinted d.reply mark d.printed
     pub appended : Appends old.outside.printer.taken new.outside.printer.taken d.printed
 
-  -- the bench did the deeds' events by steps, one after the other
-  abbrev pub DidDeeds : Scene D C H V → Scene D C H V → List Deed → Type 0
-  DidDeeds old new [] = new ≡ old
-  DidDeeds old new (Skipped line ∷ rest) = DidDeeds old new rest
-  DidDeeds old new (Did line d ∷ rest) = (mid : Scene D C H V) × DidEvent old mid d × DidDeeds mid new rest
+  -- the bench did the events by steps, one after the other
+  abbrev pub DidEvents : SceneOf n → SceneOf n → List Done → Type 0
+  DidEvents old new [] = new ≡ old
+  DidEvents old new (d ∷ rest) = (mid : SceneOf n) × DidEvent old mid d × DidEvents mid new rest
+
+  -- it did those of the lines
+  abbrev pub DidDeeds : SceneOf n → SceneOf n → List Deed → Type 0
+  DidDeeds old new deeds = DidEvents old new (done_in deeds)

@@ -1,5 +1,5 @@
 -- A generated run: its events, and its summary.
-use Rattle.std.specs.Prelude.{◌≡◌, ℕ, List, [], ◌++◌, Option, map}
+use Rattle.std.specs.Prelude.{◌≡◌, ℕ, List, ◌++◌, Option, map}
 use Rattle.std.specs.Io.KnownBytes.{Appends}
 use Rattle.bench_base.specs.declared.events.Event.{Event}
 use Rattle.bench_base.specs.declared.events.Reply.{Reply}
@@ -7,15 +7,12 @@ use Rattle.bench_base.specs.Ledger.{Ledger}
 use Rattle.ledger_moves.specs.Tariffs.{Tariff}
 use Rattle.script_text.specs.Summaries.{Tally, tally_of, summary_text}
 use Rattle.generator.specs.Events.{generated}
-use Rattle.script_replay.specs.Deeds.{Done, Deed, Did, AreUnforged}
-use Rattle.script_replay.specs.Lines.{ended, IsCutOff}
+use Rattle.desk_runs.specs.Deeds.{Done}
+use Rattle.script_replay.specs.Deeds.{AreUnforged}
+use Rattle.line_runs.specs.Lines.{ended, IsCutOff}
 use Rattle.script_replay.specs.Run.{Unforged}
-use Rattle.script_replay.specs.declared.status.Status.{Status}
-use Rattle.script_replay.specs.declared.status.Status.TheVariants as status
-
--- deeds that have no lines
-abbrev pub unlined : List Done → List Deed
-unlined done = map (λ d. Did [] d) done
+use Rattle.line_runs.specs.declared.status.Status.{Status}
+use Rattle.line_runs.specs.declared.status.Status.TheVariants as status
 
 abbrev pub events_of : List Done → List Event
 events_of done = map (λ (d : Done). d.event) done
@@ -38,18 +35,18 @@ EndsWith status.Memory text line = ⊥
 EndsWith status.TooLong text line = ⊥
 
 -- So far these events were done, and these are still to come; the tally is that of the replies.
-pub record InTheMidst {B : Type 0} (Does : B → B → List Deed → Type 0) (seed count : ℕ) (to_come : List Event) (tally : Tally) (old new : B) : Type 0 where
+pub record InTheMidst {B : Type 0} (Does : B → B → List Done → Type 0) (seed count : ℕ) (to_come : List Event) (tally : Tally) (old new : B) : Type 0 where
   pub done : List Done
   pub all : events_of done ++ to_come ≡ generated seed count
-  pub did : Does old new (unlined done)
+  pub did : Does old new done
   pub tally_is : tally ≡ tally_of (replies_of done)
 
 -- All events of the run were done, none of which brings anything that is forged, and then the report took the summary of the replies.
-pub record Generated (outcome : Status) (seed count : ℕ) (WasDone : List Deed → Type 0) (taken0 taken1 : Option (List ℕ)) : Type 0 where
+pub record Generated (outcome : Status) (seed count : ℕ) (WasDone : List Done → Type 0) (taken0 taken1 : Option (List ℕ)) : Type 0 where
   pub done : List Done
   pub all : events_of done ≡ generated seed count
-  pub unforged : (τ : Tariff) (H : Ledger) → AreUnforged τ Unforged H (unlined done)
+  pub unforged : (τ : Tariff) (H : Ledger) → AreUnforged τ Unforged H done
   pub text : List ℕ
   pub ends : EndsWith outcome text (summary_line seed count (replies_of done))
   pub appended : Appends taken0 taken1 text
-  pub did : WasDone (unlined done)
+  pub did : WasDone done

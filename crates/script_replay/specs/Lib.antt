@@ -1,20 +1,19 @@
 -- Promised: public contracts name these.
 pub mod Chains
-pub mod Codes
 pub mod Deeds
-pub mod Ends
 pub mod Fresh
-pub mod Lines
 pub mod Outside
 pub mod Run
+pub mod Sides
 pub mod Streams
+pub mod Throughout
 -- Promised: those rest on these.
 pub mod Counts
-pub mod Events
 pub mod Faults
 pub mod Generated
 pub mod Marks
-pub mod Stopped
 pub mod Undisturbed
 -- Bookkeeping: private calls and proofs alone name these.
-pub mod Turns
+pub mod ScriptLaws
+pub mod Sent
+pub mod SideLaws

@@ -3,16 +3,18 @@ use Rattle.std.specs.Prelude.{◌≡◌, ◌≢◌, ◌↔◌, ◌≤◌, ℕ, L
 use Rattle.bench_base.specs.Causes.{Rose}
 use Rattle.bench_base.specs.declared.stream.Source as source
 use Rattle.bench_base.specs.declared.stream.Sink as sink
-use Rattle.bench.specs.Outside.{Outside}
+use Rattle.bench.specs.Outside.{Outside, outside}
 use Rattle.script_text.specs.declared.program.Words.{Words}
 use Rattle.script_text.specs.declared.program.Words.TheVariants.{Replay, Generate}
 use Rattle.script_text.specs.Programs.{program_words, AreInRange}
-use Rattle.script_replay.specs.Deeds.{Deed}
-use Rattle.script_replay.specs.Ends.{EndsAs, IsByScript, IsComplete}
+use Rattle.desk_runs.specs.Deeds.{Done, done_in}
+use Rattle.line_runs.specs.Ends.{EndsAs, IsByScript, IsComplete}
+use Rattle.line_runs.specs.Runs.{Replayed}
 use Rattle.script_replay.specs.Generated.{Generated}
-use Rattle.script_replay.specs.Run.{Replayed}
-use Rattle.script_replay.specs.declared.status.Status.{Status}
-use Rattle.script_replay.specs.declared.status.Status.TheVariants as status
+use Rattle.desk_runs.specs.Scripts.{script_grammar, script_lines}
+use Rattle.line_runs.specs.declared.status.Status.{Status}
+use Rattle.line_runs.specs.declared.status.Status.TheVariants as status
+use Rattle.line_runs.specs.declared.status.SideStatus.TheVariants.{Run}
 
 -- the bytes that are left of the script and that the report took, where they are told, and the faults of each; the rates and the printer
 pub record Streams : Type 0 where
@@ -26,20 +28,24 @@ abbrev pub streams : {S K : Type 0} → source.Ghosts S → S → sink.Ghosts K 
 streams s script k report outside =
     record { left = s.left script; read_faults = s.faults script; taken = k.taken report; write_faults = k.faults report; outside = outside }
 
+-- those of a run, and its two streams beside the bench
+abbrev pub streams_of : {S K R P : Type 0} → source.Ghosts S → sink.Ghosts K → source.Ghosts R → sink.Ghosts P → S → K → R → P → Streams
+streams_of s k r p script report rates printer = streams s script k report (outside r rates p printer)
+
 -- the words are none that the program knows
 abbrev pub AreNone : List (List ℕ) → Type 0
 AreNone given = (w : Words) → AreInRange w → given ≢ program_words w
 
 -- What a run did over the words that were given: it did the script's lines, or all events of a generated run, or nothing.
-pub record Ran (outcome : Status) (given : List (List ℕ)) (WasDone : List Deed → Type 0) (before now : Streams) : Type 0 where
-  pub replays : given ≡ program_words Replay → Replayed outcome WasDone before.left now.left before.taken now.taken
+pub record Ran (outcome : Status) (given : List (List ℕ)) (WasDone : List Done → Type 0) (before now : Streams) : Type 0 where
+  pub replays : given ≡ program_words Replay → Replayed script_lines (Run outcome) (λ deeds. WasDone (done_in deeds)) before.left now.left before.taken now.taken
   pub generates : (seed count : ℕ) → AreInRange (Generate seed count) → given ≡ program_words (Generate seed count) → Generated outcome seed count WasDone before.taken now.taken
   pub nothing : AreNone given → WasDone []
 
 -- why a run over the words that were given ends so
 pub record EndsRun (outcome : Status) (given : List (List ℕ)) (before now : Streams) : Type 0 where
   -- Done, Script and TooLong come exactly where the bytes of the script say so, and only a fault of a stream and want of memory hinder them
-  pub exact : given ≡ program_words Replay → IfSome before.left (λ bytes. IsByScript outcome → (s : Status) → (outcome ≡ s) ↔ EndsAs s bytes)
+  pub exact : given ≡ program_words Replay → IfSome before.left (λ bytes. IsByScript (Run outcome) → (s : Status) → (outcome ≡ s) ↔ EndsAs script_grammar s bytes)
   pub words : (outcome ≡ status.Words) ↔ AreNone given
   pub untouched : outcome ≡ status.Words → now ≡ before
   -- nothing is taken of the script and of the rates for a generated run, and nothing is printed
@@ -54,5 +60,5 @@ pub record EndsRun (outcome : Status) (given : List (List ℕ)) (before now : St
 -- counted: a script that has an `end` behind lines that are each skipped or an event, and a generated run always.
 pub record Completes (outcome : Status) (given : List (List ℕ)) (before now : Streams) : Type 0 where
   pub script : given ≡ program_words Replay → (Rose before.read_faults now.read_faults → ⊥) → (Rose before.write_faults now.write_faults → ⊥)
-      → IfSome before.left (λ bytes. (end : EndsAs status.Done bytes) → IsComplete outcome end.passed)
+      → IfSome before.left (λ bytes. (end : EndsAs script_grammar status.Done bytes) → IsComplete script_grammar (Run outcome) end.passed)
   pub generated : (seed count : ℕ) → AreInRange (Generate seed count) → given ≡ program_words (Generate seed count) → (Rose before.write_faults now.write_faults → ⊥) → outcome ≡ status.Done

@@ -1,27 +1,20 @@
 //! A run on a bench that is made for it, over blank storages in memory.
 ghost use Rattle.std.specs.Prelude.{◌≡◌, [], length, IfSome, map, string_bytes, None};
 ghost use Rattle.std.specs.List.{All};
-ghost use Rattle.bench.specs.Benches.{IsReady, Stands, nodes, bench_of};
-ghost use Rattle.bench.specs.Outside.{outside};
-ghost use Rattle.bench_views.specs.Kinds.{bench_kinds};
+ghost use Rattle.bench.specs.Benches.{IsReady, Stands, bench_of};
 ghost use Rattle.bench_base.specs.declared.sizes.TheConstants.{DEVICE_BYTES};
-ghost use Rattle.script_replay.specs.Fresh.{IsFresh, RanFresh};
-ghost use Rattle.script_replay.specs.Streams.{Ran, streams};
+ghost use Rattle.script_replay.specs.Fresh.{IsFresh, IsOverFresh, RanFresh};
+ghost use Rattle.script_replay.specs.Streams.{streams_of};
 
 use crate::run::run;
-use crate::status::Status;
-use bench::{Bench, Stores};
+use bench::{Bench, HasNodes, Stores};
 use bench_base::memory::{MemSink, MemSource};
 use bench_base::sizes::{CENTRE_BYTES, DEVICE_BYTES, VERIFIER_BYTES};
 use bench_base::stream::{Sink, Source};
-use centre_protocol::CentreNode;
 use host_jobs::HOST_BYTES;
-use host_node::HostNode;
-use node_seat::Node;
-use nv_model::{Fused, MemNv, Nv};
-use psd_device::DeviceNode;
+use line_runs::status::Status;
+use nv_model::{MemNv, Nv};
 use std::alloc::Global;
-use verifier_node::VerifierNode;
 
 /// The room of a storage's record, in calls. Where it is full, each write fails.
 const CALLS: u32 = 12_000;
@@ -65,8 +58,14 @@ fn run_over<S: Source, K: Sink>(
 ) -> Status
     requires ready { IsReady (bench_of bench) }
     requires tells { ⟦<MemNv as Nv>⟧.tells }
-    requires stands { Stands (nodes ⟦<DeviceNode<Fused<MemNv>> as Node>⟧ ⟦<CentreNode<Fused<MemNv>> as Node>⟧ ⟦<HostNode<Fused<MemNv>> as Node>⟧ ⟦<VerifierNode<Fused<MemNv>> as Node>⟧ bench_kinds) ⟦<Fused<MemNv> as Nv>⟧ (bench_of bench) [] }
-    ensures ran { Ran result (map string_bytes words.now) RanFresh (streams S.Source script.old K.Sink report.old (outside ⟦<MemSource as Source>⟧ rates.old ⟦<MemSink as Sink>⟧ printer.old)) (streams S.Source script.new K.Sink report.new (outside ⟦<MemSource as Source>⟧ rates.new ⟦<MemSink as Sink>⟧ printer.new)) }
+    requires stands { Stands ⟦<Bench<MemNv> as HasNodes>⟧.nodes (bench_of bench) [] }
+    requires made { IsOverFresh (bench_of bench) }
+    ensures ran { RanFresh ⟦<Bench<MemNv> as HasNodes>⟧.nodes (λ made. IsOverFresh made) result
+        (map string_bytes words.now)
+        (streams_of S.Source K.Sink ⟦<MemSource as Source>⟧ ⟦<MemSink as Sink>⟧
+        script.old report.old rates.old printer.old)
+        (streams_of S.Source K.Sink ⟦<MemSource as Source>⟧ ⟦<MemSink as Sink>⟧
+        script.new report.new rates.new printer.new) }
 {
     let mut bench = bench;
     run(alloc, words, script, rates, report, printer, &mut bench)
@@ -74,8 +73,8 @@ fn run_over<S: Source, K: Sink>(
 
 /// Does what `run` does, on a new bench over blank storages in memory. `None` where there is no memory for it.
 ///
-/// Nothing is asked of what is there at the beginning: each reply is one that its event may get after those before it, the
-/// ledger of all of them is lawful, and what is printed are the marks of the events, as long as nothing from outside is forged.
+/// Nothing is asked of what is there at the beginning: all that `run` promises by a history holds by the empty one. The rates and the printer
+/// are those that are handed in, and the storages have room for 12,000 calls and 430,000 written bytes each.
 pub fn run_fresh<S: Source, K: Sink>(
     alloc: Global,
     words: &[String],
@@ -84,7 +83,12 @@ pub fn run_fresh<S: Source, K: Sink>(
     report: &mut K,
     printer: &mut MemSink,
 ) -> Option<Status>
-    ensures ran { IfSome result (λ outcome. Ran outcome (map string_bytes words.now) RanFresh (streams S.Source script.old K.Sink report.old (outside ⟦<MemSource as Source>⟧ rates.old ⟦<MemSink as Sink>⟧ printer.old)) (streams S.Source script.new K.Sink report.new (outside ⟦<MemSource as Source>⟧ rates.new ⟦<MemSink as Sink>⟧ printer.new))) }
+    ensures ran { IfSome result (λ outcome. RanFresh ⟦<Bench<MemNv> as HasNodes>⟧.nodes (λ made. IsOverFresh made)
+        outcome (map string_bytes words.now)
+        (streams_of S.Source K.Sink ⟦<MemSource as Source>⟧ ⟦<MemSink as Sink>⟧
+        script.old report.old rates.old printer.old)
+        (streams_of S.Source K.Sink ⟦<MemSource as Source>⟧ ⟦<MemSink as Sink>⟧
+        script.new report.new rates.new printer.new)) }
 {
     let stores = Stores {
         devices: blanks(alloc)?,

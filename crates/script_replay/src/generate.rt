@@ -3,36 +3,32 @@ ghost use Rattle.std.specs.Prelude.{◌≡◌, ◌≢◌, ◌+◌, ◌-◌, ◌^
 ghost use Rattle.bench_base.specs.Causes.{Rose};
 ghost use Rattle.bench_base.specs.Ranges.{IsWholeEvent};
 ghost use Rattle.bench_base.specs.declared.events.Reply.{Reply};
-ghost use Rattle.bench_views.specs.Kinds.{bench_kinds};
 ghost use Rattle.bench.specs.declared.benches.TheConstants.{MOST_MESSAGES};
-ghost use Rattle.bench.specs.Benches.{IsReady, nodes, bench_of};
+ghost use Rattle.bench.specs.Benches.{IsReady, bench_of};
 ghost use Rattle.bench.specs.Outside.{outside};
 ghost use Rattle.generator.specs.Given.{NeedsNoStream};
 ghost use Rattle.script_text.specs.Summaries.{tally_of};
-ghost use Rattle.script_replay.specs.Chains.{scene, DidEvent, DidDeeds};
-ghost use Rattle.script_replay.specs.Deeds.{done};
+ghost use Rattle.script_replay.specs.Chains.{scene_of, DidEvent, DidEvents};
+ghost use Rattle.desk_runs.specs.Deeds.{Done};
 ghost use Rattle.script_replay.specs.Generated.{EndsWith, Generated, InTheMidst, summary_line};
 ghost use Rattle.script_replay.specs.Run.{Leaves};
-ghost use Rattle.script_replay.specs.Turns.{Ended};
-ghost use Rattle.script_replay.specs.declared.status.Status.{Status};
+ghost use Rattle.line_runs.specs.Turns.{Ended};
+ghost use Rattle.line_runs.specs.declared.status.SideStatus.TheVariants.{Run};
+ghost use Rattle.line_runs.specs.declared.status.Status.{Status};
 ghost use Rattle.std.specs.Io.KnownBytes.{Appends};
 
-use crate::run::reply_to;
-use crate::status::Status;
-use bench::BenchOver;
-use bench_base::events::Event;
+use crate::steps::OnBench;
+use bench::{BenchOver, HasNodes};
+use bench_base::events::{Event, Reply};
 use bench_base::stream::{Sink, Source};
-use centre_protocol::CentreNode;
+use desk_runs::Stepper;
 use generator::Generator;
 use generator::laws::{all_whole, few_events, no_streams, only_debits_given};
-use host_node::HostNode;
-use node_seat::Node;
+use line_runs::status::Status;
 use nv_model::{Fuse, Nv};
-use psd_device::DeviceNode;
 use script_text::{Summary, write_summary};
-use std::alloc::Global;
+use std::alloc::{AllocError, Global};
 use text_streams::put_text;
-use verifier_node::VerifierNode;
 
 // Does one event, and counts it.
 fn count_event<M: Fuse + Drop, N: Nv, R: Source, P: Sink>(
@@ -49,10 +45,16 @@ fn count_event<M: Fuse + Drop, N: Nv, R: Source, P: Sink>(
     requires room { length (bench_of bench.old).messages < MOST_MESSAGES }
     requires few { summary.old.events < 2 ^ 32 - 1 }
     ensures ready { IsReady (bench_of bench.new) }
-    ensures did { (text printed : List ℕ) × (r : Reply) × DidEvent (nodes ⟦<DeviceNode<M> as Node>⟧ ⟦<CentreNode<M> as Node>⟧ ⟦<HostNode<M> as Node>⟧ ⟦<VerifierNode<M> as Node>⟧ bench_kinds) M.Nv M.Fuse.own N.Nv (scene (bench_of bench.old) (outside R.Source rates.old P.Sink printer.old)) (scene (bench_of bench.new) (outside R.Source rates.new P.Sink printer.new)) (done event.now text r printed)
-        × ((replies : List Reply) → summary.old ≡ tally_of replies → summary.new ≡ tally_of (replies ++ r ∷ [])) }
+    ensures did { (d : Done) × (d.event ≡ event.now) × DidEvent ⟦<BenchOver<M, N> as HasNodes>⟧.nodes
+        (scene_of R.Source P.Sink bench.old rates.old printer.old)
+        (scene_of R.Source P.Sink bench.new rates.new printer.new) d
+        × ((replies : List Reply) → summary.old ≡ tally_of replies
+        → summary.new ≡ tally_of (replies ++ d.reply ∷ [])) }
 {
-    match reply_to(alloc, event, rates, printer, bench) {
+    let told: Result<Reply, AllocError> = OnBench::<M, N, R, P>::step(
+        alloc, event, bench, rates, printer,
+    );
+    match told {
         Ok(reply) => summary.count(&reply),
         // Only a `rates` wants memory, and none is generated.
         Err(_) => unreachable!(),
@@ -72,7 +74,9 @@ fn count_all<M: Fuse + Drop, N: Nv, R: Source, P: Sink>(
     requires ready { IsReady (bench_of bench.old) }
     requires no_messages { (bench_of bench.old).messages ≡ [] }
     ensures ready { IsReady (bench_of bench.new) }
-    ensures did { InTheMidst (DidDeeds (nodes ⟦<DeviceNode<M> as Node>⟧ ⟦<CentreNode<M> as Node>⟧ ⟦<HostNode<M> as Node>⟧ ⟦<VerifierNode<M> as Node>⟧ bench_kinds) M.Nv M.Fuse.own N.Nv) seed count [] result (scene (bench_of bench.old) (outside R.Source rates.old P.Sink printer.old)) (scene (bench_of bench.new) (outside R.Source rates.new P.Sink printer.new)) }
+    ensures did { InTheMidst (DidEvents ⟦<BenchOver<M, N> as HasNodes>⟧.nodes) seed count [] result
+        (scene_of R.Source P.Sink bench.old rates.old printer.old)
+        (scene_of R.Source P.Sink bench.new rates.new printer.new) }
     ensures rests { outside R.Source rates.new P.Sink printer.new ≡ outside R.Source rates.old P.Sink printer.old }
 {
     all_whole();
@@ -91,7 +95,8 @@ fn count_all<M: Fuse + Drop, N: Nv, R: Source, P: Sink>(
 // Writes the line of the summary.
 fn put_summary<K: Sink>(seed: u32, count: u32, summary: &Summary, report: &mut K) -> Status
     ensures ends { (replies : List Reply) → summary.now ≡ tally_of replies
-        → (text : List ℕ) × EndsWith result text (summary_line seed count replies) × Appends (K.taken report.old) (K.taken report.new) text }
+        → (text : List ℕ) × EndsWith result text (summary_line seed count replies)
+        × Appends (K.taken report.old) (K.taken report.new) text }
     ensures later { K.faults report.old ≤ K.faults report.new }
     ensures failed { result ≡ Status.WriteFault → Rose (K.faults report.old) (K.faults report.new) }
 {
@@ -117,7 +122,10 @@ pub(crate) fn generate<K: Sink, M: Fuse + Drop, N: Nv, R: Source, P: Sink>(
     requires ready { IsReady (bench_of bench.old) }
     requires no_messages { (bench_of bench.old).messages ≡ [] }
     ensures ready { IsReady (bench_of bench.new) }
-    ensures ran { Generated result seed count (Ended (DidDeeds (nodes ⟦<DeviceNode<M> as Node>⟧ ⟦<CentreNode<M> as Node>⟧ ⟦<HostNode<M> as Node>⟧ ⟦<VerifierNode<M> as Node>⟧ bench_kinds) M.Nv M.Fuse.own N.Nv) (λ s. Leaves s) result (scene (bench_of bench.old) (outside R.Source rates.old P.Sink printer.old)) (scene (bench_of bench.new) (outside R.Source rates.new P.Sink printer.new))) (K.taken report.old) (K.taken report.new) }
+    ensures ran { Generated result seed count (Ended (DidEvents ⟦<BenchOver<M, N> as HasNodes>⟧.nodes)
+        (λ s. Leaves s) (Run result)
+        (scene_of R.Source P.Sink bench.old rates.old printer.old)
+        (scene_of R.Source P.Sink bench.new rates.new printer.new)) (K.taken report.old) (K.taken report.new) }
     ensures rests { outside R.Source rates.new P.Sink printer.new ≡ outside R.Source rates.old P.Sink printer.old }
     ensures not_words { result ≢ Status.Words }
     ensures not_read { result ≢ Status.ReadFault }

@@ -6,27 +6,31 @@ ghost use Rattle.bench_base.specs.declared.events.Reply.{Reply};
 ghost use Rattle.ledger_moves.specs.Tariffs.{Tariff};
 ghost use Rattle.bench_views.specs.Tariff.{IsOfTexts};
 ghost use Rattle.script_text.specs.Told.{IsWholeReply, told};
-ghost use Rattle.script_replay.specs.Deeds.{Deed, AreUnforged, line_of};
-ghost use Rattle.script_replay.specs.Ends.{EndsAs};
+ghost use Rattle.desk_runs.specs.Deeds.{Done, line_of};
+ghost use Rattle.script_replay.specs.Deeds.{AreUnforged};
+ghost use Rattle.line_runs.specs.Ends.{EndsAs};
+ghost use Rattle.desk_runs.specs.Scripts.{script_grammar};
 ghost use Rattle.script_replay.specs.Outside.{BringsNone};
 ghost use Rattle.script_replay.specs.Run.{Unforged};
-ghost use Rattle.script_replay.specs.declared.status.Status.{Status};
+ghost use Rattle.line_runs.specs.declared.status.Status.{Status};
 
 use host_rates::theorems::prices_by_text;
 
 /// A script ends in one way: two statuses that its bytes allow are one.
 pub fn one_end()
-    ensures { (s t : Status) (bytes : List ℕ) → EndsAs s bytes → EndsAs t bytes → s ≡ t }
+    ensures { (s t : Status) (bytes : List ℕ) → EndsAs script_grammar s bytes → EndsAs script_grammar t bytes → s ≡ t }
 {}
 
 /// A report tells its replies: two lists of whole replies whose lines are the same bytes tell the same, reply by reply.
 pub fn one_report()
-    ensures { (a b : List Reply) → AllByRecursion IsWholeReply a → AllByRecursion IsWholeReply b → flat_map line_of a ≡ flat_map line_of b → map told a ≡ map told b }
+    ensures { (a b : List Reply) → AllByRecursion IsWholeReply a → AllByRecursion IsWholeReply b
+        → flat_map line_of a ≡ flat_map line_of b → map told a ≡ map told b }
 {}
 
 /// Where no event gives or scans bytes from outside, nothing is forged: what a run promises by a history holds of it as it is.
 pub fn nothing_forged()
-    ensures { (τ : Tariff) (H : Ledger) (deeds : List Deed) → AllByRecursion BringsNone deeds → AreUnforged τ Unforged H deeds }
+    ensures { (τ : Tariff) (H : Ledger) (deeds : List Done) → AllByRecursion BringsNone deeds
+        → AreUnforged τ Unforged H deeds }
 {}
 
 /// There is a tariff of texts: that what a run promises is by such a one leaves nothing out.

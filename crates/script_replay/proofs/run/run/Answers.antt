@@ -1,34 +1,35 @@
 use Rattle.std.proofs.Common.{[], rules, refl, sym, ◌∙◌}
 use Rattle.bench.specs.Benches.{bench_of}
-use Rattle.bench.specs.Outside.{outside}
 use Rattle.script_text.specs.declared.program.Words.TheVariants.{Replay, Generate}
-use Rattle.script_replay.specs.Chains.{scene}
-use Rattle.script_replay.specs.declared.status.Status.TheVariants as status
+use Rattle.script_replay.specs.Chains.{scene_of}
+use Rattle.line_runs.specs.declared.status.Status.TheVariants as status
 use Rattle.script_replay.proofs.Calling.{apart, read_as, ran_replay, ran_generate, ran_nothing, generated_said}
-use Rattle.script_replay.proofs.Completing.{completes}
-use Rattle.script_replay.proofs.Deeds.{said}
-use Rattle.script_replay.proofs.EndLaws.{exact_end}
+use Rattle.script_replay.proofs.Completing.{completes, exact_end}
+use Rattle.desk_runs.specs.Deeds.{done_in}
+use Rattle.desk_runs.specs.Scripts.{script_lines}
+use Rattle.line_runs.proofs.Turns.{said}
+use Rattle.line_runs.specs.declared.status.SideStatus.TheVariants.{Run}
 use Rattle.script_replay.proofs.Running.{did_run}
 use Rattle.script_replay.proofs.run.run.Goals as goal
 
 pub returns-in-Some-Replay-clause-ran : goal.returns-in-Some-Replay-clause-ran
 returns-in-Some-Replay-clause-ran g c =
     ran_replay c.replay.result _ _ _ _ (read_as _ _ Replay c.in-Some-Replay.field-0-is c.in-Some-Replay.ensures.found).1
-    (said _ _ c.replay.result _ _ _ _ (λ deeds e. did_run _ _ _ _ c.histories.ensures.today c.histories.ensures.holds (scene (bench_of c.args.bench.now) (outside g.R.Source c.args.rates.now g.P.Sink c.args.printer.now)) (bench_of c.begin.new.self)
+    (said script_lines _ _ (Run c.replay.result) _ _ _ _ (λ deeds e. did_run _ c.histories.ensures.today c.histories.ensures.holds (scene_of g.R.Source g.P.Sink c.args.bench.now c.args.rates.now c.args.printer.now) (bench_of c.begin.new.self)
     c.requires.ready c.begin.ensures.ready c.begin.ensures.begun c.begin.ensures.no_day c.begin.ensures.no_messages c.begin.ensures.no_rates c.begin.ensures.stands
-    c.replay.result _ deeds e) c.replay.ensures.ran)
+    c.replay.result _ (done_in deeds) (record { behind = e.behind; did = e.did; leaves = e.leaves })) c.replay.ensures.ran)
 
 pub returns-in-Some-Generate-clause-ran : goal.returns-in-Some-Generate-clause-ran
 returns-in-Some-Generate-clause-ran g c =
     let found = read_as _ _ (Generate c.in-Some-Generate.seed c.in-Some-Generate.count) c.in-Some-Generate.field-0-is c.in-Some-Generate.ensures.found in
     ran_generate c.generate.result _ _ _ _ c.in-Some-Generate.seed c.in-Some-Generate.count c.read_words.result (rw c.in-Some-Generate.field-0-is at c.in-Some-Generate.is) c.read_words.ensures.only found.0 found.1
-    (generated_said _ _ c.generate.result _ _ _ _ (λ deeds e. did_run _ _ _ _ c.histories.ensures.today c.histories.ensures.holds (scene (bench_of c.args.bench.now) (outside g.R.Source c.args.rates.now g.P.Sink c.args.printer.now)) (bench_of c.begin.new.self)
+    (generated_said _ _ c.generate.result _ _ _ _ (λ deeds e. did_run _ c.histories.ensures.today c.histories.ensures.holds (scene_of g.R.Source g.P.Sink c.args.bench.now c.args.rates.now c.args.printer.now) (bench_of c.begin.new.self)
     c.requires.ready c.begin.ensures.ready c.begin.ensures.begun c.begin.ensures.no_day c.begin.ensures.no_messages c.begin.ensures.no_rates c.begin.ensures.stands
     c.generate.result _ deeds e) c.generate.ensures.ran)
 
 pub returns-in-None-clause-ran : goal.returns-in-None-clause-ran
 returns-in-None-clause-ran g c =
-    ran_nothing status.Words _ _ _ _ c.in-None.ensures.none (did_run _ _ _ _ c.histories.ensures.today c.histories.ensures.holds (scene (bench_of c.args.bench.now) (outside g.R.Source c.args.rates.now g.P.Sink c.args.printer.now)) (bench_of c.begin.new.self)
+    ran_nothing status.Words _ _ _ _ c.in-None.ensures.none (did_run _ c.histories.ensures.today c.histories.ensures.holds (scene_of g.R.Source g.P.Sink c.args.bench.now c.args.rates.now c.args.printer.now) (bench_of c.begin.new.self)
     c.requires.ready c.begin.ensures.ready c.begin.ensures.begun c.begin.ensures.no_day c.begin.ensures.no_messages c.begin.ensures.no_rates c.begin.ensures.stands
     status.Words _ [] (record { behind = _; did = refl; leaves = refl }))
 
@@ -48,8 +49,8 @@ returns-in-Some-Replay-clause-ends g c =
 
 pub returns-in-Some-Replay-clause-completes : goal.returns-in-Some-Replay-clause-completes
 returns-in-Some-Replay-clause-completes g c =
-    completes c.replay.result _ _ _ _ (ran_replay c.replay.result _ _ _ _ (read_as _ _ Replay c.in-Some-Replay.field-0-is c.in-Some-Replay.ensures.found).1 c.replay.ensures.ran)
-    c.replay.ensures.read_failed c.replay.ensures.write_failed
+    completes c.replay.result _ (λ deeds. Unit {0}) _ _ (ran_replay c.replay.result _ (λ deeds. Unit {0}) _ _ (read_as _ _ Replay c.in-Some-Replay.field-0-is c.in-Some-Replay.ensures.found).1
+    (said script_lines _ (λ deeds. Unit {0}) (Run c.replay.result) _ _ _ _ (λ deeds e. tt) c.replay.ensures.ran)) c.replay.ensures.read_failed c.replay.ensures.write_failed
 
 pub returns-in-None-clause-completes : goal.returns-in-None-clause-completes
 returns-in-None-clause-completes g c =

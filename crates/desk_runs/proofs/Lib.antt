@@ -1,0 +1,3 @@
+mod Asking
+mod Doing
+pub mod Texts

@@ -1,0 +1,76 @@
+//! A run over a script with a desk beside the bench.
+ghost use Rattle.std.specs.Prelude.{◌≡◌, ◌↔◌, ◌∷◌, [], true, false, map, string_bytes, IsTrue};
+ghost use Rattle.bench.specs.Benches.{IsReady, bench_of};
+ghost use Rattle.desk_runs.specs.Desks.{world};
+ghost use Rattle.script_replay.specs.Chains.{scene_of};
+ghost use Rattle.script_replay.specs.Sides.{DidSide, RanSide, EndsSide, CompletesSide};
+ghost use Rattle.script_replay.specs.Streams.{streams_of};
+
+use crate::steps::OnBench;
+use bench::{Bench, HasNodes};
+use bench_base::stream::{Sink, Source};
+use desk_runs::{AtBench, Desk};
+use ledger_laws::laws::histories;
+use line_runs::run_lines;
+use line_runs::status::{SideStatus, Status};
+use nv_model::{Fused, Nv};
+use std::alloc::Global;
+
+fn is_word(word: &String, wanted: &str) -> bool
+    ensures same { IsTrue result ↔ (string_bytes word.now ≡ wanted.now) }
+{
+    word.as_str() == wanted
+}
+
+// Whether the words are this one.
+fn is_called(words: &[String], word: &str) -> bool
+    ensures called { result ≡ true → map string_bytes words.now ≡ word.now ∷ [] }
+    ensures other { result ≡ false → map string_bytes words.now ≡ word.now ∷ [] → ⊥ }
+{
+    match words {
+        [one] => {
+            if is_word(one, word) {
+                return true;
+            }
+            false
+        }
+        _ => false,
+    }
+}
+
+/// Does a script whose lines are events of the bench or a desk's own, as `run` does one of events, where the words are this one.
+pub fn run_side<D: Desk, S: Source, R: Source, K: Sink, P: Sink, N: Nv + Drop>(
+    alloc: Global,
+    word: &str,
+    words: &[String],
+    script: &mut S,
+    rates: &mut R,
+    report: &mut K,
+    printer: &mut P,
+    bench: &mut Bench<N>,
+    desk: &mut D,
+) -> SideStatus
+    requires ready { IsReady (bench_of bench.old) }
+    ensures ready { IsReady (bench_of bench.new) }
+    ensures ran { RanSide ⟦<D as Desk>⟧ word.now result (map string_bytes words.now)
+        (DidSide ⟦<Bench<N> as HasNodes>⟧.nodes ⟦<D as Desk>⟧
+        (world (scene_of R.Source P.Sink bench.old rates.old printer.old) desk.old)
+        (world (scene_of R.Source P.Sink bench.new rates.new printer.new) desk.new) result)
+        (streams_of S.Source K.Sink R.Source P.Sink script.old report.old rates.old printer.old)
+        (streams_of S.Source K.Sink R.Source P.Sink script.new report.new rates.new printer.new) }
+    ensures ends { EndsSide ⟦<D as Desk>⟧ word.now result (map string_bytes words.now)
+        (streams_of S.Source K.Sink R.Source P.Sink script.old report.old rates.old printer.old)
+        (streams_of S.Source K.Sink R.Source P.Sink script.new report.new rates.new printer.new) }
+    ensures completes { CompletesSide ⟦<D as Desk>⟧ word.now result (map string_bytes words.now)
+        (streams_of S.Source K.Sink R.Source P.Sink script.old report.old rates.old printer.old)
+        (streams_of S.Source K.Sink R.Source P.Sink script.new report.new rates.new printer.new) }
+{
+    histories();
+    bench.begin();
+    if is_called(words, word) {
+        return run_lines::<AtBench<OnBench<Fused<N>, N, R, P>, D>, S, K>(
+            alloc, script, desk, bench, rates, printer, report,
+        );
+    }
+    SideStatus::Run(Status::Words)
+}
