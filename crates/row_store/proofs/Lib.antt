@@ -1,0 +1,2 @@
+mod Booted
+pub mod Kept

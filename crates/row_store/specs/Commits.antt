@@ -1,0 +1,37 @@
+-- What a commit of a row leaves.
+use Rattle.std.specs.Prelude.{◌≡◌, ◌↔◌, ◌⊎◌, ◌≤◌, ℕ, List, Option, true, Result, OnOk, OnErr, IsErrOf}
+use Rattle.bench_base.specs.declared.refusals.StoreFail.{StoreFail}
+use Rattle.bench_base.specs.declared.refusals.StoreFail.TheVariants.{Power, Fault, Worn, Failed}
+use Rattle.bench_base.specs.Causes.{Rose}
+use Rattle.nv_model.specs.Meters.{Meters, WasCut, Uses}
+use Rattle.nv_model.specs.Moments.{Times, Elapses}
+use Rattle.nv_store.specs.Slot.{Held}
+use Rattle.node_acts.specs.RowList.{RowList, is_worn, put}
+use Rattle.row_table.specs.Shows.{ShowsRows}
+use Rattle.row_store.specs.Seen.{ReadsAs, seen_in}
+
+-- cells as contracts see them: what is kept of each, and their storage
+pub record RowView : Type 1 where
+  pub cells : ℕ
+  pub held : ℕ → Option Held
+  pub times : Times
+  pub meters : Meters
+
+-- the rows of the cells, with their counts
+abbrev pub rows_in : {R : Type 0} → (ℕ → List ℕ → Option R) → RowView → RowList R
+rows_in decoded v = seen_in decoded v.cells v.held
+
+-- A commit of a row to a cell: done, or found worn, or broken off. At every moment each image shows the rows before it or those after it.
+pub record CommitsRow {R : Type 0} (tells : Type 0) (decoded : ℕ → List ℕ → Option R) (size cell : ℕ) (x : R) (old new : RowView) (result : Result (Unit {0}) StoreFail) : Type 0 where
+  pub done : OnOk result (rows_in decoded new ≡ put (rows_in decoded old) cell x)
+  pub stays : OnErr result (rows_in decoded new ≡ rows_in decoded old)
+  pub not_failed : IsErrOf result Failed → ⊥
+  pub worn : IsErrOf result Worn ↔ (is_worn (rows_in decoded old) cell ≡ true)
+  pub power : IsErrOf result Power → WasCut old.meters new.meters
+  pub fault : IsErrOf result Fault → Rose old.meters.faults new.meters.faults
+  pub cuts : old.meters.cuts ≤ new.meters.cuts
+  pub faults : old.meters.faults ≤ new.meters.faults
+  pub fuse : Uses 6 old.meters.fuse new.meters.fuse
+  pub any_moment : tells → (IsErrOf result Worn → ⊥) → (c : List ℕ) → new.times.since old.times.moment c
+      → ShowsRows size old.cells (ReadsAs decoded) (rows_in decoded old) c ⊎ ShowsRows size old.cells (ReadsAs decoded) (put (rows_in decoded old) cell x) c
+  pub time : tells → Elapses old.times new.times
