@@ -1,0 +1,5 @@
+mod Answering
+mod Keeping
+mod Payloads
+mod Reading
+mod Running

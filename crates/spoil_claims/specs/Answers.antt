@@ -1,0 +1,88 @@
+-- What an own line is answered, by the claims that are kept and by the reply to its scan; and the claims after it.
+use Rattle.std.specs.Prelude.{◌≡◌, ◌⊎◌, ℕ, ◌+◌, ◌-◌, List, [], ◌∷◌, true, false, Option, Some, None, codes, ◌==◌}
+use Rattle.bench_base.specs.declared.events.Event.TheVariants as ev
+use Rattle.indicium.specs.declared.Mark.{Mark}
+use Rattle.node_acts.specs.RowList.{is_worn, put}
+use Rattle.script_text.specs.Texts.{text_of}
+use Rattle.desk_runs.specs.Deeds.{Done, Skipped, Did}
+use Rattle.desk_runs.specs.SideDeeds.{SideDeed, Plain, Own, Broken}
+use Rattle.spoil_claims.specs.ClaimLines.{IsClaimLine}
+use Rattle.spoil_claims.specs.Claims.{Claims, kept, scan_number, last_claim, mark_of, credits}
+use Rattle.spoil_claims.specs.Courses.{Either, IsSame, IsAccepted, row_for, as_credited}
+use Rattle.spoil_claims.specs.Texts.{credited_text, credits_text, wrong_claim_text}
+use Rattle.spoil_claims.specs.declared.claim.ClaimRow.{ClaimRow}
+use Rattle.spoil_claims.specs.declared.claim.ClaimLine.{ClaimLine}
+use Rattle.spoil_claims.specs.declared.claim.ClaimLine.TheVariants.{Claim, Credits, Reserved}
+
+-- it was answered so, and nothing was done
+pub record IsTold (answer : List ℕ) (rows : Claims) (steps : List Done) (texts : List (List ℕ)) (after : Claims) : Type 0 where
+  pub none : steps ≡ []
+  pub texts_are : texts ≡ answer ∷ []
+  pub rests : after ≡ rows
+
+-- the credited claim is answered, with what its mark reads as
+pub record IsCreditTold (c : ℕ) (x : ClaimRow) (texts : List (List ℕ)) : Type 0 where
+  pub mark : Mark
+  pub is : mark_of x.mark ≡ Some mark
+  pub texts_are : texts ≡ credited_text c mark false ∷ []
+
+-- after Accepted the claim is committed as credited, unless its cell is worn
+abbrev pub IsCreditedNow : ClaimRow → Claims → List (List ℕ) → Claims → Type 0
+IsCreditedNow x rows texts after =
+    ((is_worn rows (x.claim - 1) ≡ true) × (texts ≡ codes "worn desk" ∷ []) × (after ≡ rows))
+    ⊎ ((is_worn rows (x.claim - 1) ≡ false) × IsCreditTold x.claim x texts × (after ≡ put rows (x.claim - 1) (as_credited x)))
+
+-- the open claim was scanned; every answer but Accepted is given as its text and leaves it open
+pub record IsScanned (x : ClaimRow) (rows : Claims) (steps : List Done) (texts : List (List ℕ)) (after : Claims) : Type 0 where
+  pub scan : Done
+  pub only : steps ≡ scan ∷ []
+  pub event : scan.event ≡ ev.ScanHex (scan_number x.claim) x.mark
+  pub did : (IsAccepted scan.reply × IsCreditedNow x rows texts after)
+      ⊎ ((IsAccepted scan.reply → ⊥) × (texts ≡ text_of scan.reply ∷ []) × (after ≡ rows))
+
+-- the claim was credited before
+pub record IsAgain (c : ℕ) (x : ClaimRow) (rows : Claims) (steps : List Done) (texts : List (List ℕ)) (after : Claims) : Type 0 where
+  pub mark : Mark
+  pub is : mark_of x.mark ≡ Some mark
+  pub told : IsTold (credited_text c mark true) rows steps texts after
+
+abbrev pub IsKnownTold : ℕ → ℕ → List ℕ → ClaimRow → Claims → List Done → List (List ℕ) → Claims → Type 0
+IsKnownTold c w mark x rows steps texts after =
+    (IsSame w mark x × Either x.credited (IsAgain c x rows steps texts after) (IsScanned x rows steps texts after))
+    ⊎ ((IsSame w mark x → ⊥) × IsTold (codes "refused claim conflict") rows steps texts after)
+
+-- an unknown claim is committed as open before it is scanned
+abbrev pub IsNewTold : ℕ → ℕ → List ℕ → Claims → List Done → List (List ℕ) → Claims → Type 0
+IsNewTold c w mark rows steps texts after =
+    ((is_worn rows (c - 1) ≡ true) × IsTold (codes "worn desk") rows steps texts after)
+    ⊎ ((is_worn rows (c - 1) ≡ false) × IsScanned (row_for c w mark) (put rows (c - 1) (row_for c w mark)) steps texts after)
+
+abbrev pub IsUnknownTold : ℕ → ℕ → List ℕ → Claims → List Done → List (List ℕ) → Claims → Type 0
+IsUnknownTold c w mark rows steps texts after =
+    Either (c == last_claim rows + 1)
+    (Either (c == 1025) (IsTold (codes "refused claim full") rows steps texts after) (IsNewTold c w mark rows steps texts after))
+    (IsTold (wrong_claim_text (last_claim rows)) rows steps texts after)
+
+abbrev pub IsClaimTold : Option ClaimRow → ℕ → ℕ → List ℕ → Claims → List Done → List (List ℕ) → Claims → Type 0
+IsClaimTold (Some x) c w mark rows steps texts after = IsKnownTold c w mark x rows steps texts after
+IsClaimTold None c w mark rows steps texts after = IsUnknownTold c w mark rows steps texts after
+
+-- THE ANSWER OF AN OWN LINE
+abbrev pub IsAnswered : ClaimLine → Claims → List Done → List (List ℕ) → Claims → Type 0
+IsAnswered (Claim c w mark) rows steps texts after = IsClaimTold (kept rows c) c w mark rows steps texts after
+IsAnswered (Credits w) rows steps texts after = IsTold (credits_text w (credits w rows)) rows steps texts after
+IsAnswered Reserved rows steps texts after = IsTold (codes "refused claim reserved") rows steps texts after
+
+-- a line at which a commit failed: nothing was committed before it, or the claim as open
+abbrev pub IsCutShort : ClaimLine → Claims → Claims → Type 0
+IsCutShort (Claim c w mark) rows after = (after ≡ rows) ⊎ ((kept rows c ≡ None) × (after ≡ put rows (c - 1) (row_for c w mark)))
+IsCutShort (Credits w) rows after = ⊥
+IsCutShort Reserved rows after = ⊥
+
+-- each line in turn; one that is left to the bench is none of the desk's
+abbrev pub AreAnswered : Claims → List (SideDeed ClaimLine) → Claims → Type 0
+AreAnswered rows [] after = after ≡ rows
+AreAnswered rows (Plain (Skipped line) ∷ rest) after = AreAnswered rows rest after
+AreAnswered rows (Plain (Did line d) ∷ rest) after = ((own : ClaimLine) → IsClaimLine own line → ⊥) × AreAnswered rows rest after
+AreAnswered rows (Own line own steps texts ∷ rest) after = (mid : Claims) × IsAnswered own rows steps texts mid × AreAnswered mid rest after
+AreAnswered rows (Broken line own steps ∷ rest) after = (mid : Claims) × IsCutShort own rows mid × AreAnswered mid rest after

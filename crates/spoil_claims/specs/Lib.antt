@@ -1,0 +1,13 @@
+-- Promised: public contracts name these.
+pub mod Answers
+pub mod ClaimLines
+pub mod ClaimsDesk
+pub mod Claims
+pub mod Courses
+pub mod Payload
+pub mod Ran
+pub mod Texts
+pub mod View
+pub mod Waits
+-- Bookkeeping: private calls and proofs alone name these.
+pub mod LineLaws

@@ -1,0 +1,65 @@
+//! The desk out of its storage.
+ghost use Rattle.std.specs.Prelude.{◌≡◌, ◌≢◌, ℕ, List, Some, None, IfOk, IfErr, MatchResult, false};
+ghost use Rattle.nv_model.specs.Moments.{Image};
+ghost use Rattle.nv_store.specs.Mounts.{Mounts};
+ghost use Rattle.nv_store.specs.RoomView.{cells_of};
+ghost use Rattle.row_store.specs.Boots.{BootCauses};
+ghost use Rattle.row_store.specs.Seen.{ReadsAs};
+ghost use Rattle.row_table.specs.Shows.{ShowsRows, IsDamagedTable};
+ghost use Rattle.spoil_claims.specs.Claims.{HasNoGaps};
+ghost use Rattle.spoil_claims.specs.Payload.{decoded};
+ghost use Rattle.spoil_claims.specs.View.{storage_of, has_failed, rows_of};
+ghost use Rattle.spoil_claims.specs.declared.claim.TheConstants.{CLAIM_CELLS};
+
+use crate::claim::CLAIM_CELLS;
+use crate::desk::Desk;
+use crate::payload::ClaimRows;
+use crate::said::Said;
+use bench_base::refusals::BootFail;
+use nv_model::Nv;
+use nv_store::Room;
+use row_store::boot_rows;
+
+impl<N: Nv> Desk<N> {
+    /// The desk in its storage and in memory for 1,024 cells, or why it does not start, with both. Power is not lost. Nothing is
+    /// written, and no memory is taken. Blank storage has no claims.
+    ///
+    /// `Damaged` comes exactly where the storage has not 159,744 bytes; where a cell has an open slot of count 0 or two open slots
+    /// of equal counts; where a payload is no claim's with the number of its cell, a customer from 1 to 64, a state and a mark; and
+    /// where a claim lies behind a blank cell.
+    pub fn boot(nv: N, room: Room<73>) -> Result<Desk<N>, (N, Room<73>, BootFail)>
+        requires powered { (N.meters nv).lost ≡ false }
+        requires cells { cells_of room ≡ CLAIM_CELLS }
+
+        // What starts is what the storage shows, and nothing is written.
+        ensures works { IfOk result (λ d. has_failed d ≡ false) }
+        ensures shows { N.tells
+            → IfOk result (λ d. (c : List ℕ) → Image (N.times (storage_of d)) c
+            → ShowsRows 73 CLAIM_CELLS (ReadsAs decoded) (rows_of d) c) }
+        ensures mounts { N.tells
+            → MatchResult result (λ d. Mounts (N.times nv) (N.times (storage_of d)))
+            (λ e. Mounts (N.times nv) (N.times e.0)) }
+
+        // Why it fails, and what it costs.
+        ensures size { N.size nv ≢ 159744 → IfErr result (λ e. (e.0 ≡ nv) × (e.2 ≡ BootFail.Damaged)) }
+        ensures damaged { N.tells
+            → MatchResult result (λ d. IsDamagedTable 73 CLAIM_CELLS (ReadsAs decoded) HasNoGaps N.Nv (storage_of d)
+            → ⊥)
+            (λ e. e.2 ≡ BootFail.Damaged → IsDamagedTable 73 CLAIM_CELLS (ReadsAs decoded) HasNoGaps N.Nv e.0) }
+        ensures room { IfErr result (λ e. cells_of e.1 ≡ CLAIM_CELLS) }
+        ensures causes { MatchResult result (λ d. BootCauses (N.meters nv) (N.meters (storage_of d)) None)
+            (λ e. BootCauses (N.meters nv) (N.meters e.0) (Some e.2)) }
+    {
+        let mut nv = nv;
+        let mut room = room;
+        match boot_rows::<ClaimRows, N, 73>(&mut nv, &mut room, CLAIM_CELLS) {
+            Ok(()) => Ok(Desk {
+                nv,
+                room,
+                failed: false,
+                said: Said::Nothing,
+            }),
+            Err(fail) => Err((nv, room, fail)),
+        }
+    }
+}

@@ -1,0 +1,19 @@
+//! Claims for spoiled pieces: a claim is credited by using up its piece at the verifier, so that a piece is mail or credited, never both.
+#![tactic(auto)]
+
+mod accepted;
+mod boot;
+mod claim;
+mod courses;
+mod desk;
+mod lines;
+mod own;
+mod payload;
+mod run;
+mod said;
+
+pub use claim::{CLAIM_BYTES, CLAIM_CELLS, ClaimLine, ClaimRow};
+pub use desk::Desk;
+pub use payload::ClaimRows;
+pub use run::run_claims;
+pub use said::Said;
