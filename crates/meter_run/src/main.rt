@@ -10,19 +10,21 @@ ghost use Rattle.bench.specs.Benches.{IsReady, bench_of};
 
 use bench::Bench;
 use bench_base::stream::{IoSink, IoSource};
-use nv_file::{FileNv, Starting};
+use nv_file::{FileNv, Starting, StoreFile};
 use nv_model::Fused;
+use nv_store::Room;
 use rates_file::RatesFile;
 use read_ahead::ReadAhead;
 use script_replay::run::run;
-use script_replay::status::Status;
+use script_replay::status::{SideStatus, Status};
 use script_text::read_words;
+use spoil_claims::{CLAIM_CELLS, Desk, run_claims};
 use std::fs::{self, File, OpenOptions};
 use std::os::fd::AsRawFd;
 use std::os::unix::fs::{FileTypeExt, OpenOptionsExt};
 use std::process::ExitCode;
 use std::{env, io};
-use store_files::{STORES, is_store, split_stores};
+use store_files::{BENCH_STORES, STORES, is_store, split_stores};
 use thiserror::Error;
 
 /// The rates, a TOML document. A missing file is an empty one.
@@ -62,19 +64,22 @@ enum Fault {
     Memory,
     #[error("script too long")]
     TooLong,
+    #[error("stopped")]
+    Stopped,
     #[error("cannot use {0}")]
     File(&'static str),
 }
 
-fn fault_of(status: Status) -> Option<Fault> {
+fn fault_of(status: SideStatus) -> Option<Fault> {
     match status {
-        Status::Done => None,
-        Status::Words => Some(Fault::Words),
-        Status::Script(line) => Some(Fault::Script(line)),
-        Status::ReadFault => Some(Fault::Read),
-        Status::WriteFault => Some(Fault::Write),
-        Status::Memory => Some(Fault::Memory),
-        Status::TooLong => Some(Fault::TooLong),
+        SideStatus::Run(Status::Done) => None,
+        SideStatus::Run(Status::Words) => Some(Fault::Words),
+        SideStatus::Run(Status::Script(line)) => Some(Fault::Script(line)),
+        SideStatus::Run(Status::ReadFault) => Some(Fault::Read),
+        SideStatus::Run(Status::WriteFault) => Some(Fault::Write),
+        SideStatus::Run(Status::Memory) => Some(Fault::Memory),
+        SideStatus::Run(Status::TooLong) => Some(Fault::TooLong),
+        SideStatus::Stopped => Some(Fault::Stopped),
     }
 }
 
@@ -160,10 +165,13 @@ fn open_printer(rt: &HostRuntime) -> Result<IoSink<File>, OpenFault> {
 
 // Opens the rates and the storages. No storage is made or changed before all of them can be used, the rates can be opened, and
 // the prints go elsewhere.
-fn open_files(rt: &HostRuntime) -> Result<(RatesFile<IoSource<File>>, Vec<FileNv>), OpenFault>
-    ensures eleven { IfOk result (λ opened. length opened.1.items ≡ 11) }
+fn open_files(
+    rt: &HostRuntime,
+    files: &[StoreFile],
+) -> Result<(RatesFile<IoSource<File>>, Vec<FileNv>), OpenFault>
+    ensures each { IfOk result (λ opened. length opened.1.items ≡ length files.now) }
 {
-    let starting = match Starting::prepare(rt, &STORES) {
+    let starting = match Starting::prepare(rt, files) {
         Ok(starting) => starting,
         Err(name) => return Err(OpenFault::File(name)),
     };
@@ -190,15 +198,46 @@ fn bench_over(rt: &HostRuntime, stores: Vec<FileNv>) -> Result<Bench<FileNv>, Op
     }
 }
 
-// Runs what the words say over the storages of the current folder.
-fn run_over_files(rt: &HostRuntime) -> Result<Status, OpenFault> {
-    let words = words_of(rt)?;
-    // Bad words touch no file.
-    if read_words(&words).is_none() {
-        return Ok(Status::Words);
+// The desk that keeps claims, out of the last of the storages. Nothing is written.
+fn open_desk(
+    rt: &HostRuntime,
+    stores: Vec<FileNv>,
+) -> Result<(Desk<FileNv>, Vec<FileNv>), OpenFault>
+    requires all { length stores.items ≡ 12 }
+    ensures eleven { IfOk result (λ opened. length opened.1.items ≡ 11) }
+{
+    let mut stores = stores;
+    let Some(nv) = stores.pop() else {
+        unreachable!()
+    };
+    let Ok(room) = Room::new(rt.alloc(), CLAIM_CELLS) else {
+        return Err(OpenFault::Memory);
+    };
+    match Desk::boot(nv, room) {
+        Ok(desk) => Ok((desk, stores)),
+        Err(_) => Err(OpenFault::File(STORES[BENCH_STORES].name)),
     }
-    let _folder = hold_folder(rt)?;
-    let (mut rates, stores) = open_files(rt)?;
+}
+
+// Whether the words call for a run with claims.
+fn is_claims(words: &[String]) -> bool {
+    match words {
+        [word] => word.as_str() == "claims",
+        _ => false,
+    }
+}
+
+// Runs what the words say over these storages, with the desk where there is one.
+fn run_over(
+    rt: &HostRuntime,
+    words: &[String],
+    rates: RatesFile<IoSource<File>>,
+    stores: Vec<FileNv>,
+    desk: Option<Desk<FileNv>>,
+) -> Result<SideStatus, OpenFault>
+    requires eleven { length stores.items ≡ 11 }
+{
+    let mut rates = rates;
     let mut bench = bench_over(rt, stores)?;
     let mut printer = open_printer(rt)?;
     let Ok(ahead) = vec![in rt.alloc(); 0; AHEAD] else {
@@ -206,15 +245,44 @@ fn run_over_files(rt: &HostRuntime) -> Result<Status, OpenFault> {
     };
     let mut script = ReadAhead::new(IoSource::new(rt.reader()), ahead);
     let mut report = IoSink::new(io::writer(rt));
-    Ok(run(
-        rt.alloc(),
-        &words,
-        &mut script,
-        &mut rates,
-        &mut report,
-        &mut printer,
-        &mut bench,
-    ))
+    match desk {
+        Some(mut desk) => Ok(run_claims(
+            rt.alloc(),
+            words,
+            &mut script,
+            &mut rates,
+            &mut report,
+            &mut printer,
+            &mut bench,
+            &mut desk,
+        )),
+        None => Ok(SideStatus::Run(run(
+            rt.alloc(),
+            words,
+            &mut script,
+            &mut rates,
+            &mut report,
+            &mut printer,
+            &mut bench,
+        ))),
+    }
+}
+
+// Runs what the words say over the storages of the current folder. Bad words touch no file.
+fn run_over_files(rt: &HostRuntime) -> Result<SideStatus, OpenFault> {
+    let words = words_of(rt)?;
+    if is_claims(&words) {
+        let _folder = hold_folder(rt)?;
+        let (rates, stores) = open_files(rt, &STORES)?;
+        let (desk, stores) = open_desk(rt, stores)?;
+        return run_over(rt, &words, rates, stores, Some(desk));
+    }
+    if read_words(&words).is_none() {
+        return Ok(SideStatus::Run(Status::Words));
+    }
+    let _folder = hold_folder(rt)?;
+    let (rates, stores) = open_files(rt, &STORES[..BENCH_STORES])?;
+    run_over(rt, &words, rates, stores, None)
 }
 
 // Runs, and answers the exit status with the line for standard error.

@@ -5,12 +5,17 @@ use bench::Stores;
 use bench_base::sizes::{CENTRE_BYTES, DEVICE_BYTES, VERIFIER_BYTES};
 use host_jobs::HOST_BYTES;
 use nv_file::{FileNv, StoreFile};
+use spoil_claims::CLAIM_BYTES;
 use std::fs;
 use std::fs::Metadata;
 use std::os::unix::fs::MetadataExt;
 
-/// Those of devices 1 to 8, of the centre, of the host and of the verifier, in the order in which they are looked at.
-pub const STORES: [StoreFile; 11] = [
+/// How many of the storages are those of a bench.
+pub const BENCH_STORES: usize = 11;
+
+/// Those of devices 1 to 8, of the centre, of the host and of the verifier, in the order in which they are looked at, and behind them that of
+/// the claims.
+pub const STORES: [StoreFile; 12] = [
     StoreFile {
         name: "device-1.nv",
         bytes: DEVICE_BYTES,
@@ -54,6 +59,10 @@ pub const STORES: [StoreFile; 11] = [
     StoreFile {
         name: "verifier.nv",
         bytes: VERIFIER_BYTES,
+    },
+    StoreFile {
+        name: "claims.nv",
+        bytes: CLAIM_BYTES,
     },
 ];
 
