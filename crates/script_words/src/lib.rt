@@ -4,6 +4,7 @@
 pub mod digits;
 pub mod line;
 pub mod values;
+pub mod wide;
 pub mod word;
 
 pub use line::Line;

@@ -1,4 +1,5 @@
 //! A line of the report.
+ghost use Rattle.bench_base.specs.Ranges.{IsDevice, IsNode};
 ghost use Rattle.std.specs.Prelude.{◌≡◌, ◌+◌, ◌*◌, ◌≤◌, ◌++◌, ◌∷◌, [], length};
 ghost use Rattle.script_words.specs.Words.{device_word, node_word, hex_word, kind_word, new_word};
 
@@ -108,6 +109,7 @@ impl Line {
     /// Adds a space and the name of the device.
     pub fn device(&mut self, device: DevNo)
         requires { length self.old ≤ 200 }
+        ensures whole { IsDevice device }
         ensures value { self.new ≡ self.old ++ 32 ∷ device_word device }
         ensures short { length self.new ≤ length self.old + 12 }
     {
@@ -120,6 +122,7 @@ impl Line {
     /// Adds a space and the name of the node.
     pub fn node(&mut self, node: Node)
         requires { length self.old ≤ 200 }
+        ensures whole { IsNode node }
         ensures value { self.new ≡ self.old ++ 32 ∷ node_word node }
         ensures short { length self.new ≤ length self.old + 12 }
     {
@@ -180,6 +183,7 @@ pub fn numbered<I: Integer>(line: &mut Line, words: &[u8], number: I)
 pub fn of_device(line: &mut Line, words: &[u8], device: DevNo)
     requires empty { line.old ≡ [] }
     requires short { length words.now ≤ 20 }
+    ensures whole { IsDevice device }
     ensures value { line.new ≡ words.now ++ 32 ∷ device_word device }
     ensures short { length line.new ≤ 40 }
 {
@@ -191,6 +195,7 @@ pub fn of_device(line: &mut Line, words: &[u8], device: DevNo)
 pub fn of_node(line: &mut Line, words: &[u8], node: Node)
     requires empty { line.old ≡ [] }
     requires short { length words.now ≤ 20 }
+    ensures whole { IsNode node }
     ensures value { line.new ≡ words.now ++ 32 ∷ node_word node }
     ensures short { length line.new ≤ 40 }
 {

@@ -5,6 +5,7 @@ ghost use Rattle.script_words.specs.Words.{device_word, node_word, hex_word, byt
 ghost use Rattle.bench_base.specs.Ranges.{IsDevice, IsCustomer, IsNode, IsKey, IsGiven};
 
 use crate::digits::{number, read_hex};
+use crate::wide::wide_number;
 use crate::word::{Word, after};
 use bench_base::bytes::Given;
 use bench_base::numbers::{Customer, DevNo};
@@ -21,6 +22,16 @@ impl Word for u32 {
             return None;
         }
         Some(value as u32)
+    }
+}
+
+impl Word for u64 {
+    ghost text = { decimal };
+
+    ghost fits = { λ n. n < 2 ^ 64 };
+
+    fn read(word: &[u8]) -> Option<u64> {
+        wide_number(word)
     }
 }
 

@@ -1,4 +1,4 @@
-use Rattle.script_words.proofs.Numbers.{not_empty, not_long, not_zero, number_found, number_none}
+use Rattle.script_words.proofs.Numbers.{wide, not_empty, not_long, not_zero, number_found, number_none}
 use Rattle.std.proofs.Common.{arith, ◌≡◌, ◌<◌, length, get_or}
 use Rattle.std.proofs.lemmas.Bool.Decides.{nat_tests}
 use Rattle.script_words.proofs.digits.number.Goals as goal
@@ -6,13 +6,13 @@ use Rattle.script_words.proofs.digits.number.Goals.{else-word-eq48-via-then-word
 
 pub returns-then-is_empty-clause-none : goal.returns-then-is_empty-clause-none
 returns-then-is_empty-clause-none c =
-    let empty : length c.args.word.now ≡ 0 = grind (arith, nat_tests) in not_empty c.args.word.now empty
+    let empty : length c.args.word.now ≡ 0 = grind (arith, nat_tests) in λ n small. not_empty c.args.word.now empty n (wide n small)
 
 pub returns-then-word-gt10-clause-none : goal.returns-then-word-gt10-clause-none
 returns-then-word-gt10-clause-none c = not_long c.args.word.now c.if-word-gt10.true
 
 pub returns-then-word-gt1-clause-none : goal.returns-then-word-gt1-clause-none
-returns-then-word-gt1-clause-none c = not_zero c.args.word.now c.if-word-eq48.true c.if-word-gt1.true
+returns-then-word-gt1-clause-none c = λ n small. not_zero c.args.word.now c.if-word-eq48.true c.if-word-gt1.true n (wide n small)
 
 pub returns-clause-none : goal.returns-clause-none
 returns-clause-none c = number_none c.digits.result c.args.word.now c.digits.ensures.value
