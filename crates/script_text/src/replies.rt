@@ -2,6 +2,7 @@
 ghost use Rattle.std.specs.Prelude.{◌≡◌, ◌+◌, ◌≤◌, ◌++◌, ◌∷◌, [], length, codes};
 ghost use Rattle.std.specs.Fmt.{signed_decimal};
 ghost use Rattle.script_words.specs.Words.{spaced};
+ghost use Rattle.script_text.specs.Told.{IsWholeReply};
 ghost use Rattle.script_text.specs.Texts.{text_of, verdict_number, pending_word, flight_words};
 ghost use Rattle.bench_base.specs.declared.events.Reply.{Reply};
 
@@ -33,7 +34,8 @@ fn verdict_code(verdict: Verdict) -> u8
 fn put_rates(line: &mut Line, classes: u32, zones: u32)
     requires empty { line.old ≡ [] }
     ensures value { line.new ≡ text_of (Reply.Rates classes zones) }
-    ensures short { length line.new ≤ 255 }
+    ensures whole { IsWholeReply (Reply.Rates classes zones) }
+    ensures short { length line.new ≤ 231 }
 {
     numbered(line, b"rates", classes);
     line.number(zones);
@@ -43,7 +45,8 @@ fn put_rates(line: &mut Line, classes: u32, zones: u32)
 fn put_up(line: &mut Line, node: Node, commits: u64)
     requires empty { line.old ≡ [] }
     ensures value { line.new ≡ text_of (Reply.Up node commits) }
-    ensures short { length line.new ≤ 255 }
+    ensures whole { IsWholeReply (Reply.Up node commits) }
+    ensures short { length line.new ≤ 231 }
 {
     of_node(line, b"up", node);
     line.word(b"commits");
@@ -54,7 +57,8 @@ fn put_up(line: &mut Line, node: Node, commits: u64)
 fn put_marked(line: &mut Line, device: DevNo, piece: u32, again: bool, mark: &[u8; 64])
     requires empty { line.old ≡ [] }
     ensures value { line.new ≡ text_of (Reply.Marked device piece again mark.now) }
-    ensures short { length line.new ≤ 255 }
+    ensures whole { IsWholeReply (Reply.Marked device piece again mark.now) }
+    ensures short { length line.new ≤ 231 }
 {
     of_device(line, b"mark", device);
     line.number(piece);
@@ -68,7 +72,8 @@ fn put_marked(line: &mut Line, device: DevNo, piece: u32, again: bool, mark: &[u
 fn put_sent_request(line: &mut Line, device: DevNo, number: u32, msg: u32)
     requires empty { line.old ≡ [] }
     ensures value { line.new ≡ text_of (Reply.SentRequest device number msg) }
-    ensures short { length line.new ≤ 255 }
+    ensures whole { IsWholeReply (Reply.SentRequest device number msg) }
+    ensures short { length line.new ≤ 231 }
 {
     of_device(line, b"sent", device);
     line.word(b"request");
@@ -81,7 +86,8 @@ fn put_sent_request(line: &mut Line, device: DevNo, number: u32, msg: u32)
 fn put_sent_done(line: &mut Line, device: DevNo, number: u32, msg: u32)
     requires empty { line.old ≡ [] }
     ensures value { line.new ≡ text_of (Reply.SentDone device number msg) }
-    ensures short { length line.new ≤ 255 }
+    ensures whole { IsWholeReply (Reply.SentDone device number msg) }
+    ensures short { length line.new ≤ 231 }
 {
     of_device(line, b"sent", device);
     line.word(b"done");
@@ -94,7 +100,8 @@ fn put_sent_done(line: &mut Line, device: DevNo, number: u32, msg: u32)
 fn put_deposited(line: &mut Line, customer: Customer, receipt: u32, again: bool, total: u64)
     requires empty { line.old ≡ [] }
     ensures value { line.new ≡ text_of (Reply.Deposited customer receipt again total) }
-    ensures short { length line.new ≤ 255 }
+    ensures whole { IsWholeReply (Reply.Deposited customer receipt again total) }
+    ensures short { length line.new ≤ 231 }
 {
     numbered(line, b"deposited", customer.get());
     line.number(receipt);
@@ -106,7 +113,8 @@ fn put_deposited(line: &mut Line, customer: Customer, receipt: u32, again: bool,
 fn put_balance(line: &mut Line, customer: Customer, total: u64)
     requires empty { line.old ≡ [] }
     ensures value { line.new ≡ text_of (Reply.Balance customer total) }
-    ensures short { length line.new ≤ 255 }
+    ensures whole { IsWholeReply (Reply.Balance customer total) }
+    ensures short { length line.new ≤ 231 }
 {
     numbered(line, b"balance", customer.get());
     line.number(total);
@@ -116,7 +124,8 @@ fn put_balance(line: &mut Line, customer: Customer, total: u64)
 fn put_ruled(line: &mut Line, device: DevNo, number: u32, verdict: Verdict, again: bool, msg: u32)
     requires empty { line.old ≡ [] }
     ensures value { line.new ≡ text_of (Reply.Ruled device number verdict again msg) }
-    ensures short { length line.new ≤ 255 }
+    ensures whole { IsWholeReply (Reply.Ruled device number verdict again msg) }
+    ensures short { length line.new ≤ 231 }
 {
     of_device(line, b"ruled", device);
     line.number(number);
@@ -131,7 +140,8 @@ fn put_ruled(line: &mut Line, device: DevNo, number: u32, verdict: Verdict, agai
 fn put_settled(line: &mut Line, device: DevNo, number: u32, again: bool)
     requires empty { line.old ≡ [] }
     ensures value { line.new ≡ text_of (Reply.Settled device number again) }
-    ensures short { length line.new ≤ 255 }
+    ensures whole { IsWholeReply (Reply.Settled device number again) }
+    ensures short { length line.new ≤ 231 }
 {
     of_device(line, b"settled", device);
     line.number(number);
@@ -142,7 +152,8 @@ fn put_settled(line: &mut Line, device: DevNo, number: u32, again: bool)
 fn put_applied(line: &mut Line, device: DevNo, number: u32, verdict: Verdict)
     requires empty { line.old ≡ [] }
     ensures value { line.new ≡ text_of (Reply.Applied device number verdict) }
-    ensures short { length line.new ≤ 255 }
+    ensures whole { IsWholeReply (Reply.Applied device number verdict) }
+    ensures short { length line.new ≤ 231 }
 {
     of_device(line, b"applied", device);
     line.number(number);
@@ -154,7 +165,8 @@ fn put_applied(line: &mut Line, device: DevNo, number: u32, verdict: Verdict)
 fn put_released(line: &mut Line, device: DevNo, piece: u32, again: bool, msg: u32)
     requires empty { line.old ≡ [] }
     ensures value { line.new ≡ text_of (Reply.Released device piece again msg) }
-    ensures short { length line.new ≤ 255 }
+    ensures whole { IsWholeReply (Reply.Released device piece again msg) }
+    ensures short { length line.new ≤ 231 }
 {
     of_device(line, b"released", device);
     line.number(piece);
@@ -167,7 +179,8 @@ fn put_released(line: &mut Line, device: DevNo, piece: u32, again: bool, msg: u3
 fn put_ordered(line: &mut Line, job: u32, postage: u32)
     requires empty { line.old ≡ [] }
     ensures value { line.new ≡ text_of (Reply.Ordered job postage) }
-    ensures short { length line.new ≤ 255 }
+    ensures whole { IsWholeReply (Reply.Ordered job postage) }
+    ensures short { length line.new ≤ 231 }
 {
     numbered(line, b"ordered", job);
     line.word(b"postage");
@@ -178,7 +191,8 @@ fn put_ordered(line: &mut Line, job: u32, postage: u32)
 fn put_sent_debit(line: &mut Line, job: u32, msg: u32)
     requires empty { line.old ≡ [] }
     ensures value { line.new ≡ text_of (Reply.SentDebit job msg) }
-    ensures short { length line.new ≤ 255 }
+    ensures whole { IsWholeReply (Reply.SentDebit job msg) }
+    ensures short { length line.new ≤ 231 }
 {
     numbered(line, b"sent host debit", job);
     line.word(b"msg");
@@ -189,7 +203,8 @@ fn put_sent_debit(line: &mut Line, job: u32, msg: u32)
 fn put_accepted(line: &mut Line, device: DevNo, piece: u32, scan: u32, again: bool)
     requires empty { line.old ≡ [] }
     ensures value { line.new ≡ text_of (Reply.Accepted device piece scan again) }
-    ensures short { length line.new ≤ 255 }
+    ensures whole { IsWholeReply (Reply.Accepted device piece scan again) }
+    ensures short { length line.new ≤ 231 }
 {
     of_device(line, b"accepted", device);
     line.number(piece);
@@ -223,7 +238,8 @@ fn put_deadline(line: &mut Line, view: DevView)
 fn put_status(line: &mut Line, device: DevNo, view: DevView)
     requires empty { line.old ≡ [] }
     ensures value { line.new ≡ text_of (Reply.Status device view) }
-    ensures short { length line.new ≤ 255 }
+    ensures whole { IsWholeReply (Reply.Status device view) }
+    ensures short { length line.new ≤ 231 }
 {
     of_device(line, b"status", device);
     line.word(phase_word(view.phase));
@@ -241,7 +257,8 @@ fn put_status(line: &mut Line, device: DevNo, view: DevView)
 fn put_flagged(line: &mut Line, customer: Customer, suspended: bool)
     requires empty { line.old ≡ [] }
     ensures value { line.new ≡ text_of (Reply.Flagged customer suspended) }
-    ensures short { length line.new ≤ 255 }
+    ensures whole { IsWholeReply (Reply.Flagged customer suspended) }
+    ensures short { length line.new ≤ 231 }
 {
     if suspended {
         numbered(line, b"suspended", customer.get())
@@ -275,7 +292,8 @@ fn put_reconciled(
 )
     requires empty { line.old ≡ [] }
     ensures value { line.new ≡ text_of (Reply.Reconciled device own centre flight) }
-    ensures short { length line.new ≤ 255 }
+    ensures whole { IsWholeReply (Reply.Reconciled device own centre flight) }
+    ensures short { length line.new ≤ 231 }
 {
     of_device(line, b"reconcile", device);
     line.named(b"device", own);
@@ -288,7 +306,8 @@ fn put_reconciled(
 fn put_dev_refused(line: &mut Line, device: DevNo, refusal: DevRefusal)
     requires empty { line.old ≡ [] }
     ensures value { line.new ≡ text_of (Reply.DevRefused device refusal) }
-    ensures short { length line.new ≤ 255 }
+    ensures whole { IsWholeReply (Reply.DevRefused device refusal) }
+    ensures short { length line.new ≤ 231 }
 {
     of_device(line, b"refused", device);
     put_dev_refusal(line, refusal);
@@ -298,7 +317,8 @@ fn put_dev_refused(line: &mut Line, device: DevNo, refusal: DevRefusal)
 fn put_centre_refused(line: &mut Line, refusal: CentreRefusal)
     requires empty { line.old ≡ [] }
     ensures value { line.new ≡ text_of (Reply.CentreRefused refusal) }
-    ensures short { length line.new ≤ 255 }
+    ensures whole { IsWholeReply (Reply.CentreRefused refusal) }
+    ensures short { length line.new ≤ 231 }
 {
     starting(line, b"refused centre");
     put_centre_refusal(line, refusal);
@@ -308,7 +328,8 @@ fn put_centre_refused(line: &mut Line, refusal: CentreRefusal)
 fn put_host_refused(line: &mut Line, refusal: HostRefusal)
     requires empty { line.old ≡ [] }
     ensures value { line.new ≡ text_of (Reply.HostRefused refusal) }
-    ensures short { length line.new ≤ 255 }
+    ensures whole { IsWholeReply (Reply.HostRefused refusal) }
+    ensures short { length line.new ≤ 231 }
 {
     starting(line, b"refused host");
     put_host_refusal(line, refusal);
@@ -318,18 +339,20 @@ fn put_host_refused(line: &mut Line, refusal: HostRefusal)
 fn put_scan_refused(line: &mut Line, refusal: ScanRefusal)
     requires empty { line.old ≡ [] }
     ensures value { line.new ≡ text_of (Reply.ScanRefused refusal) }
-    ensures short { length line.new ≤ 255 }
+    ensures whole { IsWholeReply (Reply.ScanRefused refusal) }
+    ensures short { length line.new ≤ 231 }
 {
     starting(line, b"refused verifier");
     put_scan_refusal(line, refusal);
 }
 
-/// Puts the text of the reply into an empty line, with room for a line end.
+/// Puts the text of the reply into an empty line, with room for a line end. Each number of a reply fits its type (`whole`).
 #[tactic(auto, unfolding(crate::specs::Texts::reply_words))]
 pub fn put_reply(line: &mut Line, reply: &Reply)
     requires empty { line.old ≡ [] }
+    ensures whole { IsWholeReply reply.now }
     ensures value { line.new ≡ text_of reply.now }
-    ensures short { length line.new ≤ 255 }
+    ensures short { length line.new ≤ 231 }
 {
     match reply {
         Reply::Day(day) => numbered(line, b"day", day.get()),
@@ -394,8 +417,9 @@ pub fn put_reply(line: &mut Line, reply: &Reply)
 
 /// The text of the reply, with room for a line end.
 pub fn write_reply(reply: &Reply) -> Line
+    ensures whole { IsWholeReply reply.now }
     ensures value { result ≡ text_of reply.now }
-    ensures short { length result ≤ 255 }
+    ensures short { length result ≤ 231 }
 {
     let mut line = Line::new();
     put_reply(&mut line, reply);
