@@ -1,5 +1,5 @@
 -- The turns of a run, one line after another.
-use Rattle.std.proofs.Common.{◌≡◌, ◌≢◌, ℕ, ◌+◌, ◌≤◌, ◌<◌, List, [], ◌∷◌, ◌++◌, length, take, Option, Some, None, Bool, true, false, refl, sym, ap, ◌∙◌, arith, subst, append_assoc, append-nil, inl, inr, ◌⊎◌, flat_map}
+use Rattle.std.proofs.Common.{◌≡◌, ◌≢◌, ℕ, ◌+◌, ◌≤◌, ◌<◌, List, [], ◌∷◌, ◌++◌, length, take, Option, Some, None, Bool, true, false, refl, sym, ap, ◌∙◌, arith, subst, append-nil, inl, inr, ◌⊎◌, flat_map}
 use Rattle.std.specs.List.{AllByRecursion}
 use Rattle.std.proofs.lemmas.Bool.{cases_lt}
 use Rattle.std.proofs.lemmas.Grind.{flat_map-append}
@@ -13,7 +13,7 @@ use Rattle.line_runs.specs.declared.status.Status.TheVariants as status
 use Rattle.line_runs.specs.declared.status.SideStatus.{SideStatus}
 use Rattle.line_runs.specs.declared.status.SideStatus.TheVariants.{Run, Stopped}
 use Rattle.line_runs.specs.Deeds.{Lines, Reads}
-use Rattle.line_runs.specs.Runs.{IsLineThat, IsBadPlace, DidLast, RanOut, EndsIn, Replayed}
+use Rattle.line_runs.specs.Runs.{IsBadPlace, DidLast, RanOut, EndsIn, Replayed}
 use Rattle.line_runs.specs.Turns.{AreDone, DidLine, Refused, Wanted, LineEnd, Ended, Goes, Stops, Progress}
 
 -- one more at the end
@@ -268,17 +268,6 @@ module _ {D : Type 0} (l : Lines D) where
         ]
 
     -- ---- one line after another
-
-    pub progress_start : (b : B) (left taken : Option (List ℕ)) → Progress l Does 0 b b left left taken taken
-    progress_start b left taken = record {
-      deeds = [];
-      each = tt;
-      go_on = tt;
-      number = refl;
-      consumed = Consumes-nil left;
-      appended = Appends-nil taken;
-      did = chain.nothing b;
-    }
 
     pub progress_more : (count : ℕ) (old mid new : B) (a b c t u v : Option (List ℕ)) → Progress l Does count old mid a b t u → Goes l Does mid new b c u v → Progress l Does (count + 1) old new a c t v
     progress_more count old mid new a b c t u v p n = record {

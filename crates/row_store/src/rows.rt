@@ -1,6 +1,5 @@
 //! What the payloads of a table read as.
-ghost use Rattle.std.specs.Prelude.{◌≡◌, ◌↔◌, ◌<◌, ◌≤◌, ◌*◌, ◌+◌, ◌^◌, Some, IsTrue, IfSome};
-ghost use Rattle.nv_store.specs.declared.TheConstants.{MOST_BYTES};
+ghost use Rattle.std.specs.Prelude.{◌≡◌, ◌↔◌, ◌<◌, Some, IsTrue};
 ghost use Rattle.nv_store.specs.RoomView.{cells_of, kept_in};
 ghost use Rattle.row_store.specs.Seen.{AllRead, seen_in};
 

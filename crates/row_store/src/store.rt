@@ -6,7 +6,7 @@ ghost use Rattle.nv_store.specs.RoomView.{cells_of, kept_in};
 ghost use Rattle.nv_store.specs.Rooms.{RoomRuns};
 ghost use Rattle.node_acts.specs.RowList.{row_at, row_of};
 ghost use Rattle.row_store.specs.Seen.{AllRead, seen_in};
-ghost use Rattle.row_store.specs.Commits.{RowView, CommitsRow};
+ghost use Rattle.row_store.specs.Commits.{CommitsRow};
 
 use crate::rows::Rows;
 use bench_base::refusals::StoreFail;
