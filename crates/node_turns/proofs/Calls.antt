@@ -1,14 +1,16 @@
 -- A node that was called, by the act of the call.
-use Rattle.std.proofs.Common.{◌≡◌, ◌≢◌, ◌⊎◌, inl, inr, ℕ, ℤ, ◌≤◌, [], Option, Some, None, Bool, true, false, not, ◌&&◌, ◌↔◌, refl, sym, ◌∙◌, ap, subst, true≢false, arith, if◌then◌else◌}
+use Rattle.std.proofs.Common.{◌≡◌, ◌≢◌, ◌⊎◌, inl, inr, ℕ, ℤ, ◌≤◌, List, [], ◌∷◌, ◌++◌, append-nil, Option, Some, None, Bool, true, false, not, ◌&&◌, ◌↔◌, refl, sym, ◌∙◌, ap, subst, true≢false, arith, if◌then◌else◌}
 use Rattle.std.specs.Prelude.{IfSome}
 use Rattle.std.proofs.Math.Bool.{and-true, and-false}
 use Rattle.bench_base.specs.declared.words.Node.{Node}
 use Rattle.bench_base.specs.declared.ledger.Commit.{Commit}
+use Rattle.bench_base.specs.declared.ledger.Entry.TheVariants as entry
 use Rattle.bench_base.specs.declared.events.Event.{Event}
 use Rattle.bench_base.specs.declared.events.Event.TheVariants as ev
 use Rattle.bench_base.specs.declared.events.Reply.{Reply}
 use Rattle.bench_base.specs.declared.events.Reply.TheVariants as r
 use Rattle.bench_base.specs.Events.{node_for, needs_on, may_commit, calls_of, IsAt}
+use Rattle.bench_base.specs.Ledger.{Ledger}
 use Rattle.bench_base.specs.Nodes.{node_of}
 use Rattle.bench_base.specs.Replies.{Told, Did, Refused, refuses, loses_power, faults, leaves_on, told_by, is_refusal, tells_power, tells_fault, MayGet, Commits as CommitsAt}
 use Rattle.bench_base.specs.Plans.{Plan}
@@ -16,6 +18,7 @@ use Rattle.nv_model.specs.declared.nv.Nv as nv
 use Rattle.nv_model.specs.declared.fuse.Fuse as fuse
 use Rattle.nv_model.specs.Meters.{Meters, Uses}
 use Rattle.nv_store.specs.Mounts.{Mounts}
+use Rattle.nv_store.specs.Store.{UsesCommit}
 use Rattle.nv_store.specs.Turns.{Spent}
 use Rattle.node_acts.specs.declared.act.Act.{Act}
 use Rattle.node_acts.specs.declared.act.Act.TheVariants.{Refuse, Tell, Commits}
@@ -26,20 +29,22 @@ use Rattle.node_acts.specs.declared.said.Said.{Said}
 use Rattle.node_acts.specs.Views.{View}
 use Rattle.node_acts.specs.Acts.{cost, has_failed, commit_of, outcome_in, MayCome, TellsOf, CommitsSome, CameOf}
 use Rattle.node_acts.specs.Acts as acts
-use Rattle.node_acts.specs.Plans.{after, MayReply, view_after, IsOfNode}
-use Rattle.node_acts.specs.Said.{IsPlain, seen_plan, said_reply, said_entries}
+use Rattle.node_acts.specs.Plans.{after, with_commit, act_entries, MayReply, view_after, IsOfNode}
+use Rattle.node_acts.specs.declared.said.GivenOut.{GivenOut}
+use Rattle.node_acts.specs.declared.said.GivenOut.TheVariants.{Released, Printed}
+use Rattle.node_acts.specs.Said.{IsPlain, planned_commit, with_given, with_sent, tells, seen_plan, said_reply, said_entries}
 use Rattle.node_acts.specs.Kinds.{Kind}
 use Rattle.node_acts.proofs.Told.{Tells, tells_call}
 use Rattle.node_seat.specs.declared.node.Node.{Ghosts}
 use Rattle.node_seat.specs.Ends.{end_of}
 use Rattle.node_seat.specs.Shown.{Allowed, IsAfter, IsNext, IsFitting}
-use Rattle.node_seat.specs.Stands.{times_of, Stands}
-use Rattle.node_seat.specs.Calls.{CallDoes}
+use Rattle.node_seat.specs.Stands.{times_of, meters_of, Stands}
 use Rattle.node_seat.proofs.Rests.{mounts_none}
-use Rattle.node_turns.specs.Adds.{Adds}
+use Rattle.node_turns.specs.Adds.{Adds, AddsTold, AddsDone, brings}
 use Rattle.node_turns.specs.Costs.{Charged}
 use Rattle.node_turns.specs.NodeTurns.{NodeTurn}
-use Rattle.node_turns.specs.Turns.{in_order, call_turn}
+use Rattle.node_turns.specs.Calling.{Called, UsesMade}
+use Rattle.node_turns.specs.Turns.{in_order, made_in, call_turn}
 
 pub no : {P : Type 0} → false ≡ true → P
 no is = absurd (true≢false (sym is))
@@ -70,6 +75,7 @@ pub record MayRefuse (m : Node) (e : Event) (x : Reply) : Type 0 where
 pub record MaySay (e : Event) (a : Said) : Type 0 where
   pub told : told_by a.reply ≡ Did
   pub gets : MayGet e a.reply
+  pub adds : (made : Option Commit) → (may_commit e ≡ false → made ≡ None) → AddsDone e (brings a.reply) (in_order (tells a ++ with_commit made []))
 
 -- it may make this commit
 pub record MayMake (m : Node) (e : Event) (c : Commit) : Type 0 where
@@ -111,6 +117,78 @@ module _ {X : Type 0} (m : Node) (e : Event) where
   says_by (Tell b) a told of = subst (λ (b : Said). MaySay e b) of told
   says_by (Commits c x b) a told of = subst (λ (b : Said). MaySay e b) of told.1
 
+  -- it plans no commit where the event commits nothing
+  pub made_none : (act : Act X Reply Said) → IsToldBy m e act → may_commit e ≡ false → planned_commit act ≡ None
+  made_none (Refuse x) told none = refl
+  made_none (Tell a) told none = refl
+  made_none (Commits c x a) told none = no (sym none ∙ told.0.commits)
+
+  -- what is added by what was said
+  pub adds_by : (act : Act X Reply Said) (a : Said) → IsToldBy m e act → TellsOf a act → AddsDone e (brings a.reply) (in_order (act_entries tells act))
+  adds_by (Refuse x) a told of = absurd of
+  adds_by (Tell b) a told of = subst (λ (y : Said). AddsDone e (brings y.reply) (in_order (tells b))) of
+      (subst (λ (l : Ledger). AddsDone e (brings b.reply) (in_order l)) (append-nil (tells b)) (told.adds None (λ none. refl)))
+  adds_by (Commits c x b) a told of = subst (λ (y : Said). AddsDone e (brings y.reply) (in_order (tells b ++ entry.Commit c ∷ []))) of
+      (told.1.adds (Some c) (λ none. no (sym none ∙ told.0.commits)))
+
+-- == the commit that is told ==
+
+none_said : (given : Option GivenOut) (sent : Option (List ℕ)) → made_in (in_order (with_sent sent ++ with_given given)) ≡ None
+none_said None None = refl
+none_said None (Some note) = refl
+none_said (Some (Released x)) None = refl
+none_said (Some (Released x)) (Some note) = refl
+none_said (Some (Printed x)) None = refl
+none_said (Some (Printed x)) (Some note) = refl
+
+some_said : (given : Option GivenOut) (sent : Option (List ℕ)) (c : Commit) → made_in (in_order ((with_sent sent ++ with_given given) ++ entry.Commit c ∷ [])) ≡ Some c
+some_said None None c = refl
+some_said None (Some note) c = refl
+some_said (Some (Released x)) None c = refl
+some_said (Some (Released x)) (Some note) c = refl
+some_said (Some (Printed x)) None c = refl
+some_said (Some (Printed x)) (Some note) c = refl
+
+none_some : {A P : Type 0} (o : Option A) (a : A) → o ≡ None → o ≡ Some a → P
+none_some o a none some = let wrong : None ≡ Some a = sym none ∙ some in cc
+
+-- the commit that is told is the node's, and used four calls or six
+call_uses : {X : Type 0} (m : Node) (e : Event) (act : Act X Reply Said) → IsToldBy m e act → (x : Outcome Reply Said) → CameOf act x → (was is : Meters) → UsesMade act x was is
+    → (c : Commit) → made_in (in_order (said_entries m act x)) ≡ Some c → (node_of c ≡ m) × UsesCommit was.fuse is.fuse
+call_uses m e act told o.Off came was is uses c made = cc
+call_uses m e act told (o.Refused y) came was is uses c made = cc
+call_uses m e (Refuse y) told (o.Done a) came was is uses c made = absurd came
+call_uses m e (Tell b) told (o.Done a) came was is uses c made = none_some _ c (none_said b.given b.sent) made
+call_uses m e (Commits d x b) told (o.Done a) came was is uses c made =
+    let same : Some d ≡ Some c = sym (some_said b.given b.sent d) ∙ made in (ap node_of (cc) ∙ told.0.own, uses refl)
+call_uses m e act told o.Worn came was is uses c made = cc
+call_uses m e act told (o.Power d) came was is uses c made = cc
+call_uses m e act told (o.Fault d) came was is uses c made = cc
+
+-- so is the commit of the act alone
+pub made_uses : {X : Type 0} (m : Node) (e : Event) (act : Act X Reply Said) → IsToldBy m e act → (a : Said) → TellsOf a act → (was is : Meters) → UsesMade act (o.Done a) was is
+    → (c : Commit) → made_in (in_order (with_commit (planned_commit act) [])) ≡ Some c → (node_of c ≡ m) × UsesCommit was.fuse is.fuse
+made_uses m e (Refuse y) told a of was is uses c made = absurd of
+made_uses m e (Tell b) told a of was is uses c made = cc
+made_uses m e (Commits d x b) told a of was is uses c made = (ap node_of (cc) ∙ told.0.own, uses refl)
+
+pub made_some : {X : Type 0} (act : Act X Reply Said) → CommitsSome (λ c. Unit {0}) act → made_in (in_order (with_commit (planned_commit act) [])) ≡ None → ⊥
+made_some (Refuse y) some none = some
+made_some (Tell b) some none = some
+made_some (Commits d x b) some none = cc
+
+-- where no commit is told and none failed, the node is as it was
+call_rests : {X : Type 0} (m : Node) (act : Act X Reply Said) (x : Outcome Reply Said) → CameOf act x → (P : Type 0) → (acts.is_refusal x ≡ true → P)
+    → ((CommitsSome (λ c. Unit {0}) act → ⊥) → P) → said_reply m x ≢ r.Power m → said_reply m x ≢ r.Fault m → made_in (in_order (said_entries m act x)) ≡ None → P
+call_rests m act o.Off came P refused only powered fine made = refused refl
+call_rests m act (o.Refused y) came P refused only powered fine made = refused refl
+call_rests m (Refuse y) (o.Done a) came P refused only powered fine made = absurd came
+call_rests m (Tell b) (o.Done a) came P refused only powered fine made = only (λ some. some)
+call_rests m (Commits c x b) (o.Done a) came P refused only powered fine made = none_some _ c made (some_said b.given b.sent c)
+call_rests m act o.Worn came P refused only powered fine made = refused refl
+call_rests m act (o.Power c) came P refused only powered fine made = absurd (powered refl)
+call_rests m act (o.Fault c) came P refused only powered fine made = absurd (fine refl)
+
 module _ {X : Type 0} (m : Node) (e : Event) (of : IsCallOf m e) (act : Act X Reply Said) (told : IsToldBy m e act) where
   commits_at : (P : Commit → Type 0) → CommitsSome P act → CommitsAt e m
   commits_at P some = record { commits = commits_by m e P act told some; at = of.at }
@@ -144,10 +222,10 @@ module _ {X : Type 0} (m : Node) (e : Event) (of : IsCallOf m e) (act : Act X Re
   call_refused (o.Power c) came P stays is = no is
   call_refused (o.Fault c) came P stays is = no is
 
-  call_adds : (x : Outcome Reply Said) → CameOf act x → Adds e (told_by (said_reply m x)) (in_order (said_entries m act x))
+  call_adds : (x : Outcome Reply Said) → CameOf act x → Adds e (said_reply m x) (in_order (said_entries m act x))
   call_adds o.Off came = refl
-  call_adds (o.Refused y) came = subst (λ (t : Told). Adds e t (in_order [])) (sym (refuses_by m e act y told came).told) refl
-  call_adds (o.Done a) came = subst (λ (t : Told). Adds e t (in_order (said_entries m act (o.Done a)))) (sym (says_by m e act a told came).told) tt
+  call_adds (o.Refused y) came = subst (λ (t : Told). AddsTold e y t (in_order [])) (sym (refuses_by m e act y told came).told) refl
+  call_adds (o.Done a) came = subst (λ (t : Told). AddsTold e a.reply t (in_order (said_entries m act (o.Done a)))) (sym (says_by m e act a told came).told) (adds_by m e act a told came)
   call_adds o.Worn came = refl
   call_adds (o.Power c) came = inr (c, commits_by m e (λ made. made ≡ c) act told came, refl)
   call_adds (o.Fault c) came = inr (c, commits_by m e (λ made. made ≡ c) act told came, refl)
@@ -220,8 +298,8 @@ module _ {K S N C R X : Type 0} (n : Ghosts K S N C R) (g : nv.Ghosts S) (f : fu
   same_entries v st tells' (o.Power c) may = refl
   same_entries v st tells' (o.Fault c) may = refl
 
-  pub turn_call : (x : Outcome Reply Said) → CallDoes n g by s t x → NodeTurn n g f kind m d today e (Call call) s t (call_turn m act x)
-  turn_call x did = record {
+  pub turn_call : (x : Outcome Reply Said) → Called n g by s t x → NodeTurn n g f kind m d today e (Call call) s t (call_turn m act x)
+  turn_call x called = let did = called.does in record {
     by_view = λ v st tells'.
         let it : Tells n.counting m (seen_plan n.counting m v (by v.state)) (by v.state) (commit_of n.counting v (by v.state)) x =
         tells_call n.counting m v (by v.state) (own_by m e (by v.state) (told v.state)) (plain_by m e (by v.state) (told v.state)) x (did.comes d v st tells') in
@@ -237,6 +315,8 @@ module _ {K S N C R X : Type 0} (n : Ghosts K S N C R) (g : nv.Ghosts S) (f : fu
     on_day = call_on_day m e of act (told (n.seen s)) x did.came;
     refused = call_refused m e of act (told (n.seen s)) x did.came (t ≡ s) did.refused;
     adds = call_adds m e of act (told (n.seen s)) x did.came;
+    uses = call_uses m e act (told (n.seen s)) x did.came (meters_of n g s) (meters_of n g t) called.uses;
+    untouched = λ is powered fine. call_rests m act x did.came (t ≡ s) did.refused did.tells_only powered fine;
     unwritten = λ tells' none. subst (λ (k : K). Mounts (times_of n g s) (times_of n g k)) (sym (did.tells_only (λ some. no (sym none ∙ commits_by m e (λ c. Unit {0}) act (told (n.seen s)) some)))) (mounts_none (times_of n g s));
     found = λ tells' on. absurd (of.no_switch on);
     charged = call_charged m e of act (told (n.seen s)) x did.came _ _ did.spent;

@@ -28,13 +28,14 @@ use Rattle.node_acts.specs.Kinds.{Kind}
 use Rattle.node_acts.proofs.Told.{Tells, tells_call}
 use Rattle.node_seat.specs.declared.node.Node.{Ghosts}
 use Rattle.node_seat.specs.Shown.{IsFitting}
-use Rattle.node_seat.specs.Stands.{Stands}
+use Rattle.node_seat.specs.Stands.{meters_of, Stands}
 use Rattle.node_seat.specs.Calls.{CallDoes}
 use Rattle.node_turns.specs.declared.turn.Turn.{Turn}
 use Rattle.node_turns.specs.NodeTurns.{NodeTurn, plan_by}
+use Rattle.node_turns.specs.Calling.{Called}
 use Rattle.node_turns.specs.Printing.{Printer, PrintsCall, prints_nothing, prints, fails, PrinterDid, NodePrints, print_in, print_of, to_print, unprinted_turn}
 use Rattle.node_turns.specs.Turns.{in_order, call_turn}
-use Rattle.node_turns.proofs.Calls.{IsCallOf, IsToldBy, MaySay, says_by, own_by, plain_by, refuses_by, done_on, no, turn_call}
+use Rattle.node_turns.proofs.Calls.{IsCallOf, IsToldBy, MaySay, says_by, own_by, plain_by, refuses_by, made_none, made_uses, made_some, done_on, no, turn_call}
 
 -- what is said is printed exactly where it says so
 pub record PrintsSo (a : Said) : Type 0 where
@@ -79,12 +80,15 @@ module _ {K S N C R X : Type 0} (n : Ghosts K S N C R) (g : nv.Ghosts S) (f : fu
   did_refused : {P : Type 0} → Did ≡ Refused → P
   did_refused is = cc
 
-  module _ (a : Said) (did : CallDoes n g by s t (o.Done a)) where
+  module _ (a : Said) (called : Called n g by s t (o.Done a)) where
+    abbrev did : CallDoes n g by s t (o.Done a)
+    did = called.does
+
     said : MaySay e a
     said = says_by m e act a (told (n.seen s)) did.came
 
     base : NodeTurn n g f kind m d today e (Call call) s t (call_turn m act (o.Done a))
-    base = turn_call n g f kind m d today e call by of told plan_is commit_is fits s t (o.Done a) did
+    base = turn_call n g f kind m d today e call by of told plan_is commit_is fits s t (o.Done a) called
 
     -- it was not refused
     not_off : {P : Type 0} → a.reply ≡ r.OffNode m → P
@@ -139,7 +143,9 @@ module _ {K S N C R X : Type 0} (n : Ghosts K S N C R) (g : nv.Ghosts S) (f : fu
         reply = subst (λ (x : Reply). MayGet e x) reply_is base.reply;
         on_day = λ is. cc;
         refused = λ is. no is;
-        adds = tt;
+        adds = (planned_commit act, made_none m e act (told (n.seen s)), refl);
+        uses = made_uses m e act (told (n.seen s)) a did.came (meters_of n g s) (meters_of n g t) called.uses;
+        untouched = λ is powered fine none. did.tells_only (λ some. made_some act some none);
         unwritten = base.unwritten;
         found = λ tells' on read. no read;
         charged = record {
@@ -163,17 +169,17 @@ module _ {K S N C R X : Type 0} (n : Ghosts K S N C R) (g : nv.Ghosts S) (f : fu
           answers v (inr (inr failing)) = absurd (subst (λ (u : Told). FailsTold (kind.plan d today v call) u) said.told failing)
 
   -- a call that was not done, or that gives nothing to the printer, is told so
-  not_printed : (x : Outcome Reply Said) → CallDoes n g by s t x → to_print x ≡ None → (job : ℕ) → said_reply m x ≡ r.Printed job → ⊥
+  not_printed : (x : Outcome Reply Said) → Called n g by s t x → to_print x ≡ None → (job : ℕ) → said_reply m x ≡ r.Printed job → ⊥
   not_printed o.Off did none job is = cc
-  not_printed (o.Refused y) did none job is = let t : Did ≡ Refused = sym (ap told_by is) ∙ (refuses_by m e act y (told (n.seen s)) did.came).told in cc
-  not_printed (o.Done a) did none job is = let p = (so (n.seen s) a did.came).says job is in let wrong : None ≡ Some p.0 = sym none ∙ p.1 in cc
+  not_printed (o.Refused y) did none job is = let t : Did ≡ Refused = sym (ap told_by is) ∙ (refuses_by m e act y (told (n.seen s)) did.does.came).told in cc
+  not_printed (o.Done a) did none job is = let p = (so (n.seen s) a did.does.came).says job is in let wrong : None ≡ Some p.0 = sym none ∙ p.1 in cc
   not_printed o.Worn did none job is = cc
   not_printed (o.Power c) did none job is = cc
   not_printed (o.Fault c) did none job is = cc
 
-  not_failed : (x : Outcome Reply Said) → CallDoes n g by s t x → (job : ℕ) → said_reply m x ≡ r.PrinterFault job → ⊥
+  not_failed : (x : Outcome Reply Said) → Called n g by s t x → (job : ℕ) → said_reply m x ≡ r.PrinterFault job → ⊥
   not_failed o.Off did job is = cc
-  not_failed (o.Refused y) did job is = let t : PrinterFailed job ≡ Refused = sym (ap told_by is) ∙ (refuses_by m e act y (told (n.seen s)) did.came).told in cc
+  not_failed (o.Refused y) did job is = let t : PrinterFailed job ≡ Refused = sym (ap told_by is) ∙ (refuses_by m e act y (told (n.seen s)) did.does.came).told in cc
   not_failed (o.Done a) did job is = let t : PrinterFailed job ≡ Did = sym (ap told_by is) ∙ (said a did).told in cc
   not_failed o.Worn did job is = cc
   not_failed (o.Power c) did job is = cc
@@ -184,7 +190,7 @@ module _ {K S N C R X : Type 0} (n : Ghosts K S N C R) (g : nv.Ghosts S) (f : fu
     pub did : NodeTurn n g f kind m d today e (Call call) s t turn
     pub prints : NodePrints n g kind m d today (Call call) s turn.reply before now
 
-  pub turn_printed : (x : Outcome Reply Said) → CallDoes n g by s t x → (turn : Turn) (before now : Printer) → PrintsCall m act x before now turn → TurnPrinted turn before now
+  pub turn_printed : (x : Outcome Reply Said) → Called n g by s t x → (turn : Turn) (before now : Printer) → PrintsCall m act x before now turn → TurnPrinted turn before now
   turn_printed x did _ before now (prints_nothing none same) =
       let nothing : (mark : Option (List ℕ)) → PrinterDid (said_reply m x) mark before now = λ mark. record {
         whole = λ job is. absurd (not_printed x did none job is);

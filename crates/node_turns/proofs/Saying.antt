@@ -1,5 +1,5 @@
 -- What a call did, said: its refusals are replied and its answers said, and nothing else of it changes.
-use Rattle.std.proofs.Common.{◌≡◌, ℕ, Option, Some, None, Bool, true, false, not, ◌&&◌, ◌↔◌, if◌then◌else◌, refl, sym, ◌∙◌, ap, subst}
+use Rattle.std.proofs.Common.{◌≡◌, ℕ, Option, Some, None, Bool, true, false, not, ◌&&◌, ◌↔◌, if◌then◌else◌, refl, sym, ◌∙◌, ap, subst, true≢false}
 use Rattle.std.specs.Prelude.{IfSome}
 use Rattle.bench_base.specs.declared.words.Node.{Node}
 use Rattle.bench_base.specs.declared.ledger.Commit.{Commit}
@@ -16,12 +16,12 @@ use Rattle.node_acts.specs.Acts.{commit_of, outcome_in, outcome_of, MayCome, May
 use Rattle.node_acts.specs.Said.{saying, planned_commit}
 use Rattle.node_acts.specs.Views.{Counting, View}
 use Rattle.node_seat.specs.declared.node.Node.{Ghosts}
-use Rattle.node_seat.specs.Ends.{end_of_call, end_of}
+use Rattle.node_seat.specs.Ends.{end_of_call, end_of, is_done}
 use Rattle.node_seat.specs.Shown.{Allowed, IsAfter, IsNext, IsFitting}
 use Rattle.node_seat.specs.Stands.{times_of, meters_of, Stands}
-use Rattle.node_seat.specs.Calls.{CallDoes}
+use Rattle.node_seat.specs.Calls.{CallDoes, Wrote}
 use Rattle.node_turns.specs.declared.turn.Turn.{Turn}
-use Rattle.node_turns.specs.Calling.{commit_in, said_outcome}
+use Rattle.node_turns.specs.Calling.{commit_in, said_outcome, Called, UsesMade}
 use Rattle.node_turns.specs.Turns.{told_turn, call_turn}
 use Rattle.node_turns.proofs.Done.{told_is}
 
@@ -72,6 +72,14 @@ module _ {F A : Type 0} (refusal : F → Reply) (say : A → Said) where
 
   outcome_says : {S X : Type 0} (n : Counting S X) (v : View S) (act : Act X F A) → as_told (outcome_of n v act) ≡ outcome_of n v (as_said act)
   outcome_says n v act = either_told v.on (outcome_in n v.state act) o.Off ∙ ap (λ (x : Outcome Reply Said). if v.on then x else o.Off) (outcome_in_says n v.state act)
+
+  done_told : (x : Outcome F A) → is_done (as_told x) ≡ is_done x
+  done_told o.Off = refl
+  done_told (o.Refused y) = refl
+  done_told (o.Done a) = refl
+  done_told o.Worn = refl
+  done_told (o.Power c) = refl
+  done_told (o.Fault c) = refl
 
   off_told : {P : Type 0} (x : Outcome F A) → (x ≡ o.Off) ↔ P → (as_told x ≡ o.Off) ↔ P
   off_told o.Off off = (λ e. off.0 refl, λ p. refl)
@@ -183,7 +191,7 @@ module _ {F A K S N C R : Type 0} (refusal : F → Reply) (n : Ghosts K S N C R)
     comes_said d v st tells (o.Power c) may = may_told refusal (say v.state) n.counting v (act v.state) (o.Power c) may
     comes_said d v st tells (o.Fault c) may = may_told refusal (say v.state) n.counting v (act v.state) (o.Fault c) may
 
-    pub says_call : (x : Outcome F A) → CallDoes n g act s t x → CallDoes n g said s t (told x)
+    says_call : (x : Outcome F A) → CallDoes n g act s t x → CallDoes n g said s t (told x)
     says_call x did = record {
       off = off_told refusal (say (n.seen s)) x did.off;
       leaves = did.leaves ∙ ap (λ (b : Bool). n.is_on s && not b) (sym (failed_told refusal (say (n.seen s)) x));
@@ -201,3 +209,24 @@ module _ {F A K S N C R : Type 0} (refusal : F → Reply) (n : Ghosts K S N C R)
       spent = subst (λ (calls : ℕ). Spent calls (meters_of n g s) (meters_of n g t) (end_of (told x))) (sym (cost_says refusal (say (n.seen s)) (act (n.seen s))))
           (subst (λ (e : End). Spent (cost (act (n.seen s))) (meters_of n g s) (meters_of n g t) e) (sym (end_told refusal (say (n.seen s)) x)) did.spent);
     }
+
+    -- the commit of an act that was made used what its storage says
+    wrote_uses : (made : Act C F A) (x : Outcome F A) → Wrote n g made s t x → UsesMade (saying refusal (say (n.seen s)) made) (told x) (meters_of n g s) (meters_of n g t)
+    wrote_uses (Refuse y) x wrote = tt
+    wrote_uses (Tell a) x wrote = tt
+    wrote_uses (Commits c y a) x wrote = λ done. wrote.calls (sym (done_told refusal (say (n.seen s)) x) ∙ done)
+
+    pub says_called : (x : Outcome F A) (made : Act C F A) → act (n.seen s) ≡ made → CallDoes n g act s t x → Wrote n g made s t x → Called n g said s t (told x)
+    says_called x made is did wrote = record {
+      does = says_call x did;
+      uses = wrote_uses (act (n.seen s)) x (subst (λ (a : Act C F A). Wrote n g a s t x) (sym is) wrote);
+    }
+
+-- a node that is off was not asked for a commit
+pub off_called : {K S N C R : Type 0} (n : Ghosts K S N C R) (g : nv.Ghosts S) (act : n.Seen → Act C Reply Said) (s : K) → CallDoes n g act s s o.Off → Called n g act s s o.Off
+off_called {C = C} n g act s did = record { does = did; uses = none (act (n.seen s)) }
+  where
+    none : (a : Act C Reply Said) → UsesMade a o.Off (meters_of n g s) (meters_of n g s)
+    none (Refuse x) = tt
+    none (Tell a) = tt
+    none (Commits c x a) = λ done. absurd (true≢false (sym done))

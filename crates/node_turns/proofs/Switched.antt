@@ -1,12 +1,13 @@
 -- A node that was switched on or off, and one whose fuse was armed.
 use Rattle.std.proofs.Common.{◌≡◌, ◌≢◌, inl, inr, ℕ, ℤ, List, [], ◌∷◌, Some, None, Bool, true, false, if◌then◌else◌, ◌↔◌, refl, sym, ◌∙◌, ap, subst, true≢false, arith}
 use Rattle.bench_base.specs.declared.words.Node.{Node}
+use Rattle.bench_base.specs.declared.ledger.Commit.{Commit}
 use Rattle.bench_base.specs.declared.ledger.Entry.TheVariants as entry
 use Rattle.bench_base.specs.declared.events.Event.TheVariants as ev
 use Rattle.bench_base.specs.declared.events.Reply.TheVariants as r
 use Rattle.bench_base.specs.Nodes.{same_node}
 use Rattle.bench_base.specs.Plans.{Plan, refuse, told}
-use Rattle.bench_base.specs.Replies.{has_read, is_refusal, MayGet, told_by}
+use Rattle.bench_base.specs.Replies.{has_read, is_refusal, MayGet}
 use Rattle.bench_base.proofs.Facts.{same_node-self}
 use Rattle.nv_model.specs.declared.nv.Nv as nv
 use Rattle.nv_model.specs.declared.fuse.Fuse as fuse
@@ -29,7 +30,7 @@ use Rattle.node_seat.proofs.Rests.{uses_none, mounts_none}
 use Rattle.node_turns.specs.Adds.{Adds}
 use Rattle.node_turns.specs.Costs.{Charged}
 use Rattle.node_turns.specs.NodeTurns.{Switches, NodeTurn}
-use Rattle.node_turns.specs.Turns.{in_order, start_turn, stop_turn, turn_of}
+use Rattle.node_turns.specs.Turns.{in_order, made_in, start_turn, stop_turn, turn_of}
 use Rattle.node_turns.proofs.Calls.{no}
 
 -- == by what is seen of the node ==
@@ -103,12 +104,19 @@ module _ (m : Node) where
   start_refused start.Fault P stays is = no is
   start_refused start.Damaged P stays is = no is
 
-  start_adds : (x : Started) → Adds (ev.On m) (told_by (start_turn m x).reply) (start_turn m x).entries
+  start_adds : (x : Started) → Adds (ev.On m) (start_turn m x).reply (start_turn m x).entries
   start_adds start.Already = refl
   start_adds (start.Up k) = refl
   start_adds start.Power = inl refl
   start_adds start.Fault = inl refl
   start_adds start.Damaged = refl
+
+  start_unmade : (x : Started) {P : Type 0} (c : Commit) → made_in (start_turn m x).entries ≡ Some c → P
+  start_unmade start.Already c made = cc
+  start_unmade (start.Up k) c made = cc
+  start_unmade start.Power c made = cc
+  start_unmade start.Fault c made = cc
+  start_unmade start.Damaged c made = cc
 
   start_found : (x : Started) (Bad : Type 0) → (HasRead x → (x ≡ start.Damaged) ↔ Bad) → has_read (start_turn m x).reply ≡ true → ((start_turn m x).reply ≡ r.Damaged m) ↔ Bad
   start_found start.Already Bad found is = no is
@@ -150,9 +158,13 @@ module _ (m : Node) where
   stop_refused true P stays is = no is
   stop_refused false P stays is = (stays refl, refl)
 
-  stop_adds : (was : Bool) → Adds (ev.Off m) (told_by (stop_turn m was).reply) (stop_turn m was).entries
+  stop_adds : (was : Bool) → Adds (ev.Off m) (stop_turn m was).reply (stop_turn m was).entries
   stop_adds true = refl
   stop_adds false = refl
+
+  stop_unmade : (was : Bool) {P : Type 0} (c : Commit) → made_in (stop_turn m was).entries ≡ Some c → P
+  stop_unmade true c made = cc
+  stop_unmade false c made = cc
 
   stop_charged : (was : Bool) (a b : Meters) → b ≡ a → Charged m (ev.Off m) (stop_turn m was).reply a b
   stop_charged true a b same = subst (λ (c : Meters). Charged m (ev.Off m) (stop_turn m true).reply a c) (sym same)
@@ -192,6 +204,8 @@ module _ {K S N C R X : Type 0} (n : Ghosts K S N C R) (g : nv.Ghosts S) (f : fu
     on_day = start_on_day m x;
     refused = start_refused m x (t ≡ s) did.refused;
     adds = start_adds m x;
+    uses = λ c made. start_unmade m x c made;
+    untouched = λ calls. no calls.0;
     unwritten = λ tells is. did.mounts tells;
     found = λ tells is. start_found m x (HasDamage n d t) (did.damaged tells);
     charged = start_charged m x _ _ did.spent;
@@ -222,6 +236,8 @@ module _ {K S N C R X : Type 0} (n : Ghosts K S N C R) (g : nv.Ghosts S) (f : fu
     on_day = stop_on_day m was;
     refused = stop_refused m was (t ≡ s) did.refused;
     adds = stop_adds m was;
+    uses = λ c made. stop_unmade m was c made;
+    untouched = λ calls. absurd (calls.1 m refl);
     unwritten = λ tells is. same_times did.storage;
     found = λ tells is. cc;
     charged = stop_charged m was _ _ (ap g.meters did.storage);
@@ -242,6 +258,8 @@ module _ {K S N C R X : Type 0} (n : Ghosts K S N C R) (g : nv.Ghosts S) (f : fu
     on_day = λ e. cc;
     refused = λ is. no is;
     adds = refl;
+    uses = λ c made. cc;
+    untouched = λ calls. no calls.0;
     unwritten = λ tells is. did.mounts tells;
     found = λ tells is. cc;
     charged = cut_charged m calls keep byte calls _ _ did.meters;

@@ -1,5 +1,5 @@
--- A call on its way to be told: the commit of its act, and what it came to in the words of the call.
-use Rattle.std.specs.Prelude.{[], ◌++◌, Option, Some, None}
+-- A call on its way to be told: the commit of its act, what it came to in the words of the call, and what it used of a fuse.
+use Rattle.std.specs.Prelude.{◌≡◌, [], ◌++◌, true, Option, Some, None}
 use Rattle.bench_base.specs.declared.ledger.Commit.{Commit}
 use Rattle.bench_base.specs.declared.events.Reply.{Reply}
 use Rattle.node_acts.specs.declared.act.Act.{Act}
@@ -9,6 +9,13 @@ use Rattle.node_acts.specs.declared.act.Outcome.TheVariants as o
 use Rattle.node_acts.specs.declared.said.Said.{Said}
 use Rattle.node_acts.specs.Plans.{with_commit}
 use Rattle.node_acts.specs.Said.{tells}
+use Rattle.nv_model.specs.declared.nv.Nv as nv
+use Rattle.nv_model.specs.Meters.{Meters}
+use Rattle.nv_store.specs.Store.{UsesCommit}
+use Rattle.node_seat.specs.declared.node.Node.{Ghosts}
+use Rattle.node_seat.specs.Calls.{CallDoes}
+use Rattle.node_seat.specs.Ends.{is_done}
+use Rattle.node_seat.specs.Stands.{meters_of}
 use Rattle.node_turns.specs.declared.turn.Turn.{Turn}
 use Rattle.node_turns.specs.Turns.{turn_of}
 
@@ -30,3 +37,14 @@ said_outcome refusal say (o.Fault c) = o.Fault c
 -- the turn of a call that was done, which made this commit if it made one
 abbrev pub done_turn : Option Commit → Said → Turn
 done_turn commit said = turn_of said.reply (tells said ++ with_commit commit [])
+
+-- where its commit was made, a call used four calls of the storage or six
+abbrev pub UsesMade : {X F A : Type 0} → Act X F A → Outcome F A → Meters → Meters → Type 0
+UsesMade (Refuse x) outcome was is = Unit {0}
+UsesMade (Tell a) outcome was is = Unit {0}
+UsesMade (Commits c x a) outcome was is = is_done outcome ≡ true → UsesCommit was.fuse is.fuse
+
+-- what a call did, and what it used of a fuse
+pub record Called {K S N C R F A : Type 0} (n : Ghosts K S N C R) (g : nv.Ghosts S) (act : n.Seen → Act C F A) (s t : K) (outcome : Outcome F A) : Type 0 where
+  pub does : CallDoes n g act s t outcome
+  pub uses : UsesMade (act (n.seen s)) outcome (meters_of n g s) (meters_of n g t)

@@ -5,11 +5,10 @@ ghost use Rattle.node_acts.specs.declared.act.Act.{Act};
 ghost use Rattle.node_acts.specs.declared.act.Outcome.{Outcome};
 ghost use Rattle.node_acts.specs.declared.said.Said.{Said};
 ghost use Rattle.node_acts.specs.Said.{saying};
-ghost use Rattle.node_seat.specs.Calls.{CallDoes};
 ghost use Rattle.node_turns.specs.declared.turn.Turn.{Turn};
 ghost use Rattle.node_turns.specs.Printing as prints;
 ghost use Rattle.node_turns.specs.Printing.{PrintsCall, printer_of};
-ghost use Rattle.node_turns.specs.Calling.{commit_in, done_turn, said_outcome};
+ghost use Rattle.node_turns.specs.Calling.{Called, commit_in, done_turn, said_outcome};
 ghost use Rattle.node_turns.specs.Turns as turns;
 
 use crate::tell::Tell;
@@ -117,7 +116,7 @@ pub fn call_node<T: Tell, K: Node, E: Callee, C: Call<K, E::Refusal>>(
     requires asked { C.IsAsked call.now }
     ensures did { (by : K.Node.Seen → Act K.Change E.Refusal C.Answer) (say : K.Node.Seen → C.Answer → Said)
         → by (K.Node.seen place.old) ≡ C.does call.now place.old → say (K.Node.seen place.old) ≡ C.says call.now
-        → (x : Outcome Reply Said) × CallDoes K.Node K.Storage.Nv (λ s. saying (E.refuses callee.now) (say s) (by s)) place.old place.new x
+        → (x : Outcome Reply Said) × Called K.Node K.Storage.Nv (λ s. saying (E.refuses callee.now) (say s) (by s)) place.old place.new x
         × T.IsOf result (turns.call_turn (E.named callee.now) (saying (E.refuses callee.now) (C.says call.now) (C.does call.now place.old)) x) }
 {
     if !place.is_on() {
@@ -169,7 +168,7 @@ pub fn call_printing<T: Tell, K: Node, E: Callee, C: Call<K, E::Refusal>, P: Sin
     requires asked { C.IsAsked call.now }
     ensures did { (by : K.Node.Seen → Act K.Change E.Refusal C.Answer) (say : K.Node.Seen → C.Answer → Said)
         → by (K.Node.seen place.old) ≡ C.does call.now place.old → say (K.Node.seen place.old) ≡ C.says call.now
-        → (x : Outcome Reply Said) × CallDoes K.Node K.Storage.Nv (λ s. saying (E.refuses callee.now) (say s) (by s)) place.old place.new x
+        → (x : Outcome Reply Said) × Called K.Node K.Storage.Nv (λ s. saying (E.refuses callee.now) (say s) (by s)) place.old place.new x
         × (turn : Turn) × T.IsOf result turn
         × PrintsCall (E.named callee.now) (saying (E.refuses callee.now) (C.says call.now) (C.does call.now place.old)) x (printer_of P.Sink printer.old) (printer_of P.Sink printer.new) turn }
 {
