@@ -11,12 +11,11 @@ use Rattle.bench_base.specs.declared.events.Reply.{Reply}
 use Rattle.bench_base.specs.declared.events.Reply.TheVariants as r
 use Rattle.bench_base.specs.Events.{needs_day, day_after}
 use Rattle.bench_base.specs.Plans.{Plan, refuse, told}
-use Rattle.bench_base.specs.Replies.{on_after, tells_power, tells_fault, has_read, MayGet, told_by}
+use Rattle.bench_base.specs.Replies.{on_after, tells_power, tells_fault, has_read, MayGet}
 use Rattle.bench_base.specs.Rules.{todays_rules}
 use Rattle.bench_base.specs.Ranges.{IsWholeEvent}
 use Rattle.bench_base.specs.Ledger.{Ledger, day_in}
 use Rattle.nv_model.specs.declared.nv.Nv as nv
-use Rattle.nv_model.specs.declared.fuse.Fuse as fuse
 use Rattle.node_acts.specs.Kinds.{view_in}
 use Rattle.node_acts.specs.Plans.{after}
 use Rattle.node_acts.specs.Views.{View}
@@ -119,7 +118,7 @@ reads_nothing e reply today kept out not = record {
 -- a reply that tells of no failure, nor of the printer
 pub record Answers (x : Event) (reply : Reply) : Type 0 where
   pub gets : MayGet x reply
-  pub says : Adds x (told_by reply) (in_order [])
+  pub says : Adds x reply (in_order [])
   pub power : (i : Node) → tells_power i reply ≡ false
   pub fault : (i : Node) → tells_fault i reply ≡ false
   pub not_read : has_read reply ≡ false
@@ -139,7 +138,7 @@ module _ (n : Nodes) (old : BenchOf n) (ready : IsReady old) (out : Outside) whe
         power = λ i. refl;
         fault = λ i. refl;
         gets = refl;
-        says = tt;
+        says = refl;
         day = λ needs. absurd (true≢false (sym needs));
         dated = refl;
         dates = λ u is. ap (λ (x : ℤ). turn_of (r.Day x) (entry.Day x ∷ [])) (cc);
@@ -147,6 +146,8 @@ module _ (n : Nodes) (old : BenchOf n) (ready : IsReady old) (out : Outside) whe
         compares = λ i is. let wrong : ⊥ = cc in absurd wrong;
         message = λ k is. cc;
         unsent = refl;
+        unmade = refl;
+        untouched = λ calls. absurd (true≢false (sym calls.0));
         refused = λ is. absurd (true≢false (sym is));
         switches = of_all n (SwitchesIs n (ev.Day t) (ev.Day t) [] (r.Day t) (entry.Day t ∷ []) old (record old { day = Some t }) out out) old (λ o i d s some is. no_some i is);
         unarmed = λ some m calls keep byte is. cc;
@@ -179,14 +180,16 @@ module _ (n : Nodes) (old : BenchOf n) (ready : IsReady old) (out : Outside) whe
         power = λ i. refl;
         fault = λ i. refl;
         gets = refl;
-        says = tt;
+        says = (None, λ none. refl, refl);
         day = λ needs. absurd (true≢false (sym needs));
         dated = refl;
         dates = λ u is. cc;
-        ends = λ is. refl;
+        ends = λ is. (refl, refl);
         compares = λ i is. let wrong : ⊥ = cc in absurd wrong;
         message = λ k is. cc;
         unsent = refl;
+        unmade = refl;
+        untouched = λ calls. absurd (true≢false (sym calls.0));
         refused = λ is. absurd (true≢false (sym is));
         switches = of_all n (SwitchesIs n ev.End ev.End [] r.End [] old old out out) old (λ o i d s some is. no_some i is);
         unarmed = λ some m calls keep byte is. cc;
@@ -218,6 +221,8 @@ module _ (n : Nodes) (old : BenchOf n) (ready : IsReady old) (out : Outside) whe
         compares = λ i is. (refl, refl, λ some. absurd (is_none old.day some none));
         message = λ k is some. absurd (is_none old.day some none);
         unsent = refl;
+        unmade = refl;
+        untouched = λ calls. refl;
         refused = λ is. (refl, refl);
         switches = of_all n (SwitchesIs n e (as_given old.messages e) [] r.NoDay [] old old out out) old (λ o i d s some. absurd (is_none old.day some none));
         unarmed = λ some m calls keep byte is. is_none old.day some none;
@@ -270,6 +275,8 @@ module _ (n : Nodes) (old : BenchOf n) (ready : IsReady old) (out : Outside) whe
                 compares = λ i is. (refl, refl, λ some. on.finds i is);
                 message = λ k is some. on.message k (some-same (sym taken_is ∙ is));
                 unsent = refl;
+                unmade = refl;
+                untouched = λ calls. refl;
                 refused = λ is. (refl, refl);
                 switches = on.switches;
                 unarmed = λ some. on.unarmed;

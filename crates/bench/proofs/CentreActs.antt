@@ -146,8 +146,8 @@ refused c x = record {
 }
 
 took_said : (k : ℕ) (bytes : List ℕ) (a : CentreAnswer) → MaySay (ev.Give Centre bytes) (views.took k a)
-took_said k bytes (answer.Ruled d n v note again) = record { told = refl; gets = inr (bytes, refl) }
-took_said k bytes (answer.Settled d n again) = record { told = refl; gets = inr (bytes, refl) }
+took_said k bytes (answer.Ruled d n v note again) = record { told = refl; gets = inr (bytes, refl); adds = λ made none. (note, (made, none, refl)) }
+took_said k bytes (answer.Settled d n again) = record { told = refl; gets = inr (bytes, refl); adds = λ made none. (made, none, refl) }
 
 balance_free : (w left : ℕ) (o : Option CustomerRow) → CommitsNone (left_act w left o)
 balance_free w left None = tt
@@ -155,14 +155,14 @@ balance_free w left (Some x) = tt
 
 pub call_told : (c : CentreCall) (b : Books) → IsToldBy Centre (centre_call_event c) (centre_act c b)
 call_told (call.Register d origin key) b = told_made Centre _ refl (omega arith) _ (call_own (call.Register d origin key) b)
-    (polite_says Centre (ev.Register d origin key) r.CentreRefused (views.done (r.Registered d)) (refused (call.Register d origin key)) (λ u. record { told = refl; gets = (origin, key, refl) }) (acts.register_act d origin key b))
+    (polite_says Centre (ev.Register d origin key) r.CentreRefused (views.done (r.Registered d)) (refused (call.Register d origin key)) (λ u. record { told = refl; gets = (origin, key, refl); adds = λ made none. (made, none, refl) }) (acts.register_act d origin key b))
 call_told (call.Open w) b = told_made Centre _ refl (omega arith) _ (call_own (call.Open w) b)
-    (polite_says Centre (ev.OpenCustomer w) r.CentreRefused (views.done (r.Opened w)) (refused (call.Open w)) (λ u. record { told = refl; gets = refl }) (acts.open_act w b))
+    (polite_says Centre (ev.OpenCustomer w) r.CentreRefused (views.done (r.Opened w)) (refused (call.Open w)) (λ u. record { told = refl; gets = refl; adds = λ made none. (made, none, refl) }) (acts.open_act w b))
 call_told (call.Deposit w receipt amount) b = told_made Centre _ refl (omega arith) _ (call_own (call.Deposit w receipt amount) b)
-    (polite_says Centre (ev.Deposit w receipt amount) r.CentreRefused (views.deposited w receipt) (refused (call.Deposit w receipt amount)) (λ done. record { told = refl; gets = (amount, refl) }) (acts.deposit_act w receipt amount b))
+    (polite_says Centre (ev.Deposit w receipt amount) r.CentreRefused (views.deposited w receipt) (refused (call.Deposit w receipt amount)) (λ done. record { told = refl; gets = (amount, refl); adds = λ made none. (made, none, refl) }) (acts.deposit_act w receipt amount b))
 call_told (call.Flag w flag) b = told_made Centre _ refl (omega arith) _ (call_own (call.Flag w flag) b)
-    (polite_says Centre (ev.Flag w flag) r.CentreRefused (views.done (r.Flagged w flag)) (refused (call.Flag w flag)) (λ u. record { told = refl; gets = refl }) (acts.flag_act w flag b))
+    (polite_says Centre (ev.Flag w flag) r.CentreRefused (views.done (r.Flagged w flag)) (refused (call.Flag w flag)) (λ u. record { told = refl; gets = refl; adds = λ made none. (made, none, refl) }) (acts.flag_act w flag b))
 call_told (call.Balance w) b = told_none Centre _ _ (none_says _ _ (acts.balance_act w b) (balance_free w (left_in b w) (customer_at b w)))
-    (polite_says Centre (ev.Balance w) r.CentreRefused (views.left w) (refused (call.Balance w)) (λ left. record { told = refl; gets = refl }) (acts.balance_act w b))
+    (polite_says Centre (ev.Balance w) r.CentreRefused (views.left w) (refused (call.Balance w)) (λ left. record { told = refl; gets = refl; adds = λ made none. (made, none, refl) }) (acts.balance_act w b))
 call_told (call.Take bytes k) b = told_made Centre _ refl (omega arith) _ (call_own (call.Take bytes k) b)
     (polite_says Centre (ev.Give Centre bytes) r.CentreRefused (views.took k) (refused (call.Take bytes k)) (took_said k bytes) (acts.take_act bytes b))

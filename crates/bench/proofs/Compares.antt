@@ -42,7 +42,7 @@ module _ (d : ℕ) (v : View device.Seen) (w : View centre.Seen) where
       by true true = each_compared (λ x. Answers (ev.Reconcile d) x) d
           (record { gets = record { on = refl; at = refl; no_switch = λ e. cc }; says = refl; power = λ i. refl; fault = λ i. refl; not_read = refl; adds = λ H. refl; dated = λ e. cc; prints = record { whole = λ j is. cc; cut = λ j is. cc } })
           (λ x. record { gets = inr (d, refl); says = refl; power = λ i. refl; fault = λ i. refl; not_read = refl; adds = λ H. refl; dated = λ e. cc; prints = record { whole = λ j is. cc; cut = λ j is. cc } })
-          (λ a b c. record { gets = refl; says = tt; power = λ i. refl; fault = λ i. refl; not_read = refl; adds = λ H. refl; dated = λ e. cc; prints = record { whole = λ j is. cc; cut = λ j is. cc } }) v.state.state (standing_act d (books_in w.state))
+          (λ a b c. record { gets = refl; says = (None, λ none. refl, refl); power = λ i. refl; fault = λ i. refl; not_read = refl; adds = λ H. refl; dated = λ e. cc; prints = record { whole = λ j is. cc; cut = λ j is. cc } }) v.state.state (standing_act d (books_in w.state))
 
   pub compare_off : (compare d v w ≡ r.OffNode (Device d)) ↔ (v.on ≡ false)
   compare_off = by v.on w.on

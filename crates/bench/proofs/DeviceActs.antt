@@ -217,23 +217,23 @@ refused d call x = record {
 }
 
 took_said : (d k : ℕ) (bytes : List ℕ) (a : Taken) → MaySay (ev.Give (Device d) bytes) (views.took d k a)
-took_said d k bytes (taken_as.Applied n v) = record { told = refl; gets = inr (bytes, refl) }
-took_said d k bytes (taken_as.Released piece x again) = record { told = refl; gets = inr (bytes, refl) }
+took_said d k bytes (taken_as.Applied n v) = record { told = refl; gets = inr (bytes, refl); adds = λ made none. (made, none, refl) }
+took_said d k bytes (taken_as.Released piece x again) = record { told = refl; gets = inr (bytes, refl); adds = λ made none. (_, x, (made, none, refl)) }
 
 pub call_told : (d : ℕ) (today : ℤ) (call : DeviceCall) (s : Option State) → IsToldBy (Device d) (device_call_event d call) (device_act d today call s)
 call_told d today (Make key) s = told_made (Device d) _ refl (omega arith) (device_act d today (Make key) s) (call_own d today (Make key) s)
-    (polite_says (Device d) (ev.Make d key) (r.DevRefused d) (λ u. views.made d) (refused d (Make key)) (λ u. record { told = refl; gets = (key, refl) }) (make_act d key s))
+    (polite_says (Device d) (ev.Make d key) (r.DevRefused d) (λ u. views.made d) (refused d (Make key)) (λ u. record { told = refl; gets = (key, refl); adds = λ made none. (made, none, refl) }) (make_act d key s))
 call_told d today (Debit piece postage class) s = told_made (Device d) _ refl (omega arith) (device_act d today (Debit piece postage class) s) (call_own d today (Debit piece postage class) s)
-    (polite_says (Device d) (ev.Debit d piece postage class) (r.DevRefused d) (views.marked d piece) (refused d (Debit piece postage class)) (λ f. record { told = refl; gets = (postage, class, refl) })
+    (polite_says (Device d) (ev.Debit d piece postage class) (r.DevRefused d) (views.marked d piece) (refused d (Debit piece postage class)) (λ f. record { told = refl; gets = (postage, class, refl); adds = λ made none. (made, none, refl) })
     (debit_act todays_rules d (debit_by d piece postage class) today s))
 call_told d today (Ask kind who amount k) s = told_made (Device d) _ refl (omega arith) (device_act d today (Ask kind who amount k) s) (call_own d today (Ask kind who amount k) s)
-    (polite_says (Device d) (ev.Ask d kind who amount) (r.DevRefused d) (views.asked d k s) (refused d (Ask kind who amount k)) (λ note. record { told = refl; gets = inl (kind, who, amount, refl) })
+    (polite_says (Device d) (ev.Ask d kind who amount) (r.DevRefused d) (views.asked d k s) (refused d (Ask kind who amount k)) (λ note. record { told = refl; gets = inl (kind, who, amount, refl); adds = λ made none. (note, (made, none, refl)) })
     (ask_act todays_rules d kind who amount today s))
 call_told d today (Resend k) s = told_none (Device d) _ (device_act d today (Resend k) s) (none_says _ _ (resend_act s) (resend_free s))
-    (polite_says (Device d) (ev.Resend d) (r.DevRefused d) (views.asked d k s) (refused d (Resend k)) (λ note. record { told = refl; gets = inr refl }) (resend_act s))
+    (polite_says (Device d) (ev.Resend d) (r.DevRefused d) (views.asked d k s) (refused d (Resend k)) (λ note. record { told = refl; gets = inr refl; adds = λ made none. (note, (made, none, refl)) }) (resend_act s))
 call_told d today (Ack k) s = told_none (Device d) _ (device_act d today (Ack k) s) (none_says _ _ (ack_act s) (ack_free s))
-    (polite_says (Device d) (ev.Ack d) (r.DevRefused d) (views.sent (r.SentDone d (views.number_in s) k)) (refused d (Ack k)) (λ note. record { told = refl; gets = refl }) (ack_act s))
+    (polite_says (Device d) (ev.Ack d) (r.DevRefused d) (views.sent (r.SentDone d (views.number_in s) k)) (refused d (Ack k)) (λ note. record { told = refl; gets = refl; adds = λ made none. (note, (made, none, refl)) }) (ack_act s))
 call_told d today Status s = told_none (Device d) _ (device_act d today Status s) (none_says _ _ (status_act today s) (status_free today s))
-    (polite_says (Device d) (ev.Status d) (r.DevRefused d) (views.shown d) (refused d Status) (λ shown. record { told = refl; gets = refl }) (status_act today s))
+    (polite_says (Device d) (ev.Status d) (r.DevRefused d) (views.shown d) (refused d Status) (λ shown. record { told = refl; gets = refl; adds = λ made none. (made, none, refl) }) (status_act today s))
 call_told d today (Take bytes k) s = told_made (Device d) _ refl (omega arith) (device_act d today (Take bytes k) s) (call_own d today (Take bytes k) s)
     (polite_says (Device d) (ev.Give (Device d) bytes) (r.DevRefused d) (views.took d k) (refused d (Take bytes k)) (took_said d k bytes) (take_act todays_rules d bytes today s))

@@ -149,16 +149,16 @@ send_free (Some x) = unless_none (send_answer (Some x.state)) (Tell (acts.debit_
 
 pub call_told : (c : HostCall) (rows : Jobs) → IsToldBy Host (host_call_event c) (host_act c rows)
 call_told (call.Order d piece class grams zone price) rows = told_made Host _ refl (omega arith) _ (own_says Host _ _ (acts.order_act d piece class price rows) (order_own d piece class price rows))
-    (polite_says Host (ev.Order d piece class grams zone) r.HostRefused views.ordered (refused (call.Order d piece class grams zone price)) (λ a. record { told = refl; gets = (d, piece, class, grams, zone, refl) })
+    (polite_says Host (ev.Order d piece class grams zone) r.HostRefused views.ordered (refused (call.Order d piece class grams zone price)) (λ a. record { told = refl; gets = (d, piece, class, grams, zone, refl); adds = λ made none. (made, none, refl) })
     (acts.order_act d piece class price rows))
 call_told (call.Send j k) rows = told_none Host _ _ (none_says _ _ (acts.debit_message_act j rows) (send_free (job_row rows j)))
-    (polite_says Host (ev.Send j) r.HostRefused (views.sent j k) (refused (call.Send j k)) (λ note. record { told = refl; gets = refl }) (acts.debit_message_act j rows))
+    (polite_says Host (ev.Send j) r.HostRefused (views.sent j k) (refused (call.Send j k)) (λ note. record { told = refl; gets = refl; adds = λ made none. (note, (made, none, refl)) }) (acts.debit_message_act j rows))
 call_told (call.Print j) rows = told_made Host _ refl (omega arith) _ (own_says Host _ _ (acts.begin_print_act j rows) (print_own (job_row rows j) rows))
-    (polite_says Host (ev.Print j) r.HostRefused (views.printed j) (refused (call.Print j)) (λ mark. record { told = refl; gets = refl }) (acts.begin_print_act j rows))
+    (polite_says Host (ev.Print j) r.HostRefused (views.printed j) (refused (call.Print j)) (λ mark. record { told = refl; gets = refl; adds = λ made none. (mark, (made, none, refl)) }) (acts.begin_print_act j rows))
 call_told (call.Close j) rows = told_made Host _ refl (omega arith) _ (own_says Host _ _ (acts.close_act j rows) (close_own (job_row rows j) rows))
-    (polite_says Host (ev.Close j) r.HostRefused (views.done (r.Closed j)) (refused (call.Close j)) (λ u. record { told = refl; gets = refl }) (acts.close_act j rows))
+    (polite_says Host (ev.Close j) r.HostRefused (views.done (r.Closed j)) (refused (call.Close j)) (λ u. record { told = refl; gets = refl; adds = λ made none. (made, none, refl) }) (acts.close_act j rows))
 call_told (call.Take bytes) rows = told_made Host _ refl (omega arith) _ (own_says Host _ _ (acts.take_act bytes rows) (take_own (read bytes) rows))
-    (polite_says Host (ev.Give Host bytes) r.HostRefused views.held (refused (call.Take bytes)) (λ j. record { told = refl; gets = inr (bytes, refl) }) (acts.take_act bytes rows))
+    (polite_says Host (ev.Give Host bytes) r.HostRefused views.held (refused (call.Take bytes)) (λ j. record { told = refl; gets = inr (bytes, refl); adds = λ made none. (made, none, refl) }) (acts.take_act bytes rows))
 
 -- == what is printed of them ==
 

@@ -19,7 +19,7 @@ mod HostFits
 pub mod Left
 pub mod Making
 mod NodeEvents
-mod Notes
+pub mod Notes
 mod OneNode
 mod OneTurn
 mod Over

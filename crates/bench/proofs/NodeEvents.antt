@@ -1,5 +1,5 @@
 -- What an event of one node does to the bench, whatever the kind of the node.
-use Rattle.std.proofs.Common.{◌≡◌, ◌≢◌, ◌↔◌, ℕ, ℤ, ◌+◌, List, [], ◌++◌, length, Option, Some, None, Result, refl, sym, ◌∙◌, ap, subst, arith, append-nil}
+use Rattle.std.proofs.Common.{◌≡◌, ◌≢◌, ◌↔◌, ℕ, ℤ, ◌+◌, List, [], ◌++◌, length, Option, Some, None, Result, refl, sym, ◌∙◌, ap, subst, arith, append-nil, true, false, true≢false}
 use Rattle.std.specs.Prelude.{slice_get, slice_set, IfSome}
 use Rattle.std.proofs.lemmas.Option.{slice_get_within}
 use Rattle.std.proofs.lemmas.List.{length-set}
@@ -9,14 +9,14 @@ use Rattle.bench_base.specs.declared.refusals.RateRefusal.{RateRefusal}
 use Rattle.bench_base.specs.declared.ledger.Commit.{Commit}
 use Rattle.bench_base.specs.declared.ledger.Entry.{Entry}
 use Rattle.bench_base.specs.declared.events.Event.{Event}
+use Rattle.bench_base.specs.declared.events.Reply.{Reply}
 use Rattle.bench_base.specs.declared.events.Reply.TheVariants as r
 use Rattle.bench_base.specs.Rules.{todays_rules}
 use Rattle.bench_base.specs.Ranges.{IsWholeEvent}
 use Rattle.bench_base.specs.Plans.{Plan}
 use Rattle.bench_base.specs.Ledger.{Ledger, rates_in}
-use Rattle.nv_model.specs.declared.nv.Nv as nv
-use Rattle.nv_model.specs.declared.fuse.Fuse as fuse
 use Rattle.nv_store.specs.Mounts.{Mounts}
+use Rattle.nv_store.specs.Store.{UsesCommit}
 use Rattle.node_acts.specs.declared.asked.Asked.{Asked}
 use Rattle.node_acts.specs.Kinds.{view_in, node_commit}
 use Rattle.node_acts.specs.Views.{View}
@@ -41,7 +41,7 @@ use Rattle.bench_views.specs.Follows.{Follows, FollowsAlways}
 use Rattle.bench_views.proofs.Events.{some-same}
 use Rattle.bench.specs.Benches.{Nodes, OneKind, OfChange, At, IsReady, Stands, devices, centre, host, verifier, BenchOf}
 use Rattle.bench.specs.Outside.{Outside}
-use Rattle.bench.specs.Steps.{notes_in, Steps, StepsByViews, DoesAsked, ShowsLedger, HoldsImage, after_stop}
+use Rattle.bench.specs.Steps.{notes_in, tells_failure, Steps, StepsByViews, DoesAsked, ShowsLedger, HoldsImage, after_stop}
 use Rattle.bench.proofs.Events.{IsOfNode, no_day}
 use Rattle.bench.proofs.EachKind.{OthersRest}
 use Rattle.bench.proofs.OneNode as one
@@ -69,7 +69,7 @@ module _ (n : Nodes) (old new : BenchOf n) where
     pub put : (P : OfChange n.Storage) → P o m d s t → At n P old new m
     pub stood : (L : Ledger) → Stands n old L → node.Stands o.ghosts n.storage d (view_in m (o.kind.seen d) L) s
     pub rest : OthersRest m old new
-    pub same : t ≡ s → new.messages ≡ old.messages → new ≡ old
+    pub same : t ≡ s → (sent : List (List ℕ)) → new.messages ≡ sent → new ≡ record old { messages = sent }
 
   pub at_centre : new.day ≡ old.day → new.rates ≡ old.rates → new.devices ≡ old.devices → new.host ≡ old.host → new.verifier ≡ old.verifier → IsAt Centre (centre n) tt old.centre new.centre
   at_centre day rates devices host verifier = record {
@@ -84,7 +84,7 @@ module _ (n : Nodes) (old new : BenchOf n) where
       host = λ differs. host;
       verifier = λ differs. verifier;
     };
-    same = λ same unsent k. record { day = day k; messages = unsent k; rates = rates k; devices = devices k; centre = same k; host = host k; verifier = verifier k };
+    same = λ same sent now_is k. record { day = day k; messages = now_is k; rates = rates k; devices = devices k; centre = same k; host = host k; verifier = verifier k };
   }
 
   pub at_host : new.day ≡ old.day → new.rates ≡ old.rates → new.devices ≡ old.devices → new.centre ≡ old.centre → new.verifier ≡ old.verifier → IsAt Host (host n) tt old.host new.host
@@ -100,7 +100,7 @@ module _ (n : Nodes) (old new : BenchOf n) where
       host = λ differs. absurd (differs refl);
       verifier = λ differs. verifier;
     };
-    same = λ same unsent k. record { day = day k; messages = unsent k; rates = rates k; devices = devices k; centre = centre k; host = same k; verifier = verifier k };
+    same = λ same sent now_is k. record { day = day k; messages = now_is k; rates = rates k; devices = devices k; centre = centre k; host = same k; verifier = verifier k };
   }
 
   pub at_verifier : new.day ≡ old.day → new.rates ≡ old.rates → new.devices ≡ old.devices → new.centre ≡ old.centre → new.host ≡ old.host → IsAt Verifier (verifier n) tt old.verifier new.verifier
@@ -116,7 +116,7 @@ module _ (n : Nodes) (old new : BenchOf n) where
       host = λ differs. host;
       verifier = λ differs. absurd (differs refl);
     };
-    same = λ same unsent k. record { day = day k; messages = unsent k; rates = rates k; devices = devices k; centre = centre k; host = host k; verifier = same k };
+    same = λ same sent now_is k. record { day = day k; messages = now_is k; rates = rates k; devices = devices k; centre = centre k; host = host k; verifier = same k };
   }
 
   -- the device in a place, which was set
@@ -150,9 +150,9 @@ module _ (n : Nodes) (old new : BenchOf n) where
         host = λ differs. host;
         verifier = λ differs. verifier;
       };
-      same = λ same unsent k. record {
+      same = λ same sent now_is k. record {
         day = day k;
-        messages = unsent k;
+        messages = now_is k;
         rates = rates k;
         devices = (set ∙ ap (λ (u : n.Devices). slice_set old.devices place u) same ∙ set_there old.devices place s was) k;
         centre = centre k;
@@ -162,6 +162,10 @@ module _ (n : Nodes) (old new : BenchOf n) where
     }
 
 -- == what it does to the bench ==
+
+-- a reply of a failure tells of one
+not_failed : {P : Type 0} (reply failure : Reply) → reply ≡ failure → tells_failure failure ≡ true → tells_failure reply ≡ false → P
+not_failed reply failure is tells fine = absurd (true≢false (sym tells ∙ sym (ap tells_failure is) ∙ fine))
 
 module _ (n : Nodes) (e x : Event) (today : ℤ) (old new : BenchOf n) (turn : Turn)
     (before now : Outside) (m : Node) (o : OneKind n.Storage) (d : o.Name) (asked : Asked o.Call) (s t : o.Own) where
@@ -194,8 +198,12 @@ module _ (n : Nodes) (e x : Event) (today : ℤ) (old new : BenchOf n) (turn : T
       refused = λ refusal.
           let left = is.did.refused refusal in
           let unsent : new.messages ≡ old.messages = is.sends ∙ ap (λ (l : List (Option Entry)). old.messages ++ notes_in l) left.1 ∙ append-nil old.messages in
-          (is.located.same left.0 unsent, left.1);
+          (is.located.same left.0 old.messages unsent, left.1);
       adds = is.did.adds;
+      uses = λ c made. let told = is.did.uses c made in
+          (told.0, is.located.put (λ o i d s t. UsesCommit (meters_of o.ghosts n.storage s).fuse (meters_of o.ghosts n.storage t).fuse) told.1);
+      untouched = λ calls fine none.
+          is.located.same (is.did.untouched calls (λ lost. not_failed turn.reply _ lost refl fine) (λ failed. not_failed turn.reply _ failed refl fine) none) (old.messages ++ notes_in turn.entries) is.sends;
       there = λ k none. is.told k (sym none ∙ is.taken_is);
       feed = is.feed;
       mark = is.mark;

@@ -9,12 +9,11 @@ use Rattle.bench_base.specs.declared.events.Event.{Event}
 use Rattle.bench_base.specs.declared.events.Event.TheVariants as ev
 use Rattle.bench_base.specs.declared.events.Reply.TheVariants as r
 use Rattle.bench_base.specs.Events.{node_for, may_commit}
-use Rattle.bench_base.specs.Replies.{told_by, is_refusal, has_read, tells_power, tells_fault, MayGet}
+use Rattle.bench_base.specs.Replies.{is_refusal, has_read, tells_power, tells_fault, MayGet}
+use Rattle.bench_base.specs.Nodes.{node_of}
 use Rattle.bench_base.specs.Rules.{todays_rules, editions}
 use Rattle.bench_base.specs.Ranges.{IsWholeEvent}
 use Rattle.bench_base.specs.Ledger.{Ledger, torn_of, counted, is_on, rates_in}
-use Rattle.nv_model.specs.declared.nv.Nv as nv
-use Rattle.nv_model.specs.declared.fuse.Fuse as fuse
 use Rattle.nv_store.specs.Mounts.{Mounts}
 use Rattle.node_acts.specs.Kinds.{view_in}
 use Rattle.node_acts.specs.Plans.{after}
@@ -25,9 +24,10 @@ use Rattle.node_seat.proofs.Rests.{mounts_none}
 use Rattle.node_turns.specs.declared.turn.Turn.{Turn}
 use Rattle.node_turns.specs.Adds.{Adds}
 use Rattle.node_turns.specs.Costs.{Charged}
-use Rattle.node_turns.specs.NodeTurns.{Switches}
+use Rattle.node_turns.specs.NodeTurns.{Switches, OnlyCalls}
 use Rattle.node_turns.specs.Printing.{PrinterDid, print_of}
-use Rattle.node_turns.specs.Turns.{in_order}
+use Rattle.node_turns.specs.Turns.{in_order, made_in}
+use Rattle.bench.proofs.Notes.{sends_none}
 use Rattle.host_rates.specs.Tables.{RateTable}
 use Rattle.host_rates.specs.Tariffs.{Keeps}
 use Rattle.ledger_moves.specs.Tariffs.{Tariff}
@@ -41,7 +41,7 @@ use Rattle.bench_views.specs.Messages.{sent_in}
 use Rattle.bench_views.specs.Follows.{OthersStay, Rests}
 use Rattle.bench.specs.Benches.{Places, Nodes, OneKind, OfState, OfChange, At, Of, By, IsReady, Stands, StoresStand, StoreStandsOff, store_of, devices, centre, host, verifier, BenchOf}
 use Rattle.bench.specs.Outside.{Feed, Outside}
-use Rattle.bench.specs.Steps.{Steps, StepsOn, StepsAlone, ShowsLedger, HoldsImage, AreLeft, StayClosed, Leaves, notes_in, sending, with_open, after_stop, tells_failure}
+use Rattle.bench.specs.Steps.{Steps, StepsOn, StepsAlone, ShowsLedger, HoldsImage, AreLeft, StayClosed, Leaves, UsesFuse, notes_in, sending, with_open, after_stop, tells_failure}
 use Rattle.bench.proofs.Events.{IsOfNode, NeedsAlike, given_alike, node_is, untold, same_or_not}
 use Rattle.bench.proofs.EachKind.{OthersRest, of_all, of_with, of_by, at_both, stays, walk}
 use Rattle.bench.proofs.Making.{get_some}
@@ -101,7 +101,9 @@ module _ (n : Nodes) (m : Node) (e x : Event) (turn : Turn) (old new : BenchOf n
     pub reply : MayGet x turn.reply
     pub on_day : turn.reply ≢ r.NoDay
     pub refused : is_refusal turn.reply ≡ true → (new ≡ old) × (turn.entries ≡ in_order [])
-    pub adds : Adds x (told_by turn.reply) turn.entries
+    pub adds : Adds x turn.reply turn.entries
+    pub uses : (c : Commit) → made_in turn.entries ≡ Some c → (node_of c ≡ m) × UsesFuse n m old new
+    pub untouched : OnlyCalls x → tells_failure turn.reply ≡ false → made_in turn.entries ≡ None → new ≡ sending turn old
     pub there : (k : ℕ) → taken old.messages (quote old.rates) e ≡ Some (take.NoMessage k) → ⊥
     pub feed : now.rates ≡ before.rates
     pub mark : Option (List ℕ)
@@ -186,7 +188,10 @@ module _ (n : Nodes) (m : Node) (e x : Event) (turn : Turn) (old new : BenchOf n
       message = λ k is some. absurd (did.there k is);
       sends = did.sends;
       refused = did.refused;
-      adds = subst (λ (y : Event). Adds y (told_by turn.reply) turn.entries) (sym did.given) did.adds;
+      adds = subst (λ (y : Event). Adds y turn.reply turn.entries) (sym did.given) did.adds;
+      quiet = sends_none x turn did.adds;
+      uses = λ c made. let is = did.uses c made in subst (λ (k : Node). UsesFuse n k old new) (sym is.0) is.1;
+      untouched = subst (λ (y : Event). OnlyCalls y → tells_failure turn.reply ≡ false → made_in turn.entries ≡ None → new ≡ sending turn old) (sym did.given) did.untouched;
       nodes = λ k. subst (λ (y : Event). At n (λ o i d. Leaves o.ghosts n.storage n.fuse i y old.day turn.reply) old new k) (sym did.given) (leaves_at k);
       rates = record {
         reads = λ is. absurd (no_rates is);

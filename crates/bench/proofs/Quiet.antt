@@ -10,12 +10,10 @@ use Rattle.bench_base.specs.declared.events.Event.TheVariants as ev
 use Rattle.bench_base.specs.declared.events.Reply.{Reply}
 use Rattle.bench_base.specs.declared.events.Reply.TheVariants as r
 use Rattle.bench_base.specs.Events.{needs_day, node_for, day_after}
-use Rattle.bench_base.specs.Replies.{tells_power, tells_fault, has_read, is_refusal, MayGet, told_by}
+use Rattle.bench_base.specs.Replies.{tells_power, tells_fault, has_read, is_refusal, MayGet}
 use Rattle.bench_base.specs.Rules.{todays_rules, editions}
 use Rattle.bench_base.specs.Ranges.{IsWholeEvent}
 use Rattle.bench_base.specs.Ledger.{Ledger, torn_of}
-use Rattle.nv_model.specs.declared.nv.Nv as nv
-use Rattle.nv_model.specs.declared.fuse.Fuse as fuse
 use Rattle.nv_store.specs.Mounts.{Mounts}
 use Rattle.node_acts.specs.Kinds.{view_in}
 use Rattle.node_acts.specs.Plans.{after}
@@ -24,8 +22,8 @@ use Rattle.node_seat.specs.Stands.{times_of, meters_of}
 use Rattle.node_seat.proofs.Rests.{mounts_none}
 use Rattle.node_turns.specs.declared.turn.Turn.{Turn}
 use Rattle.node_turns.specs.Adds.{Adds}
-use Rattle.node_turns.specs.NodeTurns.{Switches}
-use Rattle.node_turns.specs.Turns.{in_order, turn_of}
+use Rattle.node_turns.specs.NodeTurns.{Switches, OnlyCalls}
+use Rattle.node_turns.specs.Turns.{in_order, made_in, turn_of}
 use Rattle.ledger_moves.specs.Tariffs.{Tariff}
 use Rattle.ledger_moves.specs.Histories.{History, Unforged}
 use Rattle.ledger_moves.specs.Moves.{Moves, plan}
@@ -42,6 +40,16 @@ use Rattle.bench.proofs.EachKind.{AllRest, of_all, of_with, still}
 use Rattle.bench.proofs.Left.{rest_stopped}
 use Rattle.bench.proofs.Stops.{stop_history}
 use Rattle.bench.proofs.Unprinted.{IsUnprinted, prints_nothing}
+
+-- == where nothing is sent ==
+
+sending_none : {D C H V : Type 0} (t : Turn) (b : Bench D C H V) → notes_in t.entries ≡ [] → sending t b ≡ b
+sending_none t b none = λ k. record b { messages = (ap (λ (l : List (List ℕ)). b.messages ++ l) none ∙ append-nil b.messages) k }
+
+none_some : {A P : Type 0} {o : Option A} (a : A) → o ≡ None → o ≡ Some a → P
+none_some a none some = let wrong : None ≡ Some a = sym none ∙ some in cc
+
+-- == an event that leaves the nodes as they are ==
 
 module _ (n : Nodes) (e x : Event) (text : List ℕ)
     (reply : Reply) (told : List Entry) (old new : BenchOf n) (before now : Outside) where
@@ -72,15 +80,17 @@ module _ (n : Nodes) (e x : Event) (text : List ℕ)
     pub power : (i : Node) → tells_power i reply ≡ false
     pub fault : (i : Node) → tells_fault i reply ≡ false
     pub gets : MayGet x reply
-    pub says : Adds x (told_by reply) (in_order told)
+    pub says : Adds x reply (in_order told)
+    pub unmade : made_in (in_order told) ≡ None
     pub day : needs_day e ≡ true → (reply ≡ r.NoDay) ↔ (old.day ≡ None)
     pub dated : new.day ≡ day_after e old.day
     pub dates : (t : ℤ) → e ≡ ev.Day t → turn ≡ turn_of (r.Day t) (entry.Day t ∷ [])
-    pub ends : e ≡ ev.End → turn ≡ turn_of r.End []
+    pub ends : e ≡ ev.End → (new ≡ old) × (turn ≡ turn_of r.End [])
     pub compares : (d : ℕ) → e ≡ ev.Reconcile d → (new ≡ old) × (told ≡ []) × FindsOff n d reply old
     pub message : (k : ℕ) → taken old.messages (quote old.rates) e ≡ Some (take.NoMessage k) → IsSome old.day → reply ≡ r.NoMessage k
     pub unsent : notes_in (in_order told) ≡ []
     pub refused : is_refusal reply ≡ true → (new ≡ old) × (told ≡ [])
+    pub untouched : OnlyCalls x → new ≡ old
     pub switches : (m : Node) → Of n SwitchesIs old m
     pub unarmed : IsSome old.day → (m : Node) (calls keep byte : ℕ) → x ≡ ev.Cut m calls keep byte → ⊥
     pub rates : ReadsRates e text turn old.day old.rates new.rates before.rates now.rates
@@ -147,7 +157,11 @@ module _ (n : Nodes) (e x : Event) (text : List ℕ)
       message = alone.message;
       sends = unsent ∙ sym (append-nil old.messages) ∙ ap (λ (l : List (List ℕ)). old.messages ++ l) (sym alone.unsent);
       refused = λ is. let left = alone.refused is in (left.0, ap in_order left.1);
-      adds = subst (λ (y : Event). Adds y (told_by reply) (in_order told)) (sym alone.given) alone.says;
+      adds = subst (λ (y : Event). Adds y reply (in_order told)) (sym alone.given) alone.says;
+      quiet = λ none. alone.unsent;
+      uses = λ c made. none_some c alone.unmade made;
+      untouched = λ calls fine none.
+          alone.untouched (subst (λ (y : Event). OnlyCalls y) alone.given calls) ∙ sym (sending_none turn old alone.unsent);
       nodes = λ m. subst (λ (y : Event). At n (λ o i d. Leaves o.ghosts n.storage n.fuse i y old.day reply) old new m) (sym alone.given) (leaves m);
       rates = alone.rates;
       printer = (None, prints_nothing reply None before.printer now.printer alone.printer alone.prints);
@@ -160,11 +174,8 @@ module _ (n : Nodes) (e x : Event) (text : List ℕ)
       always = quiet_alone;
     }
 
--- == where nothing is sent ==
-
-unsent : {D C H V : Type 0} (t : Turn) (b : Bench D C H V) → notes_in t.entries ≡ [] → sending t b ≡ b
-unsent t b none = λ k. record b { messages = (ap (λ (l : List (List ℕ)). b.messages ++ l) none ∙ append-nil b.messages) k }
+-- == with what it sends ==
 
 pub as_sent : (n : Nodes) (e : Event) (text : List ℕ) (turn : Turn)
     (old new : BenchOf n) (before now : Outside) → notes_in turn.entries ≡ [] → Steps n e text turn old new before now → Steps n e text turn old (sending turn new) before now
-as_sent n e text turn old new before now none steps = subst (λ (b : BenchOf n). Steps n e text turn old b before now) (sym (unsent turn new none)) steps
+as_sent n e text turn old new before now none steps = subst (λ (b : BenchOf n). Steps n e text turn old b before now) (sym (sending_none turn new none)) steps

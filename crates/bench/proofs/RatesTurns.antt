@@ -8,17 +8,15 @@ use Rattle.bench_base.specs.declared.events.Event.TheVariants as ev
 use Rattle.bench_base.specs.declared.events.Reply.{Reply}
 use Rattle.bench_base.specs.declared.events.Reply.TheVariants as r
 use Rattle.bench_base.specs.Plans.{Plan, refuse, told}
-use Rattle.bench_base.specs.Replies.{tells_power, tells_fault, has_read, is_refusal, MayGet, told_by}
+use Rattle.bench_base.specs.Replies.{tells_power, tells_fault, has_read, is_refusal, MayGet}
 use Rattle.bench_base.specs.Rules.{todays_rules, editions}
 use Rattle.bench_base.specs.Ledger.{Ledger, day_in, rates_in, torn_of}
-use Rattle.nv_model.specs.declared.nv.Nv as nv
-use Rattle.nv_model.specs.declared.fuse.Fuse as fuse
 use Rattle.node_acts.specs.Kinds.{view_in}
 use Rattle.node_acts.specs.Plans.{after}
 use Rattle.node_seat.specs.Stands as node
 use Rattle.node_turns.specs.declared.turn.Turn.{Turn}
 use Rattle.node_turns.specs.Adds.{Adds}
-use Rattle.node_turns.specs.Turns.{turn_of, in_order}
+use Rattle.node_turns.specs.Turns.{turn_of, in_order, made_in}
 use Rattle.host_rates.specs.declared.reading.RatesFail.{RatesFail}
 use Rattle.host_rates.specs.declared.reading.RatesFail.TheVariants as fail
 use Rattle.host_rates.specs.Tables.{RateTable}
@@ -87,7 +85,8 @@ are_rates text x is = by (nat_lt 65536 (length text)) (document text) is
 -- what holds of each such reply, with what it tells
 record Told (text : List ℕ) (reply : Reply) (tells : List Entry) : Type 0 where
   gets : MayGet ev.Rates reply
-  says : Adds ev.Rates (told_by reply) (in_order tells)
+  says : Adds ev.Rates reply (in_order tells)
+  unmade : made_in (in_order tells) ≡ None
   power : (i : Node) → tells_power i reply ≡ false
   fault : (i : Node) → tells_fault i reply ≡ false
   not_read : has_read reply ≡ false
@@ -98,7 +97,8 @@ record Told (text : List ℕ) (reply : Reply) (tells : List Entry) : Type 0 wher
 told_of : (text : List ℕ) (x : Result RateTable RatesFail) → Told text (plan_of text x).reply (plan_of text x).after
 told_of text (Ok x) = record {
   gets = refl;
-  says = tt;
+  says = (text, refl);
+  unmade = refl;
   power = λ i. refl;
   fault = λ i. refl;
   not_read = refl;
@@ -109,6 +109,7 @@ told_of text (Ok x) = record {
 told_of text (Err (fail.Length n)) = record {
   gets = refl;
   says = refl;
+  unmade = refl;
   power = λ i. refl;
   fault = λ i. refl;
   not_read = refl;
@@ -119,6 +120,7 @@ told_of text (Err (fail.Length n)) = record {
 told_of text (Err fail.Toml) = record {
   gets = refl;
   says = refl;
+  unmade = refl;
   power = λ i. refl;
   fault = λ i. refl;
   not_read = refl;
@@ -129,6 +131,7 @@ told_of text (Err fail.Toml) = record {
 told_of text (Err fail.Form) = record {
   gets = refl;
   says = refl;
+  unmade = refl;
   power = λ i. refl;
   fault = λ i. refl;
   not_read = refl;
@@ -139,6 +142,7 @@ told_of text (Err fail.Form) = record {
 told_of text (Err (fail.Memory x)) = record {
   gets = refl;
   says = refl;
+  unmade = refl;
   power = λ i. refl;
   fault = λ i. refl;
   not_read = refl;
@@ -151,6 +155,7 @@ told_fault : (text : List ℕ) → Told text r.RatesFault []
 told_fault text = record {
   gets = refl;
   says = refl;
+  unmade = refl;
   power = λ i. refl;
   fault = λ i. refl;
   not_read = refl;
@@ -192,6 +197,8 @@ module _ (n : Nodes) (text : List ℕ) (turn : Turn) (today : ℤ)
         fault = so.fault;
         gets = so.gets;
         says = so.says;
+        unmade = so.unmade;
+        untouched = λ calls. absurd (true≢false (sym calls.0));
         day = λ needs. (λ same. absurd (so.dated same), λ none. no_some today (sym none ∙ day_is));
         dated = refl;
         dates = λ t same. cc;

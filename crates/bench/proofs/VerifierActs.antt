@@ -83,6 +83,6 @@ refused c x = record {
 
 pub call_told : (today : ℤ) (c : VerifierCall) (s : Seen) → IsToldBy Verifier (verifier_call_event c) (verifier_act today c s)
 call_told today (call.Trust d key) s = told_made Verifier _ refl (omega arith) _ (own_says Verifier _ _ (acts.trust_act d key s) (trust_own d key (is_some (key_at s d))))
-    (polite_says Verifier (ev.Trust d key) r.ScanRefused (views.done (r.Trusted d)) (refused (call.Trust d key)) (λ u. record { told = refl; gets = (key, refl) }) (acts.trust_act d key s))
+    (polite_says Verifier (ev.Trust d key) r.ScanRefused (views.done (r.Trusted d)) (refused (call.Trust d key)) (λ u. record { told = refl; gets = (key, refl); adds = λ made none. (made, none, refl) }) (acts.trust_act d key s))
 call_told today (call.Scan n bytes) s = told_made Verifier _ refl (omega arith) _ (own_says Verifier _ _ (acts.scan_act n bytes today s) (read_own n bytes today s (read_mark bytes)))
-    (polite_says Verifier (ev.ScanHex n bytes) r.ScanRefused (views.accepted n) (refused (call.Scan n bytes)) (λ a. record { told = refl; gets = inr (bytes, refl) }) (acts.scan_act n bytes today s))
+    (polite_says Verifier (ev.ScanHex n bytes) r.ScanRefused (views.accepted n) (refused (call.Scan n bytes)) (λ a. record { told = refl; gets = inr (bytes, refl); adds = λ made none. (made, none, refl) }) (acts.scan_act n bytes today s))

@@ -18,6 +18,7 @@ use Rattle.nv_model.specs.declared.nv.Nv as nv
 use Rattle.nv_model.specs.declared.fuse.Fuse as fuse
 use Rattle.nv_model.specs.Moments.{Image}
 use Rattle.nv_store.specs.Mounts.{Mounts}
+use Rattle.nv_store.specs.Store.{UsesCommit}
 use Rattle.node_acts.specs.declared.asked.Asked.{Asked}
 use Rattle.node_acts.specs.Kinds.{Kind, view_in}
 use Rattle.node_acts.specs.Plans.{after}
@@ -27,11 +28,11 @@ use Rattle.node_seat.specs.Shown.{Allowed}
 use Rattle.node_seat.specs.Stands as node
 use Rattle.node_seat.specs.Stands.{times_of, meters_of, HasDamage, IsArmed}
 use Rattle.node_turns.specs.declared.turn.Turn.{Turn}
-use Rattle.node_turns.specs.Adds.{Adds}
+use Rattle.node_turns.specs.Adds.{Adds, names_message}
 use Rattle.node_turns.specs.Costs.{Charged}
-use Rattle.node_turns.specs.NodeTurns.{Switches, MovesView, plan_by}
+use Rattle.node_turns.specs.NodeTurns.{Switches, MovesView, OnlyCalls, plan_by}
 use Rattle.node_turns.specs.Printing.{PrinterDid, print_of}
-use Rattle.node_turns.specs.Turns.{in_order, turn_of}
+use Rattle.node_turns.specs.Turns.{in_order, made_in, turn_of}
 use Rattle.node_turns.specs.Turns as turns
 use Rattle.ledger_moves.specs.Tariffs.{Tariff}
 use Rattle.ledger_moves.specs.Moves as ledger
@@ -181,21 +182,30 @@ module _ (n : Nodes) where
     pub unwritten : may_commit e ≡ false → (m : Node) → At n (λ k i d s t. Mounts (times_of k.ghosts n.storage s) (times_of k.ghosts n.storage t)) old new m
     pub damaged : (m : Node) → e ≡ ev.On m → has_read turn.reply ≡ true → At n (λ k i d s t. (turn.reply ≡ r.Damaged i) ↔ HasDamage k.ghosts d t) old new m
 
+  -- a commit of node m used four calls of its storage or six
+  abbrev pub UsesFuse : Node → BenchOf n → BenchOf n → Type 0
+  UsesFuse m old new = At n (λ k i d s t. UsesCommit (meters_of k.ghosts n.storage s).fuse (meters_of k.ghosts n.storage t).fuse) old new m
+
   -- Whatever the storages tell: which replies the event may get at all, where to deliver a message is to give it to the node that
   -- it is for, and to scan one is to scan its bytes; whether it has a day, and the day after it; the turns of `day` and `end`; that to
-  -- compare changes and adds nothing, and finds the centre off exactly where it is; a message that nobody sent; that what is sent, and nothing else, becomes the next message; what is refused; what a reply alone says of the
-  -- entries; what is left of each node, and that each but its own is as it was; what is read of the rates, and what the printer takes.
+  -- compare changes and adds nothing, and finds the centre off exactly where it is; a message that nobody sent; that what is sent, and
+  -- nothing else, becomes the next message; what is refused; what a reply alone says of the entries, and that one which names no message
+  -- sends none; how many calls a commit uses, and that a call without one leaves the bench as it was, but for what is sent; what is left
+  -- of each node, and that each but its own is as it was; what is read of the rates, and what the printer takes.
   pub record StepsAlone (e : Event) (text : List ℕ) (turn : Turn) (old new : BenchOf n) (before now : Outside) : Type 0 where
     pub reply : MayGet (as_given old.messages e) turn.reply
     pub day : needs_day e ≡ true → (turn.reply ≡ r.NoDay) ↔ (old.day ≡ None)
     pub dated : new.day ≡ day_after e old.day
     pub dates : (t : ℤ) → e ≡ ev.Day t → turn ≡ turn_of (r.Day t) (entry.Day t ∷ [])
-    pub ends : e ≡ ev.End → turn ≡ turn_of r.End []
+    pub ends : e ≡ ev.End → (new ≡ old) × (turn ≡ turn_of r.End [])
     pub compares : (d : ℕ) → e ≡ ev.Reconcile d → (new ≡ old) × (turn.entries ≡ in_order []) × FindsOff d turn.reply old
     pub message : (k : ℕ) → taken old.messages (quote old.rates) e ≡ Some (take.NoMessage k) → IsSome old.day → turn.reply ≡ r.NoMessage k
     pub sends : new.messages ≡ old.messages ++ notes_in turn.entries
     pub refused : is_refusal turn.reply ≡ true → (new ≡ old) × (turn.entries ≡ in_order [])
-    pub adds : Adds (as_given old.messages e) (told_by turn.reply) turn.entries
+    pub adds : Adds (as_given old.messages e) turn.reply turn.entries
+    pub quiet : names_message turn.reply ≡ false → notes_in turn.entries ≡ []
+    pub uses : (c : Commit) → made_in turn.entries ≡ Some c → UsesFuse (node_of c) old new
+    pub untouched : OnlyCalls (as_given old.messages e) → tells_failure turn.reply ≡ false → made_in turn.entries ≡ None → new ≡ sending turn old
     pub nodes : (m : Node) → At n (λ k i d. Leaves k.ghosts n.storage n.fuse i (as_given old.messages e) old.day turn.reply) old new m
     pub rates : ReadsRates e text turn old.day old.rates new.rates before.rates now.rates
     pub printer : (mark : Option (List ℕ)) × PrinterDid turn.reply mark before.printer now.printer

@@ -7,7 +7,7 @@ use Rattle.node_acts.specs.declared.act.Outcome.{Outcome}
 use Rattle.node_acts.specs.declared.asked.Asked.TheVariants.{Call}
 use Rattle.node_acts.specs.declared.said.Said.{Said}
 use Rattle.node_seat.specs.declared.node.Node.{Ghosts}
-use Rattle.node_seat.specs.Calls.{CallDoes}
+use Rattle.node_turns.specs.Calling.{Called}
 use Rattle.node_turns.specs.declared.turn.Turn.{Turn}
 use Rattle.node_turns.specs.NodeTurns.{NodeTurn}
 use Rattle.node_turns.specs.Turns.{call_turn}
@@ -31,7 +31,7 @@ abbrev node_of : (g : Over) → Ghosts (CentreNode g.row.M.Denot g.M.Nv) g.row.M
 node_of g = ghosts g.row.M g.M.Fuse g.M.Fuse-dict g.M.Nv g.M.Nv-dict g.M.Destruct-dict
 
 -- by what the centre did
-by_call : (g : Over) (today : ℤ) (call : CentreCall) → IsRangedCall call → IsBytesCall call → (s t : CentreNode g.row.M.Denot g.M.Nv) (x : Outcome Reply Said) → CallDoes (node_of g) g.M.Nv (λ k. centre_act call (books_in k)) s t x
+by_call : (g : Over) (today : ℤ) (call : CentreCall) → IsRangedCall call → IsBytesCall call → (s t : CentreNode g.row.M.Denot g.M.Nv) (x : Outcome Reply Said) → Called (node_of g) g.M.Nv (λ k. centre_act call (books_in k)) s t x
     → NodeTurn (node_of g) g.M.Nv g.M.Fuse centre_kind Centre tt today (centre_event (Call call)) (Call call) s t (call_turn Centre (centre_act call (books_in ((node_of g).seen s))) x)
 by_call g today call ranged bytes s t x did =
     turn_call (node_of g) g.M.Nv g.M.Fuse centre_kind Centre tt today (centre_event (Call call)) call (λ k. centre_act call (books_in k)) (acts.call_of call) (λ k. acts.call_told call (books_in k))
@@ -43,7 +43,7 @@ Told g result today asked s t = (turn : Turn) × g.T.Tell.IsOf result turn × No
 
 -- the call is the one that was asked, and its act the one that is said
 told_by : (g : Over) (result : g.row.T.Denot) (today : ℤ) (asked call : CentreCall) → asked ≡ call → IsRangedCall asked → IsBytesCall asked → (s t : CentreNode g.row.M.Denot g.M.Nv) (x : Outcome Reply Said)
-    → CallDoes (node_of g) g.M.Nv (λ k. centre_act call (books_in k)) s t x → (act : Act Row Reply Said) → act ≡ centre_act call (books_in ((node_of g).seen s))
+    → Called (node_of g) g.M.Nv (λ k. centre_act call (books_in k)) s t x → (act : Act Row Reply Said) → act ≡ centre_act call (books_in ((node_of g).seen s))
     → g.T.Tell.IsOf result (call_turn Centre act x) → Told g result today asked s t
 told_by g result today asked call is ranged bytes s t x did act said told =
     subst (λ (c : CentreCall). Told g result today c s t) (sym is) (

@@ -9,7 +9,7 @@ use Rattle.node_acts.specs.declared.act.Outcome.{Outcome}
 use Rattle.node_acts.specs.declared.asked.Asked.TheVariants.{Call}
 use Rattle.node_acts.specs.declared.said.Said.{Said}
 use Rattle.node_seat.specs.declared.node.Node.{Ghosts}
-use Rattle.node_seat.specs.Calls.{CallDoes}
+use Rattle.node_turns.specs.Calling.{Called}
 use Rattle.node_turns.specs.declared.turn.Turn.{Turn}
 use Rattle.node_turns.specs.NodeTurns.{NodeTurn}
 use Rattle.node_turns.specs.Turns.{call_turn}
@@ -40,7 +40,7 @@ named d None own = tt
 named d (Some s) own = own.number
 
 -- by what the device did
-by_call : (g : Over) (d : ℕ) (today : ℤ) (call : DeviceCall) (s t : DeviceNode g.row.M.Denot g.M.Nv) (x : Outcome Reply Said) → CallDoes (node_of g) g.M.Nv (λ k. device_act d today call k.state) s t x
+by_call : (g : Over) (d : ℕ) (today : ℤ) (call : DeviceCall) (s t : DeviceNode g.row.M.Denot g.M.Nv) (x : Outcome Reply Said) → Called (node_of g) g.M.Nv (λ k. device_act d today call k.state) s t x
     → NodeTurn (node_of g) g.M.Nv g.M.Fuse device_kind (Device d) d today (device_event d (Call call)) (Call call) s t (call_turn (Device d) (device_act d today call s.state) x)
 by_call g d today call s t x did =
     turn_call (node_of g) g.M.Nv g.M.Fuse device_kind (Device d) d today (device_event d (Call call)) call (λ k. device_act d today call k.state) (acts.call_of d call) (λ k. acts.call_told d today call k.state)
@@ -52,7 +52,7 @@ Told g result d today asked s t = (turn : Turn) × g.T.Tell.IsOf result turn × 
 
 -- the call is the one that was asked, and its act the one that is said
 told_by : (g : Over) (result : g.row.T.Denot) (d : ℕ) (today : ℤ) (asked call : DeviceCall) → asked ≡ call → (s t : DeviceNode g.row.M.Denot g.M.Nv) (x : Outcome Reply Said)
-    → CallDoes (node_of g) g.M.Nv (λ k. device_act d today call k.state) s t x → (act : Act State Reply Said) → act ≡ device_act d today call s.state
+    → Called (node_of g) g.M.Nv (λ k. device_act d today call k.state) s t x → (act : Act State Reply Said) → act ≡ device_act d today call s.state
     → g.T.Tell.IsOf result (call_turn (Device d) act x) → Told g result d today asked s t
 told_by g result d today asked call is s t x did act said told =
     subst (λ (c : DeviceCall). Told g result d today c s t) (sym is)

@@ -7,7 +7,7 @@ use Rattle.node_acts.specs.declared.act.Outcome.{Outcome}
 use Rattle.node_acts.specs.declared.asked.Asked.TheVariants.{Call}
 use Rattle.node_acts.specs.declared.said.Said.{Said}
 use Rattle.node_seat.specs.declared.node.Node.{Ghosts}
-use Rattle.node_seat.specs.Calls.{CallDoes}
+use Rattle.node_turns.specs.Calling.{Called}
 use Rattle.node_turns.specs.declared.turn.Turn.{Turn}
 use Rattle.node_turns.specs.NodeTurns.{NodeTurn}
 use Rattle.node_turns.specs.Printing.{Printer, PrintsCall, NodePrints, printer_of}
@@ -31,7 +31,7 @@ abbrev node_of : (g : Over) → Ghosts (HostNode g.row.M.Denot g.M.Nv) g.row.M.D
 node_of g = ghosts g.row.M g.M.Fuse g.M.Fuse-dict g.M.Nv g.M.Nv-dict g.M.Destruct-dict
 
 -- by what the host did and the printer took
-by_call : (g : Over) (today : ℤ) (call : HostCall) (ranged : IsRangedJob call) (s t : HostNode g.row.M.Denot g.M.Nv) (x : Outcome Reply Said) → CallDoes (node_of g) g.M.Nv (λ k. host_act call (rows_in k)) s t x
+by_call : (g : Over) (today : ℤ) (call : HostCall) (ranged : IsRangedJob call) (s t : HostNode g.row.M.Denot g.M.Nv) (x : Outcome Reply Said) → Called (node_of g) g.M.Nv (λ k. host_act call (rows_in k)) s t x
     → (turn : Turn) (before now : Printer) → PrintsCall Host (host_act call (rows_in ((node_of g).seen s))) x before now turn
     → TurnPrinted (node_of g) g.M.Nv g.M.Fuse host_kind Host tt today (host_event (Call call)) call (λ k. host_act call (rows_in k)) (acts.call_of call) (λ k. acts.call_told call (rows_in k))
     (λ v. refl) (λ v. refl) (λ k sound. acts.call_fits (node_of g) (rows_in k) sound.rows k (λ y is. is) call ranged) (λ k. acts.call_prints call (rows_in k)) s t turn before now
@@ -47,7 +47,7 @@ Told g result today asked s t before now =
 
 -- the call is the one that was asked, and its act the one that is said
 told_by : (g : Over) (result : g.row.T.Denot) (today : ℤ) (asked call : HostCall) → asked ≡ call → IsRangedJob asked → (s t : HostNode g.row.M.Denot g.M.Nv) (x : Outcome Reply Said)
-    → CallDoes (node_of g) g.M.Nv (λ k. host_act call (rows_in k)) s t x → (turn : Turn) → g.T.Tell.IsOf result turn → (before now : Printer)
+    → Called (node_of g) g.M.Nv (λ k. host_act call (rows_in k)) s t x → (turn : Turn) → g.T.Tell.IsOf result turn → (before now : Printer)
     → (act : Act JobRow Reply Said) → act ≡ host_act call (rows_in ((node_of g).seen s)) → PrintsCall Host act x before now turn → Told g result today asked s t before now
 told_by g result today asked call is ranged s t x did turn told before now act said printed =
     let done = by_call g today call (subst (λ (c : HostCall). IsRangedJob c) is ranged) s t x did turn before now (subst (λ (a : Act JobRow Reply Said). PrintsCall Host a x before now turn) said printed) in

@@ -7,7 +7,7 @@ use Rattle.node_acts.specs.declared.act.Outcome.{Outcome}
 use Rattle.node_acts.specs.declared.asked.Asked.TheVariants.{Call}
 use Rattle.node_acts.specs.declared.said.Said.{Said}
 use Rattle.node_seat.specs.declared.node.Node.{Ghosts}
-use Rattle.node_seat.specs.Calls.{CallDoes}
+use Rattle.node_turns.specs.Calling.{Called}
 use Rattle.node_turns.specs.declared.turn.Turn.{Turn}
 use Rattle.node_turns.specs.NodeTurns.{NodeTurn}
 use Rattle.node_turns.specs.Turns.{call_turn}
@@ -31,7 +31,7 @@ node_of g = ghosts g.row.M g.M.Fuse g.M.Fuse-dict g.M.Nv g.M.Nv-dict g.M.Destruc
 
 -- by what the verifier did
 by_call : (g : Over) (today : ℤ) (call : VerifierCall) → IsRangedScan call → IsBytesCall call → (s t : VerifierNode g.row.M.Denot g.M.Nv) (x : Outcome Reply Said)
-    → CallDoes (node_of g) g.M.Nv (λ k. verifier_act today call k) s t x
+    → Called (node_of g) g.M.Nv (λ k. verifier_act today call k) s t x
     → NodeTurn (node_of g) g.M.Nv g.M.Fuse verifier_kind Verifier tt today (verifier_event (Call call)) (Call call) s t (call_turn Verifier (verifier_act today call ((node_of g).seen s)) x)
 by_call g today call ranged bytes s t x did =
     turn_call (node_of g) g.M.Nv g.M.Fuse verifier_kind Verifier tt today (verifier_event (Call call)) call (λ k. verifier_act today call k) (acts.call_of call) (λ k. acts.call_told today call k)
@@ -43,7 +43,7 @@ Told g result today asked s t = (turn : Turn) × g.T.Tell.IsOf result turn × No
 
 -- the call is the one that was asked, and its act the one that is said
 told_by : (g : Over) (result : g.row.T.Denot) (today : ℤ) (asked call : VerifierCall) → asked ≡ call → IsRangedScan asked → IsBytesCall asked → (s t : VerifierNode g.row.M.Denot g.M.Nv) (x : Outcome Reply Said)
-    → CallDoes (node_of g) g.M.Nv (λ k. verifier_act today call k) s t x → (act : Act Change Reply Said) → act ≡ verifier_act today call ((node_of g).seen s)
+    → Called (node_of g) g.M.Nv (λ k. verifier_act today call k) s t x → (act : Act Change Reply Said) → act ≡ verifier_act today call ((node_of g).seen s)
     → g.T.Tell.IsOf result (call_turn Verifier act x) → Told g result today asked s t
 told_by g result today asked call is ranged bytes s t x did act said told =
     subst (λ (c : VerifierCall). Told g result today c s t) (sym is) (
