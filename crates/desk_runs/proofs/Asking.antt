@@ -1,5 +1,5 @@
 -- One step more that a desk asked for.
-use Rattle.std.proofs.Common.{inl, inr, ℕ, ◌+◌, ◌≤◌, ◌<◌, List, [], ◌∷◌, ◌++◌, refl, subst, arith}
+use Rattle.std.proofs.Common.{inl, inr, ℕ, ◌≤◌, ◌<◌, List, [], ◌∷◌, ◌++◌, refl, subst, arith}
 use Rattle.bench_base.specs.declared.events.Event.{Event}
 use Rattle.node_turns.specs.declared.turn.Turn.{Turn}
 use Rattle.desk_runs.specs.Deeds.{Done}

@@ -6,6 +6,7 @@ use Rattle.bench_base.specs.declared.events.Event.TheVariants as ev
 use Rattle.bench_base.specs.Ranges.{IsWholeEvent}
 use Rattle.node_turns.specs.declared.turn.Turn.{Turn}
 use Rattle.script_text.specs.Grammar.{Spells, IsSkipped}
+use Rattle.script_text.specs.Told.{IsWholeReply}
 use Rattle.line_runs.specs.Lines.{ended}
 use Rattle.line_runs.specs.Turns.{Reported, LineEnd}
 use Rattle.line_runs.specs.declared.status.Status.TheVariants as status
@@ -26,11 +27,6 @@ module _ {K T : Type 0} (k : Ghosts K T) {B : Type 0} (Steps : B → B → Done 
 
   pub skipped : (w : World B K) (taken : Option (List ℕ)) → IsSkipped line → End None w w taken taken
   skipped w taken is = LineEnd.did (record { deed = Plain (Skipped line); line_is = refl; is = is; did = (w, refl, refl); reported = (tt, Appends-nil taken) })
-
-  -- memory was wanting at an own line
-  pub wanted_own : (b : B) (desk now : K) (taken : Option (List ℕ)) (own : k.Own) → k.IsOwn own line → k.MayWant own → now ≡ desk → End (Some (Run status.Memory)) (world b desk) (world b now) taken taken
-  wanted_own b desk now taken own is may same =
-      LineEnd.wanted (record { outcome_is = refl; wants = inr (own, is, may); leaves = (same, inl refl); report = refl })
 
   -- the desk answered
   pub answered : (outcome : Option SideStatus) (b : B) (desk mid : K) (new : World B K) (taken0 taken1 : Option (List ℕ)) (own : k.Own) (first last : Next) (steps : List Done) → k.IsOwn own line
@@ -71,7 +67,7 @@ module _ {K T : Type 0} (k : Ghosts K T) {B : Type 0} (Steps : B → B → Done 
 
   -- an event that the desk left to the bench
   pub plain : (outcome : Option SideStatus) (old new : B) (desk mid now : K) (taken0 taken1 : Option (List ℕ)) (e : Event) → IsLineOf e line → k.Passes desk line → mid ≡ desk
-      → (outcome ≢ Some (Run status.Memory) → (d : Done) × (turn : Turn) × (d.event ≡ e) × Steps old new d turn × k.Sees mid e turn now × Reported outcome (e ≢ ev.End) (e ≡ ev.End) ⊥ (line_of d.reply) taken0 taken1)
+      → (outcome ≢ Some (Run status.Memory) → (d : Done) × (turn : Turn) × (d.event ≡ e) × Steps old new d turn × k.Sees mid e turn now × IsWholeReply d.reply × Reported outcome (e ≢ ev.End) (e ≡ ev.End) ⊥ (line_of d.reply) taken0 taken1)
       → (outcome ≡ Some (Run status.Memory) → (e ≡ ev.Rates) × Wants old new × (taken1 ≡ taken0) × (now ≡ mid))
       → End outcome (world old desk) (world new now) taken0 taken1
   plain outcome old new desk mid now taken0 taken1 e is passes same done wanted = elim (wants_memory outcome) [
@@ -83,8 +79,8 @@ module _ {K T : Type 0} (k : Ghosts K T) {B : Type 0} (Steps : B → B → Done 
         LineEnd.did (record {
           deed = Plain (Did line w.0);
           line_is = refl;
-          is = subst (λ (x : Event). IsLineOf x line) (sym w.2) is;
+          is = (subst (λ (x : Event). IsLineOf x line) (sym w.2) is, w.5);
           did = (world new now, record { passes = passes; turn = w.1; did = w.3; sees = subst (λ (x : Event). k.Sees desk x w.1 now) (sym w.2) (subst (λ (d : K). k.Sees d e w.1 now) same w.4) }, refl);
-          reported = subst (λ (x : Event). Reported outcome (x ≢ ev.End) (x ≡ ev.End) ⊥ (line_of w.0.reply) taken0 taken1) (sym w.2) w.5;
+          reported = subst (λ (x : Event). Reported outcome (x ≢ ev.End) (x ≡ ev.End) ⊥ (line_of w.0.reply) taken0 taken1) (sym w.2) w.6;
         })
   ]

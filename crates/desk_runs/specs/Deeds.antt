@@ -5,6 +5,7 @@ use Rattle.bench_base.specs.declared.events.Event.TheVariants as event
 use Rattle.bench_base.specs.declared.events.Reply.{Reply}
 use Rattle.script_text.specs.Grammar.{IsSkipped}
 use Rattle.script_text.specs.Texts.{text_of}
+use Rattle.script_text.specs.Told.{IsWholeReply}
 use Rattle.line_runs.specs.Lines.{ended}
 use Rattle.desk_runs.specs.Events.{IsLineOf}
 
@@ -42,10 +43,10 @@ abbrev pub text_for : Deed → List ℕ
 text_for (Skipped line) = []
 text_for (Did line d) = line_of d.reply
 
--- the line is what the deed says it is
+-- the line is what the deed says it is, and the numbers of its reply fit their types
 abbrev pub IsOf : Deed → Type 0
 IsOf (Skipped line) = IsSkipped line
-IsOf (Did line d) = IsLineOf d.event line
+IsOf (Did line d) = IsLineOf d.event line × IsWholeReply d.reply
 
 -- the deed is that of `end`
 abbrev pub IsEnd : Deed → Type 0

@@ -1,6 +1,5 @@
 -- That a bench with a desk has the lines of a clerk; and that what the bench did of it are the steps that were wanted.
 use Rattle.std.proofs.Common.{◌≢◌, inl, inr, ℕ, List, [], ◌∷◌, ◌++◌, refl, sym, ap, subst}
-use Rattle.bench_base.specs.declared.events.Event.TheVariants as ev
 use Rattle.line_runs.specs.Deeds.{FitsGrammar}
 use Rattle.line_runs.specs.Turns.{AreDone}
 use Rattle.line_runs.specs.declared.status.Status.TheVariants as status

@@ -45,11 +45,11 @@ is_grammar = record {
 
 passing : (d : Deed) → IsOf d → GoesOn d → IsPassing (line_in d)
 passing (Skipped line) is goes = inl is
-passing (Did line d) is goes = inr (d.event, is, goes)
+passing (Did line d) is goes = inr (d.event, is.0, goes)
 
 ending : (d : Deed) → IsOf d → IsEnd d → IsEndLine (line_in d)
 ending (Skipped line) is end = absurd end
-ending (Did line d) is end = subst (λ (y : Event). Spells y line) end is.spells
+ending (Did line d) is end = subst (λ (y : Event). Spells y line) end is.0.spells
 
 pub script_fits : FitsGrammar script_lines
 script_fits = record { grammar = is_grammar; goes_on = passing; ends = ending }

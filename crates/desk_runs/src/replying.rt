@@ -5,6 +5,7 @@ ghost use Rattle.bench_base.specs.Causes.{HasCause};
 ghost use Rattle.bench_base.specs.declared.events.Event.TheVariants as ends;
 ghost use Rattle.line_runs.specs.Lines.{IsCutOff};
 ghost use Rattle.desk_runs.specs.Deeds.{line_of};
+ghost use Rattle.script_text.specs.Told.{IsWholeReply};
 
 use bench_base::events::{Event, Reply};
 use bench_base::stream::{Sink, WriteFail};
@@ -49,8 +50,10 @@ pub fn ended_by(event: &Event) -> Option<SideStatus>
     }
 }
 
-/// Writes the line of the reply. With `WriteFail` a front of it was written, and the report's count of faults rose.
+/// Writes the line of the reply. With `WriteFail` a front of it was written, and the report's count of faults rose. The numbers of a reply
+/// fit their types (`whole`).
 pub fn put_line<K: Sink>(reply: &Reply, report: &mut K) -> Result<(), WriteFail>
+    ensures whole { IsWholeReply reply.now }
     ensures ok { OnOk result (Appends (K.taken report.old) (K.taken report.new) (line_of reply.now)) }
     ensures err { OnErr result ((part : List ℕ) × Appends (K.taken report.old) (K.taken report.new) part
         × IsCutOff part (line_of reply.now)) }

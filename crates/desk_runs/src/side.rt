@@ -7,6 +7,7 @@ ghost use Rattle.bench_base.specs.declared.events.Event.TheVariants as ends;
 ghost use Rattle.node_turns.specs.declared.turn.Turn.{Turn};
 ghost use Rattle.line_runs.specs.Lines.{ended, IsCutOff};
 ghost use Rattle.line_runs.specs.Turns.{Reported};
+ghost use Rattle.script_text.specs.Told.{IsWholeReply};
 ghost use Rattle.desk_runs.specs.Deeds.{Done, line_of};
 ghost use Rattle.desk_runs.specs.DeskLaws.{side_done, side_fits};
 ghost use Rattle.desk_runs.specs.Desks.{World, world, SideLeaves, side_lines, Does, Asks};
@@ -45,7 +46,7 @@ fn do_plain<B: Stepper, D: Desk, K: Sink>(
         (B.scene bench.old rates.old printer.old) + 1 }
     ensures done { result ≢ Some (SideStatus.Run Status.Memory) → (d : Done) × (turn : Turn) × (d.event ≡ event.now)
         × B.Steps (B.scene bench.old rates.old printer.old) (B.scene bench.new rates.new printer.new) d turn
-        × D.Sees desk.old event.now turn desk.new
+        × D.Sees desk.old event.now turn desk.new × IsWholeReply d.reply
         × Reported result (event.now ≢ ends.End) (event.now ≡ ends.End) ⊥ (line_of d.reply) (K.taken report.old)
         (K.taken report.new) }
     ensures memory { result ≡ Some (SideStatus.Run Status.Memory) → (event.now ≡ ends.Rates)
