@@ -2,8 +2,6 @@
 use Rattle.std.proofs.Common.{List, [], ◌∷◌, refl, sym, subst}
 use Rattle.bench_base.specs.declared.events.Reply.{Reply}
 use Rattle.bench_base.specs.Ledger.{Ledger}
-use Rattle.nv_model.specs.declared.nv.Nv as nv
-use Rattle.nv_model.specs.declared.fuse.Fuse as fuse
 use Rattle.bench_base.specs.Rules.{todays_rules, editions}
 use Rattle.ledger_lawful.specs.Sane.{IsSane}
 use Rattle.ledger_moves.specs.Tariffs.{Tariff}

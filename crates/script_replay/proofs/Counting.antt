@@ -10,8 +10,6 @@ use Rattle.bench_base.specs.declared.words.Node.{Node}
 use Rattle.bench_base.specs.declared.words.Node.TheVariants.{Device, Centre, Host, Verifier}
 use Rattle.bench_base.specs.Events.{calls_of}
 use Rattle.bench_base.specs.Replies.{tells_power, tells_fault, tells_cut, MayGet}
-use Rattle.nv_model.specs.declared.nv.Nv as nv
-use Rattle.nv_model.specs.declared.fuse.Fuse as fuse
 use Rattle.nv_model.specs.Meters.{Meters, Uses}
 use Rattle.node_seat.specs.declared.node.Node.{Ghosts}
 use Rattle.node_seat.specs.Stands.{meters_of}

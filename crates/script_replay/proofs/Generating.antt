@@ -10,8 +10,6 @@ use Rattle.bench_base.specs.declared.events.Reply.{Reply}
 use Rattle.bench_base.specs.declared.events.Reply.TheVariants as r
 use Rattle.bench_base.specs.Ledger.{Ledger}
 use Rattle.bench_base.specs.Replies.{MayGet}
-use Rattle.nv_model.specs.declared.nv.Nv as nv
-use Rattle.nv_model.specs.declared.fuse.Fuse as fuse
 use Rattle.node_turns.specs.Printing.{Printer}
 use Rattle.ledger_moves.specs.Histories.{IsKnown}
 use Rattle.ledger_moves.specs.Tariffs.{Tariff}

@@ -1,9 +1,8 @@
 -- What became of one line of a script of events.
 use Rattle.std.proofs.Common.{ℕ, ◌+◌, ◌≤◌, List, [], ◌∷◌, length, Option, None, refl, ap, arith}
 use Rattle.std.proofs.KnownBytes.{Appends-nil}
-use Rattle.nv_model.specs.declared.nv.Nv as nv
-use Rattle.nv_model.specs.declared.fuse.Fuse as fuse
 use Rattle.script_text.specs.Grammar.{IsSkipped}
+use Rattle.script_text.specs.Told.{IsWholeReply}
 use Rattle.line_runs.specs.Turns.{AreDone, Reported, DidLine, LineEnd}
 use Rattle.line_runs.specs.declared.status.SideStatus.{SideStatus}
 use Rattle.bench.specs.Benches.{Nodes, BenchOf}
@@ -22,10 +21,10 @@ module _ {B : Type 0} (Does : B → B → List Deed → Type 0) (Leaves : SideSt
 
   -- an event was done for the line
   pub line_done : (outcome : Option SideStatus) (old new : B) (taken0 taken1 : Option (List ℕ)) (line : List ℕ) (d : Done)
-      → IsLineOf d.event line → Does old new (Did line d ∷ []) → Reported outcome (GoesOn (Did line d)) (IsEnd (Did line d)) ⊥ (line_of d.reply) taken0 taken1
+      → IsLineOf d.event line → IsWholeReply d.reply → Does old new (Did line d ∷ []) → Reported outcome (GoesOn (Did line d)) (IsEnd (Did line d)) ⊥ (line_of d.reply) taken0 taken1
       → DidLine script_lines Does line outcome old new taken0 taken1
-  line_done outcome old new taken0 taken1 line d is did reported =
-      record { deed = Did line d; line_is = refl; is = is; did = did; reported = reported }
+  line_done outcome old new taken0 taken1 line d is whole did reported =
+      record { deed = Did line d; line_is = refl; is = (is, whole); did = did; reported = reported }
 
 one_done : (d : Deed) → length (done_in (d ∷ [])) ≤ 1
 one_done (Skipped line) = omega arith

@@ -4,8 +4,6 @@ use Rattle.std.specs.Prelude.{IfOk, OnErr}
 use Rattle.bench_base.specs.declared.events.Event.{Event}
 use Rattle.bench_base.specs.declared.events.Event.TheVariants as ev
 use Rattle.bench_base.specs.declared.events.Reply.{Reply}
-use Rattle.nv_model.specs.declared.nv.Nv as nv
-use Rattle.nv_model.specs.declared.fuse.Fuse as fuse
 use Rattle.node_turns.specs.declared.turn.Turn.{Turn}
 use Rattle.node_turns.specs.Printing.{PrinterDid}
 use Rattle.bench.specs.Benches.{Bench, Nodes, IsReady, BenchOf}

@@ -6,8 +6,6 @@ use Rattle.bench_base.specs.Ledger.{Ledger}
 use Rattle.bench_base.specs.Rules.{todays_rules}
 use Rattle.bench_base.specs.declared.events.Event.{Event}
 use Rattle.bench_base.specs.declared.events.Event.TheVariants as ev
-use Rattle.nv_model.specs.declared.nv.Nv as nv
-use Rattle.nv_model.specs.declared.fuse.Fuse as fuse
 use Rattle.node_turns.specs.Printing.{print_of}
 use Rattle.ledger_lawful.specs.Sane.{IsSane}
 use Rattle.ledger_lawful.specs.Lawful.{Lawful}

@@ -1,7 +1,5 @@
 -- That deeds are done one after the other.
 use Rattle.std.proofs.Common.{◌≢◌, List, [], ◌∷◌, ◌++◌, refl, sym, subst}
-use Rattle.nv_model.specs.declared.nv.Nv as nv
-use Rattle.nv_model.specs.declared.fuse.Fuse as fuse
 use Rattle.line_runs.specs.declared.status.Status.TheVariants as status
 use Rattle.line_runs.specs.declared.status.SideStatus.{SideStatus}
 use Rattle.line_runs.specs.declared.status.SideStatus.TheVariants.{Run, Stopped}

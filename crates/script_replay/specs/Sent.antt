@@ -1,8 +1,6 @@
 -- How many messages events send: one each at most.
 use Rattle.std.proofs.Common.{◌≡◌, ℕ, ◌+◌, ◌≤◌, List, [], ◌∷◌, length, Option, Some, None, ap, ◌∙◌, arith}
 use Rattle.std.proofs.lemmas.List.{length-append}
-use Rattle.nv_model.specs.declared.nv.Nv as nv
-use Rattle.nv_model.specs.declared.fuse.Fuse as fuse
 use Rattle.bench.specs.Benches.{Nodes}
 use Rattle.bench.specs.Steps.{notes_of, notes_in}
 use Rattle.script_replay.specs.Chains.{DidEvents, SceneOf}

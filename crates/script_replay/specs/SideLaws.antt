@@ -1,9 +1,12 @@
 -- Steps of the bench, as a desk has them done.
-use Rattle.std.proofs.Common.{◌≡◌, inl, inr, ◌+◌, ◌≤◌, [], ◌∷◌, length, refl, ◌∙◌, ap, arith}
-use Rattle.nv_model.specs.declared.nv.Nv as nv
-use Rattle.nv_model.specs.declared.fuse.Fuse as fuse
+use Rattle.std.proofs.Common.{◌≡◌, inl, inr, ℕ, ◌+◌, ◌≤◌, List, [], ◌∷◌, ◌++◌, append-nil, length, refl, ◌∙◌, ap, subst, arith}
+use Rattle.bench_base.specs.declared.events.Event.{Event}
+use Rattle.bench_base.specs.declared.events.Event.TheVariants as ev
+use Rattle.bench_base.specs.Replies.{MayGet}
 use Rattle.node_turns.specs.declared.turn.Turn.{Turn}
+use Rattle.bench_views.specs.Taken.{as_given}
 use Rattle.bench.specs.Benches.{Bench, Nodes}
+use Rattle.bench.proofs.Notes.{scan_names}
 use Rattle.line_runs.specs.declared.status.Status.{Status}
 use Rattle.line_runs.specs.declared.status.Status.TheVariants as status
 use Rattle.line_runs.specs.declared.status.SideStatus.{SideStatus}
@@ -11,6 +14,7 @@ use Rattle.line_runs.specs.declared.status.SideStatus.TheVariants.{Run, Stopped}
 use Rattle.desk_runs.specs.Deeds.{Done}
 use Rattle.desk_runs.specs.Desks.{World, SideLeaves}
 use Rattle.desk_runs.specs.DeskLaws.{IsChain}
+use Rattle.desk_runs.specs.Wants.{IsQuiet}
 use Rattle.script_replay.specs.Chains.{Scene, DidEvents, SceneOf}
 use Rattle.script_replay.specs.Run.{Leaves}
 use Rattle.script_replay.specs.ScriptLaws.{all_done}
@@ -30,6 +34,14 @@ module _ (n : Nodes) where
 
   pub sends : (s t : SceneOf n) (d : Done) (turn : Turn) → StepsBy n s t d turn → length t.bench.messages ≤ length s.bench.messages + 1
   sends s t d turn did = let few = sent_few n s t (d ∷ []) (t, did.0, refl) in omega (arith, few)
+
+  pub quiet : (s t : SceneOf n) (d : Done) (turn : Turn) → StepsBy n s t d turn → IsQuiet d.event → length t.bench.messages ≤ length s.bench.messages
+  quiet s t d turn did is =
+      let always = did.0.steps.always in
+      let gets : MayGet (ev.ScanHex is.0 is.1) did.0.turn.reply = subst (λ (e : Event). MayGet (as_given s.bench.messages e) did.0.turn.reply) is.2 always.reply in
+      let same : t.bench.messages ≡ s.bench.messages =
+      always.sends ∙ ap (λ (l : List (List ℕ)). s.bench.messages ++ l) (always.quiet (scan_names is.0 is.1 did.0.turn.reply gets)) ∙ append-nil s.bench.messages in
+      let as_many = ap (λ (l : List (List ℕ)). length l) same in omega (arith, as_many)
 
 pub wants_none : {D C H V : Type 0} (s t : Scene D C H V) → Leaves (Run status.Memory) s t → length t.bench.messages ≤ length s.bench.messages
 wants_none s t wants = let same = ap (λ (b : Bench _ _ _ _). length b.messages) wants.0 in omega (arith, same)

@@ -1,8 +1,6 @@
 -- A run with a desk beside the bench: what was done, and how it ended.
 use Rattle.std.specs.Prelude.{◌≡◌, ◌↔◌, ◌≤◌, ℕ, List, [], ◌∷◌, IfSome}
 use Rattle.bench_base.specs.Causes.{Rose}
-use Rattle.nv_model.specs.declared.nv.Nv as nv
-use Rattle.nv_model.specs.declared.fuse.Fuse as fuse
 use Rattle.node_turns.specs.declared.turn.Turn.{Turn}
 use Rattle.bench.specs.Benches.{Nodes, BenchOf}
 use Rattle.line_runs.specs.Ends.{EndsAs, IsByScript, IsComplete}

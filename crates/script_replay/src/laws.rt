@@ -1,15 +1,16 @@
 //! Laws of the definitions: each is the contract of a call that does nothing.
-ghost use Rattle.std.specs.Prelude.{◌≡◌, ℕ, List, map, flat_map};
+ghost use Rattle.std.specs.Prelude.{◌≡◌, ℕ, List, map};
 ghost use Rattle.std.specs.List.{AllByRecursion};
 ghost use Rattle.bench_base.specs.Ledger.{Ledger};
-ghost use Rattle.bench_base.specs.declared.events.Reply.{Reply};
 ghost use Rattle.ledger_moves.specs.Tariffs.{Tariff};
 ghost use Rattle.bench_views.specs.Tariff.{IsOfTexts};
-ghost use Rattle.script_text.specs.Told.{IsWholeReply, told};
-ghost use Rattle.desk_runs.specs.Deeds.{Done, line_of};
+ghost use Rattle.script_text.specs.Told.{told};
+ghost use Rattle.desk_runs.specs.Deeds.{Done, Deed, done_in};
+ghost use Rattle.line_runs.specs.Deeds.{Reads, report_of};
 ghost use Rattle.script_replay.specs.Deeds.{AreUnforged};
 ghost use Rattle.line_runs.specs.Ends.{EndsAs};
-ghost use Rattle.desk_runs.specs.Scripts.{script_grammar};
+ghost use Rattle.desk_runs.specs.Scripts.{script_grammar, script_lines};
+ghost use Rattle.script_replay.specs.Generated.{replies_of};
 ghost use Rattle.script_replay.specs.Outside.{BringsNone};
 ghost use Rattle.script_replay.specs.Run.{Unforged};
 ghost use Rattle.line_runs.specs.declared.status.Status.{Status};
@@ -21,10 +22,12 @@ pub fn one_end()
     ensures { (s t : Status) (bytes : List ℕ) → EndsAs script_grammar s bytes → EndsAs script_grammar t bytes → s ≡ t }
 {}
 
-/// A report tells its replies: two lists of whole replies whose lines are the same bytes tell the same, reply by reply.
+/// A report tells its replies: the deeds of two scripts whose reports are the same bytes tell the same, reply by reply. Those of a
+/// run are such deeds (`Replayed.each`), so no more is asked of them.
 pub fn one_report()
-    ensures { (a b : List Reply) → AllByRecursion IsWholeReply a → AllByRecursion IsWholeReply b
-        → flat_map line_of a ≡ flat_map line_of b → map told a ≡ map told b }
+    ensures { (a b : List Deed) → AllByRecursion (Reads script_lines) a → AllByRecursion (Reads script_lines) b
+        → report_of script_lines a ≡ report_of script_lines b
+        → map told (replies_of (done_in a)) ≡ map told (replies_of (done_in b)) }
 {}
 
 /// Where no event gives or scans bytes from outside, nothing is forged: what a run promises by a history holds of it as it is.

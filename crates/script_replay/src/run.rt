@@ -6,6 +6,7 @@ ghost use Rattle.bench_base.specs.declared.events.Event.TheVariants as ends;
 ghost use Rattle.bench.specs.declared.benches.TheConstants.{MOST_MESSAGES};
 ghost use Rattle.bench.specs.Benches.{IsReady, bench_of};
 ghost use Rattle.script_replay.specs.Chains.{scene_of, DidEvent, DidDeeds};
+ghost use Rattle.script_text.specs.Told.{IsWholeReply};
 ghost use Rattle.desk_runs.specs.Deeds.{Done, line_of};
 ghost use Rattle.line_runs.specs.Runs.{Replayed};
 ghost use Rattle.line_runs.specs.Turns.{LineEnd, Reported, Ended};
@@ -44,7 +45,7 @@ fn do_event<K: Sink, M: Fuse + Drop, N: Nv, R: Source, P: Sink>(
     ensures done { result ≢ Some (SideStatus.Run Status.Memory) → (d : Done) × (d.event ≡ event.now)
         × DidEvent ⟦<BenchOver<M, N> as HasNodes>⟧.nodes
         (scene_of R.Source P.Sink bench.old rates.old printer.old)
-        (scene_of R.Source P.Sink bench.new rates.new printer.new) d
+        (scene_of R.Source P.Sink bench.new rates.new printer.new) d × IsWholeReply d.reply
         × Reported result (event.now ≢ ends.End) (event.now ≡ ends.End) ⊥
         (line_of d.reply) (K.taken report.old) (K.taken report.new) }
     ensures memory { result ≡ Some (SideStatus.Run Status.Memory) → (event.now ≡ ends.Rates)

@@ -44,7 +44,7 @@ impl<M: Fuse + Drop, N: Nv, R: Source, P: Sink> Stepper for OnBench<M, N, R, P> 
 
     ghost sends = { laws.sends ⟦<BenchOver<M, N> as HasNodes>⟧.nodes };
 
-    ghost quiet = { λ s t d turn did none. absurd none };
+    ghost quiet = { laws.quiet ⟦<BenchOver<M, N> as HasNodes>⟧.nodes };
 
     ghost wants_none = { λ s t wants. laws.wants_none s t wants };
 

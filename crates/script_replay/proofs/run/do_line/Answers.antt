@@ -37,7 +37,7 @@ returns-in-Ok-clause-done g c =
           LineEnd.wanted (record { outcome_is = is; wants = rw w.0 at found; leaves = w.1; report = rw w.2 refl })
       | inr other ↦
           let d = c.do_event.ensures.done other in
-          LineEnd.did (line_done _ _ (are_done _) c.do_event.result _ _ _ _ c.args.line.now d.0 (subst (λ (e : Event). IsLineOf e c.args.line.now) (sym d.1) found)
+          LineEnd.did (line_done _ _ (are_done _) c.do_event.result _ _ _ _ c.args.line.now d.0 (subst (λ (e : Event). IsLineOf e c.args.line.now) (sym d.1) found) d.3
           (did_one _ _ _ d.0 d.2)
-          (subst (λ (e : Event). Reported c.do_event.result (e ≢ ev.End) (e ≡ ev.End) ⊥ (line_of d.0.reply) (g.K.Sink.taken c.args.report.now) (g.K.Sink.taken c.do_event.new.report)) (sym d.1) d.3))
+          (subst (λ (e : Event). Reported c.do_event.result (e ≢ ev.End) (e ≡ ev.End) ⊥ (line_of d.0.reply) (g.K.Sink.taken c.args.report.now) (g.K.Sink.taken c.do_event.new.report)) (sym d.1) d.4))
     ]
