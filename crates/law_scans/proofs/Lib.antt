@@ -1,0 +1,4 @@
+pub mod Accepting
+pub mod Entries
+pub mod Marked
+pub mod Plans

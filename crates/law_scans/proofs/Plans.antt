@@ -1,0 +1,335 @@
+-- Which plans accept a piece: those of scans, under the number of the scan.
+use Rattle.std.proofs.Common.{◌≡◌, ℕ, ℤ, pos, Bool, true, false, List, [], ◌∷◌, Option, Some, None, Result, Ok, Err, inl, inr, refl, length, drop}
+use Rattle.std.specs.Prelude.{nat_lt}
+use Rattle.bench_base.specs.declared.words.Node.{Node}
+use Rattle.bench_base.specs.declared.words.Node.TheVariants.{Device, Centre, Host, Verifier}
+use Rattle.bench_base.specs.declared.refusals.Unread.{Unread}
+use Rattle.bench_base.specs.declared.refusals.MarkFault.{MarkFault}
+use Rattle.bench_base.specs.declared.refusals.RateRefusal.{RateRefusal}
+use Rattle.bench_base.specs.declared.refusals.CentreRefusal.{CentreRefusal}
+use Rattle.bench_base.specs.declared.refusals.HostRefusal.{HostRefusal}
+use Rattle.bench_base.specs.declared.refusals.ScanRefusal.{ScanRefusal}
+use Rattle.bench_base.specs.declared.words.Verdict.{Verdict}
+use Rattle.bench_base.specs.declared.ledger.Commit.{Commit}
+use Rattle.bench_base.specs.declared.ledger.Commit.TheVariants.{Accepted}
+use Rattle.bench_base.specs.declared.ledger.Entry.{Entry}
+use Rattle.bench_base.specs.declared.ledger.Entry.TheVariants as e
+use Rattle.bench_base.specs.declared.events.Event.{Event}
+use Rattle.bench_base.specs.declared.events.Event.TheVariants as ev
+use Rattle.bench_base.specs.declared.events.Reply.{Reply}
+use Rattle.bench_base.specs.declared.events.Reply.TheVariants as r
+use Rattle.bench_base.specs.Rules.{todays_rules}
+use Rattle.bench_base.specs.Nodes.{node_of}
+use Rattle.bench_base.specs.Plans.{Plan, refuse, told}
+use Rattle.bench_base.specs.Events.{needs_day}
+use Rattle.bench_base.specs.Cells.{is_worn}
+use Rattle.bench_base.specs.Ledger.{Ledger, day_in, rates_in, messages, message, is_on, counted}
+use Rattle.bench_base.specs.Jobs.{Job, job_of, held_of, open_job}
+use Rattle.bench_base.specs.Scans.{trusted}
+use Rattle.node_acts.specs.declared.act.Act.{Act}
+use Rattle.node_acts.specs.declared.act.Act.TheVariants.{Refuse, Tell, Commits}
+use Rattle.node_acts.specs.declared.said.Said.{Said}
+use Rattle.node_acts.specs.Plans.{IsOfNode}
+use Rattle.node_acts.specs.Said.{saying}
+use Rattle.indicium.specs.declared.Mark.{Mark}
+use Rattle.indicium.specs.Marks.{read_mark}
+use Rattle.psd_wire.specs.declared.message.Message.{Message}
+use Rattle.psd_wire.specs.declared.message.Message.TheVariants as m
+use Rattle.psd_wire.specs.declared.message.Request.{Request}
+use Rattle.psd_wire.specs.declared.message.DoneMsg.{DoneMsg}
+use Rattle.psd_wire.specs.Codes.{has_code}
+use Rattle.psd_wire.specs.Grammar.{read}
+use Rattle.ledger_terms.specs.Devices.{key_of, pending}
+use Rattle.ledger_terms.specs.Centres.{registered, opened, receipt, deposits, balance, ruled, settled}
+use Rattle.ledger_terms.specs.Rulings.{stored_reply}
+use Rattle.psd_state.specs.State.{State}
+use Rattle.psd_state.specs.Acts as acts
+use Rattle.psd_state.specs.Acts.{DeviceAct}
+use Rattle.psd_state.specs.declared.acts.Taken.{Taken}
+use Rattle.psd_state.specs.declared.acts.Taken.TheVariants as taken
+use Rattle.centre_ledger.specs.Answers as centre
+use Rattle.host_jobs.specs.Answers as host
+use Rattle.verifier.specs.Answers as scans
+use Rattle.ledger_moves.specs.Devices as device
+use Rattle.ledger_moves.specs.Moves as moves
+use Rattle.ledger_moves.specs.Moves.{plan, at_node, unless_worn}
+use Rattle.ledger_moves.specs.Tariffs.{Tariff, TextFault, NoToml, NoForm}
+use Rattle.bench_views.specs.declared.taken.DeviceCall.TheVariants as call
+use Rattle.bench_views.proofs.Plans.{call_own}
+use Rattle.law_good.proofs.Basics.{chosen}
+use Rattle.law_scans.specs.Acceptances.{IsOfPiece, IsScanOf}
+use Rattle.law_scans.proofs.Entries.{Is, AllBring, PlanBrings}
+
+-- a commit of another node than the verifier is no acceptance
+of_device : (P : ℕ → ℕ → ℕ → Type 0) (d : ℕ) (c : Commit) → node_of c ≡ Device d → Is P c
+of_device P d (Accepted e p n) own = absurd (cc)
+of_device P d _ own = tt
+
+-- what says its answers commits what it says them of
+unsaid : {X F A : Type 0} (m : Node) (refusal : F → Reply) (say : A → Said) (act : Act X F A) → IsOfNode m (saying refusal say act) → IsOfNode m act
+unsaid m refusal say (Refuse x) own = tt
+unsaid m refusal say (Tell a) own = tt
+unsaid m refusal say (Commits c x a) own = own
+
+module _ (P : ℕ → ℕ → ℕ → Type 0) (H : Ledger) where
+  -- it brings nothing of which P is not known
+  abbrev Clean : Plan → Type 0
+  Clean p = PlanBrings P p
+
+  -- where the node is on and no cell worn
+  pub at : (n : Node) (p : Plan) → Clean p → Clean (at_node n H p)
+  at n p ok = chosen Clean (is_on n H) (unless_worn (counted H) p p.commit) (refuse (r.OffNode n)) (λ on. go p.commit) (λ off. (tt, tt))
+    where
+      go : (w : Option Commit) → Clean (unless_worn (counted H) p w)
+      go None = ok
+      go (Some c) = chosen Clean (is_worn c (counted H)) (refuse (r.Worn (node_of c))) p (λ worn. (tt, tt)) (λ fresh. ok)
+
+  -- == devices ==
+
+  acts_ok : {A : Type 0} (d : ℕ) (reply : A → Reply) (tell : A → List Entry) (act : DeviceAct A) → IsOfNode (Device d) act → ((a : A) → AllBring P (tell a)) → Clean (device.planned d reply tell act)
+  acts_ok d reply tell (Refuse x) own tells = (tt, tt)
+  acts_ok d reply tell (Tell a) own tells = (tt, tells a)
+  acts_ok d reply tell (Commits c x a) own tells = (of_device P d c own, tells a)
+
+  resend_ok : (d k : ℕ) (key : Option (List ℕ)) (w : Option (ℕ × List ℕ)) → Clean (device.resend_plan d k key w)
+  resend_ok d k None w = (tt, tt)
+  resend_ok d k (Some key) None = (tt, tt)
+  resend_ok d k (Some key) (Some p) = (tt, (tt, tt))
+
+  taken_ok : (d k : ℕ) (t : Taken) → AllBring P (device.taken_tell d k t)
+  taken_ok d k (taken.Applied n v) = tt
+  taken_ok d k (taken.Released piece x again) = (tt, (tt, tt))
+
+  device_ok : (d : ℕ) (today : ℤ) (bytes : List ℕ) → Clean (moves.device_plan todays_rules today d bytes H)
+  device_ok d today bytes =
+      let s = device.record_with d (counted H) (key_of d (counted H)) in
+      at (Device d) _ (acts_ok d _ _ (acts.message_act todays_rules d bytes today s (read bytes)) (unsaid (Device d) _ _ _ (call_own d today (call.Take bytes (messages H)) s)) (taken_ok d (messages H)))
+
+  -- == the centre ==
+
+  open_ok : (w : ℕ) (b : Bool) → Clean (centre.open_plan w b)
+  open_ok w true = (tt, tt)
+  open_ok w false = (tt, tt)
+
+  flag_ok : (w : ℕ) (flag b : Bool) → Clean (centre.flag_plan w flag b)
+  flag_ok w flag true = (tt, tt)
+  flag_ok w flag false = (tt, tt)
+
+  deposited_ok : (w n a total : ℕ) (x : Result (Option ℕ) CentreRefusal) → Clean (centre.deposit_act w n a total x)
+  deposited_ok w n a total (Err x) = (tt, tt)
+  deposited_ok w n a total (Ok None) = (tt, tt)
+  deposited_ok w n a total (Ok (Some after)) = (tt, tt)
+
+  deposit_ok : (w n a : ℕ) (last : ℕ × ℕ) (total : ℕ) (b : Bool) → Clean (centre.deposit_plan w n a last total b)
+  deposit_ok w n a last total true = deposited_ok w n a total (centre.deposit_answer last total n a)
+  deposit_ok w n a last total false = (tt, tt)
+
+  balance_ok : (w n : ℕ) (b : Bool) → Clean (centre.balance_plan w n b)
+  balance_ok w n true = (tt, tt)
+  balance_ok w n false = (tt, tt)
+
+  register_ok : (d origin : ℕ) (key : List ℕ) (o : Option (ℕ × List ℕ)) → Clean (centre.register_plan d origin key o)
+  register_ok d origin key None = (tt, tt)
+  register_ok d origin key (Some x) = (tt, tt)
+
+  repeat_ok : (d n k : ℕ) (o : Option (Verdict × List ℕ)) (reply : Option (List ℕ)) → Clean (centre.repeat_plan d n k o reply)
+  repeat_ok d n k (Some x) (Some reply) = (tt, (tt, tt))
+  repeat_ok d n k (Some x) None = (tt, tt)
+  repeat_ok d n k None reply = (tt, tt)
+
+  rule_ok : (k : ℕ) (bytes : List ℕ) (q : Request) (x : Result Bool CentreRefusal) → Clean (centre.rule_act k bytes q (counted H) x)
+  rule_ok k bytes q (Err x) = (tt, tt)
+  rule_ok k bytes q (Ok true) = repeat_ok q.device q.number k (centre.last_ruling q.device (counted H)) (stored_reply q.device (counted H))
+  rule_ok k bytes q (Ok false) = (tt, (tt, tt))
+
+  request_ok : (k : ℕ) (bytes : List ℕ) (q : Request) (o : Option (ℕ × List ℕ)) → Clean (centre.request_plan k bytes q o (counted H))
+  request_ok k bytes q None = (tt, tt)
+  request_ok k bytes q (Some x) = chosen Clean (has_code x.1 bytes) _ _ (λ good. rule_ok k bytes q _) (λ bad. (tt, tt))
+
+  settled_ok : (d n : ℕ) (x : Result (Option ℕ) CentreRefusal) → Clean (centre.settle_act d n x)
+  settled_ok d n (Err x) = (tt, tt)
+  settled_ok d n (Ok None) = (tt, tt)
+  settled_ok d n (Ok (Some now)) = (tt, tt)
+
+  done_ok : (bytes : List ℕ) (q : DoneMsg) (o : Option (ℕ × List ℕ)) (settled ruled : ℕ) → Clean (centre.done_plan bytes q o settled ruled)
+  done_ok bytes q None settled ruled = (tt, tt)
+  done_ok bytes q (Some x) settled ruled = chosen Clean (has_code x.1 bytes) _ _ (λ good. settled_ok q.device q.number _) (λ bad. (tt, tt))
+
+  take_ok : (k : ℕ) (bytes : List ℕ) (x : Result Message Unread) → Clean (centre.centre_take k bytes x (counted H))
+  take_ok k bytes (Ok (m.Request q)) = request_ok k bytes q (registered q.device (counted H))
+  take_ok k bytes (Ok (m.Done q)) = done_ok bytes q (registered q.device (counted H)) _ _
+  take_ok k bytes (Ok (m.Reply p)) = (tt, tt)
+  take_ok k bytes (Ok (m.Debit q)) = (tt, tt)
+  take_ok k bytes (Ok (m.Release x)) = (tt, tt)
+  take_ok k bytes (Err x) = (tt, tt)
+
+  centre_ok : (bytes : List ℕ) → Clean (moves.centre_plan bytes H)
+  centre_ok bytes = at Centre _ (take_ok (messages H) bytes (read bytes))
+
+  reconciled_ok : (d total : ℕ) (o : Option (ℕ × List ℕ)) → Clean (centre.reconcile_plan d total o (counted H))
+  reconciled_ok d total None = (tt, tt)
+  reconciled_ok d total (Some x) = (tt, tt)
+
+  reconcile_ok : (d : ℕ) (key : Option (List ℕ)) → Clean (moves.reconcile_plan d key (counted H))
+  reconcile_ok d None = (tt, tt)
+  reconcile_ok d (Some key) = reconciled_ok d _ (registered d (counted H))
+
+  -- == the host ==
+
+  ordered_ok : (d piece class postage : ℕ) (x : Result ℕ HostRefusal) → Clean (host.order_act d piece class postage x)
+  ordered_ok d piece class postage (Err x) = (tt, tt)
+  ordered_ok d piece class postage (Ok j) = (tt, tt)
+
+  order_ok : (d piece class : ℕ) (price : Option (Result ℕ RateRefusal)) → Clean (host.order_plan d piece class (host.shelf_of d (counted H)) price)
+  order_ok d piece class None = (tt, tt)
+  order_ok d piece class (Some (Err x)) = (tt, tt)
+  order_ok d piece class (Some (Ok postage)) = ordered_ok d piece class postage _
+
+  send_ok : (k j : ℕ) (b : Option Job) (o : Option HostRefusal) → Clean (host.send_act k j b o)
+  send_ok k j b (Some x) = (tt, tt)
+  send_ok k j None None = (tt, tt)
+  send_ok k j (Some b) None = (tt, (tt, tt))
+
+  print_ok : (j : ℕ) (x : Option (List ℕ)) (o : Option HostRefusal) → Clean (host.print_act j x o)
+  print_ok j x (Some no_x) = (tt, tt)
+  print_ok j None None = (tt, tt)
+  print_ok j (Some x) None = (tt, (tt, tt))
+
+  close_ok : (j : ℕ) (o : Option HostRefusal) → Clean (host.close_act j o)
+  close_ok j (Some x) = (tt, tt)
+  close_ok j None = (tt, tt)
+
+  held_ok : (x : List ℕ) (j : ℕ) (o : Option HostRefusal) → Clean (host.hold_act x j o)
+  held_ok x j (Some no_x) = (tt, tt)
+  held_ok x j None = (tt, tt)
+
+  job_ok : (x : List ℕ) (k : Mark) (j : ℕ) (b : Option Job) → Clean (host.hold_job x k j b)
+  job_ok x k j None = (tt, tt)
+  job_ok x k j (Some b) = held_ok x j _
+
+  open_job_ok : (x : List ℕ) (k : Mark) (o : Option ℕ) → Clean (host.hold_open x k o (counted H))
+  open_job_ok x k None = (tt, tt)
+  open_job_ok x k (Some j) = job_ok x k j (job_of j (counted H))
+
+  hold_ok : (x : List ℕ) (k : Result (Mark × List ℕ) MarkFault) → Clean (host.hold_plan x k (counted H))
+  hold_ok x (Err fault) = (tt, tt)
+  hold_ok x (Ok k) = open_job_ok x k.0 (open_job k.0.device (counted H))
+
+  host_take_ok : (x : Result Message Unread) → Clean (host.host_take x (counted H))
+  host_take_ok (Ok (m.Release x)) = hold_ok x (read_mark x)
+  host_take_ok (Ok (m.Request q)) = (tt, tt)
+  host_take_ok (Ok (m.Done q)) = (tt, tt)
+  host_take_ok (Ok (m.Reply p)) = (tt, tt)
+  host_take_ok (Ok (m.Debit q)) = (tt, tt)
+  host_take_ok (Err x) = (tt, tt)
+
+  host_ok : (bytes : List ℕ) → Clean (moves.host_plan bytes H)
+  host_ok bytes = at Host _ (host_take_ok (read bytes))
+
+  -- == bytes that are handed to a node ==
+
+  deliver_to_ok : (today : ℤ) (bytes : List ℕ) (x : Result Message Unread) → Clean (moves.deliver_to todays_rules today bytes x H)
+  deliver_to_ok today bytes (Ok (m.Reply p)) = device_ok p.device today bytes
+  deliver_to_ok today bytes (Ok (m.Debit q)) = device_ok q.device today bytes
+  deliver_to_ok today bytes (Ok (m.Release x)) = host_ok bytes
+  deliver_to_ok today bytes (Ok (m.Request q)) = centre_ok bytes
+  deliver_to_ok today bytes (Ok (m.Done q)) = centre_ok bytes
+  deliver_to_ok today bytes (Err x) = centre_ok bytes
+
+  deliver_ok : (today : ℤ) (k : ℕ) (o : Option (List ℕ)) → Clean (moves.deliver_plan todays_rules today k o H)
+  deliver_ok today k None = (tt, tt)
+  deliver_ok today k (Some bytes) = deliver_to_ok today bytes (read bytes)
+
+  give_ok : (today : ℤ) (n : Node) (bytes : List ℕ) → Clean (moves.give_plan todays_rules today n bytes H)
+  give_ok today (Device d) bytes = device_ok d today bytes
+  give_ok today Centre bytes = centre_ok bytes
+  give_ok today Host bytes = host_ok bytes
+  give_ok today Verifier bytes = (tt, tt)
+
+  -- == the verifier ==
+
+  trust_ok : (d : ℕ) (key : List ℕ) (o : Option (List ℕ)) → Clean (scans.trust_plan d key o)
+  trust_ok d key None = (tt, tt)
+  trust_ok d key (Some k) = (tt, tt)
+
+  module _ (n : ℕ) where
+    scanned_ok : (k : Mark) → P k.device k.piece n → (x : Result Bool ScanRefusal) → Clean (scans.scan_act n k x)
+    scanned_ok k may (Err x) = (tt, tt)
+    scanned_ok k may (Ok true) = (tt, tt)
+    scanned_ok k may (Ok false) = (may, tt)
+
+    keyed_ok : (bytes : List ℕ) (k : Mark) → P k.device k.piece n → (today : ℤ) (key : Option (List ℕ)) → Clean (scans.scan_key n bytes k today key (counted H))
+    keyed_ok bytes k may today None = (tt, tt)
+    keyed_ok bytes k may today (Some key) = chosen Clean (has_code key bytes) _ _ (λ good. scanned_ok k may _) (λ bad. (tt, tt))
+
+    read_ok : (bytes : List ℕ) → ((d p : ℕ) → IsOfPiece d p bytes → P d p n) → (today : ℤ) (x : Result (Mark × List ℕ) MarkFault) → read_mark bytes ≡ x → Clean (scans.scan_plan n bytes today x (counted H))
+    read_ok bytes may today (Err fault) reads = (tt, tt)
+    read_ok bytes may today (Ok k) reads =
+        keyed_ok bytes k.0 (may k.0.device k.0.piece (record { mark = k.0; code = k.1; reads = reads; device = refl; piece = refl })) today (trusted k.0.device (counted H))
+
+    scan_ok : (today : ℤ) (bytes : List ℕ) → ((d p : ℕ) → IsOfPiece d p bytes → P d p n) → Clean (moves.scan_plan n today bytes H)
+    scan_ok today bytes may = at Verifier _ (read_ok bytes may today (read_mark bytes) refl)
+
+    scan_sent_ok : ((d p : ℕ) → P d p n) → (today : ℤ) (k : ℕ) (o : Option (List ℕ)) → Clean (moves.scan_sent n today k o H)
+    scan_sent_ok may today k None = (tt, tt)
+    scan_sent_ok may today k (Some bytes) = scan_ok today (drop 2 bytes) (λ d p of. may d p)
+
+  -- == all events ==
+
+  module _ (τ : Tariff) where
+    reading_ok : (text : List ℕ) (x : Result (ℕ × ℕ) TextFault) → Clean (moves.reading_plan text x)
+    reading_ok text (Err NoToml) = (tt, tt)
+    reading_ok text (Err NoForm) = (tt, tt)
+    reading_ok text (Ok x) = (tt, (tt, tt))
+
+    rates_ok : (text : List ℕ) → Clean (moves.rates_plan τ text)
+    rates_ok text = chosen Clean (nat_lt 65536 (length text)) _ _ (λ long. (tt, tt)) (λ short. reading_ok text (τ.reading text))
+
+    on_ok : (n : Node) → Clean (moves.on_plan n H)
+    on_ok n = chosen Clean (is_on n H) _ _ (λ on. (tt, tt)) (λ off. (tt, (tt, tt)))
+
+    abbrev C : List Commit
+    C = counted H
+
+    abbrev held : ℕ → Option State
+    held d = device.record_with d C (key_of d C)
+
+    event_ok : (x : Event) (text : List ℕ) (today : ℤ) → ((d p n : ℕ) → IsScanOf d p n x → P d p n) → Clean (moves.plan_on τ todays_rules H x text today)
+    event_ok (ev.Day t) text today may = (tt, (tt, tt))
+    event_ok ev.End text today may = (tt, tt)
+    event_ok ev.Rates text today may = rates_ok text
+    event_ok (ev.On n) text today may = on_ok n
+    event_ok (ev.Off n) text today may = at n (told (r.Down n) (e.Down n ∷ [])) (tt, (tt, tt))
+    event_ok (ev.Cut n calls keep byte) text today may = (tt, tt)
+    event_ok (ev.Make d key) text today may = at (Device d) _ (acts_ok d _ _ (acts.make_act d key (held d)) (unsaid (Device d) _ _ _ (call_own d today (call.Make key) (held d))) (λ a. tt))
+    event_ok (ev.Debit d piece postage class) text today may =
+        at (Device d) _ (acts_ok d _ _ (acts.debit_act todays_rules d (moves.debit_by d piece postage class) today (held d)) (unsaid (Device d) _ _ _ (call_own d today (call.Debit piece postage class) (held d))) (λ a. (tt, tt)))
+    event_ok (ev.Ask d kind who a) text today may =
+        at (Device d) _ (acts_ok d _ _ (acts.ask_act todays_rules d kind who a today (held d)) (unsaid (Device d) _ _ _ (call_own d today (call.Ask kind who a (messages H)) (held d))) (λ a. (tt, tt)))
+    event_ok (ev.Resend d) text today may = at (Device d) _ (resend_ok d (messages H) (key_of d C) (pending d C))
+    event_ok (ev.Ack d) text today may = at (Device d) _ (acts_ok d _ _ (acts.ack_act (held d)) (unsaid (Device d) _ _ _ (call_own d today (call.Ack (messages H)) (held d))) (λ a. (tt, tt)))
+    event_ok (ev.Status d) text today may = at (Device d) _ (acts_ok d _ _ (acts.status_act today (held d)) (unsaid (Device d) _ _ _ (call_own d today call.Status (held d))) (λ a. tt))
+    event_ok (ev.Register d origin key) text today may = at Centre _ (register_ok d origin key (registered d C))
+    event_ok (ev.OpenCustomer w) text today may = at Centre _ (open_ok w (opened w C))
+    event_ok (ev.Deposit w n a) text today may = at Centre _ (deposit_ok w n a (receipt w C) (deposits w C) (opened w C))
+    event_ok (ev.Flag w flag) text today may = at Centre _ (flag_ok w flag (opened w C))
+    event_ok (ev.Balance w) text today may = at Centre _ (balance_ok w (balance w C) (opened w C))
+    event_ok (ev.Deliver k) text today may = deliver_ok today k (message k H)
+    event_ok (ev.Give n bytes) text today may = give_ok today n bytes
+    event_ok (ev.Order d piece class grams zone) text today may = at Host _ (order_ok d piece class (moves.price_by τ class grams zone (rates_in H)))
+    event_ok (ev.Send j) text today may = at Host _ (send_ok (messages H) j (job_of j C) (host.send_answer (host.shown_state j C)))
+    event_ok (ev.Print j) text today may = at Host _ (print_ok j (held_of j C) (host.print_answer (host.shown_state j C)))
+    event_ok (ev.Close j) text today may = at Host _ (close_ok j (host.close_answer (host.shown_state j C)))
+    event_ok (ev.Trust d key) text today may = at Verifier _ (trust_ok d key (trusted d C))
+    event_ok (ev.ScanMsg n k) text today may = scan_sent_ok n (λ d p. may d p n (inl (k, refl))) today k (message k H)
+    event_ok (ev.ScanHex n bytes) text today may = scan_ok n today bytes (λ d p of. may d p n (inr (bytes, refl, of)))
+    event_ok (ev.Reconcile d) text today may = at (Device d) _ (at Centre _ (reconcile_ok d (key_of d C)))
+
+    dated_ok : (x : Event) (text : List ℕ) (day : Option ℤ) → ((d p n : ℕ) → IsScanOf d p n x → P d p n) → Clean (moves.on_day (moves.plan_on τ todays_rules H x text) day)
+    dated_ok x text None may = (tt, tt)
+    dated_ok x text (Some today) may = event_ok x text today may
+
+    -- THE PLAN OF AN EVENT ACCEPTS NO PIECE BUT A SCANNED ONE
+    pub plan_brings : (x : Event) (text : List ℕ) → ((d p n : ℕ) → IsScanOf d p n x → P d p n) → PlanBrings P (plan τ todays_rules H x text)
+    unfolding plan
+    plan_brings x text may = chosen Clean (needs_day x) _ _ (λ needs. dated_ok x text (day_in H) may) (λ free. event_ok x text (pos 0) may)

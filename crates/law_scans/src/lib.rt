@@ -1,0 +1,5 @@
+//! Scans: which events accept pieces, and what an acceptance says of the ledger after it.
+#![tactic(auto)]
+
+pub mod accepted;
+pub mod laws;
