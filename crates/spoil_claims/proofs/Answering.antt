@@ -26,10 +26,11 @@ use Rattle.desk_runs.specs.declared.desk.Next.{Next}
 use Rattle.desk_runs.specs.declared.desk.Next.TheVariants.{Step, Say, Stop}
 use Rattle.row_store.specs.Commits.{CommitsRow}
 use Rattle.row_store.specs.Seen.{seen_in}
-use Rattle.spoil_claims.specs.Answers.{IsTold, IsCreditedNow, IsScanned, IsAgain, IsNewTold, IsClaimTold, IsAnswered, IsCutShort, AreAnswered}
-use Rattle.spoil_claims.specs.Claims.{Claims, claim_at, kept, last_claim, credits, mark_of, scan_number}
+use Rattle.spoil_claims.specs.Answers.{IsTold, IsCreditedNow, IsScanned, IsAgain, IsNewTold, IsClaimTold, IsAnswered, IsCutCredit, IsNewCut, IsClaimCut, IsCutShort, AreAnswered}
+use Rattle.spoil_claims.specs.Claims.{Claims, IsHere, claim_at, kept, last_claim, credits, mark_of, scan_number}
 use Rattle.spoil_claims.specs.ClaimsDesk.{claims_desk}
-use Rattle.spoil_claims.specs.Courses.{Either, IsAccepted, row_for, as_credited, scan_of, Follows, Says, ByFailed, Scans, Repeats, ByKept, Begins, Credited, Scanned, GoesOn}
+use Rattle.spoil_claims.specs.Courses.{Either, row_for, as_credited, scan_of, Follows, Says, ByFailed, Scans, Repeats, ByKept, Begins, Credited, Scanned, GoesOn}
+use Rattle.law_scans.specs.Acceptances.{IsAccepted}
 use Rattle.spoil_claims.specs.Payload.{decoded}
 use Rattle.spoil_claims.specs.Texts.{said_texts, credited_text, credits_text, wrong_claim_text}
 use Rattle.spoil_claims.specs.View.{said_of, has_failed, rows_of, store_of, Rests}
@@ -46,17 +47,13 @@ either_by : {P Q X Y : Type 0} (b : Bool) → (P → X) → (Q → Y) → Either
 either_by true f h either = f either
 either_by false f h either = h either
 
-either_any : {P Q X : Type 0} (b : Bool) → (P → X) → (Q → X) → Either b P Q → X
-either_any true f h either = f either
-either_any false f h either = h either
-
 -- how a commit came out, by the claims before and after it
 data CameOut (x : ClaimRow) (meant : Said) (then : Next) (rows after : Claims) (now : Said) (next : Next) : Type 0 where
   Done_ : is_worn rows (x.claim - 1) ≡ false → now ≡ meant → next ≡ then → after ≡ put rows (x.claim - 1) x → CameOut x meant then rows after now next
   Worn_ : is_worn rows (x.claim - 1) ≡ true → now ≡ said.Worn → next ≡ Say → after ≡ rows → CameOut x meant then rows after now next
   Broke : next ≡ Stop → after ≡ rows → CameOut x meant then rows after now next
 
-no_step : (n : Next) → (n ≡ Say) ⊎ (n ≡ Stop) → IsStep n → ⊥
+pub no_step : (n : Next) → (n ≡ Say) ⊎ (n ≡ Stop) → IsStep n → ⊥
 no_step n (inl say) step = subst (λ (x : Next). IsStep x) say step
 no_step n (inr stop) step = subst (λ (x : Next). IsStep x) stop step
 
@@ -65,7 +62,7 @@ IsSay (Step e) = ⊥
 IsSay Say = Unit {0}
 IsSay Stop = ⊥
 
-no_say : (n : Next) → n ≡ Stop → Say ≡ n → ⊥
+pub no_say : (n : Next) → n ≡ Stop → Say ≡ n → ⊥
 no_say n stop say = subst (λ (x : Next). IsSay x) (say ∙ stop) tt
 
 abbrev step_event : Event → Next → Event
@@ -80,13 +77,13 @@ one_row : (a b : ClaimRow) → Some a ≡ Some b → a ≡ b
 one_row a b is = cc
 
 -- what is wanted first is wanted last where it is no step
-ends_at : {B K T : Type 0} (k : Ghosts K T) (Steps : B → B → Done → Turn → Type 0) (old new : World B K) (next : Next) (steps : List Done) (last : Next) → Asks k Steps old new next steps last
+pub ends_at : {B K T : Type 0} (k : Ghosts K T) (Steps : B → B → Done → Turn → Type 0) (old new : World B K) (next : Next) (steps : List Done) (last : Next) → Asks k Steps old new next steps last
     → (next ≡ Say) ⊎ (next ≡ Stop) → (steps ≡ []) × (last ≡ next) × (new ≡ old)
 ends_at k Steps old new next [] last asks none = (refl, asks.0, asks.1)
 ends_at k Steps old new next (d ∷ rest) last asks none = absurd (no_step next none (subst (λ (x : Next). IsStep x) (sym asks.2.asks) tt))
 
 module _ {N : Type 0} {g : nv.Ghosts N} where
-  rests_rows : (old new : Desk N g) → Rests old new → rows_of new ≡ rows_of old
+  pub rests_rows : (old new : Desk N g) → Rests old new → rows_of new ≡ rows_of old
   rests_rows old new rests = ap (λ (room : Room 73). seen_in decoded (cells_of room) (kept_in room)) rests.room
 
   came_out : (x : ClaimRow) (meant : Said) (then : Next) (old : Desk N g) (next : Next) (new : Desk N g) (result : Result (Unit {0}) StoreFail)
@@ -142,6 +139,10 @@ module _ {N : Type 0} {g : nv.Ghosts N} where
         let end = ends_at (claims_desk g) Steps m new more rest Say asks (inr next) in
         absurd (no_say more next end.1)
 
+    -- a claim whose scan is awaited is kept under its number
+    is_here : (desk : Desk N g) (x : ClaimRow) → said_of desk ≡ said.Scanning x.claim → kept (rows_of desk) x.claim ≡ Some x → IsHere (rows_of desk) x
+    is_here desk x waits here = record { first = (subst (λ (s : Said). IsWaiting (rows_of desk) s) waits desk.waits).0; here = here }
+
     -- after the scan of an open claim
     scan_told : (x : ClaimRow) (mid : Desk N g) (s : B) (new : World B (Desk N g)) (steps : List Done) → said_of mid ≡ said.Scanning x.claim → kept (rows_of mid) x.claim ≡ Some x
         → Asks (claims_desk g) Steps (world s mid) new (scan_of x) steps Say → IsScanned x (rows_of mid) steps (said_texts (said_of new.desk)) (rows_of new.desk)
@@ -159,6 +160,7 @@ module _ {N : Type 0} {g : nv.Ghosts N} where
         by_reply goes row reply event (inl did) =
             let out = credited_now goes.row did.1.mark did.1.is mid asks.0 new asks.1 rest asks.3 (tried (has_failed mid) (as_credited goes.row) (said.Credited goes.row.claim did.1.mark false) Say mid asks.1 asks.0.desk did.1.tries) in
             record {
+              claim = is_here mid x waits here;
               scan = d;
               only = ap (λ (l : List Done). d ∷ l) out.0;
               event = event;
@@ -167,6 +169,7 @@ module _ {N : Type 0} {g : nv.Ghosts N} where
         by_reply goes row reply event (inr did) =
             let end = ends_at (claims_desk g) Steps asks.0 new asks.1 rest Say asks.3 (inl did.1.ends) in
             record {
+              claim = is_here mid x waits here;
               scan = d;
               only = ap (λ (l : List Done). d ∷ l) end.0;
               event = event;
@@ -179,31 +182,34 @@ module _ {N : Type 0} {g : nv.Ghosts N} where
 
     -- where the run ends in it
     cut_now : (x : ClaimRow) (mark : Mark) (mid : Desk N g) (m new : World B (Desk N g)) (more : Next) (rest : List Done) → Asks (claims_desk g) Steps m new more rest Stop
-        → CameOut (as_credited x) (said.Credited x.claim mark false) Say (rows_of mid) (rows_of m.desk) (said_of m.desk) more → rows_of new.desk ≡ rows_of mid
+        → CameOut (as_credited x) (said.Credited x.claim mark false) Say (rows_of mid) (rows_of m.desk) (said_of m.desk) more → (rest ≡ []) × (rows_of new.desk ≡ rows_of mid)
     cut_now x mark mid m new more rest asks (Done_ fresh now next after) =
         let end = ends_at (claims_desk g) Steps m new more rest Stop asks (inl next) in absurd (no_say Stop refl (sym (end.1 ∙ next)))
     cut_now x mark mid m new more rest asks (Worn_ worn now next after) =
         let end = ends_at (claims_desk g) Steps m new more rest Stop asks (inl next) in absurd (no_say Stop refl (sym (end.1 ∙ next)))
     cut_now x mark mid m new more rest asks (Broke next after) =
-        let end = ends_at (claims_desk g) Steps m new more rest Stop asks (inr next) in rows_by new m end.2 (rows_of mid) after
+        let end = ends_at (claims_desk g) Steps m new more rest Stop asks (inr next) in (end.0, rows_by new m end.2 (rows_of mid) after)
 
-    scan_cut : (x : ClaimRow) (mid : Desk N g) (s : B) (new : World B (Desk N g)) (steps : List Done) → said_of mid ≡ said.Scanning x.claim
-        → Asks (claims_desk g) Steps (world s mid) new (scan_of x) steps Stop → rows_of new.desk ≡ rows_of mid
-    scan_cut x mid s new [] waits asks = absurd (no_step (scan_of x) (inr (sym asks.0)) tt)
-    scan_cut x mid s new (d ∷ rest) waits asks =
+    pub scan_cut : (x : ClaimRow) (mid : Desk N g) (s : B) (new : World B (Desk N g)) (steps : List Done) → said_of mid ≡ said.Scanning x.claim → kept (rows_of mid) x.claim ≡ Some x
+        → Asks (claims_desk g) Steps (world s mid) new (scan_of x) steps Stop → IsCutCredit x (rows_of mid) steps × (rows_of new.desk ≡ rows_of mid)
+    scan_cut x mid s new [] waits here asks = absurd (no_step (scan_of x) (inr (sym asks.0)) tt)
+    scan_cut x mid s new (d ∷ rest) waits here asks =
         let goes : Scanned x.claim asks.2.turn.reply mid asks.1 asks.0.desk = subst (λ (t : Said). GoesOn t asks.2.turn.reply mid asks.1 asks.0.desk) waits asks.2.goes in
-        by_reply goes goes.did
+        let reply : d.reply ≡ asks.2.turn.reply = told s asks.0.scene d asks.2.turn asks.2.did in
+        let event : d.event ≡ ev.ScanHex (scan_number x.claim) x.mark = sym (ap (λ (n : Next). step_event d.event n) asks.2.asks) in
+        by_reply goes reply event goes.did
       where
-        by_reply : (goes : Scanned x.claim asks.2.turn.reply mid asks.1 asks.0.desk)
+        by_reply : (goes : Scanned x.claim asks.2.turn.reply mid asks.1 asks.0.desk) → d.reply ≡ asks.2.turn.reply → d.event ≡ ev.ScanHex (scan_number x.claim) x.mark
             → ((IsAccepted asks.2.turn.reply × Credited goes.row mid asks.1 asks.0.desk) ⊎ ((IsAccepted asks.2.turn.reply → ⊥) × Says (said.Scan asks.2.turn.reply) mid asks.1 asks.0.desk))
-            → rows_of new.desk ≡ rows_of mid
-        by_reply goes (inl did) =
-            cut_now goes.row did.1.mark mid asks.0 new asks.1 rest asks.3 (tried (has_failed mid) (as_credited goes.row) (said.Credited goes.row.claim did.1.mark false) Say mid asks.1 asks.0.desk did.1.tries)
-        by_reply goes (inr did) =
+            → IsCutCredit x (rows_of mid) (d ∷ rest) × (rows_of new.desk ≡ rows_of mid)
+        by_reply goes reply event (inl did) =
+            let out = cut_now goes.row did.1.mark mid asks.0 new asks.1 rest asks.3 (tried (has_failed mid) (as_credited goes.row) (said.Credited goes.row.claim did.1.mark false) Say mid asks.1 asks.0.desk did.1.tries) in
+            (record { claim = is_here mid x waits here; scan = d; only = ap (λ (l : List Done). d ∷ l) out.0; event = event; accepted = accepted_by d.reply asks.2.turn.reply reply did.0 }, out.1)
+        by_reply goes reply event (inr did) =
             let end = ends_at (claims_desk g) Steps asks.0 new asks.1 rest Stop asks.3 (inl did.1.ends) in absurd (no_say Stop refl (sym (end.1 ∙ did.1.ends)))
 
     -- a new claim that was committed as open is kept
-    open_kept : (c w : ℕ) (mark : List ℕ) (old desk : Desk N g) → said_of desk ≡ said.Scanning c → rows_of desk ≡ put (rows_of old) (c - 1) (row_for c w mark) → kept (rows_of desk) c ≡ Some (row_for c w mark)
+    pub open_kept : (c w : ℕ) (mark : List ℕ) (old desk : Desk N g) → said_of desk ≡ said.Scanning c → rows_of desk ≡ put (rows_of old) (c - 1) (row_for c w mark) → kept (rows_of desk) c ≡ Some (row_for c w mark)
     open_kept c w mark old desk now after =
         let waits = subst (λ (s : Said). IsWaiting (rows_of desk) s) now desk.waits in
         let inside = kept_inside (cells_of desk.room) (kept_in desk.room) c waits.1 in
@@ -263,30 +269,36 @@ module _ {N : Type 0} {g : nv.Ghosts N} where
         says_none : (answer : Said) → Says answer old.desk first desk → ⊥
         says_none answer says = let end = ends_at (claims_desk g) Steps (world old.scene desk) new first steps Stop asks (inl says.ends) in no_say Stop refl (sym (end.1 ∙ says.ends))
 
-        new_cut : (c w : ℕ) (mark : List ℕ) → kept (rows_of old.desk) c ≡ None → CameOut (row_for c w mark) (said.Scanning c) (scan_of (row_for c w mark)) (rows_of old.desk) (rows_of desk) (said_of desk) first
-            → IsCutShort (Claim c w mark) (rows_of old.desk) (rows_of new.desk)
-        new_cut c w mark none (Done_ fresh now next after) =
-            inr (none, scan_cut (row_for c w mark) desk old.scene new steps now (subst (λ (n : Next). Asks (claims_desk g) Steps (world old.scene desk) new n steps Stop) next asks) ∙ after)
-        new_cut c w mark none (Worn_ worn now next after) =
+        scans_cut : (x : ClaimRow) → Scans x old.desk first desk → IsCutCredit x (rows_of old.desk) steps × (rows_of new.desk ≡ rows_of old.desk)
+        scans_cut x scans =
+            let rows = rests_rows old.desk desk scans.rests in
+            subst (λ (r : Claims). IsCutCredit x r steps × (rows_of new.desk ≡ r)) rows
+            (scan_cut x desk old.scene new steps scans.waits (ap (λ (r : Claims). kept r x.claim) rows ∙ scans.here) (subst (λ (n : Next). Asks (claims_desk g) Steps (world old.scene desk) new n steps Stop) scans.asks asks))
+
+        new_cut : (c w : ℕ) (mark : List ℕ) → CameOut (row_for c w mark) (said.Scanning c) (scan_of (row_for c w mark)) (rows_of old.desk) (rows_of desk) (said_of desk) first
+            → IsNewCut (row_for c w mark) (rows_of old.desk) steps (rows_of new.desk)
+        new_cut c w mark (Done_ fresh now next after) =
+            let cut = scan_cut (row_for c w mark) desk old.scene new steps now (open_kept c w mark old.desk desk now after) (subst (λ (n : Next). Asks (claims_desk g) Steps (world old.scene desk) new n steps Stop) next asks) in
+            inr (subst (λ (r : Claims). IsCutCredit (row_for c w mark) r steps) (sym cut.1) cut.0, cut.1 ∙ after)
+        new_cut c w mark (Worn_ worn now next after) =
             let end = ends_at (claims_desk g) Steps (world old.scene desk) new first steps Stop asks (inl next) in
             absurd (no_say Stop refl (sym (end.1 ∙ next)))
-        new_cut c w mark none (Broke next after) =
+        new_cut c w mark (Broke next after) =
             let end = ends_at (claims_desk g) Steps (world old.scene desk) new first steps Stop asks (inr next) in
-            inl (rows_by new (world old.scene desk) end.2 (rows_of old.desk) after)
+            inl (end.0, rows_by new (world old.scene desk) end.2 (rows_of old.desk) after)
 
-        claim_cut : (o : Option ClaimRow) (c w : ℕ) (mark : List ℕ) → kept (rows_of old.desk) c ≡ o → ByKept o c w mark old.desk first desk → IsCutShort (Claim c w mark) (rows_of old.desk) (rows_of new.desk)
-        claim_cut (Some x) c w mark is (inl known) =
-            either_any x.credited (λ again. absurd (says_none (said.Credited c again.mark true) again.says))
-            (λ scans. inl (scan_cut x desk old.scene new steps scans.waits (subst (λ (n : Next). Asks (claims_desk g) Steps (world old.scene desk) new n steps Stop) scans.asks asks) ∙ rests_rows old.desk desk scans.rests)) known.1
-        claim_cut (Some x) c w mark is (inr other) = absurd (says_none said.Conflict other.1)
-        claim_cut None c w mark is did =
-            either_any (c == last_claim (rows_of old.desk) + 1)
-            (λ next. either_any (c == 1025) (λ full. absurd (says_none said.Full full))
-            (λ tries. new_cut c w mark is (tried (has_failed old.desk) (row_for c w mark) (said.Scanning c) (scan_of (row_for c w mark)) old.desk first desk tries)) next)
-            (λ wrong. absurd (says_none (said.WrongClaim (last_claim (rows_of old.desk))) wrong)) did
+        claim_cut : (o : Option ClaimRow) (c w : ℕ) (mark : List ℕ) → ByKept o c w mark old.desk first desk → IsClaimCut o c w mark (rows_of old.desk) steps (rows_of new.desk)
+        claim_cut (Some x) c w mark (inl known) =
+            (known.0, either_by x.credited (λ again. says_none (said.Credited c again.mark true) again.says) (λ scans. scans_cut x scans) known.1)
+        claim_cut (Some x) c w mark (inr other) = absurd (says_none said.Conflict other.1)
+        claim_cut None c w mark did =
+            either_by (c == last_claim (rows_of old.desk) + 1)
+            (λ next. either_by (c == 1025) (λ full. says_none said.Full full)
+            (λ tries. new_cut c w mark (tried (has_failed old.desk) (row_for c w mark) (said.Scanning c) (scan_of (row_for c w mark)) old.desk first desk tries)) next)
+            (λ wrong. says_none (said.WrongClaim (last_claim (rows_of old.desk))) wrong) did
 
-        own_cut : (own : ClaimLine) → Begins old.desk own first desk → IsCutShort own (rows_of old.desk) (rows_of new.desk)
-        own_cut (Claim c w mark) begins = claim_cut (kept (rows_of old.desk) c) c w mark refl begins
+        own_cut : (own : ClaimLine) → Begins old.desk own first desk → IsCutShort own (rows_of old.desk) steps (rows_of new.desk)
+        own_cut (Claim c w mark) begins = claim_cut (kept (rows_of old.desk) c) c w mark begins
         own_cut (Credits w) begins = says_none (said.Credits w (credits w (rows_of old.desk))) begins
         own_cut Reserved begins = says_none said.Reserved begins
 

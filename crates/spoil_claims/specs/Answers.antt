@@ -7,8 +7,9 @@ use Rattle.script_text.specs.Texts.{text_of}
 use Rattle.desk_runs.specs.Deeds.{Done, Skipped, Did}
 use Rattle.desk_runs.specs.SideDeeds.{SideDeed, Plain, Own, Broken}
 use Rattle.spoil_claims.specs.ClaimLines.{IsClaimLine}
-use Rattle.spoil_claims.specs.Claims.{Claims, kept, scan_number, last_claim, mark_of, credits}
-use Rattle.spoil_claims.specs.Courses.{Either, IsSame, IsAccepted, row_for, as_credited}
+use Rattle.spoil_claims.specs.Claims.{Claims, IsHere, kept, scan_number, last_claim, mark_of, credits}
+use Rattle.spoil_claims.specs.Courses.{Either, IsSame, row_for, as_credited}
+use Rattle.law_scans.specs.Acceptances.{IsAccepted}
 use Rattle.spoil_claims.specs.Texts.{credited_text, credits_text, wrong_claim_text}
 use Rattle.spoil_claims.specs.declared.claim.ClaimRow.{ClaimRow}
 use Rattle.spoil_claims.specs.declared.claim.ClaimLine.{ClaimLine}
@@ -34,6 +35,7 @@ IsCreditedNow x rows texts after =
 
 -- the open claim was scanned; every answer but Accepted is given as its text and leaves it open
 pub record IsScanned (x : ClaimRow) (rows : Claims) (steps : List Done) (texts : List (List ℕ)) (after : Claims) : Type 0 where
+  pub claim : IsHere rows x
   pub scan : Done
   pub only : steps ≡ scan ∷ []
   pub event : scan.event ≡ ev.ScanHex (scan_number x.claim) x.mark
@@ -73,11 +75,28 @@ IsAnswered (Claim c w mark) rows steps texts after = IsClaimTold (kept rows c) c
 IsAnswered (Credits w) rows steps texts after = IsTold (credits_text w (credits w rows)) rows steps texts after
 IsAnswered Reserved rows steps texts after = IsTold (codes "refused claim reserved") rows steps texts after
 
--- a line at which a commit failed: nothing was committed before it, or the claim as open
-abbrev pub IsCutShort : ClaimLine → Claims → Claims → Type 0
-IsCutShort (Claim c w mark) rows after = (after ≡ rows) ⊎ ((kept rows c ≡ None) × (after ≡ put rows (c - 1) (row_for c w mark)))
-IsCutShort (Credits w) rows after = ⊥
-IsCutShort Reserved rows after = ⊥
+-- == a line at which a commit failed ==
+
+-- the open claim was scanned and the piece accepted, and its commit as credited failed
+pub record IsCutCredit (x : ClaimRow) (rows : Claims) (steps : List Done) : Type 0 where
+  pub claim : IsHere rows x
+  pub scan : Done
+  pub only : steps ≡ scan ∷ []
+  pub event : scan.event ≡ ev.ScanHex (scan_number x.claim) x.mark
+  pub accepted : IsAccepted scan.reply
+
+-- of a new claim: nothing was committed and done, or it was committed as open
+abbrev pub IsNewCut : ClaimRow → Claims → List Done → Claims → Type 0
+IsNewCut x rows steps after = ((steps ≡ []) × (after ≡ rows)) ⊎ (IsCutCredit x after steps × (after ≡ put rows (x.claim - 1) x))
+
+abbrev pub IsClaimCut : Option ClaimRow → ℕ → ℕ → List ℕ → Claims → List Done → Claims → Type 0
+IsClaimCut (Some x) c w mark rows steps after = IsSame w mark x × Either x.credited ⊥ (IsCutCredit x rows steps × (after ≡ rows))
+IsClaimCut None c w mark rows steps after = Either (c == last_claim rows + 1) (Either (c == 1025) ⊥ (IsNewCut (row_for c w mark) rows steps after)) ⊥
+
+abbrev pub IsCutShort : ClaimLine → Claims → List Done → Claims → Type 0
+IsCutShort (Claim c w mark) rows steps after = IsClaimCut (kept rows c) c w mark rows steps after
+IsCutShort (Credits w) rows steps after = ⊥
+IsCutShort Reserved rows steps after = ⊥
 
 -- each line in turn; one that is left to the bench is none of the desk's
 abbrev pub AreAnswered : Claims → List (SideDeed ClaimLine) → Claims → Type 0
@@ -85,4 +104,4 @@ AreAnswered rows [] after = after ≡ rows
 AreAnswered rows (Plain (Skipped line) ∷ rest) after = AreAnswered rows rest after
 AreAnswered rows (Plain (Did line d) ∷ rest) after = ((own : ClaimLine) → IsClaimLine own line → ⊥) × AreAnswered rows rest after
 AreAnswered rows (Own line own steps texts ∷ rest) after = (mid : Claims) × IsAnswered own rows steps texts mid × AreAnswered mid rest after
-AreAnswered rows (Broken line own steps ∷ rest) after = (mid : Claims) × IsCutShort own rows mid × AreAnswered mid rest after
+AreAnswered rows (Broken line own steps ∷ rest) after = (mid : Claims) × IsCutShort own rows steps mid × AreAnswered mid rest after

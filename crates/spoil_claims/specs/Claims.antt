@@ -1,5 +1,5 @@
 -- The claims that are kept, one a cell.
-use Rattle.std.specs.Prelude.{ℕ, ◌+◌, ◌-◌, List, Option, Some, None, IsSome, Ok, Err, Result, sum_by, if◌then◌else◌, ◌==◌, ◌&&◌}
+use Rattle.std.specs.Prelude.{◌≡◌, ◌≤◌, ℕ, ◌+◌, ◌-◌, List, Option, Some, None, IsSome, Ok, Err, Result, sum_by, if◌then◌else◌, ◌==◌, ◌&&◌}
 use Rattle.node_acts.specs.RowList.{RowList, row_at, row_of}
 use Rattle.indicium.specs.Marks.{read_mark}
 use Rattle.indicium.specs.declared.Mark.{Mark}
@@ -24,6 +24,11 @@ HasNoGaps rows = (k : ℕ) → IsSome (claim_at rows (k + 1)) → IsSome (claim_
 -- the number under which claim c scans
 abbrev pub scan_number : ℕ → ℕ
 scan_number c = 3000000000 + c
+
+-- the claim is kept under its number
+pub record IsHere (rows : Claims) (x : ClaimRow) : Type 0 where
+  pub first : 1 ≤ x.claim
+  pub here : kept rows x.claim ≡ Some x
 
 abbrev pub one_in : Option ClaimRow → ℕ
 one_in None = 0

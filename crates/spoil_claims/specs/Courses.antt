@@ -2,12 +2,12 @@
 use Rattle.std.specs.Prelude.{◌≡◌, ◌⊎◌, ℕ, ◌+◌, ◌-◌, List, Bool, true, false, Option, Some, None, Result, Ok, Err, ◌==◌}
 use Rattle.bench_base.specs.declared.events.Event.TheVariants as ev
 use Rattle.bench_base.specs.declared.events.Reply.{Reply}
-use Rattle.bench_base.specs.declared.events.Reply.TheVariants as r
 use Rattle.bench_base.specs.declared.refusals.StoreFail.{StoreFail}
 use Rattle.bench_base.specs.declared.refusals.StoreFail.TheVariants as fail
 use Rattle.indicium.specs.declared.Mark.{Mark}
 use Rattle.nv_model.specs.declared.nv.Nv.{Ghosts}
 use Rattle.nv_store.specs.Fails.{ends_failed}
+use Rattle.law_scans.specs.Acceptances.{IsAccepted}
 use Rattle.desk_runs.specs.declared.desk.Next.{Next}
 use Rattle.desk_runs.specs.declared.desk.Next.TheVariants.{Step, Say, Stop}
 use Rattle.row_store.specs.Commits.{CommitsRow}
@@ -47,10 +47,6 @@ Follows (Err fail.Worn) meant then now next = (now ≡ said.Worn) × (next ≡ S
 Follows (Err fail.Power) meant then now next = next ≡ Stop
 Follows (Err fail.Fault) meant then now next = next ≡ Stop
 Follows (Err fail.Failed) meant then now next = next ≡ Stop
-
--- the verifier accepted a piece
-abbrev pub IsAccepted : Reply → Type 0
-IsAccepted reply = (d p n : ℕ) × (again : Bool) × (reply ≡ r.Accepted d p n again)
 
 module _ {N : Type 0} {g : Ghosts N} where
   -- it answers so, and commits nothing

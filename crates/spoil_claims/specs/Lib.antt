@@ -4,8 +4,10 @@ pub mod ClaimLines
 pub mod ClaimsDesk
 pub mod Claims
 pub mod Courses
+pub mod Holds
 pub mod Payload
 pub mod Ran
+pub mod Storage
 pub mod Texts
 pub mod View
 pub mod Waits

@@ -7,13 +7,12 @@ ghost use Rattle.node_acts.specs.RowList.{put};
 ghost use Rattle.indicium.specs.Marks.{read_mark};
 ghost use Rattle.spoil_claims.specs.ClaimLines.{IsClaim, IsLine};
 ghost use Rattle.spoil_claims.specs.Claims.{HasNoGaps, kept, last_claim, credits, credit_of, mark_of};
-ghost use Rattle.spoil_claims.specs.Courses.{IsSame, Says, Tries, Known, Unknown, Begins, Credited, Scanned, scan_of};
+ghost use Rattle.spoil_claims.specs.Courses.{IsSame, row_for, Says, Tries, Known, Unknown, Begins, Credited, Scanned, scan_of};
 ghost use Rattle.spoil_claims.specs.Payload.{IsFit};
 ghost use Rattle.spoil_claims.specs.View.{said_of, rows_of};
 ghost use Rattle.spoil_claims.specs.Waits.{IsKept, IsWaiting};
 ghost use Rattle.spoil_claims.specs.declared.claim.TheConstants.{CLAIM_CELLS};
 
-use crate::accepted::is_accepted;
 use crate::claim::{CLAIM_CELLS, ClaimLine, ClaimRow};
 use crate::desk::Desk;
 use crate::lines::LAST_SCAN;
@@ -25,6 +24,7 @@ use bench_base::numbers::Customer;
 use bench_base::refusals::StoreFail;
 use desk_runs::Next;
 use indicium::{Mark, read_indicium};
+use law_scans::accepted::is_accepted;
 use nv_model::Nv;
 use row_store::{commit_row, row_in};
 
@@ -55,6 +55,18 @@ fn is_same(row: &ClaimRow, customer: Customer, mark: &[u8; 64]) -> bool
     ensures { IsTrue result ↔ IsSame customer mark.now row.now }
 {
     row.customer == customer && row.mark.as_slice() == mark.as_slice()
+}
+
+// A claim that is yet to be scanned.
+fn open_claim(claim: u32, customer: Customer, mark: &[u8; 64]) -> ClaimRow
+    ensures { result ≡ row_for claim customer mark.now }
+{
+    ClaimRow {
+        claim,
+        customer,
+        credited: false,
+        mark: *mark,
+    }
 }
 
 // The scan of a mark under this number.
@@ -190,12 +202,7 @@ impl<N: Nv> Desk<N> {
         if claim == CLAIM_CELLS + 1 {
             return self.say(Said::Full);
         }
-        let row = ClaimRow {
-            claim,
-            customer,
-            credited: false,
-            mark: *mark,
-        };
+        let row = open_claim(claim, customer, mark);
         let scan = scan_for(&row);
         self.commit(&row, Said::Scanning(claim), scan)
     }

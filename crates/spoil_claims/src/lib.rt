@@ -1,11 +1,11 @@
 //! Claims for spoiled pieces: a claim is credited by using up its piece at the verifier, so that a piece is mail or credited, never both.
 #![tactic(auto)]
 
-mod accepted;
 mod boot;
 mod claim;
 mod courses;
 mod desk;
+pub mod laws;
 mod lines;
 mod own;
 mod payload;

@@ -1,0 +1,376 @@
+-- What a run leaves of the storage of the claims: whether a commit failed, and why.
+use Rattle.std.proofs.Common.{◌≡◌, ◌⊎◌, inl, inr, ℕ, ◌+◌, ◌-◌, ◌≤◌, List, [], ◌∷◌, ◌++◌, Option, Some, None, Result, Ok, Err, Bool, true, false, ◌==◌, refl, sym, ap, ◌∙◌, subst, arith, true≢false}
+use Rattle.std.specs.Prelude.{IsSome, IsNone}
+use Rattle.std.proofs.lemmas.List.{append_assoc, append-nil}
+use Rattle.bench_base.specs.Causes.{Rose}
+use Rattle.bench_base.specs.declared.events.Reply.{Reply}
+use Rattle.bench_base.specs.declared.refusals.StoreFail.{StoreFail}
+use Rattle.bench_base.specs.declared.refusals.StoreFail.TheVariants as fail
+use Rattle.nv_model.specs.Meters.{Meters, WasCut, Uses, Counts}
+use Rattle.nv_model.specs.Moments.{Image, Nested}
+use Rattle.nv_model.specs.declared.nv.Nv as nv
+use Rattle.nv_store.specs.Fails.{ends_failed}
+use Rattle.nv_store.specs.RoomView.{cells_of, kept_in}
+use Rattle.nv_store.specs.TableKnows.{table_only}
+use Rattle.node_acts.specs.RowList.{put}
+use Rattle.node_turns.specs.declared.turn.Turn.{Turn}
+use Rattle.row_table.specs.Kept.{seen_shown}
+use Rattle.row_table.specs.Shows.{ShowsRows}
+use Rattle.row_store.specs.Commits.{CommitsRow}
+use Rattle.row_store.specs.Seen.{ReadsAs, row_held}
+use Rattle.row_store.proofs.Kept.{filled_of}
+use Rattle.desk_runs.specs.Deeds.{Done, Skipped, Did}
+use Rattle.desk_runs.specs.Desks.{World, world, Asks, Does}
+use Rattle.desk_runs.specs.SideDeeds.{SideDeed, Plain, Own, Broken, steps_in, steps_of}
+use Rattle.desk_runs.specs.Wants.{IsStep}
+use Rattle.desk_runs.specs.declared.desk.Next.{Next}
+use Rattle.desk_runs.specs.declared.desk.Next.TheVariants.{Say, Stop}
+use Rattle.spoil_claims.specs.Answers.{IsCutCredit}
+use Rattle.spoil_claims.specs.Claims.{Claims, kept, last_claim, credits}
+use Rattle.spoil_claims.specs.ClaimsDesk.{claims_desk}
+use Rattle.spoil_claims.specs.Courses.{Either, row_for, as_credited, scan_of, Follows, Says, ByFailed, Scans, ByKept, Begins, Credited, Scanned, GoesOn}
+use Rattle.law_scans.specs.Acceptances.{IsAccepted}
+use Rattle.spoil_claims.specs.Payload.{decoded}
+use Rattle.spoil_claims.specs.Storage.{HasBroken, meters_of, IsUntouched}
+use Rattle.spoil_claims.specs.View.{said_of, has_failed, rows_of, storage_of, store_of, Rests}
+use Rattle.spoil_claims.specs.declared.claim.ClaimLine.{ClaimLine}
+use Rattle.spoil_claims.specs.declared.claim.ClaimLine.TheVariants.{Claim, Credits, Reserved}
+use Rattle.spoil_claims.specs.declared.claim.ClaimRow.{ClaimRow}
+use Rattle.spoil_claims.specs.declared.claim.TheConstants.{CLAIM_CELLS}
+use Rattle.spoil_claims.specs.declared.desk.Desk.{Desk}
+use Rattle.spoil_claims.specs.declared.said.Said.{Said}
+use Rattle.spoil_claims.specs.declared.said.Said.TheVariants as said
+use Rattle.spoil_claims.proofs.Answering.{no_step, no_say, ends_at, rests_rows, open_kept, scan_cut}
+
+-- == counts ==
+
+rose_later : (a b c : ℕ) → a ≤ b → Rose b c → Rose a c
+rose_later a b c le rose = omega (arith, le, rose)
+
+rose_then : (a b c : ℕ) → Rose a b → b ≤ c → Rose a c
+rose_then a b c rose le = omega (arith, rose, le)
+
+none_uses : (calls : ℕ) (f h : Option ℕ) → Uses calls f h → f ≡ None → h ≡ None
+none_uses calls None h uses is = uses
+none_uses calls (Some left) h uses is = absurd (cc)
+
+burnt : (f h i : Option ℕ) → (f ≡ None → h ≡ None) → IsSome h × IsNone i → IsSome f × IsNone i
+burnt None h i counts cut = absurd (no_some h (counts refl) cut.0)
+  where
+    no_some : (h : Option ℕ) → h ≡ None → IsSome h → ⊥
+    no_some None is some = absurd (true≢false (sym some))
+    no_some (Some x) is some = absurd (cc)
+burnt (Some left) h i counts cut = (refl, cut.1)
+
+counts_refl : (m : Meters) → Counts m m
+counts_refl m = record { cuts = omega arith; faults = omega arith; fuse = λ is. is }
+
+counts_then : (a b c : Meters) → Counts a b → Counts b c → Counts a c
+counts_then a b c first second =
+    let cuts = first.cuts in
+    let cuts' = second.cuts in
+    let faults = first.faults in
+    let faults' = second.faults in
+    record { cuts = omega (arith, cuts, cuts'); faults = omega (arith, faults, faults'); fuse = λ is. second.fuse (first.fuse is) }
+
+abbrev Caused : Meters → Meters → Type 0
+Caused a c = WasCut a c ⊎ Rose a.faults c.faults
+
+caused_later : (a b c : Meters) → Counts a b → Caused b c → Caused a c
+caused_later a b c counts (inl (inl cut)) = inl (inl (rose_later a.cuts b.cuts c.cuts counts.cuts cut))
+caused_later a b c counts (inl (inr fuse)) = inl (inr (burnt a.fuse b.fuse c.fuse counts.fuse fuse))
+caused_later a b c counts (inr fault) = inr (rose_later a.faults b.faults c.faults counts.faults fault)
+
+no_stop : (next : Next) → next ≡ Say → next ≡ Stop → ⊥
+no_stop next say stop = no_say next stop (sym say)
+
+no_scan_stop : (x : ClaimRow) (next : Next) → next ≡ scan_of x → next ≡ Stop → ⊥
+no_scan_stop x next asks stop = no_step next (inr stop) (subst (λ (n : Next). IsStep n) (sym asks) tt)
+
+no_say_step : (next : Next) → next ≡ Say → IsStep next → ⊥
+no_say_step next say step = no_step next (inl say) step
+
+one_number : (c e : ℕ) → said.Scanning c ≡ said.Scanning e → c ≡ e
+one_number c e is = cc
+
+one_row : (a b : ClaimRow) → Some a ≡ Some b → a ≡ b
+one_row a b is = cc
+
+either_any : {P Q X : Type 0} (b : Bool) → (P → X) → (Q → X) → Either b P Q → X
+either_any true f h either = f either
+either_any false f h either = h either
+
+-- == a commit that failed ==
+
+-- it was of a new claim as open, or of one as credited whose scan was accepted
+abbrev pub IsCut : ClaimRow → Claims → List Done → Type 0
+IsCut x rows steps = ((kept rows x.claim ≡ None) × (x.credited ≡ false)) ⊎ ((y : ClaimRow) × (x ≡ as_credited y) × IsCutCredit y rows steps)
+
+-- by the last of these steps
+abbrev pub IsCutAfter : ClaimRow → Claims → List Done → Type 0
+IsCutAfter x rows all = (before steps : List Done) × (all ≡ before ++ steps) × IsCut x rows steps
+
+-- a line at which one failed is the last
+abbrev pub BrokenLast : List (SideDeed ClaimLine) → Type 0
+BrokenLast [] = Unit {0}
+BrokenLast (Plain d ∷ rest) = BrokenLast rest
+BrokenLast (Own line own steps texts ∷ rest) = BrokenLast rest
+BrokenLast (Broken line own steps ∷ rest) = rest ≡ []
+
+module _ {N : Type 0} {g : nv.Ghosts N} where
+  -- a desk that has not failed is shown by its storage
+  pub shows_now : (desk : Desk N g) → has_failed desk ≡ false → g.tells → (c : List ℕ) → Image (g.times (storage_of desk)) c → ShowsRows 73 CLAIM_CELLS (ReadsAs decoded) (rows_of desk) c
+  shows_now desk works tells c image =
+      let only = table_only desk.room.same ((desk.runs works).holds tells) in
+      let cells = cells_of desk.room in
+      let held = kept_in desk.room in
+      subst (λ (n : ℕ). ShowsRows 73 n (ReadsAs decoded) (rows_of desk) c) desk.cells
+      (subst (λ (d : List ℕ). ShowsRows 73 cells (ReadsAs decoded) (rows_of desk) d) (sym (only.only c image))
+      (seen_shown cells (ReadsAs decoded) (λ j. row_held decoded j (held j)) held (filled_of decoded cells held desk.read) 73 _ only.shows))
+
+  -- == no commit failed, or one did ==
+
+  -- none did
+  pub record Goes (old new : Desk N g) : Type 0 where
+    pub failed : has_failed new ≡ has_failed old
+    pub before : has_failed old ≡ true → IsUntouched old new
+    pub counts : Counts (meters_of old) (meters_of new)
+
+  -- one of this claim was torn
+  pub record Tears (x : ClaimRow) (old new : Desk N g) : Type 0 where
+    pub cause : Caused (meters_of old) (meters_of new)
+    pub shows : g.tells → (c : List ℕ) → Image (g.times (storage_of new)) c
+        → ShowsRows 73 CLAIM_CELLS (ReadsAs decoded) (rows_of new) c ⊎ ShowsRows 73 CLAIM_CELLS (ReadsAs decoded) (put (rows_of new) (x.claim - 1) x) c
+
+  -- by whether one had failed before
+  abbrev pub BreaksBy : Bool → ClaimRow → Desk N g → Desk N g → Type 0
+  BreaksBy true x old new = IsUntouched old new
+  BreaksBy false x old new = Tears x old new
+
+  pub record Breaks (x : ClaimRow) (old new : Desk N g) : Type 0 where
+    pub failed : has_failed new ≡ true
+    pub by : BreaksBy (has_failed old) x old new
+
+  untouched : (old new : Desk N g) → Rests old new → IsUntouched old new
+  untouched old new rests = record { storage = rests.storage; rows = rests_rows old new rests }
+
+  touched_none : (old mid new : Desk N g) → IsUntouched old mid → IsUntouched mid new → IsUntouched old new
+  touched_none old mid new first second = record { storage = second.storage ∙ first.storage; rows = second.rows ∙ first.rows }
+
+  goes_same : (old new : Desk N g) → new ≡ old → Goes old new
+  goes_same old new same = record {
+    failed = ap (λ (k : Desk N g). has_failed k) same;
+    before = λ is. record { storage = ap (λ (k : Desk N g). storage_of k) same; rows = ap (λ (k : Desk N g). rows_of k) same };
+    counts = subst (λ (k : Desk N g). Counts (meters_of old) (meters_of k)) (sym same) (counts_refl (meters_of old));
+  }
+
+  goes_rests : (old new : Desk N g) → Rests old new → Goes old new
+  goes_rests old new rests = record {
+    failed = rests.failed;
+    before = λ is. untouched old new rests;
+    counts = subst (λ (s : N). Counts (meters_of old) (g.meters s)) (sym rests.storage) (counts_refl (meters_of old));
+  }
+
+  goes_on : (old mid new : Desk N g) → Goes old mid → Goes mid new → Goes old new
+  goes_on old mid new first second = record {
+    failed = second.failed ∙ first.failed;
+    before = λ is. touched_none old mid new (first.before is) (second.before (first.failed ∙ is));
+    counts = counts_then (meters_of old) (meters_of mid) (meters_of new) first.counts second.counts;
+  }
+
+  lift : (x : ClaimRow) (old mid new : Desk N g) → Goes old mid → (a b : Bool) → has_failed old ≡ a → b ≡ a → BreaksBy b x mid new → BreaksBy a x old new
+  lift x old mid new goes true true is same breaks = touched_none old mid new (goes.before is) breaks
+  lift x old mid new goes false false is same breaks = record { cause = caused_later (meters_of old) (meters_of mid) (meters_of new) goes.counts breaks.cause; shows = breaks.shows }
+  lift x old mid new goes true false is same breaks = absurd (true≢false (sym same))
+  lift x old mid new goes false true is same breaks = absurd (true≢false same)
+
+  breaks_later : (x : ClaimRow) (old mid new : Desk N g) → Goes old mid → Breaks x mid new → Breaks x old new
+  breaks_later x old mid new goes breaks = record { failed = breaks.failed; by = lift x old mid new goes (has_failed old) (has_failed mid) refl goes.failed breaks.by }
+
+  -- how lines end: no commit failed, or one did in the last
+  abbrev pub Ends : Desk N g → Desk N g → List (SideDeed ClaimLine) → Type 0
+  Ends old new deeds = (Goes old new × (HasBroken deeds → ⊥)) ⊎ (HasBroken deeds × (x : ClaimRow) × Breaks x old new × IsCutAfter x (rows_of new) (steps_of deeds))
+
+  -- == one commit ==
+
+  module _ (nested : (s : N) → g.tells → Nested (g.times s)) where
+    -- how a commit of this claim came out
+    abbrev Came : ClaimRow → Said → Next → Desk N g → Next → Desk N g → Type 0
+    Came x meant then old next new =
+        (Goes old new × (((next ≡ then) × (said_of new ≡ meant) × (rows_of new ≡ put (rows_of old) (x.claim - 1) x)) ⊎ (next ≡ Say)))
+        ⊎ ((next ≡ Stop) × Breaks x old new × (rows_of new ≡ rows_of old))
+
+    torn : (x : ClaimRow) (old new : Desk N g) (result : Result (Unit {0}) StoreFail) → has_failed old ≡ false → has_failed new ≡ true → (result ≡ Err fail.Worn → ⊥) → Caused (meters_of old) (meters_of new)
+        → rows_of new ≡ rows_of old → CommitsRow g.tells decoded 73 (x.claim - 1) x (store_of old) (store_of new) result → Breaks x old new
+    torn x old new result works broke fresh cause stays did = record {
+      failed = broke;
+      by = subst (λ (b : Bool). BreaksBy b x old new) (sym works) (record {
+        cause = cause;
+        shows = λ tells c image.
+            subst (λ (r : Claims). ShowsRows 73 CLAIM_CELLS (ReadsAs decoded) r c ⊎ ShowsRows 73 CLAIM_CELLS (ReadsAs decoded) (put r (x.claim - 1) x) c) (sym stays)
+            (subst (λ (n : ℕ). ShowsRows 73 n (ReadsAs decoded) (rows_of old) c ⊎ ShowsRows 73 n (ReadsAs decoded) (put (rows_of old) (x.claim - 1) x) c) old.cells
+            (did.any_moment tells fresh c (nested (storage_of new) tells (g.times (storage_of old)).moment (g.times (storage_of new)).moment c (did.time tells).later image)));
+      });
+    }
+
+    counts_of : (old new : Desk N g) (x : ClaimRow) (result : Result (Unit {0}) StoreFail) → CommitsRow g.tells decoded 73 (x.claim - 1) x (store_of old) (store_of new) result → Counts (meters_of old) (meters_of new)
+    counts_of old new x result did = record { cuts = did.cuts; faults = did.faults; fuse = none_uses 6 (meters_of old).fuse (meters_of new).fuse did.fuse }
+
+    went : (old new : Desk N g) → has_failed old ≡ false → has_failed new ≡ false → Counts (meters_of old) (meters_of new) → Goes old new
+    went old new works still counts = record { failed = still ∙ sym works; before = λ is. absurd (true≢false (sym is ∙ works)); counts = counts }
+
+    by_result : (x : ClaimRow) (meant : Said) (then : Next) (old : Desk N g) (next : Next) (new : Desk N g) → has_failed old ≡ false → (result : Result (Unit {0}) StoreFail)
+        → CommitsRow g.tells decoded 73 (x.claim - 1) x (store_of old) (store_of new) result → has_failed new ≡ ends_failed result → Follows result meant then (said_of new) next → Came x meant then old next new
+    by_result x meant then old next new works (Ok u) did failed follows = inl (went old new works failed (counts_of old new x (Ok u) did), inl (follows.1, follows.0, did.done))
+    by_result x meant then old next new works (Err fail.Worn) did failed follows = inl (went old new works failed (counts_of old new x (Err fail.Worn) did), inr follows.1)
+    by_result x meant then old next new works (Err fail.Power) did failed follows =
+        inr (follows, torn x old new (Err fail.Power) works failed (λ is. cc) (inl (did.power refl)) did.stays did, did.stays)
+    by_result x meant then old next new works (Err fail.Fault) did failed follows =
+        inr (follows, torn x old new (Err fail.Fault) works failed (λ is. cc) (inr (did.fault refl)) did.stays did, did.stays)
+    by_result x meant then old next new works (Err fail.Failed) did failed follows = absurd (did.not_failed refl)
+
+    tried : (b : Bool) (x : ClaimRow) (meant : Said) (then : Next) (old : Desk N g) (next : Next) (new : Desk N g) → has_failed old ≡ b → ByFailed b x meant then old next new → Came x meant then old next new
+    tried true x meant then old next new is did =
+        inr (did.0, record { failed = did.1.failed ∙ is; by = subst (λ (b : Bool). BreaksBy b x old new) (sym is) (untouched old new did.1) }, rests_rows old new did.1)
+    tried false x meant then old next new is did = by_result x meant then old next new is did.result did.commits did.failed did.follows
+
+    -- == after its scan ==
+
+    -- the commit as credited may fail
+    abbrev Closes : Desk N g → Next → Desk N g → Type 0
+    Closes old next new =
+        (Goes old new × (next ≡ Say))
+        ⊎ ((next ≡ Stop) × (c : ℕ) × (y : ClaimRow) × (said_of old ≡ said.Scanning c) × (kept (rows_of old) c ≡ Some y) × Breaks (as_credited y) old new)
+
+    closes_credit : (c : ℕ) (y : ClaimRow) (meant : Said) (old : Desk N g) (next : Next) (new : Desk N g) → said_of old ≡ said.Scanning c → kept (rows_of old) c ≡ Some y → Came (as_credited y) meant Say old next new → Closes old next new
+    closes_credit c y meant old next new waits here (inl (goes, inl say)) = inl (goes, say.0)
+    closes_credit c y meant old next new waits here (inl (goes, inr say)) = inl (goes, say)
+    closes_credit c y meant old next new waits here (inr (stop, breaks, rows)) = inr (stop, c, y, waits, here, breaks)
+
+    closes_scan : (c : ℕ) (reply : Reply) (old : Desk N g) (next : Next) (new : Desk N g) → said_of old ≡ said.Scanning c → Scanned c reply old next new → Closes old next new
+    closes_scan c reply old next new waits did = by_reply did.did
+      where
+        by_reply : ((IsAccepted reply × Credited did.row old next new) ⊎ ((IsAccepted reply → ⊥) × Says (said.Scan reply) old next new)) → Closes old next new
+        by_reply (inl credit) =
+            let meant = said.Credited did.row.claim credit.1.mark false in
+            closes_credit c did.row meant old next new waits did.is (tried (has_failed old) (as_credited did.row) meant Say old next new refl credit.1.tries)
+        by_reply (inr other) = inl (goes_rests old new other.1.rests, other.1.ends)
+
+    closes : (s : Said) (reply : Reply) (old : Desk N g) (next : Next) (new : Desk N g) → said_of old ≡ s → GoesOn s reply old next new → Closes old next new
+    closes (said.Scanning c) reply old next new waits did = closes_scan c reply old next new waits did
+    closes said.Nothing reply old next new waits did = inl (goes_same old new did.1, did.0)
+    closes (said.Credited c mark again) reply old next new waits did = inl (goes_same old new did.1, did.0)
+    closes (said.Credits w sum) reply old next new waits did = inl (goes_same old new did.1, did.0)
+    closes said.Conflict reply old next new waits did = inl (goes_same old new did.1, did.0)
+    closes (said.WrongClaim last) reply old next new waits did = inl (goes_same old new did.1, did.0)
+    closes said.Full reply old next new waits did = inl (goes_same old new did.1, did.0)
+    closes said.Reserved reply old next new waits did = inl (goes_same old new did.1, did.0)
+    closes said.Worn reply old next new waits did = inl (goes_same old new did.1, did.0)
+    closes (said.Scan r) reply old next new waits did = inl (goes_same old new did.1, did.0)
+
+    module _ {B : Type 0} (Steps : B → B → Done → Turn → Type 0) (told : (s t : B) (d : Done) (turn : Turn) → Steps s t d turn → d.reply ≡ turn.reply) where
+      -- == before it ==
+
+      -- what is scanned is kept
+      abbrev Waits : Next → Desk N g → Type 0
+      Waits next new = IsStep next → (x : ClaimRow) × (next ≡ scan_of x) × (said_of new ≡ said.Scanning x.claim) × (kept (rows_of new) x.claim ≡ Some x)
+
+      -- the commit of a new claim may fail
+      abbrev Opens : Desk N g → Next → Desk N g → Type 0
+      Opens old next new =
+          (Goes old new × (next ≡ Stop → ⊥) × Waits next new)
+          ⊎ ((next ≡ Stop) × (x : ClaimRow) × Breaks x old new × (kept (rows_of new) x.claim ≡ None) × (x.credited ≡ false))
+
+      opens_says : (answer : Said) (old : Desk N g) (next : Next) (new : Desk N g) → Says answer old next new → Opens old next new
+      opens_says answer old next new did = inl (goes_rests old new did.rests, λ stop. no_stop next did.ends stop, λ step. absurd (no_say_step next did.ends step))
+
+      opens_scan : (x : ClaimRow) (old : Desk N g) (next : Next) (new : Desk N g) → Scans x old next new → Opens old next new
+      opens_scan x old next new did =
+          inl (
+            goes_rests old new did.rests,
+            no_scan_stop x next did.asks,
+            λ step. (x, did.asks, did.waits, ap (λ (r : Claims). kept r x.claim) (rests_rows old new did.rests) ∙ did.here),
+          )
+
+      opens_new : (c w : ℕ) (mark : List ℕ) (old : Desk N g) (next : Next) (new : Desk N g) → kept (rows_of old) c ≡ None
+          → Came (row_for c w mark) (said.Scanning c) (scan_of (row_for c w mark)) old next new → Opens old next new
+      opens_new c w mark old next new none (inl (goes, inl done)) =
+          inl (goes, no_scan_stop (row_for c w mark) next done.0, λ step. (row_for c w mark, done.0, done.1, open_kept Steps told c w mark old new done.1 done.2))
+      opens_new c w mark old next new none (inl (goes, inr say)) = inl (goes, no_stop next say, λ step. absurd (no_say_step next say step))
+      opens_new c w mark old next new none (inr (stop, breaks, rows)) = inr (stop, row_for c w mark, breaks, ap (λ (r : Claims). kept r c) rows ∙ none, refl)
+
+      opens_kept : (o : Option ClaimRow) (c w : ℕ) (mark : List ℕ) (old : Desk N g) (next : Next) (new : Desk N g) → kept (rows_of old) c ≡ o → ByKept o c w mark old next new → Opens old next new
+      opens_kept (Some x) c w mark old next new is (inl known) =
+          either_any x.credited (λ again. opens_says (said.Credited c again.mark true) old next new again.says) (λ scans. opens_scan x old next new scans) known.1
+      opens_kept (Some x) c w mark old next new is (inr other) = opens_says said.Conflict old next new other.1
+      opens_kept None c w mark old next new is did =
+          either_any (c == last_claim (rows_of old) + 1)
+          (λ here. either_any (c == 1025) (λ full. opens_says said.Full old next new full)
+          (λ tries. opens_new c w mark old next new is (tried (has_failed old) (row_for c w mark) (said.Scanning c) (scan_of (row_for c w mark)) old next new refl tries)) here)
+          (λ wrong. opens_says (said.WrongClaim (last_claim (rows_of old))) old next new wrong) did
+
+      opens : (own : ClaimLine) (old : Desk N g) (next : Next) (new : Desk N g) → Begins old own next new → Opens old next new
+      opens (Claim c w mark) old next new begins = opens_kept (kept (rows_of old) c) c w mark old next new refl begins
+      opens (Credits w) old next new begins = opens_says (said.Credits w (credits w (rows_of old))) old next new begins
+      opens Reserved old next new begins = opens_says said.Reserved old next new begins
+
+      -- == an own line ==
+
+      -- to its answer
+      to_say : (old : Desk N g) (s : B) (next : Next) (desk : Desk N g) (new : World B (Desk N g)) (steps : List Done) → Opens old next desk → Asks (claims_desk g) Steps (world s desk) new next steps Say → Goes old new.desk
+      to_say old s next desk new [] (inl opens) asks = subst (λ (w : World B (Desk N g)). Goes old w.desk) (sym asks.1) opens.0
+      to_say old s next desk new [] (inr broke) asks = absurd (no_say next broke.0 asks.0)
+      to_say old s next desk new (d ∷ rest) (inr broke) asks = absurd (no_step next (inr broke.0) (subst (λ (n : Next). IsStep n) (sym asks.2.asks) tt))
+      to_say old s next desk new (d ∷ rest) (inl opens) asks = after (closes (said_of desk) asks.2.turn.reply desk asks.1 asks.0.desk refl asks.2.goes)
+        where
+          after : Closes desk asks.1 asks.0.desk → Goes old new.desk
+          after (inl (more, say)) =
+              let end = ends_at (claims_desk g) Steps asks.0 new asks.1 rest Say asks.3 (inl say) in
+              subst (λ (w : World B (Desk N g)). Goes old w.desk) (sym end.2) (goes_on old desk asks.0.desk opens.0 more)
+          after (inr broke) = absurd (no_say asks.1 broke.0 (ends_at (claims_desk g) Steps asks.0 new asks.1 rest Say asks.3 (inr broke.0)).1)
+
+      to_stop : (old : Desk N g) (s : B) (next : Next) (desk : Desk N g) (new : World B (Desk N g)) (steps : List Done) → Opens old next desk → Asks (claims_desk g) Steps (world s desk) new next steps Stop
+          → (x : ClaimRow) × Breaks x old new.desk × IsCut x (rows_of new.desk) steps
+      to_stop old s next desk new [] (inl opens) asks = absurd (opens.1 (sym asks.0))
+      to_stop old s next desk new [] (inr broke) asks =
+          subst (λ (w : World B (Desk N g)). (x : ClaimRow) × Breaks x old w.desk × IsCut x (rows_of w.desk) []) (sym asks.1) (broke.1, broke.2, inl (broke.3, broke.4))
+      to_stop old s next desk new (d ∷ rest) (inr broke) asks = absurd (no_step next (inr broke.0) (subst (λ (n : Next). IsStep n) (sym asks.2.asks) tt))
+      to_stop old s next desk new (d ∷ rest) (inl opens) asks = after (closes (said_of desk) asks.2.turn.reply desk asks.1 asks.0.desk refl asks.2.goes)
+        where
+          after : Closes desk asks.1 asks.0.desk → (x : ClaimRow) × Breaks x old new.desk × IsCut x (rows_of new.desk) (d ∷ rest)
+          after (inl (more, say)) = absurd (no_say Stop refl (sym say ∙ sym (ends_at (claims_desk g) Steps asks.0 new asks.1 rest Stop asks.3 (inl say)).1))
+          after (inr (stop, c, y, now, kept_y, breaks)) =
+              let waits = opens.2 (subst (λ (n : Next). IsStep n) (sym asks.2.asks) tt) in
+              let x = waits.0 in
+              let number : c ≡ x.claim = one_number c x.claim (sym now ∙ waits.2) in
+              let row : y ≡ x = one_row y x (sym kept_y ∙ (ap (λ (j : ℕ). kept (rows_of desk) j) number ∙ waits.3)) in
+              let end = ends_at (claims_desk g) Steps asks.0 new asks.1 rest Stop asks.3 (inr stop) in
+              let cut = scan_cut Steps told x desk s new (d ∷ rest) waits.2 waits.3 (subst (λ (n : Next). Asks (claims_desk g) Steps (world s desk) new n (d ∷ rest) Stop) waits.1 asks) in (
+                as_credited y,
+                subst (λ (w : World B (Desk N g)). Breaks (as_credited y) old w.desk) (sym end.2) (breaks_later (as_credited y) old desk asks.0.desk opens.0 breaks),
+                inr (x, ap as_credited row, subst (λ (r : Claims). IsCutCredit x r (d ∷ rest)) (sym cut.1) cut.0),
+              )
+
+      -- == all lines ==
+
+      with_line : (d : SideDeed ClaimLine) (old mid new : Desk N g) (rest : List (SideDeed ClaimLine)) → (HasBroken (d ∷ rest) → HasBroken rest) → (HasBroken rest → HasBroken (d ∷ rest)) → Goes old mid → Ends mid new rest → Ends old new (d ∷ rest)
+      with_line d old mid new rest down up goes (inl (more, none)) = inl (goes_on old mid new goes more, λ broke. none (down broke))
+      with_line d old mid new rest down up goes (inr (broke, x, breaks, (before, steps, are, cut))) =
+          inr (up broke, x, breaks_later x old mid new goes breaks, (steps_in d ++ before, steps, ap (λ (l : List Done). steps_in d ++ l) are ∙ sym (append_assoc (steps_in d) before steps), cut))
+
+      pub all_end : (old new : World B (Desk N g)) (deeds : List (SideDeed ClaimLine)) → BrokenLast deeds → Does (claims_desk g) Steps old new deeds → Ends old.desk new.desk deeds
+      all_end old new [] last did = inl (goes_same old.desk new.desk (ap (λ (w : World B (Desk N g)). w.desk) did), λ broke. broke)
+      all_end old new (Plain (Skipped line) ∷ rest) last did =
+          with_line (Plain (Skipped line)) old.desk did.0.desk new.desk rest (λ b. b) (λ b. b) (goes_same old.desk did.0.desk (ap (λ (w : World B (Desk N g)). w.desk) did.1)) (all_end did.0 new rest last did.2)
+      all_end old new (Plain (Did line d) ∷ rest) last did =
+          with_line (Plain (Did line d)) old.desk did.0.desk new.desk rest (λ b. b) (λ b. b) (goes_same old.desk did.0.desk did.1.sees) (all_end did.0 new rest last did.2)
+      all_end old new (Own line own steps texts ∷ rest) last did =
+          with_line (Own line own steps texts) old.desk did.0.desk new.desk rest (λ b. b) (λ b. b)
+          (to_say old.desk old.scene did.1.did.first did.1.did.desk did.0 steps (opens own old.desk did.1.did.first did.1.did.desk did.1.did.begins) did.1.did.asks) (all_end did.0 new rest last did.2)
+      all_end old new (Broken line own steps ∷ rest) last did =
+          let cut = to_stop old.desk old.scene did.1.first did.1.desk did.0 steps (opens own old.desk did.1.first did.1.desk did.1.begins) did.1.asks in
+          let now : (x : ClaimRow) × Breaks x old.desk new.desk × IsCutAfter x (rows_of new.desk) (steps ++ []) =
+          subst (λ (w : World B (Desk N g)). (x : ClaimRow) × Breaks x old.desk w.desk × IsCutAfter x (rows_of w.desk) (steps ++ []))
+          (sym (subst (λ (l : List (SideDeed ClaimLine)). Does (claims_desk g) Steps did.0 new l) last did.2))
+          (cut.0, cut.1, ([], steps, append-nil steps, cut.2)) in
+          subst (λ (l : List (SideDeed ClaimLine)). Ends old.desk new.desk (Broken line own steps ∷ l)) (sym last) (inr (tt, now.0, now.1, now.2))

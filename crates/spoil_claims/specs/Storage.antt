@@ -1,0 +1,54 @@
+-- What a run leaves of the storage of the claims.
+use Rattle.std.specs.Prelude.{◌≡◌, ◌⊎◌, ◌↔◌, ℕ, ◌-◌, true, false, List, [], ◌∷◌, Option, Some, None, IsSome}
+use Rattle.bench_base.specs.Causes.{Rose}
+use Rattle.nv_model.specs.Meters.{Meters, WasCut}
+use Rattle.nv_model.specs.Moments.{Image}
+use Rattle.nv_model.specs.declared.nv.Nv.{Ghosts}
+use Rattle.line_runs.specs.declared.status.SideStatus.{SideStatus}
+use Rattle.line_runs.specs.declared.status.SideStatus.TheVariants.{Stopped}
+use Rattle.desk_runs.specs.SideDeeds.{SideDeed, Plain, Own, Broken}
+use Rattle.node_acts.specs.RowList.{put}
+use Rattle.row_store.specs.Seen.{ReadsAs}
+use Rattle.row_table.specs.Shows.{ShowsRows}
+use Rattle.spoil_claims.specs.Claims.{Claims}
+use Rattle.spoil_claims.specs.Payload.{decoded}
+use Rattle.spoil_claims.specs.View.{storage_of, has_failed, rows_of}
+use Rattle.spoil_claims.specs.declared.claim.ClaimLine.{ClaimLine}
+use Rattle.spoil_claims.specs.declared.claim.ClaimRow.{ClaimRow}
+use Rattle.spoil_claims.specs.declared.claim.TheConstants.{CLAIM_CELLS}
+use Rattle.spoil_claims.specs.declared.desk.Desk.{Desk}
+
+-- one of the lines is one at which a commit of the desk's failed
+abbrev pub HasBroken : List (SideDeed ClaimLine) → Type 0
+HasBroken [] = ⊥
+HasBroken (Plain d ∷ rest) = HasBroken rest
+HasBroken (Own line own steps texts ∷ rest) = HasBroken rest
+HasBroken (Broken line own steps ∷ rest) = Unit {0}
+
+-- the claims with the commit that was torn, if one was
+abbrev pub with_torn : Option ClaimRow → Claims → Claims
+with_torn None rows = rows
+with_torn (Some x) rows = put rows (x.claim - 1) x
+
+module _ {N : Type 0} {g : Ghosts N} where
+  abbrev pub meters_of : Desk N g → Meters
+  meters_of desk = g.meters (storage_of desk)
+
+  -- storage and claims are as they were
+  pub record IsUntouched (old new : Desk N g) : Type 0 where
+    pub storage : storage_of new ≡ storage_of old
+    pub rows : rows_of new ≡ rows_of old
+
+  -- Whether a commit failed, and which was torn; and what each image of the storage shows.
+  pub record LeavesStorage (old new : Desk N g) (outcome : SideStatus) (deeds : List (SideDeed ClaimLine)) (torn : Option ClaimRow) : Type 0 where
+    -- the run was stopped exactly where a commit failed
+    pub stops : (outcome ≡ Stopped) ↔ HasBroken deeds
+    pub failed : (has_failed new ≡ true) ↔ ((has_failed old ≡ true) ⊎ (outcome ≡ Stopped))
+    -- where one had failed before, this one answered Failed, and nothing was written
+    pub before : has_failed old ≡ true → (torn ≡ None) × IsUntouched old new
+    -- else it answered Power, where power was cut, or Fault, where the count of faults rose; and it is the one that was torn
+    pub why : has_failed old ≡ false → outcome ≡ Stopped → IsSome torn × (WasCut (meters_of old) (meters_of new) ⊎ Rose (meters_of old).faults (meters_of new).faults)
+    pub whole : (outcome ≡ Stopped → ⊥) → torn ≡ None
+    -- each image shows the claims, or those with the torn commit
+    pub shows : g.tells → has_failed old ≡ false → (c : List ℕ) → Image (g.times (storage_of new)) c
+        → ShowsRows 73 CLAIM_CELLS (ReadsAs decoded) (rows_of new) c ⊎ ShowsRows 73 CLAIM_CELLS (ReadsAs decoded) (with_torn torn (rows_of new)) c
