@@ -1,0 +1,11 @@
+pub mod Payloads
+pub mod Keeping
+pub mod Sums
+pub mod Places
+pub mod Puts
+pub mod Reading
+pub mod Taking
+pub mod Answering
+pub mod Printing
+pub mod Running
+pub mod Isolating

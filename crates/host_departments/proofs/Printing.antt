@@ -1,0 +1,213 @@
+-- Each job that is printed has a department.
+use Rattle.std.proofs.Common.{◌≡◌, ◌≢◌, inl, inr, ℕ, ◌+◌, ◌-◌, List, [], ◌∷◌, Option, Some, None, Bool, true, false, sym, ap, ◌∙◌, subst, arith}
+use Rattle.std.specs.Prelude.{codes, nat_lt, slice_get}
+use Rattle.std.proofs.lemmas.Bool.{cases_eq}
+use Rattle.bench_base.specs.declared.events.Event.{Event}
+use Rattle.bench_base.specs.declared.events.Event.TheVariants as ev
+use Rattle.bench_base.specs.declared.events.Reply.{Reply}
+use Rattle.bench_base.specs.declared.events.Reply.TheVariants as r
+use Rattle.bench_base.specs.Replies.{MayGet}
+use Rattle.node_acts.specs.RowList.{put}
+use Rattle.node_turns.specs.declared.turn.Turn.{Turn}
+use Rattle.bench_views.specs.Taken.{as_given, as_given_by, as_scanned_by}
+use Rattle.bench.specs.Benches.{Nodes}
+use Rattle.desk_runs.specs.Deeds.{Done, Skipped, Did}
+use Rattle.desk_runs.specs.Events.{IsLineOf}
+use Rattle.desk_runs.specs.SideDeeds.{SideDeed, Plain, Own, Broken}
+use Rattle.host_departments.specs.Answers.{Asked, Answer, IsTold, IsCommitted, IsTakenIn, IsSent, IsAssignTold, ByQuota, IsAnswered, IsCutShort, AreDone, AreAnswered}
+use Rattle.host_departments.specs.Courses.{Either}
+use Rattle.host_departments.specs.DepartmentLines.{IsLine}
+use Rattle.host_departments.specs.Ran.{IsTurn, AllAssigned, ArePrinted}
+use Rattle.host_departments.specs.Rows.{Rows, row_in, job_in, first_cell, quota, spent, Keeps, IsAssigned, IsDepartment}
+use Rattle.host_departments.specs.Texts.{numbered, quota_text, assigned_text, again_text, spent_text}
+use Rattle.host_departments.specs.declared.row.DepartmentLine.{DepartmentLine}
+use Rattle.host_departments.specs.declared.row.DepartmentLine.TheVariants.{Quota, Assign, Spent, Print}
+use Rattle.host_departments.specs.declared.row.DepartmentRow.{DepartmentRow}
+use Rattle.host_departments.specs.declared.row.DepartmentRow.TheVariants as row
+use Rattle.host_departments.proofs.Puts.{row_else}
+
+-- == an event that printed ==
+
+deliver_no_print : (k j : ℕ) (o : Option (List ℕ)) → as_given_by k o ≡ ev.Print j → ev.Deliver k ≡ ev.Print j
+deliver_no_print k j None is = is
+deliver_no_print k j (Some bytes) is = cc
+
+scan_no_print : (scan k j : ℕ) (o : Option (List ℕ)) → as_scanned_by scan k o ≡ ev.Print j → ev.ScanMsg scan k ≡ ev.Print j
+scan_no_print scan k j None is = is
+scan_no_print scan k j (Some bytes) is = cc
+
+print_given : (pool : List (List ℕ)) (j : ℕ) (e : Event) → as_given pool e ≡ ev.Print j → e ≡ ev.Print j
+print_given pool j (ev.Deliver k) is = deliver_no_print k j (slice_get pool k) is
+print_given pool j (ev.ScanMsg scan k) is = scan_no_print scan k j (slice_get pool k) is
+print_given pool j (ev.Day t) is = cc
+print_given pool j ev.Rates is = cc
+print_given pool j (ev.Make d key) is = cc
+print_given pool j (ev.On n) is = cc
+print_given pool j (ev.Off n) is = cc
+print_given pool j (ev.Cut n calls keep byte) is = cc
+print_given pool j (ev.Debit d piece postage class) is = cc
+print_given pool j (ev.Ask d kind who amount) is = cc
+print_given pool j (ev.Resend d) is = cc
+print_given pool j (ev.Ack d) is = cc
+print_given pool j (ev.Status d) is = cc
+print_given pool j (ev.Register d origin key) is = cc
+print_given pool j (ev.OpenCustomer w) is = cc
+print_given pool j (ev.Deposit w receipt amount) is = cc
+print_given pool j (ev.Flag w suspended) is = cc
+print_given pool j (ev.Balance w) is = cc
+print_given pool j (ev.Give n bytes) is = cc
+print_given pool j (ev.Order d piece class grams zone) is = cc
+print_given pool j (ev.Send i) is = cc
+print_given pool j (ev.Print i) is = is
+print_given pool j (ev.Close i) is = cc
+print_given pool j (ev.Trust d key) is = cc
+print_given pool j (ev.ScanHex scan bytes) is = cc
+print_given pool j (ev.Reconcile d) is = cc
+print_given pool j ev.End is = cc
+
+-- a step that tells of printing is one of `print`
+pub prints_by : (n : Nodes) (d : Done) (turn : Turn) → IsTurn n d turn → (j : ℕ) → d.reply ≡ r.Printed j → d.event ≡ ev.Print j
+prints_by n d turn tells j is =
+    let did = tells.2.0 in
+    let reply : did.turn.reply ≡ r.Printed j = sym did.told ∙ is in
+    let may = did.steps.always.reply in
+    let pool = tells.0.bench.messages in
+    print_given pool j d.event (subst (λ (x : Reply). MayGet (as_given pool d.event) x) reply may)
+
+-- == what is kept is kept ==
+
+-- each job stays where it is
+abbrev Stays : Rows → Rows → Type 0
+Stays rows after = (e place i : ℕ) → Keeps rows (first_cell e + place) i → Keeps after (first_cell e + place) i
+
+stays_same : (rows after : Rows) → after ≡ rows → Stays rows after
+stays_same rows after is e place i keeps = subst (λ (x : Rows). Keeps x (first_cell e + place) i) (sym is) keeps
+
+stays_both : (rows mid after : Rows) → Stays rows mid → Stays mid after → Stays rows after
+stays_both rows mid after one two e place i keeps = two e place i (one e place i keeps)
+
+pub still_assigned : (rows after : Rows) → Stays rows after → (j : ℕ) → IsAssigned rows j → IsAssigned after j
+still_assigned rows after stays j is = record {
+  department = is.department;
+  is = is.is;
+  has = record { place = is.has.place; inside = is.has.inside; kept = stays is.department is.has.place j is.has.kept };
+}
+
+by_commit : (k : ℕ) (x : DepartmentRow) (text : List ℕ) (rows : Rows) (a : Answer) → Stays rows (put rows k x) → IsCommitted k x text rows a → Stays rows a.after
+by_commit k x text rows a stays (inl worn) = stays_same rows a.after worn.2
+by_commit k x text rows a stays (inr done) = stays_both rows (put rows k x) a.after stays (stays_same (put rows k x) a.after done.2)
+
+by_quota : (d q : ℕ) (rows : Rows) → IsDepartment d → Stays rows (put rows (d - 1) (row.Quota q))
+by_quota d q rows is e place i keeps =
+    let differs : first_cell e + place ≢ d - 1 = λ same. omega (arith, same, is.1) in
+    ap (λ (o : Option DepartmentRow). job_in o) (row_else rows (d - 1) (row.Quota q) (first_cell e + place) differs) ∙ keeps
+
+by_job : (k : ℕ) (x : DepartmentRow) (rows : Rows) → row_in rows k ≡ None → Stays rows (put rows k x)
+by_job k x rows blank e place i keeps = elim (cases_eq (first_cell e + place) k) [
+  | inl is ↦
+      let wrong : None ≡ Some i = sym (ap (λ (o : Option DepartmentRow). job_in o) (ap (λ (m : ℕ). row_in rows m) is ∙ blank)) ∙ keeps in
+      cc
+  | inr differs ↦ ap (λ (o : Option DepartmentRow). job_in o) (row_else rows k x (first_cell e + place) differs) ∙ keeps
+]
+
+quota_stays : (d q : ℕ) (rows : Rows) (a : Answer) → IsDepartment d → (b : Bool) (text : List ℕ)
+    → Either b (IsTold text rows a) ((a.asked ≡ []) × IsCommitted (d - 1) (row.Quota q) (quota_text d q) rows a) → Stays rows a.after
+quota_stays d q rows a is true text told = stays_same rows a.after told.rests
+quota_stays d q rows a is false text did = by_commit (d - 1) (row.Quota q) (quota_text d q) rows a (by_quota d q rows is) did.1
+
+limited_stays : (d j p left : ℕ) (rows : Rows) (a : Answer) (b : Bool) (P : Type 0) → Either b (P × (a.after ≡ rows)) (IsTakenIn d j p left rows a) → Stays rows a.after
+limited_stays d j p left rows a true P did = stays_same rows a.after did.1
+limited_stays d j p left rows a false P did =
+    by_commit (first_cell d + did.place) (row.Job j p) (assigned_text j d (left - p)) rows a (by_job (first_cell d + did.place) (row.Job j p) rows (did.jobs.blank did.room)) did.is
+
+sent_stays : (d j q : ℕ) (rows : Rows) (a : Answer) (sent : IsSent d j q rows a) → Stays rows a.after
+sent_stays d j q rows a sent = elim sent.did [
+  | inl did ↦ limited_stays d j did.0 (q - spent rows d) rows a (nat_lt (q - spent rows d) did.0) (a.texts ≡ numbered (codes "refused dept quota") (q - spent rows d) ∷ []) did.2
+  | inr did ↦ stays_same rows a.after did.2
+]
+
+-- == what was asked for prints nothing ==
+
+abbrev NonePrint : List Asked → Type 0
+NonePrint [] = Unit {0}
+NonePrint (x ∷ asked) = ((j : ℕ) → x.event ≡ ev.Print j → ⊥) × NonePrint asked
+
+no_print : (asked : List Asked) → asked ≡ [] → NonePrint asked
+no_print asked is = subst (λ (l : List Asked). NonePrint l) (sym is) tt
+
+send_prints_none : (i j : ℕ) → ev.Send i ≡ ev.Print j → ⊥
+send_prints_none i j is = cc
+
+sent_prints_none : (d j q : ℕ) (rows : Rows) (a : Answer) → IsSent d j q rows a → NonePrint a.asked
+sent_prints_none d j q rows a sent = subst (λ (l : List Asked). NonePrint l) (sym sent.only) (λ i is. send_prints_none j i is, tt)
+
+-- both of an answer
+abbrev IsCalm : Rows → Answer → Type 0
+IsCalm rows a = Stays rows a.after × NonePrint a.asked
+
+told_calm : (text : List ℕ) (rows : Rows) (a : Answer) → IsTold text rows a → IsCalm rows a
+told_calm text rows a told = (stays_same rows a.after told.rests, no_print a.asked told.none)
+
+quota_asks_none : (d q : ℕ) (rows : Rows) (a : Answer) (b : Bool) (text : List ℕ)
+    → Either b (IsTold text rows a) ((a.asked ≡ []) × IsCommitted (d - 1) (row.Quota q) (quota_text d q) rows a) → NonePrint a.asked
+quota_asks_none d q rows a true text told = no_print a.asked told.none
+quota_asks_none d q rows a false text did = no_print a.asked did.0
+
+assign_calm : (d j q : ℕ) (rows : Rows) (a : Answer) → IsAssignTold d j q rows a → IsCalm rows a
+assign_calm d j q rows a (inl again) = told_calm (again_text j d) rows a again.1
+assign_calm d j q rows a (inr (not_here, inl taken)) = told_calm (numbered (codes "refused dept assigned") j) rows a taken.1
+assign_calm d j q rows a (inr (not_here, inr (not_there, inl full))) = told_calm (codes "refused dept full") rows a full.1
+assign_calm d j q rows a (inr (not_here, inr (not_there, inr room))) = (sent_stays d j q rows a room.1, sent_prints_none d j q rows a room.1)
+
+by_limit : (o : Option ℕ) (d : ℕ) (rows : Rows) (known : ℕ → Answer → Type 0) (a : Answer) → ((q : ℕ) → known q a → IsCalm rows a) → ByQuota o d rows known a → IsCalm rows a
+by_limit None d rows known a calm told = told_calm (numbered (codes "refused dept unknown") d) rows a told
+by_limit (Some q) d rows known a calm did = calm q did
+
+answer_calm : (own : DepartmentLine) (rows : Rows) (a : Answer) → IsLine own → IsAnswered own rows a → IsCalm rows a
+answer_calm (Quota d q) rows a line did =
+    let text = numbered (codes "refused dept below spent") (spent rows d) in
+    let b = nat_lt q (spent rows d) in
+    (quota_stays d q rows a line.0 b text did, quota_asks_none d q rows a b text did)
+answer_calm (Assign d j) rows a line did = by_limit (quota rows d) d rows (λ q x. IsAssignTold d j q rows x) a (λ q told. assign_calm d j q rows a told) did
+answer_calm (Spent d) rows a line did =
+    by_limit (quota rows d) d rows (λ q x. IsTold (spent_text d (spent rows d) q) rows x) a (λ q told. told_calm (spent_text d (spent rows d) q) rows a told) did
+answer_calm (Print j) rows a line did = told_calm (numbered (codes "refused dept unassigned") j) rows a did.1
+
+cut_stays : (own : DepartmentLine) (rows after : Rows) → IsCutShort own rows after → Stays rows after
+cut_stays (Quota d q) rows after is = stays_same rows after is
+cut_stays (Assign d j) rows after is = stays_same rows after is
+cut_stays (Spent d) rows after is = absurd is
+cut_stays (Print j) rows after is = absurd is
+
+-- == a script ==
+
+module _ (Tells : Done → Turn → Type 0) (prints : (d : Done) (turn : Turn) → Tells d turn → (j : ℕ) → d.reply ≡ r.Printed j → d.event ≡ ev.Print j) where
+  all_stay : (rows after : Rows) (deeds : List (SideDeed DepartmentLine)) → AreAnswered Tells rows deeds after → Stays rows after
+  all_stay rows after [] did = stays_same rows after did
+  all_stay rows after (Plain (Skipped line) ∷ rest) did = all_stay rows after rest did
+  all_stay rows after (Plain (Did line d) ∷ rest) did = all_stay rows after rest did.1
+  all_stay rows after (Own line own steps texts ∷ rest) did =
+      stays_both rows did.0 after (answer_calm own rows (record { asked = did.1.asked; texts = texts; after = did.0 }) did.1.line did.1.answered).0 (all_stay did.0 after rest did.2)
+  all_stay rows after (Broken line own steps ∷ rest) did = stays_both rows did.0 after (cut_stays own rows did.0 did.1) (all_stay did.0 after rest did.2)
+
+  done_assigned : (after : Rows) (steps : List Done) (asked : List Asked) → AreDone Tells steps asked → NonePrint asked → AllAssigned after steps
+  done_assigned after [] [] done none = tt
+  done_assigned after [] (x ∷ asked) done none = absurd done
+  done_assigned after (d ∷ steps) [] done none = absurd done
+  done_assigned after (d ∷ steps) (x ∷ asked) done none =
+      (λ j is. absurd (none.0 j (sym done.0 ∙ prints d x.turn done.1 j is)), done_assigned after steps asked done.2 none.1)
+
+  pub all_printed : (rows after : Rows) (deeds : List (SideDeed DepartmentLine)) → AreAnswered Tells rows deeds after → ArePrinted after deeds
+  all_printed rows after [] did = tt
+  all_printed rows after (Plain (Skipped line) ∷ rest) did = all_printed rows after rest did
+  all_printed rows after (Plain (Did line d) ∷ rest) did = (
+    λ of j is.
+        let event : d.event ≡ ev.Print j = prints d did.0.turn did.0.tells j is in
+        still_assigned rows after (all_stay rows after rest did.1) j (did.0.passes (Print j) (subst (λ (e : Event). IsLineOf e line) event of)),
+    all_printed rows after rest did.1,
+  )
+  all_printed rows after (Own line own steps texts ∷ rest) did = (
+    done_assigned after steps did.1.asked did.1.done (answer_calm own rows (record { asked = did.1.asked; texts = texts; after = did.0 }) did.1.line did.1.answered).1,
+    all_printed did.0 after rest did.2,
+  )
+  all_printed rows after (Broken line own steps ∷ rest) did = all_printed did.0 after rest did.2

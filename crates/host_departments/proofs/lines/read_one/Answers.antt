@@ -1,0 +1,9 @@
+use Rattle.std.proofs.Common.{ℕ, sym, subst, ◌∙◌, true≢false}
+use Rattle.host_departments.specs.Rows.{IsDepartment}
+use Rattle.host_departments.proofs.Reading.{one_number, few}
+use Rattle.host_departments.proofs.lines.read_one.Goals as goal
+
+pub returns-clause-none : goal.returns-clause-none
+returns-clause-none c d department is =
+    let found = c.in-Ok.ensures.found in
+    true≢false (sym (c.is_department.ensures.1 (subst (λ (m : ℕ). IsDepartment m) (sym (one_number _ c.in-Ok.read d _ _ found.0 (few d department) found.1 is)) department)) ∙ c.if-is_department.false)

@@ -1,0 +1,129 @@
+-- What a line about departments is answered, by the quotas and jobs that are kept and by what was heard of its message; and those that are kept then.
+use Rattle.std.specs.Prelude.{◌≡◌, ◌<◌, ◌⊎◌, ℕ, ◌+◌, ◌-◌, List, [], ◌∷◌, true, false, Option, Some, None, codes, nat_lt}
+use Rattle.bench_base.specs.declared.events.Event.{Event}
+use Rattle.bench_base.specs.declared.events.Event.TheVariants as ev
+use Rattle.node_acts.specs.RowList.{is_worn, put}
+use Rattle.node_turns.specs.Turns.{sent_in}
+use Rattle.node_turns.specs.declared.turn.Turn.{Turn}
+use Rattle.script_text.specs.Texts.{text_of}
+use Rattle.desk_runs.specs.Deeds.{Done, Skipped, Did}
+use Rattle.desk_runs.specs.SideDeeds.{SideDeed, Plain, Own, Broken}
+use Rattle.host_departments.specs.Courses.{Either}
+use Rattle.host_departments.specs.DepartmentLines.{IsLine}
+use Rattle.host_departments.specs.Heard.{IsTaken}
+use Rattle.host_departments.specs.Passes.{Passes}
+use Rattle.host_departments.specs.Rows.{Rows, quota, spent, first_cell, Has, AnotherHas, IsAssigned, HasJobs}
+use Rattle.host_departments.specs.Texts.{numbered, quota_text, assigned_text, again_text, spent_text}
+use Rattle.host_departments.specs.declared.row.DepartmentLine.{DepartmentLine}
+use Rattle.host_departments.specs.declared.row.DepartmentLine.TheVariants.{Quota, Assign, Spent, Print}
+use Rattle.host_departments.specs.declared.row.DepartmentRow.{DepartmentRow}
+use Rattle.host_departments.specs.declared.row.DepartmentRow.TheVariants as row
+
+-- an event that was asked for, and what it came to
+pub record Asked : Type 0 where
+  pub event : Event
+  pub turn : Turn
+
+-- what an answer is of: the steps that were asked for, the texts, and what is kept then
+pub record Answer : Type 0 where
+  pub asked : List Asked
+  pub texts : List (List ℕ)
+  pub after : Rows
+
+-- it was answered so, and nothing was done
+pub record IsTold (text : List ℕ) (rows : Rows) (x : Answer) : Type 0 where
+  pub none : x.asked ≡ []
+  pub texts : x.texts ≡ text ∷ []
+  pub rests : x.after ≡ rows
+
+-- the row is committed to its cell and this is answered, unless that is worn
+abbrev pub IsCommitted : ℕ → DepartmentRow → List ℕ → Rows → Answer → Type 0
+IsCommitted k x text rows a =
+    ((is_worn rows k ≡ true) × (a.texts ≡ codes "worn desk" ∷ []) × (a.after ≡ rows))
+    ⊎ ((is_worn rows k ≡ false) × (a.texts ≡ text ∷ []) × (a.after ≡ put rows k x))
+
+-- == a quota ==
+
+abbrev pub IsQuotaTold : ℕ → ℕ → Rows → Answer → Type 0
+IsQuotaTold d q rows a =
+    Either (nat_lt q (spent rows d)) (IsTold (numbered (codes "refused dept below spent") (spent rows d)) rows a)
+    ((a.asked ≡ []) × IsCommitted (d - 1) (row.Quota q) (quota_text d q) rows a)
+
+-- == a job ==
+
+-- the job lies behind those that the department has
+pub record IsTakenIn (d j p left : ℕ) (rows : Rows) (a : Answer) : Type 0 where
+  pub place : ℕ
+  pub jobs : HasJobs rows d place
+  pub room : place < 64
+  pub is : IsCommitted (first_cell d + place) (row.Job j p) (assigned_text j d (left - p)) rows a
+
+-- by what is left of the quota: its postage is above it, or the job is taken
+abbrev pub IsLimited : ℕ → ℕ → ℕ → ℕ → Rows → Answer → Type 0
+IsLimited d j p left rows a =
+    Either (nat_lt left p) ((a.texts ≡ numbered (codes "refused dept quota") left ∷ []) × (a.after ≡ rows)) (IsTakenIn d j p left rows a)
+
+-- the message of the job was asked for; each reply but that it was sent is the answer
+pub record IsSent (d j q : ℕ) (rows : Rows) (a : Answer) : Type 0 where
+  pub turn : Turn
+  pub only : a.asked ≡ record { event = ev.Send j; turn = turn } ∷ []
+  pub did : ((p : ℕ) × IsTaken j turn.reply (sent_in turn.entries) p × IsLimited d j p (q - spent rows d) rows a)
+      ⊎ (((p : ℕ) → IsTaken j turn.reply (sent_in turn.entries) p → ⊥) × (a.texts ≡ text_of turn.reply ∷ []) × (a.after ≡ rows))
+
+-- where the department has a quota: it has the job; another has it; it has 64 jobs; or the message is asked for
+abbrev pub IsAssignTold : ℕ → ℕ → ℕ → Rows → Answer → Type 0
+IsAssignTold d j q rows a =
+    (Has rows d j × IsTold (again_text j d) rows a)
+    ⊎ ((Has rows d j → ⊥) × ((AnotherHas rows d j × IsTold (numbered (codes "refused dept assigned") j) rows a)
+    ⊎ ((AnotherHas rows d j → ⊥) × ((HasJobs rows d 64 × IsTold (codes "refused dept full") rows a)
+    ⊎ ((HasJobs rows d 64 → ⊥) × IsSent d j q rows a)))))
+
+-- by the quota, without which the department is unknown
+abbrev pub ByQuota : Option ℕ → ℕ → Rows → (ℕ → Answer → Type 0) → Answer → Type 0
+ByQuota None d rows known a = IsTold (numbered (codes "refused dept unknown") d) rows a
+ByQuota (Some q) d rows known a = known q a
+
+-- THE ANSWER OF AN OWN LINE
+abbrev pub IsAnswered : DepartmentLine → Rows → Answer → Type 0
+IsAnswered (Quota d q) rows a = IsQuotaTold d q rows a
+IsAnswered (Assign d j) rows a = ByQuota (quota rows d) d rows (λ q x. IsAssignTold d j q rows x) a
+IsAnswered (Spent d) rows a = ByQuota (quota rows d) d rows (λ q x. IsTold (spent_text d (spent rows d) q) rows x) a
+IsAnswered (Print j) rows a = (IsAssigned rows j → ⊥) × IsTold (numbered (codes "refused dept unassigned") j) rows a
+
+-- a line at which a commit failed: nothing was committed before it
+abbrev pub IsCutShort : DepartmentLine → Rows → Rows → Type 0
+IsCutShort (Quota d q) rows after = after ≡ rows
+IsCutShort (Assign d j) rows after = after ≡ rows
+IsCutShort (Spent d) rows after = ⊥
+IsCutShort (Print j) rows after = ⊥
+
+-- == a script ==
+
+module _ (Tells : Done → Turn → Type 0) where
+  -- what was asked for is what was done
+  abbrev pub AreDone : List Done → List Asked → Type 0
+  AreDone [] [] = Unit {0}
+  AreDone [] (x ∷ asked) = ⊥
+  AreDone (d ∷ steps) [] = ⊥
+  AreDone (d ∷ steps) (x ∷ asked) = (d.event ≡ x.event) × Tells d x.turn × AreDone steps asked
+
+  -- a line that is left to the bench, and the turn of its step
+  pub record IsLeft (rows : Rows) (line : List ℕ) (d : Done) : Type 0 where
+    pub passes : Passes rows line
+    pub turn : Turn
+    pub tells : Tells d turn
+
+  -- an own line was answered by these texts
+  pub record IsOwnTold (own : DepartmentLine) (rows : Rows) (steps : List Done) (texts : List (List ℕ)) (after : Rows) : Type 0 where
+    pub line : IsLine own
+    pub asked : List Asked
+    pub done : AreDone steps asked
+    pub answered : IsAnswered own rows (record { asked = asked; texts = texts; after = after })
+
+  -- each line in turn
+  abbrev pub AreAnswered : Rows → List (SideDeed DepartmentLine) → Rows → Type 0
+  AreAnswered rows [] after = after ≡ rows
+  AreAnswered rows (Plain (Skipped line) ∷ rest) after = AreAnswered rows rest after
+  AreAnswered rows (Plain (Did line d) ∷ rest) after = IsLeft rows line d × AreAnswered rows rest after
+  AreAnswered rows (Own line own steps texts ∷ rest) after = (mid : Rows) × IsOwnTold own rows steps texts mid × AreAnswered mid rest after
+  AreAnswered rows (Broken line own steps ∷ rest) after = (mid : Rows) × IsCutShort own rows mid × AreAnswered mid rest after

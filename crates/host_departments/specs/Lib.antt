@@ -1,0 +1,17 @@
+-- Promised: public contracts name these.
+pub mod Answers
+pub mod Courses
+pub mod DepartmentLines
+pub mod DepartmentsDesk
+pub mod Heard
+pub mod Isolation
+pub mod Kept
+pub mod Passes
+pub mod Payload
+pub mod Rows
+pub mod Ran
+pub mod Texts
+pub mod View
+pub mod Waits
+-- Bookkeeping: private calls and proofs alone name these.
+pub mod LineLaws

@@ -1,0 +1,42 @@
+-- A line about departments, or a `print`, is neither skipped nor the line of `end`.
+use Rattle.std.proofs.Common.{◌≡◌, ◌≢◌, ℕ, List, ◌∷◌, get_or, arith, sym, subst, ◌∙◌, ap}
+use Rattle.std.specs.Prelude.{codes}
+use Rattle.bench_base.specs.declared.events.Event.{Event}
+use Rattle.bench_base.specs.declared.events.Event.TheVariants as ev
+use Rattle.script_words.specs.Words.{joined, words_in}
+use Rattle.script_text.specs.Grammar.{IsSkipped}
+use Rattle.script_text.proofs.EventsBack.{one_event_of, no_event_skipped}
+use Rattle.script_words.proofs.Splits.{joined-words_in}
+use Rattle.desk_runs.specs.Events.{IsLineOf}
+use Rattle.desk_runs.specs.Wants.{IsAlone}
+use Rattle.host_departments.specs.DepartmentLines.{IsDepartmentLine}
+use Rattle.host_departments.specs.declared.row.DepartmentLine.{DepartmentLine}
+use Rattle.host_departments.specs.declared.row.DepartmentLine.TheVariants.{Quota, Assign, Spent, Print}
+
+-- a line that is that of another event than `end`
+event_alone : (e : Event) (line : List ℕ) → IsLineOf e line → e ≢ ev.End → IsAlone line
+event_alone e line is other = record {
+  not_skipped = λ skipped. no_event_skipped e line is.spells skipped;
+  not_end = λ end. other (one_event_of e ev.End line is.whole tt is.spells end);
+}
+
+-- a line whose first word begins with c
+begins_with : (c : ℕ) (word : List ℕ) (rest : List (List ℕ)) (line : List ℕ) → words_in line ≡ (c ∷ word) ∷ rest → (tail : List ℕ) × (line ≡ c ∷ tail)
+begins_with c word rest line is = (_, sym (joined-words_in line) ∙ ap (λ (ws : List (List ℕ)). joined ws) is)
+
+-- a line that begins with c
+first_alone : (tail line : List ℕ) → line ≡ 100 ∷ tail → IsAlone line
+first_alone tail line is = record {
+  not_skipped = λ skipped. let at : 100 ≡ 35 = subst (λ (l : List ℕ). IsSkipped l) is skipped in omega (arith, at);
+  not_end = λ end. let two : 100 ∷ tail ≡ codes "end" = sym is ∙ end.2 ∙ ap (λ (ws : List (List ℕ)). joined ws) end.1 in let first : 100 ≡ 101 = ap (λ (l : List ℕ). get_or l 0 0) two in omega (arith, first);
+}
+
+-- one whose first word is `dept`
+dept_alone : (rest : List (List ℕ)) (line : List ℕ) → words_in line ≡ codes "dept" ∷ rest → IsAlone line
+dept_alone rest line is = let at = begins_with 100 (codes "ept") rest line is in first_alone at.0 line at.1
+
+pub department_alone : (own : DepartmentLine) (line : List ℕ) → IsDepartmentLine own line → IsAlone line
+department_alone (Quota d q) line is = dept_alone _ line is.2
+department_alone (Assign d j) line is = dept_alone _ line is.2
+department_alone (Spent d) line is = dept_alone _ line is.1
+department_alone (Print j) line is = event_alone (ev.Print j) line is (λ same. cc)

@@ -1,0 +1,36 @@
+-- What contracts see of the departments.
+use Rattle.std.specs.Prelude.{◌≡◌, Bool}
+use Rattle.nv_model.specs.declared.nv.Nv.{Ghosts}
+use Rattle.nv_store.specs.RoomView.{cells_of, kept_in}
+use Rattle.row_store.specs.Commits.{RowView}
+use Rattle.host_departments.specs.Kept.{rows_in}
+use Rattle.host_departments.specs.Rows.{Rows}
+use Rattle.host_departments.specs.declared.desk.Departments.{Departments}
+use Rattle.host_departments.specs.declared.said.Said.{Said}
+
+module _ {N : Type 0} {g : Ghosts N} where
+  -- their storage
+  abbrev pub storage_of : Departments N g → N
+  storage_of desk = desk.nv
+
+  -- whether a commit of them failed
+  abbrev pub has_failed : Departments N g → Bool
+  has_failed desk = desk.failed
+
+  -- what was answered last, or is waited for
+  abbrev pub said_of : Departments N g → Said
+  said_of desk = desk.said
+
+  -- the quotas and jobs that are kept
+  abbrev pub rows_of : Departments N g → Rows
+  rows_of desk = rows_in desk.room
+
+  -- their cells and storage
+  abbrev pub store_of : Departments N g → RowView
+  store_of desk = record { cells = cells_of desk.room; held = kept_in desk.room; times = g.times desk.nv; meters = g.meters desk.nv }
+
+  -- nothing but the answer is another
+  pub record Rests (old new : Departments N g) : Type 0 where
+    pub room : new.room ≡ old.room
+    pub storage : new.nv ≡ old.nv
+    pub failed : new.failed ≡ old.failed

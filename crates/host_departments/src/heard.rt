@@ -1,0 +1,139 @@
+//! What is heard of a step: its reply, and the message that it sent.
+ghost use Rattle.std.specs.Prelude.{◌≡◌, ◌↔◌, ℕ, IsTrue, IfSome, IfNone};
+ghost use Rattle.node_turns.specs.Turns.{sent_in};
+ghost use Rattle.psd_wire.specs.Grammar.{read};
+ghost use Rattle.host_departments.specs.Heard.{IsSentDebit, IsTaken, debit_postage};
+
+use crate::row::MOST_POSTAGE;
+use bench_base::bytes::Note;
+use bench_base::events::Reply;
+use bench_base::ledger::{Commit, Entry};
+use desk_runs::Hear;
+use node_acts::Said;
+use node_turns::Tell;
+use psd_wire::{Message, read_message};
+
+/// The reply of a step, and the message that it sent, if it sent one.
+#[derive(Drop)]
+pub struct Heard {
+    pub reply: Reply,
+    pub sent: Option<Note>,
+}
+
+impl Tell for Heard {
+    ghost IsOf = { λ told turn. (told.reply ≡ turn.reply) × (told.sent ≡ sent_in turn.entries) };
+
+    fn silent(reply: Reply) -> Heard {
+        Heard { reply, sent: None }
+    }
+
+    fn one(reply: Reply, entry: Entry) -> Heard {
+        let sent = match &entry {
+            Entry::Sent(note) => Some(*note),
+            _ => None,
+        };
+        Heard { reply, sent }
+    }
+
+    fn done(_commit: Option<Commit>, said: &Said) -> Heard {
+        Heard {
+            reply: said.reply,
+            sent: said.sent,
+        }
+    }
+}
+
+impl Hear for Heard {
+    ghost reply_of = { λ told. told.reply };
+
+    ghost tells = { λ told turn is. is.0 };
+
+    fn reply(&self) -> &Reply {
+        &self.reply
+    }
+}
+
+// Whether a reply says that the message for a job was sent.
+fn is_sent_debit(reply: &Reply) -> bool
+    ensures { IsTrue result ↔ IsSentDebit reply.now }
+{
+    match reply {
+        Reply::SentDebit(_, _) => true,
+        Reply::DevRefused(_, _)
+        | Reply::CentreRefused(_)
+        | Reply::HostRefused(_)
+        | Reply::ScanRefused(_)
+        | Reply::Power(_)
+        | Reply::Fault(_)
+        | Reply::Released(_, _, _, _)
+        | Reply::Day(_)
+        | Reply::Rates(_, _)
+        | Reply::RatesFault
+        | Reply::RatesLength
+        | Reply::RatesToml
+        | Reply::RatesForm
+        | Reply::Made(_)
+        | Reply::Up(_, _)
+        | Reply::Down(_)
+        | Reply::CutSet(_)
+        | Reply::Marked(_, _, _, _)
+        | Reply::SentRequest(_, _, _)
+        | Reply::SentDone(_, _, _)
+        | Reply::Status(_, _)
+        | Reply::Registered(_)
+        | Reply::Opened(_)
+        | Reply::Deposited(_, _, _, _)
+        | Reply::Flagged(_, _)
+        | Reply::Balance(_, _)
+        | Reply::Ruled(_, _, _, _, _)
+        | Reply::Settled(_, _, _)
+        | Reply::Applied(_, _, _)
+        | Reply::Held(_)
+        | Reply::Ordered(_, _)
+        | Reply::Accepted(_, _, _, _)
+        | Reply::Printed(_)
+        | Reply::PrinterFault(_)
+        | Reply::Closed(_)
+        | Reply::Trusted(_)
+        | Reply::Reconciled(_, _, _, _)
+        | Reply::End
+        | Reply::NoDay
+        | Reply::NoMessage(_)
+        | Reply::OffNode(_)
+        | Reply::OnAlready(_)
+        | Reply::Worn(_)
+        | Reply::Damaged(_) => false,
+    }
+}
+
+// The postage of a message that asks a device for a mark.
+fn postage_in(note: &Note) -> Option<u32>
+    ensures { result ≡ debit_postage (read note.now) }
+{
+    match read_message(note.as_slice()) {
+        Ok(Message::Debit(debit)) => Some(debit.postage),
+        Ok(Message::Request(_) | Message::Reply(_) | Message::Done(_) | Message::Release(_)) =>
+            None,
+        Err(_) => None,
+    }
+}
+
+/// The postage of the message that was sent for a job; None where there is none.
+pub(crate) fn postage_taken(told: &Heard, job: u32) -> Option<u32>
+    ensures found { IfSome result (λ p. IsTaken job told.now.reply told.now.sent p) }
+    ensures none { IfNone result ((p : ℕ) → IsTaken job told.now.reply told.now.sent p → ⊥) }
+{
+    if !is_sent_debit(&told.reply) {
+        return None;
+    }
+    let Some(note) = &told.sent else {
+        return None;
+    };
+    let Some(postage) = postage_in(note) else {
+        return None;
+    };
+    if 1 <= job && 1 <= postage && postage <= MOST_POSTAGE {
+        return Some(postage);
+    }
+    None
+}

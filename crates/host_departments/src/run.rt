@@ -1,0 +1,59 @@
+//! A run over a script with departments beside the bench.
+ghost use Rattle.std.specs.Prelude.{map, string_bytes, codes};
+ghost use Rattle.bench.specs.Benches.{IsReady, bench_of};
+ghost use Rattle.desk_runs.specs.Desks.{world};
+ghost use Rattle.script_replay.specs.Chains.{scene_of};
+ghost use Rattle.script_replay.specs.Sides.{DidSide, RanSide, EndsSide, CompletesSide};
+ghost use Rattle.script_replay.specs.Streams.{streams_of};
+ghost use Rattle.host_departments.specs.Ran.{DidDepartments};
+ghost use Rattle.host_departments.specs.View.{rows_of};
+
+use crate::desk::Departments;
+use bench::{Bench, HasNodes};
+use bench_base::stream::{Sink, Source};
+use nv_model::Nv;
+use script_replay::side::run_side;
+use script_replay::status::SideStatus;
+use std::alloc::Global;
+
+/// Does a script whose lines are events of the bench or about departments, where the words are `departments` alone. Only jobs that a department has
+/// taken are printed, and each department takes jobs within its quota.
+pub fn run_departments<S: Source, R: Source, K: Sink, P: Sink, N: Nv + Drop>(
+    alloc: Global,
+    words: &[String],
+    script: &mut S,
+    rates: &mut R,
+    report: &mut K,
+    printer: &mut P,
+    bench: &mut Bench<N>,
+    desk: &mut Departments<N>,
+) -> SideStatus
+    requires ready { IsReady (bench_of bench.old) }
+    ensures ready { IsReady (bench_of bench.new) }
+    ensures ran { RanSide ⟦<Departments<N> as desk_runs::Desk>⟧ (codes "departments") result (map string_bytes words.now)
+        (DidDepartments ⟦<Bench<N> as HasNodes>⟧.nodes (DidSide ⟦<Bench<N> as HasNodes>⟧.nodes ⟦<Departments<N> as desk_runs::Desk>⟧
+        (world (scene_of R.Source P.Sink bench.old rates.old printer.old) desk.old)
+        (world (scene_of R.Source P.Sink bench.new rates.new printer.new) desk.new) result)
+        (rows_of desk.old) (rows_of desk.new))
+        (streams_of S.Source K.Sink R.Source P.Sink script.old report.old rates.old printer.old)
+        (streams_of S.Source K.Sink R.Source P.Sink script.new report.new rates.new printer.new) }
+    ensures ends { EndsSide ⟦<Departments<N> as desk_runs::Desk>⟧ (codes "departments") result (map string_bytes words.now)
+        (streams_of S.Source K.Sink R.Source P.Sink script.old report.old rates.old printer.old)
+        (streams_of S.Source K.Sink R.Source P.Sink script.new report.new rates.new printer.new) }
+    ensures completes { CompletesSide ⟦<Departments<N> as desk_runs::Desk>⟧ (codes "departments") result
+        (map string_bytes words.now)
+        (streams_of S.Source K.Sink R.Source P.Sink script.old report.old rates.old printer.old)
+        (streams_of S.Source K.Sink R.Source P.Sink script.new report.new rates.new printer.new) }
+{
+    run_side(
+        alloc,
+        "departments",
+        words,
+        script,
+        rates,
+        report,
+        printer,
+        bench,
+        desk,
+    )
+}
