@@ -1,0 +1,12 @@
+-- Promised: public contracts name these.
+pub mod OwnLines
+pub mod Changes
+pub mod Watching
+pub mod Desk
+pub mod Texts
+pub mod Courses
+pub mod Ran
+pub mod Balances
+-- Bookkeeping: private calls and proofs alone name these.
+pub mod OwnLaws
+pub mod Room
