@@ -1,0 +1,164 @@
+-- A manifest is good exactly where no cause comes before its scans and all of them were accepted.
+use Rattle.std.proofs.Common.{◌≡◌, inl, inr, ℕ, ◌+◌, List, [], ◌∷◌, length, get_or, Option, Some, None, Bool, true, false, ◌==◌, refl, sym, ap, ◌∙◌, subst, arith, true≢false}
+use Rattle.std.specs.Prelude.{codes, ◌↔◌}
+use Rattle.std.proofs.lemmas.Bool.Decides.{nat_tests}
+use Rattle.bench_base.specs.declared.events.Reply.{Reply}
+use Rattle.desk_runs.specs.Deeds.{Done}
+use Rattle.mail_manifest.specs.Answers.{AreScanned, IsJudged, AreAccepted, IsGood}
+use Rattle.mail_manifest.specs.Causes.{Either, Finds}
+use Rattle.mail_manifest.specs.Listings.{Listing, code_of, postage_in_all, AllRead}
+use Rattle.mail_manifest.specs.Texts.{said_texts, yes_text, no_count_text, unread_text, no_total_text, no_piece_text}
+use Rattle.mail_manifest.specs.declared.said.Said.{Said}
+use Rattle.mail_manifest.specs.declared.said.Said.TheVariants as said
+
+-- == the one or the other ==
+
+pub either_by : {P Q X Y : Type 0} (b : Bool) → (P → X) → (Q → Y) → Either b P Q → Either b X Y
+either_by true f h either = f either
+either_by false f h either = h either
+
+pub either_any : {P Q X : Type 0} (b : Bool) → (b ≡ true → P → X) → (b ≡ false → Q → X) → Either b P Q → X
+either_any true f h either = f refl either
+either_any false f h either = h refl either
+
+same_by : (a b : ℕ) → (a == b) ≡ true → a ≡ b
+same_by a b is = grind (arith, nat_tests)
+
+differ_by : (a b : ℕ) → (a == b) ≡ false → a ≡ b → ⊥
+differ_by a b is same = grind (arith, nat_tests)
+
+-- == no other answer reads as yes ==
+
+one_text : (a b : List ℕ) → a ∷ [] ≡ b ∷ [] → a ≡ b
+one_text a b is = cc
+
+-- the byte behind `manifest `
+abbrev tenth : List ℕ → ℕ
+tenth text = get_or text 9 0
+
+piece_tenth : (number : ℕ) (reply : Reply) → tenth (no_piece_text number reply) ≡ 110
+unfolding no_piece_text
+piece_tenth number reply = refl
+
+count_tenth : (count : ℕ) → tenth (no_count_text count) ≡ 110
+unfolding no_count_text
+count_tenth count = refl
+
+unread_tenth : (number : ℕ) → tenth (unread_text number) ≡ 110
+unfolding unread_text
+unread_tenth number = refl
+
+total_tenth : (sum : ℕ) → tenth (no_total_text sum) ≡ 110
+unfolding no_total_text
+total_tenth sum = refl
+
+yes_tenth : (count total : ℕ) → tenth (yes_text count total) ≡ 121
+unfolding yes_text
+yes_tenth count total = refl
+
+other_text : (count total : ℕ) (text : List ℕ) → tenth text ≡ 110 → text ∷ [] ≡ yes_text count total ∷ [] → ⊥
+other_text count total text at_n is =
+    let at = sym at_n ∙ ap (λ (t : List ℕ). tenth t) (one_text text (yes_text count total) is) ∙ yes_tenth count total in omega (arith, at)
+
+-- == the scans ==
+
+module _ (m : Listing) where
+  abbrev yes : List (List ℕ)
+  yes = yes_text m.opening.count m.opening.total ∷ []
+
+  accepted_yes : (number : ℕ) (steps : List Done) (texts : List (List ℕ)) → AreScanned m number steps texts → AreAccepted m number steps → texts ≡ yes
+  accepted_yes number [] texts scanned accepted = absurd scanned
+  accepted_yes number (d ∷ rest) texts scanned accepted = elim scanned.1 [
+    | inl did ↦ either_any (number == length m.marks) (λ last end. end.1) (λ more on. accepted_yes (number + 1) rest texts on accepted.2) did.1
+    | inr other ↦ absurd (other.0 accepted.1)
+  ]
+
+  yes_accepted : (number : ℕ) (steps : List Done) (texts : List (List ℕ)) → AreScanned m number steps texts → texts ≡ yes → AreAccepted m number steps
+  yes_accepted number [] texts scanned is = absurd scanned
+  yes_accepted number (d ∷ rest) texts scanned is = elim scanned.1 [
+    | inl did ↦ either_any (number == length m.marks)
+        (λ last end. (scanned.0, did.0, subst (λ (l : List Done). AreAccepted m (number + 1) l) (sym end.0) (ap (λ (k : ℕ). k + 1) (same_by number (length m.marks) last))))
+        (λ more on. (scanned.0, did.0, yes_accepted (number + 1) rest texts on is)) did.1
+    | inr other ↦ absurd (other_text m.opening.count m.opening.total (no_piece_text number d.reply) (piece_tenth number d.reply) (sym other.2 ∙ is))
+  ]
+
+  -- == what comes before them ==
+
+  -- the first cause is one of four
+  data IsCause (cause : Said) : Type 0 where
+    Counted : (n : ℕ) → cause ≡ said.NoCount n → IsCause cause
+    Coded : cause ≡ said.NoCode → IsCause cause
+    Read : (n : ℕ) → cause ≡ said.Unread n → IsCause cause
+    Summed : (n : ℕ) → cause ≡ said.NoTotal n → IsCause cause
+
+  one_cause : (a b : Said) → Some a ≡ Some b → a ≡ b
+  one_cause a b is = cc
+
+  no_cause : (a : Said) → None ≡ Some a → ⊥
+  no_cause a is = cc
+
+  cause_is : (code : List ℕ) (cause : Said) → Finds m code (Some cause) → IsCause cause
+  cause_is code cause finds =
+      either_any (length m.marks == m.opening.count)
+      (λ complete coded. elim coded [
+        | inl right ↦ elim right.1 [
+          | inl read ↦ either_any (postage_in_all m == m.opening.total) (λ total none. absurd (no_cause cause (sym none))) (λ other is. Summed (postage_in_all m) (one_cause cause _ is)) read.1
+          | inr unread ↦ Read unread.0 (one_cause cause _ unread.2)
+        ]
+        | inr wrong ↦ Coded (one_cause cause _ wrong.1)
+      ])
+      (λ other is. Counted (length m.marks) (one_cause cause _ is)) finds
+
+  not_yes : (cause : Said) → IsCause cause → said_texts cause ≡ yes → ⊥
+  not_yes cause (Counted n is) same = other_text m.opening.count m.opening.total (no_count_text n) (count_tenth n) (sym (ap (λ (s : Said). said_texts s) is) ∙ same)
+  not_yes cause (Coded is) same = other_text m.opening.count m.opening.total (codes "manifest no code") refl (sym (ap (λ (s : Said). said_texts s) is) ∙ same)
+  not_yes cause (Read n is) same = other_text m.opening.count m.opening.total (unread_text n) (unread_tenth n) (sym (ap (λ (s : Said). said_texts s) is) ∙ same)
+  not_yes cause (Summed n is) same = other_text m.opening.count m.opening.total (no_total_text n) (total_tenth n) (sym (ap (λ (s : Said). said_texts s) is) ∙ same)
+
+  -- where there is none
+  record IsSound (code : List ℕ) : Type 0 where
+    complete : length m.marks ≡ m.opening.count
+    coded : code ≡ code_of m
+    read : AllRead m
+    total : postage_in_all m ≡ m.opening.total
+
+  sound_by : (code : List ℕ) → Finds m code None → IsSound code
+  sound_by code finds =
+      either_any (length m.marks == m.opening.count)
+      (λ complete coded. elim coded [
+        | inl right ↦ elim right.1 [
+          | inl read ↦ either_any (postage_in_all m == m.opening.total)
+              (λ total none. record { complete = same_by _ _ complete; coded = right.0; read = read.0; total = same_by _ _ total }) (λ other is. absurd (no_cause _ is)) read.1
+          | inr unread ↦ absurd (no_cause _ unread.2)
+        ]
+        | inr wrong ↦ absurd (no_cause _ wrong.1)
+      ])
+      (λ other is. absurd (no_cause _ is)) finds
+
+  none_by : (code : List ℕ) (cause : Option Said) → IsSound code → Finds m code cause → cause ≡ None
+  none_by code cause sound finds =
+      either_any (length m.marks == m.opening.count)
+      (λ complete coded. elim coded [
+        | inl right ↦ elim right.1 [
+          | inl read ↦ either_any (postage_in_all m == m.opening.total) (λ total none. none) (λ other is. absurd (differ_by _ _ other sound.total)) read.1
+          | inr unread ↦ absurd (true≢false (sym (sound.read unread.1.at unread.1.inside) ∙ unread.1.unread))
+        ]
+        | inr wrong ↦ absurd (wrong.0 sound.coded)
+      ])
+      (λ other is. absurd (differ_by _ _ other sound.complete)) finds
+
+  -- == the answer ==
+
+  good_by : (code : List ℕ) (cause : Option Said) (steps : List Done) (texts : List (List ℕ)) → Finds m code cause → IsJudged m cause steps texts → texts ≡ yes → IsGood m code steps
+  good_by code (Some cause) steps texts finds judged is = absurd (not_yes cause (cause_is code cause finds) (sym judged.1 ∙ is))
+  good_by code None steps texts finds judged is =
+      let sound = sound_by code finds in
+      record { complete = sound.complete; coded = sound.coded; read = sound.read; total = sound.total; accepted = yes_accepted 1 steps texts judged is }
+
+  yes_by : (code : List ℕ) (cause : Option Said) (steps : List Done) (texts : List (List ℕ)) → Finds m code cause → IsJudged m cause steps texts → IsGood m code steps → texts ≡ yes
+  yes_by code cause steps texts finds judged good =
+      let sound : IsSound code = record { complete = good.complete; coded = good.coded; read = good.read; total = good.total } in
+      accepted_yes 1 steps texts (subst (λ (c : Option Said). IsJudged m c steps texts) (none_by code cause sound finds) judged) good.accepted
+
+  pub yes_is_good : (code : List ℕ) (cause : Option Said) (steps : List Done) (texts : List (List ℕ)) → Finds m code cause → IsJudged m cause steps texts → (texts ≡ yes) ↔ IsGood m code steps
+  yes_is_good code cause steps texts finds judged = (good_by code cause steps texts finds judged, yes_by code cause steps texts finds judged)

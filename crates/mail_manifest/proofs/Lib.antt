@@ -1,0 +1,5 @@
+mod Answering
+mod Judging
+mod Marks
+mod Reading
+mod Running

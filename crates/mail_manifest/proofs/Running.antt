@@ -1,0 +1,63 @@
+-- What a run with a manifest did, by what checker and bench did of its lines.
+use Rattle.std.proofs.Common.{◌≡◌, ℕ, List, [], ◌∷◌, ◌++◌, ◌+◌, length, Option, None, sym, ap, ◌∙◌, subst}
+use Rattle.std.specs.Io.KnownBytes.{IsAtEnd}
+use Rattle.bench.specs.Benches.{Nodes}
+use Rattle.line_runs.specs.declared.status.Status.TheVariants as status
+use Rattle.line_runs.specs.declared.status.SideStatus.{SideStatus}
+use Rattle.line_runs.specs.declared.status.SideStatus.TheVariants.{Run, Stopped}
+use Rattle.line_runs.specs.Runs.{EndsIn, Replayed}
+use Rattle.desk_runs.specs.Deeds.{Skipped, Did}
+use Rattle.desk_runs.specs.Desks.{world, side_lines}
+use Rattle.desk_runs.specs.SideDeeds.{SideDeed, Plain, Own, Broken, IsBroken}
+use Rattle.script_replay.specs.Chains.{SceneOf, scene}
+use Rattle.script_replay.specs.Run.{Leaves}
+use Rattle.script_replay.specs.SideLaws.{told}
+use Rattle.script_replay.specs.Sides.{StepsBy, DidSide, RanSide, EndsSide}
+use Rattle.script_replay.specs.Streams.{Streams}
+use Rattle.mail_manifest.specs.Answers.{AreAnswered}
+use Rattle.mail_manifest.specs.CheckerDesk.{checker_desk}
+use Rattle.mail_manifest.specs.Listings.{Listing}
+use Rattle.mail_manifest.specs.Ran.{DidManifest}
+use Rattle.mail_manifest.specs.View.{listing_of}
+use Rattle.mail_manifest.specs.declared.checker.Checker.{Checker}
+use Rattle.mail_manifest.specs.declared.opening.ManifestLine.{ManifestLine}
+use Rattle.mail_manifest.proofs.Answering.{all_answered, desk_left}
+
+module _ (n : Nodes) (old new : SceneOf n) (before after : Checker) (outcome : SideStatus) (none : listing_of before ≡ None) where
+  pub did_manifest : (deeds : List (SideDeed ManifestLine)) → DidSide n checker_desk (world old before) (world new after) outcome deeds
+      → DidManifest (λ b a deeds. DidSide n checker_desk (world old b) (world new a) outcome deeds) deeds
+  did_manifest deeds did = record {
+    before = before;
+    after = after;
+    none = none;
+    side = did;
+    answers = subst (λ (m : Option Listing). AreAnswered m deeds (listing_of after)) none
+        (subst (λ (m : Option Listing). AreAnswered (listing_of before) deeds m)
+        (sym (ap (λ (k : Checker). listing_of k) (desk_left (λ s t. Leaves (Run status.Memory) s t) outcome did.behind (world new after) did.leaves)))
+        (all_answered (StepsBy n) (told n) (world (scene did.begun old.outside) before) did.behind deeds did.did));
+  }
+
+-- no line about a manifest is broken off
+none_broken : (m : Option Listing) (a : List (SideDeed ManifestLine)) (x : SideDeed ManifestLine) (after : Option Listing) → AreAnswered m (a ++ x ∷ []) after → IsBroken x → ⊥
+none_broken m [] (Plain d) after answered broken = broken
+none_broken m [] (Own line own steps texts) after answered broken = broken
+none_broken m [] (Broken line own steps) after answered broken = answered
+none_broken m (Plain (Skipped line) ∷ a) x after answered broken = none_broken m a x after answered broken
+none_broken m (Plain (Did line d) ∷ a) x after answered broken = none_broken m a x after answered.1 broken
+none_broken m (Own line own steps texts ∷ a) x after answered broken = none_broken answered.0 a x after answered.2 broken
+none_broken m (Broken line own steps ∷ a) x after answered broken = answered
+
+no_words : Run status.Words ≡ Stopped → ⊥
+no_words is = cc
+
+-- so no run is
+module _ (DidSide : Checker → Checker → List (SideDeed ManifestLine) → Type 0) (outcome : SideStatus) (stopped : outcome ≡ Stopped) where
+  never_broken : (a b t u : Option (List ℕ)) → Replayed (side_lines checker_desk) outcome (DidManifest DidSide) a b t u → ⊥
+  never_broken a b t u r =
+      let ends = subst (λ (o : SideStatus). EndsIn (side_lines checker_desk) o (length r.deeds + 1) r.rest (IsAtEnd b) r.text r.done) stopped r.ends in
+      none_broken None r.deeds ends.0.last (listing_of r.did.after)
+      (subst (λ (done : List (SideDeed ManifestLine)). AreAnswered None (r.deeds ++ done) (listing_of r.did.after)) ends.0.only r.did.answers) ends.1
+
+  pub never_stops : (word : List ℕ) (given : List (List ℕ)) (before now : Streams) → RanSide checker_desk word outcome given (DidManifest DidSide) before now
+      → EndsSide checker_desk word outcome given before now → ⊥
+  never_stops word given before now ran ends = no_words (sym (ends.words.1 (λ called. never_broken _ _ _ _ (ran.replays called))) ∙ stopped)

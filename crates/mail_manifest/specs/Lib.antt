@@ -1,0 +1,15 @@
+-- Promised: public contracts name these.
+pub mod Answers
+pub mod Causes
+pub mod CheckerDesk
+pub mod Courses
+pub mod Held
+pub mod Listings
+pub mod ManifestLines
+pub mod Ran
+pub mod Texts
+pub mod View
+pub mod Waits
+pub mod Wanting
+-- Bookkeeping: private calls and proofs alone name these.
+pub mod LineLaws

@@ -1,0 +1,48 @@
+-- The texts of the checker's answers.
+use Rattle.std.specs.Prelude.{ℕ, List, [], ◌∷◌, codes, decimal}
+use Rattle.bench_base.specs.declared.events.Reply.{Reply}
+use Rattle.script_words.specs.Words.{joined, hex_word}
+use Rattle.script_text.specs.Texts.{text_of}
+use Rattle.mail_manifest.specs.declared.said.Said.{Said}
+use Rattle.mail_manifest.specs.declared.said.Said.TheVariants as said
+
+unfoldable pub open_text : ℕ → List ℕ
+open_text count = joined (codes "manifest" ∷ codes "open" ∷ decimal count ∷ [])
+
+unfoldable pub piece_text : ℕ → List ℕ
+piece_text number = joined (codes "piece" ∷ decimal number ∷ [])
+
+unfoldable pub code_text : List ℕ → List ℕ
+code_text code = joined (codes "code" ∷ hex_word code ∷ [])
+
+unfoldable pub yes_text : ℕ → ℕ → List ℕ
+yes_text count total = joined (codes "manifest" ∷ codes "yes" ∷ decimal count ∷ decimal total ∷ [])
+
+unfoldable pub no_count_text : ℕ → List ℕ
+no_count_text count = joined (codes "manifest" ∷ codes "no" ∷ codes "count" ∷ decimal count ∷ [])
+
+unfoldable pub unread_text : ℕ → List ℕ
+unread_text number = joined (codes "manifest" ∷ codes "no" ∷ codes "unread" ∷ decimal number ∷ [])
+
+unfoldable pub no_total_text : ℕ → List ℕ
+no_total_text sum = joined (codes "manifest" ∷ codes "no" ∷ codes "total" ∷ decimal sum ∷ [])
+
+-- behind the number stands the text of the scan's reply
+unfoldable pub no_piece_text : ℕ → Reply → List ℕ
+no_piece_text number reply = joined (codes "manifest" ∷ codes "no" ∷ codes "piece" ∷ decimal number ∷ text_of reply ∷ [])
+
+-- the texts of an answer: there is none while a scan is awaited
+abbrev pub said_texts : Said → List (List ℕ)
+said_texts said.Nothing = []
+said_texts (said.Scanning number) = []
+said_texts said.NoManifest = codes "refused manifest none" ∷ []
+said_texts said.Full = codes "refused manifest full" ∷ []
+said_texts (said.Opened count) = open_text count ∷ []
+said_texts (said.Piece number) = piece_text number ∷ []
+said_texts (said.Code code) = code_text code ∷ []
+said_texts (said.Yes count total) = yes_text count total ∷ []
+said_texts (said.NoCount count) = no_count_text count ∷ []
+said_texts said.NoCode = codes "manifest no code" ∷ []
+said_texts (said.Unread number) = unread_text number ∷ []
+said_texts (said.NoTotal sum) = no_total_text sum ∷ []
+said_texts (said.NoPiece number reply) = no_piece_text number reply ∷ []

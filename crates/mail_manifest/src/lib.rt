@@ -1,0 +1,18 @@
+//! Bulk manifests: a list of marks is good exactly where every piece on it is accepted.
+#![tactic(auto)]
+
+mod checker;
+mod courses;
+mod lines;
+mod manifest;
+mod opening;
+mod own;
+mod pieces;
+mod run;
+mod said;
+
+pub use checker::Checker;
+pub use manifest::Manifest;
+pub use opening::{MOST_PIECES, ManifestLine, Opening};
+pub use run::run_manifest;
+pub use said::Said;
