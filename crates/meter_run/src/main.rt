@@ -10,6 +10,9 @@ ghost use Rattle.bench.specs.Benches.{IsReady, bench_of};
 
 use bench::Bench;
 use bench_base::stream::{IoSink, IoSource};
+use centre_statement::run_statement;
+use host_departments::{CELLS, Departments, run_departments};
+use mail_manifest::run_manifest;
 use nv_file::{FileNv, Starting, StoreFile};
 use nv_model::Fused;
 use nv_store::Room;
@@ -19,12 +22,13 @@ use script_replay::run::run;
 use script_replay::status::{SideStatus, Status};
 use script_text::read_words;
 use spoil_claims::{CLAIM_CELLS, Desk, run_claims};
+use statement_check::run_recompute;
 use std::fs::{self, File, OpenOptions};
 use std::os::fd::AsRawFd;
 use std::os::unix::fs::{FileTypeExt, OpenOptionsExt};
 use std::process::ExitCode;
 use std::{env, io};
-use store_files::{BENCH_STORES, STORES, is_store, split_stores};
+use store_files::{BENCH_STORES, CLAIMS, DEPARTMENTS, STORES, is_store, split_stores, with_own};
 use thiserror::Error;
 
 /// The rates, a TOML document. A missing file is an empty one.
@@ -198,42 +202,75 @@ fn bench_over(rt: &HostRuntime, stores: Vec<FileNv>) -> Result<Bench<FileNv>, Op
     }
 }
 
-// The desk that keeps claims, out of the last of the storages. Nothing is written.
-fn open_desk(
-    rt: &HostRuntime,
-    stores: Vec<FileNv>,
-) -> Result<(Desk<FileNv>, Vec<FileNv>), OpenFault>
+// Who has lines of its own beside the bench, if someone has.
+#[derive(Drop)]
+enum Side {
+    Alone,
+    Claims(Desk<FileNv>),
+    Departments(Departments<FileNv>),
+    Statement,
+    Manifest,
+}
+
+// The last of the storages, which is a desk's own, and those before it.
+fn take_own(stores: Vec<FileNv>) -> (FileNv, Vec<FileNv>)
     requires all { length stores.items ≡ 12 }
-    ensures eleven { IfOk result (λ opened. length opened.1.items ≡ 11) }
+    ensures eleven { length result.1.items ≡ 11 }
 {
     let mut stores = stores;
-    let Some(nv) = stores.pop() else {
+    let Some(own) = stores.pop() else {
         unreachable!()
     };
+    (own, stores)
+}
+
+// The desk that keeps claims, out of its storage. Nothing is written.
+fn open_claims(rt: &HostRuntime, nv: FileNv) -> Result<Side, OpenFault> {
     let Ok(room) = Room::new(rt.alloc(), CLAIM_CELLS) else {
         return Err(OpenFault::Memory);
     };
     match Desk::boot(nv, room) {
-        Ok(desk) => Ok((desk, stores)),
-        Err(_) => Err(OpenFault::File(STORES[BENCH_STORES].name)),
+        Ok(desk) => Ok(Side::Claims(desk)),
+        Err(_) => Err(OpenFault::File(CLAIMS.name)),
     }
 }
 
-// Whether the words call for a run with claims.
-fn is_claims(words: &[String]) -> bool {
+// The departments, out of their storage. Nothing is written.
+fn open_departments(rt: &HostRuntime, nv: FileNv) -> Result<Side, OpenFault> {
+    let Ok(room) = Room::new(rt.alloc(), CELLS) else {
+        return Err(OpenFault::Memory);
+    };
+    match Departments::boot(nv, room) {
+        Ok(departments) => Ok(Side::Departments(departments)),
+        Err(_) => Err(OpenFault::File(DEPARTMENTS.name)),
+    }
+}
+
+// Whether the words are this one.
+fn is_word(words: &[String], wanted: &str) -> bool {
     match words {
-        [word] => word.as_str() == "claims",
+        [word] => word.as_str() == wanted,
         _ => false,
     }
 }
 
-// Runs what the words say over these storages, with the desk where there is one.
+// Reckons the statement on standard input again. No file is made or opened.
+fn recompute(rt: &HostRuntime, words: &[String]) -> Result<SideStatus, OpenFault> {
+    let Ok(ahead) = vec![in rt.alloc(); 0; AHEAD] else {
+        return Err(OpenFault::Memory);
+    };
+    let mut script = ReadAhead::new(IoSource::new(rt.reader()), ahead);
+    let mut report = IoSink::new(io::writer(rt));
+    Ok(SideStatus::Run(run_recompute(words, &mut script, &mut report)))
+}
+
+// Runs what the words say over these storages, with who has lines of its own.
 fn run_over(
     rt: &HostRuntime,
     words: &[String],
     rates: RatesFile<IoSource<File>>,
     stores: Vec<FileNv>,
-    desk: Option<Desk<FileNv>>,
+    side: Side,
 ) -> Result<SideStatus, OpenFault>
     requires eleven { length stores.items ≡ 11 }
 {
@@ -245,8 +282,8 @@ fn run_over(
     };
     let mut script = ReadAhead::new(IoSource::new(rt.reader()), ahead);
     let mut report = IoSink::new(io::writer(rt));
-    match desk {
-        Some(mut desk) => Ok(run_claims(
+    match side {
+        Side::Claims(mut desk) => Ok(run_claims(
             rt.alloc(),
             words,
             &mut script,
@@ -256,7 +293,35 @@ fn run_over(
             &mut bench,
             &mut desk,
         )),
-        None => Ok(SideStatus::Run(run(
+        Side::Departments(mut departments) => Ok(run_departments(
+            rt.alloc(),
+            words,
+            &mut script,
+            &mut rates,
+            &mut report,
+            &mut printer,
+            &mut bench,
+            &mut departments,
+        )),
+        Side::Statement => Ok(run_statement(
+            rt.alloc(),
+            words,
+            &mut script,
+            &mut rates,
+            &mut report,
+            &mut printer,
+            &mut bench,
+        )),
+        Side::Manifest => Ok(run_manifest(
+            rt.alloc(),
+            words,
+            &mut script,
+            &mut rates,
+            &mut report,
+            &mut printer,
+            &mut bench,
+        )),
+        Side::Alone => Ok(SideStatus::Run(run(
             rt.alloc(),
             words,
             &mut script,
@@ -268,21 +333,43 @@ fn run_over(
     }
 }
 
+// Runs what the words say over the storages of a bench, with who has none of its own beside it.
+fn run_beside(rt: &HostRuntime, words: &[String], side: Side) -> Result<SideStatus, OpenFault> {
+    let _folder = hold_folder(rt)?;
+    let (rates, stores) = open_files(rt, &STORES[..BENCH_STORES])?;
+    run_over(rt, words, rates, stores, side)
+}
+
 // Runs what the words say over the storages of the current folder. Bad words touch no file.
 fn run_over_files(rt: &HostRuntime) -> Result<SideStatus, OpenFault> {
     let words = words_of(rt)?;
-    if is_claims(&words) {
+    if is_word(&words, "recompute") {
+        return recompute(rt, &words);
+    }
+    if is_word(&words, "statement") {
+        return run_beside(rt, &words, Side::Statement);
+    }
+    if is_word(&words, "manifest") {
+        return run_beside(rt, &words, Side::Manifest);
+    }
+    if is_word(&words, "claims") {
         let _folder = hold_folder(rt)?;
-        let (rates, stores) = open_files(rt, &STORES)?;
-        let (desk, stores) = open_desk(rt, stores)?;
-        return run_over(rt, &words, rates, stores, Some(desk));
+        let (rates, stores) = open_files(rt, &with_own(CLAIMS))?;
+        let (own, stores) = take_own(stores);
+        let side = open_claims(rt, own)?;
+        return run_over(rt, &words, rates, stores, side);
+    }
+    if is_word(&words, "departments") {
+        let _folder = hold_folder(rt)?;
+        let (rates, stores) = open_files(rt, &with_own(DEPARTMENTS))?;
+        let (own, stores) = take_own(stores);
+        let side = open_departments(rt, own)?;
+        return run_over(rt, &words, rates, stores, side);
     }
     if read_words(&words).is_none() {
         return Ok(SideStatus::Run(Status::Words));
     }
-    let _folder = hold_folder(rt)?;
-    let (rates, stores) = open_files(rt, &STORES[..BENCH_STORES])?;
-    run_over(rt, &words, rates, stores, None)
+    run_beside(rt, &words, Side::Alone)
 }
 
 // Runs, and answers the exit status with the line for standard error.

@@ -3,6 +3,7 @@ ghost use Rattle.std.specs.Prelude.{◌≡◌, length};
 
 use bench::Stores;
 use bench_base::sizes::{CENTRE_BYTES, DEVICE_BYTES, VERIFIER_BYTES};
+use host_departments::DEPARTMENT_BYTES;
 use host_jobs::HOST_BYTES;
 use nv_file::{FileNv, StoreFile};
 use spoil_claims::CLAIM_BYTES;
@@ -13,9 +14,21 @@ use std::os::unix::fs::MetadataExt;
 /// How many of the storages are those of a bench.
 pub const BENCH_STORES: usize = 11;
 
-/// Those of devices 1 to 8, of the centre, of the host and of the verifier, in the order in which they are looked at, and behind them that of
-/// the claims.
-pub const STORES: [StoreFile; 12] = [
+/// The storage of the claims.
+pub const CLAIMS: StoreFile = StoreFile {
+    name: "claims.nv",
+    bytes: CLAIM_BYTES,
+};
+
+/// The storage of the departments.
+pub const DEPARTMENTS: StoreFile = StoreFile {
+    name: "departments.nv",
+    bytes: DEPARTMENT_BYTES,
+};
+
+/// Those of devices 1 to 8, of the centre, of the host and of the verifier, in the order in which they are looked at, and behind them those of
+/// the claims and of the departments.
+pub const STORES: [StoreFile; 13] = [
     StoreFile {
         name: "device-1.nv",
         bytes: DEVICE_BYTES,
@@ -60,11 +73,16 @@ pub const STORES: [StoreFile; 12] = [
         name: "verifier.nv",
         bytes: VERIFIER_BYTES,
     },
-    StoreFile {
-        name: "claims.nv",
-        bytes: CLAIM_BYTES,
-    },
+    CLAIMS,
+    DEPARTMENTS,
 ];
+
+/// The storages of a bench, and behind them one of a desk's own.
+pub fn with_own(own: StoreFile) -> [StoreFile; 12] {
+    let mut files = [own; 12];
+    files[..BENCH_STORES].copy_from_slice(&STORES[..BENCH_STORES]);
+    files
+}
 
 /// Whether a file is one of the storages, by whatever name it was found.
 pub fn is_store(rt: &HostRuntime, found: &Metadata) -> bool {
