@@ -1,6 +1,6 @@
 mod Answering
 mod Calling
-mod Chains
+pub mod Chains
 mod Completing
 mod Counting
 mod OneLine

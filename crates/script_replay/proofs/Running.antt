@@ -1,5 +1,5 @@
 -- A run: it begins, does the deeds, and what it leaves is lawful.
-use Rattle.std.proofs.Common.{◌≡◌, List, [], ◌∷◌, None, sym, subst}
+use Rattle.std.proofs.Common.{◌≡◌, List, [], ◌∷◌, None, refl, sym, subst}
 use Rattle.std.specs.Io.KnownBytes.{Appends}
 use Rattle.bench_base.specs.declared.ledger.Entry.TheVariants.{Begin}
 use Rattle.bench_base.specs.Ledger.{Ledger}
@@ -77,6 +77,11 @@ module _ (n : Nodes) (today : Editions editions) (holds : ForHistories Holds)
         over = over e.behind new deeds e.did left;
         throughout = λ τ L texts s tells. throughout n today holds τ texts tells (scene begun old.outside) e.behind deeds (Begin ∷ L) e.did ready' (begun_for τ L s);
       }
+
+  -- it began so
+  pub began_so : (outcome : Status) (new : SceneOf n) (deeds : List Done) (e : Ended (DidEvents n) (λ s. Leaves s) (Run outcome) (scene begun old.outside) new deeds) → (did_run outcome new deeds e).begun ≡ begun
+  unfolding did_run
+  began_so outcome new deeds e = refl
 
 -- from nothing nothing is asked of a ledger
 pub from_nothing : (n : Nodes) (old new : SceneOf n) (outcome : Status) (deeds : List Done) → DidRun n old new outcome deeds → Stands n old.bench [] → n.storage.tells → DidFresh n old new outcome deeds

@@ -21,7 +21,7 @@ use Rattle.script_replay.specs.Chains.{scene, DidEvents, SceneOf}
 use Rattle.script_replay.specs.Run.{Leaves}
 use Rattle.script_replay.specs.Sides.{StepsBy, DidSide}
 use Rattle.script_replay.specs.SideLaws.{is_chain, leaves_as}
-use Rattle.script_replay.proofs.Running.{did_run}
+use Rattle.script_replay.proofs.Running.{did_run, began_so}
 
 module _ {K T : Type 0} (n : Nodes) (k : Ghosts K T)
     (today : Editions editions) (holds : ForHistories Holds) (old : World (SceneOf n) K) (begun : BenchOf n) (ready : IsReady old.scene.bench) (ready' : IsReady begun)
@@ -31,14 +31,16 @@ module _ {K T : Type 0} (n : Nodes) (k : Ghosts K T)
       → Ended (Does k (StepsBy n)) (SideLeaves (λ s t. Leaves (Run status.Memory) s t)) outcome (world (scene begun old.scene.outside) old.desk) new deeds → DidSide n k old new outcome deeds
   did_side outcome new deeds e =
       let left = leaves_as outcome e.behind new e.leaves in
+      let of_bench : Ended (DidEvents n) (λ s. Leaves s) (Run left.0) (scene begun old.scene.outside) new.scene (steps_of deeds) =
+      record { behind = e.behind.scene; did = bench_part k (StepsBy n) (DidEvents n) (is_chain n) (world (scene begun old.scene.outside) old.desk) e.behind deeds e.did; leaves = left.1 } in
       record {
         begun = begun;
         behind = e.behind;
         did = e.did;
         leaves = e.leaves;
         ended = left.0;
-        bench = did_run n today holds old.scene begun ready ready' begins no_day no_messages no_rates begins_stands left.0 new.scene (steps_of deeds)
-            (record { behind = e.behind.scene; did = bench_part k (StepsBy n) (DidEvents n) (is_chain n) (world (scene begun old.scene.outside) old.desk) e.behind deeds e.did; leaves = left.1 });
+        bench = did_run n today holds old.scene begun ready ready' begins no_day no_messages no_rates begins_stands left.0 new.scene (steps_of deeds) of_bench;
+        same = began_so n today holds old.scene begun ready ready' begins no_day no_messages no_rates begins_stands left.0 new.scene (steps_of deeds) of_bench;
       }
 
 -- a run over lines does not end so

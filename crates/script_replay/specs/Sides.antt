@@ -24,7 +24,7 @@ module _ (n : Nodes) where
 
   module _ {K T : Type 0} (k : Ghosts K T) where
     -- The bench began a run, and desk and bench did the deeds. What the bench did of them is what `run` says of a script that has the
-    -- events in their place.
+    -- events in their place, of the bench that began so.
     pub record DidSide (old new : World (SceneOf n) K) (outcome : SideStatus) (deeds : List (SideDeed k.Own)) : Type 0 where
       pub begun : BenchOf n
       pub behind : World (SceneOf n) K
@@ -32,6 +32,7 @@ module _ (n : Nodes) where
       pub leaves : SideLeaves (λ s t. Leaves (Run status.Memory) s t) outcome behind new
       pub ended : Status
       pub bench : DidRun n old.scene new.scene ended (steps_of deeds)
+      pub same : bench.begun ≡ begun
 
 -- what a run did over the words that were given, where it is called by this one
 pub record RanSide {K T : Type 0} (k : Ghosts K T) (word : List ℕ) (outcome : SideStatus) (given : List (List ℕ)) (WasDone : List (SideDeed k.Own) → Type 0) (before now : Streams) : Type 0 where
