@@ -26,7 +26,7 @@ use Rattle.ledger_moves.specs.Moves as moves
 use Rattle.ledger_moves.specs.Moves.{Moves, plan, entries, at_node, unless_worn, OtherUp, FailsToRead}
 use Rattle.ledger_moves.specs.Tariffs.{Tariff}
 use Rattle.law_good.proofs.Basics.{chosen, first}
-use Rattle.law_scans.specs.Acceptances.{Accepts}
+use Rattle.law_scans.specs.Acceptances.{IsAccepted, Accepts}
 
 module _ (n : ℕ) (bytes : List ℕ) (H : Ledger) where
   -- the plan's answer, if it is an acceptance, says so of the ledger after it
@@ -97,3 +97,7 @@ accepts_now τ H x text reply n bytes d p m again is told moved =
     (subst (λ (a : Reply). Accepts n bytes H (entries τ todays_rules H (ev.ScanHex n bytes) text a) d p m) (sym told)
     (by_move n bytes H τ text d p m again
     (subst (λ (a : Reply). Moves τ todays_rules H (ev.ScanHex n bytes) text a) told (subst (λ (e : Event). Moves τ todays_rules H e text reply) is moved))))
+
+-- a reply that is an acceptance
+pub accepted_by : (r s : Reply) → r ≡ s → IsAccepted s → IsAccepted r
+accepted_by r s same is = subst (λ (x : Reply). IsAccepted x) (sym same) is

@@ -1,5 +1,6 @@
 -- What each entry of a ledger leaves as it is, whatever reply an event gets.
-use Rattle.std.proofs.Common.{◌≡◌, ℕ, ◌+◌, Bool, true, false, cond, List, [], ◌∷◌, ◌++◌, Option, Some, None, inr, refl, subst}
+use Rattle.std.proofs.Common.{◌≡◌, ℕ, suc, ◌+◌, Bool, true, false, cond, List, [], ◌∷◌, ◌++◌, Option, Some, None, inr, refl, sym, ap, ◌∙◌, subst, arith}
+use Rattle.std.proofs.lemmas.Bool.{eqb-true, and_parts}
 use Rattle.std.specs.Prelude.{◌==◌, ◌&&◌, All, Contains}
 use Rattle.std.proofs.lemmas.List.Elements.{All-cons, All-contains, All-weaker, All-contains_itself}
 use Rattle.bench_base.specs.declared.words.Node.{Node}
@@ -12,7 +13,8 @@ use Rattle.bench_base.specs.Plans.{Plan}
 use Rattle.bench_base.specs.Ledger.{Ledger, IsReleased, count_of, torn_of, at_up, counted}
 use Rattle.bench_base.specs.Replies.{Told, Did, Refused, Armed, CameOn, WentOff, LostPower, Faulted, WasDamaged, PrinterFailed, RatesFailed}
 use Rattle.bench_base.specs.Scans.{accepted}
-use Rattle.bench_base.proofs.Facts.{kept_first}
+use Rattle.bench_base.specs.Rows.{first_of}
+use Rattle.bench_base.proofs.Facts.{kept_first, some-none}
 use Rattle.node_acts.specs.Plans.{with_commit, with_torn, after_told}
 use Rattle.law_scans.specs.Acceptances.{EachAccepted}
 
@@ -68,6 +70,23 @@ accepted_kept d p n plan t H is = kept_told (λ K. accepted d p (counted K) ≡ 
 
 pub accepted_entry : (d p n : ℕ) (k : Entry) (H : Ledger) → accepted d p (counted H) ≡ Some n → accepted d p (counted (k ∷ H)) ≡ Some n
 accepted_entry d p n k H is = counted_kept (λ C. accepted d p C ≡ Some n) (accepted_more d p n) k H is
+
+more_within : (c x : Commit) (C : List Commit) → Contains C x → Contains (c ∷ C) x
+more_within c x C (k, lt, is) = (suc k, omega (arith, lt), is)
+
+first_within : (b : Bool) (d p n : ℕ) (e q scan : ℕ) (C : List Commit) (o : Option ℕ) → (b ≡ true → (e ≡ d) × (q ≡ p)) → (o ≡ Some n → Contains C (Accepted d p n)) → cond b (first_of o (Some scan)) o ≡ Some n
+    → Contains (Accepted e q scan ∷ C) (Accepted d p n)
+first_within true d p n e q scan C None same later is =
+    let at = same refl in let number : scan ≡ n = cc in (0, omega arith, ap (λ (f : ℕ). Accepted f q scan) at.0 ∙ (ap (λ (r : ℕ). Accepted d r scan) at.1 ∙ ap (λ (m : ℕ). Accepted d p m) number))
+first_within true d p n e q scan C (Some m) same later is = more_within (Accepted e q scan) (Accepted d p n) C (later is)
+first_within false d p n e q scan C o same later is = more_within (Accepted e q scan) (Accepted d p n) C (later is)
+
+-- and it is among the commits
+pub accepted_within : (d p n : ℕ) (C : List Commit) → accepted d p C ≡ Some n → Contains C (Accepted d p n)
+accepted_within d p n [] is = absurd (some-none (sym is))
+accepted_within d p n (Accepted e q scan ∷ C) is =
+    first_within ((e == d) && (q == p)) d p n e q scan C (accepted d p C) (λ both. let at = and_parts (e == d) (q == p) both in (eqb-true e d at.0, eqb-true q p at.1)) (accepted_within d p n C) is
+accepted_within d p n (c ∷ C) is = more_within c (Accepted d p n) C (accepted_within d p n C is)
 
 -- what was released stays so
 pub released_entry : (x : List ℕ) (k : Entry) (H : Ledger) → IsReleased x H → IsReleased x (k ∷ H)
