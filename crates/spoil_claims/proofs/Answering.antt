@@ -2,6 +2,7 @@
 use Rattle.std.proofs.Common.{◌≡◌, ◌⊎◌, inl, inr, ℕ, ◌+◌, ◌-◌, ◌<◌, List, [], ◌∷◌, length, Option, Some, None, Result, Ok, Err, Bool, true, false, ◌==◌, refl, sym, ap, ◌∙◌, subst, arith}
 use Rattle.std.specs.Prelude.{codes}
 use Rattle.std.proofs.lemmas.Bool.{false_from_ne_true}
+use Rattle.std.proofs.lemmas.Option.{same_Some}
 use Rattle.bench_base.specs.declared.events.Event.{Event}
 use Rattle.bench_base.specs.declared.events.Event.TheVariants as ev
 use Rattle.bench_base.specs.declared.events.Reply.{Reply}
@@ -31,6 +32,7 @@ use Rattle.spoil_claims.specs.Claims.{Claims, IsHere, claim_at, kept, last_claim
 use Rattle.spoil_claims.specs.ClaimsDesk.{claims_desk}
 use Rattle.spoil_claims.specs.Courses.{Either, row_for, as_credited, scan_of, Follows, Says, ByFailed, Scans, Repeats, ByKept, Begins, Credited, Scanned, GoesOn}
 use Rattle.law_scans.specs.Acceptances.{IsAccepted}
+use Rattle.law_scans.proofs.Accepting.{accepted_by}
 use Rattle.spoil_claims.specs.Payload.{decoded}
 use Rattle.spoil_claims.specs.Texts.{said_texts, credited_text, credits_text, wrong_claim_text}
 use Rattle.spoil_claims.specs.View.{said_of, has_failed, rows_of, store_of, Rests}
@@ -69,12 +71,6 @@ abbrev step_event : Event → Next → Event
 step_event z (Step e) = e
 step_event z Say = z
 step_event z Stop = z
-
-accepted_by : (r s : Reply) → r ≡ s → IsAccepted s → IsAccepted r
-accepted_by r s same is = subst (λ (x : Reply). IsAccepted x) (sym same) is
-
-one_row : (a b : ClaimRow) → Some a ≡ Some b → a ≡ b
-one_row a b is = cc
 
 -- what is wanted first is wanted last where it is no step
 pub ends_at : {B K T : Type 0} (k : Ghosts K T) (Steps : B → B → Done → Turn → Type 0) (old new : World B K) (next : Next) (steps : List Done) (last : Next) → Asks k Steps old new next steps last
@@ -149,7 +145,7 @@ module _ {N : Type 0} {g : nv.Ghosts N} where
     scan_told x mid s new [] waits here asks = absurd (no_step (scan_of x) (inl (sym asks.0)) tt)
     scan_told x mid s new (d ∷ rest) waits here asks =
         let goes : Scanned x.claim asks.2.turn.reply mid asks.1 asks.0.desk = subst (λ (t : Said). GoesOn t asks.2.turn.reply mid asks.1 asks.0.desk) waits asks.2.goes in
-        let row : goes.row ≡ x = one_row goes.row x (sym goes.is ∙ here) in
+        let row : goes.row ≡ x = same_Some goes.row x (sym goes.is ∙ here) in
         let reply : d.reply ≡ asks.2.turn.reply = told s asks.0.scene d asks.2.turn asks.2.did in
         let event : d.event ≡ ev.ScanHex (scan_number x.claim) x.mark = sym (ap (λ (n : Next). step_event d.event n) asks.2.asks) in
         by_reply goes row reply event goes.did

@@ -3,6 +3,7 @@ use Rattle.std.proofs.Common.{◌≡◌, ◌≢◌, ◌⊎◌, inl, inr, ℕ, �
 use Rattle.std.specs.List.{AllByRecursion}
 use Rattle.std.proofs.lemmas.Bool.{cases_eq, cases_lt}
 use Rattle.std.proofs.lemmas.List.{get_or_past, set_past}
+use Rattle.std.proofs.lemmas.Option.{same_Some}
 use Rattle.bench_base.specs.declared.events.Event.{Event}
 use Rattle.bench_base.specs.declared.events.Event.TheVariants as ev
 use Rattle.bench_base.specs.declared.ledger.Entry.TheVariants.{Begin}
@@ -23,13 +24,13 @@ use Rattle.desk_runs.specs.Deeds.{Done, Skipped, Did}
 use Rattle.desk_runs.specs.Desks.{side_lines}
 use Rattle.desk_runs.specs.Events.{IsLineOf}
 use Rattle.desk_runs.specs.SideDeeds.{SideDeed, Plain, Own, Broken, steps_of}
-use Rattle.ledger_moves.specs.Histories as histories
 use Rattle.ledger_moves.specs.Moves.{plan}
 use Rattle.ledger_moves.specs.Tariffs.{Tariff}
 use Rattle.law_scans.specs.Acceptances.{EachAccepted, IsScanOf}
-use Rattle.law_scans.proofs.Accepting.{accepts_now}
 use Rattle.law_scans.proofs.Entries.{accepted_kept, accepted_entry, released_kept, released_entry, each_of, of_each, begin_each, told_each}
 use Rattle.law_scans.proofs.Plans.{plan_brings}
+use Rattle.law_deeds.specs.Deeds.{AllMoved}
+use Rattle.law_deeds.proofs.Going.{all_moved, first_moved, rest_moved, after_both, scanned as accepted_by_scan}
 use Rattle.script_replay.specs.Deeds.{ledger_by, ledger_after, RunWhile, AreUnforged}
 use Rattle.script_replay.specs.Run.{Unforged, Moves}
 use Rattle.spoil_claims.specs.Answers.{IsTold, IsCreditedNow, IsScanned, IsNewTold, IsClaimTold, IsAnswered, IsNewCut, IsClaimCut, IsCutShort, AreAnswered, IsCutCredit}
@@ -54,12 +55,6 @@ weaker P Q H more all = record { counts = λ d p n within. more d p n (all.count
 either_any : {P Q X : Type 0} (b : Bool) → (P → X) → (Q → X) → Either b P Q → X
 either_any true f h either = f either
 either_any false f h either = h either
-
-one_row : (a b : ClaimRow) → Some a ≡ Some b → a ≡ b
-one_row a b is = cc
-
-one_mark : (a b : Mark) → Some a ≡ Some b → a ≡ b
-one_mark a b is = cc
 
 -- == a commit of a claim ==
 
@@ -94,7 +89,7 @@ opened rows x H none is_open lt b = record {
   reserved = weaker (Reserves rows) (Reserves (then rows x lt)) H
       (λ d p n is gt. let of = is gt in still_claimed rows x lt d p n of (λ same. some-none (sym of.here.here ∙ ap (λ (j : ℕ). claim_at rows j) same ∙ none))) b.reserved;
   credited = λ c y k is. elim (cases_eq (c - 1) (x.claim - 1)) [
-    | inl same ↦ let row : x ≡ y = one_row x y (sym (kept_here rows x lt c same) ∙ is.here) in absurd (true≢false (sym is.credited ∙ (ap (λ (z : ClaimRow). z.credited) (sym row) ∙ is_open)))
+    | inl same ↦ let row : x ≡ y = same_Some x y (sym (kept_here rows x lt c same) ∙ is.here) in absurd (true≢false (sym is.credited ∙ (ap (λ (z : ClaimRow). z.credited) (sym row) ∙ is_open)))
     | inr differs ↦ still_credited rows x lt H b c y k is differs
   ];
 }
@@ -123,7 +118,7 @@ credited_now rows x k H here reads used b =
 
     by_cell : (d p n : ℕ) (of : IsClaimed rows d p n) → (of.claim.claim ≡ x.claim) ⊎ (of.claim.claim ≢ x.claim) → IsClaimed (put rows (x.claim - 1) (as_credited x)) d p n
     by_cell d p n of (inl same) =
-        let row : of.claim ≡ x = one_row of.claim x (sym of.here.here ∙ (ap (λ (j : ℕ). kept rows j) same ∙ here.here)) in
+        let row : of.claim ≡ x = same_Some of.claim x (sym of.here.here ∙ (ap (λ (j : ℕ). kept rows j) same ∙ here.here)) in
         record {
           claim = as_credited x;
           mark = of.mark;
@@ -137,8 +132,8 @@ credited_now rows x k H here reads used b =
 
     now : (c : ℕ) (z : ClaimRow) (m : Mark) → IsCredited (put rows (x.claim - 1) (as_credited x)) c z m → c - 1 ≡ x.claim - 1 → IsUsedUp c z m H
     now c z m is same =
-        let row : as_credited x ≡ z = one_row (as_credited x) z (sym (kept_here rows (as_credited x) lt c same) ∙ is.here) in
-        let mark : k ≡ m = one_mark k m (sym reads ∙ (ap (λ (y : ClaimRow). mark_of y.mark) row ∙ is.reads)) in
+        let row : as_credited x ≡ z = same_Some (as_credited x) z (sym (kept_here rows (as_credited x) lt c same) ∙ is.here) in
+        let mark : k ≡ m = same_Some k m (sym reads ∙ (ap (λ (y : ClaimRow). mark_of y.mark) row ∙ is.reads)) in
         let number : x.claim ≡ c = from_1 x.claim c here.first is.first (sym same) in
         record {
           released = subst (λ (y : ClaimRow). IsReleased y.mark H) row used.released;
@@ -206,40 +201,14 @@ module _ (τ : Tariff) where
             number = sym (same_number (scan_number x.claim) n x.mark scan.0 is);
           }
 
-  -- == what was done, one event after the other ==
-
-  abbrev AllMoved : Ledger → List Done → Type 0
-  AllMoved H [] = Unit {0}
-  AllMoved H (d ∷ rest) = Unforged H d.event × Moves τ H d × AllMoved (ledger_by τ H d) rest
-
-  pub all_moved : (H : Ledger) (steps : List Done) → AreUnforged τ Unforged H steps → RunWhile τ Unforged (Moves τ) H steps → AllMoved H steps
-  all_moved H [] unforged run = tt
-  all_moved H (d ∷ rest) unforged run = let here = run unforged.0 in (unforged.0, here.0, all_moved (ledger_by τ H d) rest unforged.1 here.1)
-
-  first_moved : (H : Ledger) (a b : List Done) → AllMoved H (a ++ b) → AllMoved H a
-  first_moved H [] b did = tt
-  first_moved H (d ∷ a) b did = (did.0, did.1, first_moved (ledger_by τ H d) a b did.2)
-
-  rest_moved : (H : Ledger) (a b : List Done) → AllMoved H (a ++ b) → AllMoved (ledger_after τ H a) b
-  rest_moved H [] b did = did
-  rest_moved H (d ∷ a) b did = rest_moved (ledger_by τ H d) a b did.2
-
-  after_both : (H : Ledger) (a b : List Done) → ledger_after τ (ledger_after τ H a) b ≡ ledger_after τ H (a ++ b)
-  after_both H [] b = refl
-  after_both H (d ∷ a) b = after_both (ledger_by τ H d) a b
-
   -- == an own line ==
 
   -- the piece of an accepted claim was used up
   used_up : (H : Ledger) (x : ClaimRow) (d : Done) → d.event ≡ ev.ScanHex (scan_number x.claim) x.mark → IsAccepted d.reply → Unforged H d.event → Moves τ H d
       → (k : Mark) × (mark_of x.mark ≡ Some k) × IsUsedUp x.claim x k (ledger_by τ H d)
   used_up H x d event accepts unforged moves =
-      let a = accepts_now τ H d.event d.text d.reply (scan_number x.claim) x.mark accepts.0 accepts.1 accepts.2 accepts.3 event accepts.4 moves in
-      let known = subst (λ (e : Event). histories.Unforged e H) event unforged in (
-        a.mark,
-        read_as x.mark a.mark a.code a.reads,
-        record { released = released_kept x.mark (plan τ todays_rules H d.event d.text) (told_by d.reply) H (a.released known); accepted = a.now },
-      )
+      let is = accepted_by_scan τ (scan_number x.claim) x.mark d event accepts H unforged moves in
+      (is.mark, read_as x.mark is.mark is.code is.reads, record { released = is.released; accepted = is.accepted })
 
   module _ (rows : Claims) (H : Ledger) (b : AreBacked rows H) where
     nothing_done : (steps : List Done) (after : Claims) → steps ≡ [] → after ≡ rows → AreBacked after (ledger_after τ H steps)
@@ -251,7 +220,7 @@ module _ (τ : Tariff) where
     told : (text : List ℕ) (steps : List Done) (texts : List (List ℕ)) (after : Claims) → IsTold text rows steps texts after → AreBacked after (ledger_after τ H steps)
     told text steps texts after is = nothing_done steps after is.none is.rests
 
-    scanned : (x : ClaimRow) (steps : List Done) (texts : List (List ℕ)) (after : Claims) → AllMoved H steps → IsScanned x rows steps texts after → AreBacked after (ledger_after τ H steps)
+    scanned : (x : ClaimRow) (steps : List Done) (texts : List (List ℕ)) (after : Claims) → AllMoved τ H steps → IsScanned x rows steps texts after → AreBacked after (ledger_after τ H steps)
     scanned x steps texts after did is = by_reply is.did
       where
         after_scan : AreBacked rows (ledger_after τ H steps)
@@ -260,7 +229,7 @@ module _ (τ : Tariff) where
         by_reply : ((IsAccepted is.scan.reply × IsCreditedNow x rows texts after) ⊎ ((IsAccepted is.scan.reply → ⊥) × (texts ≡ text_of is.scan.reply ∷ []) × (after ≡ rows))) → AreBacked after (ledger_after τ H steps)
         by_reply (inl (accepts, inl worn)) = subst (λ (r : Claims). AreBacked r (ledger_after τ H steps)) (sym worn.2) after_scan
         by_reply (inl (accepts, inr now)) =
-            let one : AllMoved H (is.scan ∷ []) = subst (λ (s : List Done). AllMoved H s) is.only did in
+            let one : AllMoved τ H (is.scan ∷ []) = subst (λ (s : List Done). AllMoved τ H s) is.only did in
             let used = used_up H x is.scan is.event accepts one.0 one.1 in
             subst (λ (r : Claims). AreBacked r (ledger_after τ H steps)) (sym now.2)
             (subst (λ (s : List Done). AreBacked (put rows (x.claim - 1) (as_credited x)) (ledger_after τ H s)) (sym is.only)
@@ -270,7 +239,7 @@ module _ (τ : Tariff) where
     new_inside : (x : ClaimRow) → IsHere (put rows (x.claim - 1) x) x → x.claim - 1 < length rows
     new_inside x here = subst (λ (l : ℕ). x.claim - 1 < l) (put_long rows (x.claim - 1) x) (inside (put rows (x.claim - 1) x) x here)
 
-  module _ (rows : Claims) (H : Ledger) (b : AreBacked rows H) (steps : List Done) (did : AllMoved H steps) (after : Claims) where
+  module _ (rows : Claims) (H : Ledger) (b : AreBacked rows H) (steps : List Done) (did : AllMoved τ H steps) (after : Claims) where
     claim_told : (texts : List (List ℕ)) (o : Option ClaimRow) (c w : ℕ) (mark : List ℕ) → kept rows c ≡ o → IsClaimTold o c w mark rows steps texts after → AreBacked after (ledger_after τ H steps)
     claim_told texts (Some x) c w mark is (inl known) = either_any x.credited (λ again. told rows H b _ steps texts after again.told) (λ scans. scanned rows H b x steps texts after did scans) known.1
     claim_told texts (Some x) c w mark is (inr other) = told rows H b _ steps texts after other.1
@@ -321,14 +290,14 @@ module _ (τ : Tariff) where
     | inr le ↦ subst (λ (r : Claims). AreBacked r H) (sym (outside rows x le)) b
   ]
 
-  torn_credit : (rows : Claims) (y : ClaimRow) (H : Ledger) (steps : List Done) → AllMoved H steps → IsCutCredit y rows steps → AreBacked rows (ledger_after τ H steps) → AreBacked (put rows (y.claim - 1) (as_credited y)) (ledger_after τ H steps)
+  torn_credit : (rows : Claims) (y : ClaimRow) (H : Ledger) (steps : List Done) → AllMoved τ H steps → IsCutCredit y rows steps → AreBacked rows (ledger_after τ H steps) → AreBacked (put rows (y.claim - 1) (as_credited y)) (ledger_after τ H steps)
   torn_credit rows y H steps did cut b =
-      let one : AllMoved H (cut.scan ∷ []) = subst (λ (s : List Done). AllMoved H s) cut.only did in
+      let one : AllMoved τ H (cut.scan ∷ []) = subst (λ (s : List Done). AllMoved τ H s) cut.only did in
       let used = used_up H y cut.scan cut.event cut.accepted one.0 one.1 in
       let now : IsUsedUp y.claim y used.0 (ledger_after τ H steps) = subst (λ (s : List Done). IsUsedUp y.claim y used.0 (ledger_after τ H s)) (sym cut.only) used.2 in
       credited_now rows y used.0 (ledger_after τ H steps) cut.claim used.1 now b
 
-  torn_by : (rows : Claims) (x : ClaimRow) (H : Ledger) (steps : List Done) → AllMoved H steps → IsCut x rows steps → AreBacked rows (ledger_after τ H steps) → AreBacked (put rows (x.claim - 1) x) (ledger_after τ H steps)
+  torn_by : (rows : Claims) (x : ClaimRow) (H : Ledger) (steps : List Done) → AllMoved τ H steps → IsCut x rows steps → AreBacked rows (ledger_after τ H steps) → AreBacked (put rows (x.claim - 1) x) (ledger_after τ H steps)
   torn_by rows x H steps did (inl none) b = torn_open rows x (ledger_after τ H steps) none.0 none.1 b
   torn_by rows x H steps did (inr (y, is, cut)) b =
       subst (λ (z : ClaimRow). AreBacked (put rows (z.claim - 1) z) (ledger_after τ H steps)) (sym is) (torn_credit rows y H steps did cut b)
@@ -337,29 +306,29 @@ module _ (τ : Tariff) where
   pub torn_backed : (rows : Claims) (x : ClaimRow) (H : Ledger) (all : List Done) → AreUnforged τ Unforged H all → RunWhile τ Unforged (Moves τ) H all → IsCutAfter x rows all → AreBacked rows (ledger_after τ H all)
       → AreBacked (put rows (x.claim - 1) x) (ledger_after τ H all)
   torn_backed rows x H all unforged run (before, steps, are, cut) b =
-      let did : AllMoved H (before ++ steps) = subst (λ (s : List Done). AllMoved H s) are (all_moved H all unforged run) in
-      let split : ledger_after τ (ledger_after τ H before) steps ≡ ledger_after τ H all = after_both H before steps ∙ ap (λ (s : List Done). ledger_after τ H s) (sym are) in
+      let did : AllMoved τ H (before ++ steps) = subst (λ (s : List Done). AllMoved τ H s) are (all_moved τ H all unforged run) in
+      let split : ledger_after τ (ledger_after τ H before) steps ≡ ledger_after τ H all = after_both τ H before steps ∙ ap (λ (s : List Done). ledger_after τ H s) (sym are) in
       subst (λ (K : Ledger). AreBacked (put rows (x.claim - 1) x) K) split
-      (torn_by rows x (ledger_after τ H before) steps (rest_moved H before steps did) cut (subst (λ (K : Ledger). AreBacked rows K) (sym split) b))
+      (torn_by rows x (ledger_after τ H before) steps (rest_moved τ H before steps did) cut (subst (λ (K : Ledger). AreBacked rows K) (sym split) b))
 
   -- == all lines ==
 
   module _ {N : Type 0} (g : nv.Ghosts N) where
     backed_all : (rows : Claims) (H : Ledger) (deeds : List (SideDeed ClaimLine)) (after : Claims) → AreBacked rows H → AllByRecursion (Reads (side_lines (claims_desk g))) deeds → AreAnswered rows deeds after
-        → AllMoved H (steps_of deeds) → AreBacked after (ledger_after τ H (steps_of deeds))
+        → AllMoved τ H (steps_of deeds) → AreBacked after (ledger_after τ H (steps_of deeds))
     backed_all rows H [] after b reads answers did = subst (λ (r : Claims). AreBacked r H) (sym answers) b
     backed_all rows H (Plain (Skipped line) ∷ rest) after b reads answers did = backed_all rows H rest after b reads.1 answers did
     backed_all rows H (Plain (Did line d) ∷ rest) after b reads answers did =
         backed_all rows (ledger_by τ H d) rest after (passed rows H line d reads.0.is.0 answers.0 b) reads.1 answers.1 did.2
     backed_all rows H (Own line own steps texts ∷ rest) after b reads answers did =
-        subst (λ (K : Ledger). AreBacked after K) (after_both H steps (steps_of rest))
-        (backed_all answers.0 (ledger_after τ H steps) rest after (own_told rows H b steps (first_moved H steps (steps_of rest) did) answers.0 own texts answers.1) reads.1 answers.2 (rest_moved H steps (steps_of rest) did))
+        subst (λ (K : Ledger). AreBacked after K) (after_both τ H steps (steps_of rest))
+        (backed_all answers.0 (ledger_after τ H steps) rest after (own_told rows H b steps (first_moved τ H steps (steps_of rest) did) answers.0 own texts answers.1) reads.1 answers.2 (rest_moved τ H steps (steps_of rest) did))
     backed_all rows H (Broken line own steps ∷ rest) after b reads answers did =
-        subst (λ (K : Ledger). AreBacked after K) (after_both H steps (steps_of rest))
-        (backed_all answers.0 (ledger_after τ H steps) rest after (own_cut rows H b steps (first_moved H steps (steps_of rest) did) answers.0 own answers.1) reads.1 answers.2 (rest_moved H steps (steps_of rest) did))
+        subst (λ (K : Ledger). AreBacked after K) (after_both τ H steps (steps_of rest))
+        (backed_all answers.0 (ledger_after τ H steps) rest after (own_cut rows H b steps (first_moved τ H steps (steps_of rest) did) answers.0 own answers.1) reads.1 answers.2 (rest_moved τ H steps (steps_of rest) did))
 
     -- WHAT WAS BACKED BEFORE A RUN IS BACKED AFTER IT
     pub backed_after : (L : Ledger) (rows after : Claims) (deeds : List (SideDeed ClaimLine)) → AreBacked rows L → AllByRecursion (Reads (side_lines (claims_desk g))) deeds → AreAnswered rows deeds after
         → AreUnforged τ Unforged (Begin ∷ L) (steps_of deeds) → RunWhile τ Unforged (Moves τ) (Begin ∷ L) (steps_of deeds) → AreBacked after (ledger_after τ (Begin ∷ L) (steps_of deeds))
     backed_after L rows after deeds b reads answers unforged run =
-        backed_all rows (Begin ∷ L) deeds after (begun rows L b) reads answers (all_moved (Begin ∷ L) (steps_of deeds) unforged run)
+        backed_all rows (Begin ∷ L) deeds after (begun rows L b) reads answers (all_moved τ (Begin ∷ L) (steps_of deeds) unforged run)

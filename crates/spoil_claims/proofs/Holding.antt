@@ -1,7 +1,6 @@
 -- Claims that are backed by a history hold by it.
-use Rattle.std.proofs.Common.{◌≡◌, ℕ, ◌+◌, ◌-◌, ◌<◌, List, [], ◌∷◌, length, get_or, suc, Option, Some, None, Result, Ok, Err, Bool, true, false, cond, refl, sym, ap, ap₂, ◌∙◌, arith}
-use Rattle.std.specs.Prelude.{sum_by, unwrap_or, ◌==◌, ◌&&◌}
-use Rattle.std.proofs.lemmas.List.Sums.{sum_by-cons}
+use Rattle.std.proofs.Common.{◌≡◌, ℕ, ◌+◌, ◌-◌, List, Option, Some, None, Result, Ok, Err, Bool, true, false, cond, refl, sym, ap, ap₂, ◌∙◌, arith}
+use Rattle.std.specs.Prelude.{unwrap_or, ◌==◌, ◌&&◌}
 use Rattle.std.proofs.lemmas.Option.{same_Some}
 use Rattle.bench_base.specs.declared.refusals.MarkFault.{MarkFault}
 use Rattle.bench_base.specs.Ledger.{Ledger, counted}
@@ -15,6 +14,7 @@ use Rattle.ledger_lawful.specs.Further.{postage_of}
 use Rattle.ledger_moves.specs.Histories.{History}
 use Rattle.ledger_moves.specs.Tariffs.{Tariff}
 use Rattle.law_scans.proofs.Marked.{released_postage, one_number}
+use Rattle.law_deeds.proofs.Sums.{sums_alike}
 use Rattle.spoil_claims.specs.Claims.{Claims, claim_at, kept, mark_in, mark_of, postage_in, scan_number, credit_of}
 use Rattle.spoil_claims.specs.Holds.{IsCredited, AreBacked, debit_in, debit_of, ClaimsHold}
 use Rattle.spoil_claims.specs.declared.claim.ClaimRow.{ClaimRow}
@@ -26,12 +26,6 @@ with_code (Err fault) k is = absurd (cc)
 
 one_sum : (b c e : ℕ) → b + c ≡ b + e → c ≡ e
 one_sum b c e is = omega (arith, is)
-
--- sums of what is the same in each cell
-sums_alike : {X : Type 0} (f h : Option X → ℕ) (l : List (Option X)) → ((j : ℕ) → j < length l → f (get_or l j None) ≡ h (get_or l j None)) → sum_by f l ≡ sum_by h l
-sums_alike f h [] same = refl
-sums_alike f h (x ∷ l) same =
-    sum_by-cons f x l ∙ (ap₂ (λ (a b : ℕ). a + b) (same 0 (omega arith)) (sums_alike f h l (λ j lt. same (suc j) (omega (arith, lt)))) ∙ sym (sum_by-cons h x l))
 
 module _ (today : Editions editions) (τ : Tariff) (H : Ledger) (history : History τ editions H) (rows : Claims) (b : AreBacked rows H) where
   debited : (c : ℕ) (x : ClaimRow) (k : Mark) → IsCredited rows c x k → postage_of k.device k.piece (counted H) ≡ Some k.postage
@@ -72,6 +66,6 @@ module _ (today : Editions editions) (τ : Tariff) (H : Ledger) (history : Histo
     once = once;
     no_mail = λ c x k is n within. same_Some _ _ (sym (one_number τ _ _ H today history k.device k.piece n within) ∙ (b.credited c x k is).accepted);
     debited = debited;
-    sums = λ w. sums_alike (λ o. credit_of w (row_of o)) (λ o. debit_of w (counted H) (row_of o)) rows (λ j lt. cell_alike w j (row_of (row_at rows j)) refl);
+    sums = λ w. sums_alike None (λ o. credit_of w (row_of o)) (λ o. debit_of w (counted H) (row_of o)) rows (λ j lt. cell_alike w j (row_of (row_at rows j)) refl);
     backed = b;
   }

@@ -1,12 +1,10 @@
 -- What a run leaves of the storage of the claims: whether a commit failed, and why.
-use Rattle.std.proofs.Common.{◌≡◌, ◌⊎◌, inl, inr, ℕ, ◌+◌, ◌-◌, ◌≤◌, List, [], ◌∷◌, ◌++◌, Option, Some, None, Result, Ok, Err, Bool, true, false, ◌==◌, refl, sym, ap, ◌∙◌, subst, arith, true≢false}
-use Rattle.std.specs.Prelude.{IsSome, IsNone}
+use Rattle.std.proofs.Common.{◌≡◌, ◌⊎◌, inl, inr, ℕ, ◌+◌, ◌-◌, List, [], ◌∷◌, ◌++◌, Option, Some, None, Result, Ok, Err, Bool, true, false, ◌==◌, refl, sym, ap, ◌∙◌, subst}
 use Rattle.std.proofs.lemmas.List.{append_assoc, append-nil}
-use Rattle.bench_base.specs.Causes.{Rose}
+use Rattle.std.proofs.lemmas.Option.{same_Some}
 use Rattle.bench_base.specs.declared.events.Reply.{Reply}
 use Rattle.bench_base.specs.declared.refusals.StoreFail.{StoreFail}
 use Rattle.bench_base.specs.declared.refusals.StoreFail.TheVariants as fail
-use Rattle.nv_model.specs.Meters.{Meters, WasCut, Uses, Counts}
 use Rattle.nv_model.specs.Moments.{Image, Nested}
 use Rattle.nv_model.specs.declared.nv.Nv as nv
 use Rattle.nv_store.specs.Fails.{ends_failed}
@@ -25,14 +23,17 @@ use Rattle.desk_runs.specs.SideDeeds.{SideDeed, Plain, Own, Broken, steps_in, st
 use Rattle.desk_runs.specs.Wants.{IsStep}
 use Rattle.desk_runs.specs.declared.desk.Next.{Next}
 use Rattle.desk_runs.specs.declared.desk.Next.TheVariants.{Say, Stop}
+use Rattle.desk_stops.specs.Stops.{HasBroken, RowCommit}
+use Rattle.desk_stops.proofs.Stores as stores
+use Rattle.desk_stops.proofs.Lines.{BrokenLast}
 use Rattle.spoil_claims.specs.Answers.{IsCutCredit}
 use Rattle.spoil_claims.specs.Claims.{Claims, kept, last_claim, credits}
 use Rattle.spoil_claims.specs.ClaimsDesk.{claims_desk}
 use Rattle.spoil_claims.specs.Courses.{Either, row_for, as_credited, scan_of, Follows, Says, ByFailed, Scans, ByKept, Begins, Credited, Scanned, GoesOn}
 use Rattle.law_scans.specs.Acceptances.{IsAccepted}
 use Rattle.spoil_claims.specs.Payload.{decoded}
-use Rattle.spoil_claims.specs.Storage.{HasBroken, meters_of, IsUntouched}
-use Rattle.spoil_claims.specs.View.{said_of, has_failed, rows_of, storage_of, store_of, Rests}
+use Rattle.spoil_claims.specs.Storage.{IsUntouched}
+use Rattle.spoil_claims.specs.View.{said_of, has_failed, rows_of, storage_of, store_of, view_of, Rests}
 use Rattle.spoil_claims.specs.declared.claim.ClaimLine.{ClaimLine}
 use Rattle.spoil_claims.specs.declared.claim.ClaimLine.TheVariants.{Claim, Credits, Reserved}
 use Rattle.spoil_claims.specs.declared.claim.ClaimRow.{ClaimRow}
@@ -41,45 +42,6 @@ use Rattle.spoil_claims.specs.declared.desk.Desk.{Desk}
 use Rattle.spoil_claims.specs.declared.said.Said.{Said}
 use Rattle.spoil_claims.specs.declared.said.Said.TheVariants as said
 use Rattle.spoil_claims.proofs.Answering.{no_step, no_say, ends_at, rests_rows, open_kept, scan_cut}
-
--- == counts ==
-
-rose_later : (a b c : ℕ) → a ≤ b → Rose b c → Rose a c
-rose_later a b c le rose = omega (arith, le, rose)
-
-rose_then : (a b c : ℕ) → Rose a b → b ≤ c → Rose a c
-rose_then a b c rose le = omega (arith, rose, le)
-
-none_uses : (calls : ℕ) (f h : Option ℕ) → Uses calls f h → f ≡ None → h ≡ None
-none_uses calls None h uses is = uses
-none_uses calls (Some left) h uses is = absurd (cc)
-
-burnt : (f h i : Option ℕ) → (f ≡ None → h ≡ None) → IsSome h × IsNone i → IsSome f × IsNone i
-burnt None h i counts cut = absurd (no_some h (counts refl) cut.0)
-  where
-    no_some : (h : Option ℕ) → h ≡ None → IsSome h → ⊥
-    no_some None is some = absurd (true≢false (sym some))
-    no_some (Some x) is some = absurd (cc)
-burnt (Some left) h i counts cut = (refl, cut.1)
-
-counts_refl : (m : Meters) → Counts m m
-counts_refl m = record { cuts = omega arith; faults = omega arith; fuse = λ is. is }
-
-counts_then : (a b c : Meters) → Counts a b → Counts b c → Counts a c
-counts_then a b c first second =
-    let cuts = first.cuts in
-    let cuts' = second.cuts in
-    let faults = first.faults in
-    let faults' = second.faults in
-    record { cuts = omega (arith, cuts, cuts'); faults = omega (arith, faults, faults'); fuse = λ is. second.fuse (first.fuse is) }
-
-abbrev Caused : Meters → Meters → Type 0
-Caused a c = WasCut a c ⊎ Rose a.faults c.faults
-
-caused_later : (a b c : Meters) → Counts a b → Caused b c → Caused a c
-caused_later a b c counts (inl (inl cut)) = inl (inl (rose_later a.cuts b.cuts c.cuts counts.cuts cut))
-caused_later a b c counts (inl (inr fuse)) = inl (inr (burnt a.fuse b.fuse c.fuse counts.fuse fuse))
-caused_later a b c counts (inr fault) = inr (rose_later a.faults b.faults c.faults counts.faults fault)
 
 no_stop : (next : Next) → next ≡ Say → next ≡ Stop → ⊥
 no_stop next say stop = no_say next stop (sym say)
@@ -92,9 +54,6 @@ no_say_step next say step = no_step next (inl say) step
 
 one_number : (c e : ℕ) → said.Scanning c ≡ said.Scanning e → c ≡ e
 one_number c e is = cc
-
-one_row : (a b : ClaimRow) → Some a ≡ Some b → a ≡ b
-one_row a b is = cc
 
 either_any : {P Q X : Type 0} (b : Bool) → (P → X) → (Q → X) → Either b P Q → X
 either_any true f h either = f either
@@ -110,12 +69,9 @@ IsCut x rows steps = ((kept rows x.claim ≡ None) × (x.credited ≡ false)) �
 abbrev pub IsCutAfter : ClaimRow → Claims → List Done → Type 0
 IsCutAfter x rows all = (before steps : List Done) × (all ≡ before ++ steps) × IsCut x rows steps
 
--- a line at which one failed is the last
-abbrev pub BrokenLast : List (SideDeed ClaimLine) → Type 0
-BrokenLast [] = Unit {0}
-BrokenLast (Plain d ∷ rest) = BrokenLast rest
-BrokenLast (Own line own steps texts ∷ rest) = BrokenLast rest
-BrokenLast (Broken line own steps ∷ rest) = rest ≡ []
+-- the commit of a claim to its cell
+abbrev pub commit_of : ClaimRow → RowCommit ClaimRow
+commit_of x = record { cell = x.claim - 1; kept = x }
 
 module _ {N : Type 0} {g : nv.Ghosts N} where
   -- a desk that has not failed is shown by its storage
@@ -131,61 +87,31 @@ module _ {N : Type 0} {g : nv.Ghosts N} where
   -- == no commit failed, or one did ==
 
   -- none did
-  pub record Goes (old new : Desk N g) : Type 0 where
-    pub failed : has_failed new ≡ has_failed old
-    pub before : has_failed old ≡ true → IsUntouched old new
-    pub counts : Counts (meters_of old) (meters_of new)
-
-  -- one of this claim was torn
-  pub record Tears (x : ClaimRow) (old new : Desk N g) : Type 0 where
-    pub cause : Caused (meters_of old) (meters_of new)
-    pub shows : g.tells → (c : List ℕ) → Image (g.times (storage_of new)) c
-        → ShowsRows 73 CLAIM_CELLS (ReadsAs decoded) (rows_of new) c ⊎ ShowsRows 73 CLAIM_CELLS (ReadsAs decoded) (put (rows_of new) (x.claim - 1) x) c
+  abbrev pub Goes : Desk N g → Desk N g → Type 0
+  Goes old new = stores.Goes g decoded 73 CLAIM_CELLS (view_of old) (view_of new)
 
   -- by whether one had failed before
   abbrev pub BreaksBy : Bool → ClaimRow → Desk N g → Desk N g → Type 0
-  BreaksBy true x old new = IsUntouched old new
-  BreaksBy false x old new = Tears x old new
+  BreaksBy b x old new = stores.BreaksBy g decoded 73 CLAIM_CELLS b (commit_of x) (view_of old) (view_of new)
 
-  pub record Breaks (x : ClaimRow) (old new : Desk N g) : Type 0 where
-    pub failed : has_failed new ≡ true
-    pub by : BreaksBy (has_failed old) x old new
+  -- one of this claim did
+  abbrev pub Breaks : ClaimRow → Desk N g → Desk N g → Type 0
+  Breaks x old new = stores.Breaks g decoded 73 CLAIM_CELLS (commit_of x) (view_of old) (view_of new)
 
   untouched : (old new : Desk N g) → Rests old new → IsUntouched old new
   untouched old new rests = record { storage = rests.storage; rows = rests_rows old new rests }
 
-  touched_none : (old mid new : Desk N g) → IsUntouched old mid → IsUntouched mid new → IsUntouched old new
-  touched_none old mid new first second = record { storage = second.storage ∙ first.storage; rows = second.rows ∙ first.rows }
-
   goes_same : (old new : Desk N g) → new ≡ old → Goes old new
-  goes_same old new same = record {
-    failed = ap (λ (k : Desk N g). has_failed k) same;
-    before = λ is. record { storage = ap (λ (k : Desk N g). storage_of k) same; rows = ap (λ (k : Desk N g). rows_of k) same };
-    counts = subst (λ (k : Desk N g). Counts (meters_of old) (meters_of k)) (sym same) (counts_refl (meters_of old));
-  }
+  goes_same old new same = stores.goes_same g decoded 73 CLAIM_CELLS (view_of old) (view_of new) (ap (λ (k : Desk N g). view_of k) same)
 
   goes_rests : (old new : Desk N g) → Rests old new → Goes old new
-  goes_rests old new rests = record {
-    failed = rests.failed;
-    before = λ is. untouched old new rests;
-    counts = subst (λ (s : N). Counts (meters_of old) (g.meters s)) (sym rests.storage) (counts_refl (meters_of old));
-  }
+  goes_rests old new rests = stores.goes_rests g decoded 73 CLAIM_CELLS (view_of old) (view_of new) rests.failed (untouched old new rests)
 
   goes_on : (old mid new : Desk N g) → Goes old mid → Goes mid new → Goes old new
-  goes_on old mid new first second = record {
-    failed = second.failed ∙ first.failed;
-    before = λ is. touched_none old mid new (first.before is) (second.before (first.failed ∙ is));
-    counts = counts_then (meters_of old) (meters_of mid) (meters_of new) first.counts second.counts;
-  }
-
-  lift : (x : ClaimRow) (old mid new : Desk N g) → Goes old mid → (a b : Bool) → has_failed old ≡ a → b ≡ a → BreaksBy b x mid new → BreaksBy a x old new
-  lift x old mid new goes true true is same breaks = touched_none old mid new (goes.before is) breaks
-  lift x old mid new goes false false is same breaks = record { cause = caused_later (meters_of old) (meters_of mid) (meters_of new) goes.counts breaks.cause; shows = breaks.shows }
-  lift x old mid new goes true false is same breaks = absurd (true≢false (sym same))
-  lift x old mid new goes false true is same breaks = absurd (true≢false same)
+  goes_on old mid new first second = stores.goes_on g decoded 73 CLAIM_CELLS (view_of old) (view_of mid) (view_of new) first second
 
   breaks_later : (x : ClaimRow) (old mid new : Desk N g) → Goes old mid → Breaks x mid new → Breaks x old new
-  breaks_later x old mid new goes breaks = record { failed = breaks.failed; by = lift x old mid new goes (has_failed old) (has_failed mid) refl goes.failed breaks.by }
+  breaks_later x old mid new goes breaks = stores.breaks_later g decoded 73 CLAIM_CELLS (commit_of x) (view_of old) (view_of mid) (view_of new) goes breaks
 
   -- how lines end: no commit failed, or one did in the last
   abbrev pub Ends : Desk N g → Desk N g → List (SideDeed ClaimLine) → Type 0
@@ -200,38 +126,21 @@ module _ {N : Type 0} {g : nv.Ghosts N} where
         (Goes old new × (((next ≡ then) × (said_of new ≡ meant) × (rows_of new ≡ put (rows_of old) (x.claim - 1) x)) ⊎ (next ≡ Say)))
         ⊎ ((next ≡ Stop) × Breaks x old new × (rows_of new ≡ rows_of old))
 
-    torn : (x : ClaimRow) (old new : Desk N g) (result : Result (Unit {0}) StoreFail) → has_failed old ≡ false → has_failed new ≡ true → (result ≡ Err fail.Worn → ⊥) → Caused (meters_of old) (meters_of new)
-        → rows_of new ≡ rows_of old → CommitsRow g.tells decoded 73 (x.claim - 1) x (store_of old) (store_of new) result → Breaks x old new
-    torn x old new result works broke fresh cause stays did = record {
-      failed = broke;
-      by = subst (λ (b : Bool). BreaksBy b x old new) (sym works) (record {
-        cause = cause;
-        shows = λ tells c image.
-            subst (λ (r : Claims). ShowsRows 73 CLAIM_CELLS (ReadsAs decoded) r c ⊎ ShowsRows 73 CLAIM_CELLS (ReadsAs decoded) (put r (x.claim - 1) x) c) (sym stays)
-            (subst (λ (n : ℕ). ShowsRows 73 n (ReadsAs decoded) (rows_of old) c ⊎ ShowsRows 73 n (ReadsAs decoded) (put (rows_of old) (x.claim - 1) x) c) old.cells
-            (did.any_moment tells fresh c (nested (storage_of new) tells (g.times (storage_of old)).moment (g.times (storage_of new)).moment c (did.time tells).later image)));
-      });
-    }
-
-    counts_of : (old new : Desk N g) (x : ClaimRow) (result : Result (Unit {0}) StoreFail) → CommitsRow g.tells decoded 73 (x.claim - 1) x (store_of old) (store_of new) result → Counts (meters_of old) (meters_of new)
-    counts_of old new x result did = record { cuts = did.cuts; faults = did.faults; fuse = none_uses 6 (meters_of old).fuse (meters_of new).fuse did.fuse }
-
-    went : (old new : Desk N g) → has_failed old ≡ false → has_failed new ≡ false → Counts (meters_of old) (meters_of new) → Goes old new
-    went old new works still counts = record { failed = still ∙ sym works; before = λ is. absurd (true≢false (sym is ∙ works)); counts = counts }
-
     by_result : (x : ClaimRow) (meant : Said) (then : Next) (old : Desk N g) (next : Next) (new : Desk N g) → has_failed old ≡ false → (result : Result (Unit {0}) StoreFail)
         → CommitsRow g.tells decoded 73 (x.claim - 1) x (store_of old) (store_of new) result → has_failed new ≡ ends_failed result → Follows result meant then (said_of new) next → Came x meant then old next new
-    by_result x meant then old next new works (Ok u) did failed follows = inl (went old new works failed (counts_of old new x (Ok u) did), inl (follows.1, follows.0, did.done))
-    by_result x meant then old next new works (Err fail.Worn) did failed follows = inl (went old new works failed (counts_of old new x (Err fail.Worn) did), inr follows.1)
+    by_result x meant then old next new works (Ok u) did failed follows =
+        inl (stores.came_by g decoded 73 CLAIM_CELLS nested (commit_of x) (view_of old) (view_of new) old.cells works (Ok u) did failed, inl (follows.1, follows.0, did.done))
+    by_result x meant then old next new works (Err fail.Worn) did failed follows =
+        inl (stores.came_by g decoded 73 CLAIM_CELLS nested (commit_of x) (view_of old) (view_of new) old.cells works (Err fail.Worn) did failed, inr follows.1)
     by_result x meant then old next new works (Err fail.Power) did failed follows =
-        inr (follows, torn x old new (Err fail.Power) works failed (λ is. cc) (inl (did.power refl)) did.stays did, did.stays)
+        inr (follows, stores.came_by g decoded 73 CLAIM_CELLS nested (commit_of x) (view_of old) (view_of new) old.cells works (Err fail.Power) did failed, did.stays)
     by_result x meant then old next new works (Err fail.Fault) did failed follows =
-        inr (follows, torn x old new (Err fail.Fault) works failed (λ is. cc) (inr (did.fault refl)) did.stays did, did.stays)
+        inr (follows, stores.came_by g decoded 73 CLAIM_CELLS nested (commit_of x) (view_of old) (view_of new) old.cells works (Err fail.Fault) did failed, did.stays)
     by_result x meant then old next new works (Err fail.Failed) did failed follows = absurd (did.not_failed refl)
 
     tried : (b : Bool) (x : ClaimRow) (meant : Said) (then : Next) (old : Desk N g) (next : Next) (new : Desk N g) → has_failed old ≡ b → ByFailed b x meant then old next new → Came x meant then old next new
     tried true x meant then old next new is did =
-        inr (did.0, record { failed = did.1.failed ∙ is; by = subst (λ (b : Bool). BreaksBy b x old new) (sym is) (untouched old new did.1) }, rests_rows old new did.1)
+        inr (did.0, stores.breaks_before g decoded 73 CLAIM_CELLS (commit_of x) (view_of old) (view_of new) is did.1.failed (untouched old new did.1), rests_rows old new did.1)
     tried false x meant then old next new is did = by_result x meant then old next new is did.result did.commits did.failed did.follows
 
     -- == after its scan ==
@@ -343,7 +252,7 @@ module _ {N : Type 0} {g : nv.Ghosts N} where
               let waits = opens.2 (subst (λ (n : Next). IsStep n) (sym asks.2.asks) tt) in
               let x = waits.0 in
               let number : c ≡ x.claim = one_number c x.claim (sym now ∙ waits.2) in
-              let row : y ≡ x = one_row y x (sym kept_y ∙ (ap (λ (j : ℕ). kept (rows_of desk) j) number ∙ waits.3)) in
+              let row : y ≡ x = same_Some y x (sym kept_y ∙ (ap (λ (j : ℕ). kept (rows_of desk) j) number ∙ waits.3)) in
               let end = ends_at (claims_desk g) Steps asks.0 new asks.1 rest Stop asks.3 (inr stop) in
               let cut = scan_cut Steps told x desk s new (d ∷ rest) waits.2 waits.3 (subst (λ (n : Next). Asks (claims_desk g) Steps (world s desk) new n (d ∷ rest) Stop) waits.1 asks) in (
                 as_credited y,

@@ -1,29 +1,24 @@
 -- What a run leaves of the storage of the claims.
-use Rattle.std.specs.Prelude.{◌≡◌, ◌⊎◌, ◌↔◌, ℕ, ◌-◌, true, false, List, [], ◌∷◌, Option, Some, None, IsSome}
+use Rattle.std.specs.Prelude.{◌≡◌, ◌⊎◌, ◌↔◌, ℕ, ◌-◌, true, false, List, Option, Some, None, IsSome}
 use Rattle.bench_base.specs.Causes.{Rose}
 use Rattle.nv_model.specs.Meters.{Meters, WasCut}
 use Rattle.nv_model.specs.Moments.{Image}
 use Rattle.nv_model.specs.declared.nv.Nv.{Ghosts}
 use Rattle.line_runs.specs.declared.status.SideStatus.{SideStatus}
 use Rattle.line_runs.specs.declared.status.SideStatus.TheVariants.{Stopped}
-use Rattle.desk_runs.specs.SideDeeds.{SideDeed, Plain, Own, Broken}
+use Rattle.desk_runs.specs.SideDeeds.{SideDeed}
+use Rattle.desk_stops.specs.Stops as stops
+use Rattle.desk_stops.specs.Stops.{HasBroken}
 use Rattle.node_acts.specs.RowList.{put}
 use Rattle.row_store.specs.Seen.{ReadsAs}
 use Rattle.row_table.specs.Shows.{ShowsRows}
 use Rattle.spoil_claims.specs.Claims.{Claims}
 use Rattle.spoil_claims.specs.Payload.{decoded}
-use Rattle.spoil_claims.specs.View.{storage_of, has_failed, rows_of}
+use Rattle.spoil_claims.specs.View.{storage_of, has_failed, rows_of, view_of}
 use Rattle.spoil_claims.specs.declared.claim.ClaimLine.{ClaimLine}
 use Rattle.spoil_claims.specs.declared.claim.ClaimRow.{ClaimRow}
 use Rattle.spoil_claims.specs.declared.claim.TheConstants.{CLAIM_CELLS}
 use Rattle.spoil_claims.specs.declared.desk.Desk.{Desk}
-
--- one of the lines is one at which a commit of the desk's failed
-abbrev pub HasBroken : List (SideDeed ClaimLine) → Type 0
-HasBroken [] = ⊥
-HasBroken (Plain d ∷ rest) = HasBroken rest
-HasBroken (Own line own steps texts ∷ rest) = HasBroken rest
-HasBroken (Broken line own steps ∷ rest) = Unit {0}
 
 -- the claims with the commit that was torn, if one was
 abbrev pub with_torn : Option ClaimRow → Claims → Claims
@@ -35,9 +30,8 @@ module _ {N : Type 0} {g : Ghosts N} where
   meters_of desk = g.meters (storage_of desk)
 
   -- storage and claims are as they were
-  pub record IsUntouched (old new : Desk N g) : Type 0 where
-    pub storage : storage_of new ≡ storage_of old
-    pub rows : rows_of new ≡ rows_of old
+  abbrev pub IsUntouched : Desk N g → Desk N g → Type 0
+  IsUntouched old new = stops.IsUntouched g decoded (view_of old) (view_of new)
 
   -- Whether a commit failed, and which was torn; and what each image of the storage shows.
   pub record LeavesStorage (old new : Desk N g) (outcome : SideStatus) (deeds : List (SideDeed ClaimLine)) (torn : Option ClaimRow) : Type 0 where
