@@ -2,7 +2,6 @@
 use Rattle.std.proofs.Common.{◌≡◌, ◌⊎◌, inl, inr, ℕ, ◌+◌, ◌-◌, ◌<◌, List, [], ◌∷◌, Option, Some, None, Bool, true, false, ◌==◌, sym, ap, ◌∙◌, subst, arith, true≢false}
 use Rattle.std.specs.Prelude.{codes, nat_lt, is_some}
 use Rattle.std.proofs.lemmas.Bool.{cases_order}
-use Rattle.bench_base.specs.declared.events.Event.TheVariants as ev
 use Rattle.bench_base.specs.declared.sizes.TheConstants.{MOST_COMMITS}
 use Rattle.node_acts.specs.RowList.{row_at, row_of, is_worn, commits_at}
 use Rattle.node_turns.specs.Turns.{sent_in}
@@ -39,10 +38,6 @@ same_commit worn text ts us (inr a) (inr b) = b.1 ∙ sym a.1
 
 same_told : (text : List ℕ) (rows other : Rows) (a b : Answer) → IsTold text rows a → IsTold text other b → b.texts ≡ a.texts
 same_told text rows other a b told told' = told'.texts ∙ sym told.texts
-
--- a message was asked for by one line and not by the other
-nothing_sent : (text : List ℕ) (d j q : ℕ) (rows other : Rows) (a : Answer) → IsTold text rows a → IsSent d j q other a → ⊥
-nothing_sent text d j q rows other a told sent = let wrong : [] ≡ record { event = ev.Send j; turn = sent.turn } ∷ [] = sym told.none ∙ sent.only in cc
 
 one_postage : (j : ℕ) (turn : Turn) (p q : ℕ) → IsTaken j turn.reply (sent_in turn.entries) p → IsTaken j turn.reply (sent_in turn.entries) q → p ≡ q
 one_postage j turn p q is is' = let same : Some p ≡ Some q = sym is.postage ∙ is'.postage in cc

@@ -7,5 +7,10 @@ pub mod Reading
 pub mod Taking
 pub mod Answering
 pub mod Printing
+pub mod Backing
+pub mod Holding
+pub mod Indexing
+pub mod Showing
+pub mod Cutting
 pub mod Running
 pub mod Isolating

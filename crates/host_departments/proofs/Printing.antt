@@ -1,5 +1,5 @@
 -- Each job that is printed has a department.
-use Rattle.std.proofs.Common.{◌≡◌, ◌≢◌, inl, inr, ℕ, ◌+◌, ◌-◌, List, [], ◌∷◌, Option, Some, None, Bool, true, false, sym, ap, ◌∙◌, subst, arith}
+use Rattle.std.proofs.Common.{◌≡◌, ◌≢◌, inl, inr, ℕ, ◌+◌, ◌-◌, List, [], ◌∷◌, ◌++◌, Option, Some, None, Bool, true, false, sym, ap, ◌∙◌, subst, arith}
 use Rattle.std.specs.Prelude.{codes, nat_lt, slice_get}
 use Rattle.std.proofs.lemmas.Bool.{cases_eq}
 use Rattle.bench_base.specs.declared.events.Event.{Event}
@@ -7,17 +7,24 @@ use Rattle.bench_base.specs.declared.events.Event.TheVariants as ev
 use Rattle.bench_base.specs.declared.events.Reply.{Reply}
 use Rattle.bench_base.specs.declared.events.Reply.TheVariants as r
 use Rattle.bench_base.specs.Replies.{MayGet}
+use Rattle.nv_model.specs.declared.nv.Nv as nv
 use Rattle.node_acts.specs.RowList.{put}
 use Rattle.node_turns.specs.declared.turn.Turn.{Turn}
 use Rattle.bench_views.specs.Taken.{as_given, as_given_by, as_scanned_by}
 use Rattle.bench.specs.Benches.{Nodes}
 use Rattle.desk_runs.specs.Deeds.{Done, Skipped, Did}
 use Rattle.desk_runs.specs.Events.{IsLineOf}
-use Rattle.desk_runs.specs.SideDeeds.{SideDeed, Plain, Own, Broken}
-use Rattle.host_departments.specs.Answers.{Asked, Answer, IsTold, IsCommitted, IsTakenIn, IsSent, IsAssignTold, ByQuota, IsAnswered, IsCutShort, AreDone, AreAnswered}
+use Rattle.desk_runs.specs.SideDeeds.{SideDeed, Plain, Own, Broken, steps_of}
+use Rattle.host_departments.specs.Answers.{Asked, Answer, IsTold, IsCommitted, IsTakenIn, IsSent, IsAssignTold, ByQuota, IsAnswered, CellCommit, IsCutShort, AreDone, AreAnswered}
 use Rattle.host_departments.specs.Courses.{Either}
 use Rattle.host_departments.specs.DepartmentLines.{IsLine}
-use Rattle.host_departments.specs.Ran.{IsTurn, AllAssigned, ArePrinted}
+use Rattle.host_departments.specs.DepartmentsDesk.{departments_desk}
+use Rattle.std.specs.List.{AllByRecursion}
+use Rattle.line_runs.specs.Deeds.{Reads}
+use Rattle.desk_runs.specs.Desks.{side_lines}
+use Rattle.host_departments.specs.Ran.{AllAssigned}
+use Rattle.script_replay.specs.Chains.{SceneOf}
+use Rattle.script_replay.specs.Sides.{StepsBy}
 use Rattle.host_departments.specs.Rows.{Rows, row_in, job_in, first_cell, quota, spent, Keeps, IsAssigned, IsDepartment}
 use Rattle.host_departments.specs.Texts.{numbered, quota_text, assigned_text, again_text, spent_text}
 use Rattle.host_departments.specs.declared.row.DepartmentLine.{DepartmentLine}
@@ -66,12 +73,12 @@ print_given pool j (ev.Reconcile d) is = cc
 print_given pool j ev.End is = cc
 
 -- a step that tells of printing is one of `print`
-pub prints_by : (n : Nodes) (d : Done) (turn : Turn) → IsTurn n d turn → (j : ℕ) → d.reply ≡ r.Printed j → d.event ≡ ev.Print j
-prints_by n d turn tells j is =
-    let did = tells.2.0 in
+pub prints_by : (n : Nodes) (s t : SceneOf n) (d : Done) (turn : Turn) → StepsBy n s t d turn → (j : ℕ) → d.reply ≡ r.Printed j → d.event ≡ ev.Print j
+prints_by n s t d turn by j is =
+    let did = by.0 in
     let reply : did.turn.reply ≡ r.Printed j = sym did.told ∙ is in
     let may = did.steps.always.reply in
-    let pool = tells.0.bench.messages in
+    let pool = s.bench.messages in
     print_given pool j d.event (subst (λ (x : Reply). MayGet (as_given pool d.event) x) reply may)
 
 -- == what is kept is kept ==
@@ -173,41 +180,47 @@ answer_calm (Spent d) rows a line did =
     by_limit (quota rows d) d rows (λ q x. IsTold (spent_text d (spent rows d) q) rows x) a (λ q told. told_calm (spent_text d (spent rows d) q) rows a told) did
 answer_calm (Print j) rows a line did = told_calm (numbered (codes "refused dept unassigned") j) rows a did.1
 
-cut_stays : (own : DepartmentLine) (rows after : Rows) → IsCutShort own rows after → Stays rows after
-cut_stays (Quota d q) rows after is = stays_same rows after is
-cut_stays (Assign d j) rows after is = stays_same rows after is
-cut_stays (Spent d) rows after is = absurd is
-cut_stays (Print j) rows after is = absurd is
+cut_prints_none : (own : DepartmentLine) (rows : Rows) (asked : List Asked) (c : CellCommit) → IsCutShort own rows asked c → NonePrint asked
+cut_prints_none (Quota d q) rows asked c cut = no_print asked cut.1
+cut_prints_none (Assign d j) rows asked c cut = subst (λ (l : List Asked). NonePrint l) (sym cut.3.only) (λ i is. send_prints_none j i is, tt)
+cut_prints_none (Spent d) rows asked c cut = absurd cut
+cut_prints_none (Print j) rows asked c cut = absurd cut
 
 -- == a script ==
 
-module _ (Tells : Done → Turn → Type 0) (prints : (d : Done) (turn : Turn) → Tells d turn → (j : ℕ) → d.reply ≡ r.Printed j → d.event ≡ ev.Print j) where
-  all_stay : (rows after : Rows) (deeds : List (SideDeed DepartmentLine)) → AreAnswered Tells rows deeds after → Stays rows after
-  all_stay rows after [] did = stays_same rows after did
-  all_stay rows after (Plain (Skipped line) ∷ rest) did = all_stay rows after rest did
-  all_stay rows after (Plain (Did line d) ∷ rest) did = all_stay rows after rest did.1
-  all_stay rows after (Own line own steps texts ∷ rest) did =
-      stays_both rows did.0 after (answer_calm own rows (record { asked = did.1.asked; texts = texts; after = did.0 }) did.1.line did.1.answered).0 (all_stay did.0 after rest did.2)
-  all_stay rows after (Broken line own steps ∷ rest) did = stays_both rows did.0 after (cut_stays own rows did.0 did.1) (all_stay did.0 after rest did.2)
+module _ {N : Type 0} (g : nv.Ghosts N) {B : Type 0} (Steps : B → B → Done → Turn → Type 0) (prints : (s t : B) (d : Done) (turn : Turn) → Steps s t d turn → (j : ℕ) → d.reply ≡ r.Printed j → d.event ≡ ev.Print j) where
+  all_stay : (s : B) (rows : Rows) (deeds : List (SideDeed DepartmentLine)) (t : B) (after : Rows) (failed : Option CellCommit) → AreAnswered Steps s rows deeds t after failed → Stays rows after
+  all_stay s rows [] t after failed did = stays_same rows after did.1
+  all_stay s rows (Plain (Skipped line) ∷ rest) t after failed did = all_stay s rows rest t after failed did
+  all_stay s rows (Plain (Did line d) ∷ rest) t after failed did = all_stay did.0 rows rest t after failed did.2
+  all_stay s rows (Own line own steps texts ∷ rest) t after failed did =
+      stays_both rows did.1 after (answer_calm own rows (record { asked = did.2.asked; texts = texts; after = did.1 }) did.2.line did.2.answered).0 (all_stay did.0 did.1 rest t after failed did.3)
+  all_stay s rows (Broken line own steps ∷ rest) t after failed did = all_stay did.0 rows rest t after None did.4
 
-  done_assigned : (after : Rows) (steps : List Done) (asked : List Asked) → AreDone Tells steps asked → NonePrint asked → AllAssigned after steps
-  done_assigned after [] [] done none = tt
-  done_assigned after [] (x ∷ asked) done none = absurd done
-  done_assigned after (d ∷ steps) [] done none = absurd done
-  done_assigned after (d ∷ steps) (x ∷ asked) done none =
-      (λ j is. absurd (none.0 j (sym done.0 ∙ prints d x.turn done.1 j is)), done_assigned after steps asked done.2 none.1)
+  done_assigned : (after : Rows) (s : B) (steps : List Done) (asked : List Asked) (t : B) → AreDone Steps s steps asked t → NonePrint asked → AllAssigned after steps
+  done_assigned after s [] [] t done none = tt
+  done_assigned after s [] (x ∷ asked) t done none = absurd done
+  done_assigned after s (d ∷ steps) [] t done none = absurd done
+  done_assigned after s (d ∷ steps) (x ∷ asked) t done none =
+      (λ j is. absurd (none.0 j (sym done.1 ∙ prints s done.0 d x.turn done.2 j is)), done_assigned after done.0 steps asked t done.3 none.1)
 
-  pub all_printed : (rows after : Rows) (deeds : List (SideDeed DepartmentLine)) → AreAnswered Tells rows deeds after → ArePrinted after deeds
-  all_printed rows after [] did = tt
-  all_printed rows after (Plain (Skipped line) ∷ rest) did = all_printed rows after rest did
-  all_printed rows after (Plain (Did line d) ∷ rest) did = (
-    λ of j is.
-        let event : d.event ≡ ev.Print j = prints d did.0.turn did.0.tells j is in
-        still_assigned rows after (all_stay rows after rest did.1) j (did.0.passes (Print j) (subst (λ (e : Event). IsLineOf e line) event of)),
-    all_printed rows after rest did.1,
+  both_assigned : (after : Rows) (a b : List Done) → AllAssigned after a → AllAssigned after b → AllAssigned after (a ++ b)
+  both_assigned after [] b first second = second
+  both_assigned after (d ∷ a) b first second = (first.0, both_assigned after a b first.1 second)
+
+  pub all_printed : (s : B) (rows : Rows) (deeds : List (SideDeed DepartmentLine)) (t : B) (after : Rows) (failed : Option CellCommit) → AllByRecursion (Reads (side_lines (departments_desk g))) deeds
+      → AreAnswered Steps s rows deeds t after failed → AllAssigned after (steps_of deeds)
+  all_printed s rows [] t after failed reads did = tt
+  all_printed s rows (Plain (Skipped line) ∷ rest) t after failed reads did = all_printed s rows rest t after failed reads.1 did
+  all_printed s rows (Plain (Did line d) ∷ rest) t after failed reads did = (
+    λ j is.
+        let event : d.event ≡ ev.Print j = prints s did.0 d did.1.turn did.1.did j is in
+        still_assigned rows after (all_stay did.0 rows rest t after failed did.2) j (did.1.passes (Print j) (subst (λ (e : Event). IsLineOf e line) event reads.0.is.0)),
+    all_printed did.0 rows rest t after failed reads.1 did.2,
   )
-  all_printed rows after (Own line own steps texts ∷ rest) did = (
-    done_assigned after steps did.1.asked did.1.done (answer_calm own rows (record { asked = did.1.asked; texts = texts; after = did.0 }) did.1.line did.1.answered).1,
-    all_printed did.0 after rest did.2,
-  )
-  all_printed rows after (Broken line own steps ∷ rest) did = all_printed did.0 after rest did.2
+  all_printed s rows (Own line own steps texts ∷ rest) t after failed reads did =
+      both_assigned after steps (steps_of rest)
+      (done_assigned after s steps did.2.asked did.0 did.2.done (answer_calm own rows (record { asked = did.2.asked; texts = texts; after = did.1 }) did.2.line did.2.answered).1)
+      (all_printed did.0 did.1 rest t after failed reads.1 did.3)
+  all_printed s rows (Broken line own steps ∷ rest) t after failed reads did =
+      both_assigned after steps (steps_of rest) (done_assigned after s steps did.2.asked did.0 did.2.done (cut_prints_none own rows did.2.asked did.1 did.2.cut)) (all_printed did.0 rows rest t after None reads.1 did.4)

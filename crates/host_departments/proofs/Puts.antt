@@ -1,8 +1,9 @@
 -- Rows that agree still agree after a commit.
-use Rattle.std.proofs.Common.{◌≡◌, ◌≢◌, inl, inr, ℕ, ◌+◌, ◌-◌, ◌<◌, ◌≤◌, length, Option, Some, None, refl, sym, ap, ◌∙◌, subst, arith}
+use Rattle.std.proofs.Common.{◌≡◌, ◌≢◌, ◌⊎◌, inl, inr, ℕ, ◌+◌, ◌-◌, ◌<◌, ◌≤◌, length, Option, Some, None, refl, sym, ap, ◌∙◌, subst, arith}
 use Rattle.std.specs.Prelude.{IsSome, is_some}
-use Rattle.std.proofs.lemmas.Bool.{cases_eq}
-use Rattle.node_acts.specs.RowList.{put, row_of}
+use Rattle.std.proofs.lemmas.Bool.{cases_eq, cases_lt}
+use Rattle.std.proofs.lemmas.List.{set_past}
+use Rattle.node_acts.specs.RowList.{put, row_of, row_at, commits_at}
 use Rattle.node_acts.specs.RowLaws.{put_here, put_other}
 use Rattle.host_departments.specs.Rows.{Rows, row_in, quota, quota_in, or_zero, spent, postage_at, postage_in, job_in, first_cell, Keeps, HasJobs, AreInOrder, IsDepartment, IsSound}
 use Rattle.host_departments.specs.declared.row.DepartmentRow.{DepartmentRow}
@@ -15,6 +16,19 @@ module _ (rows : Rows) (cell : ℕ) (x : DepartmentRow) where
 
   pub row_else : (k : ℕ) → k ≢ cell → row_in (put rows cell x) k ≡ row_in rows k
   row_else k differs = ap (λ o. row_of o) (put_other rows cell x k differs)
+
+one_row : (x y : DepartmentRow) → Some x ≡ Some y → x ≡ y
+one_row x y is = cc
+
+-- what a cell keeps after a commit is what was committed or was there before
+pub put_row : (rows : Rows) (k : ℕ) (x y : DepartmentRow) (l : ℕ) → row_in (put rows k x) l ≡ Some y → (x ≡ y) ⊎ (row_in rows l ≡ Some y)
+put_row rows k x y l is = elim (cases_eq l k) [
+  | inl same ↦ elim (cases_lt k (length rows)) [
+    | inl lt ↦ inl (one_row x y (sym (row_put rows k x lt) ∙ (ap (λ (j : ℕ). row_in (put rows k x) j) (sym same) ∙ is)))
+    | inr past ↦ inr (subst (λ (r : Rows). row_in r l ≡ Some y) (set_past rows k (Some (commits_at (row_at rows k) + 1, x)) past) is)
+  ]
+  | inr differs ↦ inr (sym (row_else rows k x l differs) ∙ is)
+]
 
 some_of : (o p : Option DepartmentRow) → o ≡ p → IsSome p → IsSome o
 some_of o p is some = ap (λ (x : Option DepartmentRow). is_some x) is ∙ some
@@ -98,16 +112,6 @@ module _ (rows : Rows) (d n j p : ℕ) (is_d : IsDepartment d) (jobs : HasJobs r
   spent_else : (e : ℕ) → IsDepartment e → e ≢ d → spent with_job e ≡ spent rows e
   spent_else e is_e differs =
       sum_same 64 (postage_at with_job e) (postage_at rows e) (λ i lt. ap (λ (o : Option DepartmentRow). postage_in o) (other_department e i is_e differs lt))
-
-  -- what was kept is kept
-  pub still_kept : (k i : ℕ) → Keeps rows k i → Keeps with_job k i
-  still_kept k i keeps = elim (cases_eq k (first_cell d + n)) [
-    | inl is ↦
-        let wrong : None ≡ Some i =
-        sym (ap (λ (o : Option DepartmentRow). job_in o) (ap (λ (m : ℕ). row_in rows m) is ∙ jobs.blank room)) ∙ keeps in
-        cc
-    | inr differs ↦ ap (λ (o : Option DepartmentRow). job_in o) (row_else rows (first_cell d + n) (Job j p) k differs) ∙ keeps
-  ]
 
   job_at : (k i : ℕ) → k ≡ first_cell d + n → Keeps with_job k i → j ≡ i
   job_at k i is keeps =

@@ -1,37 +1,74 @@
 -- What a run with departments did, by what departments and bench did of its lines.
-use Rattle.std.proofs.Common.{List, sym, ap, subst}
+use Rattle.std.proofs.Common.{◌≡◌, List, [], ◌∷◌, sym, ap, subst}
+use Rattle.std.specs.List.{AllByRecursion}
+use Rattle.bench_base.specs.declared.ledger.Entry.TheVariants.{Begin}
+use Rattle.bench_base.specs.Ledger.{Ledger}
+use Rattle.bench_base.specs.Rules.{editions}
 use Rattle.nv_model.specs.declared.nv.Nv as nv
-use Rattle.bench.specs.Benches.{Nodes}
+use Rattle.nv_model.specs.Moments.{Nested}
+use Rattle.ledger_lawful.specs.Editions.{Editions}
+use Rattle.ledger_moves.specs.Tariffs.{Tariff}
+use Rattle.bench.specs.Benches.{Nodes, BenchOf}
+use Rattle.line_runs.specs.Deeds.{Reads}
 use Rattle.line_runs.specs.declared.status.Status.TheVariants as status
 use Rattle.line_runs.specs.declared.status.SideStatus.{SideStatus}
 use Rattle.line_runs.specs.declared.status.SideStatus.TheVariants.{Run}
-use Rattle.desk_runs.specs.Desks.{World, world}
-use Rattle.desk_runs.specs.SideDeeds.{SideDeed}
-use Rattle.script_replay.specs.Chains.{SceneOf, scene}
+use Rattle.desk_runs.specs.Deeds.{Done}
+use Rattle.desk_runs.specs.Desks.{World, world, side_lines}
+use Rattle.desk_runs.specs.SideDeeds.{SideDeed, steps_of}
+use Rattle.desk_stops.proofs.Lines.{AtLast}
+use Rattle.desk_stops.proofs.Stores.{Ends, leaves}
+use Rattle.script_replay.specs.Chains.{SceneOf, scene, DidEvents}
 use Rattle.script_replay.specs.Run.{Leaves}
 use Rattle.script_replay.specs.Sides.{StepsBy, DidSide}
+use Rattle.script_replay.specs.Throughout.{IsBetween, StandsFor, Throughout}
 use Rattle.host_departments.specs.Answers.{AreAnswered}
 use Rattle.host_departments.specs.DepartmentsDesk.{departments_desk}
-use Rattle.host_departments.specs.Ran.{IsTurn, DidDepartments}
+use Rattle.host_departments.specs.Payload.{decoded}
+use Rattle.host_departments.specs.Ran.{DidDepartments}
 use Rattle.host_departments.specs.Rows.{Rows}
-use Rattle.host_departments.specs.View.{rows_of}
+use Rattle.host_departments.specs.View.{rows_of, view_of}
 use Rattle.host_departments.specs.declared.desk.Departments.{Departments}
 use Rattle.host_departments.specs.declared.row.DepartmentLine.{DepartmentLine}
+use Rattle.host_departments.specs.declared.row.TheConstants.{CELLS}
 use Rattle.host_departments.proofs.Answering.{all_answered, desk_left}
+use Rattle.host_departments.proofs.Backing.{backed_after}
+use Rattle.host_departments.proofs.Cutting.{desk_sound}
+use Rattle.host_departments.proofs.Holding.{departments_hold}
 use Rattle.host_departments.proofs.Places.{one_department}
 use Rattle.host_departments.proofs.Printing.{prints_by, all_printed}
+use Rattle.host_departments.proofs.Showing.{shows_now}
 
-module _ {N : Type 0} (n : Nodes) (own : nv.Ghosts N) (old new : World (SceneOf n) (Departments N own)) (outcome : SideStatus) where
-  pub did_departments : (deeds : List (SideDeed DepartmentLine)) → DidSide n (departments_desk own) old new outcome deeds
-      → DidDepartments n (DidSide n (departments_desk own) old new outcome) (rows_of old.desk) (rows_of new.desk) deeds
-  did_departments deeds did =
-      let answers = subst (λ (r : Rows). AreAnswered (IsTurn n) (rows_of old.desk) deeds r)
-      (sym (ap (λ (d : Departments N own). rows_of d) (desk_left (λ s t. Leaves (Run status.Memory) s t) outcome did.behind new did.leaves)))
-      (all_answered (StepsBy n) (world (scene did.begun old.scene.outside) old.desk) did.behind deeds did.did) in
+-- the first moment of a run
+first_between : (n : Nodes) (τ : Tariff) (L : Ledger) (old new : SceneOf n) (deeds : List Done) (did : DidEvents n old new deeds) → Throughout n τ L old new deeds did → IsBetween n τ old.bench L
+first_between n τ L old new [] did all = all
+first_between n τ L old new (d ∷ rest) did all = all.0
+
+module _ {N : Type 0} (n : Nodes) (own : nv.Ghosts N) (nested : (s : N) → own.tells → Nested (own.times s)) (today : Editions editions) (old new : World (SceneOf n) (Departments N own)) (outcome : SideStatus) where
+  pub did_departments : (deeds : List (SideDeed DepartmentLine)) → AllByRecursion (Reads (side_lines (departments_desk own))) deeds → AtLast (departments_desk own) outcome deeds
+      → DidSide n (departments_desk own) old new outcome deeds → DidDepartments n own old new outcome deeds
+  did_departments deeds reads at did =
+      let from = world (scene did.begun old.scene.outside) old.desk in
+      let same : new.desk ≡ did.behind.desk = desk_left (λ s t. Leaves (Run status.Memory) s t) outcome did.behind new did.leaves in
+      let all = all_answered nested (StepsBy n) from did.behind deeds at.last did.did in
+      let answers : AreAnswered (StepsBy n) from.scene (rows_of old.desk) deeds did.behind.scene (rows_of new.desk) all.0 =
+      subst (λ (r : Rows). AreAnswered (StepsBy n) from.scene (rows_of old.desk) deeds did.behind.scene r all.0) (sym (ap (λ (d : Departments N own). rows_of d) same)) all.2 in
+      let ends : Ends own decoded 12 CELLS (view_of old.desk) (view_of new.desk) deeds all.0 =
+      subst (λ (d : Departments N own). Ends own decoded 12 CELLS (view_of old.desk) (view_of d) deeds all.0) (sym same) all.1 in
       record {
         side = did;
+        failed = all.0;
         answers = answers;
+        storage = leaves own decoded 12 CELLS (view_of old.desk) (view_of new.desk) outcome deeds at.stops (λ works tells c image. shows_now new.desk works tells c image) all.0 ends;
         within = λ d is. (new.desk.sound.each d is).1;
         one = λ d e j is_d is_e has has'. one_department (rows_of new.desk) new.desk.sound d e j is_d is_e has has';
-        printed = all_printed (IsTurn n) (prints_by n) (rows_of old.desk) (rows_of new.desk) deeds answers;
+        agrees = desk_sound (StepsBy n) new.desk from.scene (rows_of old.desk) deeds did.behind.scene all.0 at.last answers;
+        printed = all_printed own (StepsBy n) (prints_by n) from.scene (rows_of old.desk) deeds did.behind.scene (rows_of new.desk) all.0 reads answers;
+        holds = λ τ L texts stands tells backed unforged.
+            let over = did.bench.over τ L texts stands tells in
+            let history = (over.stands unforged).history in
+            let between = first_between n τ (Begin ∷ L) _ _ (steps_of deeds) did.bench.steps (did.bench.throughout τ L texts stands tells) in
+            let begins : StandsFor n τ did.begun (Begin ∷ L) = subst (λ (b : BenchOf n). StandsFor n τ b (Begin ∷ L)) did.same between.stands in
+            let b = backed_after τ n texts tells today L from.scene (rows_of old.desk) deeds did.behind.scene (rows_of new.desk) all.0 begins backed unforged answers in
+            (departments_hold today τ _ history _ b.0, departments_hold today τ _ history _ b.1);
       }

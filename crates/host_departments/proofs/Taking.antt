@@ -1,5 +1,5 @@
 -- What is left of a quota.
-use Rattle.std.proofs.Common.{◌≡◌, ◌+◌, ◌<◌, ◌≤◌, ℕ, Bool, true, false, Option, Some, None, sym, subst, arith, true≢false}
+use Rattle.std.proofs.Common.{◌≡◌, ◌+◌, ◌≤◌, ℕ, Bool, false, Option, Some, None, sym, subst, arith, true≢false}
 use Rattle.std.specs.Prelude.{nat_lt, IsSome, IfSome}
 use Rattle.std.proofs.lemmas.Bool.Decides.{nat_tests}
 use Rattle.host_departments.specs.Courses.{Either}
@@ -12,9 +12,6 @@ limit_is (Some q) left spent some is = is
 
 pub no_less : (a b : ℕ) → b ≤ a → nat_lt a b ≡ false
 no_less a b le = grind (arith, nat_tests)
-
-pub is_less : (a b : ℕ) → a < b → nat_lt a b ≡ true
-is_less a b lt = grind (arith, nat_tests)
 
 -- where the postage is not above it
 pub not_above : (P Q : Type 0) (left p : ℕ) → p ≤ left → Q → Either (nat_lt left p) P Q

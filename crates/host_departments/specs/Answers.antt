@@ -8,6 +8,7 @@ use Rattle.node_turns.specs.declared.turn.Turn.{Turn}
 use Rattle.script_text.specs.Texts.{text_of}
 use Rattle.desk_runs.specs.Deeds.{Done, Skipped, Did}
 use Rattle.desk_runs.specs.SideDeeds.{SideDeed, Plain, Own, Broken}
+use Rattle.desk_stops.specs.Stops.{RowCommit}
 use Rattle.host_departments.specs.Courses.{Either}
 use Rattle.host_departments.specs.DepartmentLines.{IsLine}
 use Rattle.host_departments.specs.Heard.{IsTaken}
@@ -70,6 +71,10 @@ pub record IsSent (d j q : ℕ) (rows : Rows) (a : Answer) : Type 0 where
   pub did : ((p : ℕ) × IsTaken j turn.reply (sent_in turn.entries) p × IsLimited d j p (q - spent rows d) rows a)
       ⊎ (((p : ℕ) → IsTaken j turn.reply (sent_in turn.entries) p → ⊥) × (a.texts ≡ text_of turn.reply ∷ []) × (a.after ≡ rows))
 
+-- no department has the job, and this one has room for it
+abbrev pub IsFree : Rows → ℕ → ℕ → Type 0
+IsFree rows d j = (Has rows d j → ⊥) × (AnotherHas rows d j → ⊥) × (HasJobs rows d 64 → ⊥)
+
 -- where the department has a quota: it has the job; another has it; it has 64 jobs; or the message is asked for
 abbrev pub IsAssignTold : ℕ → ℕ → ℕ → Rows → Answer → Type 0
 IsAssignTold d j q rows a =
@@ -90,40 +95,69 @@ IsAnswered (Assign d j) rows a = ByQuota (quota rows d) d rows (λ q x. IsAssign
 IsAnswered (Spent d) rows a = ByQuota (quota rows d) d rows (λ q x. IsTold (spent_text d (spent rows d) q) rows x) a
 IsAnswered (Print j) rows a = (IsAssigned rows j → ⊥) × IsTold (numbered (codes "refused dept unassigned") j) rows a
 
--- a line at which a commit failed: nothing was committed before it
-abbrev pub IsCutShort : DepartmentLine → Rows → Rows → Type 0
-IsCutShort (Quota d q) rows after = after ≡ rows
-IsCutShort (Assign d j) rows after = after ≡ rows
-IsCutShort (Spent d) rows after = ⊥
-IsCutShort (Print j) rows after = ⊥
+-- == a line at which a commit failed ==
+
+-- a commit of a quota or a job to a cell
+abbrev pub CellCommit : Type 0
+CellCommit = RowCommit DepartmentRow
+
+-- the commit of job j, whose message was sent, behind those that department d has
+pub record IsCutJob (d j q : ℕ) (rows : Rows) (asked : List Asked) (c : CellCommit) : Type 0 where
+  pub turn : Turn
+  pub only : asked ≡ record { event = ev.Send j; turn = turn } ∷ []
+  pub postage : ℕ
+  pub taken : IsTaken j turn.reply (sent_in turn.entries) postage
+  pub fits : nat_lt (q - spent rows d) postage ≡ false
+  pub place : ℕ
+  pub jobs : HasJobs rows d place
+  pub room : place < 64
+  pub cell : c.cell ≡ first_cell d + place
+  pub kept : c.kept ≡ row.Job j postage
+
+-- nothing was committed before it, and this commit failed
+abbrev pub IsCutShort : DepartmentLine → Rows → List Asked → CellCommit → Type 0
+IsCutShort (Quota d q) rows asked c = (nat_lt q (spent rows d) ≡ false) × (asked ≡ []) × (c ≡ record { cell = d - 1; kept = row.Quota q })
+IsCutShort (Assign d j) rows asked c = (q : ℕ) × (quota rows d ≡ Some q) × IsFree rows d j × IsCutJob d j q rows asked c
+IsCutShort (Spent d) rows asked c = ⊥
+IsCutShort (Print j) rows asked c = ⊥
 
 -- == a script ==
 
-module _ (Tells : Done → Turn → Type 0) where
-  -- what was asked for is what was done
-  abbrev pub AreDone : List Done → List Asked → Type 0
-  AreDone [] [] = Unit {0}
-  AreDone [] (x ∷ asked) = ⊥
-  AreDone (d ∷ steps) [] = ⊥
-  AreDone (d ∷ steps) (x ∷ asked) = (d.event ≡ x.event) × Tells d x.turn × AreDone steps asked
+-- `Steps s t d turn` says that the bench, which was s and is t, did this by one step, whose turn this is.
+module _ {B : Type 0} (Steps : B → B → Done → Turn → Type 0) where
+  -- what was asked for is what the bench did, one step after the other
+  abbrev pub AreDone : B → List Done → List Asked → B → Type 0
+  AreDone s [] [] t = t ≡ s
+  AreDone s [] (x ∷ asked) t = ⊥
+  AreDone s (d ∷ steps) [] t = ⊥
+  AreDone s (d ∷ steps) (x ∷ asked) t = (mid : B) × (d.event ≡ x.event) × Steps s mid d x.turn × AreDone mid steps asked t
 
   -- a line that is left to the bench, and the turn of its step
-  pub record IsLeft (rows : Rows) (line : List ℕ) (d : Done) : Type 0 where
+  pub record IsLeft (rows : Rows) (line : List ℕ) (s : B) (d : Done) (t : B) : Type 0 where
     pub passes : Passes rows line
     pub turn : Turn
-    pub tells : Tells d turn
+    pub did : Steps s t d turn
 
   -- an own line was answered by these texts
-  pub record IsOwnTold (own : DepartmentLine) (rows : Rows) (steps : List Done) (texts : List (List ℕ)) (after : Rows) : Type 0 where
+  pub record IsOwnTold (own : DepartmentLine) (rows : Rows) (s : B) (steps : List Done) (texts : List (List ℕ)) (t : B) (after : Rows) : Type 0 where
     pub line : IsLine own
     pub asked : List Asked
-    pub done : AreDone steps asked
+    pub done : AreDone s steps asked t
     pub answered : IsAnswered own rows (record { asked = asked; texts = texts; after = after })
 
-  -- each line in turn
-  abbrev pub AreAnswered : Rows → List (SideDeed DepartmentLine) → Rows → Type 0
-  AreAnswered rows [] after = after ≡ rows
-  AreAnswered rows (Plain (Skipped line) ∷ rest) after = AreAnswered rows rest after
-  AreAnswered rows (Plain (Did line d) ∷ rest) after = IsLeft rows line d × AreAnswered rows rest after
-  AreAnswered rows (Own line own steps texts ∷ rest) after = (mid : Rows) × IsOwnTold own rows steps texts mid × AreAnswered mid rest after
-  AreAnswered rows (Broken line own steps ∷ rest) after = (mid : Rows) × IsCutShort own rows mid × AreAnswered mid rest after
+  -- an own line at which this commit failed
+  pub record IsOwnCut (own : DepartmentLine) (rows : Rows) (s : B) (steps : List Done) (t : B) (c : CellCommit) : Type 0 where
+    pub line : IsLine own
+    pub asked : List Asked
+    pub done : AreDone s steps asked t
+    pub cut : IsCutShort own rows asked c
+
+  -- each line in turn, and the commit that failed, if one did
+  abbrev pub AreAnswered : B → Rows → List (SideDeed DepartmentLine) → B → Rows → Option CellCommit → Type 0
+  AreAnswered s rows [] t after failed = (t ≡ s) × (after ≡ rows) × (failed ≡ None)
+  AreAnswered s rows (Plain (Skipped line) ∷ rest) t after failed = AreAnswered s rows rest t after failed
+  AreAnswered s rows (Plain (Did line d) ∷ rest) t after failed = (m : B) × IsLeft rows line s d m × AreAnswered m rows rest t after failed
+  AreAnswered s rows (Own line own steps texts ∷ rest) t after failed =
+      (m : B) × (mid : Rows) × IsOwnTold own rows s steps texts m mid × AreAnswered m mid rest t after failed
+  AreAnswered s rows (Broken line own steps ∷ rest) t after failed =
+      (m : B) × (c : CellCommit) × IsOwnCut own rows s steps m c × (failed ≡ Some c) × AreAnswered m rows rest t after None

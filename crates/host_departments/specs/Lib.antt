@@ -4,6 +4,8 @@ pub mod Courses
 pub mod DepartmentLines
 pub mod DepartmentsDesk
 pub mod Heard
+pub mod Holds
+pub mod Index
 pub mod Isolation
 pub mod Kept
 pub mod Passes

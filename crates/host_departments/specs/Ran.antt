@@ -1,20 +1,31 @@
 -- What a run with departments did.
-use Rattle.std.specs.Prelude.{◌≡◌, ◌≤◌, ℕ, List, [], ◌∷◌}
+use Rattle.std.specs.Prelude.{◌≡◌, ◌≤◌, ℕ, List, [], ◌∷◌, Option}
 use Rattle.bench_base.specs.declared.events.Reply.TheVariants as r
-use Rattle.node_turns.specs.declared.turn.Turn.{Turn}
+use Rattle.bench_base.specs.declared.ledger.Entry.TheVariants.{Begin}
+use Rattle.bench_base.specs.Ledger.{Ledger}
+use Rattle.nv_model.specs.declared.nv.Nv as nv
+use Rattle.ledger_moves.specs.Tariffs.{Tariff}
+use Rattle.bench_views.specs.Tariff.{IsOfTexts}
 use Rattle.bench.specs.Benches.{Nodes}
-use Rattle.script_replay.specs.Chains.{SceneOf}
-use Rattle.script_replay.specs.Sides.{StepsBy}
-use Rattle.desk_runs.specs.Deeds.{Done, Skipped, Did}
-use Rattle.desk_runs.specs.Events.{IsLineOf}
-use Rattle.desk_runs.specs.SideDeeds.{SideDeed, Plain, Own, Broken}
-use Rattle.host_departments.specs.Answers.{AreAnswered}
-use Rattle.host_departments.specs.Rows.{Rows, IsDepartment, Has, IsAssigned, quota, or_zero, spent}
+use Rattle.line_runs.specs.declared.status.SideStatus.{SideStatus}
+use Rattle.desk_runs.specs.Deeds.{Done}
+use Rattle.desk_runs.specs.Desks.{World}
+use Rattle.desk_runs.specs.SideDeeds.{SideDeed, steps_of}
+use Rattle.desk_stops.specs.Stops.{LeavesStorage, with_commit}
+use Rattle.script_replay.specs.Chains.{SceneOf, scene}
+use Rattle.script_replay.specs.Deeds.{ledger_after, AreUnforged}
+use Rattle.script_replay.specs.Run.{Unforged}
+use Rattle.script_replay.specs.Sides.{StepsBy, DidSide}
+use Rattle.script_replay.specs.Throughout.{StandsFor}
+use Rattle.host_departments.specs.Answers.{CellCommit, AreAnswered}
+use Rattle.host_departments.specs.DepartmentsDesk.{departments_desk}
+use Rattle.host_departments.specs.Holds.{AreBacked, DepartmentsHold}
+use Rattle.host_departments.specs.Payload.{decoded}
+use Rattle.host_departments.specs.Rows.{Rows, IsDepartment, Has, IsAssigned, quota, or_zero, spent, IsSound}
+use Rattle.host_departments.specs.View.{rows_of, view_of}
+use Rattle.host_departments.specs.declared.desk.Departments.{Departments}
 use Rattle.host_departments.specs.declared.row.DepartmentLine.{DepartmentLine}
-
--- the bench did this by a step, whose turn this is
-abbrev pub IsTurn : Nodes → Done → Turn → Type 0
-IsTurn n d turn = (s t : SceneOf n) × StepsBy n s t d turn
+use Rattle.host_departments.specs.declared.row.TheConstants.{CELLS}
 
 -- each department has spent at most its quota: nothing, where it has none
 abbrev pub IsWithinQuotas : Rows → Type 0
@@ -28,24 +39,26 @@ IsOfOne rows = (d e j : ℕ) → IsDepartment d → IsDepartment e → Has rows 
 abbrev pub PrintsAssigned : Rows → Done → Type 0
 PrintsAssigned rows d = (j : ℕ) → d.reply ≡ r.Printed j → IsAssigned rows j
 
--- so of all that was done for the lines; a deed's event is that of its line
+-- so of all that was done
 abbrev pub AllAssigned : Rows → List Done → Type 0
 AllAssigned rows [] = Unit {0}
 AllAssigned rows (d ∷ steps) = PrintsAssigned rows d × AllAssigned rows steps
 
-abbrev pub ArePrinted : Rows → List (SideDeed DepartmentLine) → Type 0
-ArePrinted rows [] = Unit {0}
-ArePrinted rows (Plain (Skipped line) ∷ rest) = ArePrinted rows rest
-ArePrinted rows (Plain (Did line d) ∷ rest) = (IsLineOf d.event line → PrintsAssigned rows d) × ArePrinted rows rest
-ArePrinted rows (Own line own steps texts ∷ rest) = AllAssigned rows steps × ArePrinted rows rest
-ArePrinted rows (Broken line own steps ∷ rest) = ArePrinted rows rest
-
--- The departments and the bench did the deeds; each line about departments has its answer, by what was kept then and by what was heard of its message;
--- a line is left to the bench only as a `print` of an assigned job or as one that is not about departments; and what is kept then is within the quotas,
--- with each job of one department at most, which each job has that was printed.
-pub record DidDepartments (n : Nodes) (DidSide : List (SideDeed DepartmentLine) → Type 0) (rows after : Rows) (deeds : List (SideDeed DepartmentLine)) : Type 0 where
-  pub side : DidSide deeds
-  pub answers : AreAnswered (IsTurn n) rows deeds after
-  pub within : IsWithinQuotas after
-  pub one : IsOfOne after
-  pub printed : ArePrinted after deeds
+-- The departments and the bench did the deeds; each line about departments has its answer, by what was kept then and by what was heard of its message at
+-- that place of the run; a line is left to the bench only as a `print` of an assigned job or as one that is not about departments; and what is kept then is
+-- within the quotas, with each job of one department at most, which each job has that was printed. One commit may have failed: then a later boot finds what
+-- is kept without it or with it, which agrees either way. By a history for which the bench stood, and where the jobs of earlier runs are backed by it and nothing was forged, either
+-- holds by the ledger that the deeds leave.
+pub record DidDepartments (n : Nodes) {N : Type 0} (own : nv.Ghosts N) (old new : World (SceneOf n) (Departments N own)) (outcome : SideStatus) (deeds : List (SideDeed DepartmentLine)) : Type 0 where
+  pub side : DidSide n (departments_desk own) old new outcome deeds
+  pub failed : Option CellCommit
+  pub answers : AreAnswered (StepsBy n) (scene side.begun old.scene.outside) (rows_of old.desk) deeds side.behind.scene (rows_of new.desk) failed
+  pub storage : LeavesStorage own decoded 12 CELLS (view_of old.desk) (view_of new.desk) outcome deeds failed
+  pub within : IsWithinQuotas (rows_of new.desk)
+  pub one : IsOfOne (rows_of new.desk)
+  pub agrees : IsSound (with_commit failed (rows_of new.desk))
+  pub printed : AllAssigned (rows_of new.desk) (steps_of deeds)
+  pub holds : (τ : Tariff) (L : Ledger) → IsOfTexts τ → StandsFor n τ old.scene.bench L → n.storage.tells → AreBacked (rows_of old.desk) L
+      → AreUnforged τ Unforged (Begin ∷ L) (steps_of deeds)
+      → DepartmentsHold (rows_of new.desk) (ledger_after τ (Begin ∷ L) (steps_of deeds))
+      × DepartmentsHold (with_commit failed (rows_of new.desk)) (ledger_after τ (Begin ∷ L) (steps_of deeds))

@@ -3,6 +3,7 @@ use Rattle.std.specs.Prelude.{◌≡◌, Bool}
 use Rattle.nv_model.specs.declared.nv.Nv.{Ghosts}
 use Rattle.nv_store.specs.RoomView.{cells_of, kept_in}
 use Rattle.row_store.specs.Commits.{RowView}
+use Rattle.desk_stops.specs.Stops.{DeskView}
 use Rattle.host_departments.specs.Kept.{rows_in}
 use Rattle.host_departments.specs.Rows.{Rows}
 use Rattle.host_departments.specs.declared.desk.Departments.{Departments}
@@ -28,6 +29,10 @@ module _ {N : Type 0} {g : Ghosts N} where
   -- their cells and storage
   abbrev pub store_of : Departments N g → RowView
   store_of desk = record { cells = cells_of desk.room; held = kept_in desk.room; times = g.times desk.nv; meters = g.meters desk.nv }
+
+  -- whether a commit failed, the storage, and what is kept of each cell
+  abbrev pub view_of : Departments N g → DeskView N
+  view_of desk = record { failed = desk.failed; storage = desk.nv; cells = cells_of desk.room; held = kept_in desk.room }
 
   -- nothing but the answer is another
   pub record Rests (old new : Departments N g) : Type 0 where

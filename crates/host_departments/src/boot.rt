@@ -12,6 +12,7 @@ ghost use Rattle.host_departments.specs.View.{storage_of, has_failed, rows_of};
 ghost use Rattle.host_departments.specs.declared.row.TheConstants.{CELLS};
 
 use crate::desk::Departments;
+use crate::index::index_of;
 use crate::payload::DepartmentRows;
 use crate::row::CELLS;
 use crate::said::Said;
@@ -53,12 +54,16 @@ impl<N: Nv> Departments<N> {
         let mut nv = nv;
         let mut room = room;
         match boot_rows::<DepartmentRows, N, 12>(&mut nv, &mut room, CELLS) {
-            Ok(()) => Ok(Departments {
-                nv,
-                room,
-                failed: false,
-                said: Said::Nothing,
-            }),
+            Ok(()) => {
+                let index = index_of(&room, CELLS);
+                Ok(Departments {
+                    nv,
+                    room,
+                    failed: false,
+                    said: Said::Nothing,
+                    index,
+                })
+            }
             Err(fail) => Err((nv, room, fail)),
         }
     }

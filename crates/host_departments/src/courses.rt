@@ -14,7 +14,8 @@ ghost use Rattle.host_departments.specs.declared.row.DepartmentLine.TheVariants 
 
 use crate::desk::Departments;
 use crate::heard::{Heard, postage_taken};
-use crate::kept::{cell_of, first_cell, jobs, quota, spent};
+use crate::index::{indexed_cell, note_row};
+use crate::kept::{first_cell, jobs, quota, spent};
 use crate::payload::{DepartmentRows, department_of};
 use crate::row::{CELLS, DepartmentLine, DepartmentRow, JOBS};
 use crate::said::Said;
@@ -46,7 +47,7 @@ impl<N: Nv> Departments<N> {
         ensures found { IfSome result (λ d. IsDepartment d × Has (rows_of self.now) d job) }
         ensures none { IfNone result ((k : ℕ) → Keeps (rows_of self.now) k job → ⊥) }
     {
-        match cell_of(&self.room, CELLS, job) {
+        match indexed_cell(&self.room, CELLS, &self.index, job) {
             Some(cell) => Some(department_of(cell)),
             None => None,
         }
@@ -75,6 +76,7 @@ impl<N: Nv> Departments<N> {
             self.said = Said::Nothing;
             return Next::Stop;
         }
+        note_row(&mut self.index, cell, row);
         match commit_row::<DepartmentRows, N, 12>(&mut self.nv, &mut self.room, cell, row) {
             Ok(()) => {
                 self.said = meant;

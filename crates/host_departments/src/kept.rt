@@ -54,7 +54,7 @@ fn postage_in(row: &Option<DepartmentRow>) -> u32
     }
 }
 
-fn job_in(row: &Option<DepartmentRow>) -> Option<u32>
+pub(crate) fn job_in(row: &Option<DepartmentRow>) -> Option<u32>
     ensures { result ≡ job_in row.now }
 {
     match row {

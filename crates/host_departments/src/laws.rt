@@ -1,8 +1,28 @@
-//! Laws on the answers.
+//! Laws of the definitions: each is the contract of a call that does nothing.
+ghost use Rattle.std.specs.Prelude.{◌≡◌, ℕ, List, None, length};
+ghost use Rattle.bench_base.specs.Ledger.{Ledger};
+ghost use Rattle.row_store.specs.Seen.{ReadsAs};
+ghost use Rattle.row_table.specs.Shows.{ShowsRows};
+ghost use Rattle.host_departments.specs.Holds.{AreBacked};
 ghost use Rattle.host_departments.specs.Isolation.{AreIsolated};
+ghost use Rattle.host_departments.specs.Payload.{decoded};
+ghost use Rattle.host_departments.specs.Rows.{Rows, row_in};
+ghost use Rattle.host_departments.specs.declared.row.TheConstants.{CELLS};
 
 /// A department does not see the others' quotas and postage: where the same was committed of it, the same jobs are others' and the messages were
 /// answered by the same texts with the same postage, each line of it has the same answer.
 pub fn isolated()
     ensures law { AreIsolated }
+{}
+
+/// What a run with departments wants of earlier runs is so before the first one: where no quota and no job is kept, jobs are backed by any ledger.
+pub fn first_jobs_are_backed()
+    ensures first { (rows : Rows) (H : Ledger) → ((k : ℕ) → row_in rows k ≡ None) → AreBacked rows H }
+{}
+
+/// An image shows one list of 1,040 quotas and jobs: so a boot after a run finds those that its storage shows, without the commit that failed or with it.
+pub fn one_list_is_shown()
+    ensures { (a b : Rows) (image : List ℕ) → length a ≡ CELLS → length b ≡ CELLS
+        → ShowsRows 12 CELLS (ReadsAs decoded) a image → ShowsRows 12 CELLS (ReadsAs decoded) b image
+        → a ≡ b }
 {}

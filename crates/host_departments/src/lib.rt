@@ -5,6 +5,7 @@ mod boot;
 mod courses;
 mod desk;
 mod heard;
+mod index;
 mod kept;
 pub mod laws;
 mod lines;

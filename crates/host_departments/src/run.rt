@@ -3,14 +3,14 @@ ghost use Rattle.std.specs.Prelude.{map, string_bytes, codes};
 ghost use Rattle.bench.specs.Benches.{IsReady, bench_of};
 ghost use Rattle.desk_runs.specs.Desks.{world};
 ghost use Rattle.script_replay.specs.Chains.{scene_of};
-ghost use Rattle.script_replay.specs.Sides.{DidSide, RanSide, EndsSide, CompletesSide};
+ghost use Rattle.script_replay.specs.Sides.{RanSide, EndsSide, CompletesSide};
 ghost use Rattle.script_replay.specs.Streams.{streams_of};
 ghost use Rattle.host_departments.specs.Ran.{DidDepartments};
-ghost use Rattle.host_departments.specs.View.{rows_of};
 
 use crate::desk::Departments;
 use bench::{Bench, HasNodes};
 use bench_base::stream::{Sink, Source};
+use ledger_laws::laws::histories;
 use nv_model::Nv;
 use script_replay::side::run_side;
 use script_replay::status::SideStatus;
@@ -31,10 +31,9 @@ pub fn run_departments<S: Source, R: Source, K: Sink, P: Sink, N: Nv + Drop>(
     requires ready { IsReady (bench_of bench.old) }
     ensures ready { IsReady (bench_of bench.new) }
     ensures ran { RanSide ⟦<Departments<N> as desk_runs::Desk>⟧ (codes "departments") result (map string_bytes words.now)
-        (DidDepartments ⟦<Bench<N> as HasNodes>⟧.nodes (DidSide ⟦<Bench<N> as HasNodes>⟧.nodes ⟦<Departments<N> as desk_runs::Desk>⟧
+        (DidDepartments ⟦<Bench<N> as HasNodes>⟧.nodes N.Nv
         (world (scene_of R.Source P.Sink bench.old rates.old printer.old) desk.old)
         (world (scene_of R.Source P.Sink bench.new rates.new printer.new) desk.new) result)
-        (rows_of desk.old) (rows_of desk.new))
         (streams_of S.Source K.Sink R.Source P.Sink script.old report.old rates.old printer.old)
         (streams_of S.Source K.Sink R.Source P.Sink script.new report.new rates.new printer.new) }
     ensures ends { EndsSide ⟦<Departments<N> as desk_runs::Desk>⟧ (codes "departments") result (map string_bytes words.now)
@@ -45,6 +44,7 @@ pub fn run_departments<S: Source, R: Source, K: Sink, P: Sink, N: Nv + Drop>(
         (streams_of S.Source K.Sink R.Source P.Sink script.old report.old rates.old printer.old)
         (streams_of S.Source K.Sink R.Source P.Sink script.new report.new rates.new printer.new) }
 {
+    histories();
     run_side(
         alloc,
         "departments",

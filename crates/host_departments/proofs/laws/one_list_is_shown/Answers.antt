@@ -1,0 +1,10 @@
+use Rattle.std.proofs.Common.{sym, ◌∙◌}
+use Rattle.std.proofs.lemmas.Option.{same_Some}
+use Rattle.row_store.specs.Seen.{ReadsAs}
+use Rattle.row_table.specs.ShowsLaws.{one_shown}
+use Rattle.host_departments.specs.Payload.{decoded}
+use Rattle.host_departments.specs.declared.row.TheConstants.{CELLS}
+use Rattle.host_departments.proofs.laws.one_list_is_shown.Goals as goal
+
+pub returns : goal.returns
+returns c a b image long long' shows shows' = one_shown 12 CELLS (ReadsAs decoded) (λ k x y p reads reads'. same_Some x y (sym reads ∙ reads')) a b image long long' shows shows'
