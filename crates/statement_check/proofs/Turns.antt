@@ -1,6 +1,6 @@
 -- A statement is read, one line after another.
 use Rattle.std.proofs.Common.{◌≡◌, ℕ, ◌+◌, ◌≤◌, List, [], ◌∷◌, ◌++◌, length, Option, refl, sym, ap, subst, ◌∙◌, arith, append_assoc, append-nil, ◌⊎◌, length-append}
-use Rattle.std.proofs.KnownBytes.{Consumes-trans, Consumes-nil}
+use Rattle.std.proofs.KnownBytes.{Consumes-trans}
 use Rattle.std.specs.Io.KnownBytes.{Consumes, IsAtEnd}
 use Rattle.line_runs.specs.Lines.{ended}
 use Rattle.statement_check.specs.Lines.{line_text}
@@ -27,9 +27,6 @@ script_push [] line = append-nil (ended (line_text line))
 script_push (l ∷ lines) line = ap (λ (t : List ℕ). ended (line_text l) ++ t) (script_push lines line) ∙ sym (append_assoc (ended (line_text l)) (script_of lines) (ended (line_text line)))
 
 -- ---- one line after another
-
-pub progress_start : (left : Option (List ℕ)) → Progress 0 First left left
-progress_start left = record { right = []; each = tt; number = refl; place_is = refl; consumed = Consumes-nil left }
 
 pub progress_more : (count : ℕ) (place next : Place) (a b c : Option (List ℕ)) → Progress count place a b → GoesOn place next b c → Progress (count + 1) next a c
 progress_more count place next a b c p n = record {
