@@ -172,11 +172,11 @@ commit_follows w (Accepted d p n) C owned fits before after = refl
 
 -- ---- each commit of a history
 
-always_head : {A : Type 0} (P : List A → Type 0) (xs : List A) → Always P xs → P xs
+pub always_head : {A : Type 0} (P : List A → Type 0) (xs : List A) → Always P xs → P xs
 always_head P [] h = h
 always_head P (x ∷ xs) h = h.0
 
-always_map : {A : Type 0} (P Q : List A → Type 0) → ((xs : List A) → P xs → Q xs) → (xs : List A) → Always P xs → Always Q xs
+pub always_map : {A : Type 0} (P Q : List A → Type 0) → ((xs : List A) → P xs → Q xs) → (xs : List A) → Always P xs → Always Q xs
 always_map P Q f [] h = f [] h
 always_map P Q f (x ∷ xs) h = (f (x ∷ xs) h.0, always_map P Q f xs h.1)
 
@@ -192,7 +192,7 @@ up_always P (Some c) n k C h rest = by_count (k == count_of n C + 1) h
     by_count true p = (p, rest)
     by_count false p = rest
 
-counted_always : (P : List Commit → Type 0) (H : Ledger) → Always (λ B. P (counted B)) H → Always P (counted H)
+pub counted_always : (P : List Commit → Type 0) (H : Ledger) → Always (λ B. P (counted B)) H → Always P (counted H)
 counted_always P [] h = h
 counted_always P (entry.Commit c ∷ H) h = (h.0, counted_always P H h.1)
 counted_always P (entry.Up n k ∷ H) h = up_always P (torn_of n H) n k (counted H) h.0 (counted_always P H h.1)

@@ -1,3 +1,10 @@
 pub mod Kept
 pub mod Balances
 pub mod Following
+pub mod Funds
+pub mod Calm
+pub mod Counting
+pub mod Turns
+pub mod Asking
+pub mod Stating
+pub mod Running

@@ -5,6 +5,8 @@ pub mod Watching
 pub mod Desk
 pub mod Texts
 pub mod Courses
+pub mod Movements
+pub mod StatementsDesk
 pub mod Ran
 pub mod Balances
 -- Bookkeeping: private calls and proofs alone name these.

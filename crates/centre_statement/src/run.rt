@@ -1,5 +1,5 @@
 //! A run over a script with statements beside the bench.
-ghost use Rattle.std.specs.Prelude.{map, string_bytes, codes};
+ghost use Rattle.std.specs.Prelude.{◌≢◌, map, string_bytes, codes};
 ghost use Rattle.bench.specs.Benches.{IsReady, bench_of};
 ghost use Rattle.script_replay.specs.Chains.{scene_of};
 ghost use Rattle.script_replay.specs.Sides.{EndsSide, CompletesSide};
@@ -7,8 +7,10 @@ ghost use Rattle.script_replay.specs.Streams.{streams_of};
 ghost use Rattle.centre_statement.specs.Ran.{RanStatement};
 
 use crate::desk::StatementDesk;
+use crate::laws::balances;
 use bench::{Bench, HasNodes};
 use bench_base::stream::{Sink, Source};
+use ledger_laws::laws::{histories, orders};
 use nv_model::Nv;
 use script_replay::side::run_side;
 use script_replay::status::SideStatus;
@@ -27,11 +29,12 @@ pub fn run_statement<S: Source, R: Source, K: Sink, P: Sink, N: Nv + Drop>(
 ) -> SideStatus
     requires ready { IsReady (bench_of bench.old) }
     ensures ready { IsReady (bench_of bench.new) }
-    ensures ran { RanStatement ⟦<Bench<N> as HasNodes>⟧.nodes ⟦<StatementDesk as desk_runs::Desk>⟧ result
-        (map string_bytes words.now) (scene_of R.Source P.Sink bench.old rates.old printer.old)
+    ensures ran { RanStatement ⟦<Bench<N> as HasNodes>⟧.nodes result (map string_bytes words.now)
+        (scene_of R.Source P.Sink bench.old rates.old printer.old)
         (scene_of R.Source P.Sink bench.new rates.new printer.new)
         (streams_of S.Source K.Sink R.Source P.Sink script.old report.old rates.old printer.old)
         (streams_of S.Source K.Sink R.Source P.Sink script.new report.new rates.new printer.new) }
+    ensures never_stops { result ≢ SideStatus.Stopped }
     ensures ends { EndsSide ⟦<StatementDesk as desk_runs::Desk>⟧ (codes "statement") result (map string_bytes words.now)
         (streams_of S.Source K.Sink R.Source P.Sink script.old report.old rates.old printer.old)
         (streams_of S.Source K.Sink R.Source P.Sink script.new report.new rates.new printer.new) }
@@ -40,6 +43,9 @@ pub fn run_statement<S: Source, R: Source, K: Sink, P: Sink, N: Nv + Drop>(
         (streams_of S.Source K.Sink R.Source P.Sink script.old report.old rates.old printer.old)
         (streams_of S.Source K.Sink R.Source P.Sink script.new report.new rates.new printer.new) }
 {
+    histories();
+    orders();
+    balances();
     let mut desk = StatementDesk::new(alloc);
     run_side(
         alloc,

@@ -1,0 +1,352 @@
+-- What a plan tells beside its commit: entries that count nothing and open nothing, two at most; or an Up, with the count of the ledger.
+use Rattle.std.proofs.Common.{◌≡◌, ℕ, ℤ, pos, ◌+◌, Bool, true, false, List, [], ◌∷◌, Option, Some, None, Result, Ok, Err, refl, length, drop}
+use Rattle.std.specs.Prelude.{nat_lt}
+use Rattle.bench_base.specs.declared.words.Node.{Node}
+use Rattle.bench_base.specs.declared.words.Node.TheVariants.{Device, Centre, Host, Verifier}
+use Rattle.bench_base.specs.declared.words.Verdict.{Verdict}
+use Rattle.bench_base.specs.declared.refusals.Unread.{Unread}
+use Rattle.bench_base.specs.declared.refusals.MarkFault.{MarkFault}
+use Rattle.bench_base.specs.declared.refusals.RateRefusal.{RateRefusal}
+use Rattle.bench_base.specs.declared.refusals.CentreRefusal.{CentreRefusal}
+use Rattle.bench_base.specs.declared.refusals.HostRefusal.{HostRefusal}
+use Rattle.bench_base.specs.declared.refusals.ScanRefusal.{ScanRefusal}
+use Rattle.bench_base.specs.declared.ledger.Commit.{Commit}
+use Rattle.bench_base.specs.declared.ledger.Entry.{Entry}
+use Rattle.bench_base.specs.declared.ledger.Entry.TheVariants as e
+use Rattle.bench_base.specs.declared.events.Event.{Event}
+use Rattle.bench_base.specs.declared.events.Event.TheVariants as ev
+use Rattle.bench_base.specs.declared.events.Reply.{Reply}
+use Rattle.bench_base.specs.declared.events.Reply.TheVariants as r
+use Rattle.bench_base.specs.Rules.{todays_rules}
+use Rattle.bench_base.specs.Nodes.{node_of}
+use Rattle.bench_base.specs.Plans.{Plan, refuse, told}
+use Rattle.bench_base.specs.Events.{needs_day}
+use Rattle.bench_base.specs.Cells.{is_worn}
+use Rattle.bench_base.specs.Replies.{Told, Did, Refused, Armed, CameOn, WentOff, LostPower, Faulted, WasDamaged, PrinterFailed, RatesFailed, told_by}
+use Rattle.bench_base.specs.Ledger.{Ledger, day_in, rates_in, messages, message, is_on, count_of, counted}
+use Rattle.bench_base.specs.Jobs.{Job, job_of, held_of, open_job}
+use Rattle.bench_base.specs.Scans.{trusted}
+use Rattle.node_acts.specs.declared.act.Act.TheVariants.{Refuse, Tell, Commits}
+use Rattle.indicium.specs.declared.Mark.{Mark}
+use Rattle.indicium.specs.Marks.{read_mark}
+use Rattle.psd_wire.specs.declared.message.Message.{Message}
+use Rattle.psd_wire.specs.declared.message.Message.TheVariants as m
+use Rattle.psd_wire.specs.declared.message.Request.{Request}
+use Rattle.psd_wire.specs.declared.message.DoneMsg.{DoneMsg}
+use Rattle.psd_wire.specs.Codes.{has_code}
+use Rattle.psd_wire.specs.Grammar.{read}
+use Rattle.ledger_terms.specs.Devices.{key_of, number, pending}
+use Rattle.ledger_terms.specs.Centres.{registered, opened, receipt, deposits, balance}
+use Rattle.ledger_terms.specs.Rulings.{stored_reply}
+use Rattle.psd_state.specs.State.{State}
+use Rattle.psd_state.specs.Acts as acts
+use Rattle.psd_state.specs.Acts.{DeviceAct}
+use Rattle.psd_state.specs.declared.acts.Taken.{Taken}
+use Rattle.psd_state.specs.declared.acts.Taken.TheVariants as taken
+use Rattle.centre_ledger.specs.Answers as centre
+use Rattle.host_jobs.specs.Answers as host
+use Rattle.verifier.specs.Answers as scans
+use Rattle.ledger_moves.specs.Devices as device
+use Rattle.ledger_moves.specs.Moves as moves
+use Rattle.ledger_moves.specs.Moves.{plan, at_node, unless_worn}
+use Rattle.ledger_moves.specs.Tariffs.{Tariff, TextFault, NoToml, NoForm}
+use Rattle.law_good.proofs.Basics.{chosen}
+
+-- an entry that neither counts, opens nor settles a commit
+abbrev pub IsCalm : Entry → Type 0
+IsCalm (e.Commit c) = ⊥
+IsCalm (e.Torn m c) = ⊥
+IsCalm e.Begin = ⊥
+IsCalm (e.Day t) = Unit {0}
+IsCalm (e.Rates text) = Unit {0}
+IsCalm (e.Sent note) = Unit {0}
+IsCalm (e.Released d p mark) = Unit {0}
+IsCalm (e.Printed j mark) = Unit {0}
+IsCalm (e.Up m k) = ⊥
+IsCalm (e.Down m) = Unit {0}
+
+-- two of them at most
+abbrev pub AreCalm : List Entry → Type 0
+AreCalm [] = Unit {0}
+AreCalm (x ∷ []) = IsCalm x
+AreCalm (x ∷ y ∷ []) = IsCalm x × IsCalm y
+AreCalm (x ∷ y ∷ z ∷ more) = ⊥
+
+-- what is told after a commit, by what the reply tells, and what an Up shows; of a failure nothing is asked, since nothing is told then
+abbrev pub ByTold : (Node → ℕ → Type 0) → Told → List Entry → Type 0
+ByTold Shows Did after = AreCalm after
+ByTold Shows Refused after = AreCalm after
+ByTold Shows (Armed m) after = AreCalm after
+ByTold Shows (CameOn m k) after = Shows m k
+ByTold Shows (WentOff m) after = AreCalm after
+ByTold Shows (LostPower m) after = Unit {0}
+ByTold Shows (Faulted m) after = Unit {0}
+ByTold Shows (WasDamaged m) after = AreCalm after
+ByTold Shows (PrinterFailed j) after = Unit {0}
+ByTold Shows RatesFailed after = Unit {0}
+
+module _ (H : Ledger) where
+  -- it shows the count of the ledger
+  abbrev pub ShowsItsCount : Node → ℕ → Type 0
+  ShowsItsCount m k = k ≡ count_of m (counted H)
+
+  pub record Clean (p : Plan) : Type 0 where
+    pub told : ByTold ShowsItsCount (told_by p.reply) p.after
+
+  sure : {p : Plan} → ByTold ShowsItsCount (told_by p.reply) p.after → Clean p
+  sure by = record { told = by }
+
+  -- where the node is on and no cell worn
+  at : (n : Node) (p : Plan) → Clean p → Clean (at_node n H p)
+  at n p ok = chosen Clean (is_on n H) (unless_worn (counted H) p p.commit) (refuse (r.OffNode n)) (λ on. go p.commit) (λ off. sure tt)
+    where
+      go : (w : Option Commit) → Clean (unless_worn (counted H) p w)
+      go None = ok
+      go (Some c) = chosen Clean (is_worn c (counted H)) (refuse (r.Worn (node_of c))) p (λ worn. sure tt) (λ fresh. ok)
+
+  -- == devices ==
+
+  acts_ok : {A : Type 0} (d : ℕ) (reply : A → Reply) (tell : A → List Entry) (act : DeviceAct A) → ((a : A) → ByTold ShowsItsCount (told_by (reply a)) (tell a)) → Clean (device.planned d reply tell act)
+  acts_ok d reply tell (Refuse x) tells = sure tt
+  acts_ok d reply tell (Tell a) tells = sure (tells a)
+  acts_ok d reply tell (Commits c x a) tells = sure (tells a)
+
+  resend_ok : (d k : ℕ) (key : Option (List ℕ)) (w : Option (ℕ × List ℕ)) → Clean (device.resend_plan d k key w)
+  resend_ok d k None w = sure tt
+  resend_ok d k (Some key) None = sure tt
+  resend_ok d k (Some key) (Some p) = sure tt
+
+  taken_ok : (d k : ℕ) (t : Taken) → ByTold ShowsItsCount (told_by (device.taken_reply d k t)) (device.taken_tell d k t)
+  taken_ok d k (taken.Applied n v) = tt
+  taken_ok d k (taken.Released piece x again) = (tt, tt)
+
+  device_ok : (d : ℕ) (today : ℤ) (bytes : List ℕ) → Clean (moves.device_plan todays_rules today d bytes H)
+  device_ok d today bytes =
+      let s = device.record_with d (counted H) (key_of d (counted H)) in
+      at (Device d) _ (acts_ok d (device.taken_reply d (messages H)) (device.taken_tell d (messages H)) (acts.message_act todays_rules d bytes today s (read bytes)) (taken_ok d (messages H)))
+
+  -- == the centre ==
+
+  open_ok : (w : ℕ) (b : Bool) → Clean (centre.open_plan w b)
+  open_ok w true = sure tt
+  open_ok w false = sure tt
+
+  flag_ok : (w : ℕ) (flag b : Bool) → Clean (centre.flag_plan w flag b)
+  flag_ok w flag true = sure tt
+  flag_ok w flag false = sure tt
+
+  deposited_ok : (w n a total : ℕ) (x : Result (Option ℕ) CentreRefusal) → Clean (centre.deposit_act w n a total x)
+  deposited_ok w n a total (Err x) = sure tt
+  deposited_ok w n a total (Ok None) = sure tt
+  deposited_ok w n a total (Ok (Some after)) = sure tt
+
+  deposit_ok : (w n a : ℕ) (last : ℕ × ℕ) (total : ℕ) (b : Bool) → Clean (centre.deposit_plan w n a last total b)
+  deposit_ok w n a last total true = deposited_ok w n a total (centre.deposit_answer last total n a)
+  deposit_ok w n a last total false = sure tt
+
+  balance_ok : (w n : ℕ) (b : Bool) → Clean (centre.balance_plan w n b)
+  balance_ok w n true = sure tt
+  balance_ok w n false = sure tt
+
+  register_ok : (d origin : ℕ) (key : List ℕ) (o : Option (ℕ × List ℕ)) → Clean (centre.register_plan d origin key o)
+  register_ok d origin key None = sure tt
+  register_ok d origin key (Some x) = sure tt
+
+  repeat_ok : (d n k : ℕ) (o : Option (Verdict × List ℕ)) (reply : Option (List ℕ)) → Clean (centre.repeat_plan d n k o reply)
+  repeat_ok d n k (Some x) (Some reply) = sure tt
+  repeat_ok d n k (Some x) None = sure tt
+  repeat_ok d n k None reply = sure tt
+
+  rule_ok : (k : ℕ) (bytes : List ℕ) (q : Request) (x : Result Bool CentreRefusal) → Clean (centre.rule_act k bytes q (counted H) x)
+  rule_ok k bytes q (Err x) = sure tt
+  rule_ok k bytes q (Ok true) = repeat_ok q.device q.number k (centre.last_ruling q.device (counted H)) (stored_reply q.device (counted H))
+  rule_ok k bytes q (Ok false) = sure tt
+
+  request_ok : (k : ℕ) (bytes : List ℕ) (q : Request) (o : Option (ℕ × List ℕ)) → Clean (centre.request_plan k bytes q o (counted H))
+  request_ok k bytes q None = sure tt
+  request_ok k bytes q (Some x) = chosen Clean (has_code x.1 bytes) _ _ (λ good. rule_ok k bytes q _) (λ bad. sure tt)
+
+  settled_ok : (d n : ℕ) (x : Result (Option ℕ) CentreRefusal) → Clean (centre.settle_act d n x)
+  settled_ok d n (Err x) = sure tt
+  settled_ok d n (Ok None) = sure tt
+  settled_ok d n (Ok (Some now)) = sure tt
+
+  done_ok : (bytes : List ℕ) (q : DoneMsg) (o : Option (ℕ × List ℕ)) (settled ruled : ℕ) → Clean (centre.done_plan bytes q o settled ruled)
+  done_ok bytes q None settled ruled = sure tt
+  done_ok bytes q (Some x) settled ruled = chosen Clean (has_code x.1 bytes) _ _ (λ good. settled_ok q.device q.number _) (λ bad. sure tt)
+
+  take_ok : (k : ℕ) (bytes : List ℕ) (x : Result Message Unread) → Clean (centre.centre_take k bytes x (counted H))
+  take_ok k bytes (Ok (m.Request q)) = request_ok k bytes q (registered q.device (counted H))
+  take_ok k bytes (Ok (m.Done q)) = done_ok bytes q (registered q.device (counted H)) _ _
+  take_ok k bytes (Ok (m.Reply p)) = sure tt
+  take_ok k bytes (Ok (m.Debit q)) = sure tt
+  take_ok k bytes (Ok (m.Release x)) = sure tt
+  take_ok k bytes (Err x) = sure tt
+
+  centre_ok : (bytes : List ℕ) → Clean (moves.centre_plan bytes H)
+  centre_ok bytes = at Centre _ (take_ok (messages H) bytes (read bytes))
+
+  reconciled_ok : (d total : ℕ) (o : Option (ℕ × List ℕ)) → Clean (centre.reconcile_plan d total o (counted H))
+  reconciled_ok d total None = sure tt
+  reconciled_ok d total (Some x) = sure tt
+
+  reconcile_ok : (d : ℕ) (key : Option (List ℕ)) → Clean (moves.reconcile_plan d key (counted H))
+  reconcile_ok d None = sure tt
+  reconcile_ok d (Some key) = reconciled_ok d _ (registered d (counted H))
+
+  -- == the host ==
+
+  ordered_ok : (d piece class postage : ℕ) (x : Result ℕ HostRefusal) → Clean (host.order_act d piece class postage x)
+  ordered_ok d piece class postage (Err x) = sure tt
+  ordered_ok d piece class postage (Ok j) = sure tt
+
+  order_ok : (d piece class : ℕ) (price : Option (Result ℕ RateRefusal)) → Clean (host.order_plan d piece class (host.shelf_of d (counted H)) price)
+  order_ok d piece class None = sure tt
+  order_ok d piece class (Some (Err x)) = sure tt
+  order_ok d piece class (Some (Ok postage)) = ordered_ok d piece class postage _
+
+  send_ok : (k j : ℕ) (b : Option Job) (o : Option HostRefusal) → Clean (host.send_act k j b o)
+  send_ok k j b (Some x) = sure tt
+  send_ok k j None None = sure tt
+  send_ok k j (Some b) None = sure tt
+
+  print_ok : (j : ℕ) (x : Option (List ℕ)) (o : Option HostRefusal) → Clean (host.print_act j x o)
+  print_ok j x (Some no_x) = sure tt
+  print_ok j None None = sure tt
+  print_ok j (Some x) None = sure tt
+
+  close_ok : (j : ℕ) (o : Option HostRefusal) → Clean (host.close_act j o)
+  close_ok j (Some x) = sure tt
+  close_ok j None = sure tt
+
+  held_ok : (x : List ℕ) (j : ℕ) (o : Option HostRefusal) → Clean (host.hold_act x j o)
+  held_ok x j (Some no_x) = sure tt
+  held_ok x j None = sure tt
+
+  job_ok : (x : List ℕ) (k : Mark) (j : ℕ) (b : Option Job) → Clean (host.hold_job x k j b)
+  job_ok x k j None = sure tt
+  job_ok x k j (Some b) = held_ok x j _
+
+  open_job_ok : (x : List ℕ) (k : Mark) (o : Option ℕ) → Clean (host.hold_open x k o (counted H))
+  open_job_ok x k None = sure tt
+  open_job_ok x k (Some j) = job_ok x k j (job_of j (counted H))
+
+  hold_ok : (x : List ℕ) (k : Result (Mark × List ℕ) MarkFault) → Clean (host.hold_plan x k (counted H))
+  hold_ok x (Err fault) = sure tt
+  hold_ok x (Ok k) = open_job_ok x k.0 (open_job k.0.device (counted H))
+
+  host_take_ok : (x : Result Message Unread) → Clean (host.host_take x (counted H))
+  host_take_ok (Ok (m.Release x)) = hold_ok x (read_mark x)
+  host_take_ok (Ok (m.Request q)) = sure tt
+  host_take_ok (Ok (m.Done q)) = sure tt
+  host_take_ok (Ok (m.Reply p)) = sure tt
+  host_take_ok (Ok (m.Debit q)) = sure tt
+  host_take_ok (Err x) = sure tt
+
+  host_ok : (bytes : List ℕ) → Clean (moves.host_plan bytes H)
+  host_ok bytes = at Host _ (host_take_ok (read bytes))
+
+  -- == bytes that are handed to a node ==
+
+  deliver_to_ok : (today : ℤ) (bytes : List ℕ) (x : Result Message Unread) → Clean (moves.deliver_to todays_rules today bytes x H)
+  deliver_to_ok today bytes (Ok (m.Reply p)) = device_ok p.device today bytes
+  deliver_to_ok today bytes (Ok (m.Debit q)) = device_ok q.device today bytes
+  deliver_to_ok today bytes (Ok (m.Release x)) = host_ok bytes
+  deliver_to_ok today bytes (Ok (m.Request q)) = centre_ok bytes
+  deliver_to_ok today bytes (Ok (m.Done q)) = centre_ok bytes
+  deliver_to_ok today bytes (Err x) = centre_ok bytes
+
+  deliver_ok : (today : ℤ) (k : ℕ) (o : Option (List ℕ)) → Clean (moves.deliver_plan todays_rules today k o H)
+  deliver_ok today k None = sure tt
+  deliver_ok today k (Some bytes) = deliver_to_ok today bytes (read bytes)
+
+  give_ok : (today : ℤ) (n : Node) (bytes : List ℕ) → Clean (moves.give_plan todays_rules today n bytes H)
+  give_ok today (Device d) bytes = device_ok d today bytes
+  give_ok today Centre bytes = centre_ok bytes
+  give_ok today Host bytes = host_ok bytes
+  give_ok today Verifier bytes = sure tt
+
+  -- == the verifier ==
+
+  trust_ok : (d : ℕ) (key : List ℕ) (o : Option (List ℕ)) → Clean (scans.trust_plan d key o)
+  trust_ok d key None = sure tt
+  trust_ok d key (Some k) = sure tt
+
+  scanned_ok : (n : ℕ) (k : Mark) (x : Result Bool ScanRefusal) → Clean (scans.scan_act n k x)
+  scanned_ok n k (Err x) = sure tt
+  scanned_ok n k (Ok true) = sure tt
+  scanned_ok n k (Ok false) = sure tt
+
+  keyed_ok : (n : ℕ) (bytes : List ℕ) (k : Mark) (today : ℤ) (key : Option (List ℕ)) → Clean (scans.scan_key n bytes k today key (counted H))
+  keyed_ok n bytes k today None = sure tt
+  keyed_ok n bytes k today (Some key) = chosen Clean (has_code key bytes) _ _ (λ good. scanned_ok n k _) (λ bad. sure tt)
+
+  read_ok : (n : ℕ) (bytes : List ℕ) (today : ℤ) (x : Result (Mark × List ℕ) MarkFault) → Clean (scans.scan_plan n bytes today x (counted H))
+  read_ok n bytes today (Err fault) = sure tt
+  read_ok n bytes today (Ok k) = keyed_ok n bytes k.0 today (trusted k.0.device (counted H))
+
+  scan_ok : (n : ℕ) (today : ℤ) (bytes : List ℕ) → Clean (moves.scan_plan n today bytes H)
+  scan_ok n today bytes = at Verifier _ (read_ok n bytes today (read_mark bytes))
+
+  scan_sent_ok : (n : ℕ) (today : ℤ) (k : ℕ) (o : Option (List ℕ)) → Clean (moves.scan_sent n today k o H)
+  scan_sent_ok n today k None = sure tt
+  scan_sent_ok n today k (Some bytes) = scan_ok n today (drop 2 bytes)
+
+  -- == all events ==
+
+  module _ (τ : Tariff) where
+    reading_ok : (text : List ℕ) (x : Result (ℕ × ℕ) TextFault) → Clean (moves.reading_plan text x)
+    reading_ok text (Err NoToml) = sure tt
+    reading_ok text (Err NoForm) = sure tt
+    reading_ok text (Ok x) = sure tt
+
+    rates_ok : (text : List ℕ) → Clean (moves.rates_plan τ text)
+    rates_ok text = chosen Clean (nat_lt 65536 (length text)) _ _ (λ long. sure tt) (λ short. reading_ok text (τ.reading text))
+
+    on_ok : (n : Node) → Clean (moves.on_plan n H)
+    on_ok n = chosen Clean (is_on n H) _ _ (λ on. sure tt) (λ off. sure refl)
+
+    abbrev C : List Commit
+    C = counted H
+
+    abbrev held : ℕ → Option State
+    held d = device.record_with d C (key_of d C)
+
+    event_ok : (x : Event) (text : List ℕ) (today : ℤ) → Clean (moves.plan_on τ todays_rules H x text today)
+    event_ok (ev.Day t) text today = sure tt
+    event_ok ev.End text today = sure tt
+    event_ok ev.Rates text today = rates_ok text
+    event_ok (ev.On n) text today = on_ok n
+    event_ok (ev.Off n) text today = at n (told (r.Down n) (e.Down n ∷ [])) (sure tt)
+    event_ok (ev.Cut n calls keep byte) text today = sure tt
+    event_ok (ev.Make d key) text today = at (Device d) (device.make_plan d key C (key_of d C)) (acts_ok d (λ u. r.Made d) (λ u. []) (acts.make_act d key (held d)) (λ a. tt))
+    event_ok (ev.Debit d piece postage class) text today =
+        at (Device d) _ (acts_ok d (λ f. r.Marked d piece f.again f.mark) (λ f. e.Released d piece f.mark ∷ []) (acts.debit_act todays_rules d (moves.debit_by d piece postage class) today (held d)) (λ a. tt))
+    event_ok (ev.Ask d kind who a) text today = at (Device d) _ (acts_ok d (λ note. r.SentRequest d (number d C + 1) (messages H)) (λ note. e.Sent note ∷ []) (acts.ask_act todays_rules d kind who a today (held d)) (λ a. tt))
+    event_ok (ev.Resend d) text today = at (Device d) _ (resend_ok d (messages H) (key_of d C) (pending d C))
+    event_ok (ev.Ack d) text today = at (Device d) _ (acts_ok d (λ note. r.SentDone d (number d C) (messages H)) (λ note. e.Sent note ∷ []) (acts.ack_act (held d)) (λ a. tt))
+    event_ok (ev.Status d) text today = at (Device d) _ (acts_ok d (λ shown. r.Status d shown) (λ shown. []) (acts.status_act today (held d)) (λ a. tt))
+    event_ok (ev.Register d origin key) text today = at Centre _ (register_ok d origin key (registered d C))
+    event_ok (ev.OpenCustomer w) text today = at Centre _ (open_ok w (opened w C))
+    event_ok (ev.Deposit w n a) text today = at Centre _ (deposit_ok w n a (receipt w C) (deposits w C) (opened w C))
+    event_ok (ev.Flag w flag) text today = at Centre _ (flag_ok w flag (opened w C))
+    event_ok (ev.Balance w) text today = at Centre _ (balance_ok w (balance w C) (opened w C))
+    event_ok (ev.Deliver k) text today = deliver_ok today k (message k H)
+    event_ok (ev.Give n bytes) text today = give_ok today n bytes
+    event_ok (ev.Order d piece class grams zone) text today = at Host _ (order_ok d piece class (moves.price_by τ class grams zone (rates_in H)))
+    event_ok (ev.Send j) text today = at Host _ (send_ok (messages H) j (job_of j C) (host.send_answer (host.shown_state j C)))
+    event_ok (ev.Print j) text today = at Host _ (print_ok j (held_of j C) (host.print_answer (host.shown_state j C)))
+    event_ok (ev.Close j) text today = at Host _ (close_ok j (host.close_answer (host.shown_state j C)))
+    event_ok (ev.Trust d key) text today = at Verifier _ (trust_ok d key (trusted d C))
+    event_ok (ev.ScanMsg n k) text today = scan_sent_ok n today k (message k H)
+    event_ok (ev.ScanHex n bytes) text today = scan_ok n today bytes
+    event_ok (ev.Reconcile d) text today = at (Device d) _ (at Centre _ (reconcile_ok d (key_of d C)))
+
+    dated_ok : (x : Event) (text : List ℕ) (day : Option ℤ) → Clean (moves.on_day (moves.plan_on τ todays_rules H x text) day)
+    dated_ok x text None = sure tt
+    dated_ok x text (Some today) = event_ok x text today
+
+    -- WHAT THE PLAN OF AN EVENT TELLS IS CALM
+    pub plan_calm : (x : Event) (text : List ℕ) → Clean (plan τ todays_rules H x text)
+    unfolding plan
+    plan_calm x text = chosen Clean (needs_day x) _ _ (λ needs. dated_ok x text (day_in H)) (λ free. event_ok x text (pos 0))
