@@ -1,6 +1,7 @@
 -- What the checker and the bench did for a line is its answer.
 use Rattle.std.proofs.Common.{◌≡◌, ◌⊎◌, inl, inr, ℕ, ◌+◌, List, [], ◌∷◌, length, Option, Some, None, Bool, true, false, ◌==◌, refl, sym, ap, ◌∙◌, subst}
 use Rattle.std.specs.Prelude.{codes}
+use Rattle.std.proofs.lemmas.Option.{same_Some}
 use Rattle.bench_base.specs.declared.events.Event.{Event}
 use Rattle.bench_base.specs.declared.events.Reply.{Reply}
 use Rattle.node_turns.specs.declared.turn.Turn.{Turn}
@@ -17,6 +18,7 @@ use Rattle.mail_manifest.specs.Causes.{Either, Finds}
 use Rattle.mail_manifest.specs.CheckerDesk.{checker_desk}
 use Rattle.mail_manifest.specs.Courses.{scan_of, yes_of, Answers, Scans, ByCause, BeginsOn, BeginsBare, BeginsWith, GoesBy, Scanned, GoesOn}
 use Rattle.law_scans.specs.Acceptances.{IsAccepted}
+use Rattle.law_scans.proofs.Accepting.{accepted_by}
 use Rattle.mail_manifest.specs.Listings.{Listing, opened, with_mark, code_of}
 use Rattle.mail_manifest.specs.Texts.{said_texts, open_text, piece_text, code_text, yes_text, no_piece_text}
 use Rattle.mail_manifest.specs.View.{listing_of, said_of}
@@ -49,12 +51,6 @@ step_event z (Step e) = e
 step_event z Say = z
 step_event z Stop = z
 
-one_listing : (a b : Listing) → Some a ≡ Some b → a ≡ b
-one_listing a b is = cc
-
-accepted_by : (r s : Reply) → r ≡ s → IsAccepted s → IsAccepted r
-accepted_by r s same is = subst (λ (x : Reply). IsAccepted x) (sym same) is
-
 module _ {B : Type 0} (Steps : B → B → Done → Turn → Type 0) (told : (s t : B) (d : Done) (turn : Turn) → Steps s t d turn → d.reply ≡ turn.reply) where
   -- what the checker says first it says last
   says_end : (old new : World B Checker) (next : Next) (steps : List Done) (last : Next) → Asks checker_desk Steps old new next steps last → next ≡ Say
@@ -85,7 +81,7 @@ module _ {B : Type 0} (Steps : B → B → Done → Turn → Type 0) (told : (s 
   goes_by : (m : Listing) (number : ℕ) (k : Checker) (reply : Reply) (next : Next) (new : Checker) → said_of k ≡ said.Scanning number → listing_of k ≡ Some m → GoesOn (said_of k) reply k next new → GoesBy m number reply next new
   goes_by m number k reply next new waits here goes =
       let scanned : Scanned number reply k next new = subst (λ (s : Said). GoesOn s reply k next new) waits goes in
-      subst (λ (l : Listing). GoesBy l number reply next new) (one_listing scanned.listing m (sym scanned.here ∙ here)) scanned.goes
+      subst (λ (l : Listing). GoesBy l number reply next new) (same_Some scanned.listing m (sym scanned.here ∙ here)) scanned.goes
 
   scans_told : (m : Listing) (number : ℕ) (old new : World B Checker) (next : Next) (steps : List Done) → Scans m number next old.desk → Asks checker_desk Steps old new next steps Say
       → AreScanned m number steps (said_texts (said_of new.desk)) × (listing_of new.desk ≡ Some m)

@@ -2,10 +2,13 @@
 use Rattle.std.proofs.Common.{◌≡◌, inl, inr, ℕ, ◌+◌, List, [], ◌∷◌, length, get_or, Option, Some, None, Bool, true, false, ◌==◌, refl, sym, ap, ◌∙◌, subst, arith, true≢false}
 use Rattle.std.specs.Prelude.{codes, ◌↔◌}
 use Rattle.std.proofs.lemmas.Bool.Decides.{nat_tests}
+use Rattle.std.proofs.lemmas.Option.{same_Some}
 use Rattle.bench_base.specs.declared.events.Reply.{Reply}
+use Rattle.bench_base.proofs.Facts.{some-none}
 use Rattle.desk_runs.specs.Deeds.{Done}
 use Rattle.mail_manifest.specs.Answers.{AreScanned, IsJudged, AreAccepted, IsGood}
 use Rattle.mail_manifest.specs.Causes.{Either, Finds}
+use Rattle.mail_manifest.specs.Holds.{IsYes}
 use Rattle.mail_manifest.specs.Listings.{Listing, code_of, postage_in_all, AllRead}
 use Rattle.mail_manifest.specs.Texts.{said_texts, yes_text, no_count_text, unread_text, no_total_text, no_piece_text}
 use Rattle.mail_manifest.specs.declared.said.Said.{Said}
@@ -60,10 +63,15 @@ other_text : (count total : ℕ) (text : List ℕ) → tenth text ≡ 110 → te
 other_text count total text at_n is =
     let at = sym at_n ∙ ap (λ (t : List ℕ). tenth t) (one_text text (yes_text count total) is) ∙ yes_tenth count total in omega (arith, at)
 
+-- nor does one where no manifest was opened
+pub none_is_no_yes : (texts : List (List ℕ)) → texts ≡ codes "refused manifest none" ∷ [] → IsYes texts → ⊥
+none_is_no_yes texts told is =
+    let at : 97 ≡ 121 = ap (λ (t : List ℕ). tenth t) (one_text (codes "refused manifest none") (yes_text is.0 is.1) (sym told ∙ is.2)) ∙ yes_tenth is.0 is.1 in omega (arith, at)
+
 -- == the scans ==
 
 module _ (m : Listing) where
-  abbrev yes : List (List ℕ)
+  abbrev pub yes : List (List ℕ)
   yes = yes_text m.opening.count m.opening.total ∷ []
 
   accepted_yes : (number : ℕ) (steps : List Done) (texts : List (List ℕ)) → AreScanned m number steps texts → AreAccepted m number steps → texts ≡ yes
@@ -82,6 +90,14 @@ module _ (m : Listing) where
     | inr other ↦ absurd (other_text m.opening.count m.opening.total (no_piece_text number d.reply) (piece_tenth number d.reply) (sym other.2 ∙ is))
   ]
 
+  -- a yes tells the numbers of this manifest
+  scanned_yes : (number : ℕ) (steps : List Done) (texts : List (List ℕ)) → AreScanned m number steps texts → IsYes texts → texts ≡ yes
+  scanned_yes number [] texts scanned is = absurd scanned
+  scanned_yes number (d ∷ rest) texts scanned is = elim scanned.1 [
+    | inl did ↦ either_any (number == length m.marks) (λ last end. end.1) (λ more on. scanned_yes (number + 1) rest texts on is) did.1
+    | inr other ↦ absurd (other_text is.0 is.1 (no_piece_text number d.reply) (piece_tenth number d.reply) (sym other.2 ∙ is.2))
+  ]
+
   -- == what comes before them ==
 
   -- the first cause is one of four
@@ -91,29 +107,23 @@ module _ (m : Listing) where
     Read : (n : ℕ) → cause ≡ said.Unread n → IsCause cause
     Summed : (n : ℕ) → cause ≡ said.NoTotal n → IsCause cause
 
-  one_cause : (a b : Said) → Some a ≡ Some b → a ≡ b
-  one_cause a b is = cc
-
-  no_cause : (a : Said) → None ≡ Some a → ⊥
-  no_cause a is = cc
-
   cause_is : (code : List ℕ) (cause : Said) → Finds m code (Some cause) → IsCause cause
   cause_is code cause finds =
       either_any (length m.marks == m.opening.count)
       (λ complete coded. elim coded [
         | inl right ↦ elim right.1 [
-          | inl read ↦ either_any (postage_in_all m == m.opening.total) (λ total none. absurd (no_cause cause (sym none))) (λ other is. Summed (postage_in_all m) (one_cause cause _ is)) read.1
-          | inr unread ↦ Read unread.0 (one_cause cause _ unread.2)
+          | inl read ↦ either_any (postage_in_all m == m.opening.total) (λ total none. absurd (some-none none)) (λ other is. Summed (postage_in_all m) (same_Some cause _ is)) read.1
+          | inr unread ↦ Read unread.0 (same_Some cause _ unread.2)
         ]
-        | inr wrong ↦ Coded (one_cause cause _ wrong.1)
+        | inr wrong ↦ Coded (same_Some cause _ wrong.1)
       ])
-      (λ other is. Counted (length m.marks) (one_cause cause _ is)) finds
+      (λ other is. Counted (length m.marks) (same_Some cause _ is)) finds
 
-  not_yes : (cause : Said) → IsCause cause → said_texts cause ≡ yes → ⊥
-  not_yes cause (Counted n is) same = other_text m.opening.count m.opening.total (no_count_text n) (count_tenth n) (sym (ap (λ (s : Said). said_texts s) is) ∙ same)
-  not_yes cause (Coded is) same = other_text m.opening.count m.opening.total (codes "manifest no code") refl (sym (ap (λ (s : Said). said_texts s) is) ∙ same)
-  not_yes cause (Read n is) same = other_text m.opening.count m.opening.total (unread_text n) (unread_tenth n) (sym (ap (λ (s : Said). said_texts s) is) ∙ same)
-  not_yes cause (Summed n is) same = other_text m.opening.count m.opening.total (no_total_text n) (total_tenth n) (sym (ap (λ (s : Said). said_texts s) is) ∙ same)
+  not_yes : (count total : ℕ) (cause : Said) → IsCause cause → said_texts cause ≡ yes_text count total ∷ [] → ⊥
+  not_yes count total cause (Counted n is) same = other_text count total (no_count_text n) (count_tenth n) (sym (ap (λ (s : Said). said_texts s) is) ∙ same)
+  not_yes count total cause (Coded is) same = other_text count total (codes "manifest no code") refl (sym (ap (λ (s : Said). said_texts s) is) ∙ same)
+  not_yes count total cause (Read n is) same = other_text count total (unread_text n) (unread_tenth n) (sym (ap (λ (s : Said). said_texts s) is) ∙ same)
+  not_yes count total cause (Summed n is) same = other_text count total (no_total_text n) (total_tenth n) (sym (ap (λ (s : Said). said_texts s) is) ∙ same)
 
   -- where there is none
   record IsSound (code : List ℕ) : Type 0 where
@@ -128,12 +138,12 @@ module _ (m : Listing) where
       (λ complete coded. elim coded [
         | inl right ↦ elim right.1 [
           | inl read ↦ either_any (postage_in_all m == m.opening.total)
-              (λ total none. record { complete = same_by _ _ complete; coded = right.0; read = read.0; total = same_by _ _ total }) (λ other is. absurd (no_cause _ is)) read.1
-          | inr unread ↦ absurd (no_cause _ unread.2)
+              (λ total none. record { complete = same_by _ _ complete; coded = right.0; read = read.0; total = same_by _ _ total }) (λ other is. absurd (some-none (sym is))) read.1
+          | inr unread ↦ absurd (some-none (sym unread.2))
         ]
-        | inr wrong ↦ absurd (no_cause _ wrong.1)
+        | inr wrong ↦ absurd (some-none (sym wrong.1))
       ])
-      (λ other is. absurd (no_cause _ is)) finds
+      (λ other is. absurd (some-none (sym is))) finds
 
   none_by : (code : List ℕ) (cause : Option Said) → IsSound code → Finds m code cause → cause ≡ None
   none_by code cause sound finds =
@@ -150,10 +160,14 @@ module _ (m : Listing) where
   -- == the answer ==
 
   good_by : (code : List ℕ) (cause : Option Said) (steps : List Done) (texts : List (List ℕ)) → Finds m code cause → IsJudged m cause steps texts → texts ≡ yes → IsGood m code steps
-  good_by code (Some cause) steps texts finds judged is = absurd (not_yes cause (cause_is code cause finds) (sym judged.1 ∙ is))
+  good_by code (Some cause) steps texts finds judged is = absurd (not_yes m.opening.count m.opening.total cause (cause_is code cause finds) (sym judged.1 ∙ is))
   good_by code None steps texts finds judged is =
       let sound = sound_by code finds in
       record { complete = sound.complete; coded = sound.coded; read = sound.read; total = sound.total; accepted = yes_accepted 1 steps texts judged is }
+
+  pub yes_told : (code : List ℕ) (cause : Option Said) (steps : List Done) (texts : List (List ℕ)) → Finds m code cause → IsJudged m cause steps texts → IsYes texts → texts ≡ yes
+  yes_told code (Some cause) steps texts finds judged is = absurd (not_yes is.0 is.1 cause (cause_is code cause finds) (sym judged.1 ∙ is.2))
+  yes_told code None steps texts finds judged is = scanned_yes 1 steps texts judged is
 
   yes_by : (code : List ℕ) (cause : Option Said) (steps : List Done) (texts : List (List ℕ)) → Finds m code cause → IsJudged m cause steps texts → IsGood m code steps → texts ≡ yes
   yes_by code cause steps texts finds judged good =

@@ -1,4 +1,5 @@
 mod Answering
+mod Holding
 mod Judging
 mod Marks
 mod Reading

@@ -1,6 +1,10 @@
 -- What a run with a manifest did, by what checker and bench did of its lines.
 use Rattle.std.proofs.Common.{◌≡◌, ℕ, List, [], ◌∷◌, ◌++◌, ◌+◌, length, Option, None, sym, ap, ◌∙◌, subst}
 use Rattle.std.specs.Io.KnownBytes.{IsAtEnd}
+use Rattle.bench_base.specs.declared.ledger.Entry.TheVariants.{Begin}
+use Rattle.bench_base.specs.Rules.{editions}
+use Rattle.ledger_lawful.specs.Editions.{Editions}
+use Rattle.law_deeds.proofs.Going.{all_moved}
 use Rattle.bench.specs.Benches.{Nodes}
 use Rattle.line_runs.specs.declared.status.Status.TheVariants as status
 use Rattle.line_runs.specs.declared.status.SideStatus.{SideStatus}
@@ -8,7 +12,7 @@ use Rattle.line_runs.specs.declared.status.SideStatus.TheVariants.{Run, Stopped}
 use Rattle.line_runs.specs.Runs.{EndsIn, Replayed}
 use Rattle.desk_runs.specs.Deeds.{Skipped, Did}
 use Rattle.desk_runs.specs.Desks.{world, side_lines}
-use Rattle.desk_runs.specs.SideDeeds.{SideDeed, Plain, Own, Broken, IsBroken}
+use Rattle.desk_runs.specs.SideDeeds.{SideDeed, Plain, Own, Broken, IsBroken, steps_of}
 use Rattle.script_replay.specs.Chains.{SceneOf, scene}
 use Rattle.script_replay.specs.Run.{Leaves}
 use Rattle.script_replay.specs.SideLaws.{told}
@@ -22,20 +26,25 @@ use Rattle.mail_manifest.specs.View.{listing_of}
 use Rattle.mail_manifest.specs.declared.checker.Checker.{Checker}
 use Rattle.mail_manifest.specs.declared.opening.ManifestLine.{ManifestLine}
 use Rattle.mail_manifest.proofs.Answering.{all_answered, desk_left}
+use Rattle.mail_manifest.proofs.Holding.{yes_holds}
 
-module _ (n : Nodes) (old new : SceneOf n) (before after : Checker) (outcome : SideStatus) (none : listing_of before ≡ None) where
-  pub did_manifest : (deeds : List (SideDeed ManifestLine)) → DidSide n checker_desk (world old before) (world new after) outcome deeds
-      → DidManifest (λ b a deeds. DidSide n checker_desk (world old b) (world new a) outcome deeds) deeds
-  did_manifest deeds did = record {
-    before = before;
-    after = after;
-    none = none;
-    side = did;
-    answers = subst (λ (m : Option Listing). AreAnswered m deeds (listing_of after)) none
-        (subst (λ (m : Option Listing). AreAnswered (listing_of before) deeds m)
-        (sym (ap (λ (k : Checker). listing_of k) (desk_left (λ s t. Leaves (Run status.Memory) s t) outcome did.behind (world new after) did.leaves)))
-        (all_answered (StepsBy n) (told n) (world (scene did.begun old.outside) before) did.behind deeds did.did));
-  }
+module _ (n : Nodes) (today : Editions editions) (old new : SceneOf n) (before after : Checker) (outcome : SideStatus) (none : listing_of before ≡ None) where
+  pub did_manifest : (deeds : List (SideDeed ManifestLine)) → DidSide n checker_desk (world old before) (world new after) outcome deeds → DidManifest n old new outcome deeds
+  did_manifest deeds did =
+      let answers : AreAnswered None deeds (listing_of after) = subst (λ (m : Option Listing). AreAnswered m deeds (listing_of after)) none
+      (subst (λ (m : Option Listing). AreAnswered (listing_of before) deeds m)
+      (sym (ap (λ (k : Checker). listing_of k) (desk_left (λ s t. Leaves (Run status.Memory) s t) outcome did.behind (world new after) did.leaves)))
+      (all_answered (StepsBy n) (told n) (world (scene did.begun old.outside) before) did.behind deeds did.did)) in
+      record {
+        before = before;
+        after = after;
+        none = none;
+        side = did;
+        answers = answers;
+        holds = λ τ L texts stands tells unforged.
+            let over = did.bench.over τ L texts stands tells in
+            yes_holds today τ (Begin ∷ L) deeds (listing_of after) answers (all_moved τ (Begin ∷ L) (steps_of deeds) unforged over.run) (over.stands unforged).history;
+      }
 
 -- no line about a manifest is broken off
 none_broken : (m : Option Listing) (a : List (SideDeed ManifestLine)) (x : SideDeed ManifestLine) (after : Option Listing) → AreAnswered m (a ++ x ∷ []) after → IsBroken x → ⊥
@@ -51,13 +60,13 @@ no_words : Run status.Words ≡ Stopped → ⊥
 no_words is = cc
 
 -- so no run is
-module _ (DidSide : Checker → Checker → List (SideDeed ManifestLine) → Type 0) (outcome : SideStatus) (stopped : outcome ≡ Stopped) where
-  never_broken : (a b t u : Option (List ℕ)) → Replayed (side_lines checker_desk) outcome (DidManifest DidSide) a b t u → ⊥
+module _ (n : Nodes) (old new : SceneOf n) (outcome : SideStatus) (stopped : outcome ≡ Stopped) where
+  never_broken : (a b t u : Option (List ℕ)) → Replayed (side_lines checker_desk) outcome (DidManifest n old new outcome) a b t u → ⊥
   never_broken a b t u r =
       let ends = subst (λ (o : SideStatus). EndsIn (side_lines checker_desk) o (length r.deeds + 1) r.rest (IsAtEnd b) r.text r.done) stopped r.ends in
       none_broken None r.deeds ends.0.last (listing_of r.did.after)
       (subst (λ (done : List (SideDeed ManifestLine)). AreAnswered None (r.deeds ++ done) (listing_of r.did.after)) ends.0.only r.did.answers) ends.1
 
-  pub never_stops : (word : List ℕ) (given : List (List ℕ)) (before now : Streams) → RanSide checker_desk word outcome given (DidManifest DidSide) before now
+  pub never_stops : (word : List ℕ) (given : List (List ℕ)) (before now : Streams) → RanSide checker_desk word outcome given (DidManifest n old new outcome) before now
       → EndsSide checker_desk word outcome given before now → ⊥
   never_stops word given before now ran ends = no_words (sym (ends.words.1 (λ called. never_broken _ _ _ _ (ran.replays called))) ∙ stopped)

@@ -4,6 +4,7 @@ pub mod Causes
 pub mod CheckerDesk
 pub mod Courses
 pub mod Held
+pub mod Holds
 pub mod Listings
 pub mod ManifestLines
 pub mod Ran

@@ -1,23 +1,24 @@
 //! A run over a script with a manifest beside the bench.
 ghost use Rattle.std.specs.Prelude.{◌≢◌, map, string_bytes, codes};
 ghost use Rattle.bench.specs.Benches.{IsReady, bench_of};
-ghost use Rattle.desk_runs.specs.Desks.{world};
 ghost use Rattle.mail_manifest.specs.Ran.{DidManifest};
 ghost use Rattle.script_replay.specs.Chains.{scene_of};
-ghost use Rattle.script_replay.specs.Sides.{DidSide, RanSide, EndsSide, CompletesSide};
+ghost use Rattle.script_replay.specs.Sides.{RanSide, EndsSide, CompletesSide};
 ghost use Rattle.script_replay.specs.Streams.{streams_of};
 
 use crate::checker::Checker;
 use bench::{Bench, HasNodes};
 use bench_base::stream::{Sink, Source};
 use desk_runs::Desk;
+use ledger_laws::laws::histories;
 use nv_model::Nv;
 use script_replay::side::run_side;
 use script_replay::status::SideStatus;
 use std::alloc::Global;
 
 /// Does a script whose lines are events of the bench or about a manifest, where the words are `manifest` alone. A manifest is good exactly
-/// where it is complete, has its code and its total, and every piece on it was accepted by a scan of its mark. There is no manifest at first.
+/// where it is complete, has its code and its total, and every piece on it was accepted by a scan of its mark. By the ledger these pieces are
+/// accepted under the manifest's numbers and no others, and its total is what was debited. There is no manifest at first.
 pub fn run_manifest<S: Source, R: Source, K: Sink, P: Sink, N: Nv + Drop>(
     alloc: Global,
     words: &[String],
@@ -30,9 +31,8 @@ pub fn run_manifest<S: Source, R: Source, K: Sink, P: Sink, N: Nv + Drop>(
     requires ready { IsReady (bench_of bench.old) }
     ensures ready { IsReady (bench_of bench.new) }
     ensures ran { RanSide ⟦<Checker as Desk>⟧ (codes "manifest") result (map string_bytes words.now)
-        (DidManifest (λ before after deeds. DidSide ⟦<Bench<N> as HasNodes>⟧.nodes ⟦<Checker as Desk>⟧
-        (world (scene_of R.Source P.Sink bench.old rates.old printer.old) before)
-        (world (scene_of R.Source P.Sink bench.new rates.new printer.new) after) result deeds))
+        (DidManifest ⟦<Bench<N> as HasNodes>⟧.nodes (scene_of R.Source P.Sink bench.old rates.old printer.old)
+        (scene_of R.Source P.Sink bench.new rates.new printer.new) result)
         (streams_of S.Source K.Sink R.Source P.Sink script.old report.old rates.old printer.old)
         (streams_of S.Source K.Sink R.Source P.Sink script.new report.new rates.new printer.new) }
     ensures ends { EndsSide ⟦<Checker as Desk>⟧ (codes "manifest") result (map string_bytes words.now)
@@ -43,6 +43,7 @@ pub fn run_manifest<S: Source, R: Source, K: Sink, P: Sink, N: Nv + Drop>(
         (streams_of S.Source K.Sink R.Source P.Sink script.new report.new rates.new printer.new) }
     ensures never_stops { result ≢ SideStatus.Stopped }
 {
+    histories();
     let mut checker = Checker::new();
     run_side(
         alloc,
