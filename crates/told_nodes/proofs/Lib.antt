@@ -1,0 +1,7 @@
+pub mod Blanks
+mod Made
+mod Openings
+mod PrinterFaults
+mod Switching
+pub mod Silent
+pub mod Telling

@@ -1,0 +1,15 @@
+//! A node by what was told of it, without storage: its record, the change that is open, and whether it is on; and whether a line of the
+//! report can be the reply to an event of the node.
+#![tactic(auto)]
+
+mod judge;
+mod printing;
+mod record;
+mod seat;
+mod switch;
+
+pub use judge::{is_told, judge_call};
+pub use printing::{Told, judge_printing, unprinted};
+pub use record::Record;
+pub use seat::Seat;
+pub use switch::{judge_cut, judge_off, judge_on};
