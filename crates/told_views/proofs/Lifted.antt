@@ -1,0 +1,173 @@
+-- What is judged of a line by what is seen of a node is so by the ledger, where the two follow each other: for nodes of any kind.
+use Rattle.std.proofs.Common.{◌≡◌, ◌≢◌, ◌⊎◌, inl, inr, ℕ, ℤ, ◌+◌, List, [], ◌∷◌, ◌++◌, Option, Some, None, IsSome, option_map, Bool, true, false, if◌then◌else◌, refl, sym, ◌∙◌, ap, subst}
+use Rattle.std.specs.Prelude.{IfSome}
+use Rattle.bench_base.specs.declared.words.Node.{Node}
+use Rattle.bench_base.specs.declared.ledger.Commit.{Commit}
+use Rattle.bench_base.specs.declared.ledger.Entry.{Entry}
+use Rattle.bench_base.specs.declared.ledger.Entry.TheVariants as entry
+use Rattle.bench_base.specs.declared.events.Event.{Event}
+use Rattle.bench_base.specs.declared.events.Event.TheVariants as ev
+use Rattle.bench_base.specs.declared.events.Reply.{Reply}
+use Rattle.bench_base.specs.declared.events.Reply.TheVariants as r
+use Rattle.bench_base.specs.Plans.{Plan, refuse, told}
+use Rattle.bench_base.specs.Replies.{Told, Did, Refused, told_by}
+use Rattle.bench_base.specs.Rules.{todays_rules}
+use Rattle.bench_base.specs.Ledger.{Ledger, torn_of, counted}
+use Rattle.node_acts.specs.declared.act.Act.{Act}
+use Rattle.node_acts.specs.declared.asked.Asked.{Asked}
+use Rattle.node_acts.specs.declared.asked.Asked.TheVariants.{On, Off, Cut, Call}
+use Rattle.node_acts.specs.declared.said.Said.{Said}
+use Rattle.node_acts.specs.Views.{Counting, View}
+use Rattle.node_acts.specs.Kinds.{Kind, view_in}
+use Rattle.node_acts.specs.Plans.{MayReply, Fails, after, after_told}
+use Rattle.node_acts.specs.Said.{IsPlain, seen_plan}
+use Rattle.ledger_moves.specs.Tariffs.{Tariff}
+use Rattle.ledger_moves.specs.Moves.{Moves, plan, entries}
+use Rattle.bench_views.specs.declared.taken.Taken.{Taken}
+use Rattle.bench_views.specs.declared.taken.Taken.TheVariants as take
+use Rattle.bench_views.specs.Follows.{Follows, FollowsAlways}
+use Rattle.bench_views.specs.Kinds.{bench_kinds}
+use Rattle.bench_views.specs.Messages.{sent_in, SendsNone, IsFew}
+use Rattle.bench_views.specs.Tariff.{quote_in}
+use Rattle.bench_views.specs.Taken.{taken}
+use Rattle.script_text.specs.Texts.{text_of}
+use Rattle.told_nodes.specs.Judged.{TellsOf, TellsNone, newest_sent}
+use Rattle.told_nodes.proofs.Telling.{IsDue, seen_due}
+use Rattle.told_views.specs.Verdicts.{plan_in, commit_in, listed, MovesSo, MovesNever, ByLedger}
+
+-- == what was sent ==
+
+sends_none : (T : List Entry) → SendsNone T → sent_in T ≡ []
+sends_none [] none = refl
+sends_none (entry.Sent bytes ∷ T) none = absurd none
+sends_none (entry.Begin ∷ T) none = refl
+sends_none (entry.Commit c ∷ T) none = sends_none T none
+sends_none (entry.Torn m c ∷ T) none = sends_none T none
+sends_none (entry.Day t ∷ T) none = sends_none T none
+sends_none (entry.Rates text ∷ T) none = sends_none T none
+sends_none (entry.Released d piece x ∷ T) none = sends_none T none
+sends_none (entry.Printed j x ∷ T) none = sends_none T none
+sends_none (entry.Up m k ∷ T) none = sends_none T none
+sends_none (entry.Down m ∷ T) none = sends_none T none
+
+few_sent : (T : List Entry) → IsFew T → sent_in T ≡ listed (newest_sent T)
+few_sent [] few = refl
+few_sent (entry.Sent bytes ∷ T) few = ap (λ (l : List (List ℕ)). l ++ bytes ∷ []) (sends_none T few.1)
+few_sent (entry.Begin ∷ T) few = refl
+few_sent (entry.Commit c ∷ T) few = sends_none T few.1
+few_sent (entry.Torn m c ∷ T) few = sends_none T few.1
+few_sent (entry.Day t ∷ T) few = sends_none T few.1
+few_sent (entry.Rates text ∷ T) few = sends_none T few.1
+few_sent (entry.Released d piece x ∷ T) few = sends_none T few.1
+few_sent (entry.Printed j x ∷ T) few = sends_none T few.1
+few_sent (entry.Up m k ∷ T) few = sends_none T few.1
+few_sent (entry.Down m ∷ T) few = sends_none T few.1
+
+-- == an `on` alone is answered by Up ==
+
+-- the plan of each call of the node is that of an act, which refuses or tells that it was done
+abbrev pub IsByActs : {N S X C : Type 0} → Counting S X → Kind N S C → Node → N → Type 0
+IsByActs {N} {S} {X} {C} n kind m d = (today : ℤ) (v : View S) (c : C) → (act : Act X Reply Said) × (kind.plan d today v c ≡ seen_plan n m v act) × IsPlain act
+
+module _ {N S X C : Type 0} (n : Counting S X) (kind : Kind N S C) (m : Node) (d : N) (acts : IsByActs n kind m d) (today : ℤ) (v : View S) (i : Node) (c : ℕ) where
+  abbrev IsOwnUp : Type 0
+  IsOwnUp = (i ≡ m) × (c ≡ n.count v.state)
+
+  by_on : (on : Bool) → (if on then refuse (r.OnAlready m) else told (r.Up m (n.count v.state)) (entry.Up m (n.count v.state) ∷ [])).reply ≡ r.Up i c → IsOwnUp
+  by_on true is = cc
+  by_on false is = (cc, cc)
+
+  by_off : (on : Bool) → (if on then told (r.Down m) (entry.Down m ∷ []) else refuse (r.OffNode m)).reply ≡ r.Up i c → IsOwnUp
+  by_off true is = cc
+  by_off false is = cc
+
+  by_call : (call : C) → (kind.plan d today v call).reply ≡ r.Up i c → IsOwnUp
+  by_call call is =
+      let act = acts today v call in
+      let same : (seen_plan n m v act.0).reply ≡ r.Up i c = sym (ap (λ (p : Plan). p.reply) act.1) ∙ is in
+      elim (seen_due n m v act.0 act.2) [
+        | inl did ↦ let t : told_by (r.Up i c) ≡ Did = sym (ap told_by same) ∙ did in cc
+        | inr refused ↦ let t : told_by (r.Up i c) ≡ Refused = sym (ap told_by same) ∙ refused in cc
+      ]
+
+  own_up : (asked : Asked C) → (plan_in n kind m d today asked v).reply ≡ r.Up i c → IsOwnUp
+  own_up On is = by_on v.on is
+  own_up Off is = by_off v.on is
+  own_up (Cut calls keep byte) is = cc
+  own_up (Call call) is = by_call call is
+
+-- == by the ledger ==
+
+module _ {N S X C : Type 0} (n : Counting S X) (kind : Kind N S C) (m : Node) (d : N) (acts : IsByActs n kind m d) (taken_as : Asked C → Taken) (no_rates : (asked : Asked C) → taken_as asked ≢ take.Rates) where
+  module _ (today : ℤ) (asked : Asked C) (τ : Tariff) (H : Ledger) (e : Event) (asks : taken (sent_in H) (quote_in τ H) e ≡ Some (taken_as asked)) (f : Follows n kind m d bench_kinds τ H e today asked) where
+    abbrev here : View S
+    here = view_in m (kind.seen d) H
+
+    abbrev p : Plan
+    p = plan_in n kind m d today asked here
+
+    reads_none : e ≡ ev.Rates → ⊥
+    reads_none is = let same : Some (take.Rates) ≡ Some (taken_as asked) = sym (ap (taken (sent_in H) (quote_in τ H)) is) ∙ asks in let it : taken_as asked ≡ take.Rates = cc in no_rates asked it
+
+    opened : (i : Node) → i ≡ m → IsSome (torn_of i H) → IsSome here.next
+    opened i is torn = by (torn_of m H) (subst (λ (j : Node). IsSome (torn_of j H)) is torn)
+      where
+        by : (o : Option Commit) → IsSome o → IsSome (option_map (λ (c : Commit). kind.seen d (c ∷ counted H)) o)
+        by None torn = torn
+        by (Some c) torn = refl
+
+    -- each reply that it may get by the ledger is one by what is seen of the node
+    may : (reply : Reply) → Moves τ todays_rules H e [] reply → MayReply n m here p reply
+    may reply (whole, inl is) = inl (is ∙ ap (λ (q : Plan). q.reply) f.plan)
+    may reply (whole, inr (inl up)) =
+        let own = own_up n kind m d acts today here up.node up.count asked (sym (ap (λ (q : Plan). q.reply) f.plan) ∙ up.answer_is) in
+        let answer_is : p.reply ≡ r.Up m (n.count here.state) = sym (ap (λ (q : Plan). q.reply) f.plan) ∙ up.answer_is ∙ ap (λ (j : Node). r.Up j up.count) own.0 ∙ ap (r.Up m) own.1 in
+        inr (inl (answer_is, opened up.node own.0 up.torn, up.more ∙ ap (λ (j : Node). r.Up j (up.count + 1)) own.0 ∙ ap (λ (k : ℕ). r.Up m (k + 1)) own.1))
+    may reply (whole, inr (inr (inl fails))) = inr (inr (subst (λ (q : Plan). Fails q reply) f.plan fails))
+    may reply (whole, inr (inr (inr reading))) = absurd (reads_none reading.event)
+
+    so : (line : List ℕ) (w : View S) (sent : Option (List ℕ)) (reply : Reply) → TellsOf n m here p (commit_in n kind m d today asked here) line w sent reply → MovesSo n kind m d τ H e line w sent reply
+    so line w sent reply of =
+        let does = f.replied reply of.may in
+        record {
+          text = of.text;
+          whole = of.whole;
+          moves = does.moves;
+          here = does.here ∙ sym of.leaves;
+          others = does.others;
+          rests = does.rests;
+          sends = does.sent ∙ ap (λ (l : List (List ℕ)). sent_in H ++ l) (few_sent (after (plan τ todays_rules H e []) reply []) does.few ∙ ap (λ (q : Plan). listed (newest_sent (after q reply []))) f.plan ∙ ap listed (sym of.sends));
+          alone = λ other moves is. ap (λ (t : Told). after_told (plan τ todays_rules H e []) t H) (of.alone other (may other moves) is);
+        }
+
+    never : (line : List ℕ) (w : View S) (due : Reply) → TellsNone n m here p (commit_in n kind m d today asked here) line w due → MovesNever n kind m d τ H e line w due
+    never line w due none = record {
+      due_is = none.due_is ∙ ap (λ (q : Plan). q.reply) (sym f.plan);
+      never = λ reply moves. none.none reply (may reply moves);
+      rests = none.rests;
+    }
+
+  module _ (IsWhole : Asked C → Type 0) (Fits : S → Type 0) (law : FollowsAlways n kind m d bench_kinds taken_as IsWhole Fits) (today : ℤ) (asked : Asked C) (line : List ℕ) (v w : View S)
+      (fits : Fits v.state) (next : IfSome (commit_in n kind m d today asked v) (λ x. Fits x.1)) where
+    -- the same of any view: what is told of a line
+    abbrev SoFrom : Option (List ℕ) → Reply → Tariff → Ledger → Event → View S → Type 0
+    SoFrom sent reply τ H e u = Fits u.state → IfSome (commit_in n kind m d today asked u) (λ x. Fits x.1) → TellsOf n m u (plan_in n kind m d today asked u) (commit_in n kind m d today asked u) line w sent reply
+        → MovesSo n kind m d τ H e line w sent reply
+
+    pub lifts_so : (sent : Option (List ℕ)) (reply : Reply) → TellsOf n m v (plan_in n kind m d today asked v) (commit_in n kind m d today asked v) line w sent reply
+        → ByLedger n kind m d taken_as IsWhole today asked v (λ τ H e. MovesSo n kind m d τ H e line w sent reply)
+    lifts_so sent reply of τ H e history unforged day whole asks ranged seen =
+        let at : SoFrom sent reply τ H e (view_in m (kind.seen d) H) =
+        λ known more told. so today asked τ H e asks (law τ H e today asked history unforged day whole asks ranged known more) line w sent reply told in
+        subst (SoFrom sent reply τ H e) seen at fits next of
+
+    abbrev NeverFrom : Reply → Tariff → Ledger → Event → View S → Type 0
+    NeverFrom due τ H e u = Fits u.state → IfSome (commit_in n kind m d today asked u) (λ x. Fits x.1) → TellsNone n m u (plan_in n kind m d today asked u) (commit_in n kind m d today asked u) line w due
+        → MovesNever n kind m d τ H e line w due
+
+    pub lifts_never : (due : Reply) → TellsNone n m v (plan_in n kind m d today asked v) (commit_in n kind m d today asked v) line w due
+        → ByLedger n kind m d taken_as IsWhole today asked v (λ τ H e. MovesNever n kind m d τ H e line w due)
+    lifts_never due none τ H e history unforged day whole asks ranged seen =
+        let at : NeverFrom due τ H e (view_in m (kind.seen d) H) =
+        λ known more told. never today asked τ H e asks (law τ H e today asked history unforged day whole asks ranged known more) line w due told in
+        subst (NeverFrom due τ H e) seen at fits next none

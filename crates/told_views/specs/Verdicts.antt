@@ -1,0 +1,67 @@
+-- What a line of the report tells of an event of one node, by the ledger.
+use Rattle.std.specs.Prelude.{◌≡◌, ◌≢◌, ℕ, ℤ, List, [], ◌∷◌, ◌++◌, Option, Some, None}
+use Rattle.bench_base.specs.declared.words.Node.{Node}
+use Rattle.bench_base.specs.declared.ledger.Commit.{Commit}
+use Rattle.bench_base.specs.declared.events.Event.{Event}
+use Rattle.bench_base.specs.declared.events.Reply.{Reply}
+use Rattle.bench_base.specs.Plans.{Plan}
+use Rattle.bench_base.specs.Ranges.{IsWholeEvent}
+use Rattle.bench_base.specs.Rules.{todays_rules, editions}
+use Rattle.bench_base.specs.Ledger.{Ledger, day_in}
+use Rattle.node_acts.specs.declared.asked.Asked.{Asked}
+use Rattle.node_acts.specs.Views.{Counting, View}
+use Rattle.node_acts.specs.Kinds.{Kind, view_in, node_plan, node_commit}
+use Rattle.ledger_moves.specs.Tariffs.{Tariff}
+use Rattle.ledger_moves.specs.Moves.{Moves, answer, entries}
+use Rattle.ledger_moves.specs.Histories.{History, Unforged}
+use Rattle.bench_views.specs.declared.taken.Taken.{Taken}
+use Rattle.bench_views.specs.Follows.{OthersStay, Rests}
+use Rattle.bench_views.specs.Kinds.{bench_kinds}
+use Rattle.bench_views.specs.Messages.{sent_in}
+use Rattle.bench_views.specs.Tariff.{quote_in}
+use Rattle.bench_views.specs.Taken.{taken}
+use Rattle.script_text.specs.Texts.{text_of}
+use Rattle.script_text.specs.Told.{IsWholeReply}
+
+-- the message, if there is one
+abbrev pub listed : Option (List ℕ) → List (List ℕ)
+listed None = []
+listed (Some bytes) = bytes ∷ []
+
+-- the ledger behind an event that got this reply, where nothing is read as rates
+abbrev pub behind : Tariff → Ledger → Event → Reply → Ledger
+behind τ H e reply = entries τ todays_rules H e [] reply
+
+-- Node m, which is d of its kind.
+module _ {N S X C : Type 0} (n : Counting S X) (kind : Kind N S C) (m : Node) (d : N) where
+  -- the plan of what it is asked on a day, and the commit, by what is seen of it
+  abbrev pub plan_in : ℤ → Asked C → View S → Plan
+  plan_in today asked v = node_plan n m (kind.plan d today v) v asked
+
+  abbrev pub commit_in : ℤ → Asked C → View S → Option (Commit × S)
+  commit_in today asked v = node_commit (kind.commit d today v) asked
+
+  module _ (τ : Tariff) (H : Ledger) (e : Event) (line : List ℕ) where
+    -- The line is that of this reply, which the event may get at this ledger: the node is seen so at the ledger that it leaves, all
+    -- else is as it was but for what was sent, and any other reply that the event may get with that line leaves the same ledger.
+    pub record MovesSo (w : View S) (sent : Option (List ℕ)) (reply : Reply) : Type 0 where
+      pub text : text_of reply ≡ line
+      pub whole : IsWholeReply reply
+      pub moves : Moves τ todays_rules H e [] reply
+      pub here : view_in m (kind.seen d) (behind τ H e reply) ≡ w
+      pub others : OthersStay bench_kinds m H (behind τ H e reply)
+      pub rests : Rests H (behind τ H e reply)
+      pub sends : sent_in (behind τ H e reply) ≡ sent_in H ++ listed sent
+      pub alone : (other : Reply) → Moves τ todays_rules H e [] other → text_of other ≡ line → behind τ H e other ≡ behind τ H e reply
+
+    -- no reply that the event may get at this ledger has this line; this was the answer
+    pub record MovesNever (w : View S) (due : Reply) : Type 0 where
+      pub due_is : due ≡ answer τ todays_rules H e []
+      pub never : (reply : Reply) → Moves τ todays_rules H e [] reply → text_of reply ≢ line
+      pub rests : w ≡ view_in m (kind.seen d) H
+
+  -- P holds at each history at which the node is seen so, for each event that asks this of it on this day and brings nothing forged
+  abbrev pub ByLedger : (Asked C → Taken) → (Asked C → Type 0) → ℤ → Asked C → View S → (Tariff → Ledger → Event → Type 0) → Type 0
+  ByLedger taken_as IsWhole today asked v P = (τ : Tariff) (H : Ledger) (e : Event) → History τ editions H → Unforged e H
+      → day_in H ≡ Some today → IsWholeEvent e
+      → taken (sent_in H) (quote_in τ H) e ≡ Some (taken_as asked) → IsWhole asked → view_in m (kind.seen d) H ≡ v → P τ H e
