@@ -1,0 +1,10 @@
+//! The centre by what was told of it: whether a line of the report can be the reply to an event of the centre.
+#![tactic(auto)]
+
+mod acts;
+mod judge;
+mod record;
+
+pub use acts::centre_act;
+pub use judge::{is_known, judge_centre};
+pub use record::CentreRecord;

@@ -1,0 +1,5 @@
+mod Blank
+mod ByLedger
+mod Fitting
+mod Joined
+mod Switched

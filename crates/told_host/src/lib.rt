@@ -1,0 +1,10 @@
+//! The host by what was told of it: whether a line of the report can be the reply to an event of the host.
+#![tactic(auto)]
+
+mod acts;
+mod judge;
+mod record;
+
+pub use acts::host_act;
+pub use judge::judge_host;
+pub use record::HostRecord;

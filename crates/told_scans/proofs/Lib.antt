@@ -1,0 +1,4 @@
+mod Blank
+mod ByLedger
+mod Fitting
+mod Kept
