@@ -1,0 +1,11 @@
+mod Answered
+mod Begun
+mod Days
+mod Lifting
+mod Nodes
+mod OfRates
+mod Quiet
+mod Seen
+mod Sent
+mod Shutting
+mod Shown

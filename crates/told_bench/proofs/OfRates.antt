@@ -1,0 +1,194 @@
+-- What is heard of a `rates` on a day, by the ledger.
+use Rattle.std.proofs.Common.{◌≡◌, ◌⊎◌, inl, inr, ⊎_elim, ℕ, ℤ, List, [], ◌∷◌, length, Option, Some, None, Bool, true, false, Result, Ok, Err, refl, sym, ◌∙◌, ap, subst, if◌then◌else◌}
+use Rattle.std.specs.Prelude.{option_and_then, is_some, nat_lt, ok_or}
+use Rattle.bench_base.specs.declared.ledger.Entry.TheVariants as entry
+use Rattle.bench_base.specs.declared.events.Event.TheVariants as ev
+use Rattle.bench_base.specs.declared.events.Reply.{Reply}
+use Rattle.bench_base.specs.declared.events.Reply.TheVariants as r
+use Rattle.bench_base.specs.Plans.{Plan, refuse, told}
+use Rattle.bench_base.specs.Replies.{Did, told_by}
+use Rattle.bench_base.specs.Rules.{todays_rules}
+use Rattle.bench_base.specs.Ledger.{Ledger, day_in}
+use Rattle.node_acts.specs.Plans.{Fails, after}
+use Rattle.host_rates.specs.declared.reading.RatesFail.{RatesFail}
+use Rattle.host_rates.specs.declared.reading.RatesFail.TheVariants as fail
+use Rattle.host_rates.specs.Tables.{RateTable}
+use Rattle.host_rates.specs.Tariffs as texts
+use Rattle.host_rates.specs.Tariffs.{Keeps}
+use Rattle.host_rates.specs.Reading as reading
+use Rattle.host_rates.specs.Reading.{document}
+use Rattle.host_rates.specs.Answers.{answer, answer_of, AreRatesOf}
+use Rattle.ledger_moves.specs.Tariffs.{Tariff, NoToml, NoForm}
+use Rattle.ledger_moves.specs.Moves.{Moves, plan, rates_plan, reading_plan, answer as answer_in, entries}
+use Rattle.bench_views.specs.Tariff.{IsOfTexts}
+use Rattle.bench.specs.Outside.{rates_turn, rates_after}
+use Rattle.script_text.specs.Texts.{text_of}
+use Rattle.told_bench.specs.declared.judging.Finding.{Finding}
+use Rattle.told_bench.specs.declared.judging.Finding.TheVariants.{Wrong, Memory}
+use Rattle.told_bench.specs.Judging.{failed_to_read, taken_by, text_with, IsHeard}
+use Rattle.told_bench.specs.Plainly.{heard_of_rates}
+use Rattle.told_bench.specs.RatesTold.{IsToldOfRates, failed, read, due_of, text_of_rates}
+use Rattle.told_bench.specs.Seeing.{Audit, Sees, sending}
+use Rattle.told_bench.proofs.Quiet.{IsSilent, never_fails}
+use Rattle.told_bench.proofs.Seen.{sends_nothing}
+
+-- == the plan of a text ==
+
+-- what it is told as, as a plan
+abbrev plan_of : List ℕ → Result RateTable RatesFail → Plan
+plan_of text (Ok x) = told (r.Rates (length x.classes) x.zones) (entry.Rates text ∷ [])
+plan_of text (Err (fail.Length n)) = refuse r.RatesLength
+plan_of text (Err fail.Toml) = refuse r.RatesToml
+plan_of text (Err fail.Form) = refuse r.RatesForm
+plan_of text (Err (fail.Memory x)) = refuse r.RatesForm
+
+-- it is the plan of the tariff of texts
+planned : (τ : Tariff) → IsOfTexts τ → (text : List ℕ) → rates_plan τ text ≡ plan_of text (answer text)
+planned τ of text = ap (λ x. if nat_lt 65536 (length text) then refuse r.RatesLength else reading_plan text x) (of.reading text) ∙ by (nat_lt 65536 (length text)) (document text)
+  where
+    formed : (o : Option RateTable) → reading_plan text (texts.sizes_of (ok_or o NoForm)) ≡ plan_of text (ok_or o fail.Form)
+    formed None = refl
+    formed (Some x) = refl
+
+    by : (long : Bool) (o : Option _) → (if long then refuse r.RatesLength else reading_plan text (texts.sizes_of (answer_of NoToml NoForm o)))
+        ≡ plan_of text (if long then Err (fail.Length (length text)) else answer_of fail.Toml fail.Form o)
+    by true o = refl
+    by false None = refl
+    by false (Some ms) = formed (reading.rates_in ms)
+
+-- rates that a text is answered are those of the text
+are_rates : (text : List ℕ) (x : RateTable) → answer text ≡ Ok x → AreRatesOf text x
+are_rates text x is = by (nat_lt 65536 (length text)) (document text) is
+  where
+    formed : (o : Option RateTable) → ok_or o fail.Form ≡ Ok x → o ≡ Some x
+    formed None same = cc
+    formed (Some y) same = ap (λ z. Some z) (cc)
+
+    by : (long : Bool) (o : Option _) → (if long then Err (fail.Length (length text)) else answer_of fail.Toml fail.Form o) ≡ Ok x → option_and_then reading.rates_in o ≡ Some x
+    by true o same = cc
+    by false None same = cc
+    by false (Some ms) same = formed (reading.rates_in ms) same
+
+plan_rates : (τ : Tariff) (H : Ledger) (text : List ℕ) (today : ℤ) → day_in H ≡ Some today → plan τ todays_rules H ev.Rates text ≡ rates_plan τ text
+unfolding plan
+plan_rates τ H text today is = rw is refl
+
+silent : (text : List ℕ) (x : Result RateTable RatesFail) → IsSilent (plan_of text x)
+silent text (Ok x) = record { silent = refl; no_up = λ m k is. cc; no_print = λ j is. cc }
+silent text (Err (fail.Length n)) = record { silent = refl; no_up = λ m k is. cc; no_print = λ j is. cc }
+silent text (Err fail.Toml) = record { silent = refl; no_up = λ m k is. cc; no_print = λ j is. cc }
+silent text (Err fail.Form) = record { silent = refl; no_up = λ m k is. cc; no_print = λ j is. cc }
+silent text (Err (fail.Memory x)) = record { silent = refl; no_up = λ m k is. cc; no_print = λ j is. cc }
+
+-- an answer doesn't tell that the source failed
+was_read : (text : List ℕ) (x : Result RateTable RatesFail) → failed_to_read (told_by (plan_of text x).reply) ≡ false
+was_read text (Ok x) = refl
+was_read text (Err (fail.Length n)) = refl
+was_read text (Err fail.Toml) = refl
+was_read text (Err fail.Form) = refl
+was_read text (Err (fail.Memory x)) = refl
+
+due_is : (text : List ℕ) (x : Result RateTable RatesFail) → answer text ≡ x → due_of text ≡ (plan_of text x).reply
+due_is text x is = ap (λ (y : Result RateTable RatesFail). (rates_turn text y).reply) is ∙ named x
+  where
+    named : (y : Result RateTable RatesFail) → (rates_turn text y).reply ≡ (plan_of text y).reply
+    named (Ok y) = refl
+    named (Err (fail.Length n)) = refl
+    named (Err fail.Toml) = refl
+    named (Err fail.Form) = refl
+    named (Err (fail.Memory w)) = refl
+
+module _ (τ : Tariff) (H : Ledger) (of : IsOfTexts τ) (today : ℤ) (day : day_in H ≡ Some today) (left line : List ℕ) where
+  abbrev T : List ℕ
+  T = text_of_rates left
+
+  abbrev p : List ℕ → Plan
+  p text = plan_of text (answer text)
+
+  plan_is : (text : List ℕ) → plan τ todays_rules H ev.Rates text ≡ p text
+  plan_is text = plan_rates τ H text today day ∙ planned τ of text
+
+  dated : is_some (day_in H) ≡ true
+  dated = ap is_some day
+
+  -- what it takes
+  takes_all : (reply : Reply) → failed_to_read (told_by reply) ≡ false → text_with τ H ev.Rates left line reply ≡ T
+  takes_all reply fine = rw (dated, fine) refl
+
+  takes_none : text_with τ H ev.Rates left line r.RatesFault ≡ []
+  takes_none = rw dated refl
+
+  due : due_of T ≡ (p T).reply
+  due = due_is T (answer T) refl
+
+  -- no other reply may come than the answer to what it takes, and that the source failed
+  kind : (reply : Reply) → Moves τ todays_rules H ev.Rates (text_with τ H ev.Rates left line reply) reply → (reply ≡ due_of T) ⊎ (reply ≡ r.RatesFault)
+  kind reply (whole, inl is) =
+      let text = text_with τ H ev.Rates left line reply in
+      let named : reply ≡ (p text).reply = is ∙ ap (λ (q : Plan). q.reply) (plan_is text) in
+      let fine : failed_to_read (told_by reply) ≡ false = ap (λ (y : Reply). failed_to_read (told_by y)) named ∙ was_read text (answer text) in
+      inl (named ∙ ap (λ (t : List ℕ). (p t).reply) (takes_all reply fine) ∙ sym due)
+  kind reply (whole, inr (inl up)) = let text = text_with τ H ev.Rates left line reply in absurd ((silent text (answer text)).no_up up.node up.count (sym (ap (λ (q : Plan). q.reply) (plan_is text)) ∙ up.answer_is))
+  kind reply (whole, inr (inr (inl fails))) =
+      let text = text_with τ H ev.Rates left line reply in
+      absurd (never_fails (p text) (silent text (answer text)) (told_by reply) (subst (λ (q : Plan). Fails q reply) (plan_is text) fails))
+  kind reply (whole, inr (inr (inr reading))) = inr reading.reply_is
+
+  module _ (old new : Audit) (sees : Sees old H) (new_is : new ≡ record old { rates = new.rates }) where
+    kept : new.rates ≡ old.rates → new ≡ old
+    kept same = new_is ∙ λ k. record old { rates = same k }
+
+    sees_read : (x : Result RateTable RatesFail) → answer T ≡ x → new.rates ≡ rates_after old.rates x → Sees new (after (plan_of T x) (plan_of T x).reply H)
+    sees_read (Ok x) is kept_is = subst (λ (a : Audit). Sees a (entry.Rates T ∷ H)) (sym new_is) (record {
+      day = record { day = sees.day.day; messages = sees.day.messages; rates = subst (λ (o : Option RateTable). Keeps (Some T) o) (sym kept_is) (are_rates T x is) };
+      devices = sees.devices;
+      centre = sees.centre;
+      host = sees.host;
+      verifier = sees.verifier;
+    })
+    sees_read (Err (fail.Length k)) is kept_is = subst (λ (a : Audit). Sees a H) (sym (kept kept_is)) sees
+    sees_read (Err fail.Toml) is kept_is = subst (λ (a : Audit). Sees a H) (sym (kept kept_is)) sees
+    sees_read (Err fail.Form) is kept_is = subst (λ (a : Audit). Sees a H) (sym (kept kept_is)) sees
+    sees_read (Err (fail.Memory y)) is kept_is = subst (λ (a : Audit). Sees a H) (sym (kept kept_is)) sees
+
+    sent_is : sending None new ≡ new
+    sent_is = sends_nothing new
+
+    pub heard_rates : (result : Result ℕ Finding) → IsToldOfRates left line old.rates new.rates result → IsHeard τ H ev.Rates left line new (heard_of_rates result)
+    heard_rates (Ok taken) (failed text none keeps) = (
+      r.RatesFault,
+      record {
+        text = text;
+        whole = tt;
+        moves = (tt, inr (inr (inr (record { event = refl; reply_is = refl; dated = dated }))));
+        sees = subst (λ (a : Audit). Sees a H) (sym (sent_is ∙ kept keeps)) sees;
+      },
+      none ∙ ap length (sym takes_none),
+    )
+    heard_rates (Ok taken) (read text whole all keeps) =
+        let fine : failed_to_read (told_by (due_of T)) ≡ false = ap (λ (y : Reply). failed_to_read (told_by y)) due ∙ was_read T (answer T) in
+        let text_is = takes_all (due_of T) fine in
+        let reply_is : due_of T ≡ answer_in τ todays_rules H ev.Rates T = due ∙ ap (λ (q : Plan). q.reply) (sym (plan_is T)) in
+        let after_is : entries τ todays_rules H ev.Rates T (due_of T) ≡ after (p T) (p T).reply H = ap (λ (q : Plan). after q (due_of T) H) (plan_is T) ∙ ap (λ (y : Reply). after (p T) y H) due in (
+          due_of T,
+          record {
+            text = text;
+            whole = whole;
+            moves = subst (λ (t : List ℕ). Moves τ todays_rules H ev.Rates t (due_of T)) (sym text_is) (tt, inl reply_is);
+            sees = subst (λ (a : Audit). Sees a (entries τ todays_rules H ev.Rates (text_with τ H ev.Rates left line (due_of T)) (due_of T))) (sym sent_is)
+                (subst (λ (t : List ℕ). Sees new (entries τ todays_rules H ev.Rates t (due_of T))) (sym text_is) (subst (λ (K : Ledger). Sees new K) (sym after_is) (sees_read (answer T) refl keeps)));
+          },
+          all ∙ ap length (sym text_is),
+        )
+    heard_rates (Err (Wrong due_reply)) never = record {
+      due_is = never.due_is ∙ due ∙ ap (λ (q : Plan). q.reply) (sym (plan_is T)) ∙ ap (λ (t : List ℕ). answer_in τ todays_rules H ev.Rates t) (sym all_taken);
+      none = λ reply may is. ⊎_elim
+          (λ (same : reply ≡ due_of T). never.other (ap text_of (never.due_is ∙ sym same) ∙ is))
+          (λ (same : reply ≡ r.RatesFault). never.no_fault (ap text_of (sym same) ∙ is))
+          (kind reply may);
+      rests = subst (λ (a : Audit). Sees a H) (sym (kept never.keeps)) sees;
+    }
+      where
+        all_taken : taken_by ev.Rates (day_in H) Did left ≡ T
+        all_taken = rw dated refl
+    heard_rates (Err Memory) none = tt

@@ -1,0 +1,106 @@
+-- What the line of the report tells of an event, by the ledger.
+use Rattle.std.specs.Prelude.{◌≡◌, ◌≢◌, ℕ, ℤ, List, [], length, take, Bool, true, false, not, ◌&&◌, is_some, if◌then◌else◌, Option, Result, Ok, Err}
+use Rattle.bench_base.specs.declared.events.Event.{Event}
+use Rattle.bench_base.specs.declared.events.Event.TheVariants as ev
+use Rattle.bench_base.specs.declared.events.Reply.{Reply}
+use Rattle.bench_base.specs.Replies.{Told, Did, Refused, Armed, CameOn, WentOff, LostPower, Faulted, WasDamaged, PrinterFailed, RatesFailed, told_by}
+use Rattle.bench_base.specs.Rules.{todays_rules, editions}
+use Rattle.bench_base.specs.Ledger.{Ledger, day_in}
+use Rattle.ledger_moves.specs.Tariffs.{Tariff}
+use Rattle.ledger_moves.specs.Moves.{Moves, answer, entries}
+use Rattle.ledger_moves.specs.Histories.{History, Unforged}
+use Rattle.bench_views.specs.Tariff.{IsOfTexts}
+use Rattle.script_text.specs.Texts.{text_of}
+use Rattle.script_text.specs.Told.{IsWholeReply}
+use Rattle.told_bench.specs.declared.judging.Heard.{Heard}
+use Rattle.told_bench.specs.declared.judging.Finding.{Finding}
+use Rattle.told_bench.specs.declared.judging.Finding.TheVariants.{Wrong, Memory}
+use Rattle.told_bench.specs.Seeing.{Audit, Sees, sending}
+
+abbrev pub is_rates : Event → Bool
+is_rates ev.Rates = true
+is_rates (ev.Day t) = false
+is_rates (ev.Make d key) = false
+is_rates (ev.On n) = false
+is_rates (ev.Off n) = false
+is_rates (ev.Cut n calls keep byte) = false
+is_rates (ev.Debit d piece postage class) = false
+is_rates (ev.Ask d kind who amount) = false
+is_rates (ev.Resend d) = false
+is_rates (ev.Ack d) = false
+is_rates (ev.Status d) = false
+is_rates (ev.Register d origin key) = false
+is_rates (ev.OpenCustomer w) = false
+is_rates (ev.Deposit w receipt amount) = false
+is_rates (ev.Flag w suspended) = false
+is_rates (ev.Balance w) = false
+is_rates (ev.Deliver k) = false
+is_rates (ev.Give n bytes) = false
+is_rates (ev.Order d piece class grams zone) = false
+is_rates (ev.Send j) = false
+is_rates (ev.Print j) = false
+is_rates (ev.Close j) = false
+is_rates (ev.Trust d key) = false
+is_rates (ev.ScanMsg scan k) = false
+is_rates (ev.ScanHex scan bytes) = false
+is_rates (ev.Reconcile d) = false
+is_rates ev.End = false
+
+abbrev pub failed_to_read : Told → Bool
+failed_to_read Did = false
+failed_to_read Refused = false
+failed_to_read (Armed m) = false
+failed_to_read (CameOn m k) = false
+failed_to_read (WentOff m) = false
+failed_to_read (LostPower m) = false
+failed_to_read (Faulted m) = false
+failed_to_read (WasDamaged m) = false
+failed_to_read (PrinterFailed j) = false
+failed_to_read RatesFailed = true
+
+-- what an event takes of the rates that are left: a `rates` on a day at most 65,537 bytes, unless they can't be read; any other nothing
+abbrev pub taken_by : Event → Option ℤ → Told → List ℕ → List ℕ
+taken_by e today told left = if is_rates e && (is_some today && not (failed_to_read told)) then take 65537 left else []
+
+-- At ledger H, where these rates are left, the report has this line for this event.
+module _ (τ : Tariff) (H : Ledger) (e : Event) (left line : List ℕ) where
+  -- what the event takes where it gets this reply
+  abbrev pub text_with : Reply → List ℕ
+  text_with reply = taken_by e (day_in H) (told_by reply) left
+
+  -- the event may get this reply there
+  abbrev pub MayGet : Reply → Type 0
+  MayGet reply = Moves τ todays_rules H e (text_with reply) reply
+
+  -- the ledger that it leaves then
+  abbrev pub ledger_with : Reply → Ledger
+  ledger_with reply = entries τ todays_rules H e (text_with reply) reply
+
+  -- the line is that of this reply, whose numbers are in range and which the event may get, and the auditor has what the ledger shows then
+  pub record IsTold (a : Audit) (reply : Reply) : Type 0 where
+    pub text : text_of reply ≡ line
+    pub whole : IsWholeReply reply
+    pub moves : MayGet reply
+    pub sees : Sees a (ledger_with reply)
+
+  -- the line is that of no reply which the event may get; this was the answer, and the auditor has what it had
+  pub record IsUntold (a : Audit) (due : Reply) : Type 0 where
+    pub due_is : due ≡ answer τ todays_rules H e (taken_by e (day_in H) Did left)
+    pub none : (reply : Reply) → MayGet reply → text_of reply ≢ line
+    pub rests : Sees a H
+
+  -- what is judged of the line: how much of the rates was taken, and what is sent next
+  abbrev pub IsHeard : Audit → Result Heard Finding → Type 0
+  IsHeard a (Ok heard) = (reply : Reply) × IsTold (sending heard.sent a) reply × (heard.taken ≡ length (text_with reply))
+  IsHeard a (Err (Wrong due)) = IsUntold a due
+  IsHeard a (Err Memory) = Unit {0}
+
+  -- the same, where the message was sent
+  abbrev pub IsJudged : Audit → Result ℕ Finding → Type 0
+  IsJudged a (Ok taken) = (reply : Reply) × IsTold a reply × (taken ≡ length (text_with reply))
+  IsJudged a (Err (Wrong due)) = IsUntold a due
+  IsJudged a (Err Memory) = Unit {0}
+
+-- P at each history that the auditor has, at which the event brings nothing forged, by a tariff of texts
+abbrev pub AtEach : Audit → Event → (Tariff → Ledger → Type 0) → Type 0
+AtEach a e P = (τ : Tariff) (H : Ledger) → IsOfTexts τ → History τ editions H → Unforged e H → Sees a H → P τ H

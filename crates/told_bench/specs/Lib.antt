@@ -1,0 +1,9 @@
+-- Promised: public contracts name these.
+pub mod Beginning
+pub mod Judging
+pub mod Seeing
+pub mod Telling
+-- What the functions inside say.
+pub mod Placed
+pub mod Plainly
+pub mod RatesTold

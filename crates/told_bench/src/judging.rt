@@ -1,0 +1,264 @@
+//! Whether a line of the report can be the reply to an event.
+ghost use Rattle.std.specs.Prelude.{◌≡◌, ◌+◌, ◌<◌, ◌≤◌, length};
+ghost use Rattle.bench_base.specs.Ranges.{IsDevice, IsWholeEvent};
+ghost use Rattle.bench_base.specs.Table.{IsBytes};
+ghost use Rattle.bench_views.specs.Centre as centres;
+ghost use Rattle.bench_views.specs.Verifier as verifiers;
+ghost use Rattle.bench.specs.declared.benches.TheConstants.{MOST_MESSAGES};
+ghost use Rattle.bench.specs.Calls.{dated};
+ghost use Rattle.told_bench.specs.Placed.{DeviceJudged, ComparesInPlace};
+ghost use Rattle.told_bench.specs.Plainly.{IsPlainly, SendsHeard, heard_of, heard_of_host, heard_of_rates};
+ghost use Rattle.told_bench.specs.Seeing.{AreSettled, IsReady, audit_of};
+ghost use Rattle.told_bench.specs.Judging.{AtEach, IsHeard, IsJudged};
+
+use crate::auditor::Auditor;
+use crate::comparing::compare;
+use crate::rates::judge_rates;
+use bench_base::bytes::Note;
+use bench_base::events::{Event, Reply};
+use bench_base::numbers::{DayNo, DevNo};
+use bench_views::laws::nodes_follow;
+use bench_views::{CentreCall, DeviceCall, Taken, VerifierCall, take};
+use centre_ledger::Row;
+use host_rates::theorems::prices_by_text;
+use node_acts::Asked;
+use psd_state::DevRec;
+use std::alloc::Global;
+use told_centre::{CentreRecord, is_known, judge_centre};
+use told_device::{DeviceRecord, judge_device};
+use told_host::judge_host;
+use told_nodes::{Seat, Told, is_told};
+use told_scans::judge_scans;
+
+/// What is found where a line of the report can't be told of its event.
+#[derive(Clone, Copy)]
+pub enum Finding {
+    /// No reply that the event may get has the line; this was the answer.
+    Wrong(Reply),
+    /// There was no memory, for rates or for a message.
+    Memory,
+}
+
+/// What is heard of an event by its line: the message that it sent, and how much of the rates it took, in bytes.
+#[derive(Clone, Copy)]
+pub struct Heard {
+    pub sent: Option<Note>,
+    pub taken: usize,
+}
+
+// The reply to an event that needs a day.
+fn on_day(day: Option<DayNo>, reply: Reply) -> Reply
+    ensures { result ≡ dated day reply }
+{
+    match day {
+        Some(_) => reply,
+        None => Reply::NoDay,
+    }
+}
+
+// The line beside the one answer to an event.
+fn plain(due: Reply, line: &[u8]) -> Result<Heard, Finding>
+    ensures { IsPlainly due line.now result }
+{
+    if is_told(&due, line) {
+        Ok(Heard {
+            sent: None,
+            taken: 0,
+        })
+    } else {
+        Err(Finding::Wrong(due))
+    }
+}
+
+// What is heard of a node.
+fn of_node(judged: Result<Option<Note>, Reply>) -> Result<Heard, Finding>
+    ensures { result ≡ heard_of judged }
+{
+    match judged {
+        Ok(sent) => Ok(Heard { sent, taken: 0 }),
+        Err(due) => Err(Finding::Wrong(due)),
+    }
+}
+
+// What is heard of the host.
+fn of_host(judged: Result<Told, Reply>) -> Result<Heard, Finding>
+    ensures { result ≡ heard_of_host judged }
+{
+    match judged {
+        Ok(told) => Ok(Heard {
+            sent: told.sent,
+            taken: 0,
+        }),
+        Err(due) => Err(Finding::Wrong(due)),
+    }
+}
+
+// What is heard of a `rates`.
+fn of_rates(judged: Result<usize, Finding>) -> Result<Heard, Finding>
+    ensures { result ≡ heard_of_rates judged }
+{
+    match judged {
+        Ok(taken) => Ok(Heard { sent: None, taken }),
+        Err(finding) => Err(finding),
+    }
+}
+
+// Judges the line of an event of the device in its place.
+fn device_in_place(
+    devices: &mut Vec<Seat<DeviceRecord, DevRec>>,
+    device: DevNo,
+    day: DayNo,
+    asked: &Asked<DeviceCall>,
+    line: &[u8],
+) -> Result<Option<Note>, Reply>
+    requires eight { length devices.old.items ≡ 8 }
+    requires settled { AreSettled devices.old.items }
+    ensures settled { AreSettled devices.new.items }
+    ensures eight { length devices.new.items ≡ 8 }
+    ensures judged { DeviceJudged device day asked.now line.now devices.old.items devices.new.items result }
+{
+    let place = device.get() as usize - 1;
+    judge_device(&mut devices[place], device, day, asked, line)
+}
+
+// How the device in its place and the centre compare.
+fn compare_in_place(
+    device: DevNo,
+    devices: &[Seat<DeviceRecord, DevRec>],
+    centre: &Seat<CentreRecord, Row>,
+) -> Reply
+    requires eight { length devices.now ≡ 8 }
+    ensures shows { ComparesInPlace device devices.now centre.now result }
+    ensures named { IsDevice device }
+{
+    let place = device.get() as usize - 1;
+    compare(device, &devices[place], centre)
+}
+
+fn are_bytes(bytes: &[u8])
+    ensures { IsBytes bytes.now }
+{}
+
+// What the centre is handed is a list of bytes.
+fn hands_centre(asked: &Asked<CentreCall>)
+    ensures { centres.AreBytes asked.now }
+{
+    if let Asked::Call(CentreCall::Take { bytes, message: _ }) = asked {
+        are_bytes(bytes.as_slice());
+    }
+}
+
+// What the verifier scans is a list of bytes.
+fn hands_verifier(asked: &Asked<VerifierCall>)
+    ensures { verifiers.AreBytes asked.now }
+{
+    if let Asked::Call(VerifierCall::Scan { number: _, bytes }) = asked {
+        are_bytes(bytes.as_slice());
+    }
+}
+
+// Judges the line of an event, before its message is sent.
+fn hear(
+    alloc: Global,
+    auditor: &mut Auditor,
+    event: &Event,
+    left: &[u8],
+    line: &[u8],
+) -> Result<Heard, Finding>
+    requires whole { IsWholeEvent event.now }
+    requires ready { IsReady (audit_of auditor.old) }
+    requires few { length (audit_of auditor.old).messages < MOST_MESSAGES }
+    ensures ready { IsReady (audit_of auditor.new) }
+    ensures unsent { (audit_of auditor.new).messages ≡ (audit_of auditor.old).messages }
+    ensures judged { AtEach (audit_of auditor.old) event.now (λ τ H. IsHeard τ H event.now left.now line.now (audit_of auditor.new) result) }
+{
+    // What is seen of the nodes follows from the ledger.
+    nodes_follow();
+    prices_by_text();
+    is_known(&auditor.centre.record);
+    let today = auditor.day;
+    let found = take(event, &auditor.messages, &auditor.rates);
+    let Some(taken) = &found else {
+        unreachable!();
+    };
+    match taken {
+        Taken::Day(day) => match plain(Reply::Day(*day), line) {
+            Ok(heard) => {
+                auditor.day = Some(*day);
+                Ok(heard)
+            }
+            Err(finding) => Err(finding),
+        },
+        Taken::End => plain(Reply::End, line),
+        Taken::NoMessage(number) => plain(on_day(today, Reply::NoMessage(*number)), line),
+        Taken::Reconcile(device) => {
+            let due = compare_in_place(*device, &auditor.devices, &auditor.centre);
+            plain(on_day(today, due), line)
+        }
+        Taken::Rates => match today {
+            None => plain(Reply::NoDay, line),
+            Some(_) => of_rates(judge_rates(alloc, &mut auditor.rates, left, line)),
+        },
+        Taken::Device(device, asked) => match today {
+            None => plain(Reply::NoDay, line),
+            Some(day) => of_node(device_in_place(&mut auditor.devices, *device, day, asked, line)),
+        },
+        Taken::Centre(asked) => match today {
+            None => plain(Reply::NoDay, line),
+            Some(day) => {
+                hands_centre(asked);
+                of_node(judge_centre(&mut auditor.centre, day, asked, line))
+            }
+        },
+        Taken::Host(asked) => match today {
+            None => plain(Reply::NoDay, line),
+            Some(day) => of_host(judge_host(&mut auditor.host, day, asked, line)),
+        },
+        Taken::Verifier(asked) => match today {
+            None => plain(Reply::NoDay, line),
+            Some(day) => {
+                hands_verifier(asked);
+                of_node(judge_scans(&mut auditor.verifier, day, asked, line))
+            }
+        },
+    }
+}
+
+// Sends the message that was heard of, if there is one.
+fn send(auditor: &mut Auditor, heard: Heard) -> Result<usize, Finding>
+    requires ready { IsReady (audit_of auditor.old) }
+    ensures ready { IsReady (audit_of auditor.new) }
+    ensures few { length (audit_of auditor.new).messages ≤ length (audit_of auditor.old).messages + 1 }
+    ensures sent { SendsHeard heard (audit_of auditor.old) (audit_of auditor.new) result }
+{
+    let Some(note) = heard.sent else {
+        return Ok(heard.taken);
+    };
+    match auditor.messages.push(note) {
+        Ok(()) => Ok(heard.taken),
+        Err(_) => Err(Finding::Memory),
+    }
+}
+
+/// Judges the line of an event, where these bytes of the rates are left. `Ok`, with how many of them the event took, exactly where it may get a reply
+/// of that line; the auditor then has what the ledger shows that the reply leaves. `Wrong`, with the answer that was due, exactly where it may get
+/// none; the auditor has what it had. `Memory` is want of memory, for rates or for a message.
+pub fn judge(
+    alloc: Global,
+    auditor: &mut Auditor,
+    event: &Event,
+    left: &[u8],
+    line: &[u8],
+) -> Result<usize, Finding>
+    requires whole { IsWholeEvent event.now }
+    requires ready { IsReady (audit_of auditor.old) }
+    requires few { length (audit_of auditor.old).messages < MOST_MESSAGES }
+    ensures ready { IsReady (audit_of auditor.new) }
+    ensures few { length (audit_of auditor.new).messages ≤ length (audit_of auditor.old).messages + 1 }
+    ensures judged { AtEach (audit_of auditor.old) event.now (λ τ H. IsJudged τ H event.now left.now line.now (audit_of auditor.new) result) }
+{
+    match hear(alloc, auditor, event, left, line) {
+        Ok(heard) => send(auditor, heard),
+        Err(finding) => Err(finding),
+    }
+}

@@ -1,0 +1,11 @@
+//! An auditor of a whole bench: whether the line of the report can be the reply to an event of a script, by what was told before.
+#![tactic(auto)]
+
+pub mod auditor;
+pub mod comparing;
+pub mod judging;
+pub mod rates;
+mod telling;
+
+pub use auditor::Auditor;
+pub use judging::{Finding, judge};
