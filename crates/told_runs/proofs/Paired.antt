@@ -1,0 +1,102 @@
+-- Lines that are paired one after another, and where the verdict falls.
+use Rattle.std.proofs.Common.{◌≡◌, inl, inr, ℕ, ◌+◌, ◌≤◌, List, [], ◌∷◌, ◌++◌, length, map, drop, flat_map, refl, sym, ◌∙◌, ap, subst, arith, append_assoc, append-nil}
+use Rattle.std.proofs.lemmas.Grind.{flat_map-append}
+use Rattle.std.proofs.lemmas.List.{length-append, map-append}
+use Rattle.std.specs.List.{AllByRecursion}
+use Rattle.bench_base.specs.declared.ledger.Entry.TheVariants.{Begin}
+use Rattle.bench_base.specs.Ledger.{Ledger}
+use Rattle.ledger_moves.specs.Tariffs.{Tariff}
+use Rattle.ledger_moves.specs.Histories.{begins}
+use Rattle.line_runs.specs.Ends.{lines_of}
+use Rattle.script_replay.specs.Deeds.{ledger_by}
+use Rattle.told_bench.specs.Seeing.{Audit, Sees}
+use Rattle.told_runs.specs.Verdicts.{Pair, Skipped, Answered, IsPair, line_in, text_for, EndsSo, TellsSo, MayEnd, IsSo, Says}
+use Rattle.told_runs.specs.Turns.{AtHistories, StandsAt, Turned, Fell, Progress, IsOver}
+use Rattle.told_runs.specs.declared.audit.Step.{Step}
+use Rattle.told_runs.specs.declared.verdict.Ending.{Ending}
+use Rattle.told_runs.specs.declared.verdict.Verdict.{Verdict}
+use Rattle.told_runs.specs.declared.verdict.Verdict.TheVariants.{Lawful}
+
+each_more : (P : Pair → Type 0) (a : List Pair) (p : Pair) → AllByRecursion P a → P p → AllByRecursion P (a ++ p ∷ [])
+each_more P [] p all is = (is, tt)
+each_more P (x ∷ a) p all is = (all.0, each_more P a p all.1 is)
+
+-- more pairs, at the ledger behind some
+tells_more : (τ : Tariff) (P Q : Ledger → List ℕ → Type 0) (b : List Pair) → ((K : Ledger) (l : List ℕ) → P K l → TellsSo τ Q K l b)
+    → (H : Ledger) (left : List ℕ) (a : List Pair) → TellsSo τ P H left a → TellsSo τ Q H left (a ++ b)
+tells_more τ P Q b then H left [] tells = then H left tells
+tells_more τ P Q b then H left (Skipped line ∷ a) tells = tells_more τ P Q b then H left a tells
+tells_more τ P Q b then H left (Answered line e answer ∷ a) tells = λ unforged.
+    let w = tells unforged in
+    (w.0, w.1, tells_more τ P Q b then (ledger_by τ H w.0) (drop (length w.0.text) left) a w.2)
+
+-- the same pairs, and what follows of the ledger behind them
+tells_then : (τ : Tariff) (P Q : Ledger → List ℕ → Type 0) → ((K : Ledger) (l : List ℕ) → P K l → Q K l) → (H : Ledger) (left : List ℕ) (a : List Pair) → TellsSo τ P H left a → TellsSo τ Q H left a
+tells_then τ P Q then H left a tells = subst (λ (b : List Pair). TellsSo τ Q H left b) (append-nil a) (tells_more τ P Q [] then H left a tells)
+
+pub begun : (script report rates : List ℕ) (old new : Audit) → ((H : Ledger) → Sees old H → Sees new (Begin ∷ H)) → Progress 0 script report rates script report rates old new
+begun script report rates old new sees = record {
+  pairs = [];
+  number = refl;
+  each = tt;
+  script_is = refl;
+  report_is = refl;
+  so = λ τ H texts history seen. record { history = begins history; sees = sees H seen; are = refl };
+}
+
+module _ (script0 report0 rates0 : List ℕ) (count : ℕ) (script report rates : List ℕ) (old mid new : Audit) (p : Progress count script0 report0 rates0 script report rates old mid) where
+  behind_it : (step : Step) → Turned step script report rates mid new
+      → Progress (count + 1) script0 report0 rates0 (drop step.script script) (drop step.report report) (drop step.rates rates) old new
+  behind_it step t = record {
+    pairs = p.pairs ++ t.pair ∷ [];
+    number = length-append p.pairs (t.pair ∷ []) ∙ ap (λ (n : ℕ). n + 1) p.number;
+    each = each_more IsPair p.pairs t.pair p.each t.is;
+    script_is =
+        p.script_is ∙ ap (λ (l : List (List ℕ)). map line_in p.pairs ++ l) t.script_is
+        ∙ sym (append_assoc (map line_in p.pairs) (line_in t.pair ∷ []) (lines_of (drop step.script script)))
+        ∙ ap (λ (l : List (List ℕ)). l ++ lines_of (drop step.script script)) (sym (map-append line_in p.pairs (t.pair ∷ [])));
+    report_is =
+        p.report_is ∙ ap (λ (l : List ℕ). flat_map text_for p.pairs ++ l) t.report_is
+        ∙ sym (append_assoc (flat_map text_for p.pairs) (text_for t.pair) (drop step.report report))
+        ∙ ap (λ (l : List ℕ). l ++ drop step.report report) (ap (λ (l : List ℕ). flat_map text_for p.pairs ++ l) (sym (append-nil (text_for t.pair))) ∙ sym (flat_map-append text_for p.pairs (t.pair ∷ [])));
+    so = λ τ H texts history seen.
+        tells_more τ (StandsAt τ mid rates) (StandsAt τ new (drop step.rates rates)) (t.pair ∷ [])
+        (λ K l at. subst (λ (r : List ℕ). TellsSo τ (StandsAt τ new (drop step.rates rates)) K r (t.pair ∷ [])) (sym at.are) (t.so τ K texts at.history at.sees))
+        (Begin ∷ H) rates0 p.pairs (p.so τ H texts history seen);
+  }
+
+  pub progress_more : (step : Step) (lines told left : List ℕ) → lines ≡ drop step.script script → told ≡ drop step.report report → left ≡ drop step.rates rates → Turned step script report rates mid new
+      → Progress (count + 1) script0 report0 rates0 lines told left old new
+  progress_more step lines told left a b c t =
+      subst (λ (l : List ℕ). Progress (count + 1) script0 report0 rates0 l told left old new) (sym a)
+      (subst (λ (l : List ℕ). Progress (count + 1) script0 report0 rates0 (drop step.script script) l left old new) (sym b)
+      (subst (λ (l : List ℕ). Progress (count + 1) script0 report0 rates0 (drop step.script script) (drop step.report report) l old new) (sym c) (behind_it step t)))
+
+  pub fallen : (v : Verdict) → count ≤ 1000000 → Fell (count + 1) script report rates mid new v → Says v script0 report0 rates0 old new
+  fallen v few fell =
+      let f : Fell (length p.pairs + 1) script report rates mid new v = subst (λ (n : ℕ). Fell (n + 1) script report rates mid new v) (sym p.number) fell in
+      record {
+        pairs = p.pairs;
+        rest = lines_of script;
+        told = report;
+        front = record { each = p.each; few = omega (arith, few, p.number); script_is = p.script_is; report_is = p.report_is };
+        falls = f.falls;
+        so = λ τ H texts history seen.
+            tells_then τ (StandsAt τ mid rates) (λ K left. IsSo τ K left new (length p.pairs + 1) (lines_of script) report v f.falls)
+            (λ K l at. subst (λ (r : List ℕ). IsSo τ K r new (length p.pairs + 1) (lines_of script) report v f.falls) (sym at.are) (f.so τ K texts at.history at.sees))
+            (Begin ∷ H) rates0 p.pairs (p.so τ H texts history seen);
+      }
+
+-- the script ends at the line of this number
+module _ (number : ℕ) (script report rates : List ℕ) (old new : Audit) (end : Ending) where
+  abbrev pub EndsWith : List ℕ → Type 0
+  EndsWith behind = (e : EndsSo number (lines_of script) report end behind) × AtHistories old (λ τ H. MayEnd τ H rates new end report behind e.report)
+
+  lawful : EndsWith [] → Fell number script report rates old new (Lawful end)
+  lawful w = record { falls = w.0; so = w.1 }
+
+  pub over_falls : (behind : List ℕ) (v : Verdict) → EndsWith behind → IsOver end number behind v → Fell number script report rates old new v
+  over_falls behind v w over = elim over [
+    | inl o ↦ subst (λ (x : Verdict). Fell number script report rates old new x) (sym o.1) (lawful (subst (λ (b : List ℕ). EndsWith b) o.0 w))
+    | inr o ↦ subst (λ (x : Verdict). Fell number script report rates old new x) (sym o.1) (record { falls = (refl, end, behind, w.0, o.0); so = w.1 })
+  ]

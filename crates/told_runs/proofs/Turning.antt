@@ -1,0 +1,127 @@
+-- What becomes of one line.
+use Rattle.std.proofs.Common.{◌≡◌, ◌≢◌, ◌⊎◌, ℕ, ◌<◌, ◌≤◌, List, [], ◌∷◌, ◌++◌, length, drop, Bool, false, Result, Ok, Err, IfOk, IfErr, IsTrue, ◌↔◌, refl, sym, ◌∙◌, ap, subst}
+use Rattle.bench_base.specs.declared.events.Event.{Event}
+use Rattle.bench_base.specs.declared.events.Event.TheVariants as ev
+use Rattle.bench_base.specs.declared.events.Reply.{Reply}
+use Rattle.bench_base.specs.Ledger.{Ledger}
+use Rattle.bench_base.specs.Ranges.{IsWholeEvent}
+use Rattle.bench_base.specs.Rules.{editions}
+use Rattle.bench_views.specs.Tariff.{IsOfTexts}
+use Rattle.ledger_moves.specs.Tariffs.{Tariff}
+use Rattle.ledger_moves.specs.Histories.{History, Unforged, moves}
+use Rattle.script_text.specs.Grammar.{Spells, IsSkipped}
+use Rattle.script_words.specs.declared.word.LineFault.{LineFault}
+use Rattle.line_runs.specs.Ends.{lines_of, EndsAt}
+use Rattle.line_runs.specs.declared.status.Status.TheVariants as status
+use Rattle.line_runs.specs.Lines.{IsOneLine, ended}
+use Rattle.desk_runs.specs.Deeds.{Done, done}
+use Rattle.desk_runs.specs.Events.{IsLineOf, IsBad}
+use Rattle.desk_runs.specs.Scripts.{script_grammar}
+use Rattle.script_replay.specs.Deeds.{ledger_by}
+use Rattle.told_bench.specs.declared.judging.Finding.TheVariants as found
+use Rattle.told_bench.specs.Judging.{AtEach, IsJudged, text_with}
+use Rattle.told_bench.specs.Seeing.{Audit, Sees}
+use Rattle.told_runs.specs.Verdicts.{Skipped, Answered, IsEvent, HasLine, IsAnswered}
+use Rattle.told_runs.specs.Turns.{StandsAt, Turned, Fell, BeginsWith, IsOver}
+use Rattle.told_runs.specs.declared.audit.Step.{Step}
+use Rattle.told_runs.specs.declared.verdict.Ending.TheVariants as ends
+use Rattle.told_runs.specs.declared.verdict.Verdict.{Verdict}
+use Rattle.told_runs.specs.declared.verdict.Verdict.TheVariants.{Wrong, Memory}
+use Rattle.told_runs.proofs.Paired.{over_falls}
+
+-- == the line of an event, for which so much of the script is taken ==
+
+module _ (number : ℕ) (inside : number ≤ 1000000) (script line : List ℕ) (taken : ℕ) (e : Event) (begins : BeginsWith script line taken e) (report rates : List ℕ) (old new : Audit) where
+  is_event : IsEvent number (lines_of script) e
+  is_event = record { inside = inside; line = line; more = lines_of (drop taken script); rest_is = begins.first; short = begins.short; is = begins.is }
+
+  module _ (answer behind : List ℕ) (has : HasLine report answer behind) where
+    pub wrong : (due : Reply) → AtEach old e (λ τ H. IsJudged τ H e rates answer new (Err (found.Wrong due))) → Fell number script report rates old new (Wrong number due)
+    wrong due judged = record {
+      falls = (refl, e, answer, behind, is_event, has);
+      so = λ τ H texts history seen unforged. judged τ H texts history unforged seen;
+    }
+
+    pub wants : Fell number script report rates old new Memory
+    wants = record { falls = (e, answer, behind, is_event, has); so = λ τ H texts history seen. tt }
+
+    module _ (used : ℕ) (judged : AtEach old e (λ τ H. IsJudged τ H e rates answer new (Ok used))) where
+      -- what may be done for the event
+      may : (τ : Tariff) (H : Ledger) → IsOfTexts τ → History τ editions H → Sees old H → Unforged e H
+          → (d : Done) × IsAnswered τ H rates e answer d × StandsAt τ new (drop used rates) (ledger_by τ H d) (drop (length d.text) rates)
+      may τ H texts history seen unforged =
+          let w = judged τ H texts history unforged seen in
+          let text = text_with τ H e rates answer w.0 in (
+            done e text w.0 [],
+            record { event = refl; text = w.1.text; may = record { unforged = unforged; moves = w.1.moves; whole = w.1.whole; takes = refl } },
+            record { history = moves e text w.0 history unforged w.1.moves; sees = w.1.sees; are = ap (λ (n : ℕ). drop n rates) (sym w.2) },
+          )
+
+      pub goes_on : (step : Step) → step.script ≡ taken → behind ≡ drop step.report report → step.rates ≡ used → e ≢ ev.End → Turned step script report rates old new
+      goes_on step script_is report_is rates_is passes = record {
+        pair = Answered line e answer;
+        is = record { one = begins.one; short = begins.short; is = (begins.is, has.one, passes) };
+        script_is = begins.first ∙ ap (λ (n : ℕ). line ∷ lines_of (drop n script)) (sym script_is);
+        report_is = has.is ∙ ap (λ (l : List ℕ). ended answer ++ l) report_is;
+        so = λ τ H texts history seen unforged.
+            let w = may τ H texts history seen unforged in
+            (w.0, w.1, subst (λ (n : ℕ). StandsAt τ new (drop n rates) (ledger_by τ H w.0) (drop (length w.0.text) rates)) (sym rates_is) w.2);
+      }
+
+      pub ends_here : (v : Verdict) → e ≡ ev.End → IsOver ends.Done number behind v → Fell number script report rates old new v
+      ends_here v is over = over_falls number script report rates old new ends.Done behind v (
+        record {
+          script = subst (λ (l : List (List ℕ)). EndsAt script_grammar status.Done number l) (sym begins.first) (inside, subst (λ (x : Event). Spells x line) is begins.is.spells);
+          report = (answer, has);
+        },
+        λ τ H texts history seen unforged.
+            let w = may τ H texts history seen (subst (λ (x : Event). Unforged x H) (sym is) unforged) in
+            (w.0, record { event = w.1.event ∙ is; text = w.1.text; may = w.1.may }, w.2.sees),
+      ) over
+
+-- == the other lines ==
+
+-- what is known of a line that was read
+pub line_of_event : (r : Result Event LineFault) (e : Event) (line : List ℕ) → IfOk r (λ x. IsWholeEvent x × Spells x line) → r ≡ Ok e → IsLineOf e line
+line_of_event r e line found is =
+    let w = subst (λ (x : Result Event LineFault). IfOk x (λ y. IsWholeEvent y × Spells y line)) is found in
+    record { whole = w.0; spells = w.1 }
+
+pub bad_line : (r : Result Event LineFault) (fault : LineFault) (skipped : Bool) (line : List ℕ) → IfErr r (λ f. (e : Event) → IsWholeEvent e → Spells e line → ⊥) → r ≡ Err fault
+    → (IsTrue skipped ↔ IsSkipped line) → skipped ≡ false → IsBad line
+bad_line r fault skipped line none is decides passes = record {
+  no_event = λ e of.
+      let w = subst (λ (x : Result Event LineFault). IfErr x (λ f. (e : Event) → IsWholeEvent e → Spells e line → ⊥)) is none in
+      w e of.whole of.spells;
+  not_skipped = λ yes. let t : IsTrue false = subst (λ (b : Bool). IsTrue b) passes (decides.1 yes) in cc t;
+}
+
+module _ (number : ℕ) (inside : number ≤ 1000000) (script report rates : List ℕ) (old : Audit) where
+  ends_at : (rest : List (List ℕ)) (v : Verdict) → lines_of script ≡ rest → EndsAt script_grammar (status.Script number) number rest → IsOver (ends.Script number) number report v → Fell number script report rates old old v
+  ends_at rest v are at over = over_falls number script report rates old old (ends.Script number) report v (
+    record { script = subst (λ (l : List (List ℕ)). EndsAt script_grammar (status.Script number) number l) (sym are) at; report = refl },
+    λ τ H texts history seen. seen,
+  ) over
+
+  -- nothing is left
+  pub ends_missing : (v : Verdict) → script ≡ [] → IsOver (ends.Script number) number report v → Fell number script report rates old old v
+  ends_missing v none over = ends_at [] v (ap lines_of none) (inside, refl) over
+
+  -- the line is too long, or is neither that of an event nor skipped
+  pub ends_bad : (line : List ℕ) (more : List (List ℕ)) (v : Verdict) → lines_of script ≡ line ∷ more → (600 < length line) ⊎ IsBad line → IsOver (ends.Script number) number report v → Fell number script report rates old old v
+  ends_bad line more v are bad over = ends_at (line ∷ more) v are (inside, refl, bad) over
+
+  pub skips : (line : List ℕ) (step : Step) → lines_of script ≡ line ∷ lines_of (drop step.script script) → IsOneLine line → length line ≤ 600 → IsSkipped line → step.report ≡ 0 → step.rates ≡ 0 → Turned step script report rates old old
+  skips line step first one short is none nothing = record {
+    pair = Skipped line;
+    is = record { one = one; short = short; is = is };
+    script_is = first;
+    report_is = ap (λ (n : ℕ). drop n report) (sym none);
+    so = λ τ H texts history seen. record { history = history; sees = seen; are = ap (λ (n : ℕ). drop n rates) (sym nothing) };
+  }
+
+-- so many lines were paired that no more is looked at
+pub ends_long : (number : ℕ) (script report rates : List ℕ) (old : Audit) (v : Verdict) → number ≡ 1000001 → IsOver ends.TooLong 1000001 report v → Fell number script report rates old old v
+ends_long number script report rates old v many over =
+    over_falls number script report rates old old ends.TooLong report v (record { script = many; report = refl }, λ τ H texts history seen. seen)
+    (subst (λ (n : ℕ). IsOver ends.TooLong n report v) (sym many) over)

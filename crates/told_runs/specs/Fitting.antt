@@ -1,0 +1,82 @@
+-- What deeds fit a script and its report, prints aside; and how the verdict of an audit stands to them.
+use Rattle.std.specs.Prelude.{◌≡◌, ◌≢◌, ℕ, ◌+◌, ◌≤◌, List, [], ◌∷◌, ◌++◌, length, map, drop, ◌⊎◌}
+use Rattle.std.specs.List.{AllByRecursion}
+use Rattle.bench_base.specs.declared.events.Event.TheVariants as ev
+use Rattle.bench_base.specs.declared.ledger.Entry.TheVariants.{Begin}
+use Rattle.bench_base.specs.Ledger.{Ledger}
+use Rattle.bench_base.specs.Rules.{editions}
+use Rattle.bench_views.specs.Tariff.{IsOfTexts}
+use Rattle.ledger_moves.specs.Tariffs.{Tariff}
+use Rattle.ledger_moves.specs.Histories.{History, Unforged}
+use Rattle.line_runs.specs.Deeds.{Reads, report_of}
+use Rattle.line_runs.specs.Ends.{lines_of, EndsAt}
+use Rattle.desk_runs.specs.Deeds.{Done, Deed, GoesOn, done_in, line_in, line_of}
+use Rattle.desk_runs.specs.Scripts.{script_lines, script_grammar}
+use Rattle.script_replay.specs.Deeds.{ledger_by, ledger_after}
+use Rattle.told_bench.specs.Seeing.{Audit, Sees}
+use Rattle.told_runs.specs.Audits.{MayTell}
+use Rattle.told_runs.specs.Verdicts.{Pair, Skipped, Answered, IsAnswered, Says, status_of}
+use Rattle.told_runs.specs.declared.verdict.Ending.{Ending}
+use Rattle.told_runs.specs.declared.verdict.Ending.TheVariants.{Done as Ended, Script, TooLong}
+use Rattle.told_runs.specs.declared.verdict.Verdict.{Verdict}
+use Rattle.told_runs.specs.declared.verdict.Verdict.TheVariants.{Lawful, Memory}
+
+-- each may be told in turn, at the ledger and with the rates that those before it leave
+abbrev pub AreTold : Tariff → Ledger → List ℕ → List Done → Type 0
+AreTold τ H left [] = Unit {0}
+AreTold τ H left (d ∷ rest) = MayTell τ H left d × AreTold τ (ledger_by τ H d) (drop (length d.text) left) rest
+
+-- what they leave of the rates
+abbrev pub rates_after : List ℕ → List Done → List ℕ
+rates_after left [] = left
+rates_after left (d ∷ rest) = rates_after (drop (length d.text) left) rest
+
+-- At this ledger, with these rates left, what is left of the report is the line of a reply that `end` may get; or it is nothing, where the script
+-- ends otherwise.
+abbrev pub EndsTold : Tariff → Ledger → List ℕ → Ending → List ℕ → Type 0
+EndsTold τ K left Ended told = (d : Done) × (d.event ≡ ev.End) × MayTell τ K left d × (told ≡ line_of d.reply)
+EndsTold τ K left (Script line) told = told ≡ []
+EndsTold τ K left TooLong told = told ≡ []
+
+-- Over the ledger at which a run begins.
+module _ (τ : Tariff) (H : Ledger) (script report rates : List ℕ) where
+  -- These deeds fit: their lines are the first of the script, their replies' lines the first of the report, and each may be told in turn.
+  pub record FitsFirst (deeds : List Deed) : Type 0 where
+    pub each : AllByRecursion (Reads script_lines) deeds
+    pub go_on : AllByRecursion GoesOn deeds
+    pub few : length deeds ≤ 1000000
+    pub rest : List (List ℕ)
+    pub told : List ℕ
+    pub script_is : lines_of script ≡ map line_in deeds ++ rest
+    pub report_is : report ≡ report_of script_lines deeds ++ told
+    pub are : AreTold τ H rates (done_in deeds)
+
+  -- They fit to the end: the script ends behind them, and the report with it.
+  pub record FitsToEnd (deeds : List Deed) : Type 0 where
+    pub fits : FitsFirst deeds
+    pub end : Ending
+    pub ends : EndsAt script_grammar (status_of end) (length deeds + 1) fits.rest
+    pub ends_told : EndsTold τ (ledger_after τ H (done_in deeds)) (rates_after rates (done_in deeds)) end fits.told
+
+-- lawful, or there was no memory
+abbrev pub IsLawful : Verdict → Type 0
+IsLawful v = ((end : Ending) × (v ≡ Lawful end)) ⊎ (v ≡ Memory)
+
+-- P of each history that the auditor saw as a run begins, by a tariff of texts
+abbrev pub AtSeen : Audit → (Tariff → Ledger → Type 0) → Type 0
+AtSeen old P = (τ : Tariff) (H : Ledger) → IsOfTexts τ → History τ editions H → Sees old H → P τ (Begin ∷ H)
+
+-- each event is unforged where it comes, whatever was done for those before it that got their lines
+abbrev pub AreUnforged : Tariff → Ledger → List ℕ → List Pair → Type 0
+AreUnforged τ H left [] = Unit {0}
+AreUnforged τ H left (Skipped line ∷ pairs) = AreUnforged τ H left pairs
+AreUnforged τ H left (Answered line e answer ∷ pairs) =
+    Unforged e H × ((d : Done) → IsAnswered τ H left e answer d → AreUnforged τ (ledger_by τ H d) (drop (length d.text) left) pairs)
+
+-- AN AUDIT IS EXACT: no deeds that fit are more than it paired, unless memory was wanting; so where it says that a line is wrong, none fit with that line.
+-- Where any fit to the end, it says that the run is lawful; and where it says so and no event brings anything forged, some do.
+pub record IsExact (v : Verdict) (script report rates : List ℕ) (old new : Audit) (says : Says v script report rates old new) : Type 0 where
+  pub longest : v ≢ Memory → AtSeen old (λ τ H. (deeds : List Deed) → FitsFirst τ H script report rates deeds → length deeds ≤ length says.pairs)
+  pub complete : AtSeen old (λ τ H. (deeds : List Deed) → FitsToEnd τ H script report rates deeds → IsLawful v)
+  pub sound : (end : Ending) → v ≡ Lawful end
+      → AtSeen old (λ τ H. AreUnforged τ H rates says.pairs → (deeds : List Deed) × FitsToEnd τ H script report rates deeds)

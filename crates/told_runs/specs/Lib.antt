@@ -1,0 +1,6 @@
+-- Promised: public contracts name these.
+pub mod Audits
+pub mod Fitting
+pub mod Verdicts
+-- Bookkeeping: private calls and proofs alone name these.
+pub mod Turns

@@ -1,0 +1,12 @@
+//! What an audit says of a script, its report, the rates and the prints together; the audit of one run; and what follows of it.
+#![tactic(auto)]
+
+pub mod audit;
+pub mod laws;
+mod lines;
+#[cfg(test)]
+mod tests;
+pub mod verdict;
+
+pub use audit::audit_run;
+pub use verdict::{Ending, Verdict};

@@ -1,0 +1,240 @@
+//! Audits of the ordinary path over blank nodes, with its report as it is and altered.
+use crate::{Ending, Verdict, audit_run};
+use bench_base::events::Reply;
+use script_text::{Line, put_reply};
+use std::alloc::Global;
+use std::process::Abort;
+use std::test::Fail;
+use told_bench::Auditor;
+
+const SCRIPT: &str = "day 2026-03-01\n\
+    rates\n\
+    on centre\n\
+    on host\n\
+    on verifier\n\
+    on d1\n\
+    make d1 0101010101010101010101010101010101010101010101010101010101010101\n\
+    register d1 94105 0101010101010101010101010101010101010101010101010101010101010101\n\
+    trust d1 0101010101010101010101010101010101010101010101010101010101010101\n\
+    customer 1\n\
+    deposit 1 1 100000\n\
+    ask d1 enrol 1\n\
+    deliver 0\n\
+    deliver 1\n\
+    ask d1 audit\n\
+    deliver 2\n\
+    deliver 3\n\
+    ask d1 reset 50000\n\
+    deliver 4\n\
+    deliver 5\n\
+    ack d1\n\
+    deliver 6\n\
+    order d1 1 1 25 1\n\
+    send 1\n\
+    deliver 7\n\
+    deliver 8\n\
+    print 1\n\
+    close 1\n\
+    scan 1 msg 8\n\
+    status d1\n\
+    balance 1\n\
+    reconcile d1\n\
+    end\n";
+
+const REPORT: [&str; 33] = [
+    "day 20513",
+    "rates 2 2",
+    "up centre commits 0",
+    "up host commits 0",
+    "up verifier commits 0",
+    "up d1 commits 0",
+    "made d1",
+    "registered d1",
+    "trusted d1",
+    "opened 1",
+    "deposited 1 1 new 100000",
+    "sent d1 request 1 msg 0",
+    "ruled d1 1 verdict 0 new msg 1",
+    "applied d1 1 verdict 0",
+    "sent d1 request 2 msg 2",
+    "ruled d1 2 verdict 0 new msg 3",
+    "applied d1 2 verdict 0",
+    "sent d1 request 3 msg 4",
+    "ruled d1 3 verdict 0 new msg 5",
+    "applied d1 3 verdict 0",
+    "sent d1 done 3 msg 6",
+    "settled d1 3 new",
+    "ordered 1 postage 550",
+    "sent host debit 1 msg 7",
+    "released d1 1 new msg 8",
+    "held 1",
+    "printed 1",
+    "closed 1",
+    "accepted d1 1 scan 1 new",
+    "status d1 in-service ascending 550 descending 49450 refunded 0 pieces 1 number 3 deadline 20605 pending none",
+    "balance 1 50000",
+    "reconcile d1 device 50000 centre 50000 in-flight none",
+    "end",
+];
+
+const RATES: &str = "zones = 2\n\
+    [[class]]\n\
+    number = 1\n\
+    steps = [{ grams = 28, mills = [550, 550] }, { grams = 56, mills = [790, 850] }]\n\
+    [[class]]\n\
+    number = 2\n\
+    steps = [{ grams = 500, mills = [4100, 9200] }]\n";
+
+/// What an audit should say; of a wrong line its number, and what was due there.
+#[derive(Clone, Copy)]
+enum Due {
+    Done,
+    Bad(u32),
+    Stopped(u32),
+    Wrong(u32, &'static str),
+    More(u32),
+}
+
+fn has_text(reply: &Reply, text: &str) -> bool {
+    let mut line = Line::new();
+    put_reply(&mut line, reply);
+    line.as_slice() == text.as_bytes()
+}
+
+fn is_said(verdict: &Verdict, due: &Due) -> bool {
+    match (verdict, due) {
+        (Verdict::Lawful(Ending::Done), Due::Done) => true,
+        (Verdict::Lawful(Ending::Script(line)), Due::Bad(number)) => *line == *number,
+        (Verdict::Stopped(line), Due::Stopped(number)) => *line == *number,
+        (Verdict::Wrong(line, reply), Due::Wrong(number, text)) => *line == *number
+            && has_text(reply, text),
+        (Verdict::More(line), Due::More(number)) => *line == *number,
+        (_, _) => false,
+    }
+}
+
+// The report with this in the place of the line of this number, which may be none of its lines.
+fn report_with(alloc: Global, number: usize, text: &str) -> Result<Vec<u8>, Fail> {
+    let mut report = Vec::new(alloc);
+    for place in 0..REPORT.len() {
+        if place + 1 == number {
+            report.extend_from_slice(text.as_bytes())?;
+        } else {
+            report.extend_from_slice(REPORT[place].as_bytes())?;
+            report.push(b'\n')?;
+        }
+    }
+    if number > REPORT.len() {
+        report.extend_from_slice(text.as_bytes())?;
+    }
+    Ok(report)
+}
+
+fn says(
+    rt: &impl Abort,
+    alloc: Global,
+    script: &str,
+    report: &[u8],
+    due: &Due,
+    row: &str,
+) -> Result<(), Fail> {
+    let mut auditor = Auditor::new(alloc)?;
+    let verdict = audit_run(
+        alloc,
+        &mut auditor,
+        script.as_bytes(),
+        report,
+        RATES.as_bytes(),
+    );
+    assert!(rt; is_said(&verdict, due), "{row}");
+    Ok(())
+}
+
+#[test]
+fn the_ordinary_path_is_lawful(rt: HostRuntime) -> Result<(), Fail> {
+    let alloc = rt.alloc();
+    let report = report_with(alloc, 0, "")?;
+    says(
+        &rt,
+        alloc,
+        SCRIPT,
+        report.as_slice(),
+        &Due::Done,
+        "as it is",
+    )
+}
+
+#[test]
+fn altered_reports_are_found(rt: HostRuntime) -> Result<(), Fail> {
+    let alloc = rt.alloc();
+    let rows: [(usize, &str, Due); 15] = [
+        (
+            19,
+            "ruled d1 3 verdict 5 new msg 5\n",
+            Due::Wrong(19, "ruled d1 3 verdict 0 new msg 5"),
+        ),
+        (
+            11,
+            "deposited 1 1 new 100001\n",
+            Due::Wrong(11, "deposited 1 1 new 100000"),
+        ),
+        (
+            23,
+            "ordered 1 postage 549\n",
+            Due::Wrong(23, "ordered 1 postage 550"),
+        ),
+        (4, "up host commits 1\n", Due::Wrong(4, "up host commits 0")),
+        (25, "power d1\n", Due::Wrong(26, "no message 8")),
+        (6, "damaged d1\n", Due::Wrong(6, "up d1 commits 0")),
+        (26, "", Due::Wrong(26, "held 1")),
+        (
+            32,
+            "reconcile d1 device 50000 centre 50001 in-flight none\n",
+            Due::Wrong(32, "reconcile d1 device 50000 centre 50000 in-flight none"),
+        ),
+        (
+            12,
+            "sent d1 request 1 msg 1\n",
+            Due::Wrong(12, "sent d1 request 1 msg 0"),
+        ),
+        (2, "rates fault\n", Due::Wrong(23, "refused host no rates")),
+        (
+            3,
+            "up centre commits 0",
+            Due::Wrong(3, "up centre commits 0"),
+        ),
+        (33, "end\nend\n", Due::More(33)),
+        (34, "day 20513\n", Due::More(33)),
+        (33, "en", Due::Stopped(33)),
+        (33, "", Due::Stopped(33)),
+    ];
+    for row in rows {
+        let (number, text, due) = row;
+        let report = report_with(alloc, number, text)?;
+        says(&rt, alloc, SCRIPT, report.as_slice(), &due, text)?;
+    }
+    Ok(())
+}
+
+#[test]
+fn scripts_end(rt: HostRuntime) -> Result<(), Fail> {
+    let alloc = rt.alloc();
+    let rows: [(&str, &str, Due); 7] = [
+        ("", "", Due::Bad(1)),
+        (
+            "# x\n\nday 2026-03-01\nend\n",
+            "day 20513\nend\n",
+            Due::Done,
+        ),
+        ("day 2026-03-01\nend", "day 20513\nend\n", Due::Done),
+        ("day 2026-03-01\nx\n", "day 20513\n", Due::Bad(2)),
+        ("day 2026-03-01", "day 20513\n", Due::Bad(2)),
+        ("day 2026-03-01\nx\n", "day 20513\nend\n", Due::More(2)),
+        ("on d1\nend\n", "no day\nend\n", Due::Done),
+    ];
+    for row in rows {
+        let (script, report, due) = row;
+        says(&rt, alloc, script, report.as_bytes(), &due, report)?;
+    }
+    Ok(())
+}

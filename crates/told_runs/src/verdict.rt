@@ -1,0 +1,29 @@
+//! What an audit says of one run.
+use bench_base::events::Reply;
+
+/// How the run over a script ends.
+#[derive(Clone, Copy)]
+pub enum Ending {
+    /// `end` was answered.
+    Done,
+    /// The line of this number, counted from 1, is bad or missing.
+    Script(u32),
+    /// The script has 1,000,000 lines and no `end` among them.
+    TooLong,
+}
+
+/// What an audit says of one run.
+#[derive(Clone, Copy)]
+pub enum Verdict {
+    /// Each event may have got the line that the report has for it, and the report ends as the script does.
+    Lawful(Ending),
+    /// So far as for `Lawful`; but the report ends before the line end of the answer to the line of this number, which is that of an event. What
+    /// stands there of an answer is not judged.
+    Stopped(u32),
+    /// The lines before the line of this number may be so, but its event may get no reply of the line that the report has. This was the answer.
+    Wrong(u32, Reply),
+    /// The script ends at the line of this number, and the report goes on behind.
+    More(u32),
+    /// There was no memory, for rates or for a message.
+    Memory,
+}
