@@ -10,7 +10,7 @@ use bench_base::fields::{i32_at, u16_at, u32_at, u40_at};
 use bench_base::numbers::is_known_version;
 use bench_base::refusals::MarkFault;
 use bench_base::words::Key;
-use hmac_core::matches;
+use hmac_core::ReadyKey;
 
 /// The bytes of an indicium.
 const LENGTH: usize = 64;
@@ -109,8 +109,15 @@ fn second_mark(bytes: &[u8]) -> Mark
 pub fn verify_mark(bytes: &[u8], key: &Key) -> bool
     ensures { IsTrue result ↔ IsSpelled bytes.now key.now }
 {
+    verify_mark_by(bytes, &ReadyKey::new(key))
+}
+
+/// As `verify_mark`, under a key that was made ready.
+pub fn verify_mark_by(bytes: &[u8], key: &ReadyKey) -> bool
+    ensures { IsTrue result ↔ IsSpelled bytes.now key.now }
+{
     match read_indicium(bytes) {
-        Ok(_) => matches(key, &bytes[..32], &bytes[32..]),
+        Ok(_) => key.matches(&bytes[..32], &bytes[32..]),
         Err(_) => false,
     }
 }

@@ -6,7 +6,7 @@ ghost use Rattle.indicium.specs.Marks.{spell, body, IsWhole};
 use crate::Mark;
 use bench_base::fields::{put_i32, put_u16, put_u32, put_u40};
 use bench_base::words::Key;
-use hmac_core::hmac256;
+use hmac_core::ReadyKey;
 
 // The 32 bytes that the code is over.
 fn body_of(mark: &Mark) -> [u8; 32]
@@ -67,7 +67,15 @@ pub fn code_of(mark: &Mark, key: &Key) -> [u8; 32]
     requires { IsWhole mark.now }
     ensures { result ≡ hmac key.now (body mark.now) }
 {
-    hmac256(key, &body_of(mark))
+    code_by(mark, &ReadyKey::new(key))
+}
+
+/// As `code_of`, under a key that was made ready.
+pub fn code_by(mark: &Mark, key: &ReadyKey) -> [u8; 32]
+    requires { IsWhole mark.now }
+    ensures { result ≡ hmac key.now (body mark.now) }
+{
+    key.code(&body_of(mark))
 }
 
 /// The mark's fields and a code behind them, which was made or checked before. The mark is as for `write_indicium`.
@@ -92,4 +100,13 @@ pub fn write_indicium(mark: &Mark, key: &Key) -> [u8; 64]
     ensures { result ≡ spell mark.now key.now }
 {
     write_coded(mark, &code_of(mark, key))
+}
+
+/// As `write_indicium`, under a key that was made ready.
+#[tactic(auto, unfolding(crate::specs::Marks::spell))]
+pub fn write_indicium_by(mark: &Mark, key: &ReadyKey) -> [u8; 64]
+    requires { IsWhole mark.now }
+    ensures { result ≡ spell mark.now key.now }
+{
+    write_coded(mark, &code_by(mark, key))
 }

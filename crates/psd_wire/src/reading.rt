@@ -11,7 +11,7 @@ use bench_base::fields::{i32_at, u16_at, u32_at, u64_at};
 use bench_base::numbers::{DayNo, is_known_version};
 use bench_base::refusals::Unread;
 use bench_base::words::{Key, Kind, Verdict};
-use hmac_core::matches;
+use hmac_core::ReadyKey;
 use indicium::read_indicium;
 
 #[tactic(auto, unfolding(crate::specs::Grammar::kind_of))]
@@ -272,11 +272,18 @@ pub fn read_message(bytes: &[u8]) -> Result<Message, Unread>
 pub fn code_matches(bytes: &[u8], key: &Key) -> bool
     ensures { IsTrue result ↔ HasCode bytes.now key.now }
 {
+    code_matches_by(bytes, &ReadyKey::new(key))
+}
+
+/// As `code_matches`, under a key that was made ready.
+pub fn code_matches_by(bytes: &[u8], key: &ReadyKey) -> bool
+    ensures { IsTrue result ↔ HasCode bytes.now key.now }
+{
     if bytes.len() < 32 {
         return false;
     }
     let front = bytes.len() - 32;
-    matches(key, &bytes[..front], &bytes[front..])
+    key.matches(&bytes[..front], &bytes[front..])
 }
 
 /// The message whose spelling under the key the bytes are, among those that end in a code; None exactly where
@@ -285,7 +292,15 @@ pub fn read_under(bytes: &[u8], key: &Key) -> Option<Message>
     ensures found { IfSome result (λ x. IsCoded x × IsWhole x × (spell x key.now ≡ bytes.now)) }
     ensures none { IfNone result ((x : TheMessage) → IsCoded x → IsWhole x → spell x key.now ≢ bytes.now) }
 {
-    if code_matches(bytes, key) {
+    read_under_by(bytes, &ReadyKey::new(key))
+}
+
+/// As `read_under`, under a key that was made ready.
+pub fn read_under_by(bytes: &[u8], key: &ReadyKey) -> Option<Message>
+    ensures found { IfSome result (λ x. IsCoded x × IsWhole x × (spell x key.now ≡ bytes.now)) }
+    ensures none { IfNone result ((x : TheMessage) → IsCoded x → IsWhole x → spell x key.now ≢ bytes.now) }
+{
+    if code_matches_by(bytes, key) {
         coded_of(read_message(bytes))
     } else {
         None

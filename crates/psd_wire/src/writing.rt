@@ -8,7 +8,7 @@ use crate::message::{DebitMsg, DoneMsg, Message, ReplyMsg, Request};
 use bench_base::bytes::Note;
 use bench_base::fields::{put_i32, put_u16, put_u32, put_u64};
 use bench_base::words::{Key, Kind, Verdict};
-use hmac_core::hmac256;
+use hmac_core::ReadyKey;
 
 fn code_of_kind(kind: Kind) -> u8
     ensures { result ≡ kind_code kind }
@@ -197,11 +197,11 @@ pub fn write_body(message: &Message) -> Note
 }
 
 // A body and its code.
-fn coded(body: &[u8], key: &Key) -> Note
+fn coded(body: &[u8], key: &ReadyKey) -> Note
     requires { length body.now ≤ 55 }
     ensures { result ≡ body.now ++ hmac key.now body.now }
 {
-    let code = hmac256(key, body);
+    let code = key.code(body);
     let front = body.len();
     let mut bytes = [0; 87];
     bytes[..front].copy_from_slice(body);
@@ -212,8 +212,16 @@ fn coded(body: &[u8], key: &Key) -> Note
 /// The one spelling of the message under the key. A Debit and a Release have no code, and the key does not count.
 ///
 /// The message is as for `write_body`.
-#[tactic(auto, unfolding(crate::specs::Grammar::spell))]
 pub fn write_message(message: &Message, key: &Key) -> Note
+    requires { IsWhole message.now }
+    ensures { result ≡ spell message.now key.now }
+{
+    write_message_by(message, &ReadyKey::new(key))
+}
+
+/// As `write_message`, under a key that was made ready.
+#[tactic(auto, unfolding(crate::specs::Grammar::spell))]
+pub fn write_message_by(message: &Message, key: &ReadyKey) -> Note
     requires { IsWhole message.now }
     ensures { result ≡ spell message.now key.now }
 {

@@ -2,14 +2,14 @@ use Rattle.std.proofs.Common.{◌≡◌, ◌-◌, ℕ, List, length, take, drop,
 use Rattle.std.proofs.lemmas.List.{take_all, length-drop, length-take}
 use Rattle.bench_base.specs.Table.{IsBytes}
 use Rattle.indicium.proofs.Readings as laws
-use Rattle.indicium.proofs.reading.verify_mark.Goals as goal
+use Rattle.indicium.proofs.reading.verify_mark_by.Goals as goal
 
 -- the slice from byte 32 on
 rest : (bytes : List ℕ) → take (length bytes - 32) (drop 32 bytes) ≡ drop 32 bytes
 rest bytes = take_all (length bytes - 32) (drop 32 bytes) (omega (arith, length-drop 32 bytes))
 
-pub slice_bounds-matches-end-in-Ok : goal.slice_bounds-matches-end-in-Ok
-slice_bounds-matches-end-in-Ok c = omega (arith, c.in-Ok.ensures.long, length-take 32 c.args.bytes.now)
+pub slice_bounds-matches-end : goal.slice_bounds-matches-end
+slice_bounds-matches-end c = omega (arith, c.in-Ok.ensures.long, length-take 32 c.args.bytes.now)
 
 pub returns-in-Ok : goal.returns-in-Ok
 returns-in-Ok c =
