@@ -6,6 +6,7 @@ ghost use Rattle.psd_state.specs.Answers.{apply_answer, debit_answer};
 ghost use Rattle.psd_state.specs.Acts as act_of;
 
 use crate::debiting::Debited;
+use crate::ready_record::ReadyRecord;
 use crate::record::DevRec;
 use crate::words::VERSION;
 use bench_base::bytes::Note;
@@ -14,8 +15,9 @@ use bench_base::ledger::Commit;
 use bench_base::numbers::{DayNo, DevNo};
 use bench_base::refusals::{DevRefusal, Unread};
 use bench_base::words::{Key, Kind, Verdict};
+use hmac_core::ReadyKey;
 use node_acts::Act;
-use psd_wire::{DebitMsg, Message, ReplyMsg, code_matches, read_message};
+use psd_wire::{DebitMsg, Message, ReplyMsg, code_matches_by, read_message};
 
 /// What a call of a device does.
 pub type DeviceAct<A> = Act<DevRec, DevRefusal, A>;
@@ -58,7 +60,7 @@ pub fn debit_commit(device: DevNo, command: &DebitMsg, day: DayNo) -> Commit
 }
 
 /// Makes the device under a key. `Made` exactly where it was made before.
-pub fn make_act(device: DevNo, key: &Key, state: &Option<DevRec>) -> DeviceAct<()>
+pub fn make_act(device: DevNo, key: &Key, state: &Option<ReadyRecord>) -> DeviceAct<()>
     ensures { result ≡ act_of.make_act device key.now state.now }
 {
     match state {
@@ -73,7 +75,7 @@ pub fn debit_act(
     device: DevNo,
     command: &DebitMsg,
     day: DayNo,
-    state: &Option<DevRec>,
+    state: &Option<ReadyRecord>,
 ) -> DeviceAct<Franked>
     ensures { result ≡ act_of.debit_act todays_rules device command.now day state.now }
 {
@@ -85,10 +87,15 @@ pub fn debit_act(
 
 // A function of its own when it is compiled too, since it clears what a debit gives as it begins.
 #[inline(never)]
-fn franked_act(device: DevNo, command: &DebitMsg, day: DayNo, kept: &DevRec) -> DeviceAct<Franked>
+fn franked_act(
+    device: DevNo,
+    command: &DebitMsg,
+    day: DayNo,
+    kept: &ReadyRecord,
+) -> DeviceAct<Franked>
     ensures { result ≡ act_of.franked_act todays_rules device command.now day (debit_answer todays_rules kept.now command.now day) }
 {
-    match &kept.debit(command, day) {
+    match &kept.record().debit_by(command, day, kept.key()) {
         Err(refusal) => Act::Refuse(*refusal),
         Ok(Debited::Again(mark)) => Act::Tell(Franked {
             mark: *mark,
@@ -113,17 +120,18 @@ pub fn ask_act(
     customer: u32,
     amount: u32,
     day: DayNo,
-    state: &Option<DevRec>,
+    state: &Option<ReadyRecord>,
 ) -> DeviceAct<Note>
     ensures { result ≡ act_of.ask_act todays_rules device kind customer amount day state.now }
 {
     let Some(record) = state else {
         return Act::Refuse(DevRefusal::Blank);
     };
-    match record.ask(kind, customer, amount, day) {
+    let kept = record.record();
+    match kept.ask_by(kind, customer, amount, day, record.key()) {
         Err(refusal) => Act::Refuse(refusal),
         Ok((next, note)) => {
-            let number = record.status(day).number + 1;
+            let number = kept.number() + 1;
             Act::Commits(Commit::Asked(device, number, note), next, note)
         }
     }
@@ -146,17 +154,17 @@ fn apply_act(device: DevNo, reply: &ReplyMsg, kept: &DevRec) -> DeviceAct<Taken>
     }
 }
 
-fn is_own_code(bytes: &[u8], key: &Key) -> bool
+fn is_own_code(bytes: &[u8], key: &ReadyKey) -> bool
     ensures { result ≡ has_code key.now bytes.now }
 {
-    code_matches(bytes, key)
+    code_matches_by(bytes, key)
 }
 
 fn reply_act(
     device: DevNo,
     bytes: &[u8],
     reply: &ReplyMsg,
-    state: &Option<DevRec>,
+    state: &Option<ReadyRecord>,
 ) -> DeviceAct<Taken>
     ensures { result ≡ act_of.reply_act device bytes.now reply.now state.now }
 {
@@ -169,7 +177,7 @@ fn reply_act(
     if !is_own_code(bytes, record.key()) {
         return Act::Refuse(DevRefusal::BadCode);
     }
-    apply_act(device, reply, record)
+    apply_act(device, reply, record.record())
 }
 
 // A debit that came as a message: the piece is told of too.
@@ -199,7 +207,7 @@ fn released_of(piece: u32, franked: Franked) -> Taken
 /// Takes a Reply or a Debit. The first refusal that holds: `Unread` of `read_message`; `Unread` with `Tag` for another
 /// message; for a Debit those of `debit_act`; for a Reply `Blank`, `WrongDevice` with the Reply's device, `BadCode` exactly
 /// where its code is not of this device's key, and then those of `DevRec::apply`.
-pub fn take_act(device: DevNo, bytes: &[u8], day: DayNo, state: &Option<DevRec>) -> DeviceAct<Taken>
+pub fn take_act(device: DevNo, bytes: &[u8], day: DayNo, state: &Option<ReadyRecord>) -> DeviceAct<Taken>
     ensures { result ≡ act_of.take_act todays_rules device bytes.now day state.now }
 {
     match read_message(bytes) {
@@ -213,37 +221,37 @@ pub fn take_act(device: DevNo, bytes: &[u8], day: DayNo, state: &Option<DevRec>)
 }
 
 /// The request that is outstanding, byte for byte as it was sent. `Blank`, then `NothingPending`.
-pub fn resend_act(state: &Option<DevRec>) -> DeviceAct<Note>
+pub fn resend_act(state: &Option<ReadyRecord>) -> DeviceAct<Note>
     ensures { result ≡ act_of.resend_act state.now }
 {
     let Some(record) = state else {
         return Act::Refuse(DevRefusal::Blank);
     };
-    match record.resend() {
+    match record.record().resend_by(record.key()) {
         Ok(note) => Act::Tell(note),
         Err(refusal) => Act::Refuse(refusal),
     }
 }
 
 /// The message that the last transaction was applied. `Blank`, then `NothingDone`.
-pub fn ack_act(state: &Option<DevRec>) -> DeviceAct<Note>
+pub fn ack_act(state: &Option<ReadyRecord>) -> DeviceAct<Note>
     ensures { result ≡ act_of.ack_act state.now }
 {
     let Some(record) = state else {
         return Act::Refuse(DevRefusal::Blank);
     };
-    match record.done() {
+    match record.record().done_by(record.key()) {
         Ok(bytes) => Act::Tell(Note::of(&bytes)),
         Err(refusal) => Act::Refuse(refusal),
     }
 }
 
 /// What the device shows of its record on that day. `Blank` where there is none.
-pub fn status_act(day: DayNo, state: &Option<DevRec>) -> DeviceAct<DevStatus>
+pub fn status_act(day: DayNo, state: &Option<ReadyRecord>) -> DeviceAct<DevStatus>
     ensures { result ≡ act_of.status_act day state.now }
 {
     match state {
-        Some(record) => Act::Tell(record.status(day)),
+        Some(record) => Act::Tell(record.record().status(day)),
         None => Act::Refuse(DevRefusal::Blank),
     }
 }

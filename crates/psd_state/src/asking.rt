@@ -12,9 +12,10 @@ use crate::words::{VERSION, is_allowed, is_reset};
 use bench_base::bytes::Note;
 use bench_base::numbers::DayNo;
 use bench_base::refusals::DevRefusal;
-use bench_base::words::{Key, Kind};
+use bench_base::words::Kind;
+use hmac_core::ReadyKey;
 use psd_audit::{clock_back, is_due};
-use psd_wire::{DoneMsg, Message, Request, write_message};
+use psd_wire::{DoneMsg, Message, Request, write_message_by};
 use registers::TOTAL_LIMIT;
 
 /// The most that may be asked for in one reset, in mills.
@@ -28,7 +29,6 @@ impl DevRec {
     /// phase, `ClockBack` where the day is before the last one, `Due` where a reset is asked for after the deadline,
     /// `BadAmount` where a reset is of 0 or above 10,000,000, `TotalFull` where it would take the sum of all registers above its limit, `NumberFull` where the last number
     /// was 4,294,967,295.
-    #[tactic(auto, unfolding(bench_base::specs::Kinds::same_kind))]
     pub fn ask(
         &self,
         kind: Kind,
@@ -36,6 +36,23 @@ impl DevRec {
         amount: u32,
         day: DayNo,
     ) -> Result<(DevRec, Note), DevRefusal>
+        ensures exact { result ≡ ask_answer todays_rules self.now kind customer amount day }
+        ensures sound { IfOk result (λ x. Holds x.0) }
+    {
+        self.ask_by(kind, customer, amount, day, &ReadyKey::new(&self.key))
+    }
+
+    // As `ask`, under its key made ready.
+    #[tactic(auto, unfolding(bench_base::specs::Kinds::same_kind))]
+    pub(crate) fn ask_by(
+        &self,
+        kind: Kind,
+        customer: u32,
+        amount: u32,
+        day: DayNo,
+        key: &ReadyKey,
+    ) -> Result<(DevRec, Note), DevRefusal>
+        requires key { key.now ≡ self.now.key }
         ensures exact { result ≡ ask_answer todays_rules self.now kind customer amount day }
         ensures sound { IfOk result (λ x. Holds x.0) }
     {
@@ -75,7 +92,7 @@ impl DevRec {
             pieces: self.registers.pieces(),
             day,
         };
-        let note = note_for(&request, &self.key);
+        let note = note_for(&request, key);
         let asked = DevRec {
             last_day: day.get(),
             pending: Some(request),
@@ -88,14 +105,30 @@ impl DevRec {
     pub fn resend(&self) -> Result<Note, DevRefusal>
         ensures exact { result ≡ resend_answer self.now self.now.pending }
     {
+        self.resend_by(&ReadyKey::new(&self.key))
+    }
+
+    // As `resend`, under its key made ready.
+    pub(crate) fn resend_by(&self, key: &ReadyKey) -> Result<Note, DevRefusal>
+        requires key { key.now ≡ self.now.key }
+        ensures exact { result ≡ resend_answer self.now self.now.pending }
+    {
         match self.pending {
-            Some(request) => Ok(note_for(&request, &self.key)),
+            Some(request) => Ok(note_for(&request, key)),
             None => Err(DevRefusal::NothingPending),
         }
     }
 
     /// The message that the last transaction was applied. `NothingDone` where none was yet.
     pub fn done(&self) -> Result<[u8; 42], DevRefusal>
+        ensures exact { result ≡ done_answer self.now }
+    {
+        self.done_by(&ReadyKey::new(&self.key))
+    }
+
+    // As `done`, under its key made ready.
+    pub(crate) fn done_by(&self, key: &ReadyKey) -> Result<[u8; 42], DevRefusal>
+        requires key { key.now ≡ self.now.key }
         ensures exact { result ≡ done_answer self.now }
     {
         if self.number == 0 {
@@ -105,22 +138,22 @@ impl DevRec {
             device: self.device.get(),
             number: self.number,
         };
-        Ok(done_bytes(done, &self.key))
+        Ok(done_bytes(done, key))
     }
 }
 
 // The bytes of a request.
-fn note_for(request: &Request, key: &Key) -> Note
+fn note_for(request: &Request, key: &ReadyKey) -> Note
     requires { IsWhole (m.Request request.now) }
     ensures { result ≡ spell (m.Request request.now) key.now }
 {
-    write_message(&Message::Request(*request), key)
+    write_message_by(&Message::Request(*request), key)
 }
 
-fn done_bytes(done: DoneMsg, key: &Key) -> [u8; 42]
+fn done_bytes(done: DoneMsg, key: &ReadyKey) -> [u8; 42]
     ensures { result ≡ spell (m.Done done) key.now }
 {
-    let note = write_message(&Message::Done(done), key);
+    let note = write_message_by(&Message::Done(done), key);
     let mut bytes = [0; 42];
     bytes.copy_from_slice(note.as_slice());
     bytes

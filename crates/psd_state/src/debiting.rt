@@ -10,7 +10,8 @@ use crate::words::{VERSION, empties, is_in_service};
 use bench_base::numbers::{DayNo, DevNo};
 use bench_base::refusals::DevRefusal;
 use bench_base::words::Kind;
-use indicium::{Mark, code_of, write_coded};
+use hmac_core::ReadyKey;
+use indicium::{Mark, code_by, write_coded};
 use psd_audit::{clock_back, is_overdue};
 use psd_wire::{DebitMsg, Request};
 use registers::Registers;
@@ -38,12 +39,26 @@ impl DevRec {
         ensures exact { result ≡ debit_answer todays_rules self.now command.now day }
         ensures sound { IfOk result HoldsAfter }
     {
+        self.debit_by(command, day, &ReadyKey::new(&self.key))
+    }
+
+    // As `debit`, under its key made ready.
+    pub(crate) fn debit_by(
+        &self,
+        command: &DebitMsg,
+        day: DayNo,
+        key: &ReadyKey,
+    ) -> Result<Debited, DevRefusal>
+        requires key { key.now ≡ self.now.key }
+        ensures exact { result ≡ debit_answer todays_rules self.now command.now day }
+        ensures sound { IfOk result HoldsAfter }
+    {
         if command.device != self.device.get() {
             return Err(DevRefusal::WrongDevice(command.device));
         }
         match repeated(&self.mark, command.piece) {
             Some(mark) => self.again(command, &mark),
-            None => self.debit_new(command, day),
+            None => self.debit_new(command, day, key),
         }
     }
 
@@ -61,7 +76,13 @@ impl DevRec {
 
     // Marks a piece that was not marked before.
     #[tactic(auto, unfolding(indicium::specs::Marks::spell))]
-    fn debit_new(&self, command: &DebitMsg, day: DayNo) -> Result<Debited, DevRefusal>
+    fn debit_new(
+        &self,
+        command: &DebitMsg,
+        day: DayNo,
+        key: &ReadyKey,
+    ) -> Result<Debited, DevRefusal>
+        requires key { key.now ≡ self.now.key }
         ensures exact { result ≡ new_answer todays_rules self.now command.now day }
         ensures sound { IfOk result HoldsAfter }
     {
@@ -90,7 +111,7 @@ impl DevRec {
             Err(left) => return Err(DevRefusal::NoFunds(left)),
         };
         let mark = mark_for(self.device, self.origin, *command, &registers, day);
-        let code = code_of(&mark, &self.key);
+        let code = code_by(&mark, key);
         let bytes = write_coded(&mark, &code);
         let franked = DevRec {
             registers,

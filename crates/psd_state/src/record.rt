@@ -79,6 +79,13 @@ impl DevRec {
         self.registers.held()
     }
 
+    /// The number of the last transaction that was applied, and 0 where none was.
+    pub fn number(&self) -> u32
+        ensures { result ≡ self.now.number }
+    {
+        self.number
+    }
+
     /// What the device shows on that day: in service it is locked after its deadline.
     pub fn status(&self, day: DayNo) -> DevView
         ensures { result ≡ status_of self.now day }
