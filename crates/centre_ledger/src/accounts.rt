@@ -8,6 +8,7 @@ ghost use Rattle.centre_ledger.specs.Books as books;
 ghost use Rattle.centre_ledger.specs.Books.{no_rows, device_at, customer_at, left_in, put_row, kept_at, balances_by, spent_in, IsOwned, ArePlaced, AreJoined, AreSound};
 
 use crate::balances::Balances;
+use crate::ready_row::{ReadyRow, keep, plain, ready};
 use crate::rows::{CustomerRow, DeviceRow, REGISTERED, Row};
 use bench_base::numbers::Customer;
 use std::marker::Model;
@@ -17,7 +18,7 @@ use std::marker::Model;
 /// The rows are sound, also together: the customer of a device is open, and no customer has less than 0.
 #[derive(Drop)]
 pub struct Accounts {
-    devices: [Option<DeviceRow>; 8],
+    devices: [Option<ReadyRow>; 8],
     customers: [Option<CustomerRow>; 64],
     balances: Balances,
 }
@@ -80,6 +81,17 @@ fn charge(balances: &mut Balances, row: &DeviceRow)
     }
 }
 
+// The rows, each with its key made ready.
+fn made_ready(rows: &[Option<DeviceRow>; 8]) -> [Option<ReadyRow>; 8]
+    ensures { result ≡ rows.now }
+{
+    let mut devices = [None, None, None, None, None, None, None, None];
+    for place in 0..8 {
+        devices[place] = ready(&rows[place]);
+    }
+    devices
+}
+
 fn deposits_in(slot: &Option<CustomerRow>) -> u64
     ensures { result ≡ books.deposits_in slot.now }
 {
@@ -96,7 +108,7 @@ impl Accounts {
         ensures sound { AreSound result }
     {
         Accounts {
-            devices: [None; 8],
+            devices: [None, None, None, None, None, None, None, None],
             customers: [None; 64],
             balances: Balances::none(),
         }
@@ -117,7 +129,7 @@ impl Accounts {
         }
         let balances = Balances::of(&devices, &customers)?;
         Some(Accounts {
-            devices,
+            devices: made_ready(&devices),
             customers,
             balances,
         })
@@ -125,6 +137,14 @@ impl Accounts {
 
     /// The row of the device; None exactly where it is not registered.
     pub fn device(&self, device: u32) -> Option<&DeviceRow>
+        ensures found { option_copied result ≡ device_at self.now device }
+        ensures sound { AreSound self.now }
+    {
+        Some(self.ready(device)?.row())
+    }
+
+    /// The row of the device with its key made ready; None exactly where it is not registered.
+    pub fn ready(&self, device: u32) -> Option<&ReadyRow>
         ensures found { option_copied result ≡ device_at self.now device }
         ensures sound { AreSound self.now }
     {
@@ -176,10 +196,10 @@ impl Accounts {
         ensures { self.new ≡ put_row self.old (row_of.Device row.now) }
     {
         let place = row.device.get() as usize - 1;
-        let before = self.devices[place];
+        let before = plain(&self.devices[place]);
         give_back(&mut self.balances, &before);
         charge(&mut self.balances, row);
-        self.devices[place] = Some(*row);
+        keep(&mut self.devices[place], row);
     }
 
     fn put_customer(&mut self, row: &CustomerRow)

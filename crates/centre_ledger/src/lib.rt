@@ -8,6 +8,7 @@ mod customers;
 mod messages;
 mod page;
 mod payload;
+mod ready_row;
 mod replies;
 mod rows;
 mod rulings;
@@ -22,6 +23,7 @@ pub use acts::{
     CentreAct, Deposit, balance_act, deposit_act, flag_act, open_act, register_act, standing_act,
 };
 pub use balances::{Balances, balance_of};
+pub use ready_row::ReadyRow;
 pub use replies::ruled;
 pub use rows::{CustomerRow, DeviceRow, ENROLLED, REGISTERED, Row, WITHDRAWN};
 pub use rulings::verdict;

@@ -6,8 +6,8 @@ ghost use Rattle.centre_ledger.specs.Parts.{IsSpelled, IsKept, IsStored};
 
 use crate::page::is_zero;
 use bench_base::bytes::Note;
-use bench_base::words::Key;
-use psd_wire::{read_body, read_under, write_message};
+use hmac_core::ReadyKey;
+use psd_wire::{read_body, read_under_by, write_message_by};
 
 /// A message without its code.
 pub fn uncoded(note: &Note) -> &[u8]
@@ -42,7 +42,7 @@ pub fn reply_front(version: u8, first: u8) -> usize
 }
 
 /// The message that is kept in the first bytes, with its code; no bytes before the first ruling.
-pub fn stored(version: u8, ruled: u32, front: usize, bytes: &[u8], key: &Key) -> Option<Note>
+pub fn stored(version: u8, ruled: u32, front: usize, bytes: &[u8], key: &ReadyKey) -> Option<Note>
     requires front { front ≤ length bytes.now }
     requires size { front ≤ 87 }
     ensures found { IfSome result (λ note. IsStored version ruled front key.now bytes.now note) }
@@ -59,7 +59,7 @@ pub fn stored(version: u8, ruled: u32, front: usize, bytes: &[u8], key: &Key) ->
 }
 
 // The message that is kept in the first bytes; zeros follow.
-fn kept(version: u8, front: usize, bytes: &[u8], key: &Key) -> Option<Note>
+fn kept(version: u8, front: usize, bytes: &[u8], key: &ReadyKey) -> Option<Note>
     requires front { front ≤ length bytes.now }
     requires size { front ≤ 87 }
     ensures found { IfSome result (λ note. IsKept version front key.now bytes.now note) }
@@ -76,24 +76,24 @@ fn kept(version: u8, front: usize, bytes: &[u8], key: &Key) -> Option<Note>
 }
 
 // The message of these bytes, whose code is right.
-fn with_code(bytes: &[u8], key: &Key) -> Option<Note>
+fn with_code(bytes: &[u8], key: &ReadyKey) -> Option<Note>
     requires { length bytes.now ≤ 87 }
     ensures found { IfSome result (λ note. IsSpelled key.now note × (note ≡ bytes.now)) }
     ensures none { IfNone result (IsSpelled key.now bytes.now → ⊥) }
 {
-    match read_under(bytes, key) {
+    match read_under_by(bytes, key) {
         Some(_) => Some(Note::of(bytes)),
         None => None,
     }
 }
 
 // The message of these bytes, to which its code is added.
-fn without_code(bytes: &[u8], key: &Key) -> Option<Note>
+fn without_code(bytes: &[u8], key: &ReadyKey) -> Option<Note>
     ensures found { IfSome result (λ note. IsSpelled key.now note × (layout.uncoded note ≡ bytes.now)) }
     ensures none { IfNone result ((note : List ℕ) → IsSpelled key.now note → layout.uncoded note ≡ bytes.now → ⊥) }
 {
     match read_body(bytes) {
-        Some(message) => Some(write_message(&message, key)),
+        Some(message) => Some(write_message_by(&message, key)),
         None => None,
     }
 }

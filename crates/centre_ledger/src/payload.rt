@@ -17,6 +17,7 @@ use bench_base::bytes::Note;
 use bench_base::fields::{put_u32, put_u64, u32_at, u64_at};
 use bench_base::numbers::DevNo;
 use bench_base::words::Key;
+use hmac_core::ReadyKey;
 
 impl DeviceRow {
     /// The row's one spelling in version 2, whatever version it was read from. No code is made.
@@ -144,12 +145,13 @@ fn with_messages(row: &DeviceRow, version: u8, request: &[u8], reply: &[u8]) -> 
     ensures sound { IfSome result IsSoundDevice }
     ensures none { IfNone result ((r : TheRow) → IsSoundDevice r → bare r ≡ row.now → KeepMessages version request.now reply.now r → ⊥) }
 {
+    let key = ReadyKey::new(&row.key);
     let front = request_front(version, request[0]);
-    let Some(request) = stored(version, row.ruled, front, request, &row.key) else {
+    let Some(request) = stored(version, row.ruled, front, request, &key) else {
         return None;
     };
     let front = reply_front(version, reply[0]);
-    let Some(reply) = stored(version, row.ruled, front, reply, &row.key) else {
+    let Some(reply) = stored(version, row.ruled, front, reply, &key) else {
         return None;
     };
     let whole = DeviceRow {

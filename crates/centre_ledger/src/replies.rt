@@ -13,7 +13,8 @@ ghost use Rattle.centre_ledger.specs.Soundness.{IsSoundDevice, IsNext, IsVerdict
 use crate::rows::{DeviceRow, ENROLLED, WITHDRAWN};
 use bench_base::bytes::Note;
 use bench_base::words::{Kind, Verdict};
-use psd_wire::{Message, ReplyMsg, Request, read_message, write_message};
+use hmac_core::ReadyKey;
+use psd_wire::{Message, ReplyMsg, Request, read_message, write_message_by};
 
 /// How many days after its request a reply lets the device debit.
 const DAYS: i32 = 92;
@@ -122,14 +123,16 @@ pub fn takes(verdict: Verdict, request: &Request) -> u64
     }
 }
 
-// The row with the ruling on this request.
+// The row with the ruling on this request, under the row's key made ready.
 pub fn ruled_on(
     row: &DeviceRow,
+    key: &ReadyKey,
     request: &Request,
     bytes: &Note,
     verdict: Verdict,
     balance: u64,
 ) -> DeviceRow
+    requires key { key.now ≡ row.now.key }
     requires whole { IsWhole (m.Request request.now) }
     requires spelled { spell (m.Request request.now) row.now.key ≡ bytes.now }
     requires device { request.now.device ≡ row.now.device }
@@ -151,7 +154,7 @@ pub fn ruled_on(
         buys: row.buys + adds(verdict, request),
         returns: row.returns + takes(verdict, request),
         request: *bytes,
-        reply: write_message(&reply, &row.key),
+        reply: write_message_by(&reply, key),
     }
 }
 
@@ -168,7 +171,10 @@ pub fn ruled(row: &DeviceRow, request: &Note, verdict: Verdict, balance: u64) ->
     ensures sound { IsSoundDevice result }
 {
     match read_message(request.as_slice()) {
-        Ok(Message::Request(asked)) => ruled_on(row, &asked, request, verdict, balance),
+        Ok(Message::Request(asked)) => {
+            let key = ReadyKey::new(&row.key);
+            ruled_on(row, &key, &asked, request, verdict, balance)
+        }
         _ => *row,
     }
 }

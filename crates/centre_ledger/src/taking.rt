@@ -22,9 +22,10 @@ use bench_base::bytes::Note;
 use bench_base::ledger::Commit;
 use bench_base::numbers::DevNo;
 use bench_base::refusals::{CentreRefusal, Unread};
-use bench_base::words::{Key, Kind, Verdict};
+use bench_base::words::{Kind, Verdict};
+use hmac_core::ReadyKey;
 use node_acts::Act;
-use psd_wire::{DoneMsg, Message, Request, code_matches, read_message};
+use psd_wire::{DoneMsg, Message, Request, code_matches_by, read_message};
 
 /// What became of a message that the centre took.
 #[derive(Clone, Copy)]
@@ -45,10 +46,10 @@ pub enum CentreAnswer {
     },
 }
 
-fn is_own_code(bytes: &[u8], key: &Key) -> bool
+fn is_own_code(bytes: &[u8], key: &ReadyKey) -> bool
     ensures { result ≡ has_code key.now bytes.now }
 {
-    code_matches(bytes, key)
+    code_matches_by(bytes, key)
 }
 
 // The customer under which the device is enrolled, and 0 where it never was.
@@ -94,8 +95,10 @@ fn ruled_act(
     note: &Note,
     request: &Request,
     row: &DeviceRow,
+    key: &ReadyKey,
     accounts: &Accounts,
 ) -> CentreAct<CentreAnswer>
+    requires key { key.now ≡ row.now.key }
     requires sound { AreSound accounts.now }
     requires row { device_at accounts.now request.now.device ≡ Some row.now }
     requires whole { IsWhole (m.Request request.now) }
@@ -105,7 +108,7 @@ fn ruled_act(
 {
     let left = accounts.left(own_customer(row));
     let verdict = verdict(row, accounts.customer(payer(row, request)), left, request);
-    let next = ruled_on(row, request, note, verdict, left);
+    let next = ruled_on(row, key, request, note, verdict, left);
     let reply = next.reply;
     Act::Commits(
         Commit::Ruled(row.device, request.number, verdict, *note),
@@ -124,16 +127,17 @@ fn request_act(bytes: &[u8], request: &Request, accounts: &Accounts) -> CentreAc
     requires reads { read bytes.now ≡ Ok (m.Request request.now) }
     ensures { result ≡ act_of.request_act bytes.now request.now (device_at accounts.now request.now.device) accounts.now }
 {
-    let Some(row) = accounts.device(request.device) else {
+    let Some(kept) = accounts.ready(request.device) else {
         return Act::Refuse(CentreRefusal::UnknownDevice(request.device));
     };
-    if !is_own_code(bytes, &row.key) {
+    let (row, key) = (kept.row(), kept.key());
+    if !is_own_code(bytes, key) {
         return Act::Refuse(CentreRefusal::BadCode);
     }
     match is_repeat(row, request.number, bytes) {
         Err(refusal) => Act::Refuse(refusal),
         Ok(true) => repeated_act(row),
-        Ok(false) => ruled_act(&Note::of(bytes), request, row, accounts),
+        Ok(false) => ruled_act(&Note::of(bytes), request, row, key, accounts),
     }
 }
 
@@ -165,13 +169,13 @@ fn settled_act(row: &DeviceRow, number: u32) -> CentreAct<CentreAnswer>
 fn done_act(bytes: &[u8], done: &DoneMsg, accounts: &Accounts) -> CentreAct<CentreAnswer>
     ensures { result ≡ act_of.done_act bytes.now done.now (device_at accounts.now done.now.device) }
 {
-    let Some(row) = accounts.device(done.device) else {
+    let Some(kept) = accounts.ready(done.device) else {
         return Act::Refuse(CentreRefusal::UnknownDevice(done.device));
     };
-    if !is_own_code(bytes, &row.key) {
+    if !is_own_code(bytes, kept.key()) {
         return Act::Refuse(CentreRefusal::BadCode);
     }
-    settled_act(row, done.number)
+    settled_act(kept.row(), done.number)
 }
 
 /// Takes a Request, of either version, or a Done. The first refusal that holds: `Unread` of `read_message`; `Unread` with

@@ -17,7 +17,7 @@ use bench_base::sizes::{DEVICE_BYTES, RECORD_BYTES, SLOTS};
 use nv_model::Nv;
 use nv_ring::Wear;
 use nv_store::{MountCause, mount_lent};
-use psd_state::DevRec;
+use psd_state::{DevRec, ready};
 
 // The record that a cell with so many commits holds: None where it is blank, and Err where the payload reads as no record
 // of this device.
@@ -70,7 +70,7 @@ impl<N: Nv> DeviceNode<N> {
         self.head = head;
         self.payload = payload;
         self.device = device;
-        self.state = state;
+        self.state = ready(&state);
         self.on = true;
         Ok(())
     }

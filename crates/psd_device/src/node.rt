@@ -17,7 +17,7 @@ use bench_base::sizes::{DEVICE_BYTES, MOST_COMMITS, RECORD_BYTES, SLOTS};
 use nv_model::{Nv, NvFail};
 use nv_ring::Wear;
 use nv_store::{Head, commit_lent};
-use psd_state::DevRec;
+use psd_state::{DevRec, ReadyRecord, keep};
 
 /// A device over storage of 3,424 bytes: one cell of sixteen slots, whose payload is the device's record. While it is
 /// off, what it knew of its storage counts for nothing.
@@ -28,7 +28,7 @@ pub struct DeviceNode<N: Nv> {
     pub(crate) payload: [u8; RECORD_BYTES],
     pub(crate) wear: Wear,
     pub(crate) device: DevNo,
-    pub(crate) state: Option<DevRec>,
+    pub(crate) state: Option<ReadyRecord>,
     pub(crate) on: bool,
     ghost room: { on ≡ true → N.size nv ≡ DEVICE_BYTES },
     ghost powered: { on ≡ true → (N.meters nv).lost ≡ false },
@@ -67,8 +67,8 @@ impl<N: Nv> DeviceNode<N> {
         self.device
     }
 
-    /// Its record, None where it was never made.
-    pub fn record(&self) -> &Option<DevRec>
+    /// Its record with its key made ready, None where it was never made.
+    pub fn record(&self) -> &Option<ReadyRecord>
         ensures { result.now ≡ (seen_in self.now).state }
     {
         &self.state
@@ -126,7 +126,7 @@ impl<N: Nv> DeviceNode<N> {
         ) {
             Ok(()) => {
                 self.wear.count(&self.head);
-                self.state = Some(*next);
+                keep(&mut self.state, next);
                 Ok(())
             }
             Err(fail) => {

@@ -6,7 +6,7 @@ use Rattle.centre_ledger.proofs.messages.without_code.Goals as goal
 pub returns-in-Some-clause-found : goal.returns-in-Some-clause-found
 returns-in-Some-clause-found c =
     let found = c.in-Some.ensures.found in
-    let is = c.write_message.ensures in
+    let is = c.write_message_by.ensures in
     ((c.in-Some.message, found.0, found.1, sym is), ap uncoded is ∙ uncoded-spell c.in-Some.message c.args.key.now found.0 ∙ found.2)
 
 pub returns-in-None-clause-none : goal.returns-in-None-clause-none

@@ -7,8 +7,8 @@ use Rattle.centre_ledger.specs.Rows.{ruled_row}
 use Rattle.centre_ledger.proofs.Keeping.{reply-whole, sums-after, ruled-sound}
 use Rattle.centre_ledger.proofs.replies.ruled_on.Goals as goal
 
-pub write_message-requires : goal.write_message-requires
-write_message-requires c =
+pub write_message_by-requires : goal.write_message_by-requires
+write_message_by-requires c =
     let known = c.reply_by.type_inv in
     let origin : c.reply_by.result.origin < 4294967296 = search rules in
     let same : c.reply_by.result.origin ≡ c.args.row.now.origin = ap (λ (p : ReplyMsg). p.origin) c.reply_by.ensures in
@@ -22,7 +22,7 @@ returns-clause-sound c =
     let known = c.reply_by.type_inv in
     let origin : c.reply_by.result.origin < 4294967296 = search rules in
     let same_origin : c.reply_by.result.origin ≡ r.origin = ap (λ (p : ReplyMsg). p.origin) c.reply_by.ensures in
-    let reply = c.write_message.ensures ∙ ap (λ (p : ReplyMsg). spell (m.Reply p) r.key) c.reply_by.ensures in
+    let reply = c.write_message_by.ensures ∙ ap (spell (m.Reply c.reply_by.result)) c.requires.key ∙ ap (λ (p : ReplyMsg). spell (m.Reply p) r.key) c.reply_by.ensures in
     let buys = ap (λ n. r.buys + n) c.adds.ensures.exact in
     let returns = ap (λ n. r.returns + n) c.takes.ensures.exact in
     let same : ruled_row r c.args.verdict c.args.balance q c.args.bytes.now ≡ _ = λ i. record {
