@@ -11,9 +11,10 @@ use bench_base::numbers::{DayNo, DevNo};
 use bench_base::refusals::ScanRefusal;
 use bench_base::sizes::{BLOCK_PIECES, VERIFIER_CELLS};
 use bench_base::words::Key;
+use hmac_core::ReadyKey;
 use indicium::Mark;
 use node_acts::Act;
-use psd_wire::code_matches;
+use psd_wire::code_matches_by;
 
 /// What a call of the verifier does.
 pub type ScanAct<A> = Act<Change, ScanRefusal, A>;
@@ -65,10 +66,10 @@ pub fn trust_act(device: DevNo, key: &Key, known: bool) -> ScanAct<()>
     }
 }
 
-fn is_own_code(bytes: &[u8], key: &Key) -> bool
+fn is_own_code(bytes: &[u8], key: &ReadyKey) -> bool
     ensures { result ≡ has_code key.now bytes.now }
 {
-    code_matches(bytes, key)
+    code_matches_by(bytes, key)
 }
 
 // A mark of a trusted device, with its code.
@@ -103,8 +104,8 @@ fn spot_act(number: u32, device: DevNo, mark: &Mark, today: DayNo, spot: Spot) -
     }
 }
 
-/// Scans the bytes of a mark under this number. `key` is that of the mark's device, where it is trusted, and `spot` where
-/// its piece is looked up.
+/// Scans the bytes of a mark under this number. `key` is that of the mark's device made ready, where it is trusted, and
+/// `spot` where its piece is looked up.
 ///
 /// The first refusal that holds: `Unknown`, with its number, exactly where the device is not trusted; `BadCode` exactly
 /// where the code does not match under the key; those of `scan`. A piece that was accepted before under the same number
@@ -114,7 +115,7 @@ pub fn scan_act(
     bytes: &[u8],
     mark: &Mark,
     today: DayNo,
-    key: Option<&Key>,
+    key: Option<&ReadyKey>,
     spot: Spot,
 ) -> ScanAct<Accepted>
     requires { ForSome (option_copied key) (λ k. IsDevice mark.now.device) }

@@ -3,12 +3,14 @@
 
 mod acts;
 mod index;
+mod keys;
 mod payload;
 mod scans;
 mod theorems;
 
 pub use acts::{Accepted, Change, ScanAct, Spot, scan_act, trust_act};
 pub use index::{BlockIndex, Entry};
+pub use keys::ReadyKeys;
 pub use payload::{
     accept_payload, block_in, key_in, read_block, read_trust, scan_in, trust_payload,
 };

@@ -19,7 +19,7 @@ use bench_base::refusals::BootFail;
 use bench_base::sizes::{BLOCK_BYTES, FIRST_BLOCK, VERIFIER_CELLS};
 use nv_model::Nv;
 use nv_store::{MountCause, Room, clear_room, get_room, mount_room};
-use verifier::{BlockIndex, block_in, read_block, read_trust};
+use verifier::{BlockIndex, ReadyKeys, block_in, key_in, read_block, read_trust};
 
 // Whether a payload reads as a row of its cell.
 fn reads(cell: u32, payload: &[u8; BLOCK_BYTES]) -> bool
@@ -167,6 +167,19 @@ fn mount_rows<N: Nv>(
     }
 }
 
+// The keys that the cells of devices hold, made ready.
+fn ready_keys(room: &Room<BLOCK_BYTES>) -> ReadyKeys
+    requires cells { cells_of room.now ≡ VERIFIER_CELLS }
+{
+    let mut keys = ReadyKeys::none();
+    for cell in 0..FIRST_BLOCK {
+        if let (Some(payload), Some(device)) = (get_room(room, cell), DevNo::new(cell + 1)) {
+            keys.put(device, &key_in(payload));
+        }
+    }
+    keys
+}
+
 impl<N: Nv> VerifierNode<N> {
     ghost use Rattle.verifier_node.specs.NodeView.{storage_in, seen_in, is_on};
     ghost use Rattle.verifier_node.specs.Sound.{IsSound};
@@ -186,6 +199,7 @@ impl<N: Nv> VerifierNode<N> {
     {
         match mount_rows(&mut self.nv, &mut self.room, &mut self.index) {
             Ok(()) => {
+                self.keys = ready_keys(&self.room);
                 self.on = true;
                 Ok(())
             }

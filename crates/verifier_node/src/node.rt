@@ -10,7 +10,7 @@ ghost use Rattle.bench_base.specs.Ranges.{IsDevice};
 ghost use Rattle.verifier.specs.Acts as act_of;
 ghost use Rattle.verifier.specs.ActLaws.{IsFit};
 ghost use Rattle.verifier.specs.Index.{IsIndexOf};
-ghost use Rattle.verifier.specs.Seen.{AreTogether, counting, spot_in};
+ghost use Rattle.verifier.specs.Seen.{AreTogether, counting, key_at, spot_in};
 ghost use Rattle.verifier_node.specs.Indexes.{CanIndex, Indexes};
 ghost use Rattle.verifier_node.specs.Payloads.{IsShown, HoldRows, fill_of, seen_held};
 ghost use Rattle.verifier_node.specs.Sound.{HasCell};
@@ -21,11 +21,12 @@ use bench_base::numbers::{DayNo, DevNo};
 use bench_base::refusals::{ScanRefusal, StoreFail};
 use bench_base::sizes::{BLOCK_BYTES, BLOCK_PIECES, FIRST_BLOCK, VERIFIER_BYTES, VERIFIER_CELLS};
 use bench_base::words::Key;
-use indicium::read_indicium;
+use hmac_core::ReadyKey;
+use indicium::{Mark, read_indicium};
 use node_acts::Act;
 use nv_model::{Nv, NvFail};
 use nv_store::{Room, clear_room, commit_room, count_room, is_room_worn};
-use verifier::{Accepted, BlockIndex, Change, ScanAct, Spot, scan_act, trust_act};
+use verifier::{Accepted, BlockIndex, Change, ReadyKeys, ScanAct, Spot, scan_act, trust_act};
 
 /// The verifier over storage of 4,253,904 bytes: a cell of two slots for each device and each block, whose payload is its
 /// row. While it is off, what it knew of its storage counts for nothing.
@@ -35,6 +36,8 @@ pub struct VerifierNode<N: Nv> {
     pub(crate) room: Room<BLOCK_BYTES>,
     /// The blocks that the cells hold.
     pub(crate) index: BlockIndex,
+    /// The keys of the devices that the cells trust, made ready.
+    pub(crate) keys: ReadyKeys,
     pub(crate) on: bool,
     ghost cells: { cells_of room ≡ VERIFIER_CELLS },
     ghost filled: { HoldRows (kept_in room) } by { hold_prop (kept_in room) },
@@ -64,6 +67,14 @@ fn index_change(index: &mut BlockIndex, change: &Change, fresh: bool)
     }
 }
 
+// Makes a key ready that is trusted now.
+fn ready_change(keys: &mut ReadyKeys, change: &Change) {
+    match change {
+        Change::Trust(device, key) => keys.put(*device, key),
+        Change::Accept { .. } => {}
+    }
+}
+
 impl<N: Nv> VerifierNode<N> {
     ghost use Rattle.verifier_node.specs.NodeView.{storage_in, seen_in, is_on};
 
@@ -79,6 +90,7 @@ impl<N: Nv> VerifierNode<N> {
             nv,
             room,
             index: BlockIndex::new(),
+            keys: ReadyKeys::none(),
             on: false,
         }
     }
@@ -122,9 +134,31 @@ impl<N: Nv> VerifierNode<N> {
         match read_indicium(bytes) {
             Err(fault) => Act::Refuse(ScanRefusal::Unread(fault)),
             Ok((mark, _)) => {
-                let key = key_of(&self.room, mark.device);
                 let spot = self.spot(mark.device, mark.piece);
-                scan_act(number, bytes, &mark, today, key.as_ref(), spot)
+                self.scan_marked(number, bytes, &mark, today, spot)
+            }
+        }
+    }
+
+    // Scans a mark that was read, under the key of its device.
+    fn scan_marked(
+        &self,
+        number: u32,
+        bytes: &[u8],
+        mark: &Mark,
+        today: DayNo,
+        spot: Spot,
+    ) -> ScanAct<Accepted>
+        ensures { result ≡ act_of.marked_act number bytes.now mark.now today (key_at (seen_in self.now) mark.now.device) spot }
+    {
+        let Some(key) = key_of(&self.room, mark.device) else {
+            return scan_act(number, bytes, mark, today, None, spot);
+        };
+        match self.keys.find(mark.device, &key) {
+            Some(ready) => scan_act(number, bytes, mark, today, Some(ready), spot),
+            None => {
+                let ready = ReadyKey::new(&key);
+                scan_act(number, bytes, mark, today, Some(&ready), spot)
             }
         }
     }
@@ -176,6 +210,7 @@ impl<N: Nv> VerifierNode<N> {
         match commit_room(&mut self.nv, &mut self.room, cell, &payload) {
             Ok(()) => {
                 index_change(&mut self.index, change, fresh);
+                ready_change(&mut self.keys, change);
                 Ok(())
             }
             Err(fail) => {
@@ -194,6 +229,7 @@ impl<N: Nv> VerifierNode<N> {
             nv,
             room,
             index: _,
+            keys: _,
             on: _,
         } = self;
         (nv, room)

@@ -6,4 +6,4 @@ use Rattle.verifier.proofs.acts.is_own_code.Goals as goal
 
 pub returns : goal.returns
 unfolding has_code
-returns c = same_from_decides _ (has_code c.args.key.now c.args.bytes.now) c.code_matches.ensures (Decides-and _ _ (leb-true 32 _, le-leb 32 _) (bytes_eq-Decides _ _))
+returns c = same_from_decides _ (has_code c.args.key.now c.args.bytes.now) c.code_matches_by.ensures (Decides-and _ _ (leb-true 32 _, le-leb 32 _) (bytes_eq-Decides _ _))
