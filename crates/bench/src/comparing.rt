@@ -13,7 +13,7 @@ use node_acts::Act;
 use node_seat::Node;
 use nv_model::Fuse;
 use psd_device::DeviceNode;
-use psd_state::DevRec;
+use psd_state::ReadyRecord;
 
 fn stood(device: DevNo, held: u64, act: CentreAct<Standing>) -> Reply
     ensures { result ≡ compares.stood device held act }
@@ -26,11 +26,11 @@ fn stood(device: DevNo, held: u64, act: CentreAct<Standing>) -> Reply
     }
 }
 
-fn compared(device: DevNo, record: &Option<DevRec>, act: CentreAct<Standing>) -> Reply
-    ensures { result ≡ compares.compared device «record».now act }
+fn compared(device: DevNo, state: &Option<ReadyRecord>, act: CentreAct<Standing>) -> Reply
+    ensures { result ≡ compares.compared device state.now act }
 {
-    match record {
-        Some(record) => stood(device, record.held(), act),
+    match state {
+        Some(kept) => stood(device, kept.record().held(), act),
         None => Reply::DevRefused(device, DevRefusal::Blank),
     }
 }

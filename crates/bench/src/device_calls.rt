@@ -21,7 +21,7 @@ use node_acts::{GivenOut, Released, Said};
 use node_turns::{Call, Callee};
 use nv_model::Fuse;
 use psd_device::{DeviceNode, Franked};
-use psd_state::DevRec;
+use psd_state::ReadyRecord;
 use psd_state::acts::{
     DeviceAct, Taken, ack_act, ask_act, debit_act, make_act, resend_act, status_act, take_act,
 };
@@ -296,22 +296,22 @@ fn took(device: DevNo, message: u32, taken: &Taken) -> Said
 }
 
 /// The number of the last transaction that was applied, and 0 where there is no record.
-pub fn number_in(day: DayNo, record: &Option<DevRec>) -> u32
-    ensures { result ≡ views.number_in «record».now }
+pub fn number_in(state: &Option<ReadyRecord>) -> u32
+    ensures { result ≡ views.number_in state.now }
 {
-    match record {
-        Some(record) => record.status(day).number,
+    match state {
+        Some(kept) => kept.record().number(),
         None => 0,
     }
 }
 
 /// The number of the request that is outstanding, or of the next one.
-pub fn next_number(day: DayNo, record: &Option<DevRec>) -> u32
-    ensures { result ≡ views.next_number «record».now }
+pub fn next_number(state: &Option<ReadyRecord>) -> u32
+    ensures { result ≡ views.next_number state.now }
 {
-    match record {
-        Some(record) => {
-            let number = record.status(day).number;
+    match state {
+        Some(kept) => {
+            let number = kept.record().number();
             if number == u32::MAX {
                 number
             } else {

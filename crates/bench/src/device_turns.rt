@@ -61,7 +61,7 @@ fn device_called<T: Tell, M: Fuse + Drop>(
                 customer: *customer,
                 amount: *amount,
                 message: *message,
-                number: next_number(day, place.record()),
+                number: next_number(place.record()),
             };
             call_node(place, &callee, &call)
         }
@@ -69,7 +69,7 @@ fn device_called<T: Tell, M: Fuse + Drop>(
             let call = ResendCall {
                 device,
                 message: *message,
-                number: next_number(day, place.record()),
+                number: next_number(place.record()),
             };
             call_node(place, &callee, &call)
         }
@@ -77,7 +77,7 @@ fn device_called<T: Tell, M: Fuse + Drop>(
             let call = AckCall {
                 device,
                 message: *message,
-                number: number_in(day, place.record()),
+                number: number_in(place.record()),
             };
             call_node(place, &callee, &call)
         }

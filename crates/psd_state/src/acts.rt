@@ -207,7 +207,12 @@ fn released_of(piece: u32, franked: Franked) -> Taken
 /// Takes a Reply or a Debit. The first refusal that holds: `Unread` of `read_message`; `Unread` with `Tag` for another
 /// message; for a Debit those of `debit_act`; for a Reply `Blank`, `WrongDevice` with the Reply's device, `BadCode` exactly
 /// where its code is not of this device's key, and then those of `DevRec::apply`.
-pub fn take_act(device: DevNo, bytes: &[u8], day: DayNo, state: &Option<ReadyRecord>) -> DeviceAct<Taken>
+pub fn take_act(
+    device: DevNo,
+    bytes: &[u8],
+    day: DayNo,
+    state: &Option<ReadyRecord>,
+) -> DeviceAct<Taken>
     ensures { result ≡ act_of.take_act todays_rules device bytes.now day state.now }
 {
     match read_message(bytes) {

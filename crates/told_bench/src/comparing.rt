@@ -10,7 +10,7 @@ use bench_base::refusals::DevRefusal;
 use bench_base::words::Node;
 use centre_ledger::{CentreAct, Row, Standing, standing_act};
 use node_acts::Act;
-use psd_state::DevRec;
+use psd_state::{DevRec, ReadyRecord};
 use told_centre::CentreRecord;
 use told_device::DeviceRecord;
 use told_nodes::Seat;
@@ -26,11 +26,11 @@ fn stood(device: DevNo, held: u64, act: CentreAct<Standing>) -> Reply
     }
 }
 
-fn compared(device: DevNo, record: &Option<DevRec>, act: CentreAct<Standing>) -> Reply
-    ensures { result ≡ compares.compared device «record».now act }
+fn compared(device: DevNo, state: &Option<ReadyRecord>, act: CentreAct<Standing>) -> Reply
+    ensures { result ≡ compares.compared device state.now act }
 {
-    match record {
-        Some(record) => stood(device, record.held(), act),
+    match state {
+        Some(kept) => stood(device, kept.record().held(), act),
         None => Reply::DevRefused(device, DevRefusal::Blank),
     }
 }

@@ -22,7 +22,7 @@ pub fn is_known(kept: &DeviceRecord)
 {
     let _count = kept.count;
     if let Some(state) = &kept.state {
-        let _key = state.key();
+        let _key = state.record().key();
     }
 }
 

@@ -1,5 +1,6 @@
 //! The record of the verifier, with the count of each of its cells.
 ghost use Rattle.std.specs.Prelude.{◌≡◌, [], false, IfOk};
+ghost use Rattle.std.specs.Option.{option_copied};
 ghost use Rattle.node_acts.specs.RowList.{commits_at, is_worn, row_at};
 ghost use Rattle.verifier.specs.ActLaws.{IsFit};
 ghost use Rattle.verifier.specs.Acts as act_of;
@@ -15,6 +16,7 @@ use bench_base::numbers::{DayNo, DevNo};
 use bench_base::refusals::ScanRefusal;
 use bench_base::sizes::{BLOCK_PIECES, FIRST_BLOCK, MOST_COMMITS, VERIFIER_CELLS};
 use bench_base::words::Key;
+use hmac_core::ReadyKey;
 use indicium::read_indicium;
 use node_acts::Act;
 use std::alloc::{AllocError, Global};
@@ -120,8 +122,8 @@ impl ScanRecord {
     }
 
     // The key under which marks of the device are trusted.
-    fn key(&self, device: u32) -> Option<Key>
-        ensures { result ≡ seen.key_at (cells_of self.now) device }
+    fn key(&self, device: u32) -> Option<&ReadyKey>
+        ensures { option_copied result ≡ seen.key_at (cells_of self.now) device }
     {
         if device == 0 {
             return None;
@@ -171,7 +173,7 @@ impl ScanRecord {
             Ok((mark, _)) => {
                 let key = self.key(mark.device);
                 let spot = self.spot(mark.device, mark.piece);
-                scan_act(number, bytes, &mark, today, key.as_ref(), spot)
+                scan_act(number, bytes, &mark, today, key, spot)
             }
         }
     }
