@@ -4,3 +4,4 @@ pub mod Files
 pub mod Ranges
 -- Promised: public contracts name it.
 pub mod Starts
+pub mod Aheads

@@ -3,6 +3,7 @@ ghost use Rattle.std.specs.Prelude.{None, false, true, [], ℕ, ◌≡◌, ◌�
 ghost use Rattle.nv_model.specs.Meters.{Answers, unharmed};
 ghost use Rattle.nv_file.specs.Ranges.{are_apart, joined, leaves_a_gap};
 
+use crate::ahead::Ahead;
 use crate::whole;
 use nv_model::{Nv, NvFail};
 use std::fs::{File, Files};
@@ -32,6 +33,8 @@ pub struct FileNv {
     range: Option<(u32, u32)>,
     /// Whether a write or a sync failed since then.
     failed: bool,
+    /// What was read since the last write, sync and restart.
+    ahead: Ahead,
     ghost inside: { (r : ℕ × ℕ) → range ≡ Some r → r.1 ≤ size },
 }
 
@@ -83,6 +86,7 @@ impl FileNv {
             faults: 0,
             range: None,
             failed: false,
+            ahead: Ahead::new(rt.alloc(), size).map_err(|_| StartFault)?,
         })
     }
 
@@ -90,6 +94,7 @@ impl FileNv {
     fn answer(&mut self, went: bool) -> Result<(), NvFail>
         ensures size { self.new.size ≡ self.old.size }
         ensures unsynced { unsynced self.new ≡ unsynced self.old }
+        ensures ahead { self.new.ahead ≡ self.old.ahead }
         ensures as_it_went { is_ok result ≡ went }
         ensures counted { Answers (⟦<FileNv as Nv>⟧.meters self.old) (⟦<FileNv as Nv>⟧.meters self.new) result }
     {
@@ -100,6 +105,22 @@ impl FileNv {
         Err(NvFail::Fault)
     }
 
+    /// Reads a range, and more of the file about it at once, so that reads of places nearby ask nothing of the system. Answers
+    /// whether that went well.
+    fn fetch(&mut self, at: u32, buf: &mut [u8]) -> bool
+        requires { at + length buf.old ≤ self.old.size }
+        ensures unsynced { unsynced self.new ≡ unsynced self.old }
+        ensures counts { (self.new.size ≡ self.old.size) × (self.new.faults ≡ self.old.faults) }
+    {
+        if self.ahead.copy(at, buf) {
+            return true;
+        }
+        if self.ahead.fill(&self.file, at, self.size) && self.ahead.copy(at, buf) {
+            return true;
+        }
+        self.file.read_exact_at(buf, u64::from(at)).is_ok()
+    }
+
     /// Writes a range, and answers whether that went well. Where places lie between it and what is not synced yet, that is
     /// synced before.
     fn put(&mut self, at: u32, bytes: &[u8]) -> bool
@@ -107,6 +128,7 @@ impl FileNv {
         ensures range { (self.new.range ≡ Some (joined self.old.range (at, at + length bytes.now)))
             ⊎ ((result ≡ false) × (leaves_a_gap self.old.range (at, at + length bytes.now) ≡ true) × (self.new.range ≡ self.old.range)) }
         ensures failed { self.new.failed ≡ self.old.failed }
+        ensures ahead { self.new.ahead ≡ self.old.ahead }
         ensures counts { (self.new.size ≡ self.old.size) × (self.new.faults ≡ self.old.faults) }
     {
         let new = (at, at + bytes.len() as u32);
@@ -146,6 +168,7 @@ impl FileNv {
 }
 
 impl Nv for FileNv {
+    ghost use Rattle.nv_file.specs.Aheads.{window_of};
     ghost use Rattle.nv_file.specs.Files.{unsynced, WriteIs, SyncIs};
 
     ghost tells = { ⊥ };
@@ -164,11 +187,12 @@ impl Nv for FileNv {
 
     ghost read_is = { λ old new result. unsynced new ≡ unsynced old };
 
-    ghost write_is = { λ old new at bytes result. WriteIs (unsynced old) (unsynced new) (at, at + length bytes) result };
+    ghost write_is = { λ old new at bytes result. WriteIs (unsynced old) (unsynced new) (at, at + length bytes) result
+        × (window_of new.ahead ≡ None) };
 
-    ghost sync_is = { λ old new result. SyncIs (unsynced old) (unsynced new) result };
+    ghost sync_is = { λ old new result. SyncIs (unsynced old) (unsynced new) result × (window_of new.ahead ≡ None) };
 
-    ghost restart_is = { λ old new result. SyncIs (unsynced old) (unsynced new) result };
+    ghost restart_is = { λ old new result. SyncIs (unsynced old) (unsynced new) result × (window_of new.ahead ≡ None) };
 
     ghost content_is = { λ s tells. absurd tells };
 
@@ -185,17 +209,19 @@ impl Nv for FileNv {
     }
 
     fn read(&mut self, at: u32, buf: &mut [u8]) -> Result<(), NvFail> {
-        let went = self.file.read_exact_at(buf, u64::from(at)).is_ok();
+        let went = self.fetch(at, buf);
         self.answer(went)
     }
 
     fn write(&mut self, at: u32, bytes: &[u8]) -> Result<(), NvFail> {
+        self.ahead.forget();
         let went = !self.failed && self.put(at, bytes);
         self.failed = !went;
         self.answer(went)
     }
 
     fn sync(&mut self) -> Result<(), NvFail> {
+        self.ahead.forget();
         let done = self.make_sure();
         if done.is_err() {
             self.failed = true;
@@ -208,6 +234,7 @@ impl Nv for FileNv {
 
     /// Where nothing is unsynced nothing is asked of the system.
     fn restart(&mut self) -> Result<(), NvFail> {
+        self.ahead.forget();
         if self.range.is_none() && !self.failed {
             return Ok(());
         }
@@ -234,6 +261,7 @@ mod tests {
             faults: 0,
             range: None,
             failed: false,
+            ahead: Ahead::new(rt.alloc(), 8)?,
         };
         assert_eq!(rt; nv.write(2, b"abc"), Ok(()));
         assert_eq!(rt; nv.range, Some((2, 5)));

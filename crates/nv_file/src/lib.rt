@@ -1,6 +1,7 @@
 //! Storage in a file: the trusted edge, which tells contracts nothing of its content.
 #![tactic(auto)]
 
+mod ahead;
 mod file;
 mod starting;
 mod whole;

@@ -1,0 +1,80 @@
+//! A part of a file that was read at once, of which smaller reads are answered.
+ghost use Rattle.std.specs.Prelude.{◌≡◌, ◌≤◌, None, IfOk, false};
+
+use std::alloc::{AllocError, Global};
+use std::fs::File;
+use std::os::unix::fs::FileExt;
+
+/// The most bytes that are read at once.
+const PIECE: u32 = 65_536;
+
+/// How many bytes before the place that is asked for are read too: a whole cell of the widest table, whose payload may lie
+/// before the last of its gates.
+const BEHIND: u32 = 4_128;
+
+/// A part of a file in memory, as it was read at once.
+#[derive(Drop)]
+pub struct Ahead {
+    pub(crate) bytes: Vec<u8>,
+    /// The first place that the bytes are of, and the place behind the last; None where nothing was read.
+    pub(crate) window: Option<(u32, u32)>,
+}
+
+impl Ahead {
+    ghost use Rattle.nv_file.specs.Aheads.{window_of, Has};
+
+    /// Takes the memory for reads of a file of so many bytes. AllocError is want of memory.
+    pub fn new(alloc: Global, size: u32) -> Result<Ahead, AllocError>
+        ensures { IfOk result (λ ahead. window_of ahead ≡ None) }
+    {
+        Ok(Ahead {
+            bytes: vec![in alloc; 0; size.min(PIECE) as usize]?,
+            window: None,
+        })
+    }
+
+    /// Forgets what was read.
+    pub fn forget(&mut self)
+        ensures { window_of self.new ≡ None }
+    {
+        self.window = None;
+    }
+
+    /// Reads the bytes about a place of a file of this size. False where that fails, and nothing is there then.
+    pub fn fill(&mut self, file: &File, at: u32, size: u32) -> bool
+        requires inside { at ≤ size }
+        ensures failed { result ≡ false → window_of self.new ≡ None }
+    {
+        self.forget();
+        let from = at.saturating_sub(BEHIND);
+        let len = (size - from).min(PIECE);
+        if self.bytes.len() < len as usize {
+            return false;
+        }
+        let piece = &mut self.bytes[..len as usize];
+        let went = file.read_exact_at(piece, u64::from(from)).is_ok();
+        if went {
+            self.window = Some((from, from + len));
+        }
+        went
+    }
+
+    /// Copies the bytes from a place on, where they were read; else nothing.
+    pub fn copy(&self, at: u32, buf: &mut [u8]) -> bool
+        ensures { Has self.now at buf.old buf.new result }
+    {
+        let Some((from, end)) = self.window else {
+            return false;
+        };
+        if at < from || u64::from(end) < u64::from(at) + buf.len() as u64 {
+            return false;
+        }
+        let first = (at - from) as usize;
+        let behind = first + buf.len();
+        if self.bytes.len() < behind {
+            return false;
+        }
+        buf.copy_from_slice(&self.bytes[first..behind]);
+        true
+    }
+}
