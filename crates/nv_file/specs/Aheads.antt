@@ -1,5 +1,5 @@
 -- A part of a file that was read at once.
-use Rattle.std.specs.Prelude.{◌≡◌, ℕ, ◌+◌, ◌-◌, ◌≤◌, Bool, true, false, List, length, take, drop, Option, Some, None}
+use Rattle.std.specs.Prelude.{◌≡◌, ℕ, ◌+◌, ◌-◌, ◌≤◌, Bool, true, false, List, length, take, drop, Option, Some}
 use Rattle.nv_file.specs.Ranges.{Range}
 use Rattle.nv_file.specs.declared.ahead.Ahead.{Ahead}
 

@@ -1,4 +1,4 @@
-use Rattle.std.proofs.Common.{length, arith, sym, ◌∙◌, None, rules}
+use Rattle.std.proofs.Common.{None, rules}
 use Rattle.std.proofs.lemmas.List.{ext_get_or}
 use Rattle.centre_ledger.proofs.accounts.made_ready.Goals as goal
 
