@@ -26,7 +26,7 @@ use Rattle.centre_ledger.specs.declared.rows.DeviceRow.{DeviceRow}
 use Rattle.centre_ledger.specs.declared.rows.CustomerRow.{CustomerRow}
 use Rattle.centre_ledger.specs.declared.standing.Standing.{Standing}
 use Rattle.centre_ledger.specs.declared.acts.Deposit.{Deposit}
-use Rattle.centre_ledger.specs.Answers.{no_centre, open_plan, flag_plan, deposit_answer, deposit_act, deposit_plan, balance_plan, register_plan, last_ruling, stored_note, turn_answer, repeat_plan, rule_act, rule_plan, request_plan, settle_answer, settle_act, done_plan, centre_take, reconcile_plan}
+use Rattle.centre_ledger.specs.Answers.{no_centre, open_plan, flag_plan, deposit_answer, deposit_answered, deposit_plan, balance_plan, register_plan, last_ruling, stored_note, turn_answer, repeat_plan, rule_answered, rule_plan, request_plan, settle_answer, settle_answered, done_plan, centre_take, reconcile_plan}
 use Rattle.centre_ledger.specs.Order.{InOrder}
 use Rattle.centre_ledger.specs.Records.{IsRowOf}
 use Rattle.centre_ledger.specs.Rows.{deposited_row, settled_row}
@@ -74,7 +74,7 @@ deposited-planned b C w n a s books (Some x) at =
     let is = open-of b C w x s books at in
     go (deposit_answer (x.receipt, x.amount) x.deposits n a) ∙ (λ i. deposit_plan w n a (sym is.receipt i) (sym is.deposits i) (sym is.opened i))
   where
-    go : (y : Result (Option ℕ) CentreRefusal) → act_plan (λ (d : Deposit). r.Deposited w n d.again d.total) (taken_act w n a x (deposited_row x n a y)) ≡ deposit_act w n a x.deposits y
+    go : (y : Result (Option ℕ) CentreRefusal) → act_plan (λ (d : Deposit). r.Deposited w n d.again d.total) (taken_act w n a x (deposited_row x n a y)) ≡ deposit_answered w n a x.deposits y
     go (Err y) = refl
     go (Ok None) = refl
     go (Ok (Some after)) = refl
@@ -115,14 +115,14 @@ done-planned b C k bytes q s books (Some x) at =
     let ruled_so : ruled q.device C ≡ x.ruled = subst (λ v. ruled v C ≡ x.ruled) same is.ruled in
     keyed (has_code x.key bytes) ∙ (λ i. done_plan bytes q (sym (known-of b C q.device x s books at) i) (sym settled_so i) (sym ruled_so i))
   where
-    settle : (y : Result (Option ℕ) CentreRefusal) → settle_answer x.settled x.ruled q.number ≡ y → taken_plan k (settled_act x q.number (settled_row x y)) ≡ settle_act x.device q.number y
+    settle : (y : Result (Option ℕ) CentreRefusal) → settle_answer x.settled x.ruled q.number ≡ y → taken_plan k (settled_act x q.number (settled_row x y)) ≡ settle_answered x.device q.number y
     settle (Err y) h = refl
     settle (Ok None) h = refl
     settle (Ok (Some now)) h = ap (λ n. made (r.Settled x.device q.number false) (c.Settled x.device n) []) (sym (settled-number x.settled x.ruled q.number now h))
 
     keyed : (t : Bool) → taken_plan k (cond t (settled_act x q.number (settled_row x (settle_answer x.settled x.ruled q.number))) (Refuse no.BadCode))
-        ≡ cond t (settle_act q.device q.number (settle_answer x.settled x.ruled q.number)) (no_centre no.BadCode)
-    keyed true = settle (settle_answer x.settled x.ruled q.number) refl ∙ ap (λ d. settle_act d q.number (settle_answer x.settled x.ruled q.number)) (found-device b q.device x s at).0.device
+        ≡ cond t (settle_answered q.device q.number (settle_answer x.settled x.ruled q.number)) (no_centre no.BadCode)
+    keyed true = settle (settle_answer x.settled x.ruled q.number) refl ∙ ap (λ d. settle_answered d q.number (settle_answer x.settled x.ruled q.number)) (found-device b q.device x s at).0.device
     keyed false = refl
 
 -- == a Request ==
@@ -162,7 +162,7 @@ reply-is b C x bytes s books at same next =
     sym (rw (eq-eqb x.device x.device refl) at is.reply)
 
 newly-planned : (b : Books) (C : List Commit) (k : ℕ) (x : DeviceRow) (bytes : List ℕ) → AreSound b → AreBooksOf b C → device_at b x.device ≡ Some x → (request_in bytes).device ≡ x.device → (request_in bytes).number ≡ x.ruled + 1
-    → taken_plan k (turn_act bytes (request_in bytes) x b (Ok false)) ≡ rule_act k bytes (request_in bytes) C (Ok false)
+    → taken_plan k (turn_act bytes (request_in bytes) x b (Ok false)) ≡ rule_answered k bytes (request_in bytes) C (Ok false)
 newly-planned b C k x bytes s books at same next =
     let q = request_in bytes in
     let is = ruling x (payer_in b x q) (own_left b x) q C (row-of b C x.device x books at) same (pays b C x q s books at same) in
@@ -188,19 +188,19 @@ requested-planned b C k bytes q s books is (Some x) at =
     stored_so : stored_note (last_ruling q.device C) ≡ x.request
     stored_so = subst (λ v. stored_note (last_ruling v C) ≡ x.request) same row_is.request
 
-    turn : (y : Result Bool CentreRefusal) → turn_answer x.ruled x.request q.number bytes ≡ y → taken_plan k (turn_act bytes q x b y) ≡ rule_act k bytes q C y
+    turn : (y : Result Bool CentreRefusal) → turn_answer x.ruled x.request q.number bytes ≡ y → taken_plan k (turn_act bytes q x b y) ≡ rule_answered k bytes q C y
     turn (Err y) h = refl
     turn (Ok true) h =
         let number = repeat-number x.ruled x.request q.number bytes h in
         repeated-planned C k x q.device q.number books.order (found-device b q.device x s at).0.sound row_is same number.0 number.1
     turn (Ok false) h =
         let next = turn-next x.ruled x.request q.number bytes h in
-        subst (λ y. taken_plan k (turn_act bytes y x b (Ok false)) ≡ rule_act k bytes y C (Ok false)) is
+        subst (λ y. taken_plan k (turn_act bytes y x b (Ok false)) ≡ rule_answered k bytes y C (Ok false)) is
         (newly-planned b C k x bytes s books (ap (device_at b) same ∙ at) (ap (λ (y : Request). y.device) is ∙ sym same) (ap (λ (y : Request). y.number) is ∙ next))
 
     keyed : (t : Bool) → taken_plan k (cond t (turn_act bytes q x b (turn_answer x.ruled x.request q.number bytes)) (Refuse no.BadCode))
         ≡ cond t (rule_plan k bytes q C) (no_centre no.BadCode)
-    keyed true = turn (turn_answer x.ruled x.request q.number bytes) refl ∙ (λ i. rule_act k bytes q C (turn_answer (sym ruled_so i) (sym stored_so i) q.number bytes))
+    keyed true = turn (turn_answer x.ruled x.request q.number bytes) refl ∙ (λ i. rule_answered k bytes q C (turn_answer (sym ruled_so i) (sym stored_so i) q.number bytes))
     keyed false = refl
 
 taken-planned : (b : Books) (C : List Commit) (k : ℕ) (bytes : List ℕ) → AreSound b → AreBooksOf b C → (x : Result Message Unread) → read bytes ≡ x → taken_plan k (message_act bytes b x) ≡ centre_take k bytes x C

@@ -51,13 +51,13 @@ deposit_answer last total n a =
     then (if a == last.1 then Ok None else Err (no.Conflict last.1))
     else first_holding (deposit_rows last total n a) (Ok (Some (total + a)))
 
-abbrev pub deposit_act : ℕ → ℕ → ℕ → ℕ → Result (Option ℕ) CentreRefusal → Plan
-deposit_act w n a total (Err x) = no_centre x
-deposit_act w n a total (Ok None) = told (r.Deposited w n true total) []
-deposit_act w n a total (Ok (Some after)) = made (r.Deposited w n false after) (c.Deposited w n a) []
+abbrev pub deposit_answered : ℕ → ℕ → ℕ → ℕ → Result (Option ℕ) CentreRefusal → Plan
+deposit_answered w n a total (Err x) = no_centre x
+deposit_answered w n a total (Ok None) = told (r.Deposited w n true total) []
+deposit_answered w n a total (Ok (Some after)) = made (r.Deposited w n false after) (c.Deposited w n a) []
 
 abbrev pub deposit_plan : ℕ → ℕ → ℕ → ℕ × ℕ → ℕ → Bool → Plan
-deposit_plan w n a last total true = deposit_act w n a total (deposit_answer last total n a)
+deposit_plan w n a last total true = deposit_answered w n a total (deposit_answer last total n a)
 deposit_plan w n a last total false = no_centre (no.UnknownCustomer w)
 
 abbrev pub balance_plan : ℕ → ℕ → Bool → Plan
@@ -93,13 +93,13 @@ abbrev pub repeat_plan : ℕ → ℕ → ℕ → Option (Verdict × List ℕ) �
 repeat_plan d n k (Some x) (Some reply) = told (r.Ruled d n x.0 true k) (e.Sent reply ∷ [])
 repeat_plan d n k _ _ = no_centre (no.Changed n)
 
-abbrev pub rule_act : ℕ → List ℕ → Request → List Commit → Result Bool CentreRefusal → Plan
-rule_act k bytes q C (Err x) = no_centre x
-rule_act k bytes q C (Ok true) = repeat_plan q.device q.number k (last_ruling q.device C) (stored_reply q.device C)
-rule_act k bytes q C (Ok false) = made (r.Ruled q.device q.number (verdict C q).0 false k) (c.Ruled q.device q.number (verdict C q).0 bytes) (e.Sent (reply_note C q) ∷ [])
+abbrev pub rule_answered : ℕ → List ℕ → Request → List Commit → Result Bool CentreRefusal → Plan
+rule_answered k bytes q C (Err x) = no_centre x
+rule_answered k bytes q C (Ok true) = repeat_plan q.device q.number k (last_ruling q.device C) (stored_reply q.device C)
+rule_answered k bytes q C (Ok false) = made (r.Ruled q.device q.number (verdict C q).0 false k) (c.Ruled q.device q.number (verdict C q).0 bytes) (e.Sent (reply_note C q) ∷ [])
 
 abbrev pub rule_plan : ℕ → List ℕ → Request → List Commit → Plan
-rule_plan k bytes q C = rule_act k bytes q C (turn_answer (ruled q.device C) (stored_note (last_ruling q.device C)) q.number bytes)
+rule_plan k bytes q C = rule_answered k bytes q C (turn_answer (ruled q.device C) (stored_note (last_ruling q.device C)) q.number bytes)
 
 abbrev pub request_plan : ℕ → List ℕ → Request → Option (ℕ × List ℕ) → List Commit → Plan
 request_plan k bytes q None C = no_centre (no.UnknownDevice q.device)
@@ -111,14 +111,14 @@ settle_answer settled ruled n =
     if nat_le n settled then Ok None
     else (if n == ruled then Ok (Some n) else Err (no.Ahead ruled))
 
-abbrev pub settle_act : ℕ → ℕ → Result (Option ℕ) CentreRefusal → Plan
-settle_act d n (Err x) = no_centre x
-settle_act d n (Ok None) = told (r.Settled d n true) []
-settle_act d n (Ok (Some now)) = made (r.Settled d n false) (c.Settled d now) []
+abbrev pub settle_answered : ℕ → ℕ → Result (Option ℕ) CentreRefusal → Plan
+settle_answered d n (Err x) = no_centre x
+settle_answered d n (Ok None) = told (r.Settled d n true) []
+settle_answered d n (Ok (Some now)) = made (r.Settled d n false) (c.Settled d now) []
 
 abbrev pub done_plan : List ℕ → DoneMsg → Option (ℕ × List ℕ) → ℕ → ℕ → Plan
 done_plan bytes q None settled ruled = no_centre (no.UnknownDevice q.device)
-done_plan bytes q (Some x) settled ruled = if has_code x.1 bytes then settle_act q.device q.number (settle_answer settled ruled q.number) else no_centre no.BadCode
+done_plan bytes q (Some x) settled ruled = if has_code x.1 bytes then settle_answered q.device q.number (settle_answer settled ruled q.number) else no_centre no.BadCode
 
 -- bytes that are handed to the centre, by what they read as
 abbrev pub centre_take : ℕ → List ℕ → Result Message Unread → List Commit → Plan

@@ -135,7 +135,7 @@ module _ (H : Ledger) where
   flag_ok w flag true = sure tt
   flag_ok w flag false = sure tt
 
-  deposited_ok : (w n a total : ℕ) (x : Result (Option ℕ) CentreRefusal) → Clean (centre.deposit_act w n a total x)
+  deposited_ok : (w n a total : ℕ) (x : Result (Option ℕ) CentreRefusal) → Clean (centre.deposit_answered w n a total x)
   deposited_ok w n a total (Err x) = sure tt
   deposited_ok w n a total (Ok None) = sure tt
   deposited_ok w n a total (Ok (Some after)) = sure tt
@@ -157,7 +157,7 @@ module _ (H : Ledger) where
   repeat_ok d n k (Some x) None = sure tt
   repeat_ok d n k None reply = sure tt
 
-  rule_ok : (k : ℕ) (bytes : List ℕ) (q : Request) (x : Result Bool CentreRefusal) → Clean (centre.rule_act k bytes q (counted H) x)
+  rule_ok : (k : ℕ) (bytes : List ℕ) (q : Request) (x : Result Bool CentreRefusal) → Clean (centre.rule_answered k bytes q (counted H) x)
   rule_ok k bytes q (Err x) = sure tt
   rule_ok k bytes q (Ok true) = repeat_ok q.device q.number k (centre.last_ruling q.device (counted H)) (stored_reply q.device (counted H))
   rule_ok k bytes q (Ok false) = sure tt
@@ -166,7 +166,7 @@ module _ (H : Ledger) where
   request_ok k bytes q None = sure tt
   request_ok k bytes q (Some x) = chosen Clean (has_code x.1 bytes) _ _ (λ good. rule_ok k bytes q _) (λ bad. sure tt)
 
-  settled_ok : (d n : ℕ) (x : Result (Option ℕ) CentreRefusal) → Clean (centre.settle_act d n x)
+  settled_ok : (d n : ℕ) (x : Result (Option ℕ) CentreRefusal) → Clean (centre.settle_answered d n x)
   settled_ok d n (Err x) = sure tt
   settled_ok d n (Ok None) = sure tt
   settled_ok d n (Ok (Some now)) = sure tt
@@ -196,7 +196,7 @@ module _ (H : Ledger) where
 
   -- == the host ==
 
-  ordered_ok : (d piece class postage : ℕ) (x : Result ℕ HostRefusal) → Clean (host.order_act d piece class postage x)
+  ordered_ok : (d piece class postage : ℕ) (x : Result ℕ HostRefusal) → Clean (host.order_answered d piece class postage x)
   ordered_ok d piece class postage (Err x) = sure tt
   ordered_ok d piece class postage (Ok j) = sure tt
 
@@ -205,21 +205,21 @@ module _ (H : Ledger) where
   order_ok d piece class (Some (Err x)) = sure tt
   order_ok d piece class (Some (Ok postage)) = ordered_ok d piece class postage _
 
-  send_ok : (k j : ℕ) (b : Option Job) (o : Option HostRefusal) → Clean (host.send_act k j b o)
+  send_ok : (k j : ℕ) (b : Option Job) (o : Option HostRefusal) → Clean (host.send_answered k j b o)
   send_ok k j b (Some x) = sure tt
   send_ok k j None None = sure tt
   send_ok k j (Some b) None = sure tt
 
-  print_ok : (j : ℕ) (x : Option (List ℕ)) (o : Option HostRefusal) → Clean (host.print_act j x o)
+  print_ok : (j : ℕ) (x : Option (List ℕ)) (o : Option HostRefusal) → Clean (host.print_answered j x o)
   print_ok j x (Some no_x) = sure tt
   print_ok j None None = sure tt
   print_ok j (Some x) None = sure tt
 
-  close_ok : (j : ℕ) (o : Option HostRefusal) → Clean (host.close_act j o)
+  close_ok : (j : ℕ) (o : Option HostRefusal) → Clean (host.close_answered j o)
   close_ok j (Some x) = sure tt
   close_ok j None = sure tt
 
-  held_ok : (x : List ℕ) (j : ℕ) (o : Option HostRefusal) → Clean (host.hold_act x j o)
+  held_ok : (x : List ℕ) (j : ℕ) (o : Option HostRefusal) → Clean (host.hold_answered x j o)
   held_ok x j (Some no_x) = sure tt
   held_ok x j None = sure tt
 
@@ -272,7 +272,7 @@ module _ (H : Ledger) where
   trust_ok d key None = sure tt
   trust_ok d key (Some k) = sure tt
 
-  scanned_ok : (n : ℕ) (k : Mark) (x : Result Bool ScanRefusal) → Clean (scans.scan_act n k x)
+  scanned_ok : (n : ℕ) (k : Mark) (x : Result Bool ScanRefusal) → Clean (scans.scan_answered n k x)
   scanned_ok n k (Err x) = sure tt
   scanned_ok n k (Ok true) = sure tt
   scanned_ok n k (Ok false) = sure tt

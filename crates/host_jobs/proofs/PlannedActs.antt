@@ -53,7 +53,7 @@ same-answer piece h g top last oldest =
 
 module _ (rows : Jobs) (C : List Commit) (sound : AreSound rows) (are : AreRowsOf rows C) where
   ordered-plan : (d piece class postage : ℕ) (o : Result ℕ HostRefusal)
-      → act_plan (λ a. r.Ordered a.job a.postage) (λ a. []) (ordered_act d piece class postage rows o) ≡ answers.order_act d piece class postage o
+      → act_plan (λ a. r.Ordered a.job a.postage) (λ a. []) (ordered_act d piece class postage rows o) ≡ answers.order_answered d piece class postage o
   ordered-plan d piece class postage (Err x) = refl
   ordered-plan d piece class postage (Ok j) = refl
 
@@ -67,8 +67,8 @@ module _ (rows : Jobs) (C : List Commit) (sound : AreSound rows) (are : AreRowsO
   order-plan d piece class (Some (Err x)) device = refl
   order-plan d piece class (Some (Ok postage)) device =
       ordered-plan d piece class postage (order_answer piece (shelf_in d rows) (open_in d rows))
-      ∙ ap (λ (o : Option ℕ). answers.order_act d piece class postage (order_answer piece (shelf_in d rows) o)) (open-is rows C sound are d)
-      ∙ ap (λ (o : Result ℕ HostRefusal). answers.order_act d piece class postage o) (order-answer d piece device (open_job d C))
+      ∙ ap (λ (o : Option ℕ). answers.order_answered d piece class postage (order_answer piece (shelf_in d rows) o)) (open-is rows C sound are d)
+      ∙ ap (λ (o : Result ℕ HostRefusal). answers.order_answered d piece class postage o) (order-answer d piece device (open_job d C))
 
   -- == a job in its cell ==
 
@@ -88,7 +88,7 @@ module _ (rows : Jobs) (C : List Commit) (sound : AreSound rows) (are : AreRowsO
   send-plan k j (Some x) it =
       sent-by k j x x.state ∙ ap (λ (s : Option JobState). answers.send_plan k j s (Some (job_in x))) (sym (state-shown j x it)) ∙ ap (λ (b : Option Job). answers.send_plan k j (shown_state j C) b) (sym it.1.job)
 
-  begun-by : (j : ℕ) (x : JobRow) (mark : Option (List ℕ)) → x.job ≡ j → act_plan (λ y. r.Printed j) (λ y. e.Printed j y ∷ []) (begun_act x mark rows) ≡ answers.print_act j mark None
+  begun-by : (j : ℕ) (x : JobRow) (mark : Option (List ℕ)) → x.job ≡ j → act_plan (λ y. r.Printed j) (λ y. e.Printed j y ∷ []) (begun_act x mark rows) ≡ answers.print_answered j mark None
   begun-by j x None same = refl
   begun-by j x (Some y) same = ap (λ (i : ℕ). made (r.Printed j) (c.Began i) (e.Printed j y ∷ [])) same
 
@@ -96,7 +96,7 @@ module _ (rows : Jobs) (C : List Commit) (sound : AreSound rows) (are : AreRowsO
       → act_plan (λ y. r.Printed j) (λ y. e.Printed j y ∷ []) (unless (print_answer (Some s)) (begun_act x x.indicium rows)) ≡ answers.print_plan j (Some s) x.indicium
   printed-by j x state.Ordered same = by x.indicium
     where
-      by : (o : Option (List ℕ)) → answers.no_host (no.State state.Ordered) ≡ answers.print_act j o (Some (no.State state.Ordered))
+      by : (o : Option (List ℕ)) → answers.no_host (no.State state.Ordered) ≡ answers.print_answered j o (Some (no.State state.Ordered))
       by o = refl
   printed-by j x state.Held same = begun-by j x x.indicium same
   printed-by j x state.Begun same = refl
@@ -110,7 +110,7 @@ module _ (rows : Jobs) (C : List Commit) (sound : AreSound rows) (are : AreRowsO
       ∙ ap (λ (y : Option (List ℕ)). answers.print_plan j (shown_state j C) y) (sym it.1.held)
 
   closed-by : (j : ℕ) (x : JobRow) (o : Option HostRefusal) → x.job ≡ j
-      → act_plan (λ a. r.Closed j) (λ a. []) (unless o (Commits (c.Closed x.job) (moved x state.Closed rows) (tt {0}))) ≡ answers.close_act j o
+      → act_plan (λ a. r.Closed j) (λ a. []) (unless o (Commits (c.Closed x.job) (moved x state.Closed rows) (tt {0}))) ≡ answers.close_answered j o
   closed-by j x None same = ap (λ (i : ℕ). made (r.Closed j) (c.Closed i) []) same
   closed-by j x (Some y) same = refl
 
@@ -121,7 +121,7 @@ module _ (rows : Jobs) (C : List Commit) (sound : AreSound rows) (are : AreRowsO
   -- == a Release ==
 
   held-by : (x : List ℕ) (j : ℕ) (y : JobRow) (o : Option HostRefusal) → y.job ≡ j
-      → act_plan (λ i. r.Held i) (λ i. []) (unless o (Commits (c.Held y.job x) (held_row y x rows) y.job)) ≡ answers.hold_act x j o
+      → act_plan (λ i. r.Held i) (λ i. []) (unless o (Commits (c.Held y.job x) (held_row y x rows) y.job)) ≡ answers.hold_answered x j o
   held-by x j y None same = ap (λ (i : ℕ). made (r.Held i) (c.Held i x) []) same
   held-by x j y (Some z) same = refl
 

@@ -45,15 +45,15 @@ abbrev pub order_answer : ℕ → Shelf → Option ℕ → Result ℕ HostRefusa
 order_answer piece h (Some j) = Err (no.OpenJob j)
 order_answer piece h None = first_holding (order_rows piece h) (Ok (h.last + 1))
 
-abbrev pub order_act : ℕ → ℕ → ℕ → ℕ → Result ℕ HostRefusal → Plan
-order_act d piece class postage (Err x) = no_host x
-order_act d piece class postage (Ok j) = made (r.Ordered j postage) (c.Ordered j d piece postage class) []
+abbrev pub order_answered : ℕ → ℕ → ℕ → ℕ → Result ℕ HostRefusal → Plan
+order_answered d piece class postage (Err x) = no_host x
+order_answered d piece class postage (Ok j) = made (r.Ordered j postage) (c.Ordered j d piece postage class) []
 
 -- the price comes first: there are no rates, or they refuse, or they say the postage
 abbrev pub order_plan : ℕ → ℕ → ℕ → Shelf → Option (Result ℕ RateRefusal) → Plan
 order_plan d piece class h None = no_host no.NoRates
 order_plan d piece class h (Some (Err x)) = no_host (no.Rate x)
-order_plan d piece class h (Some (Ok postage)) = order_act d piece class postage (order_answer piece h h.open_job)
+order_plan d piece class h (Some (Ok postage)) = order_answered d piece class postage (order_answer piece h h.open_job)
 
 abbrev pub shelf_of : ℕ → List Commit → Shelf
 shelf_of d C = record { last = last_job C; open_job = open_job d C; top = top d C; oldest = state_of (last_job C - 1023) C }
@@ -83,28 +83,28 @@ close_answer None = Some no.NoJob
 close_answer (Some state.Closed) = Some (no.State state.Closed)
 close_answer (Some s) = None
 
-abbrev pub send_act : ℕ → ℕ → Option Job → Option HostRefusal → Plan
-send_act k j b (Some x) = no_host x
-send_act k j None None = no_host no.NoJob
-send_act k j (Some b) None = told (r.SentDebit j k) (e.Sent (spell (m.Debit (debit_of b)) []) ∷ [])
+abbrev pub send_answered : ℕ → ℕ → Option Job → Option HostRefusal → Plan
+send_answered k j b (Some x) = no_host x
+send_answered k j None None = no_host no.NoJob
+send_answered k j (Some b) None = told (r.SentDebit j k) (e.Sent (spell (m.Debit (debit_of b)) []) ∷ [])
 
 abbrev pub send_plan : ℕ → ℕ → Option JobState → Option Job → Plan
-send_plan k j s b = send_act k j b (send_answer s)
+send_plan k j s b = send_answered k j b (send_answer s)
 
-abbrev pub print_act : ℕ → Option (List ℕ) → Option HostRefusal → Plan
-print_act j x (Some no_x) = no_host no_x
-print_act j None None = no_host no.NoJob
-print_act j (Some x) None = made (r.Printed j) (c.Began j) (e.Printed j x ∷ [])
+abbrev pub print_answered : ℕ → Option (List ℕ) → Option HostRefusal → Plan
+print_answered j x (Some no_x) = no_host no_x
+print_answered j None None = no_host no.NoJob
+print_answered j (Some x) None = made (r.Printed j) (c.Began j) (e.Printed j x ∷ [])
 
 abbrev pub print_plan : ℕ → Option JobState → Option (List ℕ) → Plan
-print_plan j s x = print_act j x (print_answer s)
+print_plan j s x = print_answered j x (print_answer s)
 
-abbrev pub close_act : ℕ → Option HostRefusal → Plan
-close_act j (Some x) = no_host x
-close_act j None = made (r.Closed j) (c.Closed j) []
+abbrev pub close_answered : ℕ → Option HostRefusal → Plan
+close_answered j (Some x) = no_host x
+close_answered j None = made (r.Closed j) (c.Closed j) []
 
 abbrev pub close_plan : ℕ → Option JobState → Plan
-close_plan j s = close_act j (close_answer s)
+close_plan j s = close_answered j (close_answer s)
 
 -- == a Release ==
 
@@ -119,13 +119,13 @@ hold_rows k piece postage class =
 abbrev pub hold_answer : Mark → ℕ → ℕ → ℕ → Option HostRefusal
 hold_answer k piece postage class = first_holding (hold_rows k piece postage class) None
 
-abbrev pub hold_act : List ℕ → ℕ → Option HostRefusal → Plan
-hold_act x j (Some no_x) = no_host no_x
-hold_act x j None = made (r.Held j) (c.Held j x) []
+abbrev pub hold_answered : List ℕ → ℕ → Option HostRefusal → Plan
+hold_answered x j (Some no_x) = no_host no_x
+hold_answered x j None = made (r.Held j) (c.Held j x) []
 
 abbrev pub hold_job : List ℕ → Mark → ℕ → Option Job → Plan
 hold_job x k j None = no_host no.NoJob
-hold_job x k j (Some b) = hold_act x j (hold_answer k b.piece b.postage b.class)
+hold_job x k j (Some b) = hold_answered x j (hold_answer k b.piece b.postage b.class)
 
 abbrev pub hold_open : List ℕ → Mark → Option ℕ → List Commit → Plan
 hold_open x k None C = no_host no.NoJob

@@ -176,7 +176,7 @@ module _ (ρ : Rules) (H : Ledger) (i : Inv ρ H) (on : is_on Centre H ≡ true)
       let C = counted H in
       let last = receipt w C in
       let sum = deposits w C in
-      let P = λ (z : Result (Option ℕ) CentreRefusal). PlanOk ρ H (centre.deposit_act w n a sum z) in
+      let P = λ (z : Result (Option ℕ) CentreRefusal). PlanOk ρ H (centre.deposit_answered w n a sum z) in
       chosen P ((n == last.0) && nat_lt 0 n) _ _
       (λ _. chosen P (a == last.1) (Ok None) (Err (no.Conflict last.1))
       (λ _. record { sane = tt; plain = refl; no_up = λ l k h. refl; fit = λ x h. absurd (none-some _ h); keeps = λ j. j })
@@ -230,7 +230,7 @@ module _ (ρ : Rules) (H : Ledger) (i : Inv ρ H) (on : is_on Centre H ≡ true)
 
   -- a Request of the next number is ruled
   new-ok : (bytes : List ℕ) (q : Request) (k : ℕ) → read bytes ≡ Ok (m.Request q) → note_of q.device q.number (counted H) ≡ Some bytes → q.number ≡ ruled q.device (counted H) + 1 → (x : ℕ × List ℕ) → registered q.device (counted H) ≡ Some x
-      → PlanOk ρ H (centre.rule_act k bytes q (counted H) (Ok false))
+      → PlanOk ρ H (centre.rule_answered k bytes q (counted H) (Ok false))
   new-ok bytes q k reads asked next x has =
       let C = counted H in
       let d = q.device in
@@ -269,7 +269,7 @@ module _ (ρ : Rules) (H : Ledger) (i : Inv ρ H) (on : is_on Centre H ≡ true)
       let d = q.device in
       let n = q.number in
       let g = ruled d C in
-      let P = λ (z : Result Bool CentreRefusal). PlanOk ρ H (centre.rule_act k bytes q C z) in
+      let P = λ (z : Result Bool CentreRefusal). PlanOk ρ H (centre.rule_answered k bytes q C z) in
       let asked : note_of d n C ≡ Some bytes = genuine-at bytes (m.Request q) H C (i.sents bytes sent) reads in
       chosen P (nat_lt n g || (n == 0)) _ _
       (λ _. no-ok (no.Old g) tt)
@@ -291,12 +291,12 @@ module _ (ρ : Rules) (H : Ledger) (i : Inv ρ H) (on : is_on Centre H ≡ true)
 
   -- == a Done ==
 
-  settle-ok : (q : DoneMsg) (bytes : List ℕ) → read bytes ≡ Ok (m.Done q) → IsSent bytes H → PlanOk ρ H (centre.settle_act q.device q.number (centre.settle_answer (settled q.device (counted H)) (ruled q.device (counted H)) q.number))
+  settle-ok : (q : DoneMsg) (bytes : List ℕ) → read bytes ≡ Ok (m.Done q) → IsSent bytes H → PlanOk ρ H (centre.settle_answered q.device q.number (centre.settle_answer (settled q.device (counted H)) (ruled q.device (counted H)) q.number))
   settle-ok q bytes reads sent =
       let C = counted H in
       let d = q.device in
       let n = q.number in
-      let P = λ (z : Result (Option ℕ) CentreRefusal). PlanOk ρ H (centre.settle_act d n z) in
+      let P = λ (z : Result (Option ℕ) CentreRefusal). PlanOk ρ H (centre.settle_answered d n z) in
       let applied : (v : Verdict) × (applied_of d n C ≡ Some v) = genuine-at bytes (m.Done q) H C (i.sents bytes sent) reads in
       chosen P (nat_le n (settled d C)) _ _
       (λ _. record { sane = tt; plain = refl; no_up = λ l k h. refl; fit = λ x h. absurd (none-some _ h); keeps = λ j. j })

@@ -118,12 +118,12 @@ module _ (ρ : Rules) (carried : IsCarried ρ) (H : Ledger) (i : Inv ρ H) where
   -- == the host ==
 
   priced-ok : (d p a k : ℕ) → is_on Host H ≡ true → IsDevice d → IsWord p → IsPostage a → (k < 2 ^ 16) → (w : Option ℕ) → open_job d (counted H) ≡ w
-      → PlanOk ρ H (host.order_act d p k a (host.order_answer p (host.shelf_of d (counted H)) w))
+      → PlanOk ρ H (host.order_answered d p k a (host.order_answer p (host.shelf_of d (counted H)) w))
   priced-ok d p a k on device piece postage class (Some j) has = no-host (no.OpenJob j)
   priced-ok d p a k on device piece postage class None has =
       let C = counted H in
       let h = host.shelf_of d C in
-      first (λ (z : Result ℕ HostRefusal). PlanOk ρ H (host.order_act d p k a z)) (host.order_rows p h) (Ok (last_job C + 1))
+      first (λ (z : Result ℕ HostRefusal). PlanOk ρ H (host.order_answered d p k a z)) (host.order_rows p h) (Ok (last_job C + 1))
       (no-host (no.Used (top d C)), (no-host no.NumberFull, (no-host (no.JobsFull (last_job C - 1023)), tt)))
       (λ rows.
       let below : last_job C < 4294967295 = leb-false 4294967295 (last_job C) rows.1.0 in
@@ -170,7 +170,7 @@ module _ (ρ : Rules) (carried : IsCarried ρ) (H : Ledger) (i : Inv ρ H) where
           let it = (jobs ρ (counted H) i.good).open_is k.0.device j has in
           let same : it.at ≡ b = same_Some _ _ (sym it.job_is ∙ at) in
           let device : k.0.device ≡ b.device = sym it.device ∙ ap (λ (z : Job). z.device) same in
-          first (λ (z : Option HostRefusal). PlanOk ρ H (host.hold_act x j z)) (host.hold_rows k.0 b.piece b.postage b.class) None
+          first (λ (z : Option HostRefusal). PlanOk ρ H (host.hold_answered x j z)) (host.hold_rows k.0 b.piece b.postage b.class) None
           (no-host (no.OtherPiece b.piece), (no-host (no.OtherPostage b.postage), (no-host (no.OtherClass b.class), tt)))
           (λ rows. ok-made ρ H (r.Held j) (c.Held j x) refl tt (λ n l h. absurd (cc)) (record {
             fits = record {
@@ -212,7 +212,7 @@ module _ (ρ : Rules) (carried : IsCarried ρ) (H : Ledger) (i : Inv ρ H) where
       go true h = h
       go false h = absurd (none-some _ h)
 
-  print-mark-ok : (j : ℕ) → is_on Host H ≡ true → IsWord j → state_of j (counted H) ≡ Some state.Held → (x : Option (List ℕ)) → held_of j (counted H) ≡ x → PlanOk ρ H (host.print_act j x None)
+  print-mark-ok : (j : ℕ) → is_on Host H ≡ true → IsWord j → state_of j (counted H) ≡ Some state.Held → (x : Option (List ℕ)) → held_of j (counted H) ≡ x → PlanOk ρ H (host.print_answered j x None)
   print-mark-ok j on word at None has = no-host no.NoJob
   print-mark-ok j on word at (Some x) has = record {
     sane = tt;
@@ -258,11 +258,11 @@ module _ (ρ : Rules) (carried : IsCarried ρ) (H : Ledger) (i : Inv ρ H) where
   trust-ok d key on device fits None has = ok-made ρ H (r.Trusted d) (c.Trusted d key) refl tt (λ n l h. absurd (cc)) (record { fits = has; on = on; range = (device, fits); sure = tt })
 
   accept-ok : (n : ℕ) (k : Mark) (today : ℤ) → is_on Verifier H ≡ true → IsDevice k.device → IsWord k.piece → IsCount n → IsReleasedAs k.device k.piece H → (key : List ℕ) → trusted k.device (counted H) ≡ Some key → (w : Option ℕ) → accepted k.device k.piece (counted H) ≡ w
-      → PlanOk ρ H (scans.scan_act n k (scans.scan_answer n k.day today (scans.is_full k.device k.piece (blocks (counted H))) w))
-  accept-ok n k today on device piece scan sure key trust (Some s) has = chosen (λ (z : Result Bool ScanRefusal). PlanOk ρ H (scans.scan_act n k z)) (s == n) _ _
+      → PlanOk ρ H (scans.scan_answered n k (scans.scan_answer n k.day today (scans.is_full k.device k.piece (blocks (counted H))) w))
+  accept-ok n k today on device piece scan sure key trust (Some s) has = chosen (λ (z : Result Bool ScanRefusal). PlanOk ρ H (scans.scan_answered n k z)) (s == n) _ _
       (λ _. record { sane = tt; plain = refl; no_up = λ l j h. refl; fit = λ y h. absurd (none-some _ h); keeps = λ j. j })
       (λ _. no-scan (not_v.Duplicate s))
-  accept-ok n k today on device piece scan sure key trust None has = first (λ (z : Result Bool ScanRefusal). PlanOk ρ H (scans.scan_act n k z)) (scans.scan_rows k.day today (scans.is_full k.device k.piece (blocks (counted H)))) (Ok false)
+  accept-ok n k today on device piece scan sure key trust None has = first (λ (z : Result Bool ScanRefusal). PlanOk ρ H (scans.scan_answered n k z)) (scans.scan_rows k.day today (scans.is_full k.device k.piece (blocks (counted H)))) (Ok false)
       (no-scan (not_v.Future k.day), (no-scan (not_v.TooOld k.day), (no-scan not_v.BlocksFull, tt)))
       (λ rows. ok-made ρ H (r.Accepted k.device k.piece n false) (c.Accepted k.device k.piece n) refl tt (λ l j h. absurd (cc)) (record { fits = record { new = has; known = (key, trust); room = rows.1.1.0 }; on = on; range = (device, piece, scan); sure = sure }))
 

@@ -47,17 +47,17 @@ module _ (n : ℕ) (bytes : List ℕ) (H : Ledger) where
       go (Some c) = chosen Tells (is_worn c (counted H)) (refuse (r.Worn (node_of c))) q (λ worn. refuses (r.Worn (node_of c)) (λ d p m again is. cc)) (λ fresh. tells)
 
   module _ (k : Mark) (code : List ℕ) (reads : read_mark bytes ≡ Ok (k, code)) (known : IsKnownMark bytes (read_mark bytes) H → IsReleased bytes H) where
-    told_again : accepted k.device k.piece (counted H) ≡ Some n → Tells (scans.scan_act n k (Ok true))
+    told_again : accepted k.device k.piece (counted H) ≡ Some n → Tells (scans.scan_answered n k (Ok true))
     told_again was d p m again is = record { mark = k; code = code; reads = reads; device = cc; piece = cc; number = cc; released = known; now = was }
 
-    committed : accepted k.device k.piece (counted H) ≡ None → Tells (scans.scan_act n k (Ok false))
+    committed : accepted k.device k.piece (counted H) ≡ None → Tells (scans.scan_answered n k (Ok false))
     committed none d p m again is = record { mark = k; code = code; reads = reads; device = cc; piece = cc; number = cc; released = known; now = rw (eq-eqb k.device k.device refl, eq-eqb k.piece k.piece refl, none) refl }
 
-    by_first : (today : ℤ) (full : Bool) (o : Option ℕ) → accepted k.device k.piece (counted H) ≡ o → Tells (scans.scan_act n k (scans.scan_answer n k.day today full o))
-    by_first today full (Some s) was = chosen (λ (z : Result Bool ScanRefusal). Tells (scans.scan_act n k z)) (s == n) (Ok true) _
+    by_first : (today : ℤ) (full : Bool) (o : Option ℕ) → accepted k.device k.piece (counted H) ≡ o → Tells (scans.scan_answered n k (scans.scan_answer n k.day today full o))
+    by_first today full (Some s) was = chosen (λ (z : Result Bool ScanRefusal). Tells (scans.scan_answered n k z)) (s == n) (Ok true) _
         (λ same. told_again (subst (λ (j : ℕ). accepted k.device k.piece (counted H) ≡ Some j) (eqb-true s n same) was))
         (λ other. no_scan _)
-    by_first today full None was = first (λ (z : Result Bool ScanRefusal). Tells (scans.scan_act n k z)) (scans.scan_rows k.day today full) (Ok false) (no_scan _, (no_scan _, (no_scan _, tt))) (λ rows. committed was)
+    by_first today full None was = first (λ (z : Result Bool ScanRefusal). Tells (scans.scan_answered n k z)) (scans.scan_rows k.day today full) (Ok false) (no_scan _, (no_scan _, (no_scan _, tt))) (λ rows. committed was)
 
   keyed : (today : ℤ) (k : Mark) (code : List ℕ) → read_mark bytes ≡ Ok (k, code) → (o : Option (List ℕ)) → trusted k.device (counted H) ≡ o → Tells (scans.scan_key n bytes k today o (counted H))
   keyed today k code reads None has = no_scan _

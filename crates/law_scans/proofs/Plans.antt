@@ -115,7 +115,7 @@ module _ (P : ℕ → ℕ → ℕ → Type 0) (H : Ledger) where
   flag_ok w flag true = (tt, tt)
   flag_ok w flag false = (tt, tt)
 
-  deposited_ok : (w n a total : ℕ) (x : Result (Option ℕ) CentreRefusal) → Clean (centre.deposit_act w n a total x)
+  deposited_ok : (w n a total : ℕ) (x : Result (Option ℕ) CentreRefusal) → Clean (centre.deposit_answered w n a total x)
   deposited_ok w n a total (Err x) = (tt, tt)
   deposited_ok w n a total (Ok None) = (tt, tt)
   deposited_ok w n a total (Ok (Some after)) = (tt, tt)
@@ -137,7 +137,7 @@ module _ (P : ℕ → ℕ → ℕ → Type 0) (H : Ledger) where
   repeat_ok d n k (Some x) None = (tt, tt)
   repeat_ok d n k None reply = (tt, tt)
 
-  rule_ok : (k : ℕ) (bytes : List ℕ) (q : Request) (x : Result Bool CentreRefusal) → Clean (centre.rule_act k bytes q (counted H) x)
+  rule_ok : (k : ℕ) (bytes : List ℕ) (q : Request) (x : Result Bool CentreRefusal) → Clean (centre.rule_answered k bytes q (counted H) x)
   rule_ok k bytes q (Err x) = (tt, tt)
   rule_ok k bytes q (Ok true) = repeat_ok q.device q.number k (centre.last_ruling q.device (counted H)) (stored_reply q.device (counted H))
   rule_ok k bytes q (Ok false) = (tt, (tt, tt))
@@ -146,7 +146,7 @@ module _ (P : ℕ → ℕ → ℕ → Type 0) (H : Ledger) where
   request_ok k bytes q None = (tt, tt)
   request_ok k bytes q (Some x) = chosen Clean (has_code x.1 bytes) _ _ (λ good. rule_ok k bytes q _) (λ bad. (tt, tt))
 
-  settled_ok : (d n : ℕ) (x : Result (Option ℕ) CentreRefusal) → Clean (centre.settle_act d n x)
+  settled_ok : (d n : ℕ) (x : Result (Option ℕ) CentreRefusal) → Clean (centre.settle_answered d n x)
   settled_ok d n (Err x) = (tt, tt)
   settled_ok d n (Ok None) = (tt, tt)
   settled_ok d n (Ok (Some now)) = (tt, tt)
@@ -176,7 +176,7 @@ module _ (P : ℕ → ℕ → ℕ → Type 0) (H : Ledger) where
 
   -- == the host ==
 
-  ordered_ok : (d piece class postage : ℕ) (x : Result ℕ HostRefusal) → Clean (host.order_act d piece class postage x)
+  ordered_ok : (d piece class postage : ℕ) (x : Result ℕ HostRefusal) → Clean (host.order_answered d piece class postage x)
   ordered_ok d piece class postage (Err x) = (tt, tt)
   ordered_ok d piece class postage (Ok j) = (tt, tt)
 
@@ -185,21 +185,21 @@ module _ (P : ℕ → ℕ → ℕ → Type 0) (H : Ledger) where
   order_ok d piece class (Some (Err x)) = (tt, tt)
   order_ok d piece class (Some (Ok postage)) = ordered_ok d piece class postage _
 
-  send_ok : (k j : ℕ) (b : Option Job) (o : Option HostRefusal) → Clean (host.send_act k j b o)
+  send_ok : (k j : ℕ) (b : Option Job) (o : Option HostRefusal) → Clean (host.send_answered k j b o)
   send_ok k j b (Some x) = (tt, tt)
   send_ok k j None None = (tt, tt)
   send_ok k j (Some b) None = (tt, (tt, tt))
 
-  print_ok : (j : ℕ) (x : Option (List ℕ)) (o : Option HostRefusal) → Clean (host.print_act j x o)
+  print_ok : (j : ℕ) (x : Option (List ℕ)) (o : Option HostRefusal) → Clean (host.print_answered j x o)
   print_ok j x (Some no_x) = (tt, tt)
   print_ok j None None = (tt, tt)
   print_ok j (Some x) None = (tt, (tt, tt))
 
-  close_ok : (j : ℕ) (o : Option HostRefusal) → Clean (host.close_act j o)
+  close_ok : (j : ℕ) (o : Option HostRefusal) → Clean (host.close_answered j o)
   close_ok j (Some x) = (tt, tt)
   close_ok j None = (tt, tt)
 
-  held_ok : (x : List ℕ) (j : ℕ) (o : Option HostRefusal) → Clean (host.hold_act x j o)
+  held_ok : (x : List ℕ) (j : ℕ) (o : Option HostRefusal) → Clean (host.hold_answered x j o)
   held_ok x j (Some no_x) = (tt, tt)
   held_ok x j None = (tt, tt)
 
@@ -253,7 +253,7 @@ module _ (P : ℕ → ℕ → ℕ → Type 0) (H : Ledger) where
   trust_ok d key (Some k) = (tt, tt)
 
   module _ (n : ℕ) where
-    scanned_ok : (k : Mark) → P k.device k.piece n → (x : Result Bool ScanRefusal) → Clean (scans.scan_act n k x)
+    scanned_ok : (k : Mark) → P k.device k.piece n → (x : Result Bool ScanRefusal) → Clean (scans.scan_answered n k x)
     scanned_ok k may (Err x) = (tt, tt)
     scanned_ok k may (Ok true) = (tt, tt)
     scanned_ok k may (Ok false) = (may, tt)

@@ -52,7 +52,7 @@ module _ (ρ : Rules) (H : Ledger) (good : Good ρ (counted H)) (j : ℕ) where
       go None = tells
       go (Some c) = chosen Tells (is_worn c (counted H)) (refuse (r.Worn (node_of c))) q (λ worn. refuses (r.Worn (node_of c)) (λ i k is. cc)) (λ fresh. tells)
 
-  sent : (l : ℕ) (b : Option Job) → job_of j (counted H) ≡ b → (x : Option HostRefusal) → Tells (host.send_act l j b x)
+  sent : (l : ℕ) (b : Option Job) → job_of j (counted H) ≡ b → (x : Option HostRefusal) → Tells (host.send_answered l j b x)
   sent l b is (Some x) = no_host x
   sent l None is None = no_host _
   sent l (Some b) is None = λ i k same.

@@ -355,7 +355,7 @@ trust_planned : (d : ℕ) (key : List ℕ) (o : Option (List ℕ)) → act_plan 
 trust_planned d key None = refl
 trust_planned d key (Some k) = refl
 
-answer_planned : (n : ℕ) (k : Mark) (cell : ℕ) (x : Result Bool ScanRefusal) → act_plan (accepted_reply n) (answered_act n k cell x) ≡ plan.scan_act n k x
+answer_planned : (n : ℕ) (k : Mark) (cell : ℕ) (x : Result Bool ScanRefusal) → act_plan (accepted_reply n) (answered_act n k cell x) ≡ plan.scan_answered n k x
 answer_planned n k cell (Err y) = refl
 answer_planned n k cell (Ok true) = refl
 answer_planned n k cell (Ok false) = refl
@@ -380,13 +380,13 @@ module _ (C : List Commit) (rec : IsRecorded C) where
   answers_same n day today d p None is None = ap (λ t. scan_answer n day today t None) (no_room d p None is)
 
   spot_planned : (n : ℕ) (k : Mark) (today : ℤ) (o : Option ℕ) → block_place k.device (block_of k.piece) (blocks C) ≡ o
-      → act_plan (accepted_reply n) (spot_act n k today (spot_after (blocks C) o (accepted k.device k.piece C))) ≡ plan.scan_act n k (scan_answer n k.day today (nat_le 1024 (length (blocks C)) && is_none o) (accepted k.device k.piece C))
+      → act_plan (accepted_reply n) (spot_act n k today (spot_after (blocks C) o (accepted k.device k.piece C))) ≡ plan.scan_answered n k (scan_answer n k.day today (nat_le 1024 (length (blocks C)) && is_none o) (accepted k.device k.piece C))
   spot_planned n k today o is =
-      answer_planned n k (spot_after (blocks C) o (accepted k.device k.piece C)).cell _ ∙ ap (plan.scan_act n k) (answers_same n k.day today k.device k.piece o is (accepted k.device k.piece C))
+      answer_planned n k (spot_after (blocks C) o (accepted k.device k.piece C)).cell _ ∙ ap (plan.scan_answered n k) (answers_same n k.day today k.device k.piece o is (accepted k.device k.piece C))
 
   coded_planned : (n : ℕ) (k : Mark) (today : ℤ) (t : Bool)
       → act_plan (accepted_reply n) (if t then spot_act n k today (spot_after (blocks C) (block_place k.device (block_of k.piece) (blocks C)) (accepted k.device k.piece C)) else Refuse no.BadCode)
-      ≡ (if t then plan.scan_act n k (scan_answer n k.day today (is_full k.device k.piece (blocks C)) (accepted k.device k.piece C)) else no_scan no.BadCode)
+      ≡ (if t then plan.scan_answered n k (scan_answer n k.day today (is_full k.device k.piece (blocks C)) (accepted k.device k.piece C)) else no_scan no.BadCode)
   coded_planned n k today true = spot_planned n k today (block_place k.device (block_of k.piece) (blocks C)) refl
   coded_planned n k today false = refl
 

@@ -36,16 +36,16 @@ abbrev pub scan_answer : ℕ → ℤ → ℤ → Bool → Option ℕ → Result 
 scan_answer n day today full (Some first) = if first == n then Ok true else Err (no.Duplicate first)
 scan_answer n day today full None = first_holding (scan_rows day today full) (Ok false)
 
-abbrev pub scan_act : ℕ → Mark → Result Bool ScanRefusal → Plan
-scan_act n k (Err x) = no_scan x
-scan_act n k (Ok true) = told (r.Accepted k.device k.piece n true) []
-scan_act n k (Ok false) = made (r.Accepted k.device k.piece n false) (c.Accepted k.device k.piece n) []
+abbrev pub scan_answered : ℕ → Mark → Result Bool ScanRefusal → Plan
+scan_answered n k (Err x) = no_scan x
+scan_answered n k (Ok true) = told (r.Accepted k.device k.piece n true) []
+scan_answered n k (Ok false) = made (r.Accepted k.device k.piece n false) (c.Accepted k.device k.piece n) []
 
 abbrev pub scan_key : ℕ → List ℕ → Mark → ℤ → Option (List ℕ) → List Commit → Plan
 scan_key n bytes k today None C = no_scan (no.Unknown k.device)
 scan_key n bytes k today (Some key) C =
     if has_code key bytes
-    then scan_act n k (scan_answer n k.day today (is_full k.device k.piece (blocks C)) (accepted k.device k.piece C))
+    then scan_answered n k (scan_answer n k.day today (is_full k.device k.piece (blocks C)) (accepted k.device k.piece C))
     else no_scan no.BadCode
 
 -- bytes that are scanned under a number, by the mark that they read as
