@@ -40,7 +40,7 @@ use Rattle.bench.specs.Steps.{Steps, DoesAsked, ComparesViews}
 use Rattle.bench.proofs.EachKind.{all_rest, of_all, of_with}
 use Rattle.bench.proofs.Events.{given_alike}
 use Rattle.bench.proofs.Making.{get_some}
-use Rattle.bench.proofs.NodeEvents.{taken_by}
+use Rattle.bench_views.proofs.RatesPlans.{taken_by}
 use Rattle.bench.proofs.Quiet.{SwitchesIs, quiet}
 use Rattle.bench.proofs.Unprinted.{IsUnprinted}
 

@@ -9,12 +9,7 @@ use Rattle.centre_ledger.specs.Acts.{CentreAct}
 use Rattle.centre_ledger.specs.ActLaws.{LeavesSound}
 use Rattle.centre_ledger.specs.Books.{Books, AreSound, put_row}
 
-pub fits : {A : Type 0} (b seen : Books) → b ≡ seen → (act result : CentreAct A) → result ≡ act → LeavesSound b act → (c : Commit) (x : Row) (a : A) → result ≡ Commits c x a → AreSound (put_row seen x)
-fits b seen same act result is leaves c x a commits =
-    let sound : LeavesSound b (Commits c x a) = subst (LeavesSound b) (sym is ∙ commits) leaves in
-    subst (λ (r : Books). AreSound (put_row r x)) same sound.0
-
--- and what it commits comes of these rows
+-- what it commits comes of these rows
 pub act_fits : {K S R A : Type 0} (n : Ghosts K S (Unit {0}) Row R) (b : Books) (s : n.Seen) (from : (x : Row) → AreSound (put_row b x) → n.IsFrom tt s x) (act : CentreAct A) → LeavesSound b act
     → IsFitting n tt s act
 act_fits n b s from (Refuse x) leaves = tt

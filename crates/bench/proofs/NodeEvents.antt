@@ -45,21 +45,9 @@ use Rattle.bench.specs.Steps.{notes_in, tells_failure, Steps, StepsByViews, Does
 use Rattle.bench.proofs.Events.{IsOfNode, no_day}
 use Rattle.bench.proofs.EachKind.{OthersRest}
 use Rattle.bench.proofs.OneNode as one
+use Rattle.bench_views.proofs.RatesPlans.{taken_by}
 use Rattle.bench.proofs.OneTurn.{NodeDid, NodeDidOn, at_alone, at_unwritten, at_damaged, at_on}
 use Rattle.bench.proofs.Sets.{get_set_same, get_set_other, set_there, same_some}
-
--- == prices ==
-
-priced : (τ : Tariff) → KeptPrices → IsOfTexts τ → (text : Option (List ℕ)) (kept : Option RateTable) → Keeps text kept → (class grams zone : ℕ) → quote kept class grams zone ≡ price_by τ class grams zone text
-priced τ prices texts None kept keeps class grams zone = prices None kept class grams zone keeps
-priced τ prices texts (Some text) kept keeps class grams zone = prices (Some text) kept class grams zone keeps ∙ ap (λ (p : Result ℕ RateRefusal). Some p) (sym (texts.price text class grams zone))
-
--- what is taken by the rates that are kept is taken by those of the ledger
-pub taken_by : (τ : Tariff) → KeptPrices → IsOfTexts τ → (H : Ledger) (pool : List (List ℕ)) (kept : Option RateTable) (e : Event) (x : Taken) → pool ≡ sent_in H → Keeps (rates_in H) kept
-    → taken pool (quote kept) e ≡ Some x → taken (sent_in H) (quote_in τ H) e ≡ Some x
-taken_by τ prices texts H pool kept e x sent keeps is =
-    let same : quote kept ≡ quote_in τ H = λ k class grams zone. priced τ prices texts (rates_in H) kept keeps class grams zone k in
-    subst (λ (q : Quote). taken (sent_in H) q e ≡ Some x) same (subst (λ (l : List (List ℕ)). taken l (quote kept) e ≡ Some x) sent is)
 
 -- == the node of an event, in its place ==
 

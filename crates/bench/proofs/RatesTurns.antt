@@ -30,6 +30,7 @@ use Rattle.ledger_moves.specs.Histories.{History}
 use Rattle.ledger_moves.specs.Moves.{plan, rates_plan, reading_plan}
 use Rattle.bench_views.specs.declared.taken.Taken.TheVariants as take
 use Rattle.bench_views.specs.Tariff.{IsOfTexts}
+use Rattle.bench_views.proofs.RatesPlans.{plan_of, planned, are_rates, plan_rates}
 use Rattle.bench.specs.Benches.{Nodes, OfState, IsReady, Stands, BenchOf}
 use Rattle.bench.specs.Outside.{Outside, ReadsText, ReadsRates, failed, read, rates_turn, rates_after}
 use Rattle.bench.specs.Steps.{Steps, notes_in}
@@ -40,47 +41,12 @@ use Rattle.bench.proofs.Unprinted.{IsUnprinted}
 
 -- == what is told of a text ==
 
--- what it is told as, as a plan
-abbrev plan_of : List ℕ → Result RateTable RatesFail → Plan
-plan_of text (Ok x) = told (r.Rates (length x.classes) x.zones) (entry.Rates text ∷ [])
-plan_of text (Err (fail.Length n)) = refuse r.RatesLength
-plan_of text (Err fail.Toml) = refuse r.RatesToml
-plan_of text (Err fail.Form) = refuse r.RatesForm
-plan_of text (Err (fail.Memory x)) = refuse r.RatesForm
-
 turn_is : (text : List ℕ) (x : Result RateTable RatesFail) → rates_turn text x ≡ turn_of (plan_of text x).reply (plan_of text x).after
 turn_is text (Ok x) = refl
 turn_is text (Err (fail.Length n)) = refl
 turn_is text (Err fail.Toml) = refl
 turn_is text (Err fail.Form) = refl
 turn_is text (Err (fail.Memory x)) = refl
-
--- it is the plan of the tariff of texts
-planned : (τ : Tariff) → IsOfTexts τ → (text : List ℕ) → rates_plan τ text ≡ plan_of text (answer text)
-planned τ of text = ap (λ x. if nat_lt 65536 (length text) then refuse r.RatesLength else reading_plan text x) (of.reading text) ∙ by (nat_lt 65536 (length text)) (document text)
-  where
-    formed : (o : Option RateTable) → reading_plan text (texts.sizes_of (ok_or o NoForm)) ≡ plan_of text (ok_or o fail.Form)
-    formed None = refl
-    formed (Some x) = refl
-
-    by : (long : Bool) (o : Option _) → (if long then refuse r.RatesLength else reading_plan text (texts.sizes_of (answer_of NoToml NoForm o)))
-        ≡ plan_of text (if long then Err (fail.Length (length text)) else answer_of fail.Toml fail.Form o)
-    by true o = refl
-    by false None = refl
-    by false (Some ms) = formed (reading.rates_in ms)
-
--- rates that a text is answered are those of the text
-are_rates : (text : List ℕ) (x : RateTable) → answer text ≡ Ok x → AreRatesOf text x
-are_rates text x is = by (nat_lt 65536 (length text)) (document text) is
-  where
-    formed : (o : Option RateTable) → ok_or o fail.Form ≡ Ok x → o ≡ Some x
-    formed None same = cc
-    formed (Some y) same = ap (λ z. Some z) (cc)
-
-    by : (long : Bool) (o : Option _) → (if long then Err (fail.Length (length text)) else answer_of fail.Toml fail.Form o) ≡ Ok x → option_and_then reading.rates_in o ≡ Some x
-    by true o same = cc
-    by false None same = cc
-    by false (Some ms) same = formed (reading.rates_in ms) same
 
 -- what holds of each such reply, with what it tells
 record Told (text : List ℕ) (reply : Reply) (tells : List Entry) : Type 0 where
@@ -163,10 +129,6 @@ told_fault text = record {
   unsent = refl;
   prints = record { whole = λ j is. cc; cut = λ j is. cc };
 }
-
-plan_rates : (τ : Tariff) (H : Ledger) (text : List ℕ) (today : ℤ) → day_in H ≡ Some today → plan τ todays_rules H ev.Rates text ≡ rates_plan τ text
-unfolding plan
-plan_rates τ H text today is = rw is refl
 
 -- == what it does to the bench ==
 

@@ -5,11 +5,12 @@ ghost use Rattle.node_turns.specs.NodeTurns.{NodeTurn};
 ghost use Rattle.bench_views.specs.Centre.{centre_kind, IsBytesCall, AreBytes};
 ghost use Rattle.bench.specs.Calls.{IsRangedCall, IsRanged, centre_event};
 
-use crate::centre_calls::{
-    BalanceCall, CentreCallee, DepositCall, FlagCall, OpenCall, RegisterCall, TakeCall, hands_bytes,
-};
 use bench_base::numbers::DayNo;
 use bench_base::words::Node as NodeNo;
+use bench_calls::{
+    BalanceCall, CentreCallee, DepositCall, FlagCall, OpenCall, RegisterCall, TakeRequestCall,
+    hands_bytes,
+};
 use bench_views::CentreCall;
 use centre_protocol::CentreNode;
 use node_acts::Asked;
@@ -80,7 +81,7 @@ fn centre_called<T: Tell, M: Fuse + Drop>(
             call_node(place, &callee, &call)
         }
         CentreCall::Take { bytes, message } => {
-            let call = TakeCall {
+            let call = TakeRequestCall {
                 bytes: bytes.as_slice(),
                 message: *message,
             };

@@ -1,39 +1,16 @@
 //! How a device and the centre compare. Sums are in mills.
 ghost use Rattle.std.specs.Prelude.{◌≡◌, length};
-ghost use Rattle.bench_views.specs.Comparing as compares;
 ghost use Rattle.bench.specs.Comparing.{Shows, ShowsAt};
 
 use bench_base::events::Reply;
 use bench_base::numbers::DevNo;
-use bench_base::refusals::DevRefusal;
 use bench_base::words::Node as NodeNo;
-use centre_ledger::{CentreAct, Standing, standing_act};
+use bench_calls::compared;
+use centre_ledger::standing_act;
 use centre_protocol::CentreNode;
-use node_acts::Act;
 use node_seat::Node;
 use nv_model::Fuse;
 use psd_device::DeviceNode;
-use psd_state::ReadyRecord;
-
-fn stood(device: DevNo, held: u64, act: CentreAct<Standing>) -> Reply
-    ensures { result ≡ compares.stood device held act }
-{
-    match act {
-        Act::Refuse(refusal) => Reply::CentreRefused(refusal),
-        Act::Tell(standing) | Act::Commits(_, _, standing) => {
-            Reply::Reconciled(device, held, standing.centre, standing.in_flight)
-        }
-    }
-}
-
-fn compared(device: DevNo, state: &Option<ReadyRecord>, act: CentreAct<Standing>) -> Reply
-    ensures { result ≡ compares.compared device state.now act }
-{
-    match state {
-        Some(kept) => stood(device, kept.record().held(), act),
-        None => Reply::DevRefused(device, DevRefusal::Blank),
-    }
-}
 
 // Of a device in its place. The device answers before the centre.
 fn compare_place<M: Fuse + Drop>(

@@ -6,12 +6,11 @@ ghost use Rattle.node_turns.specs.NodeTurns.{NodeTurn};
 ghost use Rattle.bench_views.specs.Devices.{device_kind};
 ghost use Rattle.bench.specs.Calls.{DeviceTurn, device_event};
 
-use crate::device_calls::{
-    AckCall, AskCall, DebitCall, DeviceCallee, MakeCall, ResendCall, StatusCall, TakeCall,
-    next_number, number_in,
-};
 use bench_base::numbers::{DayNo, DevNo};
 use bench_base::words::Node as NodeNo;
+use bench_calls::{
+    AckCall, AskCall, DebitCall, DeviceCallee, MakeCall, ResendCall, StatusCall, TakeReplyCall,
+};
 use bench_views::DeviceCall;
 use node_acts::Asked;
 use node_seat::Node;
@@ -31,17 +30,15 @@ fn device_called<T: Tell, M: Fuse + Drop>(
         × NodeTurn ⟦<DeviceNode<M> as Node>⟧ M.Nv M.Fuse.own device_kind (node.Device device) device day
         (device_event device (Asked.Call asked.now)) (Asked.Call asked.now) place.old place.new turn }
 {
-    let callee = DeviceCallee(device);
+    let callee = DeviceCallee { device, day };
     match asked {
-        DeviceCall::Make(key) => call_node(place, &callee, &MakeCall { device, key: *key }),
+        DeviceCall::Make(key) => call_node(place, &callee, &MakeCall { key: *key }),
         DeviceCall::Debit {
             piece,
             postage,
             class,
         } => {
             let call = DebitCall {
-                device,
-                day,
                 piece: *piece,
                 postage: *postage,
                 class: *class,
@@ -55,37 +52,20 @@ fn device_called<T: Tell, M: Fuse + Drop>(
             message,
         } => {
             let call = AskCall {
-                device,
-                day,
                 kind: *kind,
                 customer: *customer,
                 amount: *amount,
                 message: *message,
-                number: next_number(place.record()),
             };
             call_node(place, &callee, &call)
         }
         DeviceCall::Resend { message } => {
-            let call = ResendCall {
-                device,
-                message: *message,
-                number: next_number(place.record()),
-            };
-            call_node(place, &callee, &call)
+            call_node(place, &callee, &ResendCall { message: *message })
         }
-        DeviceCall::Ack { message } => {
-            let call = AckCall {
-                device,
-                message: *message,
-                number: number_in(place.record()),
-            };
-            call_node(place, &callee, &call)
-        }
-        DeviceCall::Status => call_node(place, &callee, &StatusCall { device, day }),
+        DeviceCall::Ack { message } => call_node(place, &callee, &AckCall { message: *message }),
+        DeviceCall::Status => call_node(place, &callee, &StatusCall),
         DeviceCall::Take { bytes, message } => {
-            let call = TakeCall {
-                device,
-                day,
+            let call = TakeReplyCall {
                 bytes: bytes.as_slice(),
                 message: *message,
             };

@@ -6,10 +6,10 @@ ghost use Rattle.node_turns.specs.Printing.{NodePrints, printer_of};
 ghost use Rattle.bench_views.specs.Host.{host_kind};
 ghost use Rattle.bench.specs.Calls.{IsRangedJob, IsRangedOfHost, host_event};
 
-use crate::host_calls::{CloseCall, HostCallee, OrderCall, PrintCall, SendCall, TakeCall};
 use bench_base::numbers::DayNo;
 use bench_base::stream::Sink;
 use bench_base::words::Node as NodeNo;
+use bench_calls::{CloseCall, HostCallee, OrderCall, PrintCall, SendCall, TakeReleaseCall};
 use bench_views::HostCall;
 use host_node::HostNode;
 use node_acts::Asked;
@@ -61,7 +61,7 @@ fn host_called<T: Tell, M: Fuse + Drop, P: Sink>(
         HostCall::Print(job) => call_printing(place, &callee, &PrintCall { job: *job }, printer),
         HostCall::Close(job) => call_printing(place, &callee, &CloseCall { job: *job }, printer),
         HostCall::Take(bytes) => {
-            let call = TakeCall {
+            let call = TakeReleaseCall {
                 bytes: bytes.as_slice(),
             };
             call_printing(place, &callee, &call, printer)

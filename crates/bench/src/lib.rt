@@ -2,18 +2,14 @@
 #![tactic(auto)]
 
 mod benches;
-mod centre_calls;
 mod centre_turns;
 mod comparing;
-mod device_calls;
 mod device_turns;
 mod event;
-mod host_calls;
 mod host_turns;
 mod places;
 mod rates;
 mod stores;
-mod verifier_calls;
 mod verifier_turns;
 
 pub use benches::{Bench, BenchOver, HasNodes, MOST_MESSAGES};

@@ -5,9 +5,9 @@ ghost use Rattle.node_turns.specs.NodeTurns.{NodeTurn};
 ghost use Rattle.bench_views.specs.Verifier.{verifier_kind, IsBytesCall, AreBytes};
 ghost use Rattle.bench.specs.Calls.{IsRangedScan, IsRangedOfVerifier, verifier_event};
 
-use crate::verifier_calls::{ScanCall, TrustCall, VerifierCallee, scans_bytes};
 use bench_base::numbers::DayNo;
 use bench_base::words::Node as NodeNo;
+use bench_calls::{ScanCall, TrustCall, VerifierCallee, scans_bytes};
 use bench_views::VerifierCall;
 use node_acts::Asked;
 use node_seat::Node;
@@ -29,7 +29,7 @@ fn verifier_called<T: Tell, M: Fuse + Drop>(
         (verifier_event (Asked.Call asked.now)) (Asked.Call asked.now) place.old place.new turn }
 {
     scans_bytes(asked);
-    let callee = VerifierCallee;
+    let callee = VerifierCallee { day };
     match asked {
         VerifierCall::Trust { device, key } => {
             let call = TrustCall {
@@ -40,7 +40,6 @@ fn verifier_called<T: Tell, M: Fuse + Drop>(
         }
         VerifierCall::Scan { number, bytes } => {
             let call = ScanCall {
-                day,
                 number: *number,
                 bytes: bytes.as_slice(),
             };

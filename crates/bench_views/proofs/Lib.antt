@@ -19,6 +19,7 @@ mod HostStays
 mod Origins
 pub mod Plans
 mod Quiet
+pub mod RatesPlans
 pub mod Steps
 pub mod Sent
 mod VerifierCalls

@@ -5,6 +5,7 @@ mod boot;
 mod calls;
 mod centre;
 mod kind;
+mod lending;
 mod node;
 mod room;
 mod rows;

@@ -6,6 +6,7 @@ mod boot;
 mod calls;
 mod host;
 mod kind;
+mod lending;
 mod node;
 mod room;
 

@@ -149,78 +149,89 @@ module _ {F A : Type 0} (refusal : F → Reply) (say : A → Said) where
   may_told {S} n v act (o.Power c) may = subst (λ (made : Option (Commit × S)). MayTear c made) (sym (made_says n v act)) may
   may_told {S} n v act (o.Fault c) may = subst (λ (made : Option (Commit × S)). MayTear c made) (sym (made_says n v act)) may
 
-  -- how it is told, by the act that the call does
-  pub told_said : {X : Type 0} (IsOf : Turn → Type 0) (m : Node) (act does : Act X F A) (x : Outcome F A) → act ≡ does → CameOf does x → IsOf (told_turn m (commit_in act) (as_told x))
-      → IsOf (call_turn m (as_said does) (as_told x))
-  told_said IsOf m act does x made came told =
-      told_is IsOf m (as_said does) (as_told x) (commit_in act) (came_told does x came) (sym (planned_says act) ∙ ap (λ a. planned_commit (as_said a)) made) told
-
--- what was done was done by a node that is on
-pub done_on : {F A : Type 0} (on : Bool) (y : Outcome F A) (a : A) → o.Done a ≡ (if on then y else o.Off) → on ≡ true
-done_on true y a is = refl
-done_on false y a is = cc
+  -- how it is told, by the act of the call, which is this one said
+  pub told_said : {X : Type 0} (IsOf : Turn → Type 0) (m : Node) (act : Act X F A) (by : Act X Reply Said) (x : Outcome F A) → by ≡ as_said act → CameOf act x
+      → IsOf (told_turn m (commit_in act) (as_told x)) → IsOf (call_turn m by (as_told x))
+  told_said {X} IsOf m act by x made came told =
+      told_is IsOf m by (as_told x) (commit_in act) (subst (λ (a : Act X Reply Said). CameOf a (as_told x)) (sym made) (came_told act x came)) (sym (planned_says act) ∙ ap planned_commit (sym made)) told
 
 -- == a call ==
 
-module _ {F A K S N C R : Type 0} (refusal : F → Reply) (n : Ghosts K S N C R) (g : nv.Ghosts S) (say : n.Seen → A → Said) (act : n.Seen → Act C F A) where
-  -- the act of a record, said
-  abbrev said : n.Seen → Act C Reply Said
-  said s = saying refusal (say s) (act s)
+module _ {F A K S N C R : Type 0} (refusal : F → Reply) (n : Ghosts K S N C R) (g : nv.Ghosts S) (say : A → Said) (act : Act C F A) where
+  -- the act, said
+  abbrev said : Act C Reply Said
+  said = saying refusal say act
 
-  fits_says : (d : N) (s : n.Seen) (f : A → Said) (a : Act C F A) → IsFitting n d s (saying refusal f a) → IsFitting n d s a
-  fits_says d s f (Refuse x) fits = tt
-  fits_says d s f (Tell a) fits = tt
-  fits_says d s f (Commits c x a) fits = fits
+  fits_says : (d : N) (s : n.Seen) (a : Act C F A) → IsFitting n d s (saying refusal say a) → IsFitting n d s a
+  fits_says d s (Refuse x) fits = tt
+  fits_says d s (Tell a) fits = tt
+  fits_says d s (Commits c x a) fits = fits
 
   -- what holds of the commit of an act holds of the commit of the act that is said
-  at_said : (P : Option (Commit × n.Seen) → Type 0) (v : View n.Seen) → P (commit_of n.counting v (act v.state)) → P (commit_of n.counting v (said v.state))
-  at_said P v p = subst P (sym (made_says refusal (say v.state) n.counting v (act v.state))) p
+  at_said : (P : Option (Commit × n.Seen) → Type 0) (v : View n.Seen) → P (commit_of n.counting v act) → P (commit_of n.counting v said)
+  at_said P v p = subst P (sym (made_says refusal say n.counting v act)) p
 
   module _ (s t : K) where
-    -- what the call came to, said by the record of the node
+    -- what the call came to, said
     abbrev told : Outcome F A → Outcome Reply Said
-    told x = said_outcome refusal (say (n.seen s)) x
+    told x = said_outcome refusal say x
 
-    comes_said : (d : N) (v : View n.Seen) → Stands n g d v s → g.tells → (x : Outcome F A) → MayCome n.counting v (act v.state) x → MayCome n.counting v (said v.state) (told x)
-    comes_said d v st tells (o.Done a) may =
-        subst (λ (seen : n.Seen). o.Done (say seen a) ≡ outcome_of n.counting v (said v.state)) (sym ((st.runs (done_on v.on (outcome_in n.counting v.state (act v.state)) a may)).seen tells))
-        (may_told refusal (say v.state) n.counting v (act v.state) (o.Done a) may)
-    comes_said d v st tells o.Off may = may_told refusal (say v.state) n.counting v (act v.state) o.Off may
-    comes_said d v st tells (o.Refused y) may = may_told refusal (say v.state) n.counting v (act v.state) (o.Refused y) may
-    comes_said d v st tells o.Worn may = may_told refusal (say v.state) n.counting v (act v.state) o.Worn may
-    comes_said d v st tells (o.Power c) may = may_told refusal (say v.state) n.counting v (act v.state) (o.Power c) may
-    comes_said d v st tells (o.Fault c) may = may_told refusal (say v.state) n.counting v (act v.state) (o.Fault c) may
-
-    says_call : (x : Outcome F A) → CallDoes n g act s t x → CallDoes n g said s t (told x)
+    says_call : (x : Outcome F A) → CallDoes n g (λ k. act) s t x → CallDoes n g (λ k. said) s t (told x)
     says_call x did = record {
-      off = off_told refusal (say (n.seen s)) x did.off;
-      leaves = did.leaves ∙ ap (λ (b : Bool). n.is_on s && not b) (sym (failed_told refusal (say (n.seen s)) x));
-      comes = λ d v st tells. comes_said d v st tells x (did.comes d v st tells);
+      off = off_told refusal say x did.off;
+      leaves = did.leaves ∙ ap (λ (b : Bool). n.is_on s && not b) (sym (failed_told refusal say x));
+      comes = λ d v st tells. may_told refusal say n.counting v act x (did.comes d v st tells);
       stands = λ d v st tells fit. at_said (λ made. Stands n g d (after_call (told x) made v) t) v
-          (subst (λ (w : View n.Seen). Stands n g d w t) (sym (after_told refusal (say (n.seen s)) x (commit_of n.counting v (act v.state)) v))
-          (did.stands d v st tells (fits_says d v.state (say v.state) (act v.state) fit)));
+          (subst (λ (w : View n.Seen). Stands n g d w t) (sym (after_told refusal say x (commit_of n.counting v act) v))
+          (did.stands d v st tells (fits_says d v.state act fit)));
       turn = λ d v st tells. at_said (λ made. stored.Turn (Allowed n v) (IsAfter n made) (times_of n g s) (times_of n g t) (end_of_call (told x) made)) v
-          (subst (λ (e : End). stored.Turn (Allowed n v) (IsAfter n (commit_of n.counting v (act v.state))) (times_of n g s) (times_of n g t) e)
-          (sym (end_call_told refusal (say (n.seen s)) x (commit_of n.counting v (act v.state)))) (did.turn d v st tells));
-      keeps = λ d v st tells fit. at_said (λ made. IfSome made (λ y. IsNext n d v.state y.1)) v (did.keeps d v st tells (fits_says d v.state (say v.state) (act v.state) fit));
-      came = came_told refusal (say (n.seen s)) (act (n.seen s)) x did.came;
-      refused = λ is. did.refused (sym (refusal_told refusal (say (n.seen s)) x) ∙ is);
-      tells_only = λ none. did.tells_only (λ some. none (some_says refusal (say (n.seen s)) (λ c. Unit {0}) (act (n.seen s)) some));
-      spent = subst (λ (calls : ℕ). Spent calls (meters_of n g s) (meters_of n g t) (end_of (told x))) (sym (cost_says refusal (say (n.seen s)) (act (n.seen s))))
-          (subst (λ (e : End). Spent (cost (act (n.seen s))) (meters_of n g s) (meters_of n g t) e) (sym (end_told refusal (say (n.seen s)) x)) did.spent);
+          (subst (λ (e : End). stored.Turn (Allowed n v) (IsAfter n (commit_of n.counting v act)) (times_of n g s) (times_of n g t) e)
+          (sym (end_call_told refusal say x (commit_of n.counting v act))) (did.turn d v st tells));
+      keeps = λ d v st tells fit. at_said (λ made. IfSome made (λ y. IsNext n d v.state y.1)) v (did.keeps d v st tells (fits_says d v.state act fit));
+      came = came_told refusal say act x did.came;
+      refused = λ is. did.refused (sym (refusal_told refusal say x) ∙ is);
+      tells_only = λ none. did.tells_only (λ some. none (some_says refusal say (λ c. Unit {0}) act some));
+      spent = subst (λ (calls : ℕ). Spent calls (meters_of n g s) (meters_of n g t) (end_of (told x))) (sym (cost_says refusal say act))
+          (subst (λ (e : End). Spent (cost act) (meters_of n g s) (meters_of n g t) e) (sym (end_told refusal say x)) did.spent);
     }
 
     -- the commit of an act that was made used what its storage says
-    wrote_uses : (made : Act C F A) (x : Outcome F A) → Wrote n g made s t x → UsesMade (saying refusal (say (n.seen s)) made) (told x) (meters_of n g s) (meters_of n g t)
+    wrote_uses : (made : Act C F A) (x : Outcome F A) → Wrote n g made s t x → UsesMade (saying refusal say made) (told x) (meters_of n g s) (meters_of n g t)
     wrote_uses (Refuse y) x wrote = tt
     wrote_uses (Tell a) x wrote = tt
-    wrote_uses (Commits c y a) x wrote = λ done. wrote.calls (sym (done_told refusal (say (n.seen s)) x) ∙ done)
+    wrote_uses (Commits c y a) x wrote = λ done. wrote.calls (sym (done_told refusal say x) ∙ done)
 
-    pub says_called : (x : Outcome F A) (made : Act C F A) → act (n.seen s) ≡ made → CallDoes n g act s t x → Wrote n g made s t x → Called n g said s t (told x)
-    says_called x made is did wrote = record {
-      does = says_call x did;
-      uses = wrote_uses (act (n.seen s)) x (subst (λ (a : Act C F A). Wrote n g a s t x) (sym is) wrote);
-    }
+-- == a call, by the act of the record ==
+
+module _ {K S N C R : Type 0} (n : Ghosts K S N C R) (g : nv.Ghosts S) (by : n.Seen → Act C Reply Said) (act : Act C Reply Said) (s t : K) (on : n.is_on s ≡ true) (is : by (n.seen s) ≡ act) where
+  -- a node that is on has the record of each view for which it stands
+  same_act : (d : N) (v : View n.Seen) → Stands n g d v s → g.tells → act ≡ by v.state
+  same_act d v st tells = sym is ∙ ap by ((st.runs (sym st.on ∙ on)).seen tells)
+
+  by_record : (x : Outcome Reply Said) → CallDoes n g (λ k. act) s t x → CallDoes n g by s t x
+  by_record x did = record {
+    off = did.off;
+    leaves = did.leaves;
+    comes = λ d v st tells. subst (λ (a : Act C Reply Said). MayCome n.counting v a x) (same_act d v st tells) (did.comes d v st tells);
+    stands = λ d v st tells fit. subst (λ (a : Act C Reply Said). Stands n g d (after_call x (commit_of n.counting v a) v) t) (same_act d v st tells)
+        (did.stands d v st tells (subst (λ (a : Act C Reply Said). IsFitting n d v.state a) (sym (same_act d v st tells)) fit));
+    turn = λ d v st tells. subst (λ (a : Act C Reply Said). stored.Turn (Allowed n v) (IsAfter n (commit_of n.counting v a)) (times_of n g s) (times_of n g t) (end_of_call x (commit_of n.counting v a)))
+        (same_act d v st tells) (did.turn d v st tells);
+    keeps = λ d v st tells fit. subst (λ (a : Act C Reply Said). IfSome (commit_of n.counting v a) (λ y. IsNext n d v.state y.1)) (same_act d v st tells)
+        (did.keeps d v st tells (subst (λ (a : Act C Reply Said). IsFitting n d v.state a) (sym (same_act d v st tells)) fit));
+    came = subst (λ (a : Act C Reply Said). CameOf a x) (sym is) did.came;
+    refused = did.refused;
+    tells_only = λ none. did.tells_only (λ some. none (subst (λ (a : Act C Reply Said). CommitsSome (λ c. Unit {0}) a) (sym is) some));
+    spent = subst (λ (a : Act C Reply Said). Spent (cost a) (meters_of n g s) (meters_of n g t) (end_of x)) (sym is) did.spent;
+  }
+
+-- what was performed of an act, by the record of the node: where its answers are said, this is the act of the record
+pub says_called : {F A K S N C R : Type 0} (refusal : F → Reply) (say : A → Said) (n : Ghosts K S N C R) (g : nv.Ghosts S) (by : n.Seen → Act C Reply Said) (s t : K) (on : n.is_on s ≡ true) (act : Act C F A)
+    → by (n.seen s) ≡ saying refusal say act → (x : Outcome F A) → CallDoes n g (λ k. act) s t x → Wrote n g act s t x → Called n g by s t (said_outcome refusal say x)
+says_called {C = C} refusal say n g by s t on act is x did wrote = record {
+  does = by_record n g by (saying refusal say act) s t on is (said_outcome refusal say x) (says_call refusal n g say act s t x did);
+  uses = subst (λ (a : Act C Reply Said). UsesMade a (said_outcome refusal say x) (meters_of n g s) (meters_of n g t)) (sym is) (wrote_uses refusal n g say act s t act x wrote);
+}
 
 -- a node that is off was not asked for a commit
 pub off_called : {K S N C R : Type 0} (n : Ghosts K S N C R) (g : nv.Ghosts S) (act : n.Seen → Act C Reply Said) (s : K) → CallDoes n g act s s o.Off → Called n g act s s o.Off

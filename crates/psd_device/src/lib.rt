@@ -5,6 +5,7 @@ mod boot;
 mod calls;
 mod device;
 mod kind;
+mod lending;
 mod node;
 
 pub use device::Device;

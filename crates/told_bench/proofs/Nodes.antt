@@ -52,22 +52,15 @@ use Rattle.told_scans.specs.Cells as verifier
 use Rattle.told_scans.specs.Verdicts as verifier_verdicts
 use Rattle.told_bench.specs.Judging.{IsHeard}
 use Rattle.told_bench.specs.Placed.{DeviceJudged}
+use Rattle.bench_views.proofs.RatesPlans.{taken_by}
 use Rattle.told_bench.specs.Plainly.{heard_of, heard_of_host}
 use Rattle.told_bench.specs.Seeing.{Audit, Sees, sending}
 use Rattle.told_bench.proofs.Lifting.{TakesNone, takes_none, nothing_taken, lift_told, lift_untold}
 use Rattle.told_bench.proofs.Seen.{sends_nothing, sees_device, sees_centre, sees_host, sees_verifier}
 
--- == prices ==
-
-priced : (τ : Tariff) → KeptPrices → IsOfTexts τ → (text : Option (List ℕ)) (kept : Option RateTable) → Keeps text kept → (class grams zone : ℕ) → quote kept class grams zone ≡ price_by τ class grams zone text
-priced τ prices texts None kept keeps class grams zone = prices None kept class grams zone keeps
-priced τ prices texts (Some text) kept keeps class grams zone = prices (Some text) kept class grams zone keeps ∙ ap (λ (p : Result ℕ RateRefusal). Some p) (sym (texts.price text class grams zone))
-
 -- what is taken by what the auditor has is taken by the ledger
 pub taken_there : (τ : Tariff) → KeptPrices → IsOfTexts τ → (H : Ledger) (a : Audit) (e : Event) (x : Taken) → Sees a H → taken a.messages (quote a.rates) e ≡ Some x → taken (sent_in H) (quote_in τ H) e ≡ Some x
-taken_there τ prices texts H a e x sees is =
-    let same : quote a.rates ≡ quote_in τ H = λ k class grams zone. priced τ prices texts (rates_in H) a.rates sees.day.rates class grams zone k in
-    subst (λ (q : Quote). taken (sent_in H) q e ≡ Some x) same (subst (λ (l : List (List ℕ)). taken l (quote a.rates) e ≡ Some x) sees.day.messages is)
+taken_there τ prices texts H a e x sees is = taken_by τ prices texts H a.messages a.rates e x sees.day.messages sees.day.rates is
 
 -- an event that is for a node reads no rates
 pub not_for_rates : (pool : List (List ℕ)) (q : Quote) (e : Event) (x : Taken) → taken pool q e ≡ Some x → x ≢ take.Rates → e ≢ ev.Rates

@@ -21,6 +21,7 @@ use Rattle.host_rates.specs.Answers.{answer, answer_of, AreRatesOf}
 use Rattle.ledger_moves.specs.Tariffs.{Tariff, NoToml, NoForm}
 use Rattle.ledger_moves.specs.Moves.{Moves, plan, rates_plan, reading_plan, answer as answer_in, entries}
 use Rattle.bench_views.specs.Tariff.{IsOfTexts}
+use Rattle.bench_views.proofs.RatesPlans.{plan_of, planned, are_rates, plan_rates}
 use Rattle.bench.specs.Outside.{rates_turn, rates_after}
 use Rattle.script_text.specs.Texts.{text_of}
 use Rattle.told_bench.specs.declared.judging.Finding.{Finding}
@@ -33,45 +34,6 @@ use Rattle.told_bench.proofs.Quiet.{IsSilent, never_fails}
 use Rattle.told_bench.proofs.Seen.{sends_nothing}
 
 -- == the plan of a text ==
-
--- what it is told as, as a plan
-abbrev plan_of : List ℕ → Result RateTable RatesFail → Plan
-plan_of text (Ok x) = told (r.Rates (length x.classes) x.zones) (entry.Rates text ∷ [])
-plan_of text (Err (fail.Length n)) = refuse r.RatesLength
-plan_of text (Err fail.Toml) = refuse r.RatesToml
-plan_of text (Err fail.Form) = refuse r.RatesForm
-plan_of text (Err (fail.Memory x)) = refuse r.RatesForm
-
--- it is the plan of the tariff of texts
-planned : (τ : Tariff) → IsOfTexts τ → (text : List ℕ) → rates_plan τ text ≡ plan_of text (answer text)
-planned τ of text = ap (λ x. if nat_lt 65536 (length text) then refuse r.RatesLength else reading_plan text x) (of.reading text) ∙ by (nat_lt 65536 (length text)) (document text)
-  where
-    formed : (o : Option RateTable) → reading_plan text (texts.sizes_of (ok_or o NoForm)) ≡ plan_of text (ok_or o fail.Form)
-    formed None = refl
-    formed (Some x) = refl
-
-    by : (long : Bool) (o : Option _) → (if long then refuse r.RatesLength else reading_plan text (texts.sizes_of (answer_of NoToml NoForm o)))
-        ≡ plan_of text (if long then Err (fail.Length (length text)) else answer_of fail.Toml fail.Form o)
-    by true o = refl
-    by false None = refl
-    by false (Some ms) = formed (reading.rates_in ms)
-
--- rates that a text is answered are those of the text
-are_rates : (text : List ℕ) (x : RateTable) → answer text ≡ Ok x → AreRatesOf text x
-are_rates text x is = by (nat_lt 65536 (length text)) (document text) is
-  where
-    formed : (o : Option RateTable) → ok_or o fail.Form ≡ Ok x → o ≡ Some x
-    formed None same = cc
-    formed (Some y) same = ap (λ z. Some z) (cc)
-
-    by : (long : Bool) (o : Option _) → (if long then Err (fail.Length (length text)) else answer_of fail.Toml fail.Form o) ≡ Ok x → option_and_then reading.rates_in o ≡ Some x
-    by true o same = cc
-    by false None same = cc
-    by false (Some ms) same = formed (reading.rates_in ms) same
-
-plan_rates : (τ : Tariff) (H : Ledger) (text : List ℕ) (today : ℤ) → day_in H ≡ Some today → plan τ todays_rules H ev.Rates text ≡ rates_plan τ text
-unfolding plan
-plan_rates τ H text today is = rw is refl
 
 silent : (text : List ℕ) (x : Result RateTable RatesFail) → IsSilent (plan_of text x)
 silent text (Ok x) = record { silent = refl; no_up = λ m k is. cc; no_print = λ j is. cc }

@@ -6,34 +6,13 @@ ghost use Rattle.told_centre.specs.Cells as seen_centre;
 
 use bench_base::events::Reply;
 use bench_base::numbers::DevNo;
-use bench_base::refusals::DevRefusal;
 use bench_base::words::Node;
-use centre_ledger::{CentreAct, Row, Standing, standing_act};
-use node_acts::Act;
-use psd_state::{DevRec, ReadyRecord};
+use bench_calls::compared;
+use centre_ledger::{Row, standing_act};
+use psd_state::DevRec;
 use told_centre::CentreRecord;
 use told_device::DeviceRecord;
 use told_nodes::Seat;
-
-fn stood(device: DevNo, held: u64, act: CentreAct<Standing>) -> Reply
-    ensures { result ≡ compares.stood device held act }
-{
-    match act {
-        Act::Refuse(refusal) => Reply::CentreRefused(refusal),
-        Act::Tell(standing) | Act::Commits(_, _, standing) => {
-            Reply::Reconciled(device, held, standing.centre, standing.in_flight)
-        }
-    }
-}
-
-fn compared(device: DevNo, state: &Option<ReadyRecord>, act: CentreAct<Standing>) -> Reply
-    ensures { result ≡ compares.compared device state.now act }
-{
-    match state {
-        Some(kept) => stood(device, kept.record().held(), act),
-        None => Reply::DevRefused(device, DevRefusal::Blank),
-    }
-}
 
 /// What the device holds beside what the centre says of it. The device answers before the centre.
 pub(crate) fn compare(

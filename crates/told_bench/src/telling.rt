@@ -18,6 +18,7 @@ use bench_base::words::Node;
 use bench_views::laws::nodes_follow;
 use bench_views::{CentreCall, DeviceCall};
 use node_acts::{Act, Said};
+use node_records::JobsOf;
 use psd_state::DevRec;
 use told_centre::{CentreRecord, centre_act};
 use told_device::{DeviceRecord, device_act, is_known};

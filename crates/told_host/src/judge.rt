@@ -14,6 +14,7 @@ use bench_views::HostCall;
 use bench_views::laws::host_follows;
 use host_jobs::{JobRow, acts_follow_the_commits};
 use node_acts::Asked;
+use node_records::JobsOf;
 use told_nodes::{Seat, Told, judge_cut, judge_off, judge_on, judge_printing, unprinted};
 
 // A record is one that storage can show.
@@ -45,7 +46,7 @@ fn judge_view(
         Asked::Off => unprinted(&judge_off(seat, &name, line)),
         Asked::Cut(_, _, _) => unprinted(&judge_cut(seat, &name, line)),
         Asked::Call(call) => {
-            let act = host_act(call, seat.record.jobs(), seat.record.kept());
+            let act = host_act(call, &seat.record);
             judge_printing(seat, &name, &act, line)
         }
     }

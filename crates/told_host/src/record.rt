@@ -9,6 +9,7 @@ ghost use Rattle.told_host.specs.Records.{AreJoined, IsFit};
 
 use bench_base::sizes::MOST_COMMITS;
 use host_jobs::{HOST_CELLS, JobRow, JobRows, Kept};
+use node_records::JobsOf;
 use std::alloc::{AllocError, Global};
 use told_nodes::Record;
 
@@ -90,18 +91,18 @@ impl HostRecord {
             total: 0,
         })
     }
+}
 
-    /// The jobs.
-    pub fn jobs(&self) -> &JobRows
-        ensures rows { result.now ≡ host.rows_in (cells_of self.now) }
-    {
+impl JobsOf for HostRecord {
+    ghost use Rattle.told_host.specs.Cells.{cells_of};
+
+    ghost jobs = { λ r. host.rows_in (cells_of r) };
+
+    fn jobs(&self) -> &JobRows {
         &self.jobs
     }
 
-    /// What is kept of them.
-    pub fn kept(&self) -> &Kept
-        ensures { IsKept (host.rows_in (cells_of self.now)) result.now }
-    {
+    fn kept(&self) -> &Kept {
         &self.kept
     }
 }

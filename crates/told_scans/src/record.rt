@@ -3,7 +3,6 @@ ghost use Rattle.std.specs.Prelude.{◌≡◌, [], false, IfOk};
 ghost use Rattle.std.specs.Option.{option_copied};
 ghost use Rattle.node_acts.specs.RowList.{commits_at, is_worn, row_at};
 ghost use Rattle.verifier.specs.ActLaws.{IsFit};
-ghost use Rattle.verifier.specs.Acts as act_of;
 ghost use Rattle.verifier.specs.Records.{seen_after};
 ghost use Rattle.verifier.specs.Seen as seen;
 ghost use Rattle.verifier_node.specs.Indexes.{CanIndex, Indexes};
@@ -19,6 +18,7 @@ use bench_base::words::Key;
 use hmac_core::ReadyKey;
 use indicium::read_indicium;
 use node_acts::Act;
+use node_records::RowsOf;
 use std::alloc::{AllocError, Global};
 use told_nodes::Record;
 use verifier::{Accepted, BlockIndex, Change, ScanAct, Spot, scan_act, trust_act};
@@ -155,19 +155,19 @@ impl ScanRecord {
             },
         }
     }
+}
 
-    /// What trusting marks of the device under the key does.
-    pub(crate) fn trust(&self, device: DevNo, key: &Key) -> ScanAct<()>
-        ensures { result ≡ act_of.trust_act device key.now (cells_of self.now) }
-    {
+impl RowsOf for ScanRecord {
+    ghost use Rattle.told_scans.specs.Cells.{cells_of};
+
+    ghost rows = { λ r. cells_of r };
+
+    fn trusting(&self, device: DevNo, key: &Key) -> ScanAct<()> {
         let known = self.key(device.get()).is_some();
         trust_act(device, key, known)
     }
 
-    /// What scanning bytes under this number does.
-    pub(crate) fn scan(&self, number: u32, bytes: &[u8], today: DayNo) -> ScanAct<Accepted>
-        ensures { result ≡ act_of.scan_act number bytes.now today (cells_of self.now) }
-    {
+    fn scanning(&self, number: u32, bytes: &[u8], today: DayNo) -> ScanAct<Accepted> {
         match read_indicium(bytes) {
             Err(fault) => Act::Refuse(ScanRefusal::Unread(fault)),
             Ok((mark, _)) => {

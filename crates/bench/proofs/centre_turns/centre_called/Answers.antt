@@ -13,15 +13,13 @@ use Rattle.node_turns.specs.NodeTurns.{NodeTurn}
 use Rattle.node_turns.specs.Turns.{call_turn}
 use Rattle.node_turns.proofs.Calls.{turn_call}
 use Rattle.centre_ledger.specs.declared.rows.Row.{Row}
-use Rattle.centre_ledger.specs.Acts.{CentreAct, register_act, open_act, deposit_act, flag_act, balance_act, take_act}
-use Rattle.centre_ledger.specs.declared.taking.CentreAnswer.{CentreAnswer}
 use Rattle.centre_ledger.specs.Seen.{books_in}
 use Rattle.centre_protocol.specs.declared.node.CentreNode.{CentreNode}
 use Rattle.centre_protocol.specs.declared.room.CentreRoom.{CentreRoom}
 use Rattle.centre_protocol.specs.contracts.kind.CentreNodeNode.TheImpl.{ghosts}
 use Rattle.bench_views.specs.declared.taken.CentreCall.{CentreCall}
 use Rattle.bench_views.specs.declared.taken.CentreCall.TheVariants.{Register, Open, Deposit, Flag, Balance, Take}
-use Rattle.bench_views.specs.Centre.{centre_kind, centre_act, done, deposited, left, took, says, IsBytesCall}
+use Rattle.bench_views.specs.Centre.{centre_kind, centre_act, IsBytesCall}
 use Rattle.bench.specs.Calls.{centre_event, IsRangedCall}
 use Rattle.bench.proofs.CentreActs as acts
 use Rattle.bench.proofs.centre_turns.centre_called.Given.{Over}
@@ -41,68 +39,70 @@ by_call g today call ranged bytes s t x did =
 abbrev Told : (g : Over) (result : g.row.T.Denot) (today : ℤ) (asked : CentreCall) (s t : CentreNode g.row.M.Denot g.M.Nv) → Type 0
 Told g result today asked s t = (turn : Turn) × g.T.Tell.IsOf result turn × NodeTurn (node_of g) g.M.Nv g.M.Fuse centre_kind Centre tt today (centre_event (Call asked)) (Call asked) s t turn
 
--- the call is the one that was asked, and its act the one that is said
-told_by : (g : Over) (result : g.row.T.Denot) (today : ℤ) (asked call : CentreCall) → asked ≡ call → IsRangedCall asked → IsBytesCall asked → (s t : CentreNode g.row.M.Denot g.M.Nv) (x : Outcome Reply Said)
-    → Called (node_of g) g.M.Nv (λ k. centre_act call (books_in k)) s t x → (act : Act Row Reply Said) → act ≡ centre_act call (books_in ((node_of g).seen s))
-    → g.T.Tell.IsOf result (call_turn Centre act x) → Told g result today asked s t
-told_by g result today asked call is ranged bytes s t x did act said told =
-    subst (λ (c : CentreCall). Told g result today c s t) (sym is) (
-      call_turn Centre (centre_act call (books_in ((node_of g).seen s))) x,
-      subst (λ (a : Act Row Reply Said). g.T.Tell.IsOf result (call_turn Centre a x)) said told,
-      by_call g today call (subst IsRangedCall is ranged) (subst IsBytesCall is bytes) s t x did,
-    )
+-- the call is the one that was asked
+told_by : (g : Over) (result : g.row.T.Denot) (today : ℤ) (asked call : CentreCall) → asked ≡ call → IsRangedCall asked → IsBytesCall asked → (s t : CentreNode g.row.M.Denot g.M.Nv)
+    → ((x : Outcome Reply Said) × Called (node_of g) g.M.Nv (λ k. centre_act call (books_in k)) s t x × g.T.Tell.IsOf result (call_turn Centre (centre_act call (books_in ((node_of g).seen s))) x))
+    → Told g result today asked s t
+told_by g result today asked call is ranged bytes s t did =
+    subst (λ (c : CentreCall). Told g result today c s t) (sym is)
+    (call_turn Centre (centre_act call (books_in ((node_of g).seen s))) did.0, did.2, by_call g today call (subst IsRangedCall is ranged) (subst IsBytesCall is bytes) s t did.0 did.1)
 
 pub returns-in-Register : goal.returns-in-Register
 returns-in-Register g c =
     let b = c.in-Register in
-    let did = c.call_node.ensures.did (λ k. register_act b.device b.origin b.key (books_in k)) (λ k. done (r.Registered b.device)) refl refl in
+    let s = c.args.place.now in
     record {
       bytes = c.hands_bytes.ensures;
-      did = told_by g c.call_node.result c.args.day c.args.asked.now (Register b.device b.origin b.key) b.is c.requires.ranged c.hands_bytes.ensures c.args.place.now c.call_node.new.place did.0 did.1 _ refl did.2;
+      did = told_by g c.call_node.result c.args.day c.args.asked.now (Register b.device b.origin b.key) b.is c.requires.ranged c.hands_bytes.ensures s c.call_node.new.place
+          (c.call_node.ensures.did (λ k. centre_act (Register b.device b.origin b.key) (books_in k)) refl);
     }
 
 pub returns-in-Open : goal.returns-in-Open
 returns-in-Open g c =
     let b = c.in-Open in
-    let did = c.call_node-in-Open.ensures.did (λ k. open_act b.customer (books_in k)) (λ k. done (r.Opened b.customer)) refl refl in
+    let s = c.args.place.now in
     record {
       bytes = c.hands_bytes.ensures;
-      did = told_by g c.call_node-in-Open.result c.args.day c.args.asked.now (Open b.customer) b.is c.requires.ranged c.hands_bytes.ensures c.args.place.now c.call_node-in-Open.new.place did.0 did.1 _ refl did.2;
+      did = told_by g c.call_node-in-Open.result c.args.day c.args.asked.now (Open b.customer) b.is c.requires.ranged c.hands_bytes.ensures s c.call_node-in-Open.new.place
+          (c.call_node-in-Open.ensures.did (λ k. centre_act (Open b.customer) (books_in k)) refl);
     }
 
 pub returns-in-Deposit : goal.returns-in-Deposit
 returns-in-Deposit g c =
     let b = c.in-Deposit in
-    let did = c.call_node-in-Deposit.ensures.did (λ k. deposit_act b.customer b.receipt b.amount (books_in k)) (λ k. deposited b.customer b.receipt) refl refl in
+    let s = c.args.place.now in
     record {
       bytes = c.hands_bytes.ensures;
-      did = told_by g c.call_node-in-Deposit.result c.args.day c.args.asked.now (Deposit b.customer b.receipt b.amount) b.is c.requires.ranged c.hands_bytes.ensures c.args.place.now c.call_node-in-Deposit.new.place did.0 did.1 _ refl did.2;
+      did = told_by g c.call_node-in-Deposit.result c.args.day c.args.asked.now (Deposit b.customer b.receipt b.amount) b.is c.requires.ranged c.hands_bytes.ensures s c.call_node-in-Deposit.new.place
+          (c.call_node-in-Deposit.ensures.did (λ k. centre_act (Deposit b.customer b.receipt b.amount) (books_in k)) refl);
     }
 
 pub returns-in-Flag : goal.returns-in-Flag
 returns-in-Flag g c =
     let b = c.in-Flag in
-    let did = c.call_node-in-Flag.ensures.did (λ k. flag_act b.customer b.suspended (books_in k)) (λ k. done (r.Flagged b.customer b.suspended)) refl refl in
+    let s = c.args.place.now in
     record {
       bytes = c.hands_bytes.ensures;
-      did = told_by g c.call_node-in-Flag.result c.args.day c.args.asked.now (Flag b.customer b.suspended) b.is c.requires.ranged c.hands_bytes.ensures c.args.place.now c.call_node-in-Flag.new.place did.0 did.1 _ refl did.2;
+      did = told_by g c.call_node-in-Flag.result c.args.day c.args.asked.now (Flag b.customer b.suspended) b.is c.requires.ranged c.hands_bytes.ensures s c.call_node-in-Flag.new.place
+          (c.call_node-in-Flag.ensures.did (λ k. centre_act (Flag b.customer b.suspended) (books_in k)) refl);
     }
 
 pub returns-in-Balance : goal.returns-in-Balance
 returns-in-Balance g c =
     let b = c.in-Balance in
-    let did = c.call_node-in-Balance.ensures.did (λ k. balance_act b.customer (books_in k)) (λ k. left b.customer) refl refl in
+    let s = c.args.place.now in
     record {
       bytes = c.hands_bytes.ensures;
-      did = told_by g c.call_node-in-Balance.result c.args.day c.args.asked.now (Balance b.customer) b.is c.requires.ranged c.hands_bytes.ensures c.args.place.now c.call_node-in-Balance.new.place did.0 did.1 _ refl did.2;
+      did = told_by g c.call_node-in-Balance.result c.args.day c.args.asked.now (Balance b.customer) b.is c.requires.ranged c.hands_bytes.ensures s c.call_node-in-Balance.new.place
+          (c.call_node-in-Balance.ensures.did (λ k. centre_act (Balance b.customer) (books_in k)) refl);
     }
 
 pub returns-in-Take : goal.returns-in-Take
 returns-in-Take g c =
     let b = c.in-Take in
-    let act : List ℕ → CentreAct CentreAnswer = λ bytes. take_act bytes (books_in ((node_of g).seen c.args.place.now)) in
-    let did = c.call_node-in-Take.ensures.did (λ k. take_act b.bytes (books_in k)) (λ k. took b.message) (ap act (sym c.as_slice.ensures)) refl in
+    let s = c.args.place.now in
     record {
       bytes = c.hands_bytes.ensures;
-      did = told_by g c.call_node-in-Take.result c.args.day c.args.asked.now (Take b.bytes b.message) b.is c.requires.ranged c.hands_bytes.ensures c.args.place.now c.call_node-in-Take.new.place did.0 did.1 _ (ap (λ bytes. says (took b.message) (act bytes)) c.as_slice.ensures) did.2;
+      did = told_by g c.call_node-in-Take.result c.args.day c.args.asked.now (Take b.bytes b.message) b.is c.requires.ranged c.hands_bytes.ensures s c.call_node-in-Take.new.place
+          (c.call_node-in-Take.ensures.did (λ k. centre_act (Take b.bytes b.message) (books_in k)) (ap (λ bytes. centre_act (Take bytes b.message) (books_in ((node_of g).seen s))) (sym c.as_slice.ensures)));
     }

@@ -20,13 +20,11 @@ use Rattle.psd_device.specs.Boots.{IsOwn}
 use Rattle.psd_device.specs.declared.node.DeviceNode.{DeviceNode}
 use Rattle.psd_device.specs.contracts.kind.DeviceNodeNode.TheImpl.{ghosts}
 use Rattle.bench_base.specs.Rules.{todays_rules}
-use Rattle.ledger_moves.specs.Moves.{debit_by}
-use Rattle.node_acts.specs.Said.{sends}
-use Rattle.psd_state.specs.declared.acts.Taken.{Taken}
-use Rattle.psd_state.specs.Acts.{DeviceAct, make_act, debit_act, ask_act, resend_act, ack_act, status_act, take_act}
+use Rattle.psd_state.specs.Acts.{DeviceAct, ask_act, resend_act, ack_act, take_act}
 use Rattle.bench_views.specs.declared.taken.DeviceCall.{DeviceCall}
 use Rattle.bench_views.specs.declared.taken.DeviceCall.TheVariants.{Make, Debit, Ask, Resend, Ack, Status, Take}
-use Rattle.bench_views.specs.Devices.{device_kind, device_act, made, marked, asked, sent, shown, took, says, number_in, next_number}
+use Rattle.bench_views.specs.Devices.{device_kind, device_act, number_in, next_number}
+use Rattle.bench_calls.proofs.Sends.{says_numbered}
 use Rattle.bench.specs.Calls.{device_event}
 use Rattle.bench.proofs.DeviceActs as acts
 use Rattle.bench.proofs.device_turns.device_called.Given.{Over}
@@ -50,76 +48,58 @@ by_call g d today call s t x did =
 abbrev Told : (g : Over) (result : g.row.T.Denot) (d : ℕ) (today : ℤ) (asked : DeviceCall) (s t : DeviceNode g.row.M.Denot g.M.Nv) → Type 0
 Told g result d today asked s t = (turn : Turn) × g.T.Tell.IsOf result turn × NodeTurn (node_of g) g.M.Nv g.M.Fuse device_kind (Device d) d today (device_event d (Call asked)) (Call asked) s t turn
 
--- the call is the one that was asked, and its act the one that is said
-told_by : (g : Over) (result : g.row.T.Denot) (d : ℕ) (today : ℤ) (asked call : DeviceCall) → asked ≡ call → (s t : DeviceNode g.row.M.Denot g.M.Nv) (x : Outcome Reply Said)
-    → Called (node_of g) g.M.Nv (λ k. device_act d today call k.state) s t x → (act : Act State Reply Said) → act ≡ device_act d today call s.state
-    → g.T.Tell.IsOf result (call_turn (Device d) act x) → Told g result d today asked s t
-told_by g result d today asked call is s t x did act said told =
-    subst (λ (c : DeviceCall). Told g result d today c s t) (sym is)
-    (call_turn (Device d) (device_act d today call s.state) x, subst (λ (a : Act State Reply Said). g.T.Tell.IsOf result (call_turn (Device d) a x)) said told, by_call g d today call s t x did)
+-- the call is the one that was asked
+told_by : (g : Over) (result : g.row.T.Denot) (d : ℕ) (today : ℤ) (asked call : DeviceCall) → asked ≡ call → (s t : DeviceNode g.row.M.Denot g.M.Nv)
+    → ((x : Outcome Reply Said) × Called (node_of g) g.M.Nv (λ k. device_act d today call k.state) s t x × g.T.Tell.IsOf result (call_turn (Device d) (device_act d today call s.state) x))
+    → Told g result d today asked s t
+told_by g result d today asked call is s t did =
+    subst (λ (c : DeviceCall). Told g result d today c s t) (sym is) (call_turn (Device d) (device_act d today call s.state) did.0, did.2, by_call g d today call s t did.0 did.1)
 
 pub returns-in-Make : goal.returns-in-Make
 returns-in-Make g c =
     let d = c.args.device in
-    let key = c.in-Make.key in
-    let did = c.call_node.ensures.did (λ k. make_act d key k.state) (λ k u. made d) refl refl in
-    record { did = told_by g c.call_node.result d c.args.day c.args.asked.now (Make key) c.in-Make.is c.args.place.now c.call_node.new.place did.0 did.1 _ refl did.2 }
+    let s = c.args.place.now in
+    let b = c.in-Make in
+    record { did = told_by g c.call_node.result d c.args.day c.args.asked.now (Make b.key) b.is s c.call_node.new.place (c.call_node.ensures.did (λ k. device_act d c.args.day (Make b.key) k.state) refl) }
 
 pub returns-in-Debit : goal.returns-in-Debit
 returns-in-Debit g c =
     let d = c.args.device in
+    let s = c.args.place.now in
     let b = c.in-Debit in
-    let did = c.call_node-in-Debit.ensures.did (λ k. debit_act todays_rules d (debit_by d b.piece b.postage b.class) c.args.day k.state) (λ k. marked d b.piece) refl refl in
-    record { did = told_by g c.call_node-in-Debit.result d c.args.day c.args.asked.now (Debit b.piece b.postage b.class) b.is c.args.place.now c.call_node-in-Debit.new.place did.0 did.1 _ refl did.2 }
+    record { did = told_by g c.call_node-in-Debit.result d c.args.day c.args.asked.now (Debit b.piece b.postage b.class) b.is s c.call_node-in-Debit.new.place (c.call_node-in-Debit.ensures.did (λ k. device_act d c.args.day (Debit b.piece b.postage b.class) k.state) refl) }
 
 pub returns-in-Ask : goal.returns-in-Ask
 returns-in-Ask g c =
     let d = c.args.device in
+    let s = c.args.place.now in
     let b = c.in-Ask in
-    let act = ask_act todays_rules d b.kind b.customer b.amount c.args.day c.args.place.now.state in
-    let number : c.next_number.result ≡ next_number c.args.place.now.state = c.next_number.ensures ∙ ap next_number c.record.ensures in
-    let did = c.call_node-in-Ask.ensures.did (λ k. ask_act todays_rules d b.kind b.customer b.amount c.args.day k.state) (λ k. asked d b.message k.state) refl
-    (sym (ap (λ i note. sends (r.SentRequest d i b.message) note) number)) in
-    record {
-      did = told_by g c.call_node-in-Ask.result d c.args.day c.args.asked.now (Ask b.kind b.customer b.amount b.message) b.is c.args.place.now c.call_node-in-Ask.new.place did.0 did.1 _
-          (ap (λ i. says d (λ note. sends (r.SentRequest d i b.message) note) act) number) did.2;
-    }
+    record { did = told_by g c.call_node-in-Ask.result d c.args.day c.args.asked.now (Ask b.kind b.customer b.amount b.message) b.is s c.call_node-in-Ask.new.place (c.call_node-in-Ask.ensures.did (λ k. device_act d c.args.day (Ask b.kind b.customer b.amount b.message) k.state) (says_numbered (r.DevRefused d) (λ i. r.SentRequest d i b.message) (next_number s.state) (ask_act todays_rules d b.kind b.customer b.amount c.args.day s.state))) }
 
 pub returns-in-Resend : goal.returns-in-Resend
 returns-in-Resend g c =
     let d = c.args.device in
+    let s = c.args.place.now in
     let b = c.in-Resend in
-    let number : c.next_number-in-Resend.result ≡ next_number c.args.place.now.state = c.next_number-in-Resend.ensures ∙ ap next_number c.record-in-Resend.ensures in
-    let did = c.call_node-in-Resend.ensures.did (λ k. resend_act k.state) (λ k. asked d b.message k.state) refl (sym (ap (λ i note. sends (r.SentRequest d i b.message) note) number)) in
-    record {
-      did = told_by g c.call_node-in-Resend.result d c.args.day c.args.asked.now (Resend b.message) b.is c.args.place.now c.call_node-in-Resend.new.place did.0 did.1 _
-          (ap (λ i. says d (λ note. sends (r.SentRequest d i b.message) note) (resend_act c.args.place.now.state)) number) did.2;
-    }
+    record { did = told_by g c.call_node-in-Resend.result d c.args.day c.args.asked.now (Resend b.message) b.is s c.call_node-in-Resend.new.place (c.call_node-in-Resend.ensures.did (λ k. device_act d c.args.day (Resend b.message) k.state) (says_numbered (r.DevRefused d) (λ i. r.SentRequest d i b.message) (next_number s.state) (resend_act s.state))) }
 
 pub returns-in-Ack : goal.returns-in-Ack
 returns-in-Ack g c =
     let d = c.args.device in
+    let s = c.args.place.now in
     let b = c.in-Ack in
-    let number : c.number_in.result ≡ number_in c.args.place.now.state = c.number_in.ensures ∙ ap number_in c.record-in-Ack.ensures in
-    let did = c.call_node-in-Ack.ensures.did (λ k. ack_act k.state) (λ k. sent (r.SentDone d (number_in k.state) b.message)) refl (sym (ap (λ i note. sends (r.SentDone d i b.message) note) number)) in
-    record {
-      did = told_by g c.call_node-in-Ack.result d c.args.day c.args.asked.now (Ack b.message) b.is c.args.place.now c.call_node-in-Ack.new.place did.0 did.1 _
-          (ap (λ i. says d (λ note. sends (r.SentDone d i b.message) note) (ack_act c.args.place.now.state)) number) did.2;
-    }
+    record { did = told_by g c.call_node-in-Ack.result d c.args.day c.args.asked.now (Ack b.message) b.is s c.call_node-in-Ack.new.place (c.call_node-in-Ack.ensures.did (λ k. device_act d c.args.day (Ack b.message) k.state) (says_numbered (r.DevRefused d) (λ i. r.SentDone d i b.message) (number_in s.state) (ack_act s.state))) }
 
 pub returns-in-Status : goal.returns-in-Status
 returns-in-Status g c =
     let d = c.args.device in
-    let did = c.call_node-in-Status.ensures.did (λ k. status_act c.args.day k.state) (λ k. shown d) refl refl in
-    record { did = told_by g c.call_node-in-Status.result d c.args.day c.args.asked.now Status c.in-Status.is c.args.place.now c.call_node-in-Status.new.place did.0 did.1 _ refl did.2 }
+    let s = c.args.place.now in
+    let b = c.in-Status in
+    record { did = told_by g c.call_node-in-Status.result d c.args.day c.args.asked.now (Status) b.is s c.call_node-in-Status.new.place (c.call_node-in-Status.ensures.did (λ k. device_act d c.args.day (Status) k.state) refl) }
 
 pub returns-in-Take : goal.returns-in-Take
 returns-in-Take g c =
     let d = c.args.device in
+    let s = c.args.place.now in
     let b = c.in-Take in
-    let act : List ℕ → DeviceAct Taken = λ bytes. take_act todays_rules d bytes c.args.day c.args.place.now.state in
-    let did = c.call_node-in-Take.ensures.did (λ k. take_act todays_rules d b.bytes c.args.day k.state) (λ k. took d b.message) (ap act (sym c.as_slice.ensures)) refl in
-    record {
-      did = told_by g c.call_node-in-Take.result d c.args.day c.args.asked.now (Take b.bytes b.message) b.is c.args.place.now c.call_node-in-Take.new.place did.0 did.1 _
-          (ap (λ bytes. says d (took d b.message) (act bytes)) c.as_slice.ensures) did.2;
-    }
+    record { did = told_by g c.call_node-in-Take.result d c.args.day c.args.asked.now (Take b.bytes b.message) b.is s c.call_node-in-Take.new.place (c.call_node-in-Take.ensures.did (λ k. device_act d c.args.day (Take b.bytes b.message) k.state) (ap (λ bytes. device_act d c.args.day (Take bytes b.message) s.state) (sym c.as_slice.ensures))) }

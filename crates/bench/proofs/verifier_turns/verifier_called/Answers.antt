@@ -12,15 +12,13 @@ use Rattle.node_turns.specs.declared.turn.Turn.{Turn}
 use Rattle.node_turns.specs.NodeTurns.{NodeTurn}
 use Rattle.node_turns.specs.Turns.{call_turn}
 use Rattle.node_turns.proofs.Calls.{turn_call}
-use Rattle.verifier.specs.declared.acts.Accepted.{Accepted}
 use Rattle.verifier.specs.declared.acts.Change.{Change}
-use Rattle.verifier.specs.Acts.{ScanAct, trust_act, scan_act}
 use Rattle.verifier_node.specs.declared.node.VerifierNode.{VerifierNode}
 use Rattle.verifier_node.specs.declared.room.VerifierRoom.{VerifierRoom}
 use Rattle.verifier_node.specs.contracts.kind.VerifierNodeNode.TheImpl.{ghosts}
 use Rattle.bench_views.specs.declared.taken.VerifierCall.{VerifierCall}
 use Rattle.bench_views.specs.declared.taken.VerifierCall.TheVariants.{Trust, Scan}
-use Rattle.bench_views.specs.Verifier.{verifier_kind, verifier_act, done, accepted, says, IsBytesCall}
+use Rattle.bench_views.specs.Verifier.{verifier_kind, verifier_act, IsBytesCall}
 use Rattle.bench.specs.Calls.{verifier_event, IsRangedScan}
 use Rattle.bench.proofs.VerifierActs as acts
 use Rattle.bench.proofs.verifier_turns.verifier_called.Given.{Over}
@@ -41,28 +39,27 @@ by_call g today call ranged bytes s t x did =
 abbrev Told : (g : Over) (result : g.row.T.Denot) (today : ℤ) (asked : VerifierCall) (s t : VerifierNode g.row.M.Denot g.M.Nv) → Type 0
 Told g result today asked s t = (turn : Turn) × g.T.Tell.IsOf result turn × NodeTurn (node_of g) g.M.Nv g.M.Fuse verifier_kind Verifier tt today (verifier_event (Call asked)) (Call asked) s t turn
 
--- the call is the one that was asked, and its act the one that is said
-told_by : (g : Over) (result : g.row.T.Denot) (today : ℤ) (asked call : VerifierCall) → asked ≡ call → IsRangedScan asked → IsBytesCall asked → (s t : VerifierNode g.row.M.Denot g.M.Nv) (x : Outcome Reply Said)
-    → Called (node_of g) g.M.Nv (λ k. verifier_act today call k) s t x → (act : Act Change Reply Said) → act ≡ verifier_act today call ((node_of g).seen s)
-    → g.T.Tell.IsOf result (call_turn Verifier act x) → Told g result today asked s t
-told_by g result today asked call is ranged bytes s t x did act said told =
+-- the call is the one that was asked
+told_by : (g : Over) (result : g.row.T.Denot) (today : ℤ) (asked call : VerifierCall) → asked ≡ call → IsRangedScan asked → IsBytesCall asked → (s t : VerifierNode g.row.M.Denot g.M.Nv)
+    → ((x : Outcome Reply Said) × Called (node_of g) g.M.Nv (λ k. verifier_act today call k) s t x × g.T.Tell.IsOf result (call_turn Verifier (verifier_act today call ((node_of g).seen s)) x))
+    → Told g result today asked s t
+told_by g result today asked call is ranged bytes s t did =
     subst (λ (c : VerifierCall). Told g result today c s t) (sym is) (
-      call_turn Verifier (verifier_act today call ((node_of g).seen s)) x,
-      subst (λ (a : Act Change Reply Said). g.T.Tell.IsOf result (call_turn Verifier a x)) said told,
-      by_call g today call (subst (λ (c : VerifierCall). IsRangedScan c) is ranged) (subst (λ (c : VerifierCall). IsBytesCall c) is bytes) s t x did,
+      call_turn Verifier (verifier_act today call ((node_of g).seen s)) did.0,
+      did.2,
+      by_call g today call (subst (λ (c : VerifierCall). IsRangedScan c) is ranged) (subst (λ (c : VerifierCall). IsBytesCall c) is bytes) s t did.0 did.1,
     )
 
 pub returns-in-Trust-clause-did : goal.returns-in-Trust-clause-did
 returns-in-Trust-clause-did g c =
     let b = c.in-Trust in
-    let did = c.call_node.ensures.did (λ k. trust_act b.device b.key k) (λ k. done (r.Trusted b.device)) refl refl in
-    told_by g c.call_node.result c.args.day c.args.asked.now (Trust b.device b.key) b.is c.requires.ranged c.scans_bytes.ensures c.args.place.now c.call_node.new.place did.0 did.1 _ refl did.2
+    let s = c.args.place.now in
+    told_by g c.call_node.result c.args.day c.args.asked.now (Trust b.device b.key) b.is c.requires.ranged c.scans_bytes.ensures s c.call_node.new.place
+    (c.call_node.ensures.did (λ k. verifier_act c.args.day (Trust b.device b.key) k) refl)
 
 pub returns-in-Scan-clause-did : goal.returns-in-Scan-clause-did
 returns-in-Scan-clause-did g c =
     let b = c.in-Scan in
-    let s = (node_of g).seen c.args.place.now in
-    let act : List ℕ → ScanAct Accepted = λ bytes. scan_act b.number bytes c.args.day s in
-    let did = c.call_node-in-Scan.ensures.did (λ k. scan_act b.number b.bytes c.args.day k) (λ k. accepted b.number) (ap act (sym c.as_slice.ensures)) refl in
-    told_by g c.call_node-in-Scan.result c.args.day c.args.asked.now (Scan b.number b.bytes) b.is c.requires.ranged c.scans_bytes.ensures c.args.place.now c.call_node-in-Scan.new.place did.0 did.1 _
-    (ap (λ bytes. says (accepted b.number) (act bytes)) c.as_slice.ensures) did.2
+    let s = c.args.place.now in
+    told_by g c.call_node-in-Scan.result c.args.day c.args.asked.now (Scan b.number b.bytes) b.is c.requires.ranged c.scans_bytes.ensures s c.call_node-in-Scan.new.place
+    (c.call_node-in-Scan.ensures.did (λ k. verifier_act c.args.day (Scan b.number b.bytes) k) (ap (λ bytes. verifier_act c.args.day (Scan b.number bytes) ((node_of g).seen s)) (sym c.as_slice.ensures)))

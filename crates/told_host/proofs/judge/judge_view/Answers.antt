@@ -23,25 +23,20 @@ use Rattle.told_host.proofs.Fitting.{leaves_by, fits_by, own_by, call_plain, com
 use Rattle.told_host.proofs.Switched.{on_unprinted, off_unprinted, cut_unprinted}
 use Rattle.told_host.proofs.judge.judge_view.Goals as goal
 
-act_is : (act : Act JobRow Reply Said) (call : HostCall) (b : Jobs) (s : Seen) → act ≡ host_act call b → b ≡ rows_in s → act ≡ host_act call (rows_in s)
-act_is act call b s is rows = is ∙ ap (host_act call) rows
-
 pub judge_printing-requires-clause-fits : goal.judge_printing-requires-clause-fits
 judge_printing-requires-clause-fits c =
     let s = c.args.seat.now.record.cells.items in
-    let is = act_is c.host_act-act.result c.in-Call.call c.jobs.result.now s c.host_act-act.ensures c.jobs.ensures.rows in
     let leaves = leaves_by (rows_in s) (c.acts_follow_the_commits.ensures.sound (rows_in s) c.is_known.ensures.sound) c.in-Call.call (subst IsRangedAsked c.in-Call.is c.requires.ranged) in
-    subst (FitsAct (λ t x. IsFit t x) s) (sym is) (fits_by s (host_act c.in-Call.call (rows_in s)) leaves)
+    subst (FitsAct (λ t x. IsFit t x) s) (sym c.host_act-act.ensures) (fits_by s (host_act c.in-Call.call (rows_in s)) leaves)
 
 pub judge_printing-requires-clause-own : goal.judge_printing-requires-clause-own
 judge_printing-requires-clause-own c =
     let s = c.args.seat.now.record.cells.items in
-    let is = act_is c.host_act-act.result c.in-Call.call c.jobs.result.now s c.host_act-act.ensures c.jobs.ensures.rows in
     let leaves = leaves_by (rows_in s) (c.acts_follow_the_commits.ensures.sound (rows_in s) c.is_known.ensures.sound) c.in-Call.call (subst IsRangedAsked c.in-Call.is c.requires.ranged) in
-    subst (IsOfNode Host) (sym is) (own_by (rows_in s) (host_act c.in-Call.call (rows_in s)) leaves)
+    subst (IsOfNode Host) (sym c.host_act-act.ensures) (own_by (rows_in s) (host_act c.in-Call.call (rows_in s)) leaves)
 
 pub judge_printing-requires-clause-plain : goal.judge_printing-requires-clause-plain
-judge_printing-requires-clause-plain c = subst IsPlain (sym c.host_act-act.ensures) (call_plain c.in-Call.call c.jobs.result.now)
+judge_printing-requires-clause-plain c = subst IsPlain (sym c.host_act-act.ensures) (call_plain c.in-Call.call (rows_in c.args.seat.now.record.cells.items))
 
 pub returns-in-Call-clause-next : goal.returns-in-Call-clause-next
 returns-in-Call-clause-next c =

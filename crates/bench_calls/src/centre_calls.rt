@@ -1,0 +1,240 @@
+//! The calls of the centre: what each does by the centre's rows, and what the centre says of it. Amounts are in mills.
+ghost use Rattle.std.specs.Prelude.{◌≡◌};
+ghost use Rattle.bench_base.specs.declared.words.Node.TheVariants as node;
+ghost use Rattle.bench_base.specs.declared.events.Reply.TheVariants as r;
+ghost use Rattle.bench_base.specs.Ranges.{IsWord};
+ghost use Rattle.bench_base.specs.Table.{IsBytes};
+ghost use Rattle.centre_ledger.specs.Acts as acts;
+ghost use Rattle.centre_ledger.specs.Books.{AreSound, put_row};
+ghost use Rattle.bench_views.specs.Centre as views;
+
+use bench_base::events::Reply;
+use bench_base::numbers::{Customer, DevNo};
+use bench_base::refusals::CentreRefusal;
+use bench_base::words::{Key, Node as NodeNo};
+use bench_views::CentreCall;
+use centre_ledger::{
+    CentreAct, CentreAnswer, Deposit, Row, balance_act, deposit_act, flag_act, open_act,
+    register_act, take_act,
+};
+use node_acts::Said;
+use node_calls::{Call, Callee};
+use node_records::BooksOf;
+
+/// The centre, where it is called.
+#[derive(Drop)]
+pub struct CentreCallee;
+
+impl Callee for CentreCallee {
+    type Refusal = CentreRefusal;
+
+    ghost named = { λ c. node.Centre };
+
+    ghost refuses = { λ c x. r.CentreRefused x };
+
+    fn name(&self) -> NodeNo {
+        NodeNo::Centre
+    }
+
+    fn refusal(&self, refusal: CentreRefusal) -> Reply {
+        Reply::CentreRefused(refusal)
+    }
+}
+
+/// A device is registered under a key.
+#[derive(Drop)]
+pub struct RegisterCall {
+    pub device: DevNo,
+    pub origin: u32,
+    pub key: Key,
+}
+
+impl<R: BooksOf> Call<R, Row, CentreCallee> for RegisterCall {
+    type Answer = ();
+
+    ghost IsAsked = { λ c. IsWord c.origin };
+
+    ghost does = { λ c e s. acts.register_act c.device c.origin c.key (R.books s) };
+
+    ghost says = { λ c e u. views.done (r.Registered c.device) u };
+
+    ghost Makes = { λ s x. AreSound (put_row (R.books s) x) };
+
+    fn act(&self, _callee: &CentreCallee, held: &R) -> CentreAct<()> {
+        register_act(self.device, self.origin, &self.key, held.books())
+    }
+
+    fn answer(&self, _callee: &CentreCallee, _registered: &()) -> Said {
+        Said::of(Reply::Registered(self.device))
+    }
+}
+
+/// A customer is opened.
+#[derive(Drop)]
+pub struct OpenCall {
+    pub customer: Customer,
+}
+
+impl<R: BooksOf> Call<R, Row, CentreCallee> for OpenCall {
+    type Answer = ();
+
+    ghost IsAsked = { λ c. Unit {0} };
+
+    ghost does = { λ c e s. acts.open_act c.customer (R.books s) };
+
+    ghost says = { λ c e u. views.done (r.Opened c.customer) u };
+
+    ghost Makes = { λ s x. AreSound (put_row (R.books s) x) };
+
+    fn act(&self, _callee: &CentreCallee, held: &R) -> CentreAct<()> {
+        open_act(self.customer, held.books())
+    }
+
+    fn answer(&self, _callee: &CentreCallee, _opened: &()) -> Said {
+        Said::of(Reply::Opened(self.customer))
+    }
+}
+
+/// A customer deposits an amount, under the number of its receipt.
+#[derive(Drop)]
+pub struct DepositCall {
+    pub customer: Customer,
+    pub receipt: u32,
+    pub amount: u32,
+}
+
+impl<R: BooksOf> Call<R, Row, CentreCallee> for DepositCall {
+    type Answer = Deposit;
+
+    ghost IsAsked = { λ c. Unit {0} };
+
+    ghost does = { λ c e s. acts.deposit_act c.customer c.receipt c.amount (R.books s) };
+
+    ghost says = { λ c e d. views.deposited c.customer c.receipt d };
+
+    ghost Makes = { λ s x. AreSound (put_row (R.books s) x) };
+
+    fn act(&self, _callee: &CentreCallee, held: &R) -> CentreAct<Deposit> {
+        deposit_act(self.customer, self.receipt, self.amount, held.books())
+    }
+
+    fn answer(&self, _callee: &CentreCallee, deposit: &Deposit) -> Said {
+        Said::of(Reply::Deposited(self.customer, self.receipt, deposit.again, deposit.total))
+    }
+}
+
+/// A customer is suspended, or may buy again.
+#[derive(Drop)]
+pub struct FlagCall {
+    pub customer: Customer,
+    pub suspended: bool,
+}
+
+impl<R: BooksOf> Call<R, Row, CentreCallee> for FlagCall {
+    type Answer = ();
+
+    ghost IsAsked = { λ c. Unit {0} };
+
+    ghost does = { λ c e s. acts.flag_act c.customer c.suspended (R.books s) };
+
+    ghost says = { λ c e u. views.done (r.Flagged c.customer c.suspended) u };
+
+    ghost Makes = { λ s x. AreSound (put_row (R.books s) x) };
+
+    fn act(&self, _callee: &CentreCallee, held: &R) -> CentreAct<()> {
+        flag_act(self.customer, self.suspended, held.books())
+    }
+
+    fn answer(&self, _callee: &CentreCallee, _flagged: &()) -> Said {
+        Said::of(Reply::Flagged(self.customer, self.suspended))
+    }
+}
+
+/// What a customer has left.
+#[derive(Drop)]
+pub struct BalanceCall {
+    pub customer: Customer,
+}
+
+impl<R: BooksOf> Call<R, Row, CentreCallee> for BalanceCall {
+    type Answer = u64;
+
+    ghost IsAsked = { λ c. Unit {0} };
+
+    ghost does = { λ c e s. acts.balance_act c.customer (R.books s) };
+
+    ghost says = { λ c e n. views.left c.customer n };
+
+    ghost Makes = { λ s x. AreSound (put_row (R.books s) x) };
+
+    fn act(&self, _callee: &CentreCallee, held: &R) -> CentreAct<u64> {
+        balance_act(self.customer, held.books())
+    }
+
+    fn answer(&self, _callee: &CentreCallee, left: &u64) -> Said {
+        Said::of(Reply::Balance(self.customer, *left))
+    }
+}
+
+/// The centre takes a Request or a Done.
+#[derive(Drop)]
+pub struct TakeRequestCall<'a> {
+    pub bytes: &'a [u8],
+    pub message: u32,
+}
+
+impl<'a, R: BooksOf> Call<R, Row, CentreCallee> for TakeRequestCall<'a> {
+    type Answer = CentreAnswer;
+
+    ghost IsAsked = { λ c. IsBytes c.bytes.now };
+
+    ghost does = { λ c e s. acts.take_act c.bytes.now (R.books s) };
+
+    ghost says = { λ c e a. views.took c.message a };
+
+    ghost Makes = { λ s x. AreSound (put_row (R.books s) x) };
+
+    fn act(&self, _callee: &CentreCallee, held: &R) -> CentreAct<CentreAnswer> {
+        take_act(self.bytes, held.books())
+    }
+
+    fn answer(&self, _callee: &CentreCallee, answer: &CentreAnswer) -> Said {
+        took(self.message, answer)
+    }
+}
+
+// What the centre says of a message that it took.
+fn took(message: u32, answer: &CentreAnswer) -> Said
+    ensures { result ≡ views.took message answer.now }
+{
+    match answer {
+        CentreAnswer::Ruled {
+            device,
+            number,
+            verdict,
+            reply,
+            again,
+        } => Said::sending(
+            Reply::Ruled(*device, *number, *verdict, *again, message),
+            *reply,
+        ),
+        CentreAnswer::Settled {
+            device,
+            number,
+            again,
+        } => Said::of(Reply::Settled(*device, *number, *again)),
+    }
+}
+
+fn are_bytes(bytes: &[u8])
+    ensures { IsBytes bytes.now }
+{}
+
+/// What a call hands over is a list of bytes.
+pub fn hands_bytes(call: &CentreCall)
+    ensures { views.IsBytesCall call.now }
+{
+    if let CentreCall::Take { bytes, message: _ } = call {
+        are_bytes(bytes.as_slice());
+    }
+}

@@ -1,0 +1,2 @@
+-- Promised: public contracts name this.
+pub mod Changes
