@@ -43,7 +43,7 @@ impl<N: Nv> Host<N> {
         requires price { IsPrice price }
         ensures { Performs (act_of.order_act device piece class price (rows_of self.old)) self.old self.new result }
     {
-        let act = self.node.order_act(price, device, piece, class);
+        let act = self.running.node.order_act(price, device, piece, class);
         self.perform(act)
     }
 
@@ -52,14 +52,14 @@ impl<N: Nv> Host<N> {
     pub fn debit_message(&self, job: u32) -> Result<Note, HostFail>
         ensures { result ≡ answer_of (act_of.debit_message_act job (rows_of self.now)) }
     {
-        answer(self.node.debit_message_act(job))
+        answer(self.running.node.debit_message_act(job))
     }
 
     /// Takes a Release, with a mark of either version, and answers the job that holds it: see `host_jobs::take_act`.
     pub fn take(&mut self, bytes: &[u8]) -> Result<u32, HostFail>
         ensures { Performs (act_of.take_act bytes.now (rows_of self.old)) self.old self.new result }
     {
-        let act = self.node.take_act(bytes);
+        let act = self.running.node.take_act(bytes);
         self.perform(act)
     }
 
@@ -68,7 +68,7 @@ impl<N: Nv> Host<N> {
     pub fn begin_print(&mut self, job: u32) -> Result<[u8; 64], HostFail>
         ensures { Performs (act_of.begin_print_act job (rows_of self.old)) self.old self.new result }
     {
-        let act = self.node.begin_print_act(job);
+        let act = self.running.node.begin_print_act(job);
         self.perform(act)
     }
 
@@ -76,7 +76,7 @@ impl<N: Nv> Host<N> {
     pub fn close_job(&mut self, job: u32) -> Result<(), HostFail>
         ensures { Performs (act_of.close_act job (rows_of self.old)) self.old self.new result }
     {
-        let act = self.node.close_act(job);
+        let act = self.running.node.close_act(job);
         self.perform(act)
     }
 }
