@@ -10,25 +10,14 @@ ghost use Rattle.centre_ledger.specs.Acts as act_of;
 
 use crate::centre::Centre;
 use bench_base::numbers::{Customer, DevNo};
-use bench_base::refusals::{CentreFail, Fail};
+use bench_base::refusals::CentreFail;
 use bench_base::words::Key;
 use centre_ledger::{
-    CentreAct, CentreAnswer, Deposit, Standing, balance_act, deposit_act, flag_act, open_act,
-    register_act, standing_act, take_act,
+    CentreAnswer, Deposit, Standing, balance_act, deposit_act, flag_act, open_act, register_act,
+    standing_act, take_act,
 };
-use node_acts::Act;
+use node_seat::answer;
 use nv_model::Nv;
-
-// What a call that commits nothing answers.
-fn answer<A: Copy>(act: CentreAct<A>) -> Result<A, CentreFail>
-    ensures { result ≡ answer_of act }
-{
-    match act {
-        Act::Refuse(refusal) => Err(Fail::Refused(refusal)),
-        Act::Tell(answer) => Ok(answer),
-        Act::Commits(_, _, answer) => Ok(answer),
-    }
-}
 
 impl<N: Nv> Centre<N> {
     ghost use Rattle.centre_protocol.specs.CentreView.{books_of, Performs};

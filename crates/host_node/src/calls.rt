@@ -12,21 +12,10 @@ ghost use Rattle.host_jobs.specs.Acts as act_of;
 use crate::host::Host;
 use bench_base::bytes::Note;
 use bench_base::numbers::DevNo;
-use bench_base::refusals::{Fail, HostFail, RateRefusal};
-use host_jobs::{HostAct, Ordered};
-use node_acts::Act;
+use bench_base::refusals::{HostFail, RateRefusal};
+use host_jobs::Ordered;
+use node_seat::answer;
 use nv_model::Nv;
-
-// What a call that commits nothing answers.
-fn answer<A: Copy>(act: HostAct<A>) -> Result<A, HostFail>
-    ensures { result ≡ answer_of act }
-{
-    match act {
-        Act::Refuse(refusal) => Err(Fail::Refused(refusal)),
-        Act::Tell(answer) => Ok(answer),
-        Act::Commits(_, _, answer) => Ok(answer),
-    }
-}
 
 impl<N: Nv> Host<N> {
     ghost use Rattle.host_node.specs.HostView.{rows_of, Performs};

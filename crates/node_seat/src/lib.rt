@@ -7,5 +7,5 @@ mod running;
 mod seat;
 
 pub use node::{Arms, Node};
-pub use running::Running;
+pub use running::{Running, answer};
 pub use seat::{arm, perform, start, stop};

@@ -1,5 +1,6 @@
 //! A node that runs, and the commit of it that failed.
-ghost use Rattle.std.specs.Prelude.{◌≡◌, true, None};
+ghost use Rattle.std.specs.Prelude.{◌≡◌};
+ghost use Rattle.node_acts.specs.Results.{answer_of};
 
 use crate::node::Node;
 use bench_base::ledger::Commit;
@@ -13,18 +14,19 @@ pub struct Running<K: Node> {
     pub torn: Option<Commit>,
 }
 
+/// What a call that commits nothing answers.
+pub fn answer<X: Copy, F: Copy, A: Copy>(act: Act<X, F, A>) -> Result<A, Fail<F>>
+    ensures { result ≡ answer_of act }
+{
+    match act {
+        Act::Refuse(refusal) => Err(Fail::Refused(refusal)),
+        Act::Tell(answer) => Ok(answer),
+        Act::Commits(_, _, answer) => Ok(answer),
+    }
+}
+
 impl<K: Node> Running<K> {
     ghost use Rattle.node_seat.specs.Runs.{node_of, torn_of, seen_of, Runs, CanDo, Performs};
-
-    /// A node that is on.
-    pub fn of(node: K) -> Running<K>
-        requires on { K.is_on node ≡ true }
-        ensures node { node_of result ≡ node }
-        ensures works { torn_of result ≡ None }
-        ensures runs { Runs K.Node K.Storage.Nv result }
-    {
-        Running { node, torn: None }
-    }
 
     /// Does what a call decided on. A node that failed does nothing, and answers `Failed` before every refusal; the other
     /// failures of storage come after every refusal.

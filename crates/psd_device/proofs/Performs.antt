@@ -1,5 +1,5 @@
 -- That a device keeps what an act of it commits.
-use Rattle.std.proofs.Common.{◌≡◌, Bool, Option, Some, None, true, false, refl, if◌then◌else◌}
+use Rattle.std.proofs.Common.{◌≡◌, Bool, Some, None, true, false, refl, if◌then◌else◌}
 use Rattle.std.specs.Prelude.{IfSome}
 use Rattle.bench_base.specs.declared.ledger.Commit.{Commit}
 use Rattle.node_acts.specs.declared.act.Act.TheVariants.{Refuse, Tell, Commits}

@@ -11,23 +11,12 @@ ghost use Rattle.psd_state.specs.Acts.{resend_act, ack_act, status_act};
 use crate::device::Device;
 use bench_base::bytes::Note;
 use bench_base::numbers::DayNo;
-use bench_base::refusals::{DevFail, Fail};
+use bench_base::refusals::DevFail;
 use bench_base::words::{Key, Kind};
-use node_acts::Act;
+use node_seat::answer;
 use nv_model::Nv;
-use psd_state::{DevStatus, DeviceAct, Franked, Taken, acts};
+use psd_state::{DevStatus, Franked, Taken, acts};
 use psd_wire::DebitMsg;
-
-// What a call that commits nothing answers.
-fn answer<A: Copy>(act: DeviceAct<A>) -> Result<A, DevFail>
-    ensures { result ≡ answer_of act }
-{
-    match act {
-        Act::Refuse(refusal) => Err(Fail::Refused(refusal)),
-        Act::Tell(answer) => Ok(answer),
-        Act::Commits(_, _, answer) => Ok(answer),
-    }
-}
 
 impl<N: Nv> Device<N> {
     ghost use Rattle.psd_device.specs.DeviceView.{seen_of, make_of, debit_of, ask_of, take_of, Performs};

@@ -1,8 +1,7 @@
 use Rattle.std.proofs.Common.{Err, not, refl, sym, ◌∙◌, ap}
 use Rattle.std.proofs.lemmas.Bool.{false_from_ne_true}
 use Rattle.bench_base.specs.declared.refusals.StoreFail.{StoreFail}
-use Rattle.node_seat.proofs.Performed.{none_torn}
-use Rattle.node_seat.proofs.Runs.{refuses, tells_only, worn, done, tore, only_worn, not_worn, same_fail}
+use Rattle.node_seat.proofs.Runs.{none_torn, refuses, tells_only, worn, done, tore, only_worn, not_worn, same_fail}
 use Rattle.node_seat.proofs.running.Running.perform.Goals as goal
 
 pub returns-in-Refuse-clause-performs : goal.returns-in-Refuse-clause-performs
