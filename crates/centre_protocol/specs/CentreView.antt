@@ -19,11 +19,11 @@ use Rattle.centre_protocol.specs.declared.centre.Centre.{Centre}
 
 -- its storage
 abbrev pub storage_of : {N : Type 0} {g : Ghosts N} → Centre N g → N
-storage_of c = storage_in c.node
+storage_of c = storage_in c.running.node
 
 -- its rows, with the commits of each
 abbrev pub seen_of : {N : Type 0} {g : Ghosts N} → Centre N g → Seen
-seen_of c = seen_in c.node
+seen_of c = seen_in c.running.node
 
 -- its rows
 abbrev pub books_of : {N : Type 0} {g : Ghosts N} → Centre N g → Books
@@ -31,7 +31,7 @@ books_of c = books_in (seen_of c)
 
 -- the commit of it that failed
 abbrev pub torn_of : {N : Type 0} {g : Ghosts N} → Centre N g → Option Commit
-torn_of c = c.torn
+torn_of c = c.running.torn
 
 -- what starts: it shows what its storage shows
 pub record Starts {N : Type 0} {g : Ghosts N} (c : Centre N g) : Type 0 where
@@ -50,5 +50,5 @@ CanCommit {N} {A} act c = (commit : Commit) (x : Row) (a : A) → act ≡ Commit
 
 -- what a call of this act did, answered and left
 pub record Performs {N A : Type 0} {g : Ghosts N} (act : CentreAct A) (old new : Centre N g) (result : CentreResult A) : Type 0 where
-  pub performed : Performed g counting IsShown storage_of seen_of torn_of act old new result
+  pub performed : Performed g counting IsShown (λ r. storage_in r.node) (λ r. seen_in r.node) (λ r. r.torn) act old.running new.running result
   pub size : g.size (storage_of new) ≡ CENTRE_BYTES

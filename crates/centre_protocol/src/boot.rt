@@ -15,6 +15,7 @@ use bench_base::numbers::{Customer, DevNo};
 use bench_base::refusals::BootFail;
 use bench_base::sizes::{CENTRE_BYTES, CENTRE_CELLS, ROW_BYTES};
 use centre_ledger::{Accounts, CustomerRow, DeviceRow};
+use node_seat::Running;
 use nv_model::Nv;
 use nv_store::{MountCause, Room, clear_room, get_room, mount_room};
 
@@ -184,7 +185,9 @@ impl<N: Nv> Centre<N> {
     {
         let mut node = CentreNode::new(nv, room);
         match node.boot_rows() {
-            Ok(()) => Ok(Centre { node, torn: None }),
+            Ok(()) => Ok(Centre {
+                running: Running { node, torn: None },
+            }),
             Err(fail) => {
                 let (nv, room) = node.into_storage();
                 Err((nv, room, fail))

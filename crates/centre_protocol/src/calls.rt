@@ -10,25 +10,14 @@ ghost use Rattle.centre_ledger.specs.Acts as act_of;
 
 use crate::centre::Centre;
 use bench_base::numbers::{Customer, DevNo};
-use bench_base::refusals::{CentreFail, Fail};
+use bench_base::refusals::CentreFail;
 use bench_base::words::Key;
 use centre_ledger::{
-    CentreAct, CentreAnswer, Deposit, Standing, balance_act, deposit_act, flag_act, open_act,
-    register_act, standing_act, take_act,
+    CentreAnswer, Deposit, Standing, balance_act, deposit_act, flag_act, open_act, register_act,
+    standing_act, take_act,
 };
-use node_acts::Act;
+use node_seat::answer;
 use nv_model::Nv;
-
-// What a call that commits nothing answers.
-fn answer<A: Copy>(act: CentreAct<A>) -> Result<A, CentreFail>
-    ensures { result ≡ answer_of act }
-{
-    match act {
-        Act::Refuse(refusal) => Err(Fail::Refused(refusal)),
-        Act::Tell(answer) => Ok(answer),
-        Act::Commits(_, _, answer) => Ok(answer),
-    }
-}
 
 impl<N: Nv> Centre<N> {
     ghost use Rattle.centre_protocol.specs.CentreView.{books_of, Performs};
@@ -37,7 +26,7 @@ impl<N: Nv> Centre<N> {
     pub fn take(&mut self, bytes: &[u8]) -> Result<CentreAnswer, CentreFail>
         ensures { Performs (act_of.take_act bytes.now (books_of self.old)) self.old self.new result }
     {
-        let act = take_act(bytes, self.node.accounts());
+        let act = take_act(bytes, self.running.node.accounts());
         self.perform(act)
     }
 
@@ -45,7 +34,7 @@ impl<N: Nv> Centre<N> {
     pub fn register(&mut self, device: DevNo, origin: u32, key: &Key) -> Result<(), CentreFail>
         ensures { Performs (act_of.register_act device origin key.now (books_of self.old)) self.old self.new result }
     {
-        let act = register_act(device, origin, key, self.node.accounts());
+        let act = register_act(device, origin, key, self.running.node.accounts());
         self.perform(act)
     }
 
@@ -53,7 +42,7 @@ impl<N: Nv> Centre<N> {
     pub fn open_customer(&mut self, customer: Customer) -> Result<(), CentreFail>
         ensures { Performs (act_of.open_act customer (books_of self.old)) self.old self.new result }
     {
-        let act = open_act(customer, self.node.accounts());
+        let act = open_act(customer, self.running.node.accounts());
         self.perform(act)
     }
 
@@ -66,7 +55,7 @@ impl<N: Nv> Centre<N> {
     ) -> Result<Deposit, CentreFail>
         ensures { Performs (act_of.deposit_act customer receipt amount (books_of self.old)) self.old self.new result }
     {
-        let act = deposit_act(customer, receipt, amount, self.node.accounts());
+        let act = deposit_act(customer, receipt, amount, self.running.node.accounts());
         self.perform(act)
     }
 
@@ -75,7 +64,7 @@ impl<N: Nv> Centre<N> {
     pub fn flag(&mut self, customer: Customer, suspended: bool) -> Result<(), CentreFail>
         ensures { Performs (act_of.flag_act customer suspended (books_of self.old)) self.old self.new result }
     {
-        let act = flag_act(customer, suspended, self.node.accounts());
+        let act = flag_act(customer, suspended, self.running.node.accounts());
         self.perform(act)
     }
 
@@ -83,13 +72,13 @@ impl<N: Nv> Centre<N> {
     pub fn balance(&self, customer: Customer) -> Result<u64, CentreFail>
         ensures { result ≡ answer_of (act_of.balance_act customer (books_of self.now)) }
     {
-        answer(balance_act(customer, self.node.accounts()))
+        answer(balance_act(customer, self.running.node.accounts()))
     }
 
     /// What the centre holds of the device: see `Standing`. `UnknownDevice` exactly where it is not registered.
     pub fn standing(&self, device: DevNo) -> Result<Standing, CentreFail>
         ensures { result ≡ answer_of (act_of.standing_act device (books_of self.now)) }
     {
-        answer(standing_act(device, self.node.accounts()))
+        answer(standing_act(device, self.running.node.accounts()))
     }
 }

@@ -7,73 +7,52 @@ ghost use Rattle.centre_protocol.specs.NodeView.{storage_in, is_on};
 
 use crate::node::CentreNode;
 use bench_base::ledger::Commit;
-use bench_base::refusals::{CentreFail, Fail, StoreFail};
+use bench_base::refusals::CentreFail;
 use bench_base::sizes::ROW_BYTES;
 use centre_ledger::{Balances, CentreAct};
-use node_acts::Act;
+use node_seat::Running;
 use nv_model::{Fused, Nv};
 use nv_store::Room;
 
 /// The centre over storage of 28,368 bytes: 72 cells, of devices 1 to 8 and then of customers 1 to 64, each with its row.
 #[derive(Drop)]
 pub struct Centre<N: Nv> {
-    pub(crate) node: CentreNode<N>,
-    /// The commit that failed, after which no other is tried.
-    pub(crate) torn: Option<Commit>,
-    ghost runs: { is_on node ≡ not (is_some torn) },
-    ghost room: { N.size (storage_in node) ≡ CENTRE_BYTES },
+    pub(crate) running: Running<CentreNode<N>>,
+    ghost runs: { is_on running.node ≡ not (is_some running.torn) },
+    ghost room: { N.size (storage_in running.node) ≡ CENTRE_BYTES },
 }
 
 impl<N: Nv> Centre<N> {
     ghost use Rattle.centre_ledger.specs.Books.{balances_by};
     ghost use Rattle.centre_protocol.specs.CentreView.{storage_of, seen_of, books_of, torn_of, CanCommit, Performs};
 
-    /// Does what a call decided on. A centre that failed does nothing, and answers `Failed` before every refusal; the
-    /// other failures of storage come after every refusal.
+    // Does what a call decided on: see `Running::perform`.
     pub(crate) fn perform<A: Copy>(&mut self, act: CentreAct<A>) -> Result<A, CentreFail>
         requires fits { CanCommit act self.old }
         ensures { Performs act self.old self.new result }
     {
-        if self.torn.is_some() {
-            return Err(Fail::Store(StoreFail::Failed));
-        }
-        match act {
-            Act::Refuse(refusal) => Err(Fail::Refused(refusal)),
-            Act::Tell(answer) => Ok(answer),
-            Act::Commits(commit, row, answer) => {
-                if self.node.is_worn(&row) {
-                    return Err(Fail::Store(StoreFail::Worn));
-                }
-                match self.node.commit_row(&row) {
-                    Ok(()) => Ok(answer),
-                    Err(fail) => {
-                        self.torn = Some(commit);
-                        Err(Fail::Store(fail))
-                    }
-                }
-            }
-        }
+        self.running.perform(act)
     }
 
     /// What each customer has left, in mills, and 0 for each that is not open.
     pub fn kept(&self) -> &Balances
         ensures { result.now ≡ balances_by (books_of self.now).devices (books_of self.now).customers }
     {
-        self.node.accounts().kept()
+        self.running.node.accounts().kept()
     }
 
     /// The number of commits.
     pub fn commits(&self) -> u64
         ensures { result ≡ counting.count (seen_of self.now) }
     {
-        self.node.count()
+        self.running.commits()
     }
 
     /// The commit that a call of this value which answered Power or Fault would have added; None exactly where no call did.
     pub fn torn(&self) -> Option<Commit>
         ensures { result ≡ torn_of self.now }
     {
-        self.torn
+        self.running.torn()
     }
 
     /// Gives the storage and the memory back.
@@ -81,8 +60,8 @@ impl<N: Nv> Centre<N> {
         ensures storage { result.0 ≡ storage_of self }
         ensures cells { cells_of result.1 ≡ CENTRE_CELLS }
     {
-        let Centre { node, torn: _ } = self;
-        node.into_storage()
+        let Centre { running } = self;
+        running.into_node().into_storage()
     }
 }
 
@@ -98,6 +77,6 @@ impl<M: Nv> Centre<Fused<M>> {
         ensures seen { seen_of self.new ≡ seen_of self.old }
         ensures torn { torn_of self.new ≡ torn_of self.old }
     {
-        self.node.nv.arm(calls, keep, byte);
+        self.running.node.nv.arm(calls, keep, byte);
     }
 }

@@ -12,10 +12,10 @@ use crate::node::CentreNode;
 use crate::room::CentreRoom;
 use bench_base::refusals::{BootFail, StoreFail};
 use centre_ledger::Row;
-use node_seat::Node;
-use nv_model::{Fuse, NvFail};
+use node_seat::{Arms, Node};
+use nv_model::{Fuse, Nv, NvFail};
 
-impl<M: Fuse + Drop> Node for CentreNode<M> {
+impl<M: Nv> Node for CentreNode<M> {
     type Storage = M;
 
     type Name = ();
@@ -44,6 +44,8 @@ impl<M: Fuse + Drop> Node for CentreNode<M> {
 
     ghost IsDamaged = { λ d nv. payloads.IsDamaged M.Nv.own nv };
 
+    ghost Stays = { λ j k. Unit {0} };
+
     ghost name = { λ k. tt };
 
     ghost seen = { λ k. node_view.seen_in k };
@@ -51,6 +53,8 @@ impl<M: Fuse + Drop> Node for CentreNode<M> {
     ghost is_on = { λ k. node_view.is_on k };
 
     ghost storage = { λ k. node_view.storage_in k };
+
+    ghost stays_same = { λ k. tt };
 
     ghost sized = { λ k on. known.size k on };
 
@@ -97,6 +101,10 @@ impl<M: Fuse + Drop> Node for CentreNode<M> {
         let (nv, cells) = self.into_storage();
         (nv, CentreRoom { cells })
     }
+}
+
+impl<M: Fuse> Arms for CentreNode<M> {
+    ghost fuse = { M.Fuse.own };
 
     fn arm(&mut self, calls: u32, keep: u32, byte: u8) {
         self.nv.arm(calls, keep, byte);

@@ -19,11 +19,11 @@ use Rattle.host_node.specs.declared.host.Host.{Host}
 
 -- its storage
 abbrev pub storage_of : {N : Type 0} {g : Ghosts N} → Host N g → N
-storage_of h = storage_in h.node
+storage_of h = storage_in h.running.node
 
 -- its jobs, with the commits of each cell
 abbrev pub seen_of : {N : Type 0} {g : Ghosts N} → Host N g → Seen
-seen_of h = seen_in h.node
+seen_of h = seen_in h.running.node
 
 -- its jobs
 abbrev pub rows_of : {N : Type 0} {g : Ghosts N} → Host N g → Jobs
@@ -31,7 +31,7 @@ rows_of h = rows_in (seen_of h)
 
 -- the commit of it that failed
 abbrev pub torn_of : {N : Type 0} {g : Ghosts N} → Host N g → Option Commit
-torn_of h = h.torn
+torn_of h = h.running.torn
 
 -- what starts: it shows what its storage shows
 pub record Starts {N : Type 0} {g : Ghosts N} (h : Host N g) : Type 0 where
@@ -50,5 +50,5 @@ CanCommit {N} {A} act h = (commit : Commit) (x : JobRow) (a : A) → act ≡ Com
 
 -- what a call of this act did, answered and left
 pub record Performs {N A : Type 0} {g : Ghosts N} (act : HostAct A) (old new : Host N g) (result : HostResult A) : Type 0 where
-  pub performed : Performed g counting IsShown storage_of seen_of torn_of act old new result
+  pub performed : Performed g counting IsShown (λ r. storage_in r.node) (λ r. seen_in r.node) (λ r. r.torn) act old.running new.running result
   pub size : g.size (storage_of new) ≡ HOST_BYTES

@@ -15,6 +15,7 @@ use crate::node::HostNode;
 use crate::room::HostRoom;
 use bench_base::refusals::BootFail;
 use host_jobs::{HOST_BYTES, HOST_CELLS, JOB_BYTES, JobRow, JobRows, Kept};
+use node_seat::Running;
 use nv_model::Nv;
 use nv_store::{MountCause, Room, clear_room, get_room, mount_room};
 
@@ -154,7 +155,9 @@ impl<N: Nv> Host<N> {
         let HostRoom { cells, rows } = room;
         let mut node = HostNode::new(nv, cells, rows);
         match node.boot_rows() {
-            Ok(()) => Ok(Host { node, torn: None }),
+            Ok(()) => Ok(Host {
+                running: Running { node, torn: None },
+            }),
             Err(fail) => {
                 let (nv, cells, rows) = node.into_storage();
                 Err((nv, HostRoom { cells, rows }, fail))

@@ -12,21 +12,10 @@ ghost use Rattle.host_jobs.specs.Acts as act_of;
 use crate::host::Host;
 use bench_base::bytes::Note;
 use bench_base::numbers::DevNo;
-use bench_base::refusals::{Fail, HostFail, RateRefusal};
-use host_jobs::{HostAct, Ordered};
-use node_acts::Act;
+use bench_base::refusals::{HostFail, RateRefusal};
+use host_jobs::Ordered;
+use node_seat::answer;
 use nv_model::Nv;
-
-// What a call that commits nothing answers.
-fn answer<A: Copy>(act: HostAct<A>) -> Result<A, HostFail>
-    ensures { result ≡ answer_of act }
-{
-    match act {
-        Act::Refuse(refusal) => Err(Fail::Refused(refusal)),
-        Act::Tell(answer) => Ok(answer),
-        Act::Commits(_, _, answer) => Ok(answer),
-    }
-}
 
 impl<N: Nv> Host<N> {
     ghost use Rattle.host_node.specs.HostView.{rows_of, Performs};
@@ -43,7 +32,7 @@ impl<N: Nv> Host<N> {
         requires price { IsPrice price }
         ensures { Performs (act_of.order_act device piece class price (rows_of self.old)) self.old self.new result }
     {
-        let act = self.node.order_act(price, device, piece, class);
+        let act = self.running.node.order_act(price, device, piece, class);
         self.perform(act)
     }
 
@@ -52,14 +41,14 @@ impl<N: Nv> Host<N> {
     pub fn debit_message(&self, job: u32) -> Result<Note, HostFail>
         ensures { result ≡ answer_of (act_of.debit_message_act job (rows_of self.now)) }
     {
-        answer(self.node.debit_message_act(job))
+        answer(self.running.node.debit_message_act(job))
     }
 
     /// Takes a Release, with a mark of either version, and answers the job that holds it: see `host_jobs::take_act`.
     pub fn take(&mut self, bytes: &[u8]) -> Result<u32, HostFail>
         ensures { Performs (act_of.take_act bytes.now (rows_of self.old)) self.old self.new result }
     {
-        let act = self.node.take_act(bytes);
+        let act = self.running.node.take_act(bytes);
         self.perform(act)
     }
 
@@ -68,7 +57,7 @@ impl<N: Nv> Host<N> {
     pub fn begin_print(&mut self, job: u32) -> Result<[u8; 64], HostFail>
         ensures { Performs (act_of.begin_print_act job (rows_of self.old)) self.old self.new result }
     {
-        let act = self.node.begin_print_act(job);
+        let act = self.running.node.begin_print_act(job);
         self.perform(act)
     }
 
@@ -76,7 +65,7 @@ impl<N: Nv> Host<N> {
     pub fn close_job(&mut self, job: u32) -> Result<(), HostFail>
         ensures { Performs (act_of.close_act job (rows_of self.old)) self.old self.new result }
     {
-        let act = self.node.close_act(job);
+        let act = self.running.node.close_act(job);
         self.perform(act)
     }
 }

@@ -7,71 +7,50 @@ ghost use Rattle.host_node.specs.NodeView.{storage_in, is_on};
 use crate::node::HostNode;
 use crate::room::HostRoom;
 use bench_base::ledger::Commit;
-use bench_base::refusals::{Fail, HostFail, StoreFail};
+use bench_base::refusals::HostFail;
 use host_jobs::HostAct;
-use node_acts::Act;
+use node_seat::Running;
 use nv_model::{Fused, Nv};
 
 /// The host over storage of 245,760 bytes: 1,024 cells, each with a job. Job j lies in cell (j - 1) mod 1,024.
 #[derive(Drop)]
 pub struct Host<N: Nv> {
-    pub(crate) node: HostNode<N>,
-    /// The commit that failed, after which no other is tried.
-    pub(crate) torn: Option<Commit>,
-    ghost runs: { is_on node ≡ not (is_some torn) },
-    ghost room: { N.size (storage_in node) ≡ HOST_BYTES },
+    pub(crate) running: Running<HostNode<N>>,
+    ghost runs: { is_on running.node ≡ not (is_some running.torn) },
+    ghost room: { N.size (storage_in running.node) ≡ HOST_BYTES },
 }
 
 impl<N: Nv> Host<N> {
     ghost use Rattle.host_node.specs.HostView.{storage_of, seen_of, torn_of, CanCommit, Performs};
 
-    /// Does what a call decided on. A host that failed does nothing, and answers `Failed` before every refusal; the other
-    /// failures of storage come after every refusal.
+    // Does what a call decided on: see `Running::perform`.
     pub(crate) fn perform<A: Copy>(&mut self, act: HostAct<A>) -> Result<A, HostFail>
         requires fits { CanCommit act self.old }
         ensures { Performs act self.old self.new result }
     {
-        if self.torn.is_some() {
-            return Err(Fail::Store(StoreFail::Failed));
-        }
-        match act {
-            Act::Refuse(refusal) => Err(Fail::Refused(refusal)),
-            Act::Tell(answer) => Ok(answer),
-            Act::Commits(commit, row, answer) => {
-                if self.node.is_worn(&row) {
-                    return Err(Fail::Store(StoreFail::Worn));
-                }
-                match self.node.commit_row(&row) {
-                    Ok(()) => Ok(answer),
-                    Err(fail) => {
-                        self.torn = Some(commit);
-                        Err(Fail::Store(fail))
-                    }
-                }
-            }
-        }
+        self.running.perform(act)
     }
 
     /// The number of commits.
     pub fn commits(&self) -> u64
         ensures { result ≡ counting.count (seen_of self.now) }
     {
-        self.node.count()
+        self.running.commits()
     }
 
     /// The commit that a call of this value which answered Power or Fault would have added; None exactly where no call did.
     pub fn torn(&self) -> Option<Commit>
         ensures { result ≡ torn_of self.now }
     {
-        self.torn
+        self.running.torn()
     }
 
     /// Gives the storage and the memory back.
     pub fn shut(self) -> (N, HostRoom)
         ensures { result.0 ≡ storage_of self }
     {
-        let Host { node, torn: _ } = self;
-        let (nv, cells, rows) = node.into_storage();
+        let Host { running } = self;
+        let (nv, cells, rows) = running.into_node().into_storage();
         (nv, HostRoom { cells, rows })
     }
 }
@@ -88,6 +67,6 @@ impl<M: Nv> Host<Fused<M>> {
         ensures seen { seen_of self.new ≡ seen_of self.old }
         ensures torn { torn_of self.new ≡ torn_of self.old }
     {
-        self.node.nv.arm(calls, keep, byte);
+        self.running.node.nv.arm(calls, keep, byte);
     }
 }

@@ -11,10 +11,10 @@ use crate::node::HostNode;
 use crate::room::HostRoom;
 use bench_base::refusals::{BootFail, StoreFail};
 use host_jobs::JobRow;
-use node_seat::Node;
-use nv_model::{Fuse, NvFail};
+use node_seat::{Arms, Node};
+use nv_model::{Fuse, Nv, NvFail};
 
-impl<M: Fuse + Drop> Node for HostNode<M> {
+impl<M: Nv> Node for HostNode<M> {
     type Storage = M;
 
     type Name = ();
@@ -43,6 +43,8 @@ impl<M: Fuse + Drop> Node for HostNode<M> {
 
     ghost IsDamaged = { λ d nv. payloads.IsDamaged M.Nv.own nv };
 
+    ghost Stays = { λ j k. Unit {0} };
+
     ghost name = { λ k. tt };
 
     ghost seen = { λ k. node_view.seen_in k };
@@ -50,6 +52,8 @@ impl<M: Fuse + Drop> Node for HostNode<M> {
     ghost is_on = { λ k. node_view.is_on k };
 
     ghost storage = { λ k. node_view.storage_in k };
+
+    ghost stays_same = { λ k. tt };
 
     ghost sized = { λ k on. known.size k on };
 
@@ -96,6 +100,10 @@ impl<M: Fuse + Drop> Node for HostNode<M> {
         let (nv, cells, rows) = self.into_storage();
         (nv, HostRoom { cells, rows })
     }
+}
+
+impl<M: Fuse> Arms for HostNode<M> {
+    ghost fuse = { M.Fuse.own };
 
     fn arm(&mut self, calls: u32, keep: u32, byte: u8) {
         self.nv.arm(calls, keep, byte);

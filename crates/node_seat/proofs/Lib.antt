@@ -1,7 +1,7 @@
 pub mod Rests
 pub mod Booted
 pub mod Called
-pub mod Performed
+pub mod Runs
 pub mod Armed
 pub mod Fails
 pub mod Wrote

@@ -1,5 +1,5 @@
 -- What the calls of a node do to its record and its storage.
-use Rattle.std.specs.Prelude.{◌≡◌, ◌↔◌, ◌⊎◌, List, ℕ, Bool, true, Result, OnOk, IsErrOf}
+use Rattle.std.specs.Prelude.{◌≡◌, ◌↔◌, ◌⊎◌, List, ℕ, Bool, true, Result, OnOk, OnErr, IsErrOf}
 use Rattle.bench_base.specs.declared.refusals.StoreFail.{StoreFail}
 use Rattle.bench_base.specs.declared.refusals.StoreFail.TheVariants.{Worn, Failed}
 use Rattle.nv_model.specs.declared.nv.Nv.{Ghosts}
@@ -29,6 +29,11 @@ pub record Commits {S X : Type 0} (n : Counting S X) (before now : S) (change : 
   pub worn : IsErrOf result Worn ↔ (n.is_worn before change ≡ true)
   pub not_failed : IsErrOf result Failed → ⊥
   pub done : OnOk result (now ≡ n.after before change)
+
+-- what it left as it was: the record where the change was not committed, and what is beside the record
+pub record Leaves {S : Type 0} (before now : S) (Beside : Type 0) (result : Result (Unit {0}) StoreFail) : Type 0 where
+  pub record_stays : OnErr result (now ≡ before)
+  pub beside : Beside
 
 -- and for the storage: at every moment each image shows the record before it, or that after it
 pub record Stores {S : Type 0} (g : Ghosts S) (IsOld IsNew : List ℕ → Type 0) (before now : S) (end : End) : Type 0 where

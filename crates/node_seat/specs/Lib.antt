@@ -7,3 +7,4 @@ pub mod Calls
 -- Promised: those rest on these.
 pub mod Stands
 pub mod Performed
+pub mod Runs

@@ -3,7 +3,9 @@
 #![tactic(auto)]
 
 mod node;
+mod running;
 mod seat;
 
-pub use node::Node;
+pub use node::{Arms, Node};
+pub use running::{Running, answer};
 pub use seat::{arm, perform, start, stop};

@@ -4,22 +4,22 @@ ghost use Rattle.nv_model.specs.Moments.{Image};
 ghost use Rattle.nv_model.specs.Still.{SameTimes, armed, with_fuse};
 ghost use Rattle.nv_store.specs.Fills.{Fill};
 ghost use Rattle.node_acts.specs.Views.{Counting};
-ghost use Rattle.node_seat.specs.Does.{Reads, RestartIs, Spends, Commits, Stores, Writes};
+ghost use Rattle.node_seat.specs.Does.{Reads, RestartIs, Spends, Commits, Leaves, Stores, Writes};
 ghost use Rattle.node_seat.specs.Ends.{begins, end_of_boot, end_of_commit, leaves_running};
 
 use bench_base::refusals::{BootFail, StoreFail};
-use nv_model::{Fuse, NvFail};
+use nv_model::{Nv, NvFail};
 
 /// A node in its storage, on or off: what its record is, and how a change of it is committed. While it is off, what it
 /// knew of its storage counts for nothing.
-pub trait Node: Drop + Sized {
-    type Storage: Fuse + Drop;
+pub trait Node: Sized {
+    type Storage: Nv;
     /// Which node of its kind it is.
     type Name: Copy;
     /// What a commit changes of the record.
     type Change: Copy;
     /// The memory that it runs in.
-    type Spare: Drop;
+    type Spare;
 
     /// The record as callers see it, with the count of each of its cells.
     ghost Seen: { Type 0 };
@@ -50,6 +50,9 @@ pub trait Node: Drop + Sized {
 
     /// The storage is none of the node.
     ghost IsDamaged: { Self.Name → Self.Storage → Type 0 };
+
+    /// What a commit leaves as it was beside the record.
+    ghost Stays: { Self → Self → Type 0 };
 
     ghost name: { Self → Self.Name };
 
@@ -93,6 +96,7 @@ pub trait Node: Drop + Sized {
         ensures name { name self.new ≡ name self.old }
         ensures kept { IsKept change.now }
         ensures rests { IsErrOf result StoreFail.Worn → self.new ≡ self.old }
+        ensures stays { Leaves (seen self.old) (seen self.new) (Stays self.old self.new) result }
         ensures answers { Commits counting (seen self.old) (seen self.new) change.now result }
         ensures stores { Stores Self.Storage.Nv (IsShown (seen self.old)) (IsShown (counting.after (seen self.old) change.now))
             (storage self.old) (storage self.new) (end_of_commit result) }
@@ -111,15 +115,7 @@ pub trait Node: Drop + Sized {
     fn into_parts(self) -> (Self::Storage, Self::Spare)
         ensures { result.0 ≡ storage self };
 
-    /// Arms the fuse of the storage.
-    fn arm(&mut self, calls: u32, keep: u32, byte: u8)
-        ensures armed { Self.Storage.fuse_of (storage self.new) ≡ armed calls keep byte (Self.Storage.fuse_of (storage self.old)) }
-        ensures times { SameTimes (Self.Storage.times (storage self.old)) (Self.Storage.times (storage self.new)) }
-        ensures size { Self.Storage.size (storage self.new) ≡ Self.Storage.size (storage self.old) }
-        ensures meters { Self.Storage.meters (storage self.new) ≡ with_fuse calls (Self.Storage.meters (storage self.old)) }
-        ensures name { name self.new ≡ name self.old }
-        ensures seen { seen self.new ≡ seen self.old }
-        ensures leaves { is_on self.new ≡ is_on self.old };
+    ghost stays_same: { (k : Self) → Stays k k };
 
     ghost sized: { (k : Self) → is_on k ≡ true → Self.Storage.size (storage k) ≡ bytes };
 
@@ -140,4 +136,22 @@ pub trait Node: Drop + Sized {
     /// Storage that shows a record of the node is not damaged.
     ghost intact: { (d : Self.Name) (s : Seen) (nv : Self.Storage) → IsSound d s → IsShown s (Self.Storage.content nv)
         → Self.Storage.size nv ≡ bytes → IsDamaged d nv → ⊥ };
+}
+
+/// A node whose storage has a fuse.
+pub trait Arms: Node {
+    ghost use Rattle.nv_model.specs.declared.fuse.Fuse.{Ghosts};
+
+    /// The fuse of its storage.
+    ghost fuse: { Ghosts Self.Storage };
+
+    /// Arms the fuse of the storage.
+    fn arm(&mut self, calls: u32, keep: u32, byte: u8)
+        ensures armed { fuse.fuse_of (Self.storage self.new) ≡ armed calls keep byte (fuse.fuse_of (Self.storage self.old)) }
+        ensures times { SameTimes (Self.Storage.times (Self.storage self.old)) (Self.Storage.times (Self.storage self.new)) }
+        ensures size { Self.Storage.size (Self.storage self.new) ≡ Self.Storage.size (Self.storage self.old) }
+        ensures meters { Self.Storage.meters (Self.storage self.new) ≡ with_fuse calls (Self.Storage.meters (Self.storage self.old)) }
+        ensures name { Self.name self.new ≡ Self.name self.old }
+        ensures seen { Self.seen self.new ≡ Self.seen self.old }
+        ensures leaves { Self.is_on self.new ≡ Self.is_on self.old };
 }

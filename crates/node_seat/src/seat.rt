@@ -5,7 +5,7 @@ ghost use Rattle.node_seat.specs.Calls.{CallDoes, Wrote};
 ghost use Rattle.node_seat.specs.Shown.{CanCommit};
 ghost use Rattle.node_seat.specs.Starts.{StartDoes, StopDoes, ArmDoes};
 
-use crate::node::Node;
+use crate::node::{Arms, Node};
 use bench_base::refusals::{BootFail, StoreFail};
 use node_acts::{Act, Outcome, Started};
 use nv_model::NvFail;
@@ -65,8 +65,8 @@ pub fn perform<K: Node, F: Copy, A: Copy>(node: &mut K, act: &Act<K::Change, F, 
 }
 
 /// Arms the fuse of the node's storage: `calls` calls of write and sync pass, and the next one burns it.
-pub fn arm<K: Node>(node: &mut K, calls: u32, keep: u32, byte: u8)
-    ensures { ArmDoes K.Node K.Storage.Nv K.Storage.Fuse.own calls keep byte node.old node.new }
+pub fn arm<K: Arms>(node: &mut K, calls: u32, keep: u32, byte: u8)
+    ensures { ArmDoes K.Node K.Storage.Nv K.fuse calls keep byte node.old node.new }
 {
     node.arm(calls, keep, byte);
 }

@@ -11,7 +11,7 @@ use bench_base::ledger::Entry;
 use bench_base::words::Node as NodeNo;
 use node_acts::Started;
 use node_seat as seat;
-use node_seat::Node;
+use node_seat::{Arms, Node};
 
 fn started<T: Tell>(node: &NodeNo, started: Started) -> T
     ensures { T.IsOf result (turns.start_turn node.now started) }
@@ -45,8 +45,8 @@ pub fn stop<T: Tell, K: Node>(place: &mut K, node: &NodeNo) -> T
 }
 
 /// Arms the fuse of the node's storage.
-pub fn cut<T: Tell, K: Node>(place: &mut K, node: &NodeNo, calls: u32, keep: u32, byte: u8) -> T
-    ensures did { ArmDoes K.Node K.Storage.Nv K.Storage.Fuse.own calls keep byte place.old place.new × T.IsOf result (turns.turn_of (Reply.CutSet node.now) []) }
+pub fn cut<T: Tell, K: Arms>(place: &mut K, node: &NodeNo, calls: u32, keep: u32, byte: u8) -> T
+    ensures did { ArmDoes K.Node K.Storage.Nv K.fuse calls keep byte place.old place.new × T.IsOf result (turns.turn_of (Reply.CutSet node.now) []) }
 {
     seat::arm(place, calls, keep, byte);
     T::silent(Reply::CutSet(*node))

@@ -22,22 +22,22 @@ use Rattle.psd_device.specs.declared.device.Device.{Device}
 
 -- its storage
 abbrev pub storage_of : {N : Type 0} {g : Ghosts N} → Device N g → N
-storage_of d = storage_in d.node
+storage_of d = storage_in d.running.node
 
 -- its commits and its record
 abbrev pub seen_of : {N : Type 0} {g : Ghosts N} → Device N g → Seen
-seen_of d = seen_in d.node
+seen_of d = seen_in d.running.node
 
 abbrev pub number_of : {N : Type 0} {g : Ghosts N} → Device N g → ℕ
-number_of d = number_in d.node
+number_of d = number_in d.running.node
 
 -- the commit of it that failed
 abbrev pub torn_of : {N : Type 0} {g : Ghosts N} → Device N g → Option Commit
-torn_of d = d.torn
+torn_of d = d.running.torn
 
 -- from which number of commits and slot on wear is counted, and how often each slot was filled since
 abbrev pub wear_of : {N : Type 0} {g : Ghosts N} → Device N g → Wear
-wear_of d = wear_in d.node
+wear_of d = wear_in d.running.node
 
 -- == a boot ==
 
@@ -71,7 +71,7 @@ take_of d bytes today = take_act todays_rules (number_of d) bytes today (seen_of
 
 -- What a call of this act did, answered and left. The record is one that can be kept, and so is the one after a commit.
 pub record Performs {N A : Type 0} {g : Ghosts N} (act : DeviceAct A) (old new : Device N g) (result : DeviceResult A) : Type 0 where
-  pub performed : Performed g counting ShowsSeen storage_of seen_of torn_of act old new result
+  pub performed : Performed g counting ShowsSeen (λ r. storage_in r.node) (λ r. seen_in r.node) (λ r. r.torn) act old.running new.running result
   pub next : torn_of old ≡ None → IfSome (commit_in counting (seen_of old) act) (λ x. IfSome x.1.state IsKept)
   pub number : number_of new ≡ number_of old
   pub kept : IfSome (seen_of new).state IsKept

@@ -14,6 +14,7 @@ use crate::node::DeviceNode;
 use bench_base::numbers::DevNo;
 use bench_base::refusals::BootFail;
 use bench_base::sizes::{DEVICE_BYTES, RECORD_BYTES, SLOTS};
+use node_seat::Running;
 use nv_model::Nv;
 use nv_ring::Wear;
 use nv_store::{MountCause, mount_lent};
@@ -104,7 +105,9 @@ impl<N: Nv> Device<N> {
     {
         let mut node = DeviceNode::new(device, nv);
         match node.boot_record(device) {
-            Ok(()) => Ok(Device { node, torn: None }),
+            Ok(()) => Ok(Device {
+                running: Running { node, torn: None },
+            }),
             Err(fail) => Err((node.into_storage(), fail)),
         }
     }

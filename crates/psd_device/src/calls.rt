@@ -11,23 +11,12 @@ ghost use Rattle.psd_state.specs.Acts.{resend_act, ack_act, status_act};
 use crate::device::Device;
 use bench_base::bytes::Note;
 use bench_base::numbers::DayNo;
-use bench_base::refusals::{DevFail, Fail};
+use bench_base::refusals::DevFail;
 use bench_base::words::{Key, Kind};
-use node_acts::Act;
+use node_seat::answer;
 use nv_model::Nv;
-use psd_state::{DevStatus, DeviceAct, Franked, Taken, acts};
+use psd_state::{DevStatus, Franked, Taken, acts};
 use psd_wire::DebitMsg;
-
-// What a call that commits nothing answers.
-fn answer<A: Copy>(act: DeviceAct<A>) -> Result<A, DevFail>
-    ensures { result ≡ answer_of act }
-{
-    match act {
-        Act::Refuse(refusal) => Err(Fail::Refused(refusal)),
-        Act::Tell(answer) => Ok(answer),
-        Act::Commits(_, _, answer) => Ok(answer),
-    }
-}
 
 impl<N: Nv> Device<N> {
     ghost use Rattle.psd_device.specs.DeviceView.{seen_of, make_of, debit_of, ask_of, take_of, Performs};
@@ -36,7 +25,7 @@ impl<N: Nv> Device<N> {
     pub fn make(&mut self, key: &Key) -> Result<(), DevFail>
         ensures { Performs (make_of self.old key.now) self.old self.new result }
     {
-        let act = acts::make_act(self.node.number(), key, self.node.record());
+        let act = acts::make_act(self.running.node.number(), key, self.running.node.record());
         self.perform(act)
     }
 
@@ -45,7 +34,12 @@ impl<N: Nv> Device<N> {
     pub fn debit(&mut self, command: &DebitMsg, day: DayNo) -> Result<Franked, DevFail>
         ensures { Performs (debit_of self.old command.now day) self.old self.new result }
     {
-        let act = acts::debit_act(self.node.number(), command, day, self.node.record());
+        let act = acts::debit_act(
+            self.running.node.number(),
+            command,
+            day,
+            self.running.node.record(),
+        );
         self.perform(act)
     }
 
@@ -61,12 +55,12 @@ impl<N: Nv> Device<N> {
         ensures { Performs (ask_of self.old kind customer amount day) self.old self.new result }
     {
         let act = acts::ask_act(
-            self.node.number(),
+            self.running.node.number(),
             kind,
             customer,
             amount,
             day,
-            self.node.record(),
+            self.running.node.record(),
         );
         self.perform(act)
     }
@@ -77,7 +71,12 @@ impl<N: Nv> Device<N> {
     pub fn take(&mut self, bytes: &[u8], day: DayNo) -> Result<Taken, DevFail>
         ensures { Performs (take_of self.old bytes.now day) self.old self.new result }
     {
-        let act = acts::take_act(self.node.number(), bytes, day, self.node.record());
+        let act = acts::take_act(
+            self.running.node.number(),
+            bytes,
+            day,
+            self.running.node.record(),
+        );
         self.perform(act)
     }
 
@@ -85,20 +84,20 @@ impl<N: Nv> Device<N> {
     pub fn resend(&self) -> Result<Note, DevFail>
         ensures { result ≡ answer_of (resend_act (seen_of self.now).state) }
     {
-        answer(acts::resend_act(self.node.record()))
+        answer(acts::resend_act(self.running.node.record()))
     }
 
     /// The message that the last transaction was applied. `Blank`, then `NothingDone`.
     pub fn ack(&self) -> Result<Note, DevFail>
         ensures { result ≡ answer_of (ack_act (seen_of self.now).state) }
     {
-        answer(acts::ack_act(self.node.record()))
+        answer(acts::ack_act(self.running.node.record()))
     }
 
     /// What the device shows of its record on that day. `Blank` where there is none.
     pub fn status(&self, day: DayNo) -> Result<DevStatus, DevFail>
         ensures { result ≡ answer_of (status_act day (seen_of self.now).state) }
     {
-        answer(acts::status_act(day, self.node.record()))
+        answer(acts::status_act(day, self.running.node.record()))
     }
 }

@@ -8,49 +8,28 @@ ghost use Rattle.psd_device.specs.NodeView.{storage_in, is_on};
 
 use crate::node::DeviceNode;
 use bench_base::ledger::Commit;
-use bench_base::refusals::{DevFail, Fail, StoreFail};
+use bench_base::refusals::DevFail;
 use bench_base::sizes::{RECORD_BYTES, SLOTS};
-use node_acts::Act;
+use node_seat::Running;
 use nv_model::{Fused, Nv};
 use psd_state::DeviceAct;
 
 /// A device over storage of 3,424 bytes: one cell of sixteen slots, whose payload is the device's record.
 #[derive(Drop)]
 pub struct Device<N: Nv> {
-    pub(crate) node: DeviceNode<N>,
-    /// The commit that failed, after which no other is tried.
-    pub(crate) torn: Option<Commit>,
-    ghost runs: { is_on node ≡ not (is_some torn) },
-    ghost room: { N.size (storage_in node) ≡ DEVICE_BYTES },
+    pub(crate) running: Running<DeviceNode<N>>,
+    ghost runs: { is_on running.node ≡ not (is_some running.torn) },
+    ghost room: { N.size (storage_in running.node) ≡ DEVICE_BYTES },
 }
 
 impl<N: Nv> Device<N> {
     ghost use Rattle.psd_device.specs.DeviceView.{storage_of, seen_of, torn_of, wear_of, Performs};
 
-    /// Does what a call decided on. A device that failed does nothing, and answers `Failed` before every refusal; the
-    /// other failures of storage come after every refusal.
+    // Does what a call decided on: see `Running::perform`.
     pub(crate) fn perform<A: Copy>(&mut self, act: DeviceAct<A>) -> Result<A, DevFail>
         ensures { Performs act self.old self.new result }
     {
-        if self.torn.is_some() {
-            return Err(Fail::Store(StoreFail::Failed));
-        }
-        match act {
-            Act::Refuse(refusal) => Err(Fail::Refused(refusal)),
-            Act::Tell(answer) => Ok(answer),
-            Act::Commits(commit, next, answer) => {
-                if self.node.is_worn() {
-                    return Err(Fail::Store(StoreFail::Worn));
-                }
-                match self.node.commit_record(&next) {
-                    Ok(()) => Ok(answer),
-                    Err(fail) => {
-                        self.torn = Some(commit);
-                        Err(Fail::Store(fail))
-                    }
-                }
-            }
-        }
+        self.running.perform(act)
     }
 
     /// The number of commits.
@@ -58,14 +37,14 @@ impl<N: Nv> Device<N> {
         ensures value { result ≡ (seen_of self.now).count }
         ensures fits { result < 2 ^ 32 }
     {
-        self.node.count()
+        self.running.node.count()
     }
 
     /// The commit that a call of this value which answered Power or Fault would have added; None exactly where no call did.
     pub fn torn(&self) -> Option<Commit>
         ensures { result ≡ torn_of self.now }
     {
-        self.torn
+        self.running.torn()
     }
 
     /// How many commits of this value filled a slot.
@@ -82,15 +61,15 @@ impl<N: Nv> Device<N> {
         ensures current { N.tells → torn_of self.now ≡ None → ShowsSeen (seen_of self.now) (N.content (storage_of self.now))
             × IsCurrent (slot_after (wear_of self.now).start (sum (wear_of self.now).fills)) (N.content (storage_of self.now)) }
     {
-        self.node.wear.fills[slot as usize]
+        self.running.node.wear.fills[slot as usize]
     }
 
     /// Gives the storage back.
     pub fn shut(self) -> N
         ensures { result ≡ storage_of self }
     {
-        let Device { node, torn: _ } = self;
-        node.into_storage()
+        let Device { running } = self;
+        running.into_node().into_storage()
     }
 }
 
@@ -108,6 +87,6 @@ impl<M: Nv> Device<Fused<M>> {
         ensures torn { torn_of self.new ≡ torn_of self.old }
         ensures wear { wear_of self.new ≡ wear_of self.old }
     {
-        self.node.nv.arm(calls, keep, byte);
+        self.running.node.nv.arm(calls, keep, byte);
     }
 }

@@ -6,17 +6,18 @@ ghost use Rattle.psd_device.specs.Shown.{IsKept, ShowsSeen, fill_of};
 ghost use Rattle.psd_device.specs.Boots.{IsDamaged};
 ghost use Rattle.psd_device.specs.Sound as sound_by;
 ghost use Rattle.psd_device.specs.NodeView as node_view;
+ghost use Rattle.psd_device.specs.NodeView.{SameWear};
 ghost use Rattle.psd_device.specs.Knows as known;
 ghost use Rattle.psd_device.specs.NodeLaws as laws;
 
 use crate::node::DeviceNode;
 use bench_base::numbers::DevNo;
 use bench_base::refusals::{BootFail, StoreFail};
-use node_seat::Node;
-use nv_model::{Fuse, NvFail};
+use node_seat::{Arms, Node};
+use nv_model::{Fuse, Nv, NvFail};
 use psd_state::DevRec;
 
-impl<M: Fuse + Drop> Node for DeviceNode<M> {
+impl<M: Nv> Node for DeviceNode<M> {
     type Storage = M;
 
     type Name = DevNo;
@@ -45,6 +46,8 @@ impl<M: Fuse + Drop> Node for DeviceNode<M> {
 
     ghost IsDamaged = { λ d nv. IsDamaged M.Nv.own d nv };
 
+    ghost Stays = { λ j k. SameWear (node_view.wear_in j) (node_view.wear_in k) };
+
     ghost name = { λ k. node_view.number_in k };
 
     ghost seen = { λ k. node_view.seen_in k };
@@ -52,6 +55,8 @@ impl<M: Fuse + Drop> Node for DeviceNode<M> {
     ghost is_on = { λ k. node_view.is_on k };
 
     ghost storage = { λ k. node_view.storage_in k };
+
+    ghost stays_same = { λ k. record { first = refl; start = refl } };
 
     ghost sized = { λ k on. known.size k on };
 
@@ -96,6 +101,10 @@ impl<M: Fuse + Drop> Node for DeviceNode<M> {
     fn into_parts(self) -> (M, ()) {
         (self.into_storage(), ())
     }
+}
+
+impl<M: Fuse> Arms for DeviceNode<M> {
+    ghost fuse = { M.Fuse.own };
 
     fn arm(&mut self, calls: u32, keep: u32, byte: u8) {
         self.nv.arm(calls, keep, byte);

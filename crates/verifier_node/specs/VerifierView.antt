@@ -19,15 +19,15 @@ use Rattle.verifier_node.specs.declared.running.Verifier.{Verifier}
 
 -- its storage
 abbrev pub storage_of : {N : Type 0} {g : Ghosts N} → Verifier N g → N
-storage_of v = storage_in v.node
+storage_of v = storage_in v.running.node
 
 -- its rows, with the commits of each
 abbrev pub seen_of : {N : Type 0} {g : Ghosts N} → Verifier N g → Seen
-seen_of v = seen_in v.node
+seen_of v = seen_in v.running.node
 
 -- the commit of it that failed
 abbrev pub torn_of : {N : Type 0} {g : Ghosts N} → Verifier N g → Option Commit
-torn_of v = v.torn
+torn_of v = v.running.torn
 
 -- what starts: it shows what its storage shows
 pub record Starts {N : Type 0} {g : Ghosts N} (v : Verifier N g) : Type 0 where
@@ -46,5 +46,5 @@ CanCommit {N} {A} act v = (commit : Commit) (x : Change) (a : A) → act ≡ Com
 
 -- what a call of this act did, answered and left
 pub record Performs {N A : Type 0} {g : Ghosts N} (act : ScanAct A) (old new : Verifier N g) (result : ScanResult A) : Type 0 where
-  pub performed : Performed g counting IsShown storage_of seen_of torn_of act old new result
+  pub performed : Performed g counting IsShown (λ r. storage_in r.node) (λ r. seen_in r.node) (λ r. r.torn) act old.running new.running result
   pub size : g.size (storage_of new) ≡ VERIFIER_BYTES

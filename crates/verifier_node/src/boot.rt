@@ -17,6 +17,7 @@ use crate::running::Verifier;
 use bench_base::numbers::DevNo;
 use bench_base::refusals::BootFail;
 use bench_base::sizes::{BLOCK_BYTES, FIRST_BLOCK, VERIFIER_CELLS};
+use node_seat::Running;
 use nv_model::Nv;
 use nv_store::{MountCause, Room, clear_room, get_room, mount_room};
 use verifier::{BlockIndex, ReadyKeys, block_in, key_in, read_block, read_trust};
@@ -244,7 +245,9 @@ impl<N: Nv> Verifier<N> {
     {
         let mut node = VerifierNode::new(nv, room);
         match node.boot_rows() {
-            Ok(()) => Ok(Verifier { node, torn: None }),
+            Ok(()) => Ok(Verifier {
+                running: Running { node, torn: None },
+            }),
             Err(fail) => {
                 let (nv, room) = node.into_storage();
                 Err((nv, room, fail))

@@ -21,7 +21,7 @@ impl<N: Nv> Verifier<N> {
     pub fn trust(&mut self, device: DevNo, key: &Key) -> Result<(), ScanFail>
         ensures { Performs (act_of.trust_act device key.now (seen_of self.old)) self.old self.new result }
     {
-        let act = self.node.trust_act(device, key);
+        let act = self.running.node.trust_act(device, key);
         self.perform(act)
     }
 
@@ -31,7 +31,7 @@ impl<N: Nv> Verifier<N> {
         requires { 1 ≤ number }
         ensures { Performs (act_of.scan_act number bytes.now day (seen_of self.old)) self.old self.new result }
     {
-        let act = self.node.scan_act(number, bytes, day);
+        let act = self.running.node.scan_act(number, bytes, day);
         self.perform(act)
     }
 }

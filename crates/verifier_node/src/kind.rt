@@ -11,11 +11,11 @@ ghost use Rattle.verifier_node.specs.NodeLaws as laws;
 use crate::node::VerifierNode;
 use crate::room::VerifierRoom;
 use bench_base::refusals::{BootFail, StoreFail};
-use node_seat::Node;
-use nv_model::{Fuse, NvFail};
+use node_seat::{Arms, Node};
+use nv_model::{Fuse, Nv, NvFail};
 use verifier::Change;
 
-impl<M: Fuse + Drop> Node for VerifierNode<M> {
+impl<M: Nv> Node for VerifierNode<M> {
     type Storage = M;
 
     type Name = ();
@@ -44,6 +44,8 @@ impl<M: Fuse + Drop> Node for VerifierNode<M> {
 
     ghost IsDamaged = { λ d nv. payloads.IsDamaged M.Nv.own nv };
 
+    ghost Stays = { λ j k. Unit {0} };
+
     ghost name = { λ k. tt };
 
     ghost seen = { λ k. node_view.seen_in k };
@@ -51,6 +53,8 @@ impl<M: Fuse + Drop> Node for VerifierNode<M> {
     ghost is_on = { λ k. node_view.is_on k };
 
     ghost storage = { λ k. node_view.storage_in k };
+
+    ghost stays_same = { λ k. tt };
 
     ghost sized = { λ k on. known.size k on };
 
@@ -97,6 +101,10 @@ impl<M: Fuse + Drop> Node for VerifierNode<M> {
         let (nv, cells) = self.into_storage();
         (nv, VerifierRoom { cells })
     }
+}
+
+impl<M: Fuse> Arms for VerifierNode<M> {
+    ghost fuse = { M.Fuse.own };
 
     fn arm(&mut self, calls: u32, keep: u32, byte: u8) {
         self.nv.arm(calls, keep, byte);

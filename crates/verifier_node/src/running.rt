@@ -7,9 +7,9 @@ ghost use Rattle.verifier_node.specs.NodeView.{storage_in, is_on};
 
 use crate::node::VerifierNode;
 use bench_base::ledger::Commit;
-use bench_base::refusals::{Fail, ScanFail, StoreFail};
+use bench_base::refusals::ScanFail;
 use bench_base::sizes::BLOCK_BYTES;
-use node_acts::Act;
+use node_seat::Running;
 use nv_model::{Fused, Nv};
 use nv_store::Room;
 use verifier::{BlockIndex, ScanAct};
@@ -17,63 +17,42 @@ use verifier::{BlockIndex, ScanAct};
 /// The verifier over storage of 4,253,904 bytes: 1,032 cells, of devices 1 to 8 and then of blocks, each with its row.
 #[derive(Drop)]
 pub struct Verifier<N: Nv> {
-    pub(crate) node: VerifierNode<N>,
-    /// The commit that failed, after which no other is tried.
-    pub(crate) torn: Option<Commit>,
-    ghost runs: { is_on node ≡ not (is_some torn) },
-    ghost room: { N.size (storage_in node) ≡ VERIFIER_BYTES },
+    pub(crate) running: Running<VerifierNode<N>>,
+    ghost runs: { is_on running.node ≡ not (is_some running.torn) },
+    ghost room: { N.size (storage_in running.node) ≡ VERIFIER_BYTES },
 }
 
 impl<N: Nv> Verifier<N> {
     ghost use Rattle.verifier.specs.Index.{IsIndexOf};
     ghost use Rattle.verifier_node.specs.VerifierView.{storage_of, seen_of, torn_of, CanCommit, Performs};
 
-    /// Does what a call decided on. A verifier that failed does nothing, and answers `Failed` before every refusal; the
-    /// other failures of storage come after every refusal.
+    // Does what a call decided on: see `Running::perform`.
     pub(crate) fn perform<A: Copy>(&mut self, act: ScanAct<A>) -> Result<A, ScanFail>
         requires fits { CanCommit act self.old }
         ensures { Performs act self.old self.new result }
     {
-        if self.torn.is_some() {
-            return Err(Fail::Store(StoreFail::Failed));
-        }
-        match act {
-            Act::Refuse(refusal) => Err(Fail::Refused(refusal)),
-            Act::Tell(answer) => Ok(answer),
-            Act::Commits(commit, change, answer) => {
-                if self.node.is_worn(&change) {
-                    return Err(Fail::Store(StoreFail::Worn));
-                }
-                match self.node.commit_change(&change) {
-                    Ok(()) => Ok(answer),
-                    Err(fail) => {
-                        self.torn = Some(commit);
-                        Err(Fail::Store(fail))
-                    }
-                }
-            }
-        }
+        self.running.perform(act)
     }
 
     /// The blocks in use, each with its cell.
     pub fn blocks(&self) -> &BlockIndex
         ensures { IsIndexOf result.now (seen_of self.now) }
     {
-        self.node.blocks()
+        self.running.node.blocks()
     }
 
     /// The number of commits.
     pub fn commits(&self) -> u64
         ensures { result ≡ counting.count (seen_of self.now) }
     {
-        self.node.count()
+        self.running.commits()
     }
 
     /// The commit that a call of this value which answered Power or Fault would have added; None exactly where no call did.
     pub fn torn(&self) -> Option<Commit>
         ensures { result ≡ torn_of self.now }
     {
-        self.torn
+        self.running.torn()
     }
 
     /// Gives the storage and the memory back.
@@ -81,8 +60,8 @@ impl<N: Nv> Verifier<N> {
         ensures storage { result.0 ≡ storage_of self }
         ensures cells { cells_of result.1 ≡ VERIFIER_CELLS }
     {
-        let Verifier { node, torn: _ } = self;
-        node.into_storage()
+        let Verifier { running } = self;
+        running.into_node().into_storage()
     }
 }
 
@@ -98,6 +77,6 @@ impl<M: Nv> Verifier<Fused<M>> {
         ensures seen { seen_of self.new ≡ seen_of self.old }
         ensures torn { torn_of self.new ≡ torn_of self.old }
     {
-        self.node.nv.arm(calls, keep, byte);
+        self.running.node.nv.arm(calls, keep, byte);
     }
 }

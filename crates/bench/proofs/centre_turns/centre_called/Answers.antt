@@ -26,7 +26,7 @@ use Rattle.bench.proofs.centre_turns.centre_called.Given.{Over}
 use Rattle.bench.proofs.centre_turns.centre_called.Goals as goal
 
 abbrev node_of : (g : Over) → Ghosts (CentreNode g.row.M.Denot g.M.Nv) g.row.M.Denot (Unit {0}) Row CentreRoom
-node_of g = ghosts g.row.M g.M.Fuse g.M.Fuse-dict g.M.Nv g.M.Nv-dict g.M.Destruct-dict
+node_of g = ghosts g.row.M g.M.Nv g.M.Nv-dict
 
 -- by what the centre did
 by_call : (g : Over) (today : ℤ) (call : CentreCall) → IsRangedCall call → IsBytesCall call → (s t : CentreNode g.row.M.Denot g.M.Nv) (x : Outcome Reply Said) → Called (node_of g) g.M.Nv (λ k. centre_act call (books_in k)) s t x

@@ -19,7 +19,7 @@ use Rattle.bench.proofs.centre_turns.centre_turn.Given.{Over}
 use Rattle.bench.proofs.centre_turns.centre_turn.Goals as goal
 
 abbrev node_of : (g : Over) → Ghosts (CentreNode g.row.M.Denot g.M.Nv) g.row.M.Denot (Unit {0}) Row CentreRoom
-node_of g = ghosts g.row.M g.M.Fuse g.M.Fuse-dict g.M.Nv g.M.Nv-dict g.M.Destruct-dict
+node_of g = ghosts g.row.M g.M.Nv g.M.Nv-dict
 
 abbrev Comes : (g : Over) (asked : Asked CentreCall) (today : ℤ) (s t : CentreNode g.row.M.Denot g.M.Nv) → Turn → Type 0
 Comes g asked today s t turn = NodeTurn (node_of g) g.M.Nv g.M.Fuse centre_kind Centre tt today (centre_event asked) asked s t turn

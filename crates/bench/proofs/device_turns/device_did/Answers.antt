@@ -17,7 +17,7 @@ use Rattle.bench.proofs.device_turns.device_did.Given.{Over}
 use Rattle.bench.proofs.device_turns.device_did.Goals as goal
 
 abbrev node_of : (g : Over) → Ghosts (DeviceNode g.row.M.Denot g.M.Nv) g.row.M.Denot DevNo DevRec (Unit {0})
-node_of g = ghosts g.row.M g.M.Fuse g.M.Fuse-dict g.M.Nv g.M.Nv-dict g.M.Destruct-dict
+node_of g = ghosts g.row.M g.M.Nv g.M.Nv-dict
 
 pub returns-in-On : goal.returns-in-On
 returns-in-On g c =

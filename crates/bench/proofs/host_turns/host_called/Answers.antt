@@ -26,7 +26,7 @@ use Rattle.bench.proofs.host_turns.host_called.Given.{Over}
 use Rattle.bench.proofs.host_turns.host_called.Goals as goal
 
 abbrev node_of : (g : Over) → Ghosts (HostNode g.row.M.Denot g.M.Nv) g.row.M.Denot (Unit {0}) JobRow HostRoom
-node_of g = ghosts g.row.M g.M.Fuse g.M.Fuse-dict g.M.Nv g.M.Nv-dict g.M.Destruct-dict
+node_of g = ghosts g.row.M g.M.Nv g.M.Nv-dict
 
 -- by what the host did and the printer took
 by_call : (g : Over) (today : ℤ) (call : HostCall) (ranged : IsRangedJob call) (s t : HostNode g.row.M.Denot g.M.Nv) (x : Outcome Reply Said) → Called (node_of g) g.M.Nv (λ k. host_act call (rows_in k)) s t x

@@ -21,7 +21,7 @@ use Rattle.bench.proofs.host_turns.host_turn.Given.{Over}
 use Rattle.bench.proofs.host_turns.host_turn.Goals as goal
 
 abbrev node_of : (g : Over) → Ghosts (HostNode g.row.M.Denot g.M.Nv) g.row.M.Denot (Unit {0}) JobRow HostRoom
-node_of g = ghosts g.row.M g.M.Fuse g.M.Fuse-dict g.M.Nv g.M.Nv-dict g.M.Destruct-dict
+node_of g = ghosts g.row.M g.M.Nv g.M.Nv-dict
 
 -- what the event came to, and what the printer took
 abbrev Comes : (g : Over) (asked : Asked HostCall) (today : ℤ) (s t : HostNode g.row.M.Denot g.M.Nv) → Turn → Printer → Printer → Type 0

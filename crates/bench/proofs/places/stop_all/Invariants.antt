@@ -6,5 +6,5 @@ use Rattle.bench.proofs.places.stop_all.Given as goal
 abbrev pub invariant-loop-place : goal.invariant-loop-place
 invariant-loop-place g l = record {
   few : l.place ≤ length l.initial.devices.items;
-  stopping : Stopping (ghosts g.row.M g.M.Fuse g.M.Fuse-dict g.M.Nv g.M.Nv-dict g.M.Destruct-dict) g.M.Nv l.place l.initial.devices.items l.devices.items;
+  stopping : Stopping (ghosts g.row.M g.M.Nv g.M.Nv-dict) g.M.Nv l.place l.initial.devices.items l.devices.items;
 }

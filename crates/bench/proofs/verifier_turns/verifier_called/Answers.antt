@@ -25,7 +25,7 @@ use Rattle.bench.proofs.verifier_turns.verifier_called.Given.{Over}
 use Rattle.bench.proofs.verifier_turns.verifier_called.Goals as goal
 
 abbrev node_of : (g : Over) → Ghosts (VerifierNode g.row.M.Denot g.M.Nv) g.row.M.Denot (Unit {0}) Change VerifierRoom
-node_of g = ghosts g.row.M g.M.Fuse g.M.Fuse-dict g.M.Nv g.M.Nv-dict g.M.Destruct-dict
+node_of g = ghosts g.row.M g.M.Nv g.M.Nv-dict
 
 -- by what the verifier did
 by_call : (g : Over) (today : ℤ) (call : VerifierCall) → IsRangedScan call → IsBytesCall call → (s t : VerifierNode g.row.M.Denot g.M.Nv) (x : Outcome Reply Said)

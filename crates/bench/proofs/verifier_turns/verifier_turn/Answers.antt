@@ -18,7 +18,7 @@ use Rattle.bench.proofs.verifier_turns.verifier_turn.Given.{Over}
 use Rattle.bench.proofs.verifier_turns.verifier_turn.Goals as goal
 
 abbrev node_of : (g : Over) → Ghosts (VerifierNode g.row.M.Denot g.M.Nv) g.row.M.Denot (Unit {0}) Change VerifierRoom
-node_of g = ghosts g.row.M g.M.Fuse g.M.Fuse-dict g.M.Nv g.M.Nv-dict g.M.Destruct-dict
+node_of g = ghosts g.row.M g.M.Nv g.M.Nv-dict
 
 abbrev Comes : (g : Over) (asked : Asked VerifierCall) (today : ℤ) (s t : VerifierNode g.row.M.Denot g.M.Nv) → Turn → Type 0
 Comes g asked today s t turn = NodeTurn (node_of g) g.M.Nv g.M.Fuse verifier_kind Verifier tt today (verifier_event asked) asked s t turn

@@ -12,5 +12,5 @@ perform-requires g c =
     let act = c.scan_act-act in
     record {
       fits = can_commit (seen_of v) (scan_act c.args.number c.args.bytes.now c.args.day (seen_of v)) act.result act.ensures
-          ((leaves (seen_of v) (rows_sound v.node)).scanned c.args.number c.args.bytes.now c.args.day (c.requires, c.ranges.number.fits) (λ i. omega (arith, c.type_inv.bytes i)));
+          ((leaves (seen_of v) (rows_sound v.running.node)).scanned c.args.number c.args.bytes.now c.args.day (c.requires, c.ranges.number.fits) (λ i. omega (arith, c.type_inv.bytes i)));
     }

@@ -11,5 +11,5 @@ perform-requires g c =
     let act = c.trust_act-act in
     record {
       fits = can_commit (seen_of v) (trust_act c.args.device c.args.key.now (seen_of v)) act.result act.ensures.act
-          ((leaves (seen_of v) (rows_sound v.node)).trusted c.args.device c.args.key.now act.ensures.number (c.told-key, c.fits-key));
+          ((leaves (seen_of v) (rows_sound v.running.node)).trusted c.args.device c.args.key.now act.ensures.number (c.told-key, c.fits-key));
     }
