@@ -26,7 +26,7 @@ fn stood(device: DevNo, held: u64, act: CentreAct<Standing>) -> Reply
     }
 }
 
-fn compared(device: DevNo, record: &Option<DevRec>, act: CentreAct<Standing>) -> Reply
+pub(crate) fn compared(device: DevNo, record: &Option<DevRec>, act: CentreAct<Standing>) -> Reply
     ensures { result ≡ compares.compared device «record».now act }
 {
     match record {
