@@ -7,8 +7,8 @@ use std::alloc::{AllocError, Global};
 /// The digits of a byte that is no text.
 const DIGITS: [u8; 16] = *b"0123456789abcdef";
 
-// The place of the first line end, or the end.
-fn line_len(bytes: &[u8]) -> usize
+/// The place of the first line end, or the end.
+pub fn line_len(bytes: &[u8]) -> usize
     ensures { result ≤ length bytes.now }
 {
     for at in 0..bytes.len() {
@@ -19,8 +19,8 @@ fn line_len(bytes: &[u8]) -> usize
     bytes.len()
 }
 
-// What is left behind the first line and its line end.
-fn behind_line(bytes: &[u8]) -> &[u8] {
+/// What is left behind the first line and its line end.
+pub fn behind_line(bytes: &[u8]) -> &[u8] {
     let end = line_len(bytes);
     if end < bytes.len() {
         &bytes[end + 1..]

@@ -1,20 +1,33 @@
 //! The auditor's program: whether the reports that some meter wrote for these scripts may be those of a lawful meter. Each NAME is a
-//! run, in order: NAME.script, NAME.report and NAME.rates, which is empty where it is missing. With `--table` before them a page is printed
-//! below the verdicts: what the auditor has behind the runs.
+//! run, in order: NAME.script, NAME.report and NAME.rates, which is empty where it is missing. One word before them may ask for more: `--table` for what
+//! the auditor has behind the runs, `--page` for what they came to, `--csv` and `--json` for the journal of what they committed.
 #![tactic(auto)]
 
+mod book;
+mod clerk;
+mod digest;
+mod figures;
 mod found;
+mod journal;
+mod kinds;
 mod page;
+mod table;
 
 ghost use Rattle.told_bench.specs.Seeing.{IsReady, audit_of};
 
 use bench_base::events::Reply;
 use bench_base::numbers::DayNo;
+use book::Place;
+use clerk::Clerk;
 use found::{found_line, shown};
+use journal::Form;
+use kinds::Mishap;
 use page::tell_page;
 use script_text::{Line, put_reply};
+use std::alloc::{AllocError, Global};
 use std::process::ExitCode;
 use std::{env, fs, io};
+use table::tell_table;
 use thiserror::Error;
 use told_bench::Auditor;
 use told_runs::{Ending, Verdict, audit_run};
@@ -25,19 +38,21 @@ const FINDING: u8 = 1;
 /// Why nothing more is judged: the line that is printed on standard error.
 #[derive(Debug, Drop, Error)]
 enum Fault {
-    #[error("usage: meter_audit [--table] NAME ..")]
+    #[error("usage: meter_audit [--table | --page | --csv | --json] NAME ..")]
     Words,
     #[error("cannot use {0}")]
     File(String),
     #[error("write fault")]
     Write,
+    #[error("counted otherwise than judged")]
+    Counted,
     #[error("no memory")]
     Memory,
 }
 
 fn code_of(fault: &Fault) -> u8 {
     match fault {
-        Fault::Words | Fault::File(_) | Fault::Write => 2,
+        Fault::Words | Fault::File(_) | Fault::Write | Fault::Counted => 2,
         Fault::Memory => 3,
     }
 }
@@ -50,35 +65,92 @@ struct Run {
     rates: Vec<u8>,
 }
 
-/// What the words ask for: the names of the runs, and whether a page is printed below the verdicts.
+/// What is printed beside the verdicts.
+#[derive(Clone, Copy)]
+enum Asked {
+    Nothing,
+    Table,
+    Page,
+    Csv,
+    Json,
+}
+
+/// What the words ask for: the names of the runs, and what is printed beside the verdicts.
 #[derive(Drop)]
 struct Words {
-    table: bool,
+    asked: Asked,
     names: Vec<String>,
 }
 
-// The words behind the program's name. The first may ask for the page; each other is a run.
-fn words_of(rt: &HostRuntime) -> Result<Words, Fault> {
-    let mut table = false;
-    let mut names = Vec::new(rt.alloc());
+// What the word asks for, if it is none of a run.
+fn asked_by(word: &str) -> Option<Asked> {
+    match word {
+        "--table" => Some(Asked::Table),
+        "--page" => Some(Asked::Page),
+        "--csv" => Some(Asked::Csv),
+        "--json" => Some(Asked::Json),
+        _ => None,
+    }
+}
+
+fn form_of(asked: Asked) -> Form {
+    match asked {
+        Asked::Nothing | Asked::Table | Asked::Page => Form::None,
+        Asked::Csv => Form::Csv,
+        Asked::Json => Form::Json,
+    }
+}
+
+// Whether the runs are gone over once more behind their verdicts.
+fn is_counted(asked: Asked) -> bool {
+    match asked {
+        Asked::Nothing | Asked::Table => false,
+        Asked::Page | Asked::Csv | Asked::Json => true,
+    }
+}
+
+fn has_journal(asked: Asked) -> bool {
+    match asked {
+        Asked::Nothing | Asked::Table | Asked::Page => false,
+        Asked::Csv | Asked::Json => true,
+    }
+}
+
+// The words behind the program's name.
+fn given_words(rt: &HostRuntime) -> Result<Vec<String>, Fault> {
+    let mut words = Vec::new(rt.alloc());
     let given = match env::args(rt) {
         Ok(given) => given,
         Err(fault) if fault.kind() == io::ErrorKind::InvalidData => return Err(Fault::Words),
         Err(_) => return Err(Fault::Memory),
     };
     for word in given.skip(1) {
-        if !table && names.is_empty() && word.as_str() == "--table" {
-            table = true;
-        } else {
-            let Ok(()) = names.push(word) else {
-                return Err(Fault::Memory);
-            };
+        let Ok(()) = words.push(word) else {
+            return Err(Fault::Memory);
+        };
+    }
+    Ok(words)
+}
+
+// What the words ask for. The first may ask for more than verdicts; each other is a run.
+fn words_of(rt: &HostRuntime) -> Result<Words, Fault> {
+    let mut names = given_words(rt)?;
+    let mut asked = Asked::Nothing;
+    if let Some(first) = names.first() {
+        if let Some(more) = asked_by(first.as_str()) {
+            asked = more;
+        }
+    }
+    match asked {
+        Asked::Nothing => {}
+        Asked::Table | Asked::Page | Asked::Csv | Asked::Json => {
+            names.remove(0);
         }
     }
     if names.is_empty() {
         return Err(Fault::Words);
     }
-    Ok(Words { table, names })
+    Ok(Words { asked, names })
 }
 
 // The file of a run that has this ending.
@@ -124,70 +196,117 @@ fn open_run(rt: &HostRuntime, name: &str) -> Result<Run, Fault> {
     })
 }
 
+// Prints a line of a verdict: where the journal goes to standard output, on standard error. Standard error may take no line; the exit status tells the same.
+fn say(rt: &HostRuntime, asked: Asked, text: Result<String, AllocError>) -> Result<(), Fault> {
+    let Ok(text) = text else {
+        return Err(Fault::Memory);
+    };
+    if has_journal(asked) {
+        let _ = eprintln!(rt; "{text}");
+        return Ok(());
+    }
+    match println!(rt; "{text}") {
+        Ok(()) => Ok(()),
+        Err(_) => Err(Fault::Write),
+    }
+}
+
 // A finding: what was due there, and what the report has.
-fn tell_wrong(
-    rt: &HostRuntime,
+fn wrong_text(
+    alloc: Global,
     name: &str,
     run: &Run,
     number: u32,
     due: &Reply,
-) -> Result<u8, Fault> {
+) -> Result<String, AllocError> {
     let mut line = Line::new();
     put_reply(&mut line, due);
-    let Ok(due) = shown(rt.alloc(), line.as_slice()) else {
-        return Err(Fault::Memory);
-    };
+    let due = shown(alloc, line.as_slice())?;
     let has = found_line(run.script.as_slice(), run.report.as_slice(), number);
-    let Ok(has) = shown(rt.alloc(), has) else {
-        return Err(Fault::Memory);
-    };
-    match println!(rt; "wrong {name} line {number}: due {due}\nfound {has}") {
-        Ok(()) => Ok(FINDING),
-        Err(_) => Err(Fault::Write),
-    }
+    let has = shown(alloc, has)?;
+    format!(in alloc; "wrong {name} line {number}: due {due}\nfound {has}")
 }
 
-// Prints the verdict on a run: its exit status, which is 0 where it may be so.
-fn tell(rt: &HostRuntime, name: &str, run: &Run, verdict: &Verdict) -> Result<u8, Fault> {
-    let (code, told) = match verdict {
-        Verdict::Lawful(Ending::Done) => (0, println!(rt; "lawful {name}")),
-        Verdict::Lawful(Ending::Script(line)) => (
-            0,
-            println!(rt; "lawful {name}, whose script ends badly at line {line}"),
-        ),
-        Verdict::Lawful(Ending::TooLong) => (
-            0,
-            println!(rt; "lawful {name}, whose script is too long"),
-        ),
-        Verdict::Stopped(line) => (
-            0,
-            println!(rt; "stopped {name} before the answer to line {line}"),
-        ),
-        Verdict::More(line) => (
-            FINDING,
-            println!(rt; "more {name}: the report goes on behind line {line}"),
-        ),
-        Verdict::Wrong(line, due) => return tell_wrong(rt, name, run, *line, due),
-        Verdict::Memory => return Err(Fault::Memory),
-    };
-    match told {
-        Ok(()) => Ok(code),
-        Err(_) => Err(Fault::Write),
-    }
-}
-
-fn is_stopped(verdict: &Verdict) -> bool {
+fn verdict_text(
+    alloc: Global,
+    name: &str,
+    run: &Run,
+    verdict: &Verdict,
+) -> Result<String, AllocError> {
     match verdict {
-        Verdict::Stopped(_) => true,
-        Verdict::Lawful(_) | Verdict::Wrong(_, _) | Verdict::More(_) | Verdict::Memory => false,
+        Verdict::Lawful(Ending::Done) => format!(in alloc; "lawful {name}"),
+        Verdict::Lawful(Ending::Script(line)) => {
+            format!(in alloc; "lawful {name}, whose script ends badly at line {line}")
+        }
+        Verdict::Lawful(Ending::TooLong) => {
+            format!(in alloc; "lawful {name}, whose script is too long")
+        }
+        Verdict::Stopped(line) => {
+            format!(in alloc; "stopped {name} before the answer to line {line}")
+        }
+        Verdict::More(line) => {
+            format!(in alloc; "more {name}: the report goes on behind line {line}")
+        }
+        Verdict::Wrong(line, due) => wrong_text(alloc, name, run, *line, due),
+        Verdict::Memory => Err(AllocError),
+    }
+}
+
+// The exit status of a verdict, which is 0 where the run may be so.
+fn status_of(verdict: &Verdict) -> u8 {
+    match verdict {
+        Verdict::Lawful(_) | Verdict::Stopped(_) => 0,
+        Verdict::Wrong(_, _) | Verdict::More(_) => FINDING,
+        Verdict::Memory => 3,
+    }
+}
+
+// Prints the verdict on a run, and gives its exit status.
+fn tell(
+    rt: &HostRuntime,
+    asked: Asked,
+    name: &str,
+    run: &Run,
+    verdict: &Verdict,
+) -> Result<u8, Fault> {
+    say(rt, asked, verdict_text(rt.alloc(), name, run, verdict))?;
+    Ok(status_of(verdict))
+}
+
+// The line whose answer is missing, where the run was stopped.
+fn stopped_at(verdict: &Verdict) -> Option<u32> {
+    match verdict {
+        Verdict::Stopped(line) => Some(*line),
+        Verdict::Lawful(_) | Verdict::Wrong(_, _) | Verdict::More(_) | Verdict::Memory => None,
     }
 }
 
 // What an event did that has no answer is not known, so what follows on a stopped run is not judged.
-fn tell_unjudged(rt: &HostRuntime, name: &str) -> Result<u8, Fault> {
-    match println!(rt; "unjudged {name}, behind a run that was stopped") {
-        Ok(()) => Ok(FINDING),
-        Err(_) => Err(Fault::Write),
+fn tell_unjudged(rt: &HostRuntime, asked: Asked, name: &str) -> Result<u8, Fault> {
+    let text = format!(in rt.alloc(); "unjudged {name}, behind a run that was stopped");
+    say(rt, asked, text)?;
+    Ok(FINDING)
+}
+
+// Goes over a run that was judged, where that is asked for.
+fn count(
+    rt: &HostRuntime,
+    words: &Words,
+    clerk: &mut Clerk,
+    run: &Run,
+    place: usize,
+    stopped: Option<u32>,
+) -> Result<(), Fault>
+    requires ready { IsReady (audit_of clerk.old.auditor) }
+    ensures ready { IsReady (audit_of clerk.new.auditor) }
+{
+    if !is_counted(words.asked) {
+        return Ok(());
+    }
+    clerk.go_over(rt, words.names.as_slice(), place, run)?;
+    match stopped {
+        Some(line) => clerk.book.note(Place { run: place, line }, Mishap::Stop),
+        None => Ok(()),
     }
 }
 
@@ -199,18 +318,26 @@ struct Audited {
 }
 
 // Judges the runs in order, up to the first finding.
-fn audit(rt: &HostRuntime, names: &[String], auditor: &mut Auditor) -> Result<Audited, Fault>
+fn audit(
+    rt: &HostRuntime,
+    words: &Words,
+    auditor: &mut Auditor,
+    clerk: &mut Clerk,
+) -> Result<Audited, Fault>
     requires ready { IsReady (audit_of auditor.old) }
+    requires ready_clerk { IsReady (audit_of clerk.old.auditor) }
     ensures ready { IsReady (audit_of auditor.new) }
+    ensures ready_clerk { IsReady (audit_of clerk.new.auditor) }
 {
-    let mut was_stopped = false;
+    let mut stopped = None;
     let mut day = None;
-    for name in names.iter() {
-        if was_stopped {
-            let code = tell_unjudged(rt, name.as_str())?;
+    for place in 0..words.names.len() {
+        let name = words.names[place].as_str();
+        if stopped.is_some() {
+            let code = tell_unjudged(rt, words.asked, name)?;
             return Ok(Audited { code, day });
         }
-        let run = open_run(rt, name.as_str())?;
+        let run = open_run(rt, name)?;
         let verdict = audit_run(
             rt.alloc(),
             auditor,
@@ -219,39 +346,63 @@ fn audit(rt: &HostRuntime, names: &[String], auditor: &mut Auditor) -> Result<Au
             run.rates.as_slice(),
         );
         day = auditor.day().or(day);
-        let code = tell(rt, name.as_str(), &run, &verdict)?;
+        let code = tell(rt, words.asked, name, &run, &verdict)?;
         if code != 0 {
             return Ok(Audited { code, day });
         }
-        was_stopped = is_stopped(&verdict);
+        stopped = stopped_at(&verdict);
+        count(rt, words, clerk, &run, place, stopped)?;
     }
     Ok(Audited { code: 0, day })
 }
 
-// Judges what the words name over this auditor. The page is told where it is asked for, and nothing was found.
-fn judged_by(rt: &HostRuntime, words: &Words, auditor: &mut Auditor) -> Result<u8, Fault>
-    requires ready { IsReady (audit_of auditor.old) }
+// Prints what is asked for below the verdicts, where nothing was found: the exit status.
+fn tell_below(
+    rt: &HostRuntime,
+    words: &Words,
+    auditor: &Auditor,
+    clerk: &Clerk,
+    audited: Audited,
+) -> Result<u8, Fault>
+    requires ready { IsReady (audit_of auditor.now) }
 {
-    let audited = audit(rt, words.names.as_slice(), auditor)?;
     if audited.code != 0 {
         return Ok(audited.code);
     }
-    if words.table {
-        tell_page(rt, auditor, audited.day)?;
+    match words.asked {
+        Asked::Nothing | Asked::Csv | Asked::Json => {}
+        Asked::Table => tell_table(rt, auditor, audited.day)?,
+        Asked::Page => tell_page(rt, words.names.as_slice(), auditor, clerk, audited.day)?,
     }
     Ok(0)
+}
+
+// Judges what the words name over these auditors.
+fn judged_by(
+    rt: &HostRuntime,
+    words: &Words,
+    auditor: &mut Auditor,
+    clerk: &mut Clerk,
+) -> Result<u8, Fault>
+    requires ready { IsReady (audit_of auditor.old) }
+    requires ready_clerk { IsReady (audit_of clerk.old.auditor) }
+{
+    clerk.book.begin()?;
+    let audited = audit(rt, words, auditor, clerk)?;
+    clerk.book.end(rt)?;
+    tell_below(rt, words, auditor, clerk, audited)
 }
 
 // Judges what the words name.
 fn judged(rt: &HostRuntime) -> Result<u8, Fault> {
     let words = words_of(rt)?;
-    match Auditor::new(rt.alloc()) {
-        Ok(auditor) => {
-            let mut auditor = auditor;
-            judged_by(rt, &words, &mut auditor)
-        }
-        Err(_) => Err(Fault::Memory),
-    }
+    let Ok(mut auditor) = Auditor::new(rt.alloc()) else {
+        return Err(Fault::Memory);
+    };
+    let Ok(mut clerk) = Clerk::new(rt.alloc(), form_of(words.asked)) else {
+        return Err(Fault::Memory);
+    };
+    judged_by(rt, &words, &mut auditor, &mut clerk)
 }
 
 // Standard error may take no line. The exit status tells the same.

@@ -1,8 +1,10 @@
--- What an auditor tells of each node: what is answered to `status` and `balance`, how many commits count, and where one is open.
-use Rattle.std.specs.Prelude.{◌≡◌, ℕ, ℤ, ◌+◌, [], Bool, true, Option, Some, None, is_some, slice_get}
+-- What an auditor tells of each node: what is answered to `status`, `balance` and `reconcile`, what the centre keeps, how many commits count, and where
+-- one is open.
+use Rattle.std.specs.Prelude.{◌≡◌, ℕ, ℤ, ◌+◌, [], Bool, true, Option, Some, None, is_some, option_map, slice_get}
 use Rattle.bench_base.specs.declared.words.Node.{Node}
 use Rattle.bench_base.specs.declared.words.Node.TheVariants.{Device, Centre, Host, Verifier}
 use Rattle.bench_base.specs.declared.events.Event.TheVariants as ev
+use Rattle.bench_base.specs.declared.events.DevView.{DevView}
 use Rattle.bench_base.specs.declared.events.Reply.{Reply}
 use Rattle.bench_base.specs.declared.events.Reply.TheVariants as r
 use Rattle.bench_base.specs.declared.refusals.DevRefusal.TheVariants.{Blank}
@@ -14,7 +16,12 @@ use Rattle.node_acts.specs.declared.act.Act.{Act}
 use Rattle.node_acts.specs.declared.act.Act.TheVariants.{Refuse, Tell, Commits}
 use Rattle.node_acts.specs.declared.said.Said.{Said}
 use Rattle.psd_state.specs.State.{State}
+use Rattle.psd_state.specs.Answers.{status_of}
 use Rattle.psd_state.specs.Seen as device
+use Rattle.centre_ledger.specs.declared.rows.DeviceRow.{DeviceRow}
+use Rattle.centre_ledger.specs.declared.rows.CustomerRow.{CustomerRow}
+use Rattle.centre_ledger.specs.Acts.{standing_act}
+use Rattle.centre_ledger.specs.Books.{device_at, customer_at, left_in}
 use Rattle.centre_ledger.specs.Seen as centre
 use Rattle.host_jobs.specs.Seen as host
 use Rattle.verifier.specs.Seen as verifier
@@ -25,6 +32,7 @@ use Rattle.bench_views.specs.declared.taken.DeviceCall.TheVariants.{Status}
 use Rattle.bench_views.specs.declared.taken.CentreCall.TheVariants.{Balance}
 use Rattle.bench_views.specs.Devices.{device_act}
 use Rattle.bench_views.specs.Centre.{centre_act}
+use Rattle.bench_views.specs.Comparing.{compared}
 use Rattle.bench_views.specs.Kinds.{bench_kinds}
 use Rattle.told_nodes.specs.declared.seat.Seat.{Seat}
 use Rattle.told_device.specs.declared.record.DeviceRecord.{DeviceRecord}
@@ -49,6 +57,25 @@ status_by d today s = done_by (device_act d today Status s.state)
 -- what the centre answers to `balance` of customer w where it is on, by its rows; there is none where w is not open
 abbrev pub balance_by : ℕ → centre.Seen → Option Reply
 balance_by w s = done_by (centre_act (Balance w) (centre.books_in s))
+
+-- what the device shows on a day; there is nothing where it was not made
+abbrev pub shown_by : ℤ → device.Seen → Option DevView
+shown_by today s = option_map (λ x. status_of x today) s.state
+
+-- what customer w has left, and 0 where it is not open
+abbrev pub left_by : ℕ → centre.Seen → ℕ
+left_by w c = left_in (centre.books_in c) w
+
+-- what is answered to `reconcile` of device d where it and the centre are on, by the device's record and the centre's rows
+abbrev pub reconcile_by : ℕ → device.Seen → centre.Seen → Reply
+reconcile_by d s c = compared d s.state (standing_act d (centre.books_in c))
+
+-- the row that the centre keeps of device d, and of customer w
+abbrev pub device_row_by : ℕ → centre.Seen → Option DeviceRow
+device_row_by d c = device_at (centre.books_in c) d
+
+abbrev pub customer_row_by : ℕ → centre.Seen → Option CustomerRow
+customer_row_by w c = customer_at (centre.books_in c) w
 
 -- == by what the auditor has ==
 

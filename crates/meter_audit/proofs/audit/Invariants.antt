@@ -1,5 +1,8 @@
 use Rattle.told_bench.specs.Seeing.{IsReady, audit_of}
 use Rattle.meter_audit.proofs.audit.Given as goal
 
-abbrev pub invariant-loop-name : goal.invariant-loop-name
-invariant-loop-name l = IsReady (audit_of l.auditor)
+abbrev pub invariant-loop-place : goal.invariant-loop-place
+invariant-loop-place l = record {
+  ready : IsReady (audit_of l.auditor);
+  ready_clerk : IsReady (audit_of l.clerk.auditor);
+}
