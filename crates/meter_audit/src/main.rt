@@ -17,7 +17,7 @@ use std::process::ExitCode;
 use std::{env, fs, io};
 use thiserror::Error;
 use told_bench::Auditor;
-use told_runs::{Ending, Verdict, audit_run};
+use told_runs::{Ending, Imprint, Verdict, audit_run};
 
 /// The exit status of a finding: what can't be so, or could not be judged.
 const FINDING: u8 = 1;
@@ -205,6 +205,7 @@ fn audit(rt: &HostRuntime, names: &[String], auditor: &mut Auditor) -> Result<Au
 {
     let mut was_stopped = false;
     let mut day = None;
+    let mut imprints: Vec<Imprint> = Vec::new(rt.alloc());
     for name in names.iter() {
         if was_stopped {
             let code = tell_unjudged(rt, name.as_str())?;
@@ -217,6 +218,7 @@ fn audit(rt: &HostRuntime, names: &[String], auditor: &mut Auditor) -> Result<Au
             run.script.as_slice(),
             run.report.as_slice(),
             run.rates.as_slice(),
+            &mut imprints,
         );
         day = auditor.day().or(day);
         let code = tell(rt, name.as_str(), &run, &verdict)?;

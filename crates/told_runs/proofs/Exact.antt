@@ -48,7 +48,7 @@ not_end TooLong number line rest inside passed at = omega (arith, inside, at)
 
 pair_passes : (p : Pair) → IsPair p → IsPassed script_grammar (line_in p)
 pair_passes (Skipped line) is = (is.short, inl is.is)
-pair_passes (Answered line e answer) is = (is.short, inr (e, is.is.0, is.is.2))
+pair_passes (Answered line e answer given) is = (is.short, inr (e, is.is.0, is.is.2))
 
 deed_passes : (d : Deed) → Reads script_lines d → GoesOn d → IsPassed script_grammar (deed.line_in d)
 deed_passes (deed.Skipped line) reads goes = (reads.short, inl reads.is)

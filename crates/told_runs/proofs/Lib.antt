@@ -1,7 +1,9 @@
 mod Comparing
 mod Exact
 mod Fitted
+mod Giving
 mod One
+mod OnlyPrint
 mod Paired
 mod Running
 mod Splits

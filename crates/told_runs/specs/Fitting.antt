@@ -70,8 +70,8 @@ AtSeen old P = (τ : Tariff) (H : Ledger) → IsOfTexts τ → History τ editio
 abbrev pub AreUnforged : Tariff → Ledger → List ℕ → List Pair → Type 0
 AreUnforged τ H left [] = Unit {0}
 AreUnforged τ H left (Skipped line ∷ pairs) = AreUnforged τ H left pairs
-AreUnforged τ H left (Answered line e answer ∷ pairs) =
-    Unforged e H × ((d : Done) → IsAnswered τ H left e answer d → AreUnforged τ (ledger_by τ H d) (drop (length d.text) left) pairs)
+AreUnforged τ H left (Answered line e answer given ∷ pairs) =
+    Unforged e H × ((d : Done) → IsAnswered τ H left e answer given d → AreUnforged τ (ledger_by τ H d) (drop (length d.text) left) pairs)
 
 -- AN AUDIT IS EXACT: no deeds that fit are more than it paired, unless memory was wanting; so where it says that a line is wrong, none fit with that line.
 -- Where any fit to the end, it says that the run is lawful; and where it says so and no event brings anything forged, some do.

@@ -2,6 +2,7 @@
 #![tactic(auto)]
 
 pub mod audit;
+pub mod imprint;
 pub mod laws;
 mod lines;
 #[cfg(test)]
@@ -9,4 +10,5 @@ mod tests;
 pub mod verdict;
 
 pub use audit::audit_run;
+pub use imprint::{Given, Imprint};
 pub use verdict::{Ending, Verdict};
