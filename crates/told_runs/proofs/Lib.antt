@@ -2,6 +2,7 @@ mod Comparing
 mod Exact
 mod Fitted
 mod Giving
+mod Matching
 mod One
 mod OnlyPrint
 mod Paired

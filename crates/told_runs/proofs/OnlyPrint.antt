@@ -1,11 +1,10 @@
 -- A `print` alone is answered by what was printed, and its plan prints a mark then.
-use Rattle.std.proofs.Common.{◌≡◌, ◌≢◌, ℕ, ℤ, pos, ◌+◌, ◌<◌, List, [], ◌∷◌, length, drop, Option, Some, None, Bool, true, false, if◌then◌else◌, nat_lt, Result, Ok, Err, true≢false, refl, sym, ◌∙◌, ap}
+use Rattle.std.proofs.Common.{◌≡◌, ◌≢◌, ℕ, ℤ, pos, ◌+◌, List, [], ◌∷◌, length, drop, Option, Some, None, Bool, true, false, if◌then◌else◌, nat_lt, Result, Ok, Err, true≢false, refl, sym, ◌∙◌, ap}
 use Rattle.bench_base.specs.declared.words.Node.{Node}
 use Rattle.bench_base.specs.declared.words.Node.TheVariants.{Device, Centre, Host, Verifier}
 use Rattle.bench_base.specs.declared.refusals.Unread.{Unread}
 use Rattle.bench_base.specs.declared.refusals.HostRefusal.{HostRefusal}
 use Rattle.bench_base.specs.declared.refusals.RateRefusal.{RateRefusal}
-use Rattle.bench_base.specs.declared.refusals.DevRefusal.{DevRefusal}
 use Rattle.bench_base.specs.declared.refusals.CentreRefusal.{CentreRefusal}
 use Rattle.bench_base.specs.declared.refusals.ScanRefusal.{ScanRefusal}
 use Rattle.bench_base.specs.declared.ledger.Commit.{Commit}
@@ -22,7 +21,6 @@ use Rattle.bench_base.specs.Nodes.{node_of}
 use Rattle.bench_base.specs.Events.{needs_day}
 use Rattle.bench_base.specs.Cells.{is_worn}
 use Rattle.bench_base.specs.Ledger.{Ledger, day_in, counted, is_on, messages, message, count_of, rates_in}
-use Rattle.node_acts.specs.declared.act.Act.{Act}
 use Rattle.node_acts.specs.declared.act.Act.TheVariants.{Refuse, Tell, Commits}
 use Rattle.psd_wire.specs.declared.message.DebitMsg.{DebitMsg}
 use Rattle.psd_wire.specs.declared.message.Message.{Message}

@@ -2,6 +2,7 @@
 pub mod Audits
 pub mod Fitting
 pub mod Imprints
+pub mod Prints
 pub mod Verdicts
 -- Bookkeeping: private calls and proofs alone name these.
 pub mod Turns

@@ -1,6 +1,6 @@
 -- What an audit of one run says: how far the lines of a script and of its report were paired, and where that ended, by the bytes alone; and what
 -- of it may be so, at each ledger that the auditor sees as the run begins.
-use Rattle.std.specs.Prelude.{◌≡◌, ℕ, ◌+◌, ◌<◌, ◌≤◌, List, [], ◌∷◌, ◌++◌, length, map, drop, flat_map, Option, Some, None}
+use Rattle.std.specs.Prelude.{◌≡◌, ℕ, ◌+◌, ◌<◌, ◌≤◌, List, [], ◌∷◌, ◌++◌, length, map, drop, flat_map, Option, None}
 use Rattle.std.specs.List.{AllByRecursion}
 use Rattle.bench_base.specs.declared.events.Event.{Event}
 use Rattle.bench_base.specs.declared.events.Event.TheVariants as ev

@@ -31,7 +31,7 @@ pub(crate) struct Step {
 }
 
 // What is left behind so many bytes.
-fn behind(bytes: &[u8], taken: usize) -> &[u8]
+pub(crate) fn behind(bytes: &[u8], taken: usize) -> &[u8]
     ensures { result.now ≡ drop taken bytes.now }
 {
     if taken < bytes.len() {
