@@ -2,6 +2,7 @@ mod Comparing
 mod Exact
 mod Fitted
 mod Giving
+mod MadePrinted
 mod Matching
 mod One
 mod OnlyPrint
