@@ -30,7 +30,7 @@ use std::{env, fs, io};
 use table::tell_table;
 use thiserror::Error;
 use told_bench::Auditor;
-use told_runs::{Ending, Verdict, audit_run};
+use told_runs::{Ending, Imprint, Verdict, audit_run};
 
 /// The exit status of a finding: what can't be so, or could not be judged.
 const FINDING: u8 = 1;
@@ -331,6 +331,7 @@ fn audit(
 {
     let mut stopped = None;
     let mut day = None;
+    let mut imprints: Vec<Imprint> = Vec::new(rt.alloc());
     for place in 0..words.names.len() {
         let name = words.names[place].as_str();
         if stopped.is_some() {
@@ -344,6 +345,7 @@ fn audit(
             run.script.as_slice(),
             run.report.as_slice(),
             run.rates.as_slice(),
+            &mut imprints,
         );
         day = auditor.day().or(day);
         let code = tell(rt, words.asked, name, &run, &verdict)?;

@@ -83,7 +83,7 @@ plan_end : (τ : Tariff) (H : Ledger) → plan τ todays_rules H ev.End [] ≡ r
 unfolding plan
 plan_end τ H = refl
 
-plan_none : (τ : Tariff) (H : Ledger) (e : Event) → needs_day e ≡ true → None ≡ day_in H → plan τ todays_rules H e [] ≡ refuse r.NoDay
+pub plan_none : (τ : Tariff) (H : Ledger) (e : Event) → needs_day e ≡ true → None ≡ day_in H → plan τ todays_rules H e [] ≡ refuse r.NoDay
 unfolding plan
 plan_none τ H e needs none = rw (sym none, needs) refl
 

@@ -4,6 +4,7 @@ mod Days
 mod Lifting
 mod Nodes
 mod OfRates
+mod Printing
 mod Quiet
 mod Seen
 mod Sent

@@ -4,8 +4,10 @@
 pub mod auditor;
 pub mod comparing;
 pub mod judging;
+pub mod printed;
 pub mod rates;
 mod telling;
 
 pub use auditor::Auditor;
 pub use judging::{Finding, judge};
+pub use printed::mark_due;

@@ -2,4 +2,5 @@ mod Blank
 mod ByLedger
 mod Fitting
 mod Joined
+mod Printing
 mod Switched

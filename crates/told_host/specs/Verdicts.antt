@@ -34,8 +34,10 @@ abbrev pub MovesBy : Tariff → Ledger → Event → List ℕ → View Seen → 
 MovesBy τ H e line w (Ok told) = (reply : Reply) × MovesSo counting host_kind Host tt τ H e line w told.sent reply × (told.cut ≡ is_cut reply)
 MovesBy τ H e line w (Err due) = MovesNever counting host_kind Host tt τ H e line w due
 
--- At each history at which the host is seen so, and for each event that asks this of it on this day and brings nothing forged, the
--- judgement of the line is that of the ledger.
+-- P at each history at which the host is seen so, for each event that asks this of it on this day and brings nothing forged
+abbrev pub AtHosts : ℤ → Asked HostCall → View Seen → (Tariff → Ledger → Event → Type 0) → Type 0
+AtHosts today asked v P = ByLedger counting host_kind Host tt take.Host (λ a. Unit {0}) today asked v P
+
+-- There the judgement of the line is that of the ledger.
 abbrev pub IsByLedger : ℤ → Asked HostCall → List ℕ → View Seen → View Seen → Result Told Reply → Type 0
-IsByLedger today asked line v w result =
-    ByLedger counting host_kind Host tt take.Host (λ a. Unit {0}) today asked v (λ τ H e. MovesBy τ H e line w result)
+IsByLedger today asked line v w result = AtHosts today asked v (λ τ H e. MovesBy τ H e line w result)

@@ -18,7 +18,7 @@ use node_records::JobsOf;
 use told_nodes::{Seat, Told, judge_cut, judge_off, judge_on, judge_printing, unprinted};
 
 // A record is one that storage can show.
-fn is_known(kept: &HostRecord)
+pub(crate) fn is_known(kept: &HostRecord)
     ensures { IsKnown (cells_of kept.now) }
 {
     let _follows = kept.kept();

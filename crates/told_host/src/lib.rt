@@ -3,8 +3,10 @@
 
 mod acts;
 mod judge;
+mod printed;
 mod record;
 
 pub use acts::host_act;
 pub use judge::judge_host;
+pub use printed::mark_due;
 pub use record::HostRecord;

@@ -62,10 +62,10 @@ module _ (one : (x y : Reply) → IsWholeReply x → IsWholeReply y → text_of 
   compare H left (Skipped x ∷ a) (Did y d ∷ b) ra rb ta tb pairs reads goes lines texts tells are =
       let same : x ≡ y = cc in
       absurd (no_event_skipped d.event x (subst (λ (l : List ℕ). Spells d.event l) (sym same) reads.0.is.0.spells) pairs.0.is)
-  compare H left (Answered x e answer ∷ a) (deed.Skipped y ∷ b) ra rb ta tb pairs reads goes lines texts tells are =
+  compare H left (Answered x e answer given ∷ a) (deed.Skipped y ∷ b) ra rb ta tb pairs reads goes lines texts tells are =
       let same : x ≡ y = cc in
       absurd (no_event_skipped e x pairs.0.is.0.spells (subst (λ (l : List ℕ). IsSkipped l) (sym same) reads.0.is))
-  compare H left (Answered x e answer ∷ a) (Did y d ∷ b) ra rb ta tb pairs reads goes lines texts tells are =
+  compare H left (Answered x e answer given ∷ a) (Did y d ∷ b) ra rb ta tb pairs reads goes lines texts tells are =
       let same : x ≡ y = cc in
       let event : d.event ≡ e = one_event_of d.event e x reads.0.is.0.whole pairs.0.is.0.whole (subst (λ (l : List ℕ). Spells d.event l) (sym same) reads.0.is.0.spells) pairs.0.is.0.spells in
       let split = one_split answer (text_of d.reply) (flat_map text_for a ++ ta) (report_of script_lines b ++ tb) pairs.0.is.1 (line d.reply reads.0.is.1)
@@ -75,7 +75,7 @@ module _ (one : (x y : Reply) → IsWholeReply x → IsWholeReply y → text_of 
       let text : text_of w.0.reply ≡ text_of d.reply = w.1.text ∙ split.0 in
       let ledgers = same_ledger one τ H left w.0 d w.1.may are.0 alike text in
       let lefts = same_left one τ H left w.0 d w.1.may are.0 alike text in
-      one_more τ P H left (Answered x e answer) (Did y d) a b ra rb ta tb (ledger_by τ H d) (drop (length d.text) left) refl refl (
+      one_more τ P H left (Answered x e answer given) (Did y d) a b ra rb ta tb (ledger_by τ H d) (drop (length d.text) left) refl refl (
       compare (ledger_by τ H d) (drop (length d.text) left) a b ra rb ta tb pairs.1 reads.1 goes.1 (cc) split.1
       (subst (λ (K : Ledger). TellsSo τ P K (drop (length d.text) left) a) ledgers (subst (λ (l : List ℕ). TellsSo τ P (ledger_by τ H w.0) l a) lefts w.2)) are.1
       )

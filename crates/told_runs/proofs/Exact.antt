@@ -27,13 +27,15 @@ use Rattle.script_replay.specs.Deeds.{ledger_after}
 use Rattle.told_bench.specs.Judging.{IsUntold, taken_by}
 use Rattle.told_bench.specs.Seeing.{Audit}
 use Rattle.told_runs.specs.Audits.{MayTell}
-use Rattle.told_runs.specs.Verdicts.{Pair, Skipped, Answered, IsPair, line_in, status_of, IsEvent, HasLine, EndsSo, FallsAt, IsSo, TellsSo, Says}
-use Rattle.told_runs.specs.Fitting.{AreTold, rates_after, FitsFirst, FitsToEnd, EndsTold, AreUnforged, IsLawful, IsExact}
+use Rattle.told_runs.specs.Verdicts.{Pair, Skipped, Answered, IsPair, line_in, status_of, IsEvent, HasLine, EndsSo, FallsAt, IsSo, TellsSo, Says, imprints_from}
+use Rattle.told_runs.specs.Prints.{ArePrinted}
+use Rattle.told_runs.specs.Fitting.{FitsPrinted, AreTold, rates_after, FitsFirst, FitsToEnd, EndsTold, AreUnforged, IsLawful, IsExact}
 use Rattle.told_runs.specs.declared.verdict.Ending.{Ending}
 use Rattle.told_runs.specs.declared.verdict.Ending.TheVariants.{Done as Ended, Script, TooLong}
 use Rattle.told_runs.specs.declared.verdict.Verdict.{Verdict}
 use Rattle.told_runs.specs.declared.verdict.Verdict.TheVariants.{Lawful, Stopped, Wrong, More, Memory}
-use Rattle.told_runs.proofs.Fitted.{made, lawful_ends}
+use Rattle.told_runs.proofs.Fitted.{Made, made, lawful_ends}
+use Rattle.told_runs.proofs.MadePrinted.{made_printed}
 use Rattle.told_runs.proofs.Comparing.{Compared, longer, shorter, compare, one_split}
 
 -- == lines behind which a run goes on ==
@@ -48,7 +50,7 @@ not_end TooLong number line rest inside passed at = omega (arith, inside, at)
 
 pair_passes : (p : Pair) → IsPair p → IsPassed script_grammar (line_in p)
 pair_passes (Skipped line) is = (is.short, inl is.is)
-pair_passes (Answered line e answer) is = (is.short, inr (e, is.is.0, is.is.2))
+pair_passes (Answered line e answer given) is = (is.short, inr (e, is.is.0, is.is.2))
 
 deed_passes : (d : Deed) → Reads script_lines d → GoesOn d → IsPassed script_grammar (deed.line_in d)
 deed_passes (deed.Skipped line) reads goes = (reads.short, inl reads.is)
@@ -181,30 +183,37 @@ module _ (one : (x y : Reply) → IsWholeReply x → IsWholeReply y → text_of 
         absurd (not_end fw.end (length deeds + 1) (line_in p) (map line_in more ++ says.rest) (omega (arith, size, says.front.few)) (pair_passes p is)
         (subst (λ (r : List (List ℕ)). EndsAt script_grammar (status_of fw.end) (length deeds + 1) r) lines fw.ends))
 
-    fits_whole : (τ : Tariff) (H : Ledger) (end : Ending) → v ≡ Lawful end → TellsSo τ (Falls τ) (Begin ∷ H) rates says.pairs → AreUnforged τ (Begin ∷ H) rates says.pairs
-        → (deeds : List Deed) × FitsToEnd τ (Begin ∷ H) script report rates deeds
-    fits_whole τ H end is so unforged =
-        let m = made τ (Falls τ) (Begin ∷ H) rates says.pairs says.front.each so unforged in
+    pub fits_made : (τ : Tariff) (H : Ledger) (end : Ending) → v ≡ Lawful end → (m : Made τ (Falls τ) (Begin ∷ H) rates says.pairs) → FitsToEnd τ (Begin ∷ H) script report rates m.deeds
+    fits_made τ H end is m =
         let K = ledger_after τ (Begin ∷ H) (done_in m.deeds) in
         let l = rates_after rates (done_in m.deeds) in
-        let w = lawful_ends τ K l new (length says.pairs + 1) says.rest says.told v says.falls m.holds end is in (
-          m.deeds,
-          record {
-            fits = record {
-              each = m.each;
-              go_on = m.go_on;
-              few = omega (arith, m.size, says.front.few);
-              rest = says.rest;
-              told = says.told;
-              script_is = says.front.script_is ∙ ap (λ (x : List (List ℕ)). x ++ says.rest) (sym m.lines);
-              report_is = says.front.report_is ∙ ap (λ (x : List ℕ). x ++ says.told) (sym m.texts);
-              are = m.are;
-            };
-            end = end;
-            ends = subst (λ (n : ℕ). EndsAt script_grammar (status_of end) (n + 1) says.rest) (sym m.size) w.0;
-            ends_told = w.1;
-          },
-        )
+        let w = lawful_ends τ K l new (length says.pairs + 1) says.rest says.told v says.falls m.holds end is in
+        record {
+          fits = record {
+            each = m.each;
+            go_on = m.go_on;
+            few = omega (arith, m.size, says.front.few);
+            rest = says.rest;
+            told = says.told;
+            script_is = says.front.script_is ∙ ap (λ (x : List (List ℕ)). x ++ says.rest) (sym m.lines);
+            report_is = says.front.report_is ∙ ap (λ (x : List ℕ). x ++ says.told) (sym m.texts);
+            are = m.are;
+          };
+          end = end;
+          ends = subst (λ (n : ℕ). EndsAt script_grammar (status_of end) (n + 1) says.rest) (sym m.size) w.0;
+          ends_told = w.1;
+        }
+
+    fits_whole : (τ : Tariff) (H : Ledger) (end : Ending) → v ≡ Lawful end → TellsSo τ (Falls τ) (Begin ∷ H) rates says.pairs → AreUnforged τ (Begin ∷ H) rates says.pairs
+        → (deeds : List Deed) × FitsToEnd τ (Begin ∷ H) script report rates deeds
+    fits_whole τ H end is so unforged = let m = made τ (Falls τ) (Begin ∷ H) rates says.pairs says.front.each so unforged in (m.deeds, fits_made τ H end is m)
+
+    -- with prints that are those of the pairs
+    pub fits_printed : (τ : Tariff) (H : Ledger) (end : Ending) (prints : List ℕ) → v ≡ Lawful end → TellsSo τ (Falls τ) (Begin ∷ H) rates says.pairs → AreUnforged τ (Begin ∷ H) rates says.pairs
+        → ArePrinted (imprints_from 1 says.pairs) prints → (deeds : List Deed) × FitsPrinted τ (Begin ∷ H) script report rates prints deeds
+    fits_printed τ H end prints is so unforged printed =
+        let m = made_printed τ (Falls τ) (Begin ∷ H) rates says.pairs 1 prints says.front.each so unforged printed in
+        (m.made.deeds, record { fits = fits_made τ H end is m.made; run = m.run; prints_are = m.prints })
 
     pub exact : IsExact v script report rates old new says
     exact = record {

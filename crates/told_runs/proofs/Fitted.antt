@@ -45,7 +45,7 @@ made τ P H left (Skipped x ∷ a) each tells unforged =
       are = m.are;
       holds = m.holds;
     }
-made τ P H left (Answered x e answer ∷ a) each tells unforged =
+made τ P H left (Answered x e answer given ∷ a) each tells unforged =
     let w = tells unforged.0 in
     let m = made τ P (ledger_by τ H w.0) (drop (length w.0.text) left) a each.1 w.2 (unforged.1 w.0 w.1) in
     record {

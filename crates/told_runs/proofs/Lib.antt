@@ -1,7 +1,11 @@
 mod Comparing
 mod Exact
 mod Fitted
+mod Giving
+mod MadePrinted
+mod Matching
 mod One
+mod OnlyPrint
 mod Paired
 mod Running
 mod Splits

@@ -10,9 +10,11 @@ use Rattle.ledger_moves.specs.Histories.{begins}
 use Rattle.line_runs.specs.Ends.{lines_of}
 use Rattle.script_replay.specs.Deeds.{ledger_by}
 use Rattle.told_bench.specs.Seeing.{Audit, Sees}
-use Rattle.told_runs.specs.Verdicts.{Pair, Skipped, Answered, IsPair, line_in, text_for, EndsSo, TellsSo, MayEnd, IsSo, Says}
+use Rattle.told_runs.specs.Verdicts.{Pair, Skipped, Answered, IsPair, line_in, text_for, EndsSo, TellsSo, MayEnd, IsSo, Says, Audited, imprints_from}
+use Rattle.told_runs.specs.Imprints.{imprint_at}
 use Rattle.told_runs.specs.Turns.{AtHistories, StandsAt, Turned, Fell, Progress, IsOver}
 use Rattle.told_runs.specs.declared.audit.Step.{Step}
+use Rattle.told_runs.specs.declared.imprint.Imprint.{Imprint}
 use Rattle.told_runs.specs.declared.verdict.Ending.{Ending}
 use Rattle.told_runs.specs.declared.verdict.Verdict.{Verdict}
 use Rattle.told_runs.specs.declared.verdict.Verdict.TheVariants.{Lawful}
@@ -26,7 +28,7 @@ tells_more : (τ : Tariff) (P Q : Ledger → List ℕ → Type 0) (b : List Pair
     → (H : Ledger) (left : List ℕ) (a : List Pair) → TellsSo τ P H left a → TellsSo τ Q H left (a ++ b)
 tells_more τ P Q b then H left [] tells = then H left tells
 tells_more τ P Q b then H left (Skipped line ∷ a) tells = tells_more τ P Q b then H left a tells
-tells_more τ P Q b then H left (Answered line e answer ∷ a) tells = λ unforged.
+tells_more τ P Q b then H left (Answered line e answer given ∷ a) tells = λ unforged.
     let w = tells unforged in
     (w.0, w.1, tells_more τ P Q b then (ledger_by τ H w.0) (drop (length w.0.text) left) a w.2)
 
@@ -34,19 +36,27 @@ tells_more τ P Q b then H left (Answered line e answer ∷ a) tells = λ unforg
 tells_then : (τ : Tariff) (P Q : Ledger → List ℕ → Type 0) → ((K : Ledger) (l : List ℕ) → P K l → Q K l) → (H : Ledger) (left : List ℕ) (a : List Pair) → TellsSo τ P H left a → TellsSo τ Q H left a
 tells_then τ P Q then H left a tells = subst (λ (b : List Pair). TellsSo τ Q H left b) (append-nil a) (tells_more τ P Q [] then H left a tells)
 
-pub begun : (script report rates : List ℕ) (old new : Audit) → ((H : Ledger) → Sees old H → Sees new (Begin ∷ H)) → Progress 0 script report rates script report rates old new
-begun script report rates old new sees = record {
+imprints_both : (number : ℕ) (a b : List Pair) → imprints_from number (a ++ b) ≡ imprints_from number a ++ imprints_from (number + length a) b
+imprints_both number [] b = ap (λ (n : ℕ). imprints_from n b) (omega arith)
+imprints_both number (Skipped line ∷ a) b = imprints_both (number + 1) a b ∙ ap (λ (n : ℕ). imprints_from (number + 1) a ++ imprints_from n b) (omega arith)
+imprints_both number (Answered line e answer given ∷ a) b =
+    ap (λ (l : List Imprint). imprint_at number given ++ l) (imprints_both (number + 1) a b ∙ ap (λ (n : ℕ). imprints_from (number + 1) a ++ imprints_from n b) (omega arith))
+    ∙ sym (append_assoc (imprint_at number given) (imprints_from (number + 1) a) (imprints_from (number + length (Answered line e answer given ∷ a)) b))
+
+pub begun : (script report rates : List ℕ) (old new : Audit) (before : List Imprint) → ((H : Ledger) → Sees old H → Sees new (Begin ∷ H)) → Progress 0 script report rates script report rates old new before before
+begun script report rates old new before sees = record {
   pairs = [];
   number = refl;
   each = tt;
   script_is = refl;
   report_is = refl;
   so = λ τ H texts history seen. record { history = begins history; sees = sees H seen; are = refl };
+  prints = sym (append-nil before);
 }
 
-module _ (script0 report0 rates0 : List ℕ) (count : ℕ) (script report rates : List ℕ) (old mid new : Audit) (p : Progress count script0 report0 rates0 script report rates old mid) where
-  behind_it : (step : Step) → Turned step script report rates mid new
-      → Progress (count + 1) script0 report0 rates0 (drop step.script script) (drop step.report report) (drop step.rates rates) old new
+module _ (script0 report0 rates0 : List ℕ) (count : ℕ) (script report rates : List ℕ) (old mid new : Audit) (before half after : List Imprint) (p : Progress count script0 report0 rates0 script report rates old mid before half) where
+  behind_it : (step : Step) → Turned (count + 1) step script report rates mid new half after
+      → Progress (count + 1) script0 report0 rates0 (drop step.script script) (drop step.report report) (drop step.rates rates) old new before after
   behind_it step t = record {
     pairs = p.pairs ++ t.pair ∷ [];
     number = length-append p.pairs (t.pair ∷ []) ∙ ap (λ (n : ℕ). n + 1) p.number;
@@ -63,17 +73,21 @@ module _ (script0 report0 rates0 : List ℕ) (count : ℕ) (script report rates 
         tells_more τ (StandsAt τ mid rates) (StandsAt τ new (drop step.rates rates)) (t.pair ∷ [])
         (λ K l at. subst (λ (r : List ℕ). TellsSo τ (StandsAt τ new (drop step.rates rates)) K r (t.pair ∷ [])) (sym at.are) (t.so τ K texts at.history at.sees))
         (Begin ∷ H) rates0 p.pairs (p.so τ H texts history seen);
+    prints =
+        t.prints ∙ ap (λ (l : List Imprint). l ++ imprints_from (count + 1) (t.pair ∷ [])) p.prints
+        ∙ append_assoc before (imprints_from 1 p.pairs) (imprints_from (count + 1) (t.pair ∷ []))
+        ∙ ap (λ (l : List Imprint). before ++ l) (ap (λ (n : ℕ). imprints_from 1 p.pairs ++ imprints_from n (t.pair ∷ [])) (omega (arith, p.number)) ∙ sym (imprints_both 1 p.pairs (t.pair ∷ [])));
   }
 
-  pub progress_more : (step : Step) (lines told left : List ℕ) → lines ≡ drop step.script script → told ≡ drop step.report report → left ≡ drop step.rates rates → Turned step script report rates mid new
-      → Progress (count + 1) script0 report0 rates0 lines told left old new
+  pub progress_more : (step : Step) (lines told left : List ℕ) → lines ≡ drop step.script script → told ≡ drop step.report report → left ≡ drop step.rates rates → Turned (count + 1) step script report rates mid new half after
+      → Progress (count + 1) script0 report0 rates0 lines told left old new before after
   progress_more step lines told left a b c t =
-      subst (λ (l : List ℕ). Progress (count + 1) script0 report0 rates0 l told left old new) (sym a)
-      (subst (λ (l : List ℕ). Progress (count + 1) script0 report0 rates0 (drop step.script script) l left old new) (sym b)
-      (subst (λ (l : List ℕ). Progress (count + 1) script0 report0 rates0 (drop step.script script) (drop step.report report) l old new) (sym c) (behind_it step t)))
+      subst (λ (l : List ℕ). Progress (count + 1) script0 report0 rates0 l told left old new before after) (sym a)
+      (subst (λ (l : List ℕ). Progress (count + 1) script0 report0 rates0 (drop step.script script) l left old new before after) (sym b)
+      (subst (λ (l : List ℕ). Progress (count + 1) script0 report0 rates0 (drop step.script script) (drop step.report report) l old new before after) (sym c) (behind_it step t)))
 
-  pub fallen : (v : Verdict) → count ≤ 1000000 → Fell (count + 1) script report rates mid new v → Says v script0 report0 rates0 old new
-  fallen v few fell =
+  said : (v : Verdict) → count ≤ 1000000 → Fell (count + 1) script report rates mid new v → Says v script0 report0 rates0 old new
+  said v few fell =
       let f : Fell (length p.pairs + 1) script report rates mid new v = subst (λ (n : ℕ). Fell (n + 1) script report rates mid new v) (sym p.number) fell in
       record {
         pairs = p.pairs;
@@ -86,6 +100,10 @@ module _ (script0 report0 rates0 : List ℕ) (count : ℕ) (script report rates 
             (λ K l at. subst (λ (r : List ℕ). IsSo τ K r new (length p.pairs + 1) (lines_of script) report v f.falls) (sym at.are) (f.so τ K texts at.history at.sees))
             (Begin ∷ H) rates0 p.pairs (p.so τ H texts history seen);
       }
+
+  pub fallen : (v : Verdict) → count ≤ 1000000 → Fell (count + 1) script report rates mid new v × (after ≡ half) → Audited v script0 report0 rates0 old new before after
+  unfolding said
+  fallen v few fell = record { says = said v few fell.0; prints = fell.1 ∙ p.prints }
 
 -- the script ends at the line of this number
 module _ (number : ℕ) (script report rates : List ℕ) (old new : Audit) (end : Ending) where

@@ -1,15 +1,19 @@
 -- What becomes of one line.
-use Rattle.std.proofs.Common.{◌≡◌, ◌≢◌, ◌⊎◌, ℕ, ◌<◌, ◌≤◌, List, [], ◌∷◌, ◌++◌, length, drop, Bool, false, Result, Ok, Err, IfOk, IfErr, IsTrue, ◌↔◌, refl, sym, ◌∙◌, ap, subst}
+use Rattle.std.proofs.Common.{◌≡◌, ◌≢◌, ◌⊎◌, ℕ, ◌<◌, ◌≤◌, List, [], ◌∷◌, ◌++◌, length, drop, Bool, false, Option, None, Result, Ok, Err, append-nil, IfOk, IfErr, IsTrue, ◌↔◌, refl, sym, ◌∙◌, ap, subst}
 use Rattle.bench_base.specs.declared.events.Event.{Event}
 use Rattle.bench_base.specs.declared.events.Event.TheVariants as ev
 use Rattle.bench_base.specs.declared.events.Reply.{Reply}
 use Rattle.bench_base.specs.Ledger.{Ledger}
 use Rattle.bench_base.specs.Ranges.{IsWholeEvent}
-use Rattle.bench_base.specs.Rules.{editions}
+use Rattle.bench_base.specs.Rules.{todays_rules, editions}
 use Rattle.bench_views.specs.Tariff.{IsOfTexts}
 use Rattle.ledger_moves.specs.Tariffs.{Tariff}
+use Rattle.ledger_moves.specs.Moves.{plan}
+use Rattle.node_turns.specs.Printing.{print_of}
 use Rattle.ledger_moves.specs.Histories.{History, Unforged, moves}
 use Rattle.script_text.specs.Grammar.{Spells, IsSkipped}
+use Rattle.script_text.specs.Texts.{text_of}
+use Rattle.script_text.specs.Told.{IsWholeReply, told}
 use Rattle.script_words.specs.declared.word.LineFault.{LineFault}
 use Rattle.line_runs.specs.Ends.{lines_of, EndsAt}
 use Rattle.line_runs.specs.declared.status.Status.TheVariants as status
@@ -21,12 +25,16 @@ use Rattle.script_replay.specs.Deeds.{ledger_by}
 use Rattle.told_bench.specs.declared.judging.Finding.TheVariants as found
 use Rattle.told_bench.specs.Judging.{AtEach, IsJudged, text_with}
 use Rattle.told_bench.specs.Seeing.{Audit, Sees}
+use Rattle.told_runs.specs.Imprints.{IsGiven, IsDueMark, GivesSo, imprint_at}
 use Rattle.told_runs.specs.Verdicts.{Skipped, Answered, IsEvent, HasLine, IsAnswered}
 use Rattle.told_runs.specs.Turns.{StandsAt, Turned, Fell, BeginsWith, IsOver}
 use Rattle.told_runs.specs.declared.audit.Step.{Step}
+use Rattle.told_runs.specs.declared.imprint.Given.{Given}
+use Rattle.told_runs.specs.declared.imprint.Imprint.{Imprint}
 use Rattle.told_runs.specs.declared.verdict.Ending.TheVariants as ends
 use Rattle.told_runs.specs.declared.verdict.Verdict.{Verdict}
 use Rattle.told_runs.specs.declared.verdict.Verdict.TheVariants.{Wrong, Memory}
+use Rattle.told_runs.proofs.Giving.{given_by}
 use Rattle.told_runs.proofs.Paired.{over_falls}
 
 -- == the line of an event, for which so much of the script is taken ==
@@ -45,28 +53,34 @@ module _ (number : ℕ) (inside : number ≤ 1000000) (script line : List ℕ) (
     pub wants : Fell number script report rates old new Memory
     wants = record { falls = (e, answer, behind, is_event, has); so = λ τ H texts history seen. tt }
 
-    module _ (used : ℕ) (judged : AtEach old e (λ τ H. IsJudged τ H e rates answer new (Ok used))) where
+    module _ (used : ℕ) (judged : AtEach old e (λ τ H. IsJudged τ H e rates answer new (Ok used))) (one : (x y : Reply) → IsWholeReply x → IsWholeReply y → text_of x ≡ text_of y → told x ≡ told y)
+        (due : Option (List ℕ)) (is_due : IsDueMark old e due) (given : Option Given) (gives : GivesSo e due answer given) where
       -- what may be done for the event
       may : (τ : Tariff) (H : Ledger) → IsOfTexts τ → History τ editions H → Sees old H → Unforged e H
-          → (d : Done) × IsAnswered τ H rates e answer d × StandsAt τ new (drop used rates) (ledger_by τ H d) (drop (length d.text) rates)
+          → (d : Done) × IsAnswered τ H rates e answer given d × StandsAt τ new (drop used rates) (ledger_by τ H d) (drop (length d.text) rates)
       may τ H texts history seen unforged =
           let w = judged τ H texts history unforged seen in
           let text = text_with τ H e rates answer w.0 in (
             done e text w.0 [],
-            record { event = refl; text = w.1.text; may = record { unforged = unforged; moves = w.1.moves; whole = w.1.whole; takes = refl } },
+            record { event = refl; text = w.1.text; may = record { unforged = unforged; moves = w.1.moves; whole = w.1.whole; takes = refl }; gives = given_by one τ H e rates answer new w.0 w.1 (begins.is.whole) due (λ j same. is_due j same τ H history seen) given gives },
             record { history = moves e text w.0 history unforged w.1.moves; sees = w.1.sees; are = ap (λ (n : ℕ). drop n rates) (sym w.2) },
           )
 
-      pub goes_on : (step : Step) → step.script ≡ taken → behind ≡ drop step.report report → step.rates ≡ used → e ≢ ev.End → Turned step script report rates old new
-      goes_on step script_is report_is rates_is passes = record {
-        pair = Answered line e answer;
+      pub goes_on : (step : Step) (before after : List Imprint) → step.script ≡ taken → behind ≡ drop step.report report → step.rates ≡ used → e ≢ ev.End → after ≡ before ++ imprint_at number given
+          → Turned number step script report rates old new before after
+      goes_on step before after script_is report_is rates_is passes put = record {
+        pair = Answered line e answer given;
         is = record { one = begins.one; short = begins.short; is = (begins.is, has.one, passes) };
         script_is = begins.first ∙ ap (λ (n : ℕ). line ∷ lines_of (drop n script)) (sym script_is);
         report_is = has.is ∙ ap (λ (l : List ℕ). ended answer ++ l) report_is;
         so = λ τ H texts history seen unforged.
             let w = may τ H texts history seen unforged in
             (w.0, w.1, subst (λ (n : ℕ). StandsAt τ new (drop n rates) (ledger_by τ H w.0) (drop (length w.0.text) rates)) (sym rates_is) w.2);
+        prints = put ∙ ap (λ (l : List Imprint). before ++ l) (sym (append-nil (imprint_at number given)));
       }
+
+      not_given : e ≡ ev.End → given ≡ None
+      not_given is = gives.none (λ j same. let wrong : ev.End ≡ ev.Print j = sym is ∙ same in cc)
 
       pub ends_here : (v : Verdict) → e ≡ ev.End → IsOver ends.Done number behind v → Fell number script report rates old new v
       ends_here v is over = over_falls number script report rates old new ends.Done behind v (
@@ -76,7 +90,7 @@ module _ (number : ℕ) (inside : number ≤ 1000000) (script line : List ℕ) (
         },
         λ τ H texts history seen unforged.
             let w = may τ H texts history seen (subst (λ (x : Event). Unforged x H) (sym is) unforged) in
-            (w.0, record { event = w.1.event ∙ is; text = w.1.text; may = w.1.may }, w.2.sees),
+            (w.0, record { event = w.1.event ∙ is; text = w.1.text; may = w.1.may; gives = subst (λ (g : Option Given). IsGiven w.0.reply (print_of (plan τ todays_rules H w.0.event w.0.text).after) g) (not_given is) w.1.gives }, w.2.sees),
       ) over
 
 -- == the other lines ==
@@ -111,13 +125,14 @@ module _ (number : ℕ) (inside : number ≤ 1000000) (script report rates : Lis
   pub ends_bad : (line : List ℕ) (more : List (List ℕ)) (v : Verdict) → lines_of script ≡ line ∷ more → (600 < length line) ⊎ IsBad line → IsOver (ends.Script number) number report v → Fell number script report rates old old v
   ends_bad line more v are bad over = ends_at (line ∷ more) v are (inside, refl, bad) over
 
-  pub skips : (line : List ℕ) (step : Step) → lines_of script ≡ line ∷ lines_of (drop step.script script) → IsOneLine line → length line ≤ 600 → IsSkipped line → step.report ≡ 0 → step.rates ≡ 0 → Turned step script report rates old old
-  skips line step first one short is none nothing = record {
+  pub skips : (before : List Imprint) (line : List ℕ) (step : Step) → lines_of script ≡ line ∷ lines_of (drop step.script script) → IsOneLine line → length line ≤ 600 → IsSkipped line → step.report ≡ 0 → step.rates ≡ 0 → Turned number step script report rates old old before before
+  skips before line step first one short is none nothing = record {
     pair = Skipped line;
     is = record { one = one; short = short; is = is };
     script_is = first;
     report_is = ap (λ (n : ℕ). drop n report) (sym none);
     so = λ τ H texts history seen. record { history = history; sees = seen; are = ap (λ (n : ℕ). drop n rates) (sym nothing) };
+    prints = sym (append-nil before);
   }
 
 -- so many lines were paired that no more is looked at

@@ -12,10 +12,12 @@ use Rattle.line_runs.specs.Deeds.{Reads, report_of}
 use Rattle.line_runs.specs.Ends.{lines_of, EndsAt}
 use Rattle.desk_runs.specs.Deeds.{Done, Deed, GoesOn, done_in, line_in, line_of}
 use Rattle.desk_runs.specs.Scripts.{script_lines, script_grammar}
-use Rattle.script_replay.specs.Deeds.{ledger_by, ledger_after}
+use Rattle.script_replay.specs.Deeds.{ledger_by, ledger_after, printed_of}
 use Rattle.told_bench.specs.Seeing.{Audit, Sees}
-use Rattle.told_runs.specs.Audits.{MayTell}
-use Rattle.told_runs.specs.Verdicts.{Pair, Skipped, Answered, IsAnswered, Says, status_of}
+use Rattle.told_runs.specs.Audits.{MayTell, IsRun}
+use Rattle.told_runs.specs.Prints.{ArePrinted}
+use Rattle.told_runs.specs.Verdicts.{Pair, Skipped, Answered, IsAnswered, Says, Audited, status_of}
+use Rattle.told_runs.specs.declared.imprint.Imprint.{Imprint}
 use Rattle.told_runs.specs.declared.verdict.Ending.{Ending}
 use Rattle.told_runs.specs.declared.verdict.Ending.TheVariants.{Done as Ended, Script, TooLong}
 use Rattle.told_runs.specs.declared.verdict.Verdict.{Verdict}
@@ -58,6 +60,12 @@ module _ (τ : Tariff) (H : Ledger) (script report rates : List ℕ) where
     pub ends : EndsAt script_grammar (status_of end) (length deeds + 1) fits.rest
     pub ends_told : EndsTold τ (ledger_after τ H (done_in deeds)) (rates_after rates (done_in deeds)) end fits.told
 
+  -- They fit to the end, and print these bytes.
+  pub record FitsPrinted (prints : List ℕ) (deeds : List Deed) : Type 0 where
+    pub fits : FitsToEnd deeds
+    pub run : IsRun τ H rates (done_in deeds)
+    pub prints_are : prints ≡ printed_of (done_in deeds)
+
 -- lawful, or there was no memory
 abbrev pub IsLawful : Verdict → Type 0
 IsLawful v = ((end : Ending) × (v ≡ Lawful end)) ⊎ (v ≡ Memory)
@@ -70,8 +78,8 @@ AtSeen old P = (τ : Tariff) (H : Ledger) → IsOfTexts τ → History τ editio
 abbrev pub AreUnforged : Tariff → Ledger → List ℕ → List Pair → Type 0
 AreUnforged τ H left [] = Unit {0}
 AreUnforged τ H left (Skipped line ∷ pairs) = AreUnforged τ H left pairs
-AreUnforged τ H left (Answered line e answer ∷ pairs) =
-    Unforged e H × ((d : Done) → IsAnswered τ H left e answer d → AreUnforged τ (ledger_by τ H d) (drop (length d.text) left) pairs)
+AreUnforged τ H left (Answered line e answer given ∷ pairs) =
+    Unforged e H × ((d : Done) → IsAnswered τ H left e answer given d → AreUnforged τ (ledger_by τ H d) (drop (length d.text) left) pairs)
 
 -- AN AUDIT IS EXACT: no deeds that fit are more than it paired, unless memory was wanting; so where it says that a line is wrong, none fit with that line.
 -- Where any fit to the end, it says that the run is lawful; and where it says so and no event brings anything forged, some do.
@@ -80,3 +88,9 @@ pub record IsExact (v : Verdict) (script report rates : List ℕ) (old new : Aud
   pub complete : AtSeen old (λ τ H. (deeds : List Deed) → FitsToEnd τ H script report rates deeds → IsLawful v)
   pub sound : (end : Ending) → v ≡ Lawful end
       → AtSeen old (λ τ H. AreUnforged τ H rates says.pairs → (deeds : List Deed) × FitsToEnd τ H script report rates deeds)
+
+-- Where an audit of a run says that it is lawful, no event brings anything forged, and these are the prints of what was given, some deeds fit that print them.
+abbrev pub PrintsFit : Verdict → List ℕ → List ℕ → List ℕ → Audit → Audit → List Imprint → Type 0
+PrintsFit v script report rates old new given =
+    (a : Audited v script report rates old new [] given) (end : Ending) (prints : List ℕ) → v ≡ Lawful end → ArePrinted given prints
+    → AtSeen old (λ τ H. AreUnforged τ H rates a.says.pairs → (deeds : List Deed) × FitsPrinted τ H script report rates prints deeds)

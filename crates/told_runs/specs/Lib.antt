@@ -1,6 +1,8 @@
 -- Promised: public contracts name these.
 pub mod Audits
 pub mod Fitting
+pub mod Imprints
+pub mod Prints
 pub mod Verdicts
 -- Bookkeeping: private calls and proofs alone name these.
 pub mod Turns

@@ -12,7 +12,8 @@ use Rattle.line_runs.specs.Ends.{lines_of}
 use Rattle.line_runs.specs.Lines.{IsOneLine, ended}
 use Rattle.desk_runs.specs.Events.{IsLineOf}
 use Rattle.told_bench.specs.Seeing.{Audit, Sees}
-use Rattle.told_runs.specs.Verdicts.{Pair, IsPair, line_in, text_for, TellsSo, FallsAt, IsSo}
+use Rattle.told_runs.specs.Verdicts.{Pair, IsPair, line_in, text_for, TellsSo, FallsAt, IsSo, imprints_from}
+use Rattle.told_runs.specs.declared.imprint.Imprint.{Imprint}
 use Rattle.told_runs.specs.declared.lines.FirstLine.{FirstLine}
 use Rattle.told_runs.specs.declared.audit.Step.{Step}
 use Rattle.told_runs.specs.declared.verdict.Ending.{Ending}
@@ -41,13 +42,14 @@ pub record StandsAt (τ : Tariff) (now : Audit) (rates : List ℕ) (K : Ledger) 
   pub sees : Sees now K
   pub are : left ≡ rates
 
--- one line was paired, and so much was taken for it
-pub record Turned (step : Step) (script report rates : List ℕ) (old new : Audit) : Type 0 where
+-- the line of this number was paired, so much was taken for it, and the printer was given what was put behind these imprints
+pub record Turned (number : ℕ) (step : Step) (script report rates : List ℕ) (old new : Audit) (before after : List Imprint) : Type 0 where
   pub pair : Pair
   pub is : IsPair pair
   pub script_is : lines_of script ≡ line_in pair ∷ lines_of (drop step.script script)
   pub report_is : report ≡ text_for pair ++ drop step.report report
   pub so : AtHistories old (λ τ H. TellsSo τ (StandsAt τ new (drop step.rates rates)) H rates (pair ∷ []))
+  pub prints : after ≡ before ++ imprints_from number (pair ∷ [])
 
 -- the verdict falls at the line of this number
 pub record Fell (number : ℕ) (script report rates : List ℕ) (old new : Audit) (v : Verdict) : Type 0 where
@@ -55,18 +57,19 @@ pub record Fell (number : ℕ) (script report rates : List ℕ) (old new : Audit
   pub so : AtHistories old (λ τ H. IsSo τ H rates new number (lines_of script) report v falls)
 
 -- so many lines were paired, and this is left
-pub record Progress (count : ℕ) (script0 report0 rates0 script report rates : List ℕ) (old new : Audit) : Type 0 where
+pub record Progress (count : ℕ) (script0 report0 rates0 script report rates : List ℕ) (old new : Audit) (before after : List Imprint) : Type 0 where
   pub pairs : List Pair
   pub number : length pairs ≡ count
   pub each : AllByRecursion IsPair pairs
   pub script_is : lines_of script0 ≡ map line_in pairs ++ lines_of script
   pub report_is : report0 ≡ flat_map text_for pairs ++ report
   pub so : AtHistories old (λ τ H. TellsSo τ (StandsAt τ new rates) (Begin ∷ H) rates0 pairs)
+  pub prints : after ≡ before ++ imprints_from 1 pairs
 
 -- what becomes of the line of this number
-abbrev pub TurnsSo : ℕ → List ℕ → List ℕ → List ℕ → Audit → Audit → Result Step Verdict → Type 0
-TurnsSo number script report rates old new (Ok step) = Turned step script report rates old new
-TurnsSo number script report rates old new (Err v) = Fell number script report rates old new v
+abbrev pub TurnsSo : ℕ → List ℕ → List ℕ → List ℕ → Audit → Audit → List Imprint → List Imprint → Result Step Verdict → Type 0
+TurnsSo number script report rates old new before after (Ok step) = Turned number step script report rates old new before after
+TurnsSo number script report rates old new before after (Err v) = Fell number script report rates old new v × (after ≡ before)
 
 -- the script begins with this line of an event, for which so much of it is taken
 pub record BeginsWith (script line : List ℕ) (taken : ℕ) (e : Event) : Type 0 where

@@ -1,15 +1,17 @@
 -- What an audit of one run says: how far the lines of a script and of its report were paired, and where that ended, by the bytes alone; and what
 -- of it may be so, at each ledger that the auditor sees as the run begins.
-use Rattle.std.specs.Prelude.{◌≡◌, ℕ, ◌+◌, ◌<◌, ◌≤◌, List, [], ◌∷◌, ◌++◌, length, map, drop, flat_map}
+use Rattle.std.specs.Prelude.{◌≡◌, ℕ, ◌+◌, ◌<◌, ◌≤◌, List, [], ◌∷◌, ◌++◌, length, map, drop, flat_map, Option, None}
 use Rattle.std.specs.List.{AllByRecursion}
 use Rattle.bench_base.specs.declared.events.Event.{Event}
 use Rattle.bench_base.specs.declared.events.Event.TheVariants as ev
 use Rattle.bench_base.specs.declared.ledger.Entry.TheVariants.{Begin}
 use Rattle.bench_base.specs.Ledger.{Ledger}
-use Rattle.bench_base.specs.Rules.{editions}
+use Rattle.bench_base.specs.Rules.{todays_rules, editions}
 use Rattle.bench_views.specs.Tariff.{IsOfTexts}
 use Rattle.ledger_moves.specs.Tariffs.{Tariff}
 use Rattle.ledger_moves.specs.Histories.{History, Unforged}
+use Rattle.ledger_moves.specs.Moves.{plan}
+use Rattle.node_turns.specs.Printing.{print_of}
 use Rattle.script_text.specs.Grammar.{IsSkipped}
 use Rattle.script_text.specs.Texts.{text_of}
 use Rattle.line_runs.specs.Ends.{lines_of, EndsAt}
@@ -23,6 +25,9 @@ use Rattle.script_replay.specs.Deeds.{ledger_by}
 use Rattle.told_bench.specs.Judging.{IsUntold}
 use Rattle.told_bench.specs.Seeing.{Audit, Sees}
 use Rattle.told_runs.specs.Audits.{MayTell}
+use Rattle.told_runs.specs.Imprints.{IsGiven, imprint_at}
+use Rattle.told_runs.specs.declared.imprint.Given.{Given}
+use Rattle.told_runs.specs.declared.imprint.Imprint.{Imprint}
 use Rattle.told_runs.specs.declared.verdict.Ending.{Ending}
 use Rattle.told_runs.specs.declared.verdict.Ending.TheVariants.{Done as Ended, Script, TooLong}
 use Rattle.told_runs.specs.declared.verdict.Verdict.{Verdict}
@@ -30,23 +35,23 @@ use Rattle.told_runs.specs.declared.verdict.Verdict.TheVariants.{Lawful, Stopped
 
 -- == lines of the script, each with its line of the report ==
 
--- a line that does nothing; or the line of an event, and the line that the report has for it
+-- a line that does nothing; or the line of an event, the line that the report has for it, and what the printer was given
 pub data Pair : Type 0 where
   Skipped : (line : List ℕ) → Pair
-  Answered : (line : List ℕ) (e : Event) (answer : List ℕ) → Pair
+  Answered : (line : List ℕ) (e : Event) (answer : List ℕ) (given : Option Given) → Pair
 
 abbrev pub line_in : Pair → List ℕ
 line_in (Skipped line) = line
-line_in (Answered line e answer) = line
+line_in (Answered line e answer given) = line
 
 abbrev pub text_for : Pair → List ℕ
 text_for (Skipped line) = []
-text_for (Answered line e answer) = ended answer
+text_for (Answered line e answer given) = ended answer
 
 -- the line is what the pair says it is; a run goes on behind it
 abbrev pub IsOf : Pair → Type 0
 IsOf (Skipped line) = IsSkipped line
-IsOf (Answered line e answer) = IsLineOf e line × IsOneLine answer × ((e ≡ ev.End) → ⊥)
+IsOf (Answered line e answer given) = IsLineOf e line × IsOneLine answer × ((e ≡ ev.End) → ⊥)
 
 pub record IsPair (p : Pair) : Type 0 where
   pub one : IsOneLine (line_in p)
@@ -104,25 +109,26 @@ FallsAt number rest told Memory = (e : Event) × (answer behind : List ℕ) × I
 
 -- == what may be so ==
 
--- what may be done there for the event, whose reply has this line
-pub record IsAnswered (τ : Tariff) (H : Ledger) (left : List ℕ) (e : Event) (answer : List ℕ) (d : Done) : Type 0 where
+-- what may be done there for the event, whose reply has this line, and with which the printer was given this
+pub record IsAnswered (τ : Tariff) (H : Ledger) (left : List ℕ) (e : Event) (answer : List ℕ) (given : Option Given) (d : Done) : Type 0 where
   pub event : d.event ≡ e
   pub text : text_of d.reply ≡ answer
   pub may : MayTell τ H left d
+  pub gives : IsGiven d.reply (print_of (plan τ todays_rules H d.event d.text).after) given
 
 -- Each event in turn, at the ledger and with the rates that those before it leave: where it brings nothing forged, it may get a reply of its line. And P holds
 -- of the ledger and the rates behind them.
 abbrev pub TellsSo : Tariff → (Ledger → List ℕ → Type 0) → Ledger → List ℕ → List Pair → Type 0
 TellsSo τ P H left [] = P H left
 TellsSo τ P H left (Skipped line ∷ pairs) = TellsSo τ P H left pairs
-TellsSo τ P H left (Answered line e answer ∷ pairs) =
-    Unforged e H → (d : Done) × IsAnswered τ H left e answer d × TellsSo τ P (ledger_by τ H d) (drop (length d.text) left) pairs
+TellsSo τ P H left (Answered line e answer given ∷ pairs) =
+    Unforged e H → (d : Done) × IsAnswered τ H left e answer given d × TellsSo τ P (ledger_by τ H d) (drop (length d.text) left) pairs
 
 -- At this ledger, with these rates left; the auditor is left so.
 module _ (τ : Tariff) (H : Ledger) (left : List ℕ) (now : Audit) where
   -- `end` may get this line, and the auditor sees the ledger behind it; at any other end it sees this one
   abbrev pub MayEnd : (end : Ending) (told behind : List ℕ) → HasEnd end told behind → Type 0
-  MayEnd Ended told behind has = Unforged ev.End H → (d : Done) × IsAnswered τ H left ev.End has.0 d × Sees now (ledger_by τ H d)
+  MayEnd Ended told behind has = Unforged ev.End H → (d : Done) × IsAnswered τ H left ev.End has.0 None d × Sees now (ledger_by τ H d)
   MayEnd (Script line) told behind has = Sees now H
   MayEnd TooLong told behind has = Sees now H
 
@@ -144,3 +150,14 @@ pub record Says (v : Verdict) (script report rates : List ℕ) (old new : Audit)
   pub falls : FallsAt (length pairs + 1) rest told v
   pub so : (τ : Tariff) (H : Ledger) → IsOfTexts τ → History τ editions H → Sees old H
       → TellsSo τ (λ K left. IsSo τ K left new (length pairs + 1) rest told v falls) (Begin ∷ H) rates pairs
+
+-- what the printer was given in them, where the first is the line of this number
+abbrev pub imprints_from : ℕ → List Pair → List Imprint
+imprints_from number [] = []
+imprints_from number (Skipped line ∷ pairs) = imprints_from (number + 1) pairs
+imprints_from number (Answered line e answer given ∷ pairs) = imprint_at number given ++ imprints_from (number + 1) pairs
+
+-- it says so, and what the printer was given was put behind what it was given before
+pub record Audited (v : Verdict) (script report rates : List ℕ) (old new : Audit) (before after : List Imprint) : Type 0 where
+  pub says : Says v script report rates old new
+  pub prints : after ≡ before ++ imprints_from 1 says.pairs

@@ -4,12 +4,14 @@ ghost use Rattle.bench_base.specs.Ranges.{IsWholeEvent};
 ghost use Rattle.bench.specs.declared.benches.TheConstants.{MOST_MESSAGES};
 ghost use Rattle.told_bench.specs.Seeing.{IsReady, audit_of};
 ghost use Rattle.told_runs.specs.Turns.{BeginsWith, IsOver, TurnsSo};
-ghost use Rattle.told_runs.specs.Verdicts.{Says};
+ghost use Rattle.told_runs.specs.Verdicts.{Audited};
 
+use crate::imprint::{Imprint, due_mark, given_in, keep};
 use crate::lines::{first_line, line_end};
 use crate::verdict::{Ending, Verdict};
 use bench_base::events::Event;
 use desk_runs::ended_by;
+use script_text::laws::one_reply;
 use script_text::{is_skipped, read_event};
 use std::alloc::Global;
 use told_bench::{Auditor, Finding, judge};
@@ -29,7 +31,7 @@ pub(crate) struct Step {
 }
 
 // What is left behind so many bytes.
-fn behind(bytes: &[u8], taken: usize) -> &[u8]
+pub(crate) fn behind(bytes: &[u8], taken: usize) -> &[u8]
     ensures { result.now ≡ drop taken bytes.now }
 {
     if taken < bytes.len() {
@@ -54,6 +56,7 @@ fn over(end: Ending, number: u32, report: &[u8]) -> Verdict
 fn hear(
     alloc: Global,
     auditor: &mut Auditor,
+    imprints: &mut Vec<Imprint>,
     number: u32,
     event: &Event,
     taken: usize,
@@ -67,21 +70,28 @@ fn hear(
     ensures ready { IsReady (audit_of auditor.new) }
     ensures few { length (audit_of auditor.new).messages ≤ length (audit_of auditor.old).messages + 1 }
     ensures turns { (script line : List ℕ) → BeginsWith script line taken event.now
-        → TurnsSo number script report.now rates.now (audit_of auditor.old) (audit_of auditor.new) result }
+        → TurnsSo number script report.now rates.now (audit_of auditor.old) (audit_of auditor.new) imprints.old.items imprints.new.items result }
 {
     let Some(end) = line_end(report) else {
         return Err(Verdict::Stopped(number));
     };
-    match judge(alloc, auditor, event, rates, &report[..end]) {
+    one_reply();
+    let line = &report[..end];
+    let mark = due_mark(auditor, event);
+    let given = given_in(event, mark, line);
+    match judge(alloc, auditor, event, rates, line) {
         Err(Finding::Wrong(due)) => Err(Verdict::Wrong(number, due)),
         Err(Finding::Memory) => Err(Verdict::Memory),
         Ok(used) => match ended_by(event) {
             Some(_) => Err(over(Ending::Done, number, behind(report, end + 1))),
-            None => Ok(Step {
-                script: taken,
-                report: end + 1,
-                rates: used,
-            }),
+            None => match keep(imprints, number, given) {
+                Ok(()) => Ok(Step {
+                    script: taken,
+                    report: end + 1,
+                    rates: used,
+                }),
+                Err(_) => Err(Verdict::Memory),
+            },
         },
     }
 }
@@ -90,6 +100,7 @@ fn hear(
 fn turn(
     alloc: Global,
     auditor: &mut Auditor,
+    imprints: &mut Vec<Imprint>,
     number: u32,
     script: &[u8],
     report: &[u8],
@@ -100,7 +111,7 @@ fn turn(
     requires few { length (audit_of auditor.old).messages < MOST_MESSAGES }
     ensures ready { IsReady (audit_of auditor.new) }
     ensures few { length (audit_of auditor.new).messages ≤ length (audit_of auditor.old).messages + 1 }
-    ensures turns { TurnsSo number script.now report.now rates.now (audit_of auditor.old) (audit_of auditor.new) result }
+    ensures turns { TurnsSo number script.now report.now rates.now (audit_of auditor.old) (audit_of auditor.new) imprints.old.items imprints.new.items result }
 {
     let Some(first) = first_line(script) else {
         return Err(over(Ending::Script(number), number, report));
@@ -117,7 +128,16 @@ fn turn(
         });
     }
     match &read_event(line) {
-        Ok(event) => hear(alloc, auditor, number, event, first.taken, report, rates),
+        Ok(event) => hear(
+            alloc,
+            auditor,
+            imprints,
+            number,
+            event,
+            first.taken,
+            report,
+            rates,
+        ),
         Err(_) => Err(over(Ending::Script(number), number, report)),
     }
 }
@@ -125,25 +145,26 @@ fn turn(
 /// Audits one run over what the auditor has: whether each event of the script may get the line that the report has for it, in turn, where these are the rates.
 /// The auditor begins the run, and has behind it what the verdict says of the lines that were paired; so runs are audited in order over one auditor.
 ///
-/// An answer whose line end is missing is not judged, and prints are not. It is said of each line whose event brings nothing forged, up to the first that
-/// does.
+/// What the printer was given in the lines that were paired is put behind the imprints. An answer whose line end is missing is not judged. It is said of each
+/// line whose event brings nothing forged, up to the first that does.
 pub fn audit_run(
     alloc: Global,
     auditor: &mut Auditor,
     script: &[u8],
     report: &[u8],
     rates: &[u8],
+    imprints: &mut Vec<Imprint>,
 ) -> Verdict
     requires ready { IsReady (audit_of auditor.old) }
     ensures ready { IsReady (audit_of auditor.new) }
-    ensures says { Says result script.now report.now rates.now (audit_of auditor.old) (audit_of auditor.new) }
+    ensures audited { Audited result script.now report.now rates.now (audit_of auditor.old) (audit_of auditor.new) imprints.old.items imprints.new.items }
 {
     auditor.begin();
     let mut lines = script;
     let mut told = report;
     let mut left = rates;
     for count in 0..LINES {
-        match turn(alloc, auditor, count + 1, lines, told, left) {
+        match turn(alloc, auditor, imprints, count + 1, lines, told, left) {
             Err(verdict) => return verdict,
             Ok(step) => {
                 lines = behind(lines, step.script);

@@ -10,8 +10,9 @@ ghost use Rattle.desk_runs.specs.Deeds.{Done};
 ghost use Rattle.script_replay.specs.Deeds.{ledger_after};
 ghost use Rattle.told_bench.specs.Seeing.{Audit};
 ghost use Rattle.told_runs.specs.Audits.{IsRun, AreAlike, Fits, ledger_left};
-ghost use Rattle.told_runs.specs.Fitting.{AreTold, IsExact};
+ghost use Rattle.told_runs.specs.Fitting.{AreTold, IsExact, PrintsFit};
 ghost use Rattle.told_runs.specs.Verdicts.{Says};
+ghost use Rattle.told_runs.specs.declared.imprint.Imprint.{Imprint};
 ghost use Rattle.told_runs.specs.declared.verdict.Verdict.{Verdict};
 
 use ledger_laws::laws::histories;
@@ -41,6 +42,14 @@ pub fn one_ledger()
 pub fn audits_are_exact()
     ensures { (v : Verdict) (script report rates : List ℕ) (old new : Audit) (says : Says v script report rates old new)
         → IsExact v script report rates old new says }
+{
+    one_reply();
+    one_line();
+}
+
+/// Prints fit the deeds of a run that is lawful, where they are those of what the audit says that the printer was given in it.
+pub fn prints_fit()
+    ensures { (v : Verdict) (script report rates : List ℕ) (old new : Audit) (given : List Imprint) → PrintsFit v script report rates old new given }
 {
     one_reply();
     one_line();

@@ -2,11 +2,15 @@
 #![tactic(auto)]
 
 pub mod audit;
+pub mod imprint;
 pub mod laws;
 mod lines;
+pub mod prints;
 #[cfg(test)]
 mod tests;
 pub mod verdict;
 
 pub use audit::audit_run;
+pub use imprint::{Given, Imprint};
+pub use prints::{Match, match_prints};
 pub use verdict::{Ending, Verdict};

@@ -1,5 +1,5 @@
 //! Audits of the ordinary path over blank nodes, with its report as it is and altered.
-use crate::{Ending, Verdict, audit_run};
+use crate::{Ending, Imprint, Verdict, audit_run};
 use bench_base::events::Reply;
 use script_text::{Line, put_reply};
 use std::alloc::Global;
@@ -139,12 +139,14 @@ fn says(
     row: &str,
 ) -> Result<(), Fail> {
     let mut auditor = Auditor::new(alloc)?;
+    let mut imprints: Vec<Imprint> = Vec::new(alloc);
     let verdict = audit_run(
         alloc,
         &mut auditor,
         script.as_bytes(),
         report,
         RATES.as_bytes(),
+        &mut imprints,
     );
     assert!(rt; is_said(&verdict, due), "{row}");
     Ok(())

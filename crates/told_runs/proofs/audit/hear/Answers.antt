@@ -6,25 +6,38 @@ use Rattle.told_runs.proofs.Turning.{wrong, wants, goes_on, ends_here}
 use Rattle.told_runs.proofs.audit.hear.Goals as goal
 
 pub returns-in-Err-Wrong-clause-turns : goal.returns-in-Err-Wrong-clause-turns
-returns-in-Err-Wrong-clause-turns c = λ script line begins.
-    wrong c.args.number c.requires.inside script line c.args.taken c.args.event.now begins c.args.report.now c.args.rates.now (audit_of c.args.auditor.now) (audit_of c.judge.new.auditor)
-    (take c.in-Some.end c.args.report.now) (drop (c.in-Some.end + 1) c.args.report.now) (record { one = c.in-Some.ensures.1; is = c.in-Some.ensures.2 })
-    c.in-Err-Wrong.due (rw c.in-Err-Wrong.field-0-is at c.in-Err-Wrong.ensures.judged)
+returns-in-Err-Wrong-clause-turns c = λ script line begins. rw c.in-Err-Wrong.field-0-is (
+  wrong c.args.number c.requires.inside script line c.args.taken c.args.event.now begins c.args.report.now c.args.rates.now (audit_of c.args.auditor.now) (audit_of c.judge.new.auditor)
+      (take c.in-Some.end c.args.report.now) (drop (c.in-Some.end + 1) c.args.report.now) (record { one = c.in-Some.ensures.1; is = c.in-Some.ensures.2 })
+      c.in-Err-Wrong.due (rw c.in-Err-Wrong.field-0-is at c.in-Err-Wrong.ensures.judged),
+  refl,
+)
 
 pub returns-in-Err-Memory-clause-turns : goal.returns-in-Err-Memory-clause-turns
-returns-in-Err-Memory-clause-turns c = λ script line begins.
-    wants c.args.number c.requires.inside script line c.args.taken c.args.event.now begins c.args.report.now c.args.rates.now (audit_of c.args.auditor.now) (audit_of c.judge.new.auditor)
-    (take c.in-Some.end c.args.report.now) (drop (c.in-Some.end + 1) c.args.report.now) (record { one = c.in-Some.ensures.1; is = c.in-Some.ensures.2 })
+returns-in-Err-Memory-clause-turns c = λ script line begins. (
+  wants c.args.number c.requires.inside script line c.args.taken c.args.event.now begins c.args.report.now c.args.rates.now (audit_of c.args.auditor.now) (audit_of c.judge.new.auditor)
+      (take c.in-Some.end c.args.report.now) (drop (c.in-Some.end + 1) c.args.report.now) (record { one = c.in-Some.ensures.1; is = c.in-Some.ensures.2 }),
+  refl,
+)
 
 pub returns-in-Some-ended_by-clause-turns : goal.returns-in-Some-ended_by-clause-turns
-returns-in-Some-ended_by-clause-turns c = λ script line begins.
-    ends_here c.args.number c.requires.inside script line c.args.taken c.args.event.now begins c.args.report.now c.args.rates.now (audit_of c.args.auditor.now) (audit_of c.judge.new.auditor)
-    (take c.in-Some.end c.args.report.now) (drop (c.in-Some.end + 1) c.args.report.now) (record { one = c.in-Some.ensures.1; is = c.in-Some.ensures.2 })
-    c.in-Ok.used c.in-Ok.ensures.judged c.over.result c.in-Some-ended_by.ensures.done.1
-    (subst (λ (l : List ℕ). IsOver ends.Done c.args.number l c.over.result) c.behind.ensures c.over.ensures)
+returns-in-Some-ended_by-clause-turns c = λ script line begins. (
+  ends_here c.args.number c.requires.inside script line c.args.taken c.args.event.now begins c.args.report.now c.args.rates.now (audit_of c.args.auditor.now) (audit_of c.judge.new.auditor)
+      (take c.in-Some.end c.args.report.now) (drop (c.in-Some.end + 1) c.args.report.now) (record { one = c.in-Some.ensures.1; is = c.in-Some.ensures.2 })
+      c.in-Ok.used c.in-Ok.ensures.judged c.one_reply.ensures.law c.due_mark-mark.result c.due_mark-mark.ensures c.given_in-given.result c.given_in-given.ensures c.over.result c.in-Some-ended_by.ensures.done.1
+      (subst (λ (l : List ℕ). IsOver ends.Done c.args.number l c.over.result) c.behind.ensures c.over.ensures),
+  refl,
+)
 
-pub returns-in-None-clause-turns : goal.returns-in-None-clause-turns
-returns-in-None-clause-turns c = λ script line begins.
+pub returns-in-Ok-keep-clause-turns : goal.returns-in-Ok-keep-clause-turns
+returns-in-Ok-keep-clause-turns c = λ script line begins.
     goes_on c.args.number c.requires.inside script line c.args.taken c.args.event.now begins c.args.report.now c.args.rates.now (audit_of c.args.auditor.now) (audit_of c.judge.new.auditor)
     (take c.in-Some.end c.args.report.now) (drop (c.in-Some.end + 1) c.args.report.now) (record { one = c.in-Some.ensures.1; is = c.in-Some.ensures.2 })
-    c.in-Ok.used c.in-Ok.ensures.judged _ refl refl refl c.in-None.ensures.goes_on
+    c.in-Ok.used c.in-Ok.ensures.judged c.one_reply.ensures.law c.due_mark-mark.result c.due_mark-mark.ensures c.given_in-given.result c.given_in-given.ensures _ c.args.imprints.now.items c.keep.new.imprints.items refl refl refl c.in-None.ensures.goes_on c.in-Ok-keep.ensures.ok
+
+pub returns-in-Err-clause-turns : goal.returns-in-Err-clause-turns
+returns-in-Err-clause-turns c = λ script line begins. (
+  wants c.args.number c.requires.inside script line c.args.taken c.args.event.now begins c.args.report.now c.args.rates.now (audit_of c.args.auditor.now) (audit_of c.judge.new.auditor)
+      (take c.in-Some.end c.args.report.now) (drop (c.in-Some.end + 1) c.args.report.now) (record { one = c.in-Some.ensures.1; is = c.in-Some.ensures.2 }),
+  c.in-Err.ensures.err,
+)

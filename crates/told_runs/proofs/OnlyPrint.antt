@@ -1,0 +1,348 @@
+-- A `print` alone is answered by what was printed, and its plan prints a mark then.
+use Rattle.std.proofs.Common.{◌≡◌, ◌≢◌, ℕ, ℤ, pos, ◌+◌, List, [], ◌∷◌, length, drop, Option, Some, None, Bool, true, false, if◌then◌else◌, nat_lt, Result, Ok, Err, true≢false, refl, sym, ◌∙◌, ap}
+use Rattle.bench_base.specs.declared.words.Node.{Node}
+use Rattle.bench_base.specs.declared.words.Node.TheVariants.{Device, Centre, Host, Verifier}
+use Rattle.bench_base.specs.declared.refusals.Unread.{Unread}
+use Rattle.bench_base.specs.declared.refusals.HostRefusal.{HostRefusal}
+use Rattle.bench_base.specs.declared.refusals.RateRefusal.{RateRefusal}
+use Rattle.bench_base.specs.declared.refusals.CentreRefusal.{CentreRefusal}
+use Rattle.bench_base.specs.declared.refusals.ScanRefusal.{ScanRefusal}
+use Rattle.bench_base.specs.declared.ledger.Commit.{Commit}
+use Rattle.bench_base.specs.declared.ledger.Entry.{Entry}
+use Rattle.bench_base.specs.declared.ledger.Entry.TheVariants as entry
+use Rattle.bench_base.specs.declared.words.Kind.{Kind}
+use Rattle.bench_base.specs.declared.events.Event.{Event}
+use Rattle.bench_base.specs.declared.events.Event.TheVariants as ev
+use Rattle.bench_base.specs.declared.events.Reply.{Reply}
+use Rattle.bench_base.specs.declared.events.Reply.TheVariants as r
+use Rattle.bench_base.specs.Rules.{Rules}
+use Rattle.bench_base.specs.Plans.{Plan, refuse, told}
+use Rattle.bench_base.specs.Nodes.{node_of}
+use Rattle.bench_base.specs.Events.{needs_day}
+use Rattle.bench_base.specs.Cells.{is_worn}
+use Rattle.bench_base.specs.Ledger.{Ledger, day_in, counted, is_on, messages, message, count_of, rates_in}
+use Rattle.node_acts.specs.declared.act.Act.TheVariants.{Refuse, Tell, Commits}
+use Rattle.psd_wire.specs.declared.message.DebitMsg.{DebitMsg}
+use Rattle.psd_wire.specs.declared.message.Message.{Message}
+use Rattle.psd_wire.specs.declared.message.Message.TheVariants as m
+use Rattle.psd_wire.specs.Grammar.{read}
+use Rattle.psd_state.specs.declared.acts.Taken.{Taken}
+use Rattle.psd_state.specs.declared.acts.Taken.TheVariants as taken
+use Rattle.psd_state.specs.declared.acts.Franked.{Franked}
+use Rattle.psd_state.specs.Acts as acts
+use Rattle.psd_state.specs.Acts.{DeviceAct}
+use Rattle.bench_base.specs.declared.words.Verdict.{Verdict}
+use Rattle.bench_base.specs.declared.refusals.MarkFault.{MarkFault}
+use Rattle.bench_base.specs.declared.refusals.CentreRefusal.TheVariants as no
+use Rattle.bench_base.specs.declared.refusals.ScanRefusal.TheVariants as no_scans
+use Rattle.bench_base.specs.Jobs.{Job, job_of, open_job}
+use Rattle.bench_base.specs.Scans.{trusted, accepted, blocks}
+use Rattle.indicium.specs.declared.Mark.{Mark}
+use Rattle.indicium.specs.Marks.{read_mark}
+use Rattle.psd_wire.specs.declared.message.Request.{Request}
+use Rattle.psd_wire.specs.declared.message.DoneMsg.{DoneMsg}
+use Rattle.psd_wire.specs.Codes.{has_code}
+use Rattle.ledger_terms.specs.Sums.{ascending, descending}
+use Rattle.ledger_terms.specs.Centres.{registered, ruled, settled}
+use Rattle.ledger_terms.specs.Rulings.{stored_reply}
+use Rattle.ledger_terms.specs.Devices.{key_of, number}
+use Rattle.host_jobs.specs.declared.orders.Shelf.{Shelf}
+use Rattle.centre_ledger.specs.Answers as centre
+use Rattle.host_jobs.specs.Answers as host
+use Rattle.verifier.specs.Answers as scans
+use Rattle.node_turns.specs.Printing.{print_of}
+use Rattle.ledger_moves.specs.Tariffs.{Tariff, TextFault, NoToml, NoForm}
+use Rattle.ledger_moves.specs.Devices as device
+use Rattle.ledger_moves.specs.Moves as moves
+use Rattle.ledger_moves.specs.Moves.{plan, plan_on, plan_at, on_day, at_node, unless_worn}
+
+-- == plans whose answer is no print ==
+
+abbrev of_printer : Reply → Bool
+of_printer (r.Printed j) = true
+of_printer (r.PrinterFault j) = true
+of_printer _ = false
+
+record NoPrint (p : Plan) : Type 0 where
+  is : of_printer p.reply ≡ false
+
+either : (b : Bool) (p q : Plan) → NoPrint p → NoPrint q → NoPrint (if b then p else q)
+either true p q one other = one
+either false p q one other = other
+
+unworn : (C : List Commit) (p : Plan) (o : Option Commit) → NoPrint p → NoPrint (unless_worn C p o)
+unworn C p None none = none
+unworn C p (Some c) none = either (is_worn c C) (refuse (r.Worn (node_of c))) p (record { is = refl }) none
+
+at : (m : Node) (H : Ledger) (p : Plan) → NoPrint p → NoPrint (at_node m H p)
+at m H p none = either (is_on m H) (unless_worn (counted H) p p.commit) (refuse (r.OffNode m)) (unworn (counted H) p p.commit none) (record { is = refl })
+
+planned : {A : Type 0} (d : ℕ) (reply : A → Reply) (tell : A → List Entry) (act : DeviceAct A) → ((a : A) → of_printer (reply a) ≡ false) → NoPrint (device.planned d reply tell act)
+planned d reply tell (Refuse x) none = record { is = refl }
+planned d reply tell (Tell a) none = record { is = none a }
+planned d reply tell (Commits c x a) none = record { is = none a }
+
+makes : (d : ℕ) (key : List ℕ) (C : List Commit) (k : Option (List ℕ)) → NoPrint (device.make_plan d key C k)
+makes d key C k = planned d (λ u. r.Made d) (λ u. []) (acts.make_act d key (device.record_with d C k)) (λ u. refl)
+
+debits : (ρ : Rules) (d piece : ℕ) (q : DebitMsg) (today : ℤ) (C : List Commit) (key : Option (List ℕ)) → NoPrint (device.debit_plan ρ (device.shown d piece) d q today C key)
+debits ρ d piece q today C key = planned {A = Franked} d (λ f. (device.shown d piece).reply f.again f.mark) (λ f. (device.shown d piece).tell f.mark) (acts.debit_act ρ d q today (device.record_with d C key)) (λ f. refl)
+
+asks : (ρ : Rules) (d : ℕ) (kind : Kind) (who a : ℕ) (today : ℤ) (k : ℕ) (C : List Commit) (key : Option (List ℕ)) → NoPrint (device.ask_plan ρ d kind who a today k C key)
+asks ρ d kind who a today k C key = planned {A = List ℕ} d (λ note. r.SentRequest d (number d C + 1) k) (λ note. entry.Sent note ∷ []) (acts.ask_act ρ d kind who a today (device.record_with d C key)) (λ note. refl)
+
+acks : (d k : ℕ) (C : List Commit) (key : Option (List ℕ)) → NoPrint (device.ack_plan d k C key)
+acks d k C key = planned {A = List ℕ} d (λ note. r.SentDone d (number d C) k) (λ note. entry.Sent note ∷ []) (acts.ack_act (device.record_with d C key)) (λ note. refl)
+
+statuses : (d : ℕ) (today : ℤ) (C : List Commit) (key : Option (List ℕ)) → NoPrint (device.status_plan d today C key)
+statuses d today C key = planned d (r.Status d) (λ view. []) (acts.status_act today (device.record_with d C key)) (λ view. refl)
+
+took : (d k : ℕ) (a : Taken) → of_printer (device.taken_reply d k a) ≡ false
+took d k (taken.Applied n v) = refl
+took d k (taken.Released piece x again) = refl
+
+resent : (d k : ℕ) (key : Option (List ℕ)) (w : Option (ℕ × List ℕ)) → NoPrint (device.resend_plan d k key w)
+resent d k None w = record { is = refl }
+resent d k (Some key) None = record { is = refl }
+resent d k (Some key) (Some p) = record { is = refl }
+
+-- == of the centre ==
+
+flagged : (w : ℕ) (flag known : Bool) → NoPrint (centre.flag_plan w flag known)
+flagged w flag true = record { is = refl }
+flagged w flag false = record { is = refl }
+
+opens : (w : ℕ) (known : Bool) → NoPrint (centre.open_plan w known)
+opens w true = record { is = refl }
+opens w false = record { is = refl }
+
+balances : (w n : ℕ) (known : Bool) → NoPrint (centre.balance_plan w n known)
+balances w n true = record { is = refl }
+balances w n false = record { is = refl }
+
+registers : (d origin : ℕ) (key : List ℕ) (known : Option (ℕ × List ℕ)) → NoPrint (centre.register_plan d origin key known)
+registers d origin key None = record { is = refl }
+registers d origin key (Some x) = record { is = refl }
+
+deposit_act : (w n a total : ℕ) (x : Result (Option ℕ) CentreRefusal) → NoPrint (centre.deposit_act w n a total x)
+deposit_act w n a total (Err x) = record { is = refl }
+deposit_act w n a total (Ok None) = record { is = refl }
+deposit_act w n a total (Ok (Some after)) = record { is = refl }
+
+deposits : (w n a : ℕ) (last : ℕ × ℕ) (total : ℕ) (known : Bool) → NoPrint (centre.deposit_plan w n a last total known)
+deposits w n a last total true = deposit_act w n a total (centre.deposit_answer last total n a)
+deposits w n a last total false = record { is = refl }
+
+repeats : (d n k : ℕ) (x : Option (Verdict × List ℕ)) (reply : Option (List ℕ)) → NoPrint (centre.repeat_plan d n k x reply)
+repeats d n k None reply = record { is = refl }
+repeats d n k (Some x) None = record { is = refl }
+repeats d n k (Some x) (Some reply) = record { is = refl }
+
+rules_on : (k : ℕ) (bytes : List ℕ) (q : Request) (C : List Commit) (x : Result Bool CentreRefusal) → NoPrint (centre.rule_act k bytes q C x)
+rules_on k bytes q C (Err x) = record { is = refl }
+rules_on k bytes q C (Ok true) = repeats q.device q.number k (centre.last_ruling q.device C) (stored_reply q.device C)
+rules_on k bytes q C (Ok false) = record { is = refl }
+
+requests : (k : ℕ) (bytes : List ℕ) (q : Request) (x : Option (ℕ × List ℕ)) (C : List Commit) → NoPrint (centre.request_plan k bytes q x C)
+requests k bytes q None C = record { is = refl }
+requests k bytes q (Some x) C = either (has_code x.1 bytes) (centre.rule_plan k bytes q C) (centre.no_centre no.BadCode) (rules_on k bytes q C (centre.turn_answer (ruled q.device C) (centre.stored_note (centre.last_ruling q.device C)) q.number bytes)) (record { is = refl })
+
+settles : (d n : ℕ) (x : Result (Option ℕ) CentreRefusal) → NoPrint (centre.settle_act d n x)
+settles d n (Err x) = record { is = refl }
+settles d n (Ok None) = record { is = refl }
+settles d n (Ok (Some now)) = record { is = refl }
+
+dones : (bytes : List ℕ) (q : DoneMsg) (x : Option (ℕ × List ℕ)) (settled ruled : ℕ) → NoPrint (centre.done_plan bytes q x settled ruled)
+dones bytes q None settled ruled = record { is = refl }
+dones bytes q (Some x) settled ruled = either (has_code x.1 bytes) (centre.settle_act q.device q.number (centre.settle_answer settled ruled q.number)) (centre.no_centre no.BadCode) (settles q.device q.number (centre.settle_answer settled ruled q.number)) (record { is = refl })
+
+centre_takes : (k : ℕ) (bytes : List ℕ) (read : Result Message Unread) (C : List Commit) → NoPrint (centre.centre_take k bytes read C)
+centre_takes k bytes (Ok (m.Request q)) C = requests k bytes q (registered q.device C) C
+centre_takes k bytes (Ok (m.Done q)) C = dones bytes q (registered q.device C) (settled q.device C) (ruled q.device C)
+centre_takes k bytes (Ok (m.Reply q)) C = record { is = refl }
+centre_takes k bytes (Ok (m.Debit q)) C = record { is = refl }
+centre_takes k bytes (Ok (m.Release x)) C = record { is = refl }
+centre_takes k bytes (Err x) C = record { is = refl }
+
+compares : (d total : ℕ) (x : Option (ℕ × List ℕ)) (C : List Commit) → NoPrint (centre.reconcile_plan d total x C)
+compares d total None C = record { is = refl }
+compares d total (Some x) C = record { is = refl }
+
+reconciles : (d : ℕ) (key : Option (List ℕ)) (C : List Commit) → NoPrint (moves.reconcile_plan d key C)
+reconciles d None C = record { is = refl }
+reconciles d (Some key) C = compares d (ascending d C + descending d C) (registered d C) C
+
+-- == of the host and the verifier ==
+
+order_act : (d piece class postage : ℕ) (x : Result ℕ HostRefusal) → NoPrint (host.order_act d piece class postage x)
+order_act d piece class postage (Err x) = record { is = refl }
+order_act d piece class postage (Ok i) = record { is = refl }
+
+orders : (d piece class : ℕ) (h : Shelf) (price : Option (Result ℕ RateRefusal)) → NoPrint (host.order_plan d piece class h price)
+orders d piece class h None = record { is = refl }
+orders d piece class h (Some (Err x)) = record { is = refl }
+orders d piece class h (Some (Ok postage)) = order_act d piece class postage (host.order_answer piece h h.open_job)
+
+sends_job : (k i : ℕ) (b : Option Job) (x : Option HostRefusal) → NoPrint (host.send_act k i b x)
+sends_job k i b (Some x) = record { is = refl }
+sends_job k i None None = record { is = refl }
+sends_job k i (Some b) None = record { is = refl }
+
+closes : (i : ℕ) (x : Option HostRefusal) → NoPrint (host.close_act i x)
+closes i (Some x) = record { is = refl }
+closes i None = record { is = refl }
+
+holds : (x : List ℕ) (i : ℕ) (o : Option HostRefusal) → NoPrint (host.hold_act x i o)
+holds x i (Some o) = record { is = refl }
+holds x i None = record { is = refl }
+
+hold_job : (x : List ℕ) (k : Mark) (i : ℕ) (b : Option Job) → NoPrint (host.hold_job x k i b)
+hold_job x k i None = record { is = refl }
+hold_job x k i (Some b) = holds x i (host.hold_answer k b.piece b.postage b.class)
+
+hold_open : (x : List ℕ) (k : Mark) (i : Option ℕ) (C : List Commit) → NoPrint (host.hold_open x k i C)
+hold_open x k None C = record { is = refl }
+hold_open x k (Some i) C = hold_job x k i (job_of i C)
+
+hold_plan : (x : List ℕ) (read : Result (Mark × List ℕ) MarkFault) (C : List Commit) → NoPrint (host.hold_plan x read C)
+hold_plan x (Err fault) C = record { is = refl }
+hold_plan x (Ok k) C = hold_open x k.0 (open_job k.0.device C) C
+
+host_takes : (read : Result Message Unread) (C : List Commit) → NoPrint (host.host_take read C)
+host_takes (Ok (m.Release x)) C = hold_plan x (read_mark x) C
+host_takes (Ok (m.Request q)) C = record { is = refl }
+host_takes (Ok (m.Done q)) C = record { is = refl }
+host_takes (Ok (m.Reply q)) C = record { is = refl }
+host_takes (Ok (m.Debit q)) C = record { is = refl }
+host_takes (Err x) C = record { is = refl }
+
+trusts : (d : ℕ) (key : List ℕ) (known : Option (List ℕ)) → NoPrint (scans.trust_plan d key known)
+trusts d key None = record { is = refl }
+trusts d key (Some k) = record { is = refl }
+
+scan_act : (n : ℕ) (k : Mark) (x : Result Bool ScanRefusal) → NoPrint (scans.scan_act n k x)
+scan_act n k (Err x) = record { is = refl }
+scan_act n k (Ok true) = record { is = refl }
+scan_act n k (Ok false) = record { is = refl }
+
+scan_key : (n : ℕ) (bytes : List ℕ) (k : Mark) (today : ℤ) (key : Option (List ℕ)) (C : List Commit) → NoPrint (scans.scan_key n bytes k today key C)
+scan_key n bytes k today None C = record { is = refl }
+scan_key n bytes k today (Some key) C =
+    either (has_code key bytes) (scans.scan_act n k (scans.scan_answer n k.day today (scans.is_full k.device k.piece (blocks C)) (accepted k.device k.piece C))) (scans.no_scan no_scans.BadCode)
+    (scan_act n k (scans.scan_answer n k.day today (scans.is_full k.device k.piece (blocks C)) (accepted k.device k.piece C))) record { is = refl }
+
+scan_plan : (n : ℕ) (bytes : List ℕ) (today : ℤ) (read : Result (Mark × List ℕ) MarkFault) (C : List Commit) → NoPrint (scans.scan_plan n bytes today read C)
+scan_plan n bytes today (Err fault) C = record { is = refl }
+scan_plan n bytes today (Ok k) C = scan_key n bytes k.0 today (trusted k.0.device C) C
+
+-- == of bytes that are handed to a node ==
+
+module _ (ρ : Rules) (today : ℤ) (bytes : List ℕ) (H : Ledger) where
+  to_device : (d : ℕ) → NoPrint (moves.device_plan ρ today d bytes H)
+  to_device d = at (Device d) H _ (planned d (device.taken_reply d (messages H)) (device.taken_tell d (messages H)) _ (took d (messages H)))
+
+  to_centre : NoPrint (moves.centre_plan bytes H)
+  to_centre = at Centre H _ (centre_takes (messages H) bytes (read bytes) (counted H))
+
+  to_host : NoPrint (moves.host_plan bytes H)
+  to_host = at Host H _ (host_takes (read bytes) (counted H))
+
+  delivers_to : (x : Result Message Unread) → NoPrint (moves.deliver_to ρ today bytes x H)
+  delivers_to (Ok (m.Reply p)) = to_device p.device
+  delivers_to (Ok (m.Debit q)) = to_device q.device
+  delivers_to (Ok (m.Release x)) = to_host
+  delivers_to (Ok (m.Request q)) = to_centre
+  delivers_to (Ok (m.Done q)) = to_centre
+  delivers_to (Err x) = to_centre
+
+  gives_to : (n : Node) → NoPrint (moves.give_plan ρ today n bytes H)
+  gives_to (Device d) = to_device d
+  gives_to Centre = to_centre
+  gives_to Host = to_host
+  gives_to Verifier = record { is = refl }
+
+delivers : (ρ : Rules) (today : ℤ) (k : ℕ) (o : Option (List ℕ)) (H : Ledger) → NoPrint (moves.deliver_plan ρ today k o H)
+delivers ρ today k None H = record { is = refl }
+delivers ρ today k (Some bytes) H = delivers_to ρ today bytes H (read bytes)
+
+scans_sent : (n : ℕ) (today : ℤ) (k : ℕ) (o : Option (List ℕ)) (H : Ledger) → NoPrint (moves.scan_sent n today k o H)
+scans_sent n today k None H = record { is = refl }
+scans_sent n today k (Some bytes) H = at Verifier H _ (scan_plan n (drop 2 bytes) today (read_mark (drop 2 bytes)) (counted H))
+
+reads_text : (text : List ℕ) (x : Result (ℕ × ℕ) TextFault) → NoPrint (moves.reading_plan text x)
+reads_text text (Err NoToml) = record { is = refl }
+reads_text text (Err NoForm) = record { is = refl }
+reads_text text (Ok x) = record { is = refl }
+
+-- == of every event ==
+
+-- where the plan's answer is a print, the event is one of that job, and the plan prints a mark
+pub record Prints (e : Event) (p : Plan) : Type 0 where
+  pub answered : (j : ℕ) → p.reply ≡ r.Printed j → (e ≡ ev.Print j) × ((x : List ℕ) × (print_of p.after ≡ Some x))
+  pub uncut : (j : ℕ) → p.reply ≢ r.PrinterFault j
+
+none_prints : (e : Event) (p : Plan) → NoPrint p → Prints e p
+none_prints e p none = record {
+  answered = λ j is. absurd (true≢false (sym (ap of_printer is) ∙ none.is));
+  uncut = λ j is. absurd (true≢false (sym (ap of_printer is) ∙ none.is));
+}
+
+print_act : (i : ℕ) (x : Option (List ℕ)) (o : Option HostRefusal) → Prints (ev.Print i) (host.print_act i x o)
+print_act i x (Some o) = none_prints (ev.Print i) _ (record { is = refl })
+print_act i None None = none_prints (ev.Print i) _ (record { is = refl })
+print_act i (Some x) None = record { answered = λ j is. let same : i ≡ j = cc in (ap ev.Print same, (x, refl)); uncut = λ j is. cc }
+
+either_prints : (e : Event) (b : Bool) (p q : Plan) → Prints e p → Prints e q → Prints e (if b then p else q)
+either_prints e true p q one other = one
+either_prints e false p q one other = other
+
+unworn_prints : (e : Event) (C : List Commit) (p : Plan) (o : Option Commit) → Prints e p → Prints e (unless_worn C p o)
+unworn_prints e C p None is = is
+unworn_prints e C p (Some c) is = either_prints e (is_worn c C) (refuse (r.Worn (node_of c))) p (none_prints e _ (record { is = refl })) is
+
+at_prints : (e : Event) (n : Node) (H : Ledger) (p : Plan) → Prints e p → Prints e (at_node n H p)
+at_prints e n H p is = either_prints e (is_on n H) (unless_worn (counted H) p p.commit) (refuse (r.OffNode n)) (unworn_prints e (counted H) p p.commit is) (none_prints e _ (record { is = refl }))
+
+module _ (τ : Tariff) (ρ : Rules) (H : Ledger) (text : List ℕ) (today : ℤ) where
+  abbrev P : Event → Type 0
+  P e = Prints e (plan_on τ ρ H e text today)
+
+  none_at : (e : Event) → NoPrint (plan_on τ ρ H e text today) → P e
+  none_at e none = none_prints e (plan_on τ ρ H e text today) none
+
+  on_prints : (e : Event) → P e
+  on_prints (ev.Day t) = none_at (ev.Day t) (record { is = refl })
+  on_prints ev.End = none_at ev.End (record { is = refl })
+  on_prints ev.Rates = none_at ev.Rates (either (nat_lt 65536 (length text)) (refuse r.RatesLength) (moves.reading_plan text (τ.reading text)) (record { is = refl }) (reads_text text (τ.reading text)))
+  on_prints (ev.On n) = none_at (ev.On n) (either (is_on n H) (refuse (r.OnAlready n)) (told (r.Up n (count_of n (counted H))) (entry.Up n (count_of n (counted H)) ∷ [])) (record { is = refl }) (record { is = refl }))
+  on_prints (ev.Off n) = none_at (ev.Off n) (at n H (told (r.Down n) (entry.Down n ∷ [])) (record { is = refl }))
+  on_prints (ev.Cut n calls keep byte) = none_at (ev.Cut n calls keep byte) (record { is = refl })
+  on_prints (ev.Make d key) = none_at (ev.Make d key) (at (Device d) H (device.make_plan d key (counted H) (key_of d (counted H))) (makes d key (counted H) (key_of d (counted H))))
+  on_prints (ev.Debit d piece postage class) = none_at (ev.Debit d piece postage class) (at (Device d) H (device.debit_plan ρ (device.shown d piece) d (moves.debit_by d piece postage class) today (counted H) (key_of d (counted H))) (debits ρ d piece (moves.debit_by d piece postage class) today (counted H) (key_of d (counted H))))
+  on_prints (ev.Ask d kind who a) = none_at (ev.Ask d kind who a) (at (Device d) H (device.ask_plan ρ d kind who a today (messages H) (counted H) (key_of d (counted H))) (asks ρ d kind who a today (messages H) (counted H) (key_of d (counted H))))
+  on_prints (ev.Resend d) = none_at (ev.Resend d) (at (Device d) H _ (resent d (messages H) _ _))
+  on_prints (ev.Ack d) = none_at (ev.Ack d) (at (Device d) H (device.ack_plan d (messages H) (counted H) (key_of d (counted H))) (acks d (messages H) (counted H) (key_of d (counted H))))
+  on_prints (ev.Status d) = none_at (ev.Status d) (at (Device d) H (device.status_plan d today (counted H) (key_of d (counted H))) (statuses d today (counted H) (key_of d (counted H))))
+  on_prints (ev.Register d origin key) = none_at (ev.Register d origin key) (at Centre H _ (registers d origin key _))
+  on_prints (ev.OpenCustomer w) = none_at (ev.OpenCustomer w) (at Centre H _ (opens w _))
+  on_prints (ev.Deposit w n a) = none_at (ev.Deposit w n a) (at Centre H _ (deposits w n a _ _ _))
+  on_prints (ev.Flag w flag) = none_at (ev.Flag w flag) (at Centre H _ (flagged w flag _))
+  on_prints (ev.Balance w) = none_at (ev.Balance w) (at Centre H _ (balances w _ _))
+  on_prints (ev.Deliver k) = none_at (ev.Deliver k) (delivers ρ today k (message k H) H)
+  on_prints (ev.Give n bytes) = none_at (ev.Give n bytes) (gives_to ρ today bytes H n)
+  on_prints (ev.Order d piece class grams zone) = none_at (ev.Order d piece class grams zone) (at Host H (host.order_plan d piece class (host.shelf_of d (counted H)) (moves.price_by τ class grams zone (rates_in H))) (orders d piece class (host.shelf_of d (counted H)) (moves.price_by τ class grams zone (rates_in H))))
+  on_prints (ev.Send i) = none_at (ev.Send i) (at Host H _ (sends_job (messages H) i _ _))
+  on_prints (ev.Print i) = at_prints (ev.Print i) Host H _ (print_act i _ _)
+  on_prints (ev.Close i) = none_at (ev.Close i) (at Host H _ (closes i _))
+  on_prints (ev.Trust d key) = none_at (ev.Trust d key) (at Verifier H _ (trusts d key _))
+  on_prints (ev.ScanMsg n k) = none_at (ev.ScanMsg n k) (scans_sent n today k (message k H) H)
+  on_prints (ev.ScanHex n bytes) = none_at (ev.ScanHex n bytes) (at Verifier H _ (scan_plan n bytes today (read_mark bytes) (counted H)))
+  on_prints (ev.Reconcile d) = none_at (ev.Reconcile d) (at (Device d) H _ (at Centre H _ (reconciles d _ (counted H))))
+
+dated_prints : (τ : Tariff) (ρ : Rules) (H : Ledger) (e : Event) (text : List ℕ) (day : Option ℤ) → Prints e (on_day (plan_on τ ρ H e text) day)
+dated_prints τ ρ H e text None = none_prints e _ (record { is = refl })
+dated_prints τ ρ H e text (Some today) = on_prints τ ρ H text today e
+
+pub only_print : (τ : Tariff) (ρ : Rules) (H : Ledger) (e : Event) (text : List ℕ) → Prints e (plan τ ρ H e text)
+unfolding plan
+only_print τ ρ H e text = either_prints e (needs_day e) _ _ (dated_prints τ ρ H e text (day_in H)) (on_prints τ ρ H text (pos 0) e)

@@ -1,0 +1,47 @@
+-- What the printer was given in the events of a run.
+use Rattle.std.specs.Prelude.{◌≡◌, ◌≢◌, ℕ, List, [], ◌∷◌, true, false, Option, Some, None, option_map}
+use Rattle.bench_base.specs.declared.events.Event.{Event}
+use Rattle.bench_base.specs.declared.events.Event.TheVariants as ev
+use Rattle.bench_base.specs.declared.events.Reply.{Reply}
+use Rattle.bench_base.specs.declared.events.Reply.TheVariants as r
+use Rattle.bench_base.specs.Ledger.{Ledger}
+use Rattle.bench_base.specs.Rules.{todays_rules, editions}
+use Rattle.ledger_moves.specs.Tariffs.{Tariff}
+use Rattle.ledger_moves.specs.Histories.{History}
+use Rattle.ledger_moves.specs.Moves.{plan}
+use Rattle.node_turns.specs.Printing.{print_of}
+use Rattle.script_text.specs.Texts.{text_of}
+use Rattle.told_bench.specs.Seeing.{Audit, Sees}
+use Rattle.told_runs.specs.declared.imprint.Given.{Given}
+use Rattle.told_runs.specs.declared.imprint.Imprint.{Imprint}
+
+-- a mark whose whole line was taken, or in whose line the printer failed
+abbrev pub wholly : List ℕ → Given
+wholly mark = record { mark = mark; whole = true }
+
+abbrev pub partly : List ℕ → Given
+partly mark = record { mark = mark; whole = false }
+
+-- In an event with this reply, whose plan prints this mark, the printer was given this: the mark that is told as printed, or in whose line the printer failed,
+-- and else nothing.
+pub record IsGiven (reply : Reply) (mark : Option (List ℕ)) (given : Option Given) : Type 0 where
+  pub whole : (job : ℕ) → reply ≡ r.Printed job → (x : List ℕ) × (mark ≡ Some x) × (given ≡ Some (wholly x))
+  pub cut : (job : ℕ) → reply ≡ r.PrinterFault job → (x : List ℕ) × (mark ≡ Some x) × (given ≡ Some (partly x))
+  pub none : ((job : ℕ) → reply ≢ r.Printed job) → ((job : ℕ) → reply ≢ r.PrinterFault job) → given ≡ None
+
+-- what was given for the line of this number
+abbrev pub imprint_at : ℕ → Option Given → List Imprint
+imprint_at number None = []
+imprint_at number (Some given) = record { line = number; given = given } ∷ []
+
+-- == by the bytes ==
+
+-- the mark is the one that the plan of a `print` prints, at each history that the auditor has
+abbrev pub IsDueMark : Audit → Event → Option (List ℕ) → Type 0
+IsDueMark a e due = (j : ℕ) → e ≡ ev.Print j → (τ : Tariff) (H : Ledger) → History τ editions H → Sees a H → print_of (plan τ todays_rules H (ev.Print j) []).after ≡ due
+
+-- a `print` whose plan prints this mark, with this line of the report, gave this; any other event gave nothing
+pub record GivesSo (e : Event) (due : Option (List ℕ)) (line : List ℕ) (given : Option Given) : Type 0 where
+  pub whole : (j : ℕ) → e ≡ ev.Print j → text_of (r.Printed j) ≡ line → given ≡ option_map wholly due
+  pub cut : (j : ℕ) → e ≡ ev.Print j → text_of (r.PrinterFault j) ≡ line → text_of (r.Printed j) ≢ line → given ≡ option_map partly due
+  pub none : ((j : ℕ) → e ≡ ev.Print j → (text_of (r.Printed j) ≢ line) × (text_of (r.PrinterFault j) ≢ line)) → given ≡ None

@@ -1,0 +1,69 @@
+//! The marks that a run gave to the printer.
+ghost use Rattle.std.specs.Prelude.{◌≡◌, ◌++◌, OnOk, OnErr};
+ghost use Rattle.bench_base.specs.Ranges.{IsWholeEvent};
+ghost use Rattle.told_bench.specs.Seeing.{audit_of};
+ghost use Rattle.told_runs.specs.Imprints.{GivesSo, IsDueMark, imprint_at};
+
+use bench_base::events::{Event, Reply};
+use std::alloc::AllocError;
+use told_bench::{Auditor, mark_due};
+use told_nodes::is_told;
+
+/// What the printer was given in an event: a mark, and whether it took the whole line of it; else it failed in the line.
+#[derive(Clone, Copy)]
+pub struct Given {
+    pub mark: [u8; 64],
+    pub whole: bool,
+}
+
+/// What the printer was given for a line of a script, which is counted from 1.
+#[derive(Clone, Copy)]
+pub struct Imprint {
+    pub line: u32,
+    pub given: Given,
+}
+
+// The mark that the event prints where nothing fails; None where it is no `print`.
+pub(crate) fn due_mark(auditor: &Auditor, event: &Event) -> Option<[u8; 64]>
+    requires whole { IsWholeEvent event.now }
+    ensures { IsDueMark (audit_of auditor.now) event.now result }
+{
+    if let Event::Print(job) = event {
+        return mark_due(auditor, *job);
+    }
+    None
+}
+
+// What the printer was given in an event that prints this mark where nothing fails, and has this line.
+pub(crate) fn given_in(event: &Event, due: Option<[u8; 64]>, line: &[u8]) -> Option<Given>
+    ensures { GivesSo event.now due line.now result }
+{
+    let Event::Print(job) = event else {
+        return None;
+    };
+    let Some(mark) = due else {
+        return None;
+    };
+    if is_told(&Reply::Printed(*job), line) {
+        return Some(Given { mark, whole: true });
+    }
+    if is_told(&Reply::PrinterFault(*job), line) {
+        return Some(Given { mark, whole: false });
+    }
+    None
+}
+
+// Puts it behind the others, if the printer was given something.
+pub(crate) fn keep(
+    imprints: &mut Vec<Imprint>,
+    line: u32,
+    given: Option<Given>,
+) -> Result<(), AllocError>
+    ensures ok { OnOk result (imprints.new.items ≡ imprints.old.items ++ imprint_at line given) }
+    ensures err { OnErr result (imprints.new.items ≡ imprints.old.items) }
+{
+    if let Some(given) = given {
+        imprints.push(Imprint { line, given })?;
+    }
+    Ok(())
+}
