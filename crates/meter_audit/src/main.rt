@@ -30,7 +30,7 @@ use std::{env, fs, io};
 use table::tell_table;
 use thiserror::Error;
 use told_bench::Auditor;
-use told_runs::{Ending, Imprint, Verdict, audit_run};
+use told_runs::{Ending, Imprint, Match, Verdict, audit_run, match_prints};
 
 /// The exit status of a finding: what can't be so, or could not be judged.
 const FINDING: u8 = 1;
@@ -38,7 +38,7 @@ const FINDING: u8 = 1;
 /// Why nothing more is judged: the line that is printed on standard error.
 #[derive(Debug, Drop, Error)]
 enum Fault {
-    #[error("usage: meter_audit [--table | --page | --csv | --json] NAME ..")]
+    #[error("usage: meter_audit [--prints FILE] [--table | --page | --csv | --json] NAME ..")]
     Words,
     #[error("cannot use {0}")]
     File(String),
@@ -75,9 +75,11 @@ enum Asked {
     Json,
 }
 
-/// What the words ask for: the names of the runs, and what is printed beside the verdicts.
+/// What the words ask for: the names of the runs, the file of their prints, and what is printed beside the verdicts.
 #[derive(Drop)]
 struct Words {
+    /// The file of the prints of all runs.
+    prints: Option<String>,
     asked: Asked,
     names: Vec<String>,
 }
@@ -132,9 +134,25 @@ fn given_words(rt: &HostRuntime) -> Result<Vec<String>, Fault> {
     Ok(words)
 }
 
-// What the words ask for. The first may ask for more than verdicts; each other is a run.
+// The file of prints, where the first word says that the next is one.
+fn take_prints(names: &mut Vec<String>) -> Result<Option<String>, Fault> {
+    let Some(first) = names.first() else {
+        return Ok(None);
+    };
+    if first.as_str() != "--prints" {
+        return Ok(None);
+    }
+    names.remove(0);
+    if names.is_empty() {
+        return Err(Fault::Words);
+    }
+    Ok(Some(names.remove(0)))
+}
+
+// What the words ask for. The first may name the prints, and the next ask for more than verdicts; each other is a run.
 fn words_of(rt: &HostRuntime) -> Result<Words, Fault> {
     let mut names = given_words(rt)?;
+    let prints = take_prints(&mut names)?;
     let mut asked = Asked::Nothing;
     if let Some(first) = names.first() {
         if let Some(more) = asked_by(first.as_str()) {
@@ -150,7 +168,11 @@ fn words_of(rt: &HostRuntime) -> Result<Words, Fault> {
     if names.is_empty() {
         return Err(Fault::Words);
     }
-    Ok(Words { asked, names })
+    Ok(Words {
+        prints,
+        asked,
+        names,
+    })
 }
 
 // The file of a run that has this ending.
@@ -310,6 +332,47 @@ fn count(
     }
 }
 
+// What is found of prints. The line of a print is one of its own run's script.
+fn prints_text(
+    alloc: Global,
+    file: &str,
+    imprints: &[Imprint],
+    found: Match,
+) -> Result<String, AllocError> {
+    let place = match found {
+        Match::Fit => return format!(in alloc; "prints {file} fit"),
+        Match::Differ(place) | Match::Open(place) => place,
+    };
+    let Some(imprint) = imprints.get(place) else {
+        return format!(in alloc; "prints {file} go on behind the last");
+    };
+    let line = imprint.line;
+    match found {
+        Match::Open(_) => {
+            format!(in alloc; "prints {file} fit before line {line}, where the printer failed")
+        }
+        Match::Fit | Match::Differ(_) => format!(in alloc; "prints {file} differ at line {line}"),
+    }
+}
+
+// Judges the prints of all runs, where a file of them is named: the exit status.
+fn tell_prints(rt: &HostRuntime, words: &Words, imprints: &[Imprint]) -> Result<u8, Fault> {
+    let Some(file) = &words.prints else {
+        return Ok(0);
+    };
+    let prints = bytes_of(rt, file.as_str(), "")?;
+    let found = match_prints(imprints, prints.as_slice());
+    say(
+        rt,
+        words.asked,
+        prints_text(rt.alloc(), file.as_str(), imprints, found),
+    )?;
+    Ok(match found {
+        Match::Fit | Match::Open(_) => 0,
+        Match::Differ(_) => FINDING,
+    })
+}
+
 /// What came of the runs: the exit status, and the last day that was told.
 #[derive(Clone, Copy)]
 struct Audited {
@@ -355,7 +418,8 @@ fn audit(
         stopped = stopped_at(&verdict);
         count(rt, words, clerk, &run, place, stopped)?;
     }
-    Ok(Audited { code: 0, day })
+    let code = tell_prints(rt, words, imprints.as_slice())?;
+    Ok(Audited { code, day })
 }
 
 // Prints what is asked for below the verdicts, where nothing was found: the exit status.

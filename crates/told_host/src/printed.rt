@@ -59,10 +59,6 @@ pub fn mark_due(seat: &Seat<HostRecord, JobRow>, job: u32) -> Option<[u8; 64]>
     host_follows();
     acts_follow_the_commits();
     is_known(&seat.record);
-    let act = host_act(
-        &HostCall::Print(job),
-        seat.record.jobs(),
-        seat.record.kept(),
-    );
+    let act = host_act(&HostCall::Print(job), &seat.record);
     mark_by(seat, &act)
 }

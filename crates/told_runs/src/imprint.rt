@@ -28,10 +28,10 @@ pub(crate) fn due_mark(auditor: &Auditor, event: &Event) -> Option<[u8; 64]>
     requires whole { IsWholeEvent event.now }
     ensures { IsDueMark (audit_of auditor.now) event.now result }
 {
-    if let Event::Print(job) = event {
-        return mark_due(auditor, *job);
-    }
-    None
+    let Event::Print(job) = event else {
+        return None;
+    };
+    mark_due(auditor, *job)
 }
 
 // What the printer was given in an event that prints this mark where nothing fails, and has this line.
