@@ -70,13 +70,6 @@ module _ (line word rest : List ℕ) (split : words_in line ≡ word ∷ words_i
   others_none no_dept no_print (Spent d) here = no_dept (two_words line word (codes "dept") _ _ split here.1)
   others_none no_dept no_print (Print j) here = no_print (two_words line word (codes "print") _ _ split (print_words j line here))
 
-  -- what was read behind `dept` is the line
-  pub dept_found : word ≡ codes "dept" → (own : DepartmentLine) → IsBehind own (words_in rest) → IsDepartmentLine own line
-  dept_found is (Quota d q) here = (here.0, here.1, split ∙ ap (λ (w : List ℕ). w ∷ words_in rest) is ∙ ap (λ (ws : List (List ℕ)). codes "dept" ∷ ws) here.2)
-  dept_found is (Assign d j) here = (here.0, here.1, split ∙ ap (λ (w : List ℕ). w ∷ words_in rest) is ∙ ap (λ (ws : List (List ℕ)). codes "dept" ∷ ws) here.2)
-  dept_found is (Spent d) here = (here.0, split ∙ ap (λ (w : List ℕ). w ∷ words_in rest) is ∙ ap (λ (ws : List (List ℕ)). codes "dept" ∷ ws) here.1)
-  dept_found is (Print j) here = absurd here
-
 -- a line of `print` is that of one job, and of no other line
 pub only_print : (j : ℕ) (line : List ℕ) → IsLineOf (ev.Print j) line → (own : DepartmentLine) → IsDepartmentLine own line → own ≡ Print j
 only_print j line is (Quota d q) here = absurd (dept_differs (two_words line (codes "dept") (codes "print") _ _ here.2 (print_words j line is)))

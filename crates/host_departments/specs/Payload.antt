@@ -35,8 +35,3 @@ decoded k payload = row_from k (values 0 cell_table payload)
 abbrev pub IsFit : ℕ → DepartmentRow → Type 0
 IsFit k (Quota q) = k < 16
 IsFit k (Job j p) = (16 ≤ k) × (1 ≤ j) × IsPostage p
-
--- the numbers of a row in cell k
-abbrev pub cell_numbers : ℕ → DepartmentRow → List ℕ
-cell_numbers k (Quota q) = (k + 1) ∷ q ∷ 0 ∷ []
-cell_numbers k (Job j p) = j ∷ department_of k ∷ p ∷ []

@@ -15,10 +15,6 @@ pub is_some-map : {X Y : Type 0} (f : X → Y) (o : Option X) → is_some (optio
 is_some-map f None = refl
 is_some-map f (Some x) = refl
 
--- there is a next record exactly where a change is open
-pub some-alike : {X Y Z : Type 0} (f : X → Z) (g : Y → Z) (o : Option X) (p : Option Y) → option_map f o ≡ option_map g p → is_some o ≡ is_some p
-some-alike f g o p same = sym (is_some-map f o) ∙ ap is_some same ∙ is_some-map g p
-
 -- what is said of the device in its place holds of the device as the ledger shows it
 pub device_shown : {B : Type 0} (a : Audit) (H : Ledger) → Sees a H → (d : ℕ) (f : View device.Seen → B) (b : B) → OfDevice d a (λ s. b ≡ f (view_of s))
     → b ≡ f (view_in (Device d) (bench_kinds.devices.seen d) H)

@@ -55,9 +55,3 @@ call_prints d today (Resend k) s = prints_none _ _ (λ a j is. cc) (resend_act s
 call_prints d today (Ack k) s = prints_none _ _ (λ a j is. cc) (ack_act s)
 call_prints d today Status s = prints_none _ _ (λ a j is. cc) (status_act today s)
 call_prints d today (Take bytes k) s = prints_none _ _ (took_prints d k) (take_act todays_rules d bytes today s)
-
--- a device's record can take each change
-pub fits_any : {S X F A : Type 0} (s : S) (act : Act X F A) → FitsAct (λ t x. Unit {0}) s act
-fits_any s (Refuse x) = tt
-fits_any s (Tell a) = tt
-fits_any s (Commits c x a) = tt
