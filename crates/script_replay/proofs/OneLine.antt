@@ -1,5 +1,5 @@
 -- What became of one line of a script of events.
-use Rattle.std.proofs.Common.{ℕ, List, [], ◌∷◌, Option, refl}
+use Rattle.std.proofs.Common.{ℕ, List, [], ◌∷◌, Option, None, refl}
 use Rattle.std.proofs.KnownBytes.{Appends-nil}
 use Rattle.script_text.specs.Grammar.{IsSkipped}
 use Rattle.script_text.specs.Told.{IsWholeReply}

@@ -3,24 +3,20 @@ use Rattle.std.proofs.Common.{◌≡◌, ◌≢◌, ℕ, ℤ, List, ◌++◌, Op
 use Rattle.std.specs.Prelude.{slice_set}
 use Rattle.bench_base.specs.declared.words.Node.{Node}
 use Rattle.bench_base.specs.declared.words.Node.TheVariants.{Device, Centre, Host, Verifier}
-use Rattle.bench_base.specs.declared.refusals.RateRefusal.{RateRefusal}
 use Rattle.bench_base.specs.declared.events.Event.{Event}
 use Rattle.bench_base.specs.declared.events.Event.TheVariants as ev
 use Rattle.bench_base.specs.declared.events.Reply.{Reply}
 use Rattle.bench_base.specs.Ranges.{IsWholeEvent}
 use Rattle.bench_base.specs.Rules.{editions}
-use Rattle.bench_base.specs.Ledger.{Ledger, day_in, rates_in}
+use Rattle.bench_base.specs.Ledger.{Ledger, day_in}
 use Rattle.node_acts.specs.declared.asked.Asked.{Asked}
 use Rattle.node_acts.specs.Kinds.{view_in}
 use Rattle.psd_state.specs.State.{State}
 use Rattle.centre_ledger.specs.declared.rows.Row.{Row}
 use Rattle.host_jobs.specs.declared.rows.JobRow.{JobRow}
 use Rattle.verifier.specs.declared.acts.Change.{Change}
-use Rattle.host_rates.specs.Tables.{RateTable}
-use Rattle.host_rates.specs.Tariffs.{Keeps}
 use Rattle.host_rates.specs.Laws.{KeptPrices}
 use Rattle.ledger_moves.specs.Tariffs.{Tariff}
-use Rattle.ledger_moves.specs.Moves.{price_by}
 use Rattle.ledger_moves.specs.Histories.{History, Unforged}
 use Rattle.bench_views.specs.declared.taken.DeviceCall.{DeviceCall}
 use Rattle.bench_views.specs.declared.taken.CentreCall.{CentreCall}

@@ -1,11 +1,11 @@
 -- What is heard of a `rates` on a day, by the ledger.
-use Rattle.std.proofs.Common.{◌≡◌, ◌⊎◌, inl, inr, ⊎_elim, ℕ, ℤ, List, [], ◌∷◌, length, Option, Some, None, Bool, true, false, Result, Ok, Err, refl, sym, ◌∙◌, ap, subst, if◌then◌else◌}
-use Rattle.std.specs.Prelude.{option_and_then, is_some, nat_lt, ok_or}
+use Rattle.std.proofs.Common.{◌≡◌, ◌⊎◌, inl, inr, ⊎_elim, ℕ, ℤ, List, [], ◌∷◌, length, Option, Some, None, true, false, Result, Ok, Err, refl, sym, ◌∙◌, ap, subst}
+use Rattle.std.specs.Prelude.{is_some}
 use Rattle.bench_base.specs.declared.ledger.Entry.TheVariants as entry
 use Rattle.bench_base.specs.declared.events.Event.TheVariants as ev
 use Rattle.bench_base.specs.declared.events.Reply.{Reply}
 use Rattle.bench_base.specs.declared.events.Reply.TheVariants as r
-use Rattle.bench_base.specs.Plans.{Plan, refuse, told}
+use Rattle.bench_base.specs.Plans.{Plan}
 use Rattle.bench_base.specs.Replies.{Did, told_by}
 use Rattle.bench_base.specs.Rules.{todays_rules}
 use Rattle.bench_base.specs.Ledger.{Ledger, day_in}
@@ -13,13 +13,10 @@ use Rattle.node_acts.specs.Plans.{Fails, after}
 use Rattle.host_rates.specs.declared.reading.RatesFail.{RatesFail}
 use Rattle.host_rates.specs.declared.reading.RatesFail.TheVariants as fail
 use Rattle.host_rates.specs.Tables.{RateTable}
-use Rattle.host_rates.specs.Tariffs as texts
 use Rattle.host_rates.specs.Tariffs.{Keeps}
-use Rattle.host_rates.specs.Reading as reading
-use Rattle.host_rates.specs.Reading.{document}
-use Rattle.host_rates.specs.Answers.{answer, answer_of, AreRatesOf}
-use Rattle.ledger_moves.specs.Tariffs.{Tariff, NoToml, NoForm}
-use Rattle.ledger_moves.specs.Moves.{Moves, plan, rates_plan, reading_plan, answer as answer_in, entries}
+use Rattle.host_rates.specs.Answers.{answer}
+use Rattle.ledger_moves.specs.Tariffs.{Tariff}
+use Rattle.ledger_moves.specs.Moves.{Moves, plan, answer as answer_in, entries}
 use Rattle.bench_views.specs.Tariff.{IsOfTexts}
 use Rattle.bench_views.proofs.RatesPlans.{plan_of, planned, are_rates, plan_rates}
 use Rattle.bench.specs.Outside.{rates_turn, rates_after}

@@ -4,7 +4,7 @@ use Rattle.bench_base.specs.declared.events.Event.TheVariants as ev
 use Rattle.bench_base.specs.Plans.{Plan}
 use Rattle.bench_base.specs.Ranges.{IsWholeEvent}
 use Rattle.bench_base.specs.Rules.{todays_rules, editions}
-use Rattle.bench_base.specs.Ledger.{Ledger, day_in}
+use Rattle.bench_base.specs.Ledger.{Ledger}
 use Rattle.node_acts.specs.declared.asked.Asked.TheVariants.{Call}
 use Rattle.node_turns.specs.Printing.{print_of}
 use Rattle.ledger_moves.specs.Tariffs.{Tariff}

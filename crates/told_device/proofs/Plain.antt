@@ -17,7 +17,6 @@ use Rattle.bench_views.specs.declared.taken.DeviceCall.{DeviceCall}
 use Rattle.bench_views.specs.declared.taken.DeviceCall.TheVariants.{Make, Debit, Ask, Resend, Ack, Status, Take}
 use Rattle.bench_views.specs.Devices.{device_act, took}
 use Rattle.told_nodes.specs.Judged.{PrintsNone}
-use Rattle.told_nodes.specs.Seats.{FitsAct}
 
 plain_says : {X F A : Type 0} (refusal : F → Reply) (say : A → Said) → ((x : F) → told_by (refusal x) ≡ Refused) → ((a : A) → told_by (say a).reply ≡ Did) → (act : Act X F A)
     → IsPlain (saying refusal say act)

@@ -1,4 +1,4 @@
-use Rattle.std.proofs.Common.{◌≡◌, sym, ◌∙◌, ap}
+use Rattle.std.proofs.Common.{sym, ◌∙◌, ap}
 use Rattle.host_jobs.specs.Seen.{rows_in}
 use Rattle.bench_views.specs.declared.taken.HostCall.{HostCall}
 use Rattle.bench_views.specs.declared.taken.HostCall.TheVariants.{Take}

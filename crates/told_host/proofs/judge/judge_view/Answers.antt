@@ -1,16 +1,12 @@
-use Rattle.std.proofs.Common.{◌≡◌, ℕ, List, Result, sym, ◌∙◌, ap, subst}
+use Rattle.std.proofs.Common.{◌≡◌, ℕ, List, Result, sym, subst}
 use Rattle.std.specs.Prelude.{IfSome}
 use Rattle.bench_base.specs.declared.words.Node.TheVariants.{Host}
 use Rattle.bench_base.specs.declared.events.Reply.{Reply}
-use Rattle.node_acts.specs.declared.act.Act.{Act}
 use Rattle.node_acts.specs.declared.asked.Asked.{Asked}
 use Rattle.node_acts.specs.declared.asked.Asked.TheVariants as asks
-use Rattle.node_acts.specs.declared.said.Said.{Said}
 use Rattle.node_acts.specs.Plans.{IsOfNode}
 use Rattle.node_acts.specs.Said.{IsPlain}
 use Rattle.node_acts.specs.Views.{View}
-use Rattle.host_jobs.specs.declared.rows.JobRow.{JobRow}
-use Rattle.host_jobs.specs.Rows.{Jobs}
 use Rattle.host_jobs.specs.Seen.{Seen, rows_in}
 use Rattle.bench_views.specs.declared.taken.HostCall.{HostCall}
 use Rattle.bench_views.specs.Host.{host_act, IsKnown}

@@ -1,4 +1,4 @@
-use Rattle.std.proofs.Common.{◌≡◌, sym, ◌∙◌, ap}
+use Rattle.std.proofs.Common.{sym, ◌∙◌, ap}
 use Rattle.bench_views.specs.declared.taken.VerifierCall.{VerifierCall}
 use Rattle.bench_views.specs.declared.taken.VerifierCall.TheVariants.{Scan}
 use Rattle.bench_views.specs.Verifier.{verifier_act}
