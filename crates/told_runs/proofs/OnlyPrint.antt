@@ -124,7 +124,7 @@ registers : (d origin : ℕ) (key : List ℕ) (known : Option (ℕ × List ℕ))
 registers d origin key None = record { is = refl }
 registers d origin key (Some x) = record { is = refl }
 
-deposit_act : (w n a total : ℕ) (x : Result (Option ℕ) CentreRefusal) → NoPrint (centre.deposit_act w n a total x)
+deposit_act : (w n a total : ℕ) (x : Result (Option ℕ) CentreRefusal) → NoPrint (centre.deposit_answered w n a total x)
 deposit_act w n a total (Err x) = record { is = refl }
 deposit_act w n a total (Ok None) = record { is = refl }
 deposit_act w n a total (Ok (Some after)) = record { is = refl }
@@ -138,7 +138,7 @@ repeats d n k None reply = record { is = refl }
 repeats d n k (Some x) None = record { is = refl }
 repeats d n k (Some x) (Some reply) = record { is = refl }
 
-rules_on : (k : ℕ) (bytes : List ℕ) (q : Request) (C : List Commit) (x : Result Bool CentreRefusal) → NoPrint (centre.rule_act k bytes q C x)
+rules_on : (k : ℕ) (bytes : List ℕ) (q : Request) (C : List Commit) (x : Result Bool CentreRefusal) → NoPrint (centre.rule_answered k bytes q C x)
 rules_on k bytes q C (Err x) = record { is = refl }
 rules_on k bytes q C (Ok true) = repeats q.device q.number k (centre.last_ruling q.device C) (stored_reply q.device C)
 rules_on k bytes q C (Ok false) = record { is = refl }
@@ -147,14 +147,14 @@ requests : (k : ℕ) (bytes : List ℕ) (q : Request) (x : Option (ℕ × List �
 requests k bytes q None C = record { is = refl }
 requests k bytes q (Some x) C = either (has_code x.1 bytes) (centre.rule_plan k bytes q C) (centre.no_centre no.BadCode) (rules_on k bytes q C (centre.turn_answer (ruled q.device C) (centre.stored_note (centre.last_ruling q.device C)) q.number bytes)) (record { is = refl })
 
-settles : (d n : ℕ) (x : Result (Option ℕ) CentreRefusal) → NoPrint (centre.settle_act d n x)
+settles : (d n : ℕ) (x : Result (Option ℕ) CentreRefusal) → NoPrint (centre.settle_answered d n x)
 settles d n (Err x) = record { is = refl }
 settles d n (Ok None) = record { is = refl }
 settles d n (Ok (Some now)) = record { is = refl }
 
 dones : (bytes : List ℕ) (q : DoneMsg) (x : Option (ℕ × List ℕ)) (settled ruled : ℕ) → NoPrint (centre.done_plan bytes q x settled ruled)
 dones bytes q None settled ruled = record { is = refl }
-dones bytes q (Some x) settled ruled = either (has_code x.1 bytes) (centre.settle_act q.device q.number (centre.settle_answer settled ruled q.number)) (centre.no_centre no.BadCode) (settles q.device q.number (centre.settle_answer settled ruled q.number)) (record { is = refl })
+dones bytes q (Some x) settled ruled = either (has_code x.1 bytes) (centre.settle_answered q.device q.number (centre.settle_answer settled ruled q.number)) (centre.no_centre no.BadCode) (settles q.device q.number (centre.settle_answer settled ruled q.number)) (record { is = refl })
 
 centre_takes : (k : ℕ) (bytes : List ℕ) (read : Result Message Unread) (C : List Commit) → NoPrint (centre.centre_take k bytes read C)
 centre_takes k bytes (Ok (m.Request q)) C = requests k bytes q (registered q.device C) C
@@ -174,7 +174,7 @@ reconciles d (Some key) C = compares d (ascending d C + descending d C) (registe
 
 -- == of the host and the verifier ==
 
-order_act : (d piece class postage : ℕ) (x : Result ℕ HostRefusal) → NoPrint (host.order_act d piece class postage x)
+order_act : (d piece class postage : ℕ) (x : Result ℕ HostRefusal) → NoPrint (host.order_answered d piece class postage x)
 order_act d piece class postage (Err x) = record { is = refl }
 order_act d piece class postage (Ok i) = record { is = refl }
 
@@ -183,16 +183,16 @@ orders d piece class h None = record { is = refl }
 orders d piece class h (Some (Err x)) = record { is = refl }
 orders d piece class h (Some (Ok postage)) = order_act d piece class postage (host.order_answer piece h h.open_job)
 
-sends_job : (k i : ℕ) (b : Option Job) (x : Option HostRefusal) → NoPrint (host.send_act k i b x)
+sends_job : (k i : ℕ) (b : Option Job) (x : Option HostRefusal) → NoPrint (host.send_answered k i b x)
 sends_job k i b (Some x) = record { is = refl }
 sends_job k i None None = record { is = refl }
 sends_job k i (Some b) None = record { is = refl }
 
-closes : (i : ℕ) (x : Option HostRefusal) → NoPrint (host.close_act i x)
+closes : (i : ℕ) (x : Option HostRefusal) → NoPrint (host.close_answered i x)
 closes i (Some x) = record { is = refl }
 closes i None = record { is = refl }
 
-holds : (x : List ℕ) (i : ℕ) (o : Option HostRefusal) → NoPrint (host.hold_act x i o)
+holds : (x : List ℕ) (i : ℕ) (o : Option HostRefusal) → NoPrint (host.hold_answered x i o)
 holds x i (Some o) = record { is = refl }
 holds x i None = record { is = refl }
 
@@ -220,7 +220,7 @@ trusts : (d : ℕ) (key : List ℕ) (known : Option (List ℕ)) → NoPrint (sca
 trusts d key None = record { is = refl }
 trusts d key (Some k) = record { is = refl }
 
-scan_act : (n : ℕ) (k : Mark) (x : Result Bool ScanRefusal) → NoPrint (scans.scan_act n k x)
+scan_act : (n : ℕ) (k : Mark) (x : Result Bool ScanRefusal) → NoPrint (scans.scan_answered n k x)
 scan_act n k (Err x) = record { is = refl }
 scan_act n k (Ok true) = record { is = refl }
 scan_act n k (Ok false) = record { is = refl }
@@ -228,7 +228,7 @@ scan_act n k (Ok false) = record { is = refl }
 scan_key : (n : ℕ) (bytes : List ℕ) (k : Mark) (today : ℤ) (key : Option (List ℕ)) (C : List Commit) → NoPrint (scans.scan_key n bytes k today key C)
 scan_key n bytes k today None C = record { is = refl }
 scan_key n bytes k today (Some key) C =
-    either (has_code key bytes) (scans.scan_act n k (scans.scan_answer n k.day today (scans.is_full k.device k.piece (blocks C)) (accepted k.device k.piece C))) (scans.no_scan no_scans.BadCode)
+    either (has_code key bytes) (scans.scan_answered n k (scans.scan_answer n k.day today (scans.is_full k.device k.piece (blocks C)) (accepted k.device k.piece C))) (scans.no_scan no_scans.BadCode)
     (scan_act n k (scans.scan_answer n k.day today (scans.is_full k.device k.piece (blocks C)) (accepted k.device k.piece C))) record { is = refl }
 
 scan_plan : (n : ℕ) (bytes : List ℕ) (today : ℤ) (read : Result (Mark × List ℕ) MarkFault) (C : List Commit) → NoPrint (scans.scan_plan n bytes today read C)
@@ -287,7 +287,7 @@ none_prints e p none = record {
   uncut = λ j is. absurd (true≢false (sym (ap of_printer is) ∙ none.is));
 }
 
-print_act : (i : ℕ) (x : Option (List ℕ)) (o : Option HostRefusal) → Prints (ev.Print i) (host.print_act i x o)
+print_act : (i : ℕ) (x : Option (List ℕ)) (o : Option HostRefusal) → Prints (ev.Print i) (host.print_answered i x o)
 print_act i x (Some o) = none_prints (ev.Print i) _ (record { is = refl })
 print_act i None None = none_prints (ev.Print i) _ (record { is = refl })
 print_act i (Some x) None = record { answered = λ j is. let same : i ≡ j = cc in (ap ev.Print same, (x, refl)); uncut = λ j is. cc }
