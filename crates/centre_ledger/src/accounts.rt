@@ -8,7 +8,7 @@ ghost use Rattle.centre_ledger.specs.Books as books;
 ghost use Rattle.centre_ledger.specs.Books.{no_rows, device_at, customer_at, left_in, put_row, kept_at, balances_by, spent_in, IsOwned, ArePlaced, AreJoined, AreSound};
 
 use crate::balances::Balances;
-use crate::ready_row::{ReadyRow, keep, plain, ready};
+use crate::ready_row::{ReadyRow, keep, plain};
 use crate::rows::{CustomerRow, DeviceRow, REGISTERED, Row};
 use bench_base::numbers::Customer;
 use std::marker::Model;
@@ -81,15 +81,15 @@ fn charge(balances: &mut Balances, row: &DeviceRow)
     }
 }
 
-// The rows, each with its key made ready.
-fn made_ready(rows: &[Option<DeviceRow>; 8]) -> [Option<ReadyRow>; 8]
-    ensures { result ≡ rows.now }
+// The rows alone.
+fn plain_rows(devices: &[Option<ReadyRow>; 8]) -> [Option<DeviceRow>; 8]
+    ensures { result ≡ devices.now }
 {
-    let mut devices = [None, None, None, None, None, None, None, None];
+    let mut rows = [None; 8];
     for place in 0..8 {
-        devices[place] = ready(&rows[place]);
+        rows[place] = plain(&devices[place]);
     }
-    devices
+    rows
 }
 
 fn deposits_in(slot: &Option<CustomerRow>) -> u64
@@ -117,19 +117,20 @@ impl Accounts {
     /// These rows, each of which is sound and in its own place. None exactly where they do not agree: where the customer
     /// of a device is not open, or a customer has less than 0.
     pub fn of(
-        devices: [Option<DeviceRow>; 8],
+        devices: [Option<ReadyRow>; 8],
         customers: [Option<CustomerRow>; 64],
     ) -> Option<Accounts>
         requires placed { ArePlaced (record { devices = devices; customers = customers }) }
         ensures joined { IsSome result ↔ AreJoined (record { devices = devices; customers = customers }) }
         ensures value { IfSome result (λ accounts. accounts ≡ record { devices = devices; customers = customers }) }
     {
-        if !are_owned(&devices, &customers) {
+        let rows = plain_rows(&devices);
+        if !are_owned(&rows, &customers) {
             return None;
         }
-        let balances = Balances::of(&devices, &customers)?;
+        let balances = Balances::of(&rows, &customers)?;
         Some(Accounts {
-            devices: made_ready(&devices),
+            devices,
             customers,
             balances,
         })

@@ -11,6 +11,7 @@ ghost use Rattle.centre_ledger.specs.Parts.{bare, bare_at, state_from, sum_at, K
 
 use crate::messages::{reply_front, request_front, stored, uncoded};
 use crate::page::{is_zero, put};
+use crate::ready_row::{ReadyRow, plain};
 use crate::rows::DeviceRow;
 use crate::soundness::is_sound_device;
 use bench_base::bytes::Note;
@@ -42,6 +43,16 @@ impl DeviceRow {
         ensures found { IfSome result (λ r. (r.device ≡ device) × DeviceReadsAs payload.now r) }
         ensures none { IfNone result ((r : TheRow) → r.device ≡ device → DeviceReadsAs payload.now r → ⊥) }
     {
+        plain(&ReadyRow::read_payload(device, payload))
+    }
+}
+
+impl ReadyRow {
+    /// As `read_payload` of `DeviceRow`, with the key made ready under which its messages were read.
+    pub fn read_payload(device: DevNo, payload: &[u8; 192]) -> Option<ReadyRow>
+        ensures found { IfSome result (λ r. (r.device ≡ device) × DeviceReadsAs payload.now r) }
+        ensures none { IfNone result ((r : TheRow) → r.device ≡ device → DeviceReadsAs payload.now r → ⊥) }
+    {
         if payload[4] < 16 {
             read_first(device, payload)
         } else {
@@ -51,7 +62,7 @@ impl DeviceRow {
 }
 
 // A payload of version 1.
-fn read_first(device: DevNo, payload: &[u8]) -> Option<DeviceRow>
+fn read_first(device: DevNo, payload: &[u8]) -> Option<ReadyRow>
     requires long { length payload.now ≡ 192 }
     ensures found { IfSome result (λ r. (r.device ≡ device) × IsSpelling 1 payload.now r) }
     ensures none { IfNone result ((r : TheRow) → r.device ≡ device → IsSpelling 1 payload.now r → ⊥) }
@@ -66,7 +77,7 @@ fn read_first(device: DevNo, payload: &[u8]) -> Option<DeviceRow>
 }
 
 // A payload of version 2.
-fn read_second(device: DevNo, payload: &[u8]) -> Option<DeviceRow>
+fn read_second(device: DevNo, payload: &[u8]) -> Option<ReadyRow>
     requires long { length payload.now ≡ 192 }
     requires state { 16 ≤ get_or payload.now 4 0 }
     ensures found { IfSome result (λ r. (r.device ≡ device) × IsSpelling 2 payload.now r) }
@@ -136,7 +147,7 @@ fn sums_at(version: u8, payload: &[u8]) -> (u64, u64)
 }
 
 // The row with the messages that these bytes keep, where it meets the conditions of a row.
-fn with_messages(row: &DeviceRow, version: u8, request: &[u8], reply: &[u8]) -> Option<DeviceRow>
+fn with_messages(row: &DeviceRow, version: u8, request: &[u8], reply: &[u8]) -> Option<ReadyRow>
     requires version { IsVersion version }
     requires request { length request.now ≡ request_size version }
     requires reply { length reply.now ≡ reply_size version }
@@ -160,7 +171,7 @@ fn with_messages(row: &DeviceRow, version: u8, request: &[u8], reply: &[u8]) -> 
         ..*row
     };
     if is_sound_device(&whole) {
-        Some(whole)
+        Some(ReadyRow::with(&whole, key))
     } else {
         None
     }

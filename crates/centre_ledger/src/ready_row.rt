@@ -34,6 +34,14 @@ impl ReadyRow {
         }
     }
 
+    /// A row with its key, which was made ready before.
+    pub(crate) fn with(row: &DeviceRow, key: ReadyKey) -> ReadyRow
+        requires { key ≡ row.now.key }
+        ensures { result ≡ row.now }
+    {
+        ReadyRow { row: *row, key }
+    }
+
     /// The row alone.
     pub fn row(&self) -> &DeviceRow
         ensures { result.now ≡ self.now }
@@ -67,16 +75,6 @@ pub fn keep(slot: &mut Option<ReadyRow>, next: &DeviceRow)
     match slot {
         Some(kept) => kept.follow(next),
         None => *slot = Some(ReadyRow::new(next)),
-    }
-}
-
-/// The row in the place of a device, with its key made ready.
-pub fn ready(slot: &Option<DeviceRow>) -> Option<ReadyRow>
-    ensures { result ≡ slot.now }
-{
-    match slot {
-        Some(row) => Some(ReadyRow::new(row)),
-        None => None,
     }
 }
 

@@ -14,13 +14,13 @@ use crate::node::CentreNode;
 use bench_base::numbers::{Customer, DevNo};
 use bench_base::refusals::BootFail;
 use bench_base::sizes::{CENTRE_BYTES, CENTRE_CELLS, ROW_BYTES};
-use centre_ledger::{Accounts, CustomerRow, DeviceRow};
+use centre_ledger::{Accounts, CustomerRow, ReadyRow};
 use node_seat::Running;
 use nv_model::Nv;
 use nv_store::{MountCause, Room, clear_room, get_room, mount_room};
 
 // The row of a device that its cell holds: None where it is blank, and Err where the payload reads as none.
-fn device_in(room: &Room<ROW_BYTES>, place: u32) -> Result<Option<DeviceRow>, ()>
+fn device_in(room: &Room<ROW_BYTES>, place: u32) -> Result<Option<ReadyRow>, ()>
     requires cells { cells_of room.now ≡ CENTRE_CELLS }
     requires inside { place < 8 }
     ensures read { IfOk result (DeviceRead (kept_in room.now) place) }
@@ -32,7 +32,7 @@ fn device_in(room: &Room<ROW_BYTES>, place: u32) -> Result<Option<DeviceRow>, ()
     let Some(device) = DevNo::new(place + 1) else {
         unreachable!();
     };
-    match DeviceRow::read_payload(device, payload) {
+    match ReadyRow::read_payload(device, payload) {
         Some(row) => Ok(Some(row)),
         None => Err(()),
     }
@@ -57,13 +57,13 @@ fn customer_in(room: &Room<ROW_BYTES>, place: u32) -> Result<Option<CustomerRow>
     }
 }
 
-fn devices_in(room: &Room<ROW_BYTES>) -> Result<[Option<DeviceRow>; 8], ()>
+fn devices_in(room: &Room<ROW_BYTES>) -> Result<[Option<ReadyRow>; 8], ()>
     requires cells { cells_of room.now ≡ CENTRE_CELLS }
     ensures read { IfOk result (DevicesRead (kept_in room.now) 8) }
     ensures long { IfOk result (λ rows. length rows ≡ 8) }
     ensures foreign { IfErr result (λ x. HoldsForeign CENTRE_CELLS IsPayloadOf (kept_in room.now)) }
 {
-    let mut rows = [None; 8];
+    let mut rows = [None, None, None, None, None, None, None, None];
     for place in 0..8 {
         rows[place] = device_in(room, place as u32)?;
     }

@@ -212,11 +212,18 @@ fn coded(body: &[u8], key: &ReadyKey) -> Note
 /// The one spelling of the message under the key. A Debit and a Release have no code, and the key does not count.
 ///
 /// The message is as for `write_body`.
+#[tactic(auto, unfolding(crate::specs::Grammar::spell))]
 pub fn write_message(message: &Message, key: &Key) -> Note
     requires { IsWhole message.now }
     ensures { result ≡ spell message.now key.now }
 {
-    write_message_by(message, &ReadyKey::new(key))
+    match message {
+        Message::Debit(debit) => Note::of(&debit_body(debit)),
+        Message::Release(mark) => Note::of(&release_body(mark)),
+        Message::Request(_) | Message::Reply(_) | Message::Done(_) => {
+            write_message_by(message, &ReadyKey::new(key))
+        }
+    }
 }
 
 /// As `write_message`, under a key that was made ready.

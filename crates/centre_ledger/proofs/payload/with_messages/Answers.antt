@@ -1,7 +1,8 @@
-use Rattle.std.proofs.Common.{sym, ap, subst, ◌∙◌, arith, true≢false}
+use Rattle.std.proofs.Common.{◌≡◌, sym, ap, subst, ◌∙◌, arith, true≢false}
 use Rattle.centre_ledger.specs.Soundness.{IsSoundDevice}
 use Rattle.centre_ledger.specs.Payload.{message_part}
-use Rattle.centre_ledger.specs.Parts.{IsStored}
+use Rattle.centre_ledger.specs.Parts.{bare, IsStored, KeepMessages}
+use Rattle.centre_ledger.specs.declared.rows.DeviceRow.{DeviceRow}
 use Rattle.centre_ledger.proofs.Parted.{bare-request, bare-reply, stored-part, one-stored, same-row}
 use Rattle.centre_ledger.proofs.payload.with_messages.Goals as goal
 
@@ -18,17 +19,18 @@ returns-in_default-stored-clause-none c =
     (bare-reply _ _ c.args.row.now r c.args.reply.now c.requires.version c.reply_front-front.ensures.value sound e c.requires.reply k.second))
 
 pub returns-then-is_sound_device-clause-found : goal.returns-then-is_sound_device-clause-found
-returns-then-is_sound_device-clause-found c = (
-  c.requires.bare,
-  record {
-    first = ap (λ n. message_part c.args.version n c.in-Some.request) (sym c.requires.request)
-        ∙ stored-part c.args.version c.args.row.now.ruled c.request_front-front.result c.new-key.result c.args.request.now c.in-Some.request
-        (omega (arith, c.request_front-front.ensures.most, c.requires.request)) c.in-Some.ensures.found;
-    second = ap (λ n. message_part c.args.version n c.in-Some-stored.reply) (sym c.requires.reply)
-        ∙ stored-part c.args.version c.args.row.now.ruled c.reply_front-front.result c.new-key.result c.args.reply.now c.in-Some-stored.reply
-        (omega (arith, c.reply_front-front.ensures.most, c.requires.reply)) c.in-Some-stored.ensures.found;
-  },
-)
+returns-then-is_sound_device-clause-found c =
+    subst (λ (r : DeviceRow). (bare r ≡ c.args.row.now) × KeepMessages c.args.version c.args.request.now c.args.reply.now r) (sym c.with.ensures) (
+      c.requires.bare,
+      record {
+        first = ap (λ n. message_part c.args.version n c.in-Some.request) (sym c.requires.request)
+            ∙ stored-part c.args.version c.args.row.now.ruled c.request_front-front.result c.new-key.result c.args.request.now c.in-Some.request
+            (omega (arith, c.request_front-front.ensures.most, c.requires.request)) c.in-Some.ensures.found;
+        second = ap (λ n. message_part c.args.version n c.in-Some-stored.reply) (sym c.requires.reply)
+            ∙ stored-part c.args.version c.args.row.now.ruled c.reply_front-front.result c.new-key.result c.args.reply.now c.in-Some-stored.reply
+            (omega (arith, c.reply_front-front.ensures.most, c.requires.reply)) c.in-Some-stored.ensures.found;
+      },
+    )
 
 pub returns-else-is_sound_device-clause-none : goal.returns-else-is_sound_device-clause-none
 returns-else-is_sound_device-clause-none c =

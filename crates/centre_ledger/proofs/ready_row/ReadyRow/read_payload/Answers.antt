@@ -1,7 +1,7 @@
 use Rattle.std.proofs.Common.{arith}
 use Rattle.bench_base.proofs.Facts.{none-by}
 use Rattle.centre_ledger.proofs.OneRow.{not-first, not-second}
-use Rattle.centre_ledger.proofs.rows.DeviceRow.read_payload.Goals as goal
+use Rattle.centre_ledger.proofs.ready_row.ReadyRow.read_payload.Goals as goal
 
 pub returns-then-payload-lt16-clause-none : goal.returns-then-payload-lt16-clause-none
 returns-then-payload-lt16-clause-none c =

@@ -1,6 +1,0 @@
-use Rattle.std.proofs.Common.{None, rules}
-use Rattle.std.proofs.lemmas.List.{ext_get_or}
-use Rattle.centre_ledger.proofs.accounts.made_ready.Goals as goal
-
-pub returns : goal.returns
-returns c = ext_get_or None _ c.args.rows.now (search rules) (λ k inside. c.loop-place.invariant.1 k (search rules))
