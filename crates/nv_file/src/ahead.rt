@@ -18,6 +18,8 @@ pub struct Ahead {
     pub(crate) bytes: Vec<u8>,
     /// The first place that the bytes are of, and the place behind the last; None where nothing was read.
     pub(crate) window: Option<(u32, u32)>,
+    /// Whether anything is read ahead.
+    reads: bool,
 }
 
 impl Ahead {
@@ -30,22 +32,34 @@ impl Ahead {
         Ok(Ahead {
             bytes: vec![in alloc; 0; size.min(PIECE) as usize]?,
             window: None,
+            reads: false,
         })
     }
 
-    /// Forgets what was read.
+    /// Forgets what was read, and reads nothing ahead.
     pub fn forget(&mut self)
         ensures { window_of self.new ≡ None }
     {
         self.window = None;
+        self.reads = false;
     }
 
-    /// Reads the bytes about a place of a file of this size. False where that fails, and nothing is there then.
+    /// Reads ahead from now on.
+    pub fn begin(&mut self)
+        ensures { window_of self.new ≡ window_of self.old }
+    {
+        self.reads = true;
+    }
+
+    /// Reads the bytes about a place of a file of this size. False where that fails, or nothing is read ahead; nothing is there then.
     pub fn fill(&mut self, file: &File, at: u32, size: u32) -> bool
         requires inside { at ≤ size }
         ensures failed { result ≡ false → window_of self.new ≡ None }
     {
-        self.forget();
+        self.window = None;
+        if !self.reads {
+            return false;
+        }
         let from = at.saturating_sub(BEHIND);
         let len = (size - from).min(PIECE);
         if self.bytes.len() < len as usize {

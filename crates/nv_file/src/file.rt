@@ -33,7 +33,7 @@ pub struct FileNv {
     range: Option<(u32, u32)>,
     /// Whether a write or a sync failed since then.
     failed: bool,
-    /// What was read since the last write, sync and restart.
+    /// What was read ahead since the last sync; a write and a restart end that.
     ahead: Ahead,
     ghost inside: { (r : ℕ × ℕ) → range ≡ Some r → r.1 ≤ size },
 }
@@ -229,6 +229,7 @@ impl Nv for FileNv {
         }
         self.failed = false;
         self.range = None;
+        self.ahead.begin();
         self.answer(true)
     }
 
