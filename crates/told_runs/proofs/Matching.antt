@@ -3,7 +3,7 @@ use Rattle.std.proofs.Common.{◌≡◌, ◌↔◌, ℕ, List, [], ◌∷◌, �
 use Rattle.std.proofs.lemmas.List.{take-append-drop, take_at}
 use Rattle.text_streams.specs.Texts.{print_line}
 use Rattle.told_runs.specs.declared.imprint.Imprint.{Imprint}
-use Rattle.told_runs.specs.Prints.{Took, ArePrinted, LeavesAsked, BeginsCut}
+use Rattle.told_runs.specs.Prints.{Took, ArePrinted, LeavesAsked}
 
 -- what is behind the same bytes is the same
 after_same : (a x y : List ℕ) → a ++ x ≡ a ++ y → x ≡ y
@@ -32,9 +32,6 @@ module _ (imprints : List Imprint) (bytes : List ℕ) (i : Imprint) (left behind
   other_line none printed =
       let w = subst (λ (l : List Imprint). ArePrinted l rest) first (asked.there printed) in
       none w.1 (w.2 ∙ ap (λ (l : List ℕ). l ++ w.1) (took_whole i.given.whole w.0 whole w.3))
-
-pub begins_cut : (left behind : List Imprint) (i : Imprint) → left ≡ i ∷ behind → i.given.whole ≡ false → BeginsCut left
-begins_cut left behind i first cut = subst BeginsCut (sym first) cut
 
 -- bytes that begin with a line of so many bytes
 pub line_then : (line rest : List ℕ) → take 129 rest ≡ line → rest ≡ line ++ drop 129 rest

@@ -54,7 +54,7 @@ use Rattle.node_turns.specs.Printing.{print_of}
 use Rattle.ledger_moves.specs.Tariffs.{Tariff, TextFault, NoToml, NoForm}
 use Rattle.ledger_moves.specs.Devices as device
 use Rattle.ledger_moves.specs.Moves as moves
-use Rattle.ledger_moves.specs.Moves.{plan, plan_on, plan_at, on_day, at_node, unless_worn}
+use Rattle.ledger_moves.specs.Moves.{plan, plan_on, on_day, at_node, unless_worn}
 
 -- == plans whose answer is no print ==
 
