@@ -6,10 +6,10 @@ use Rattle.node_acts.specs.declared.asked.Asked.{Asked}
 use Rattle.node_turns.specs.declared.turn.Turn.{Turn}
 use Rattle.node_turns.specs.NodeTurns.{NodeTurn}
 use Rattle.node_turns.specs.Printing.{NodePrints}
-use Rattle.bench_views.specs.declared.taken.DeviceCall.{DeviceCall}
-use Rattle.bench_views.specs.declared.taken.CentreCall.{CentreCall}
-use Rattle.bench_views.specs.declared.taken.HostCall.{HostCall}
-use Rattle.bench_views.specs.declared.taken.VerifierCall.{VerifierCall}
+use Rattle.bench_views.specs.declared.calls.DeviceCall.{DeviceCall}
+use Rattle.bench_views.specs.declared.calls.CentreCall.{CentreCall}
+use Rattle.bench_views.specs.declared.calls.HostCall.{HostCall}
+use Rattle.bench_views.specs.declared.calls.VerifierCall.{VerifierCall}
 use Rattle.bench_views.specs.declared.taken.Taken.TheVariants as take
 use Rattle.bench_views.specs.Tariff.{quote}
 use Rattle.bench_views.specs.Taken.{taken}

@@ -26,8 +26,8 @@ use Rattle.centre_ledger.specs.Acts.{CentreAct, left_act}
 use Rattle.centre_ledger.specs.ActLaws.{LeavesSound, SoundActs}
 use Rattle.centre_ledger.specs.Books.{Books, AreSound, device_at, customer_at, left_in, put_row}
 use Rattle.centre_ledger.proofs.SoundActs.{leaves}
-use Rattle.bench_views.specs.declared.taken.CentreCall.{CentreCall}
-use Rattle.bench_views.specs.declared.taken.CentreCall.TheVariants as call
+use Rattle.bench_views.specs.declared.calls.CentreCall.{CentreCall}
+use Rattle.bench_views.specs.declared.calls.CentreCall.TheVariants as call
 use Rattle.bench_views.specs.Centre as views
 use Rattle.bench_views.specs.Centre.{centre_act, IsBytesCall}
 use Rattle.bench_views.proofs.Calling.{own_says}
@@ -47,12 +47,12 @@ module _ {K S R : Type 0} (n : Ghosts K S (Unit {0}) Row R) (b : Books) (sound :
 
   -- it leaves sound rows
   pub call_fits : (c : CentreCall) → IsRangedCall c → IsBytesCall c → IsFitting n tt s (centre_act c b)
-  call_fits (call.Register d origin key) ranged bytes = fits_says n tt s _ _ (acts.register_act d origin key b) (by (acts.register_act d origin key b) (sound_acts.registered d origin key ranged.0 ranged.1))
-  call_fits (call.Open w) ranged bytes = fits_says n tt s _ _ (acts.open_act w b) (by (acts.open_act w b) (sound_acts.opened w ranged))
-  call_fits (call.Deposit w receipt amount) ranged bytes = fits_says n tt s _ _ (acts.deposit_act w receipt amount b) (by (acts.deposit_act w receipt amount b) (sound_acts.deposited w receipt amount))
-  call_fits (call.Flag w flag) ranged bytes = fits_says n tt s _ _ (acts.flag_act w flag b) (by (acts.flag_act w flag b) (sound_acts.flagged w flag))
-  call_fits (call.Balance w) ranged bytes = fits_says n tt s _ _ (acts.balance_act w b) (by (acts.balance_act w b) (sound_acts.balanced w))
-  call_fits (call.Take given k) ranged bytes = fits_says n tt s _ _ (acts.take_act given b) (by (acts.take_act given b) (sound_acts.taken given bytes))
+  call_fits (call.Register c) ranged bytes = fits_says n tt s _ _ (acts.register_act c.device c.origin c.key b) (by (acts.register_act c.device c.origin c.key b) (sound_acts.registered c.device c.origin c.key ranged.0 ranged.1))
+  call_fits (call.Open c) ranged bytes = fits_says n tt s _ _ (acts.open_act c.customer b) (by (acts.open_act c.customer b) (sound_acts.opened c.customer ranged))
+  call_fits (call.Deposit c) ranged bytes = fits_says n tt s _ _ (acts.deposit_act c.customer c.receipt c.amount b) (by (acts.deposit_act c.customer c.receipt c.amount b) (sound_acts.deposited c.customer c.receipt c.amount))
+  call_fits (call.Flag c) ranged bytes = fits_says n tt s _ _ (acts.flag_act c.customer c.suspended b) (by (acts.flag_act c.customer c.suspended b) (sound_acts.flagged c.customer c.suspended))
+  call_fits (call.Balance c) ranged bytes = fits_says n tt s _ _ (acts.balance_act c.customer b) (by (acts.balance_act c.customer b) (sound_acts.balanced c.customer))
+  call_fits (call.Take c) ranged bytes = fits_says n tt s _ _ (acts.take_act c.bytes b) (by (acts.take_act c.bytes b) (sound_acts.taken c.bytes bytes))
 
 -- == whose the commit is ==
 
@@ -112,30 +112,30 @@ take_own bytes b (Ok (m.Release x)) = tt
 take_own bytes b (Err x) = tt
 
 call_own : (c : CentreCall) (b : Books) → IsOfNode Centre (centre_act c b)
-call_own (call.Register d origin key) b = own_says Centre _ _ (acts.register_act d origin key b) (register_own d origin key (device_at b d))
-call_own (call.Open w) b = own_says Centre _ _ (acts.open_act w b) (open_own w (customer_at b w))
-call_own (call.Deposit w receipt amount) b = own_says Centre _ _ (acts.deposit_act w receipt amount b) (deposit_own w receipt amount (customer_at b w))
-call_own (call.Flag w flag) b = own_says Centre _ _ (acts.flag_act w flag b) (flag_own w flag (customer_at b w))
-call_own (call.Balance w) b = own_says Centre _ _ (acts.balance_act w b) (left_own w (left_in b w) (customer_at b w))
-call_own (call.Take bytes k) b = own_says Centre _ _ (acts.take_act bytes b) (take_own bytes b (read bytes))
+call_own (call.Register c) b = own_says Centre _ _ (acts.register_act c.device c.origin c.key b) (register_own c.device c.origin c.key (device_at b c.device))
+call_own (call.Open c) b = own_says Centre _ _ (acts.open_act c.customer b) (open_own c.customer (customer_at b c.customer))
+call_own (call.Deposit c) b = own_says Centre _ _ (acts.deposit_act c.customer c.receipt c.amount b) (deposit_own c.customer c.receipt c.amount (customer_at b c.customer))
+call_own (call.Flag c) b = own_says Centre _ _ (acts.flag_act c.customer c.suspended b) (flag_own c.customer c.suspended (customer_at b c.customer))
+call_own (call.Balance c) b = own_says Centre _ _ (acts.balance_act c.customer b) (left_own c.customer (left_in b c.customer) (customer_at b c.customer))
+call_own (call.Take c) b = own_says Centre _ _ (acts.take_act c.bytes b) (take_own c.bytes b (read c.bytes))
 
 -- == how they are told ==
 
 pub call_of : (c : CentreCall) → IsCallOf Centre (centre_call_event c)
-call_of (call.Register d origin key) = record { on = refl; at = refl; no_switch = λ e. cc; no_cut = λ calls keep byte e. cc }
-call_of (call.Open w) = record { on = refl; at = refl; no_switch = λ e. cc; no_cut = λ calls keep byte e. cc }
-call_of (call.Deposit w receipt amount) = record { on = refl; at = refl; no_switch = λ e. cc; no_cut = λ calls keep byte e. cc }
-call_of (call.Flag w flag) = record { on = refl; at = refl; no_switch = λ e. cc; no_cut = λ calls keep byte e. cc }
-call_of (call.Balance w) = record { on = refl; at = refl; no_switch = λ e. cc; no_cut = λ calls keep byte e. cc }
-call_of (call.Take bytes k) = record { on = refl; at = refl; no_switch = λ e. cc; no_cut = λ calls keep byte e. cc }
+call_of (call.Register c) = record { on = refl; at = refl; no_switch = λ e. cc; no_cut = λ calls keep byte e. cc }
+call_of (call.Open c) = record { on = refl; at = refl; no_switch = λ e. cc; no_cut = λ calls keep byte e. cc }
+call_of (call.Deposit c) = record { on = refl; at = refl; no_switch = λ e. cc; no_cut = λ calls keep byte e. cc }
+call_of (call.Flag c) = record { on = refl; at = refl; no_switch = λ e. cc; no_cut = λ calls keep byte e. cc }
+call_of (call.Balance c) = record { on = refl; at = refl; no_switch = λ e. cc; no_cut = λ calls keep byte e. cc }
+call_of (call.Take c) = record { on = refl; at = refl; no_switch = λ e. cc; no_cut = λ calls keep byte e. cc }
 
 no_off : (c : CentreCall) → centre_call_event c ≢ ev.Off Centre
-no_off (call.Register d origin key) = λ e. cc
-no_off (call.Open w) = λ e. cc
-no_off (call.Deposit w receipt amount) = λ e. cc
-no_off (call.Flag w flag) = λ e. cc
-no_off (call.Balance w) = λ e. cc
-no_off (call.Take bytes k) = λ e. cc
+no_off (call.Register c) = λ e. cc
+no_off (call.Open c) = λ e. cc
+no_off (call.Deposit c) = λ e. cc
+no_off (call.Flag c) = λ e. cc
+no_off (call.Balance c) = λ e. cc
+no_off (call.Take c) = λ e. cc
 
 refused : (c : CentreCall) (x : CentreRefusal) → MayRefuse Centre (centre_call_event c) (r.CentreRefused x)
 refused c x = record {
@@ -154,15 +154,15 @@ balance_free w left None = tt
 balance_free w left (Some x) = tt
 
 pub call_told : (c : CentreCall) (b : Books) → IsToldBy Centre (centre_call_event c) (centre_act c b)
-call_told (call.Register d origin key) b = told_made Centre _ refl (omega arith) _ (call_own (call.Register d origin key) b)
-    (polite_says Centre (ev.Register d origin key) r.CentreRefused (views.done (r.Registered d)) (refused (call.Register d origin key)) (λ u. record { told = refl; gets = (origin, key, refl); adds = λ made none. (made, none, refl) }) (acts.register_act d origin key b))
-call_told (call.Open w) b = told_made Centre _ refl (omega arith) _ (call_own (call.Open w) b)
-    (polite_says Centre (ev.OpenCustomer w) r.CentreRefused (views.done (r.Opened w)) (refused (call.Open w)) (λ u. record { told = refl; gets = refl; adds = λ made none. (made, none, refl) }) (acts.open_act w b))
-call_told (call.Deposit w receipt amount) b = told_made Centre _ refl (omega arith) _ (call_own (call.Deposit w receipt amount) b)
-    (polite_says Centre (ev.Deposit w receipt amount) r.CentreRefused (views.deposited w receipt) (refused (call.Deposit w receipt amount)) (λ done. record { told = refl; gets = (amount, refl); adds = λ made none. (made, none, refl) }) (acts.deposit_act w receipt amount b))
-call_told (call.Flag w flag) b = told_made Centre _ refl (omega arith) _ (call_own (call.Flag w flag) b)
-    (polite_says Centre (ev.Flag w flag) r.CentreRefused (views.done (r.Flagged w flag)) (refused (call.Flag w flag)) (λ u. record { told = refl; gets = refl; adds = λ made none. (made, none, refl) }) (acts.flag_act w flag b))
-call_told (call.Balance w) b = told_none Centre _ _ (none_says _ _ (acts.balance_act w b) (balance_free w (left_in b w) (customer_at b w)))
-    (polite_says Centre (ev.Balance w) r.CentreRefused (views.left w) (refused (call.Balance w)) (λ left. record { told = refl; gets = refl; adds = λ made none. (made, none, refl) }) (acts.balance_act w b))
-call_told (call.Take bytes k) b = told_made Centre _ refl (omega arith) _ (call_own (call.Take bytes k) b)
-    (polite_says Centre (ev.Give Centre bytes) r.CentreRefused (views.took k) (refused (call.Take bytes k)) (took_said k bytes) (acts.take_act bytes b))
+call_told (call.Register c) b = told_made Centre _ refl (omega arith) _ (call_own (call.Register c) b)
+    (polite_says Centre (ev.Register c.device c.origin c.key) r.CentreRefused (views.done (r.Registered c.device)) (refused (call.Register c)) (λ u. record { told = refl; gets = (c.origin, c.key, refl); adds = λ made none. (made, none, refl) }) (acts.register_act c.device c.origin c.key b))
+call_told (call.Open c) b = told_made Centre _ refl (omega arith) _ (call_own (call.Open c) b)
+    (polite_says Centre (ev.OpenCustomer c.customer) r.CentreRefused (views.done (r.Opened c.customer)) (refused (call.Open c)) (λ u. record { told = refl; gets = refl; adds = λ made none. (made, none, refl) }) (acts.open_act c.customer b))
+call_told (call.Deposit c) b = told_made Centre _ refl (omega arith) _ (call_own (call.Deposit c) b)
+    (polite_says Centre (ev.Deposit c.customer c.receipt c.amount) r.CentreRefused (views.deposited c.customer c.receipt) (refused (call.Deposit c)) (λ done. record { told = refl; gets = (c.amount, refl); adds = λ made none. (made, none, refl) }) (acts.deposit_act c.customer c.receipt c.amount b))
+call_told (call.Flag c) b = told_made Centre _ refl (omega arith) _ (call_own (call.Flag c) b)
+    (polite_says Centre (ev.Flag c.customer c.suspended) r.CentreRefused (views.done (r.Flagged c.customer c.suspended)) (refused (call.Flag c)) (λ u. record { told = refl; gets = refl; adds = λ made none. (made, none, refl) }) (acts.flag_act c.customer c.suspended b))
+call_told (call.Balance c) b = told_none Centre _ _ (none_says _ _ (acts.balance_act c.customer b) (balance_free c.customer (left_in b c.customer) (customer_at b c.customer)))
+    (polite_says Centre (ev.Balance c.customer) r.CentreRefused (views.left c.customer) (refused (call.Balance c)) (λ left. record { told = refl; gets = refl; adds = λ made none. (made, none, refl) }) (acts.balance_act c.customer b))
+call_told (call.Take c) b = told_made Centre _ refl (omega arith) _ (call_own (call.Take c) b)
+    (polite_says Centre (ev.Give Centre c.bytes) r.CentreRefused (views.took c.message) (refused (call.Take c)) (took_said c.message c.bytes) (acts.take_act c.bytes b))

@@ -1,6 +1,4 @@
 -- An act of the centre's rows can be committed: the rows with the one that it commits are sound.
-use Rattle.std.proofs.Common.{◌≡◌, sym, ◌∙◌, subst}
-use Rattle.bench_base.specs.declared.ledger.Commit.{Commit}
 use Rattle.node_acts.specs.declared.act.Act.TheVariants.{Refuse, Tell, Commits}
 use Rattle.node_seat.specs.declared.node.Node.{Ghosts}
 use Rattle.node_seat.specs.Shown.{IsFitting}

@@ -32,8 +32,8 @@ use Rattle.psd_state.specs.declared.acts.Franked.{Franked}
 use Rattle.psd_state.specs.declared.acts.Taken.{Taken}
 use Rattle.psd_state.specs.declared.acts.Taken.TheVariants as taken_as
 use Rattle.ledger_moves.specs.Moves.{debit_by}
-use Rattle.bench_views.specs.declared.taken.DeviceCall.{DeviceCall}
-use Rattle.bench_views.specs.declared.taken.DeviceCall.TheVariants.{Make, Debit, Ask, Resend, Ack, Status, Take}
+use Rattle.bench_views.specs.declared.calls.DeviceCall.{DeviceCall}
+use Rattle.bench_views.specs.declared.calls.DeviceCall.TheVariants.{Make, Debit, Ask, Resend, Ack, Status, Take}
 use Rattle.bench_views.specs.Devices as views
 use Rattle.bench_views.specs.Devices.{device_act}
 use Rattle.bench_views.proofs.Plans.{call_own}
@@ -160,14 +160,14 @@ module _ {K S R : Type 0} (n : Ghosts K S ℕ State R) (from : (d : ℕ) (s : n.
 
   -- a call of a device changes the record of that device
   pub call_fits : (today : ℤ) (call : DeviceCall) (state : Option State) → IfSome state (λ s. s.device ≡ d) → IsFitting n d seen (device_act d today call state)
-  call_fits today (Make key) state is = fits_says n d seen _ _ (make_act d key state) (make_fits key state)
-  call_fits today (Debit piece postage class) state is =
-      fits_says n d seen _ _ (debit_act todays_rules d (debit_by d piece postage class) today state) (debit_fits (debit_by d piece postage class) today state is)
-  call_fits today (Ask kind who amount k) state is = fits_says n d seen _ _ (ask_act todays_rules d kind who amount today state) (ask_fits kind who amount today state is)
-  call_fits today (Resend k) state is = fits_says n d seen _ _ (resend_act state) (resend_fits state)
-  call_fits today (Ack k) state is = fits_says n d seen _ _ (ack_act state) (ack_fits state)
+  call_fits today (Make c) state is = fits_says n d seen _ _ (make_act d c.key state) (make_fits c.key state)
+  call_fits today (Debit c) state is =
+      fits_says n d seen _ _ (debit_act todays_rules d (debit_by d c.piece c.postage c.class) today state) (debit_fits (debit_by d c.piece c.postage c.class) today state is)
+  call_fits today (Ask c) state is = fits_says n d seen _ _ (ask_act todays_rules d c.kind c.customer c.amount today state) (ask_fits c.kind c.customer c.amount today state is)
+  call_fits today (Resend c) state is = fits_says n d seen _ _ (resend_act state) (resend_fits state)
+  call_fits today (Ack c) state is = fits_says n d seen _ _ (ack_act state) (ack_fits state)
   call_fits today Status state is = fits_says n d seen _ _ (status_act today state) (status_fits today state)
-  call_fits today (Take bytes k) state is = fits_says n d seen _ _ (take_act todays_rules d bytes today state) (message_fits bytes today state is (read bytes))
+  call_fits today (Take c) state is = fits_says n d seen _ _ (take_act todays_rules d c.bytes today state) (message_fits c.bytes today state is (read c.bytes))
 
 -- == what commits nothing ==
 
@@ -190,22 +190,22 @@ status_free today (Some s) = tt
 -- == how they are told ==
 
 pub call_of : (d : ℕ) (call : DeviceCall) → IsCallOf (Device d) (device_call_event d call)
-call_of d (Make key) = record { on = refl; at = refl; no_switch = λ e. cc; no_cut = λ calls keep byte e. cc }
-call_of d (Debit piece postage class) = record { on = refl; at = refl; no_switch = λ e. cc; no_cut = λ calls keep byte e. cc }
-call_of d (Ask kind who amount k) = record { on = refl; at = refl; no_switch = λ e. cc; no_cut = λ calls keep byte e. cc }
-call_of d (Resend k) = record { on = refl; at = refl; no_switch = λ e. cc; no_cut = λ calls keep byte e. cc }
-call_of d (Ack k) = record { on = refl; at = refl; no_switch = λ e. cc; no_cut = λ calls keep byte e. cc }
+call_of d (Make c) = record { on = refl; at = refl; no_switch = λ e. cc; no_cut = λ calls keep byte e. cc }
+call_of d (Debit c) = record { on = refl; at = refl; no_switch = λ e. cc; no_cut = λ calls keep byte e. cc }
+call_of d (Ask c) = record { on = refl; at = refl; no_switch = λ e. cc; no_cut = λ calls keep byte e. cc }
+call_of d (Resend c) = record { on = refl; at = refl; no_switch = λ e. cc; no_cut = λ calls keep byte e. cc }
+call_of d (Ack c) = record { on = refl; at = refl; no_switch = λ e. cc; no_cut = λ calls keep byte e. cc }
 call_of d Status = record { on = refl; at = refl; no_switch = λ e. cc; no_cut = λ calls keep byte e. cc }
-call_of d (Take bytes k) = record { on = refl; at = refl; no_switch = λ e. cc; no_cut = λ calls keep byte e. cc }
+call_of d (Take c) = record { on = refl; at = refl; no_switch = λ e. cc; no_cut = λ calls keep byte e. cc }
 
 no_off : (d : ℕ) (call : DeviceCall) → device_call_event d call ≢ ev.Off (Device d)
-no_off d (Make key) = λ e. cc
-no_off d (Debit piece postage class) = λ e. cc
-no_off d (Ask kind who amount k) = λ e. cc
-no_off d (Resend k) = λ e. cc
-no_off d (Ack k) = λ e. cc
+no_off d (Make c) = λ e. cc
+no_off d (Debit c) = λ e. cc
+no_off d (Ask c) = λ e. cc
+no_off d (Resend c) = λ e. cc
+no_off d (Ack c) = λ e. cc
 no_off d Status = λ e. cc
-no_off d (Take bytes k) = λ e. cc
+no_off d (Take c) = λ e. cc
 
 -- a device's refusal
 refused : (d : ℕ) (call : DeviceCall) (x : DevRefusal) → MayRefuse (Device d) (device_call_event d call) (r.DevRefused d x)
@@ -221,19 +221,19 @@ took_said d k bytes (taken_as.Applied n v) = record { told = refl; gets = inr (b
 took_said d k bytes (taken_as.Released piece x again) = record { told = refl; gets = inr (bytes, refl); adds = λ made none. (_, x, (made, none, refl)) }
 
 pub call_told : (d : ℕ) (today : ℤ) (call : DeviceCall) (s : Option State) → IsToldBy (Device d) (device_call_event d call) (device_act d today call s)
-call_told d today (Make key) s = told_made (Device d) _ refl (omega arith) (device_act d today (Make key) s) (call_own d today (Make key) s)
-    (polite_says (Device d) (ev.Make d key) (r.DevRefused d) (λ u. views.made d) (refused d (Make key)) (λ u. record { told = refl; gets = (key, refl); adds = λ made none. (made, none, refl) }) (make_act d key s))
-call_told d today (Debit piece postage class) s = told_made (Device d) _ refl (omega arith) (device_act d today (Debit piece postage class) s) (call_own d today (Debit piece postage class) s)
-    (polite_says (Device d) (ev.Debit d piece postage class) (r.DevRefused d) (views.marked d piece) (refused d (Debit piece postage class)) (λ f. record { told = refl; gets = (postage, class, refl); adds = λ made none. (made, none, refl) })
-    (debit_act todays_rules d (debit_by d piece postage class) today s))
-call_told d today (Ask kind who amount k) s = told_made (Device d) _ refl (omega arith) (device_act d today (Ask kind who amount k) s) (call_own d today (Ask kind who amount k) s)
-    (polite_says (Device d) (ev.Ask d kind who amount) (r.DevRefused d) (views.asked d k s) (refused d (Ask kind who amount k)) (λ note. record { told = refl; gets = inl (kind, who, amount, refl); adds = λ made none. (note, (made, none, refl)) })
-    (ask_act todays_rules d kind who amount today s))
-call_told d today (Resend k) s = told_none (Device d) _ (device_act d today (Resend k) s) (none_says _ _ (resend_act s) (resend_free s))
-    (polite_says (Device d) (ev.Resend d) (r.DevRefused d) (views.asked d k s) (refused d (Resend k)) (λ note. record { told = refl; gets = inr refl; adds = λ made none. (note, (made, none, refl)) }) (resend_act s))
-call_told d today (Ack k) s = told_none (Device d) _ (device_act d today (Ack k) s) (none_says _ _ (ack_act s) (ack_free s))
-    (polite_says (Device d) (ev.Ack d) (r.DevRefused d) (views.sent (r.SentDone d (views.number_in s) k)) (refused d (Ack k)) (λ note. record { told = refl; gets = refl; adds = λ made none. (note, (made, none, refl)) }) (ack_act s))
+call_told d today (Make c) s = told_made (Device d) _ refl (omega arith) (device_act d today (Make c) s) (call_own d today (Make c) s)
+    (polite_says (Device d) (ev.Make d c.key) (r.DevRefused d) (λ u. views.made d) (refused d (Make c)) (λ u. record { told = refl; gets = (c.key, refl); adds = λ made none. (made, none, refl) }) (make_act d c.key s))
+call_told d today (Debit c) s = told_made (Device d) _ refl (omega arith) (device_act d today (Debit c) s) (call_own d today (Debit c) s)
+    (polite_says (Device d) (ev.Debit d c.piece c.postage c.class) (r.DevRefused d) (views.marked d c.piece) (refused d (Debit c)) (λ f. record { told = refl; gets = (c.postage, c.class, refl); adds = λ made none. (made, none, refl) })
+    (debit_act todays_rules d (debit_by d c.piece c.postage c.class) today s))
+call_told d today (Ask c) s = told_made (Device d) _ refl (omega arith) (device_act d today (Ask c) s) (call_own d today (Ask c) s)
+    (polite_says (Device d) (ev.Ask d c.kind c.customer c.amount) (r.DevRefused d) (views.asked d c.message s) (refused d (Ask c)) (λ note. record { told = refl; gets = inl (c.kind, c.customer, c.amount, refl); adds = λ made none. (note, (made, none, refl)) })
+    (ask_act todays_rules d c.kind c.customer c.amount today s))
+call_told d today (Resend c) s = told_none (Device d) _ (device_act d today (Resend c) s) (none_says _ _ (resend_act s) (resend_free s))
+    (polite_says (Device d) (ev.Resend d) (r.DevRefused d) (views.asked d c.message s) (refused d (Resend c)) (λ note. record { told = refl; gets = inr refl; adds = λ made none. (note, (made, none, refl)) }) (resend_act s))
+call_told d today (Ack c) s = told_none (Device d) _ (device_act d today (Ack c) s) (none_says _ _ (ack_act s) (ack_free s))
+    (polite_says (Device d) (ev.Ack d) (r.DevRefused d) (views.sent (r.SentDone d (views.number_in s) c.message)) (refused d (Ack c)) (λ note. record { told = refl; gets = refl; adds = λ made none. (note, (made, none, refl)) }) (ack_act s))
 call_told d today Status s = told_none (Device d) _ (device_act d today Status s) (none_says _ _ (status_act today s) (status_free today s))
     (polite_says (Device d) (ev.Status d) (r.DevRefused d) (views.shown d) (refused d Status) (λ shown. record { told = refl; gets = refl; adds = λ made none. (made, none, refl) }) (status_act today s))
-call_told d today (Take bytes k) s = told_made (Device d) _ refl (omega arith) (device_act d today (Take bytes k) s) (call_own d today (Take bytes k) s)
-    (polite_says (Device d) (ev.Give (Device d) bytes) (r.DevRefused d) (views.took d k) (refused d (Take bytes k)) (took_said d k bytes) (take_act todays_rules d bytes today s))
+call_told d today (Take c) s = told_made (Device d) _ refl (omega arith) (device_act d today (Take c) s) (call_own d today (Take c) s)
+    (polite_says (Device d) (ev.Give (Device d) c.bytes) (r.DevRefused d) (views.took d c.message) (refused d (Take c)) (took_said d c.message c.bytes) (take_act todays_rules d c.bytes today s))

@@ -18,14 +18,14 @@ use Rattle.node_acts.specs.declared.asked.Asked.TheVariants.{On, Off, Cut, Call}
 use Rattle.psd_wire.specs.declared.message.Message.{Message}
 use Rattle.psd_wire.specs.declared.message.Message.TheVariants as m
 use Rattle.psd_wire.specs.Grammar.{read}
-use Rattle.bench_views.specs.declared.taken.DeviceCall.{DeviceCall}
-use Rattle.bench_views.specs.declared.taken.DeviceCall.TheVariants as device
-use Rattle.bench_views.specs.declared.taken.CentreCall.{CentreCall}
-use Rattle.bench_views.specs.declared.taken.CentreCall.TheVariants as call
-use Rattle.bench_views.specs.declared.taken.HostCall.{HostCall}
-use Rattle.bench_views.specs.declared.taken.HostCall.TheVariants as host
-use Rattle.bench_views.specs.declared.taken.VerifierCall.{VerifierCall}
-use Rattle.bench_views.specs.declared.taken.VerifierCall.TheVariants as verifier
+use Rattle.bench_views.specs.declared.calls.DeviceCall.{DeviceCall}
+use Rattle.bench_views.specs.declared.calls.DeviceCall.TheVariants as device
+use Rattle.bench_views.specs.declared.calls.CentreCall.{CentreCall}
+use Rattle.bench_views.specs.declared.calls.CentreCall.TheVariants as call
+use Rattle.bench_views.specs.declared.calls.HostCall.{HostCall}
+use Rattle.bench_views.specs.declared.calls.HostCall.TheVariants as host
+use Rattle.bench_views.specs.declared.calls.VerifierCall.{VerifierCall}
+use Rattle.bench_views.specs.declared.calls.VerifierCall.TheVariants as verifier
 use Rattle.bench_views.specs.declared.taken.Taken.{Taken}
 use Rattle.bench_views.specs.declared.taken.Taken.TheVariants as take
 use Rattle.bench_views.specs.Tariff.{Quote}
@@ -284,32 +284,32 @@ asked_of m of_call each (Cut calls keep byte) = record { node = refl; dated = re
 asked_of m of_call each (Call c) = each c
 
 device_call_of : (d : ℕ) (c : DeviceCall) → IsOfNode (Device d) (device_call_event d c)
-device_call_of d (device.Make key) = record { node = refl; dated = refl; leaves = λ o. refl; no_day = λ t e. cc; no_end = λ e. cc; no_compare = λ i e. cc }
-device_call_of d (device.Debit piece postage class) = record { node = refl; dated = refl; leaves = λ o. refl; no_day = λ t e. cc; no_end = λ e. cc; no_compare = λ i e. cc }
-device_call_of d (device.Ask kind who amount k) = record { node = refl; dated = refl; leaves = λ o. refl; no_day = λ t e. cc; no_end = λ e. cc; no_compare = λ i e. cc }
-device_call_of d (device.Resend k) = record { node = refl; dated = refl; leaves = λ o. refl; no_day = λ t e. cc; no_end = λ e. cc; no_compare = λ i e. cc }
-device_call_of d (device.Ack k) = record { node = refl; dated = refl; leaves = λ o. refl; no_day = λ t e. cc; no_end = λ e. cc; no_compare = λ i e. cc }
+device_call_of d (device.Make c) = record { node = refl; dated = refl; leaves = λ o. refl; no_day = λ t e. cc; no_end = λ e. cc; no_compare = λ i e. cc }
+device_call_of d (device.Debit c) = record { node = refl; dated = refl; leaves = λ o. refl; no_day = λ t e. cc; no_end = λ e. cc; no_compare = λ i e. cc }
+device_call_of d (device.Ask c) = record { node = refl; dated = refl; leaves = λ o. refl; no_day = λ t e. cc; no_end = λ e. cc; no_compare = λ i e. cc }
+device_call_of d (device.Resend c) = record { node = refl; dated = refl; leaves = λ o. refl; no_day = λ t e. cc; no_end = λ e. cc; no_compare = λ i e. cc }
+device_call_of d (device.Ack c) = record { node = refl; dated = refl; leaves = λ o. refl; no_day = λ t e. cc; no_end = λ e. cc; no_compare = λ i e. cc }
 device_call_of d device.Status = record { node = refl; dated = refl; leaves = λ o. refl; no_day = λ t e. cc; no_end = λ e. cc; no_compare = λ i e. cc }
-device_call_of d (device.Take bytes k) = record { node = refl; dated = refl; leaves = λ o. refl; no_day = λ t e. cc; no_end = λ e. cc; no_compare = λ i e. cc }
+device_call_of d (device.Take c) = record { node = refl; dated = refl; leaves = λ o. refl; no_day = λ t e. cc; no_end = λ e. cc; no_compare = λ i e. cc }
 
 centre_call_of : (c : CentreCall) → IsOfNode Centre (centre_call_event c)
-centre_call_of (call.Register d origin key) = record { node = refl; dated = refl; leaves = λ o. refl; no_day = λ t e. cc; no_end = λ e. cc; no_compare = λ i e. cc }
-centre_call_of (call.Open w) = record { node = refl; dated = refl; leaves = λ o. refl; no_day = λ t e. cc; no_end = λ e. cc; no_compare = λ i e. cc }
-centre_call_of (call.Deposit w receipt amount) = record { node = refl; dated = refl; leaves = λ o. refl; no_day = λ t e. cc; no_end = λ e. cc; no_compare = λ i e. cc }
-centre_call_of (call.Flag w suspended) = record { node = refl; dated = refl; leaves = λ o. refl; no_day = λ t e. cc; no_end = λ e. cc; no_compare = λ i e. cc }
-centre_call_of (call.Balance w) = record { node = refl; dated = refl; leaves = λ o. refl; no_day = λ t e. cc; no_end = λ e. cc; no_compare = λ i e. cc }
-centre_call_of (call.Take bytes k) = record { node = refl; dated = refl; leaves = λ o. refl; no_day = λ t e. cc; no_end = λ e. cc; no_compare = λ i e. cc }
+centre_call_of (call.Register c) = record { node = refl; dated = refl; leaves = λ o. refl; no_day = λ t e. cc; no_end = λ e. cc; no_compare = λ i e. cc }
+centre_call_of (call.Open c) = record { node = refl; dated = refl; leaves = λ o. refl; no_day = λ t e. cc; no_end = λ e. cc; no_compare = λ i e. cc }
+centre_call_of (call.Deposit c) = record { node = refl; dated = refl; leaves = λ o. refl; no_day = λ t e. cc; no_end = λ e. cc; no_compare = λ i e. cc }
+centre_call_of (call.Flag c) = record { node = refl; dated = refl; leaves = λ o. refl; no_day = λ t e. cc; no_end = λ e. cc; no_compare = λ i e. cc }
+centre_call_of (call.Balance c) = record { node = refl; dated = refl; leaves = λ o. refl; no_day = λ t e. cc; no_end = λ e. cc; no_compare = λ i e. cc }
+centre_call_of (call.Take c) = record { node = refl; dated = refl; leaves = λ o. refl; no_day = λ t e. cc; no_end = λ e. cc; no_compare = λ i e. cc }
 
 host_call_of : (c : HostCall) → IsOfNode Host (host_call_event c)
-host_call_of (host.Order d piece class grams zone price) = record { node = refl; dated = refl; leaves = λ o. refl; no_day = λ t e. cc; no_end = λ e. cc; no_compare = λ i e. cc }
-host_call_of (host.Send j k) = record { node = refl; dated = refl; leaves = λ o. refl; no_day = λ t e. cc; no_end = λ e. cc; no_compare = λ i e. cc }
-host_call_of (host.Print j) = record { node = refl; dated = refl; leaves = λ o. refl; no_day = λ t e. cc; no_end = λ e. cc; no_compare = λ i e. cc }
-host_call_of (host.Close j) = record { node = refl; dated = refl; leaves = λ o. refl; no_day = λ t e. cc; no_end = λ e. cc; no_compare = λ i e. cc }
-host_call_of (host.Take bytes) = record { node = refl; dated = refl; leaves = λ o. refl; no_day = λ t e. cc; no_end = λ e. cc; no_compare = λ i e. cc }
+host_call_of (host.Order c) = record { node = refl; dated = refl; leaves = λ o. refl; no_day = λ t e. cc; no_end = λ e. cc; no_compare = λ i e. cc }
+host_call_of (host.Send c) = record { node = refl; dated = refl; leaves = λ o. refl; no_day = λ t e. cc; no_end = λ e. cc; no_compare = λ i e. cc }
+host_call_of (host.Print c) = record { node = refl; dated = refl; leaves = λ o. refl; no_day = λ t e. cc; no_end = λ e. cc; no_compare = λ i e. cc }
+host_call_of (host.Close c) = record { node = refl; dated = refl; leaves = λ o. refl; no_day = λ t e. cc; no_end = λ e. cc; no_compare = λ i e. cc }
+host_call_of (host.Take c) = record { node = refl; dated = refl; leaves = λ o. refl; no_day = λ t e. cc; no_end = λ e. cc; no_compare = λ i e. cc }
 
 verifier_call_of : (c : VerifierCall) → IsOfNode Verifier (verifier_call_event c)
-verifier_call_of (verifier.Trust d key) = record { node = refl; dated = refl; leaves = λ o. refl; no_day = λ t e. cc; no_end = λ e. cc; no_compare = λ i e. cc }
-verifier_call_of (verifier.Scan n bytes) = record { node = refl; dated = refl; leaves = λ o. refl; no_day = λ t e. cc; no_end = λ e. cc; no_compare = λ i e. cc }
+verifier_call_of (verifier.Trust c) = record { node = refl; dated = refl; leaves = λ o. refl; no_day = λ t e. cc; no_end = λ e. cc; no_compare = λ i e. cc }
+verifier_call_of (verifier.Scan c) = record { node = refl; dated = refl; leaves = λ o. refl; no_day = λ t e. cc; no_end = λ e. cc; no_compare = λ i e. cc }
 
 pub of_device : (d : ℕ) (asked : Asked DeviceCall) → IsOfNode (Device d) (device_event d asked)
 of_device d asked = asked_of (Device d) (device_call_event d) (device_call_of d) asked

@@ -38,8 +38,8 @@ use Rattle.host_jobs.specs.Answers.{order_answer, send_answer, print_answer, clo
 use Rattle.host_jobs.specs.Rows.{Jobs, job_row, open_in}
 use Rattle.host_jobs.specs.Soundness.{AreSound, IsNext}
 use Rattle.host_jobs.proofs.SoundActs.{leaves}
-use Rattle.bench_views.specs.declared.taken.HostCall.{HostCall}
-use Rattle.bench_views.specs.declared.taken.HostCall.TheVariants as call
+use Rattle.bench_views.specs.declared.calls.HostCall.{HostCall}
+use Rattle.bench_views.specs.declared.calls.HostCall.TheVariants as call
 use Rattle.bench_views.specs.Host as views
 use Rattle.bench_views.specs.Host.{says, host_act}
 use Rattle.bench_views.proofs.Calling.{own_says}
@@ -60,12 +60,12 @@ module _ {K S R : Type 0} (n : Ghosts K S (Unit {0}) JobRow R) (rows : Jobs) (so
 
   -- it leaves sound jobs
   pub call_fits : (c : HostCall) → IsRangedJob c → IsFitting n tt s (host_act c rows)
-  call_fits (call.Order d piece class grams zone price) ranged =
-      fits_says n tt s _ _ (acts.order_act d piece class price rows) (by (acts.order_act d piece class price rows) (sound_acts.ordered d piece class price ranged.0 ranged.1))
-  call_fits (call.Send j k) ranged = fits_says n tt s _ _ (acts.debit_message_act j rows) (by (acts.debit_message_act j rows) (sound_acts.sent j))
-  call_fits (call.Print j) ranged = fits_says n tt s _ _ (acts.begin_print_act j rows) (by (acts.begin_print_act j rows) (sound_acts.begun j))
-  call_fits (call.Close j) ranged = fits_says n tt s _ _ (acts.close_act j rows) (by (acts.close_act j rows) (sound_acts.closed j))
-  call_fits (call.Take bytes) ranged = fits_says n tt s _ _ (acts.take_act bytes rows) (by (acts.take_act bytes rows) (sound_acts.taken bytes))
+  call_fits (call.Order c) ranged =
+      fits_says n tt s _ _ (acts.order_act c.device c.piece c.class c.price rows) (by (acts.order_act c.device c.piece c.class c.price rows) (sound_acts.ordered c.device c.piece c.class c.price ranged.0 ranged.1))
+  call_fits (call.Send c) ranged = fits_says n tt s _ _ (acts.debit_message_act c.job rows) (by (acts.debit_message_act c.job rows) (sound_acts.sent c.job))
+  call_fits (call.Print c) ranged = fits_says n tt s _ _ (acts.begin_print_act c.job rows) (by (acts.begin_print_act c.job rows) (sound_acts.begun c.job))
+  call_fits (call.Close c) ranged = fits_says n tt s _ _ (acts.close_act c.job rows) (by (acts.close_act c.job rows) (sound_acts.closed c.job))
+  call_fits (call.Take c) ranged = fits_says n tt s _ _ (acts.take_act c.bytes rows) (by (acts.take_act c.bytes rows) (sound_acts.taken c.bytes))
 
 -- == whose the commit is ==
 
@@ -117,18 +117,18 @@ take_own (Err x) rows = tt
 -- == how they are told ==
 
 pub call_of : (c : HostCall) → IsCallOf Host (host_call_event c)
-call_of (call.Order d piece class grams zone price) = record { on = refl; at = refl; no_switch = λ e. cc; no_cut = λ calls keep byte e. cc }
-call_of (call.Send j k) = record { on = refl; at = refl; no_switch = λ e. cc; no_cut = λ calls keep byte e. cc }
-call_of (call.Print j) = record { on = refl; at = refl; no_switch = λ e. cc; no_cut = λ calls keep byte e. cc }
-call_of (call.Close j) = record { on = refl; at = refl; no_switch = λ e. cc; no_cut = λ calls keep byte e. cc }
-call_of (call.Take bytes) = record { on = refl; at = refl; no_switch = λ e. cc; no_cut = λ calls keep byte e. cc }
+call_of (call.Order c) = record { on = refl; at = refl; no_switch = λ e. cc; no_cut = λ calls keep byte e. cc }
+call_of (call.Send c) = record { on = refl; at = refl; no_switch = λ e. cc; no_cut = λ calls keep byte e. cc }
+call_of (call.Print c) = record { on = refl; at = refl; no_switch = λ e. cc; no_cut = λ calls keep byte e. cc }
+call_of (call.Close c) = record { on = refl; at = refl; no_switch = λ e. cc; no_cut = λ calls keep byte e. cc }
+call_of (call.Take c) = record { on = refl; at = refl; no_switch = λ e. cc; no_cut = λ calls keep byte e. cc }
 
 no_off : (c : HostCall) → host_call_event c ≢ ev.Off Host
-no_off (call.Order d piece class grams zone price) = λ e. cc
-no_off (call.Send j k) = λ e. cc
-no_off (call.Print j) = λ e. cc
-no_off (call.Close j) = λ e. cc
-no_off (call.Take bytes) = λ e. cc
+no_off (call.Order c) = λ e. cc
+no_off (call.Send c) = λ e. cc
+no_off (call.Print c) = λ e. cc
+no_off (call.Close c) = λ e. cc
+no_off (call.Take c) = λ e. cc
 
 refused : (c : HostCall) (x : HostRefusal) → MayRefuse Host (host_call_event c) (r.HostRefused x)
 refused c x = record {
@@ -148,17 +148,17 @@ send_free None = tt
 send_free (Some x) = unless_none (send_answer (Some x.state)) (Tell (acts.debit_note x)) tt
 
 pub call_told : (c : HostCall) (rows : Jobs) → IsToldBy Host (host_call_event c) (host_act c rows)
-call_told (call.Order d piece class grams zone price) rows = told_made Host _ refl (omega arith) _ (own_says Host _ _ (acts.order_act d piece class price rows) (order_own d piece class price rows))
-    (polite_says Host (ev.Order d piece class grams zone) r.HostRefused views.ordered (refused (call.Order d piece class grams zone price)) (λ a. record { told = refl; gets = (d, piece, class, grams, zone, refl); adds = λ made none. (made, none, refl) })
-    (acts.order_act d piece class price rows))
-call_told (call.Send j k) rows = told_none Host _ _ (none_says _ _ (acts.debit_message_act j rows) (send_free (job_row rows j)))
-    (polite_says Host (ev.Send j) r.HostRefused (views.sent j k) (refused (call.Send j k)) (λ note. record { told = refl; gets = refl; adds = λ made none. (note, (made, none, refl)) }) (acts.debit_message_act j rows))
-call_told (call.Print j) rows = told_made Host _ refl (omega arith) _ (own_says Host _ _ (acts.begin_print_act j rows) (print_own (job_row rows j) rows))
-    (polite_says Host (ev.Print j) r.HostRefused (views.printed j) (refused (call.Print j)) (λ mark. record { told = refl; gets = refl; adds = λ made none. (mark, (made, none, refl)) }) (acts.begin_print_act j rows))
-call_told (call.Close j) rows = told_made Host _ refl (omega arith) _ (own_says Host _ _ (acts.close_act j rows) (close_own (job_row rows j) rows))
-    (polite_says Host (ev.Close j) r.HostRefused (views.done (r.Closed j)) (refused (call.Close j)) (λ u. record { told = refl; gets = refl; adds = λ made none. (made, none, refl) }) (acts.close_act j rows))
-call_told (call.Take bytes) rows = told_made Host _ refl (omega arith) _ (own_says Host _ _ (acts.take_act bytes rows) (take_own (read bytes) rows))
-    (polite_says Host (ev.Give Host bytes) r.HostRefused views.held (refused (call.Take bytes)) (λ j. record { told = refl; gets = inr (bytes, refl); adds = λ made none. (made, none, refl) }) (acts.take_act bytes rows))
+call_told (call.Order c) rows = told_made Host _ refl (omega arith) _ (own_says Host _ _ (acts.order_act c.device c.piece c.class c.price rows) (order_own c.device c.piece c.class c.price rows))
+    (polite_says Host (ev.Order c.device c.piece c.class c.grams c.zone) r.HostRefused views.ordered (refused (call.Order c)) (λ a. record { told = refl; gets = (c.device, c.piece, c.class, c.grams, c.zone, refl); adds = λ made none. (made, none, refl) })
+    (acts.order_act c.device c.piece c.class c.price rows))
+call_told (call.Send c) rows = told_none Host _ _ (none_says _ _ (acts.debit_message_act c.job rows) (send_free (job_row rows c.job)))
+    (polite_says Host (ev.Send c.job) r.HostRefused (views.sent c.job c.message) (refused (call.Send c)) (λ note. record { told = refl; gets = refl; adds = λ made none. (note, (made, none, refl)) }) (acts.debit_message_act c.job rows))
+call_told (call.Print c) rows = told_made Host _ refl (omega arith) _ (own_says Host _ _ (acts.begin_print_act c.job rows) (print_own (job_row rows c.job) rows))
+    (polite_says Host (ev.Print c.job) r.HostRefused (views.printed c.job) (refused (call.Print c)) (λ mark. record { told = refl; gets = refl; adds = λ made none. (mark, (made, none, refl)) }) (acts.begin_print_act c.job rows))
+call_told (call.Close c) rows = told_made Host _ refl (omega arith) _ (own_says Host _ _ (acts.close_act c.job rows) (close_own (job_row rows c.job) rows))
+    (polite_says Host (ev.Close c.job) r.HostRefused (views.done (r.Closed c.job)) (refused (call.Close c)) (λ u. record { told = refl; gets = refl; adds = λ made none. (made, none, refl) }) (acts.close_act c.job rows))
+call_told (call.Take c) rows = told_made Host _ refl (omega arith) _ (own_says Host _ _ (acts.take_act c.bytes rows) (take_own (read c.bytes) rows))
+    (polite_says Host (ev.Give Host c.bytes) r.HostRefused views.held (refused (call.Take c)) (λ j. record { told = refl; gets = inr (c.bytes, refl); adds = λ made none. (made, none, refl) }) (acts.take_act c.bytes rows))
 
 -- == what is printed of them ==
 
@@ -172,11 +172,11 @@ printed_so j mark = record { given = λ p is. ap (λ (q : Print). r.Printed q.jo
 
 -- a job is said to be printed where its mark is given to the printer
 pub call_prints : (c : HostCall) (rows : Jobs) (a : Said) → TellsOf a (host_act c rows) → PrintsSo a
-call_prints (call.Order d piece class grams zone price) rows = so_says views.ordered (λ x. record { given = λ p is. cc; says = λ job is. cc }) (acts.order_act d piece class price rows)
-call_prints (call.Send j k) rows = so_says (views.sent j k) (λ note. record { given = λ p is. cc; says = λ job is. cc }) (acts.debit_message_act j rows)
-call_prints (call.Print j) rows = so_says (views.printed j) (printed_so j) (acts.begin_print_act j rows)
-call_prints (call.Close j) rows = so_says (views.done (r.Closed j)) (λ u. record { given = λ p is. cc; says = λ job is. cc }) (acts.close_act j rows)
-call_prints (call.Take bytes) rows = so_says views.held (λ j. record { given = λ p is. cc; says = λ job is. cc }) (acts.take_act bytes rows)
+call_prints (call.Order c) rows = so_says views.ordered (λ x. record { given = λ p is. cc; says = λ job is. cc }) (acts.order_act c.device c.piece c.class c.price rows)
+call_prints (call.Send c) rows = so_says (views.sent c.job c.message) (λ note. record { given = λ p is. cc; says = λ job is. cc }) (acts.debit_message_act c.job rows)
+call_prints (call.Print c) rows = so_says (views.printed c.job) (printed_so c.job) (acts.begin_print_act c.job rows)
+call_prints (call.Close c) rows = so_says (views.done (r.Closed c.job)) (λ u. record { given = λ p is. cc; says = λ job is. cc }) (acts.close_act c.job rows)
+call_prints (call.Take c) rows = so_says views.held (λ j. record { given = λ p is. cc; says = λ job is. cc }) (acts.take_act c.bytes rows)
 
 -- == what is printed where the host is switched ==
 

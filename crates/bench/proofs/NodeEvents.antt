@@ -1,11 +1,10 @@
 -- What an event of one node does to the bench, whatever the kind of the node.
-use Rattle.std.proofs.Common.{◌≡◌, ◌≢◌, ◌↔◌, ℕ, ℤ, ◌+◌, List, [], ◌++◌, length, Option, Some, None, Result, refl, sym, ◌∙◌, ap, subst, arith, append-nil, true, false, true≢false}
+use Rattle.std.proofs.Common.{◌≡◌, ◌≢◌, ◌↔◌, ℕ, ℤ, ◌+◌, List, [], ◌++◌, length, Option, Some, None, refl, sym, ◌∙◌, ap, subst, arith, append-nil, true, false, true≢false}
 use Rattle.std.specs.Prelude.{slice_get, slice_set, IfSome}
 use Rattle.std.proofs.lemmas.Option.{slice_get_within}
 use Rattle.std.proofs.lemmas.List.{length-set}
 use Rattle.bench_base.specs.declared.words.Node.{Node}
 use Rattle.bench_base.specs.declared.words.Node.TheVariants.{Device, Centre, Host, Verifier}
-use Rattle.bench_base.specs.declared.refusals.RateRefusal.{RateRefusal}
 use Rattle.bench_base.specs.declared.ledger.Commit.{Commit}
 use Rattle.bench_base.specs.declared.ledger.Entry.{Entry}
 use Rattle.bench_base.specs.declared.events.Event.{Event}
@@ -14,7 +13,7 @@ use Rattle.bench_base.specs.declared.events.Reply.TheVariants as r
 use Rattle.bench_base.specs.Rules.{todays_rules}
 use Rattle.bench_base.specs.Ranges.{IsWholeEvent}
 use Rattle.bench_base.specs.Plans.{Plan}
-use Rattle.bench_base.specs.Ledger.{Ledger, rates_in}
+use Rattle.bench_base.specs.Ledger.{Ledger}
 use Rattle.nv_store.specs.Mounts.{Mounts}
 use Rattle.nv_store.specs.Store.{UsesCommit}
 use Rattle.node_acts.specs.declared.asked.Asked.{Asked}
@@ -26,16 +25,13 @@ use Rattle.node_turns.specs.declared.turn.Turn.{Turn}
 use Rattle.node_turns.specs.Costs.{Charged}
 use Rattle.node_turns.specs.NodeTurns.{NodeTurn, Switches, plan_by}
 use Rattle.node_turns.specs.Printing.{PrinterDid, print_of}
-use Rattle.host_rates.specs.Tables.{RateTable}
-use Rattle.host_rates.specs.Tariffs.{Keeps}
 use Rattle.host_rates.specs.Laws.{KeptPrices}
 use Rattle.ledger_moves.specs.Tariffs.{Tariff}
 use Rattle.ledger_moves.specs.Moves as ledger
 use Rattle.ledger_moves.specs.Moves.{plan, price_by}
 use Rattle.bench_views.specs.declared.taken.Taken.{Taken}
 use Rattle.bench_views.specs.declared.taken.Taken.TheVariants as take
-use Rattle.bench_views.specs.Messages.{sent_in}
-use Rattle.bench_views.specs.Tariff.{IsOfTexts, Quote, quote, quote_in}
+use Rattle.bench_views.specs.Tariff.{quote}
 use Rattle.bench_views.specs.Taken.{taken, as_given}
 use Rattle.bench_views.specs.Follows.{Follows, FollowsAlways}
 use Rattle.bench_views.proofs.Events.{some-same}

@@ -1,16 +1,16 @@
 -- What an event does to the bench that reads rates.
-use Rattle.std.proofs.Common.{◌≡◌, ◌≢◌, inl, inr, ℕ, ℤ, List, [], ◌∷◌, ◌++◌, length, Option, Some, None, Bool, true, false, Result, Ok, Err, refl, sym, ◌∙◌, ap, subst, true≢false, if◌then◌else◌}
-use Rattle.std.specs.Prelude.{◌≤◌, option_and_then, is_some, nat_lt, ok_or}
+use Rattle.std.proofs.Common.{◌≡◌, ◌≢◌, inl, inr, ℕ, ℤ, List, [], ◌∷◌, ◌++◌, Option, Some, None, true, false, Result, Ok, Err, refl, sym, ◌∙◌, ap, subst, true≢false}
+use Rattle.std.specs.Prelude.{◌≤◌, is_some}
 use Rattle.bench_base.specs.declared.words.Node.{Node}
 use Rattle.bench_base.specs.declared.ledger.Entry.{Entry}
 use Rattle.bench_base.specs.declared.ledger.Entry.TheVariants as entry
 use Rattle.bench_base.specs.declared.events.Event.TheVariants as ev
 use Rattle.bench_base.specs.declared.events.Reply.{Reply}
 use Rattle.bench_base.specs.declared.events.Reply.TheVariants as r
-use Rattle.bench_base.specs.Plans.{Plan, refuse, told}
+use Rattle.bench_base.specs.Plans.{Plan}
 use Rattle.bench_base.specs.Replies.{tells_power, tells_fault, has_read, is_refusal, MayGet}
 use Rattle.bench_base.specs.Rules.{todays_rules, editions}
-use Rattle.bench_base.specs.Ledger.{Ledger, day_in, rates_in, torn_of}
+use Rattle.bench_base.specs.Ledger.{Ledger, rates_in, torn_of}
 use Rattle.node_acts.specs.Kinds.{view_in}
 use Rattle.node_acts.specs.Plans.{after}
 use Rattle.node_seat.specs.Stands as node
@@ -20,14 +20,11 @@ use Rattle.node_turns.specs.Turns.{turn_of, in_order, made_in}
 use Rattle.host_rates.specs.declared.reading.RatesFail.{RatesFail}
 use Rattle.host_rates.specs.declared.reading.RatesFail.TheVariants as fail
 use Rattle.host_rates.specs.Tables.{RateTable}
-use Rattle.host_rates.specs.Tariffs as texts
 use Rattle.host_rates.specs.Tariffs.{Keeps}
-use Rattle.host_rates.specs.Reading as reading
-use Rattle.host_rates.specs.Reading.{document}
-use Rattle.host_rates.specs.Answers.{answer, answer_of, AreRatesOf}
-use Rattle.ledger_moves.specs.Tariffs.{Tariff, NoToml, NoForm}
+use Rattle.host_rates.specs.Answers.{answer}
+use Rattle.ledger_moves.specs.Tariffs.{Tariff}
 use Rattle.ledger_moves.specs.Histories.{History}
-use Rattle.ledger_moves.specs.Moves.{plan, rates_plan, reading_plan}
+use Rattle.ledger_moves.specs.Moves.{plan}
 use Rattle.bench_views.specs.declared.taken.Taken.TheVariants as take
 use Rattle.bench_views.specs.Tariff.{IsOfTexts}
 use Rattle.bench_views.proofs.RatesPlans.{plan_of, planned, are_rates, plan_rates}

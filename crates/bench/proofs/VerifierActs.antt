@@ -21,8 +21,8 @@ use Rattle.verifier.specs.Acts.{ScanAct}
 use Rattle.verifier.specs.ActLaws.{IsFit, LeavesSound, SoundActs}
 use Rattle.verifier.specs.Seen.{Seen, AreSound, key_at, spot_in}
 use Rattle.verifier.proofs.LawActs.{leaves}
-use Rattle.bench_views.specs.declared.taken.VerifierCall.{VerifierCall}
-use Rattle.bench_views.specs.declared.taken.VerifierCall.TheVariants as call
+use Rattle.bench_views.specs.declared.calls.VerifierCall.{VerifierCall}
+use Rattle.bench_views.specs.declared.calls.VerifierCall.TheVariants as call
 use Rattle.bench_views.specs.Verifier as views
 use Rattle.bench_views.specs.Verifier.{verifier_act, IsBytesCall}
 use Rattle.bench_views.proofs.Calling.{own_says}
@@ -41,8 +41,8 @@ module _ {K S R : Type 0} (n : Ghosts K S (Unit {0}) Change R) (rows : Seen) (so
 
   -- it leaves sound rows
   pub call_fits : (today : ℤ) (c : VerifierCall) → IsRangedScan c → IsBytesCall c → IsFitting n tt s (verifier_act today c rows)
-  call_fits today (call.Trust d key) ranged bytes = fits_says n tt s _ _ (acts.trust_act d key rows) (by (acts.trust_act d key rows) (sound_acts.trusted d key ranged.0 ranged.1))
-  call_fits today (call.Scan i given) ranged bytes = fits_says n tt s _ _ (acts.scan_act i given today rows) (by (acts.scan_act i given today rows) (sound_acts.scanned i given today ranged bytes))
+  call_fits today (call.Trust c) ranged bytes = fits_says n tt s _ _ (acts.trust_act c.device c.key rows) (by (acts.trust_act c.device c.key rows) (sound_acts.trusted c.device c.key ranged.0 ranged.1))
+  call_fits today (call.Scan c) ranged bytes = fits_says n tt s _ _ (acts.scan_act c.number c.bytes today rows) (by (acts.scan_act c.number c.bytes today rows) (sound_acts.scanned c.number c.bytes today ranged bytes))
 
 -- == whose the commit is ==
 
@@ -66,12 +66,12 @@ read_own n bytes today s (Ok k) = marked_own n bytes k.0 today (key_at s k.0.dev
 -- == how they are told ==
 
 pub call_of : (c : VerifierCall) → IsCallOf Verifier (verifier_call_event c)
-call_of (call.Trust d key) = record { on = refl; at = refl; no_switch = λ e. cc; no_cut = λ calls keep byte e. cc }
-call_of (call.Scan n bytes) = record { on = refl; at = refl; no_switch = λ e. cc; no_cut = λ calls keep byte e. cc }
+call_of (call.Trust c) = record { on = refl; at = refl; no_switch = λ e. cc; no_cut = λ calls keep byte e. cc }
+call_of (call.Scan c) = record { on = refl; at = refl; no_switch = λ e. cc; no_cut = λ calls keep byte e. cc }
 
 no_off : (c : VerifierCall) → verifier_call_event c ≢ ev.Off Verifier
-no_off (call.Trust d key) = λ e. cc
-no_off (call.Scan n bytes) = λ e. cc
+no_off (call.Trust c) = λ e. cc
+no_off (call.Scan c) = λ e. cc
 
 refused : (c : VerifierCall) (x : ScanRefusal) → MayRefuse Verifier (verifier_call_event c) (r.ScanRefused x)
 refused c x = record {
@@ -82,7 +82,7 @@ refused c x = record {
 }
 
 pub call_told : (today : ℤ) (c : VerifierCall) (s : Seen) → IsToldBy Verifier (verifier_call_event c) (verifier_act today c s)
-call_told today (call.Trust d key) s = told_made Verifier _ refl (omega arith) _ (own_says Verifier _ _ (acts.trust_act d key s) (trust_own d key (is_some (key_at s d))))
-    (polite_says Verifier (ev.Trust d key) r.ScanRefused (views.done (r.Trusted d)) (refused (call.Trust d key)) (λ u. record { told = refl; gets = (key, refl); adds = λ made none. (made, none, refl) }) (acts.trust_act d key s))
-call_told today (call.Scan n bytes) s = told_made Verifier _ refl (omega arith) _ (own_says Verifier _ _ (acts.scan_act n bytes today s) (read_own n bytes today s (read_mark bytes)))
-    (polite_says Verifier (ev.ScanHex n bytes) r.ScanRefused (views.accepted n) (refused (call.Scan n bytes)) (λ a. record { told = refl; gets = inr (bytes, refl); adds = λ made none. (made, none, refl) }) (acts.scan_act n bytes today s))
+call_told today (call.Trust c) s = told_made Verifier _ refl (omega arith) _ (own_says Verifier _ _ (acts.trust_act c.device c.key s) (trust_own c.device c.key (is_some (key_at s c.device))))
+    (polite_says Verifier (ev.Trust c.device c.key) r.ScanRefused (views.done (r.Trusted c.device)) (refused (call.Trust c)) (λ u. record { told = refl; gets = (c.key, refl); adds = λ made none. (made, none, refl) }) (acts.trust_act c.device c.key s))
+call_told today (call.Scan c) s = told_made Verifier _ refl (omega arith) _ (own_says Verifier _ _ (acts.scan_act c.number c.bytes today s) (read_own c.number c.bytes today s (read_mark c.bytes)))
+    (polite_says Verifier (ev.ScanHex c.number c.bytes) r.ScanRefused (views.accepted c.number) (refused (call.Scan c)) (λ a. record { told = refl; gets = inr (c.bytes, refl); adds = λ made none. (made, none, refl) }) (acts.scan_act c.number c.bytes today s))

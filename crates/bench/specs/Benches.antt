@@ -23,10 +23,10 @@ use Rattle.host_rates.specs.Tables.{RateTable}
 use Rattle.host_rates.specs.Tariffs.{Keeps}
 use Rattle.ledger_moves.specs.Tariffs.{Tariff}
 use Rattle.ledger_moves.specs.Histories.{History, Unforged}
-use Rattle.bench_views.specs.declared.taken.DeviceCall.{DeviceCall}
-use Rattle.bench_views.specs.declared.taken.CentreCall.{CentreCall}
-use Rattle.bench_views.specs.declared.taken.HostCall.{HostCall}
-use Rattle.bench_views.specs.declared.taken.VerifierCall.{VerifierCall}
+use Rattle.bench_views.specs.declared.calls.DeviceCall.{DeviceCall}
+use Rattle.bench_views.specs.declared.calls.CentreCall.{CentreCall}
+use Rattle.bench_views.specs.declared.calls.HostCall.{HostCall}
+use Rattle.bench_views.specs.declared.calls.VerifierCall.{VerifierCall}
 use Rattle.bench_views.specs.Kinds.{Kinds}
 use Rattle.bench_views.specs.Messages.{sent_in}
 use Rattle.bench_views.specs.Tariff.{IsOfTexts}

@@ -15,49 +15,49 @@ use Rattle.node_acts.specs.Kinds.{Kind}
 use Rattle.node_seat.specs.declared.node.Node.{Ghosts}
 use Rattle.node_turns.specs.declared.turn.Turn.{Turn}
 use Rattle.node_turns.specs.NodeTurns.{NodeTurn}
-use Rattle.bench_views.specs.declared.taken.DeviceCall.{DeviceCall}
-use Rattle.bench_views.specs.declared.taken.DeviceCall.TheVariants.{Make, Debit, Ask, Resend, Ack, Status, Take}
-use Rattle.bench_views.specs.declared.taken.CentreCall.{CentreCall}
-use Rattle.bench_views.specs.declared.taken.CentreCall.TheVariants as call
+use Rattle.bench_views.specs.declared.calls.DeviceCall.{DeviceCall}
+use Rattle.bench_views.specs.declared.calls.DeviceCall.TheVariants.{Make, Debit, Ask, Resend, Ack, Status, Take}
+use Rattle.bench_views.specs.declared.calls.CentreCall.{CentreCall}
+use Rattle.bench_views.specs.declared.calls.CentreCall.TheVariants as call
 use Rattle.host_jobs.specs.ActLaws.{IsPrice}
-use Rattle.bench_views.specs.declared.taken.HostCall.{HostCall}
-use Rattle.bench_views.specs.declared.taken.HostCall.TheVariants as host
-use Rattle.bench_views.specs.declared.taken.VerifierCall.{VerifierCall}
-use Rattle.bench_views.specs.declared.taken.VerifierCall.TheVariants as verifier
+use Rattle.bench_views.specs.declared.calls.HostCall.{HostCall}
+use Rattle.bench_views.specs.declared.calls.HostCall.TheVariants as host
+use Rattle.bench_views.specs.declared.calls.VerifierCall.{VerifierCall}
+use Rattle.bench_views.specs.declared.calls.VerifierCall.TheVariants as verifier
 
 -- == events ==
 
 -- the event that asks device d this; what is delivered to it is given
 abbrev pub device_call_event : ℕ → DeviceCall → Event
-device_call_event d (Make key) = ev.Make d key
-device_call_event d (Debit piece postage class) = ev.Debit d piece postage class
-device_call_event d (Ask kind who amount k) = ev.Ask d kind who amount
-device_call_event d (Resend k) = ev.Resend d
-device_call_event d (Ack k) = ev.Ack d
+device_call_event d (Make c) = ev.Make d c.key
+device_call_event d (Debit c) = ev.Debit d c.piece c.postage c.class
+device_call_event d (Ask c) = ev.Ask d c.kind c.customer c.amount
+device_call_event d (Resend c) = ev.Resend d
+device_call_event d (Ack c) = ev.Ack d
 device_call_event d Status = ev.Status d
-device_call_event d (Take bytes k) = ev.Give (Device d) bytes
+device_call_event d (Take c) = ev.Give (Device d) c.bytes
 
 -- the event that asks the centre this
 abbrev pub centre_call_event : CentreCall → Event
-centre_call_event (call.Register d origin key) = ev.Register d origin key
-centre_call_event (call.Open w) = ev.OpenCustomer w
-centre_call_event (call.Deposit w receipt amount) = ev.Deposit w receipt amount
-centre_call_event (call.Flag w suspended) = ev.Flag w suspended
-centre_call_event (call.Balance w) = ev.Balance w
-centre_call_event (call.Take bytes k) = ev.Give Centre bytes
+centre_call_event (call.Register c) = ev.Register c.device c.origin c.key
+centre_call_event (call.Open c) = ev.OpenCustomer c.customer
+centre_call_event (call.Deposit c) = ev.Deposit c.customer c.receipt c.amount
+centre_call_event (call.Flag c) = ev.Flag c.customer c.suspended
+centre_call_event (call.Balance c) = ev.Balance c.customer
+centre_call_event (call.Take c) = ev.Give Centre c.bytes
 
 -- the event that asks the host this
 abbrev pub host_call_event : HostCall → Event
-host_call_event (host.Order d piece class grams zone price) = ev.Order d piece class grams zone
-host_call_event (host.Send j k) = ev.Send j
-host_call_event (host.Print j) = ev.Print j
-host_call_event (host.Close j) = ev.Close j
-host_call_event (host.Take bytes) = ev.Give Host bytes
+host_call_event (host.Order c) = ev.Order c.device c.piece c.class c.grams c.zone
+host_call_event (host.Send c) = ev.Send c.job
+host_call_event (host.Print c) = ev.Print c.job
+host_call_event (host.Close c) = ev.Close c.job
+host_call_event (host.Take c) = ev.Give Host c.bytes
 
 -- the event that asks the verifier this; a message that is scanned is its bytes
 abbrev pub verifier_call_event : VerifierCall → Event
-verifier_call_event (verifier.Trust d key) = ev.Trust d key
-verifier_call_event (verifier.Scan n bytes) = ev.ScanHex n bytes
+verifier_call_event (verifier.Trust c) = ev.Trust c.device c.key
+verifier_call_event (verifier.Scan c) = ev.ScanHex c.number c.bytes
 
 abbrev pub asked_event : {C : Type 0} → Node → (C → Event) → Asked C → Event
 asked_event m of_call On = ev.On m
@@ -92,12 +92,12 @@ pub record DeviceTurn {K S C R : Type 0} (n : Ghosts K S ℕ C R) (g : nv.Ghosts
 
 -- the numbers of a call of the centre, as an event brings them
 abbrev pub IsRangedCall : CentreCall → Type 0
-IsRangedCall (call.Register d origin key) = IsDevice d × IsWord origin
-IsRangedCall (call.Open w) = IsCustomer w
-IsRangedCall (call.Deposit w receipt amount) = IsCustomer w
-IsRangedCall (call.Flag w suspended) = IsCustomer w
-IsRangedCall (call.Balance w) = IsCustomer w
-IsRangedCall (call.Take bytes k) = Unit {0}
+IsRangedCall (call.Register c) = IsDevice c.device × IsWord c.origin
+IsRangedCall (call.Open c) = IsCustomer c.customer
+IsRangedCall (call.Deposit c) = IsCustomer c.customer
+IsRangedCall (call.Flag c) = IsCustomer c.customer
+IsRangedCall (call.Balance c) = IsCustomer c.customer
+IsRangedCall (call.Take c) = Unit {0}
 
 abbrev pub IsRanged : Asked CentreCall → Type 0
 IsRanged On = Unit {0}
@@ -107,11 +107,11 @@ IsRanged (Call c) = IsRangedCall c
 
 -- the numbers of a call of the host: a price is a postage that a piece may be franked with
 abbrev pub IsRangedJob : HostCall → Type 0
-IsRangedJob (host.Order d piece class grams zone price) = IsDevice d × IsPrice price
-IsRangedJob (host.Send j k) = Unit {0}
-IsRangedJob (host.Print j) = Unit {0}
-IsRangedJob (host.Close j) = Unit {0}
-IsRangedJob (host.Take bytes) = Unit {0}
+IsRangedJob (host.Order c) = IsDevice c.device × IsPrice c.price
+IsRangedJob (host.Send c) = Unit {0}
+IsRangedJob (host.Print c) = Unit {0}
+IsRangedJob (host.Close c) = Unit {0}
+IsRangedJob (host.Take c) = Unit {0}
 
 abbrev pub IsRangedOfHost : Asked HostCall → Type 0
 IsRangedOfHost On = Unit {0}
@@ -121,8 +121,8 @@ IsRangedOfHost (Call c) = IsRangedJob c
 
 -- the numbers of a call of the verifier
 abbrev pub IsRangedScan : VerifierCall → Type 0
-IsRangedScan (verifier.Trust d key) = IsDevice d × IsKey key
-IsRangedScan (verifier.Scan n bytes) = IsCount n
+IsRangedScan (verifier.Trust c) = IsDevice c.device × IsKey c.key
+IsRangedScan (verifier.Scan c) = IsCount c.number
 
 abbrev pub IsRangedOfVerifier : Asked VerifierCall → Type 0
 IsRangedOfVerifier On = Unit {0}

@@ -7,10 +7,7 @@ ghost use Rattle.bench.specs.Calls.{IsRangedCall, IsRanged, centre_event};
 
 use bench_base::numbers::DayNo;
 use bench_base::words::Node as NodeNo;
-use bench_calls::{
-    BalanceCall, CentreCallee, DepositCall, FlagCall, OpenCall, RegisterCall, TakeRequestCall,
-    hands_bytes,
-};
+use bench_calls::{CentreCallee, hands_bytes};
 use bench_views::CentreCall;
 use centre_protocol::CentreNode;
 use node_acts::Asked;
@@ -34,59 +31,12 @@ fn centre_called<T: Tell, M: Fuse + Drop>(
     hands_bytes(asked);
     let callee = CentreCallee;
     match asked {
-        CentreCall::Register {
-            device,
-            origin,
-            key,
-        } => {
-            let call = RegisterCall {
-                device: *device,
-                origin: *origin,
-                key: *key,
-            };
-            call_node(place, &callee, &call)
-        }
-        CentreCall::Open(customer) => {
-            let call = OpenCall {
-                customer: *customer,
-            };
-            call_node(place, &callee, &call)
-        }
-        CentreCall::Deposit {
-            customer,
-            receipt,
-            amount,
-        } => {
-            let call = DepositCall {
-                customer: *customer,
-                receipt: *receipt,
-                amount: *amount,
-            };
-            call_node(place, &callee, &call)
-        }
-        CentreCall::Flag {
-            customer,
-            suspended,
-        } => {
-            let call = FlagCall {
-                customer: *customer,
-                suspended: *suspended,
-            };
-            call_node(place, &callee, &call)
-        }
-        CentreCall::Balance(customer) => {
-            let call = BalanceCall {
-                customer: *customer,
-            };
-            call_node(place, &callee, &call)
-        }
-        CentreCall::Take { bytes, message } => {
-            let call = TakeRequestCall {
-                bytes: bytes.as_slice(),
-                message: *message,
-            };
-            call_node(place, &callee, &call)
-        }
+        CentreCall::Register(call) => call_node(place, &callee, call),
+        CentreCall::Open(call) => call_node(place, &callee, call),
+        CentreCall::Deposit(call) => call_node(place, &callee, call),
+        CentreCall::Flag(call) => call_node(place, &callee, call),
+        CentreCall::Balance(call) => call_node(place, &callee, call),
+        CentreCall::Take(call) => call_node(place, &callee, call),
     }
 }
 

@@ -8,9 +8,7 @@ ghost use Rattle.bench.specs.Calls.{DeviceTurn, device_event};
 
 use bench_base::numbers::{DayNo, DevNo};
 use bench_base::words::Node as NodeNo;
-use bench_calls::{
-    AckCall, AskCall, DebitCall, DeviceCallee, MakeCall, ResendCall, StatusCall, TakeReplyCall,
-};
+use bench_calls::{DeviceCallee, StatusCall};
 use bench_views::DeviceCall;
 use node_acts::Asked;
 use node_seat::Node;
@@ -32,45 +30,13 @@ fn device_called<T: Tell, M: Fuse + Drop>(
 {
     let callee = DeviceCallee { device, day };
     match asked {
-        DeviceCall::Make(key) => call_node(place, &callee, &MakeCall { key: *key }),
-        DeviceCall::Debit {
-            piece,
-            postage,
-            class,
-        } => {
-            let call = DebitCall {
-                piece: *piece,
-                postage: *postage,
-                class: *class,
-            };
-            call_node(place, &callee, &call)
-        }
-        DeviceCall::Ask {
-            kind,
-            customer,
-            amount,
-            message,
-        } => {
-            let call = AskCall {
-                kind: *kind,
-                customer: *customer,
-                amount: *amount,
-                message: *message,
-            };
-            call_node(place, &callee, &call)
-        }
-        DeviceCall::Resend { message } => {
-            call_node(place, &callee, &ResendCall { message: *message })
-        }
-        DeviceCall::Ack { message } => call_node(place, &callee, &AckCall { message: *message }),
+        DeviceCall::Make(call) => call_node(place, &callee, call),
+        DeviceCall::Debit(call) => call_node(place, &callee, call),
+        DeviceCall::Ask(call) => call_node(place, &callee, call),
+        DeviceCall::Resend(call) => call_node(place, &callee, call),
+        DeviceCall::Ack(call) => call_node(place, &callee, call),
         DeviceCall::Status => call_node(place, &callee, &StatusCall),
-        DeviceCall::Take { bytes, message } => {
-            let call = TakeReplyCall {
-                bytes: bytes.as_slice(),
-                message: *message,
-            };
-            call_node(place, &callee, &call)
-        }
+        DeviceCall::Take(call) => call_node(place, &callee, call),
     }
 }
 

@@ -9,7 +9,7 @@ ghost use Rattle.bench.specs.Calls.{IsRangedJob, IsRangedOfHost, host_event};
 use bench_base::numbers::DayNo;
 use bench_base::stream::Sink;
 use bench_base::words::Node as NodeNo;
-use bench_calls::{CloseCall, HostCallee, OrderCall, PrintCall, SendCall, TakeReleaseCall};
+use bench_calls::HostCallee;
 use bench_views::HostCall;
 use host_node::HostNode;
 use node_acts::Asked;
@@ -35,37 +35,11 @@ fn host_called<T: Tell, M: Fuse + Drop, P: Sink>(
 {
     let callee = HostCallee;
     match asked {
-        HostCall::Order {
-            device,
-            piece,
-            class,
-            grams: _,
-            zone: _,
-            price,
-        } => {
-            let call = OrderCall {
-                device: *device,
-                piece: *piece,
-                class: *class,
-                price: *price,
-            };
-            call_printing(place, &callee, &call, printer)
-        }
-        HostCall::Send { job, message } => {
-            let call = SendCall {
-                job: *job,
-                message: *message,
-            };
-            call_printing(place, &callee, &call, printer)
-        }
-        HostCall::Print(job) => call_printing(place, &callee, &PrintCall { job: *job }, printer),
-        HostCall::Close(job) => call_printing(place, &callee, &CloseCall { job: *job }, printer),
-        HostCall::Take(bytes) => {
-            let call = TakeReleaseCall {
-                bytes: bytes.as_slice(),
-            };
-            call_printing(place, &callee, &call, printer)
-        }
+        HostCall::Order(call) => call_printing(place, &callee, call, printer),
+        HostCall::Send(call) => call_printing(place, &callee, call, printer),
+        HostCall::Print(call) => call_printing(place, &callee, call, printer),
+        HostCall::Close(call) => call_printing(place, &callee, call, printer),
+        HostCall::Take(call) => call_printing(place, &callee, call, printer),
     }
 }
 

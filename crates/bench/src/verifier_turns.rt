@@ -7,7 +7,7 @@ ghost use Rattle.bench.specs.Calls.{IsRangedScan, IsRangedOfVerifier, verifier_e
 
 use bench_base::numbers::DayNo;
 use bench_base::words::Node as NodeNo;
-use bench_calls::{ScanCall, TrustCall, VerifierCallee, scans_bytes};
+use bench_calls::{VerifierCallee, scans_bytes};
 use bench_views::VerifierCall;
 use node_acts::Asked;
 use node_seat::Node;
@@ -31,20 +31,8 @@ fn verifier_called<T: Tell, M: Fuse + Drop>(
     scans_bytes(asked);
     let callee = VerifierCallee { day };
     match asked {
-        VerifierCall::Trust { device, key } => {
-            let call = TrustCall {
-                device: *device,
-                key: *key,
-            };
-            call_node(place, &callee, &call)
-        }
-        VerifierCall::Scan { number, bytes } => {
-            let call = ScanCall {
-                number: *number,
-                bytes: bytes.as_slice(),
-            };
-            call_node(place, &callee, &call)
-        }
+        VerifierCall::Trust(call) => call_node(place, &callee, call),
+        VerifierCall::Scan(call) => call_node(place, &callee, call),
     }
 }
 

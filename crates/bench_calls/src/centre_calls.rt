@@ -9,10 +9,11 @@ ghost use Rattle.centre_ledger.specs.Books.{AreSound, put_row};
 ghost use Rattle.bench_views.specs.Centre as views;
 
 use bench_base::events::Reply;
-use bench_base::numbers::{Customer, DevNo};
 use bench_base::refusals::CentreRefusal;
-use bench_base::words::{Key, Node as NodeNo};
-use bench_views::CentreCall;
+use bench_base::words::Node as NodeNo;
+use bench_views::{
+    BalanceCall, CentreCall, DepositCall, FlagCall, OpenCall, RegisterCall, TakeRequestCall,
+};
 use centre_ledger::{
     CentreAct, CentreAnswer, Deposit, Row, balance_act, deposit_act, flag_act, open_act,
     register_act, take_act,
@@ -41,15 +42,7 @@ impl Callee for CentreCallee {
     }
 }
 
-/// A device is registered under a key.
-#[derive(Drop)]
-pub struct RegisterCall {
-    pub device: DevNo,
-    pub origin: u32,
-    pub key: Key,
-}
-
-impl<R: BooksOf> Call<R, Row, CentreCallee> for RegisterCall {
+impl<R: BooksOf> Call<CentreCallee, R, Row> for RegisterCall {
     type Answer = ();
 
     ghost IsAsked = { λ c. IsWord c.origin };
@@ -69,13 +62,7 @@ impl<R: BooksOf> Call<R, Row, CentreCallee> for RegisterCall {
     }
 }
 
-/// A customer is opened.
-#[derive(Drop)]
-pub struct OpenCall {
-    pub customer: Customer,
-}
-
-impl<R: BooksOf> Call<R, Row, CentreCallee> for OpenCall {
+impl<R: BooksOf> Call<CentreCallee, R, Row> for OpenCall {
     type Answer = ();
 
     ghost IsAsked = { λ c. Unit {0} };
@@ -95,15 +82,7 @@ impl<R: BooksOf> Call<R, Row, CentreCallee> for OpenCall {
     }
 }
 
-/// A customer deposits an amount, under the number of its receipt.
-#[derive(Drop)]
-pub struct DepositCall {
-    pub customer: Customer,
-    pub receipt: u32,
-    pub amount: u32,
-}
-
-impl<R: BooksOf> Call<R, Row, CentreCallee> for DepositCall {
+impl<R: BooksOf> Call<CentreCallee, R, Row> for DepositCall {
     type Answer = Deposit;
 
     ghost IsAsked = { λ c. Unit {0} };
@@ -123,14 +102,7 @@ impl<R: BooksOf> Call<R, Row, CentreCallee> for DepositCall {
     }
 }
 
-/// A customer is suspended, or may buy again.
-#[derive(Drop)]
-pub struct FlagCall {
-    pub customer: Customer,
-    pub suspended: bool,
-}
-
-impl<R: BooksOf> Call<R, Row, CentreCallee> for FlagCall {
+impl<R: BooksOf> Call<CentreCallee, R, Row> for FlagCall {
     type Answer = ();
 
     ghost IsAsked = { λ c. Unit {0} };
@@ -150,13 +122,7 @@ impl<R: BooksOf> Call<R, Row, CentreCallee> for FlagCall {
     }
 }
 
-/// What a customer has left.
-#[derive(Drop)]
-pub struct BalanceCall {
-    pub customer: Customer,
-}
-
-impl<R: BooksOf> Call<R, Row, CentreCallee> for BalanceCall {
+impl<R: BooksOf> Call<CentreCallee, R, Row> for BalanceCall {
     type Answer = u64;
 
     ghost IsAsked = { λ c. Unit {0} };
@@ -176,26 +142,19 @@ impl<R: BooksOf> Call<R, Row, CentreCallee> for BalanceCall {
     }
 }
 
-/// The centre takes a Request or a Done.
-#[derive(Drop)]
-pub struct TakeRequestCall<'a> {
-    pub bytes: &'a [u8],
-    pub message: u32,
-}
-
-impl<'a, R: BooksOf> Call<R, Row, CentreCallee> for TakeRequestCall<'a> {
+impl<'a, R: BooksOf> Call<CentreCallee, R, Row> for TakeRequestCall<'a> {
     type Answer = CentreAnswer;
 
-    ghost IsAsked = { λ c. IsBytes c.bytes.now };
+    ghost IsAsked = { λ c. IsBytes c.bytes };
 
-    ghost does = { λ c e s. acts.take_act c.bytes.now (R.books s) };
+    ghost does = { λ c e s. acts.take_act c.bytes (R.books s) };
 
     ghost says = { λ c e a. views.took c.message a };
 
     ghost Makes = { λ s x. AreSound (put_row (R.books s) x) };
 
     fn act(&self, _callee: &CentreCallee, held: &R) -> CentreAct<CentreAnswer> {
-        take_act(self.bytes, held.books())
+        take_act(self.bytes.as_slice(), held.books())
     }
 
     fn answer(&self, _callee: &CentreCallee, answer: &CentreAnswer) -> Said {
@@ -234,7 +193,7 @@ fn are_bytes(bytes: &[u8])
 pub fn hands_bytes(call: &CentreCall)
     ensures { views.IsBytesCall call.now }
 {
-    if let CentreCall::Take { bytes, message: _ } = call {
-        are_bytes(bytes.as_slice());
+    if let CentreCall::Take(call) = call {
+        are_bytes(call.bytes.as_slice());
     }
 }

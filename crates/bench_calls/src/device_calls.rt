@@ -16,7 +16,8 @@ use bench_base::bytes::Note;
 use bench_base::events::{DevView, Reply};
 use bench_base::numbers::{DayNo, DevNo};
 use bench_base::refusals::DevRefusal;
-use bench_base::words::{Key, Kind, Node as NodeNo};
+use bench_base::words::Node as NodeNo;
+use bench_views::{AckCall, AskCall, DebitCall, MakeCall, ResendCall, TakeReplyCall};
 use node_acts::{Act, GivenOut, Released, Said};
 use node_calls::{Call, Callee};
 use node_records::{DeviceState, StateOf};
@@ -57,13 +58,7 @@ pub struct Numbered {
     pub note: Note,
 }
 
-/// A device is made under a key.
-#[derive(Drop)]
-pub struct MakeCall {
-    pub key: Key,
-}
-
-impl<R: StateOf> Call<R, DevRec, DeviceCallee> for MakeCall {
+impl<R: StateOf> Call<DeviceCallee, R, DevRec> for MakeCall {
     type Answer = ();
 
     ghost IsAsked = { λ c. Unit {0} };
@@ -83,15 +78,7 @@ impl<R: StateOf> Call<R, DevRec, DeviceCallee> for MakeCall {
     }
 }
 
-/// A piece is marked.
-#[derive(Drop)]
-pub struct DebitCall {
-    pub piece: u32,
-    pub postage: u32,
-    pub class: u16,
-}
-
-impl<R: StateOf> Call<R, DevRec, DeviceCallee> for DebitCall {
+impl<R: StateOf> Call<DeviceCallee, R, DevRec> for DebitCall {
     type Answer = Franked;
 
     ghost IsAsked = { λ c. Unit {0} };
@@ -126,16 +113,7 @@ impl<R: StateOf> Call<R, DevRec, DeviceCallee> for DebitCall {
     }
 }
 
-/// A transaction is asked for.
-#[derive(Drop)]
-pub struct AskCall {
-    pub kind: Kind,
-    pub customer: u32,
-    pub amount: u32,
-    pub message: u32,
-}
-
-impl<R: StateOf> Call<R, DevRec, DeviceCallee> for AskCall {
+impl<R: StateOf> Call<DeviceCallee, R, DevRec> for AskCall {
     type Answer = Numbered;
 
     ghost IsAsked = { λ c. Unit {0} };
@@ -167,13 +145,7 @@ impl<R: StateOf> Call<R, DevRec, DeviceCallee> for AskCall {
     }
 }
 
-/// The request that is outstanding is sent once more.
-#[derive(Drop)]
-pub struct ResendCall {
-    pub message: u32,
-}
-
-impl<R: StateOf> Call<R, DevRec, DeviceCallee> for ResendCall {
+impl<R: StateOf> Call<DeviceCallee, R, DevRec> for ResendCall {
     type Answer = Numbered;
 
     ghost IsAsked = { λ c. Unit {0} };
@@ -197,13 +169,7 @@ impl<R: StateOf> Call<R, DevRec, DeviceCallee> for ResendCall {
     }
 }
 
-/// That the last transaction was applied is sent.
-#[derive(Drop)]
-pub struct AckCall {
-    pub message: u32,
-}
-
-impl<R: StateOf> Call<R, DevRec, DeviceCallee> for AckCall {
+impl<R: StateOf> Call<DeviceCallee, R, DevRec> for AckCall {
     type Answer = Numbered;
 
     ghost IsAsked = { λ c. Unit {0} };
@@ -231,7 +197,7 @@ impl<R: StateOf> Call<R, DevRec, DeviceCallee> for AckCall {
 #[derive(Drop)]
 pub struct StatusCall;
 
-impl<R: StateOf> Call<R, DevRec, DeviceCallee> for StatusCall {
+impl<R: StateOf> Call<DeviceCallee, R, DevRec> for StatusCall {
     type Answer = DevView;
 
     ghost IsAsked = { λ c. Unit {0} };
@@ -251,26 +217,24 @@ impl<R: StateOf> Call<R, DevRec, DeviceCallee> for StatusCall {
     }
 }
 
-/// A device takes a Reply or a Debit.
-#[derive(Drop)]
-pub struct TakeReplyCall<'a> {
-    pub bytes: &'a [u8],
-    pub message: u32,
-}
-
-impl<'a, R: StateOf> Call<R, DevRec, DeviceCallee> for TakeReplyCall<'a> {
+impl<'a, R: StateOf> Call<DeviceCallee, R, DevRec> for TakeReplyCall<'a> {
     type Answer = Taken;
 
     ghost IsAsked = { λ c. Unit {0} };
 
-    ghost does = { λ c e s. acts.take_act todays_rules e.device c.bytes.now e.day (R.state s) };
+    ghost does = { λ c e s. acts.take_act todays_rules e.device c.bytes e.day (R.state s) };
 
     ghost says = { λ c e a. views.took e.device c.message a };
 
     ghost Makes = { λ s x. Unit {0} };
 
     fn act(&self, callee: &DeviceCallee, held: &R) -> DeviceAct<Taken> {
-        take_act(callee.device, self.bytes, callee.day, held.state())
+        take_act(
+            callee.device,
+            self.bytes.as_slice(),
+            callee.day,
+            held.state(),
+        )
     }
 
     fn answer(&self, callee: &DeviceCallee, taken: &Taken) -> Said {

@@ -10,9 +10,9 @@ ghost use Rattle.bench_views.specs.Host as views;
 
 use bench_base::bytes::Note;
 use bench_base::events::Reply;
-use bench_base::numbers::DevNo;
-use bench_base::refusals::{HostRefusal, RateRefusal};
+use bench_base::refusals::HostRefusal;
 use bench_base::words::Node as NodeNo;
+use bench_views::{CloseCall, OrderCall, PrintCall, SendCall, TakeReleaseCall};
 use host_jobs::{
     HostAct, JobRow, Ordered, begin_print_act, close_act, debit_message_act, order_act, take_act,
 };
@@ -40,16 +40,7 @@ impl Callee for HostCallee {
     }
 }
 
-/// A piece of a device is ordered in a class, for what the price says.
-#[derive(Drop)]
-pub struct OrderCall {
-    pub device: DevNo,
-    pub piece: u32,
-    pub class: u16,
-    pub price: Option<Result<u32, RateRefusal>>,
-}
-
-impl<R: JobsOf> Call<R, JobRow, HostCallee> for OrderCall {
+impl<R: JobsOf> Call<HostCallee, R, JobRow> for OrderCall {
     type Answer = Ordered;
 
     ghost IsAsked = { λ c. IsDevice c.device × IsPrice c.price };
@@ -76,14 +67,7 @@ impl<R: JobsOf> Call<R, JobRow, HostCallee> for OrderCall {
     }
 }
 
-/// The message that asks the device of a job for its mark is sent.
-#[derive(Drop)]
-pub struct SendCall {
-    pub job: u32,
-    pub message: u32,
-}
-
-impl<R: JobsOf> Call<R, JobRow, HostCallee> for SendCall {
+impl<R: JobsOf> Call<HostCallee, R, JobRow> for SendCall {
     type Answer = Note;
 
     ghost IsAsked = { λ c. Unit {0} };
@@ -103,13 +87,7 @@ impl<R: JobsOf> Call<R, JobRow, HostCallee> for SendCall {
     }
 }
 
-/// The print of a job is begun.
-#[derive(Drop)]
-pub struct PrintCall {
-    pub job: u32,
-}
-
-impl<R: JobsOf> Call<R, JobRow, HostCallee> for PrintCall {
+impl<R: JobsOf> Call<HostCallee, R, JobRow> for PrintCall {
     type Answer = [u8; 64];
 
     ghost IsAsked = { λ c. Unit {0} };
@@ -133,13 +111,7 @@ impl<R: JobsOf> Call<R, JobRow, HostCallee> for PrintCall {
     }
 }
 
-/// A job is closed.
-#[derive(Drop)]
-pub struct CloseCall {
-    pub job: u32,
-}
-
-impl<R: JobsOf> Call<R, JobRow, HostCallee> for CloseCall {
+impl<R: JobsOf> Call<HostCallee, R, JobRow> for CloseCall {
     type Answer = ();
 
     ghost IsAsked = { λ c. Unit {0} };
@@ -159,25 +131,19 @@ impl<R: JobsOf> Call<R, JobRow, HostCallee> for CloseCall {
     }
 }
 
-/// The host takes a Release.
-#[derive(Drop)]
-pub struct TakeReleaseCall<'a> {
-    pub bytes: &'a [u8],
-}
-
-impl<'a, R: JobsOf> Call<R, JobRow, HostCallee> for TakeReleaseCall<'a> {
+impl<'a, R: JobsOf> Call<HostCallee, R, JobRow> for TakeReleaseCall<'a> {
     type Answer = u32;
 
     ghost IsAsked = { λ c. Unit {0} };
 
-    ghost does = { λ c e s. acts.take_act c.bytes.now (R.jobs s) };
+    ghost does = { λ c e s. acts.take_act c.bytes (R.jobs s) };
 
     ghost says = { λ c e j. views.held j };
 
     ghost Makes = { λ s x. IsNext (R.jobs s) x };
 
     fn act(&self, _callee: &HostCallee, held: &R) -> HostAct<u32> {
-        take_act(self.bytes, held.jobs(), held.kept())
+        take_act(self.bytes.as_slice(), held.jobs(), held.kept())
     }
 
     fn answer(&self, _callee: &HostCallee, job: &u32) -> Said {

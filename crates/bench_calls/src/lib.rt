@@ -8,14 +8,8 @@ mod device_calls;
 mod host_calls;
 mod verifier_calls;
 
-pub use centre_calls::{
-    BalanceCall, CentreCallee, DepositCall, FlagCall, OpenCall, RegisterCall, TakeRequestCall,
-    hands_bytes,
-};
+pub use centre_calls::{CentreCallee, hands_bytes};
 pub use comparing::compared;
-pub use device_calls::{
-    AckCall, AskCall, DebitCall, DeviceCallee, MakeCall, Numbered, ResendCall, StatusCall,
-    TakeReplyCall,
-};
-pub use host_calls::{CloseCall, HostCallee, OrderCall, PrintCall, SendCall, TakeReleaseCall};
-pub use verifier_calls::{ScanCall, TrustCall, VerifierCallee, scans_bytes};
+pub use device_calls::{DeviceCallee, Numbered, StatusCall};
+pub use host_calls::HostCallee;
+pub use verifier_calls::{VerifierCallee, scans_bytes};

@@ -9,10 +9,10 @@ ghost use Rattle.verifier.specs.ActLaws.{IsFit};
 ghost use Rattle.bench_views.specs.Verifier as views;
 
 use bench_base::events::Reply;
-use bench_base::numbers::{DayNo, DevNo};
+use bench_base::numbers::DayNo;
 use bench_base::refusals::ScanRefusal;
-use bench_base::words::{Key, Node as NodeNo};
-use bench_views::VerifierCall;
+use bench_base::words::Node as NodeNo;
+use bench_views::{ScanCall, TrustCall, VerifierCall};
 use node_acts::Said;
 use node_calls::{Call, Callee};
 use node_records::RowsOf;
@@ -40,14 +40,7 @@ impl Callee for VerifierCallee {
     }
 }
 
-/// Marks of a device are trusted under a key.
-#[derive(Drop)]
-pub struct TrustCall {
-    pub device: DevNo,
-    pub key: Key,
-}
-
-impl<R: RowsOf> Call<R, Change, VerifierCallee> for TrustCall {
+impl<R: RowsOf> Call<VerifierCallee, R, Change> for TrustCall {
     type Answer = ();
 
     ghost IsAsked = { λ c. IsDevice c.device × IsKey c.key };
@@ -67,26 +60,19 @@ impl<R: RowsOf> Call<R, Change, VerifierCallee> for TrustCall {
     }
 }
 
-/// Bytes are scanned under a number.
-#[derive(Drop)]
-pub struct ScanCall<'a> {
-    pub number: u32,
-    pub bytes: &'a [u8],
-}
-
-impl<'a, R: RowsOf> Call<R, Change, VerifierCallee> for ScanCall<'a> {
+impl<'a, R: RowsOf> Call<VerifierCallee, R, Change> for ScanCall<'a> {
     type Answer = Accepted;
 
-    ghost IsAsked = { λ c. IsCount c.number × IsBytes c.bytes.now };
+    ghost IsAsked = { λ c. IsCount c.number × IsBytes c.bytes };
 
-    ghost does = { λ c e s. acts.scan_act c.number c.bytes.now e.day (R.rows s) };
+    ghost does = { λ c e s. acts.scan_act c.number c.bytes e.day (R.rows s) };
 
     ghost says = { λ c e a. views.accepted c.number a };
 
     ghost Makes = { λ s x. IsFit (R.rows s) x };
 
     fn act(&self, callee: &VerifierCallee, held: &R) -> ScanAct<Accepted> {
-        held.scanning(self.number, self.bytes, callee.day)
+        held.scanning(self.number, self.bytes.as_slice(), callee.day)
     }
 
     fn answer(&self, _callee: &VerifierCallee, piece: &Accepted) -> Said {
@@ -102,7 +88,7 @@ fn are_bytes(bytes: &[u8])
 pub fn scans_bytes(call: &VerifierCall)
     ensures { views.IsBytesCall call.now }
 {
-    if let VerifierCall::Scan { number: _, bytes } = call {
-        are_bytes(bytes.as_slice());
+    if let VerifierCall::Scan(call) = call {
+        are_bytes(call.bytes.as_slice());
     }
 }

@@ -38,8 +38,8 @@ use Rattle.psd_state.specs.declared.acts.Taken.{Taken}
 use Rattle.psd_state.specs.declared.acts.Taken.TheVariants as taken_as
 use Rattle.ledger_moves.specs.Moves.{debit_by}
 use Rattle.law_orders.specs.Nexts.{AreOrdered}
-use Rattle.bench_views.specs.declared.taken.DeviceCall.{DeviceCall}
-use Rattle.bench_views.specs.declared.taken.DeviceCall.TheVariants.{Make, Debit, Ask, Resend, Ack, Status, Take}
+use Rattle.bench_views.specs.declared.calls.DeviceCall.{DeviceCall}
+use Rattle.bench_views.specs.declared.calls.DeviceCall.TheVariants.{Make, Debit, Ask, Resend, Ack, Status, Take}
 use Rattle.ledger_moves.specs.Devices.{record_in, record_with}
 use Rattle.bench_views.specs.Devices.{seen_in, marked, took, device_act, IsKnown}
 use Rattle.bench_views.proofs.Calling.{IsMade, made_says}
@@ -56,14 +56,14 @@ took_said d k (taken_as.Applied n v) = refl
 took_said d k (taken_as.Released piece x again) = refl
 
 pub call_quiet : (d : ℕ) (today : ℤ) (call : DeviceCall) (s : Option State) → IsQuietAct (device_act d today call s)
-call_quiet d today (Make key) s = quiet_says (r.DevRefused d) _ (refused_quiet d) (λ u. refl) (make_act d key s)
-call_quiet d today (Debit piece postage class) s =
-    quiet_says (r.DevRefused d) (marked d piece) (refused_quiet d) (λ f. refl) (debit_act todays_rules d (debit_by d piece postage class) today s)
-call_quiet d today (Ask kind who amount k) s = quiet_says (r.DevRefused d) _ (refused_quiet d) (λ note. refl) (ask_act todays_rules d kind who amount today s)
-call_quiet d today (Resend k) s = quiet_says (r.DevRefused d) _ (refused_quiet d) (λ note. refl) (resend_act s)
-call_quiet d today (Ack k) s = quiet_says (r.DevRefused d) _ (refused_quiet d) (λ note. refl) (ack_act s)
+call_quiet d today (Make c) s = quiet_says (r.DevRefused d) _ (refused_quiet d) (λ u. refl) (make_act d c.key s)
+call_quiet d today (Debit c) s =
+    quiet_says (r.DevRefused d) (marked d c.piece) (refused_quiet d) (λ f. refl) (debit_act todays_rules d (debit_by d c.piece c.postage c.class) today s)
+call_quiet d today (Ask c) s = quiet_says (r.DevRefused d) _ (refused_quiet d) (λ note. refl) (ask_act todays_rules d c.kind c.customer c.amount today s)
+call_quiet d today (Resend c) s = quiet_says (r.DevRefused d) _ (refused_quiet d) (λ note. refl) (resend_act s)
+call_quiet d today (Ack c) s = quiet_says (r.DevRefused d) _ (refused_quiet d) (λ note. refl) (ack_act s)
 call_quiet d today Status s = quiet_says (r.DevRefused d) _ (refused_quiet d) (λ shown. refl) (status_act today s)
-call_quiet d today (Take bytes k) s = quiet_says (r.DevRefused d) (took d k) (refused_quiet d) (took_said d k) (take_act todays_rules d bytes today s)
+call_quiet d today (Take c) s = quiet_says (r.DevRefused d) (took d c.message) (refused_quiet d) (took_said d c.message) (take_act todays_rules d c.bytes today s)
 
 -- == its record ==
 
@@ -197,15 +197,15 @@ module _ (H : Ledger) (ordered : AreOrdered (counted H)) (making : MakingStarts)
   -- == each call ==
 
   pub call_right : (today : ℤ) (call : DeviceCall) → OfCall H d call → IsNextMade (device_act d today call (record_in d C)) → IsRightAct (device_act d today call (record_in d C))
-  call_right today (Make key) genuine made = right_says counting (Device d) (seen_in d) H _ _ (make_act d key (record_in d C)) (make_right key (key_of d C) refl)
-  call_right today (Debit piece postage class) genuine made =
-      right_says counting (Device d) (seen_in d) H _ _ (debit_act todays_rules d (debit_by d piece postage class) today (record_in d C)) (debit_right (debit_by d piece postage class) today (key_of d C) refl)
-  call_right today (Ask kind who amount k) genuine made =
-      let act = ask_act todays_rules d kind who amount today (record_in d C) in
-      right_says counting (Device d) (seen_in d) H _ _ act (ask_right kind who amount today (key_of d C) refl (made_says counting (Device d) (seen_in d) H (λ c s. AreOrdered (c ∷ counted H) × IsKnown s) _ _ act made))
-  call_right today (Resend k) genuine made = right_says counting (Device d) (seen_in d) H _ _ (resend_act (record_in d C)) (resend_right (key_of d C))
-  call_right today (Ack k) genuine made = right_says counting (Device d) (seen_in d) H _ _ (ack_act (record_in d C)) (ack_right (key_of d C))
+  call_right today (Make c) genuine made = right_says counting (Device d) (seen_in d) H _ _ (make_act d c.key (record_in d C)) (make_right c.key (key_of d C) refl)
+  call_right today (Debit c) genuine made =
+      right_says counting (Device d) (seen_in d) H _ _ (debit_act todays_rules d (debit_by d c.piece c.postage c.class) today (record_in d C)) (debit_right (debit_by d c.piece c.postage c.class) today (key_of d C) refl)
+  call_right today (Ask q) genuine made =
+      let act = ask_act todays_rules d q.kind q.customer q.amount today (record_in d C) in
+      right_says counting (Device d) (seen_in d) H _ _ act (ask_right q.kind q.customer q.amount today (key_of d C) refl (made_says counting (Device d) (seen_in d) H (λ c s. AreOrdered (c ∷ counted H) × IsKnown s) _ _ act made))
+  call_right today (Resend c) genuine made = right_says counting (Device d) (seen_in d) H _ _ (resend_act (record_in d C)) (resend_right (key_of d C))
+  call_right today (Ack c) genuine made = right_says counting (Device d) (seen_in d) H _ _ (ack_act (record_in d C)) (ack_right (key_of d C))
   call_right today Status genuine made = right_says counting (Device d) (seen_in d) H _ _ (status_act today (record_in d C)) (status_right today (key_of d C))
-  call_right today (Take bytes k) genuine made =
-      let act = take_act todays_rules d bytes today (record_in d C) in
-      right_says counting (Device d) (seen_in d) H _ _ act (message_right bytes genuine today (read bytes) refl (made_says counting (Device d) (seen_in d) H (λ c s. AreOrdered (c ∷ counted H) × IsKnown s) _ _ act made))
+  call_right today (Take q) genuine made =
+      let act = take_act todays_rules d q.bytes today (record_in d C) in
+      right_says counting (Device d) (seen_in d) H _ _ act (message_right q.bytes genuine today (read q.bytes) refl (made_says counting (Device d) (seen_in d) H (λ c s. AreOrdered (c ∷ counted H) × IsKnown s) _ _ act made))

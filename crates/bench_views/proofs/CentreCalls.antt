@@ -50,8 +50,8 @@ use Rattle.centre_ledger.specs.Seen.{counting, cell_of, books_in}
 use Rattle.centre_ledger.proofs.Payers.{found-device}
 use Rattle.node_acts.specs.declared.asked.Asked.{Asked}
 use Rattle.node_acts.specs.declared.asked.Asked.TheVariants.{On, Off, Cut, Call}
-use Rattle.bench_views.specs.declared.taken.CentreCall.{CentreCall}
-use Rattle.bench_views.specs.declared.taken.CentreCall.TheVariants as call
+use Rattle.bench_views.specs.declared.calls.CentreCall.{CentreCall}
+use Rattle.bench_views.specs.declared.calls.CentreCall.TheVariants as call
 use Rattle.bench_views.specs.declared.taken.Taken.TheVariants as take
 use Rattle.bench_views.specs.Taken as takes
 use Rattle.bench_views.specs.Taken.{taken}
@@ -145,12 +145,12 @@ module _ (b : Books) (sound : AreSound b) (bytes : List ℕ) where
 
 -- the numbers of the call fit their fields
 abbrev pub IsWholeCall : CentreCall → Type 0
-IsWholeCall (call.Register d origin key) = IsDevice d
-IsWholeCall (call.Open w) = IsCustomer w
-IsWholeCall (call.Deposit w n a) = IsCustomer w
-IsWholeCall (call.Flag w flag) = IsCustomer w
-IsWholeCall (call.Balance w) = IsCustomer w
-IsWholeCall (call.Take bytes k) = IsBytes bytes
+IsWholeCall (call.Register c) = IsDevice c.device
+IsWholeCall (call.Open c) = IsCustomer c.customer
+IsWholeCall (call.Deposit c) = IsCustomer c.customer
+IsWholeCall (call.Flag c) = IsCustomer c.customer
+IsWholeCall (call.Balance c) = IsCustomer c.customer
+IsWholeCall (call.Take c) = IsBytes c.bytes
 
 -- == what is said ==
 
@@ -162,21 +162,21 @@ took_said k (answer.Ruled d n v note again) = refl
 took_said k (answer.Settled d n again) = refl
 
 pub call_quiet : (c : CentreCall) (b : Books) → IsQuietAct (centre_act c b)
-call_quiet (call.Register d origin key) b = quiet_says r.CentreRefused _ refused_quiet (λ u. refl) (acts.register_act d origin key b)
-call_quiet (call.Open w) b = quiet_says r.CentreRefused _ refused_quiet (λ u. refl) (acts.open_act w b)
-call_quiet (call.Deposit w n a) b = quiet_says r.CentreRefused _ refused_quiet (λ done. refl) (acts.deposit_act w n a b)
-call_quiet (call.Flag w flag) b = quiet_says r.CentreRefused _ refused_quiet (λ u. refl) (acts.flag_act w flag b)
-call_quiet (call.Balance w) b = quiet_says r.CentreRefused _ refused_quiet (λ left. refl) (acts.balance_act w b)
-call_quiet (call.Take bytes k) b = quiet_says r.CentreRefused (took k) refused_quiet (took_said k) (acts.take_act bytes b)
+call_quiet (call.Register c) b = quiet_says r.CentreRefused _ refused_quiet (λ u. refl) (acts.register_act c.device c.origin c.key b)
+call_quiet (call.Open c) b = quiet_says r.CentreRefused _ refused_quiet (λ u. refl) (acts.open_act c.customer b)
+call_quiet (call.Deposit c) b = quiet_says r.CentreRefused _ refused_quiet (λ done. refl) (acts.deposit_act c.customer c.receipt c.amount b)
+call_quiet (call.Flag c) b = quiet_says r.CentreRefused _ refused_quiet (λ u. refl) (acts.flag_act c.customer c.suspended b)
+call_quiet (call.Balance c) b = quiet_says r.CentreRefused _ refused_quiet (λ left. refl) (acts.balance_act c.customer b)
+call_quiet (call.Take c) b = quiet_says r.CentreRefused (took c.message) refused_quiet (took_said c.message) (acts.take_act c.bytes b)
 
 -- == what it is handed ==
 
 -- a message for a device that there can't be
-for_nobody : (bytes : List ℕ) (k : ℕ) (asked : Asked CentreCall) (d : ℕ) (t : Bool) → (if t then takes.to_device d bytes k else takes.to_centre bytes k) ≡ take.Centre asked → asked ≡ Call (call.Take bytes k)
+for_nobody : (bytes : List ℕ) (k : ℕ) (asked : Asked CentreCall) (d : ℕ) (t : Bool) → (if t then takes.to_device d bytes k else takes.to_centre bytes k) ≡ take.Centre asked → asked ≡ Call (call.Take (record { bytes = bytes; message = k }))
 for_nobody bytes k asked d true is = cc
 for_nobody bytes k asked d false is = cc
 
-delivered_asked : (bytes : List ℕ) (k : ℕ) (asked : Asked CentreCall) (x : Result Message Unread) → takes.delivered_as bytes k x ≡ take.Centre asked → asked ≡ Call (call.Take bytes k)
+delivered_asked : (bytes : List ℕ) (k : ℕ) (asked : Asked CentreCall) (x : Result Message Unread) → takes.delivered_as bytes k x ≡ take.Centre asked → asked ≡ Call (call.Take (record { bytes = bytes; message = k }))
 delivered_asked bytes k asked (Ok (m.Request q)) is = cc
 delivered_asked bytes k asked (Ok (m.Done q)) is = cc
 delivered_asked bytes k asked (Err x) is = cc
@@ -250,20 +250,20 @@ module _ (H : Ledger) (known : IsKnown (seen_in (counted H))) (are : AreBooksOf 
   take_good bytes is = (take_placed b known.sound bytes (read bytes), following.taken bytes is)
 
   pub call_own : (c : CentreCall) → IsWholeCall c → IsOfNode Centre (centre_act c b)
-  call_own (call.Register d origin key) whole = own_says Centre _ _ (acts.register_act d origin key b) (own (acts.register_act d origin key b) (register_good d origin key whole))
-  call_own (call.Open w) whole = own_says Centre _ _ (acts.open_act w b) (own (acts.open_act w b) (open_good w whole))
-  call_own (call.Deposit w n a) whole = own_says Centre _ _ (acts.deposit_act w n a b) (own (acts.deposit_act w n a b) (deposit_good w n a whole))
-  call_own (call.Flag w flag) whole = own_says Centre _ _ (acts.flag_act w flag b) (own (acts.flag_act w flag b) (flag_good w flag whole))
-  call_own (call.Balance w) whole = own_says Centre _ _ (acts.balance_act w b) (own (acts.balance_act w b) (balance_good w))
-  call_own (call.Take bytes k) whole = own_says Centre _ _ (acts.take_act bytes b) (own (acts.take_act bytes b) (take_good bytes whole))
+  call_own (call.Register c) whole = own_says Centre _ _ (acts.register_act c.device c.origin c.key b) (own (acts.register_act c.device c.origin c.key b) (register_good c.device c.origin c.key whole))
+  call_own (call.Open c) whole = own_says Centre _ _ (acts.open_act c.customer b) (own (acts.open_act c.customer b) (open_good c.customer whole))
+  call_own (call.Deposit c) whole = own_says Centre _ _ (acts.deposit_act c.customer c.receipt c.amount b) (own (acts.deposit_act c.customer c.receipt c.amount b) (deposit_good c.customer c.receipt c.amount whole))
+  call_own (call.Flag c) whole = own_says Centre _ _ (acts.flag_act c.customer c.suspended b) (own (acts.flag_act c.customer c.suspended b) (flag_good c.customer c.suspended whole))
+  call_own (call.Balance c) whole = own_says Centre _ _ (acts.balance_act c.customer b) (own (acts.balance_act c.customer b) (balance_good c.customer))
+  call_own (call.Take c) whole = own_says Centre _ _ (acts.take_act c.bytes b) (own (acts.take_act c.bytes b) (take_good c.bytes whole))
 
   pub call_right : (c : CentreCall) → IsWholeCall c → IsRight counting Centre seen_in H (centre_act c b)
-  call_right (call.Register d origin key) whole = right_says counting Centre seen_in H _ _ (acts.register_act d origin key b) (right (acts.register_act d origin key b) (register_good d origin key whole))
-  call_right (call.Open w) whole = right_says counting Centre seen_in H _ _ (acts.open_act w b) (right (acts.open_act w b) (open_good w whole))
-  call_right (call.Deposit w n a) whole = right_says counting Centre seen_in H _ _ (acts.deposit_act w n a b) (right (acts.deposit_act w n a b) (deposit_good w n a whole))
-  call_right (call.Flag w flag) whole = right_says counting Centre seen_in H _ _ (acts.flag_act w flag b) (right (acts.flag_act w flag b) (flag_good w flag whole))
-  call_right (call.Balance w) whole = right_says counting Centre seen_in H _ _ (acts.balance_act w b) (right (acts.balance_act w b) (balance_good w))
-  call_right (call.Take bytes k) whole = right_says counting Centre seen_in H _ _ (acts.take_act bytes b) (right (acts.take_act bytes b) (take_good bytes whole))
+  call_right (call.Register c) whole = right_says counting Centre seen_in H _ _ (acts.register_act c.device c.origin c.key b) (right (acts.register_act c.device c.origin c.key b) (register_good c.device c.origin c.key whole))
+  call_right (call.Open c) whole = right_says counting Centre seen_in H _ _ (acts.open_act c.customer b) (right (acts.open_act c.customer b) (open_good c.customer whole))
+  call_right (call.Deposit c) whole = right_says counting Centre seen_in H _ _ (acts.deposit_act c.customer c.receipt c.amount b) (right (acts.deposit_act c.customer c.receipt c.amount b) (deposit_good c.customer c.receipt c.amount whole))
+  call_right (call.Flag c) whole = right_says counting Centre seen_in H _ _ (acts.flag_act c.customer c.suspended b) (right (acts.flag_act c.customer c.suspended b) (flag_good c.customer c.suspended whole))
+  call_right (call.Balance c) whole = right_says counting Centre seen_in H _ _ (acts.balance_act c.customer b) (right (acts.balance_act c.customer b) (balance_good c.customer))
+  call_right (call.Take c) whole = right_says counting Centre seen_in H _ _ (acts.take_act c.bytes b) (right (acts.take_act c.bytes b) (take_good c.bytes whole))
 
   -- == its plan ==
 
@@ -282,7 +282,7 @@ module _ (H : Ledger) (known : IsKnown (seen_in (counted H))) (are : AreBooksOf 
   took_tells k (answer.Settled d n again) = refl
 
   -- what it is handed, by the next message
-  handed : (bytes : List ℕ) → IsBytes bytes → centre_plan bytes H ≡ seen_plan counting Centre (view_of H) (centre_act (call.Take bytes (length (sent_in H))) b)
+  handed : (bytes : List ℕ) → IsBytes bytes → centre_plan bytes H ≡ seen_plan counting Centre (view_of H) (centre_act (call.Take (record { bytes = bytes; message = length (sent_in H) })) b)
   handed bytes is =
       ap (λ (k : ℕ). at_node Centre H (centre_take k bytes (read bytes) C)) (sym (sent_many H))
       ∙ at (centre_take (length (sent_in H)) bytes (read bytes) C) (took (length (sent_in H))) (acts.take_act bytes b) (take_good bytes is)

@@ -14,14 +14,14 @@ use Rattle.node_acts.specs.declared.asked.Asked.TheVariants.{On, Off, Cut, Call}
 use Rattle.psd_wire.specs.declared.message.Message.{Message}
 use Rattle.psd_wire.specs.declared.message.Message.TheVariants as m
 use Rattle.psd_wire.specs.Grammar.{read}
-use Rattle.bench_views.specs.declared.taken.DeviceCall.{DeviceCall}
-use Rattle.bench_views.specs.declared.taken.DeviceCall.TheVariants as device
-use Rattle.bench_views.specs.declared.taken.CentreCall.{CentreCall}
-use Rattle.bench_views.specs.declared.taken.CentreCall.TheVariants as call
-use Rattle.bench_views.specs.declared.taken.HostCall.{HostCall}
-use Rattle.bench_views.specs.declared.taken.HostCall.TheVariants as host
-use Rattle.bench_views.specs.declared.taken.VerifierCall.{VerifierCall}
-use Rattle.bench_views.specs.declared.taken.VerifierCall.TheVariants as verifier
+use Rattle.bench_views.specs.declared.calls.DeviceCall.{DeviceCall}
+use Rattle.bench_views.specs.declared.calls.DeviceCall.TheVariants as device
+use Rattle.bench_views.specs.declared.calls.CentreCall.{CentreCall}
+use Rattle.bench_views.specs.declared.calls.CentreCall.TheVariants as call
+use Rattle.bench_views.specs.declared.calls.HostCall.{HostCall}
+use Rattle.bench_views.specs.declared.calls.HostCall.TheVariants as host
+use Rattle.bench_views.specs.declared.calls.VerifierCall.{VerifierCall}
+use Rattle.bench_views.specs.declared.calls.VerifierCall.TheVariants as verifier
 use Rattle.bench_views.specs.declared.taken.Taken.{Taken}
 use Rattle.bench_views.specs.declared.taken.Taken.TheVariants as take
 use Rattle.bench_views.specs.Tariff.{Quote}
@@ -46,13 +46,13 @@ module _ (pool : List (List ℕ)) (quote : Quote) where
     pub on : (d : ℕ) → P (ev.On (Device d)) d On
     pub off : (d : ℕ) → P (ev.Off (Device d)) d Off
     pub cut : (d calls keep byte : ℕ) → P (ev.Cut (Device d) calls keep byte) d (Cut calls keep byte)
-    pub make : (d : ℕ) (key : List ℕ) → P (ev.Make d key) d (Call (device.Make key))
-    pub debit : (d piece postage class : ℕ) → P (ev.Debit d piece postage class) d (Call (device.Debit piece postage class))
-    pub ask : (d : ℕ) (kind : Kind) (who amount : ℕ) → P (ev.Ask d kind who amount) d (Call (device.Ask kind who amount next))
-    pub resend : (d : ℕ) → P (ev.Resend d) d (Call (device.Resend next))
-    pub ack : (d : ℕ) → P (ev.Ack d) d (Call (device.Ack next))
+    pub make : (d : ℕ) (key : List ℕ) → P (ev.Make d key) d (Call (device.Make (record { key = key })))
+    pub debit : (d piece postage class : ℕ) → P (ev.Debit d piece postage class) d (Call (device.Debit (record { piece = piece; postage = postage; class = class })))
+    pub ask : (d : ℕ) (kind : Kind) (who amount : ℕ) → P (ev.Ask d kind who amount) d (Call (device.Ask (record { kind = kind; customer = who; amount = amount; message = next })))
+    pub resend : (d : ℕ) → P (ev.Resend d) d (Call (device.Resend (record { message = next })))
+    pub ack : (d : ℕ) → P (ev.Ack d) d (Call (device.Ack (record { message = next })))
     pub status : (d : ℕ) → P (ev.Status d) d (Call device.Status)
-    pub give : (d : ℕ) (bytes : List ℕ) → P (ev.Give (Device d) bytes) d (Call (device.Take bytes next))
+    pub give : (d : ℕ) (bytes : List ℕ) → P (ev.Give (Device d) bytes) d (Call (device.Take (record { bytes = bytes; message = next })))
     pub deliver : (k d : ℕ) (asked : Asked DeviceCall) → message_taken k next (slice_get pool k) ≡ take.Device d asked → P (ev.Deliver k) d asked
 
   -- and of each event of the centre
@@ -60,12 +60,12 @@ module _ (pool : List (List ℕ)) (quote : Quote) where
     pub on : P (ev.On Centre) On
     pub off : P (ev.Off Centre) Off
     pub cut : (calls keep byte : ℕ) → P (ev.Cut Centre calls keep byte) (Cut calls keep byte)
-    pub register : (d origin : ℕ) (key : List ℕ) → P (ev.Register d origin key) (Call (call.Register d origin key))
-    pub opens : (w : ℕ) → P (ev.OpenCustomer w) (Call (call.Open w))
-    pub deposit : (w receipt amount : ℕ) → P (ev.Deposit w receipt amount) (Call (call.Deposit w receipt amount))
-    pub flag : (w : ℕ) (suspended : Bool) → P (ev.Flag w suspended) (Call (call.Flag w suspended))
-    pub balance : (w : ℕ) → P (ev.Balance w) (Call (call.Balance w))
-    pub give : (bytes : List ℕ) → P (ev.Give Centre bytes) (Call (call.Take bytes next))
+    pub register : (d origin : ℕ) (key : List ℕ) → P (ev.Register d origin key) (Call (call.Register (record { device = d; origin = origin; key = key })))
+    pub opens : (w : ℕ) → P (ev.OpenCustomer w) (Call (call.Open (record { customer = w })))
+    pub deposit : (w receipt amount : ℕ) → P (ev.Deposit w receipt amount) (Call (call.Deposit (record { customer = w; receipt = receipt; amount = amount })))
+    pub flag : (w : ℕ) (suspended : Bool) → P (ev.Flag w suspended) (Call (call.Flag (record { customer = w; suspended = suspended })))
+    pub balance : (w : ℕ) → P (ev.Balance w) (Call (call.Balance (record { customer = w })))
+    pub give : (bytes : List ℕ) → P (ev.Give Centre bytes) (Call (call.Take (record { bytes = bytes; message = next })))
     pub deliver : (k : ℕ) (asked : Asked CentreCall) → message_taken k next (slice_get pool k) ≡ take.Centre asked → P (ev.Deliver k) asked
 
   -- of the host
@@ -73,11 +73,11 @@ module _ (pool : List (List ℕ)) (quote : Quote) where
     pub on : P (ev.On Host) On
     pub off : P (ev.Off Host) Off
     pub cut : (calls keep byte : ℕ) → P (ev.Cut Host calls keep byte) (Cut calls keep byte)
-    pub order : (d piece class grams zone : ℕ) → P (ev.Order d piece class grams zone) (Call (host.Order d piece class grams zone (quote class grams zone)))
-    pub send : (j : ℕ) → P (ev.Send j) (Call (host.Send j next))
-    pub print : (j : ℕ) → P (ev.Print j) (Call (host.Print j))
-    pub close : (j : ℕ) → P (ev.Close j) (Call (host.Close j))
-    pub give : (bytes : List ℕ) → P (ev.Give Host bytes) (Call (host.Take bytes))
+    pub order : (d piece class grams zone : ℕ) → P (ev.Order d piece class grams zone) (Call (host.Order (record { device = d; piece = piece; class = class; grams = grams; zone = zone; price = quote class grams zone })))
+    pub send : (j : ℕ) → P (ev.Send j) (Call (host.Send (record { job = j; message = next })))
+    pub print : (j : ℕ) → P (ev.Print j) (Call (host.Print (record { job = j })))
+    pub close : (j : ℕ) → P (ev.Close j) (Call (host.Close (record { job = j })))
+    pub give : (bytes : List ℕ) → P (ev.Give Host bytes) (Call (host.Take (record { bytes = bytes })))
     pub deliver : (k : ℕ) (asked : Asked HostCall) → message_taken k next (slice_get pool k) ≡ take.Host asked → P (ev.Deliver k) asked
 
   -- of the verifier
@@ -85,9 +85,9 @@ module _ (pool : List (List ℕ)) (quote : Quote) where
     pub on : P (ev.On Verifier) On
     pub off : P (ev.Off Verifier) Off
     pub cut : (calls keep byte : ℕ) → P (ev.Cut Verifier calls keep byte) (Cut calls keep byte)
-    pub trust : (d : ℕ) (key : List ℕ) → P (ev.Trust d key) (Call (verifier.Trust d key))
-    pub scan : (n : ℕ) (bytes : List ℕ) → P (ev.ScanHex n bytes) (Call (verifier.Scan n bytes))
-    pub message : (n k : ℕ) (bytes : List ℕ) → slice_get pool k ≡ Some bytes → P (ev.ScanMsg n k) (Call (verifier.Scan n (drop 2 bytes)))
+    pub trust : (d : ℕ) (key : List ℕ) → P (ev.Trust d key) (Call (verifier.Trust (record { device = d; key = key })))
+    pub scan : (n : ℕ) (bytes : List ℕ) → P (ev.ScanHex n bytes) (Call (verifier.Scan (record { number = n; bytes = bytes })))
+    pub message : (n k : ℕ) (bytes : List ℕ) → slice_get pool k ≡ Some bytes → P (ev.ScanMsg n k) (Call (verifier.Scan (record { number = n; bytes = (drop 2 bytes) })))
 
   -- and of each event of no node
   pub record EachQuiet (P : Event → Taken → Type 0) : Type 0 where
@@ -126,16 +126,16 @@ module _ (pool : List (List ℕ)) (quote : Quote) where
       Holds x = message_taken k next (slice_get pool k) ≡ x → ByNode R D C H V (ev.Deliver k) x
 
       for_device : (d : ℕ) (t : Bool) → Holds (if t then takes.to_device d bytes next else takes.to_centre bytes next)
-      for_device d true is = each.devices.deliver k d (Call (device.Take bytes next)) is
-      for_device d false is = each.centre.deliver k (Call (call.Take bytes next)) is
+      for_device d true is = each.devices.deliver k d (Call (device.Take (record { bytes = bytes; message = next }))) is
+      for_device d false is = each.centre.deliver k (Call (call.Take (record { bytes = bytes; message = next }))) is
 
       delivered_as : (x : Result Message Unread) → Holds (takes.delivered_as bytes next x)
       delivered_as (Ok (m.Reply p)) is = for_device p.device (nat_le 1 p.device && nat_le p.device 8) is
       delivered_as (Ok (m.Debit q)) is = for_device q.device (nat_le 1 q.device && nat_le q.device 8) is
-      delivered_as (Ok (m.Release x)) is = each.host.deliver k (Call (host.Take bytes)) is
-      delivered_as (Ok (m.Request q)) is = each.centre.deliver k (Call (call.Take bytes next)) is
-      delivered_as (Ok (m.Done q)) is = each.centre.deliver k (Call (call.Take bytes next)) is
-      delivered_as (Err x) is = each.centre.deliver k (Call (call.Take bytes next)) is
+      delivered_as (Ok (m.Release x)) is = each.host.deliver k (Call (host.Take (record { bytes = bytes }))) is
+      delivered_as (Ok (m.Request q)) is = each.centre.deliver k (Call (call.Take (record { bytes = bytes; message = next }))) is
+      delivered_as (Ok (m.Done q)) is = each.centre.deliver k (Call (call.Take (record { bytes = bytes; message = next }))) is
+      delivered_as (Err x) is = each.centre.deliver k (Call (call.Take (record { bytes = bytes; message = next }))) is
 
     delivered_each : (k : ℕ) (o : Option (List ℕ)) → slice_get pool k ≡ o → ByNode R D C H V (ev.Deliver k) (message_taken k next o)
     delivered_each k None is = each.quiet.deliver k is
@@ -164,29 +164,29 @@ module _ (pool : List (List ℕ)) (quote : Quote) where
     each_taken (ev.Cut Centre calls keep byte) x h = found (ev.Cut Centre calls keep byte) x (take.Centre (Cut calls keep byte)) h (each.centre.cut calls keep byte)
     each_taken (ev.Cut Host calls keep byte) x h = found (ev.Cut Host calls keep byte) x (take.Host (Cut calls keep byte)) h (each.host.cut calls keep byte)
     each_taken (ev.Cut Verifier calls keep byte) x h = found (ev.Cut Verifier calls keep byte) x (take.Verifier (Cut calls keep byte)) h (each.verifier.cut calls keep byte)
-    each_taken (ev.Make d key) x h = found (ev.Make d key) x (take.Device d (Call (device.Make key))) h (each.devices.make d key)
-    each_taken (ev.Debit d piece postage class) x h = found (ev.Debit d piece postage class) x (take.Device d (Call (device.Debit piece postage class))) h (each.devices.debit d piece postage class)
-    each_taken (ev.Ask d kind who amount) x h = found (ev.Ask d kind who amount) x (take.Device d (Call (device.Ask kind who amount next))) h (each.devices.ask d kind who amount)
-    each_taken (ev.Resend d) x h = found (ev.Resend d) x (take.Device d (Call (device.Resend next))) h (each.devices.resend d)
-    each_taken (ev.Ack d) x h = found (ev.Ack d) x (take.Device d (Call (device.Ack next))) h (each.devices.ack d)
+    each_taken (ev.Make d key) x h = found (ev.Make d key) x (take.Device d (Call (device.Make (record { key = key })))) h (each.devices.make d key)
+    each_taken (ev.Debit d piece postage class) x h = found (ev.Debit d piece postage class) x (take.Device d (Call (device.Debit (record { piece = piece; postage = postage; class = class })))) h (each.devices.debit d piece postage class)
+    each_taken (ev.Ask d kind who amount) x h = found (ev.Ask d kind who amount) x (take.Device d (Call (device.Ask (record { kind = kind; customer = who; amount = amount; message = next })))) h (each.devices.ask d kind who amount)
+    each_taken (ev.Resend d) x h = found (ev.Resend d) x (take.Device d (Call (device.Resend (record { message = next })))) h (each.devices.resend d)
+    each_taken (ev.Ack d) x h = found (ev.Ack d) x (take.Device d (Call (device.Ack (record { message = next })))) h (each.devices.ack d)
     each_taken (ev.Status d) x h = found (ev.Status d) x (take.Device d (Call device.Status)) h (each.devices.status d)
-    each_taken (ev.Register d origin key) x h = found (ev.Register d origin key) x (take.Centre (Call (call.Register d origin key))) h (each.centre.register d origin key)
-    each_taken (ev.OpenCustomer w) x h = found (ev.OpenCustomer w) x (take.Centre (Call (call.Open w))) h (each.centre.opens w)
-    each_taken (ev.Deposit w receipt amount) x h = found (ev.Deposit w receipt amount) x (take.Centre (Call (call.Deposit w receipt amount))) h (each.centre.deposit w receipt amount)
-    each_taken (ev.Flag w suspended) x h = found (ev.Flag w suspended) x (take.Centre (Call (call.Flag w suspended))) h (each.centre.flag w suspended)
-    each_taken (ev.Balance w) x h = found (ev.Balance w) x (take.Centre (Call (call.Balance w))) h (each.centre.balance w)
+    each_taken (ev.Register d origin key) x h = found (ev.Register d origin key) x (take.Centre (Call (call.Register (record { device = d; origin = origin; key = key })))) h (each.centre.register d origin key)
+    each_taken (ev.OpenCustomer w) x h = found (ev.OpenCustomer w) x (take.Centre (Call (call.Open (record { customer = w })))) h (each.centre.opens w)
+    each_taken (ev.Deposit w receipt amount) x h = found (ev.Deposit w receipt amount) x (take.Centre (Call (call.Deposit (record { customer = w; receipt = receipt; amount = amount })))) h (each.centre.deposit w receipt amount)
+    each_taken (ev.Flag w suspended) x h = found (ev.Flag w suspended) x (take.Centre (Call (call.Flag (record { customer = w; suspended = suspended })))) h (each.centre.flag w suspended)
+    each_taken (ev.Balance w) x h = found (ev.Balance w) x (take.Centre (Call (call.Balance (record { customer = w })))) h (each.centre.balance w)
     each_taken (ev.Deliver k) x h = subst (ByNode R D C H V (ev.Deliver k)) (some-same h) (delivered_each k (slice_get pool k) refl)
-    each_taken (ev.Give (Device d) bytes) x h = found (ev.Give (Device d) bytes) x (take.Device d (Call (device.Take bytes next))) h (each.devices.give d bytes)
-    each_taken (ev.Give Centre bytes) x h = found (ev.Give Centre bytes) x (take.Centre (Call (call.Take bytes next))) h (each.centre.give bytes)
-    each_taken (ev.Give Host bytes) x h = found (ev.Give Host bytes) x (take.Host (Call (host.Take bytes))) h (each.host.give bytes)
+    each_taken (ev.Give (Device d) bytes) x h = found (ev.Give (Device d) bytes) x (take.Device d (Call (device.Take (record { bytes = bytes; message = next })))) h (each.devices.give d bytes)
+    each_taken (ev.Give Centre bytes) x h = found (ev.Give Centre bytes) x (take.Centre (Call (call.Take (record { bytes = bytes; message = next })))) h (each.centre.give bytes)
+    each_taken (ev.Give Host bytes) x h = found (ev.Give Host bytes) x (take.Host (Call (host.Take (record { bytes = bytes })))) h (each.host.give bytes)
     each_taken (ev.Give Verifier bytes) x h = absurd (none-some _ h)
-    each_taken (ev.Order d piece class grams zone) x h = found (ev.Order d piece class grams zone) x (take.Host (Call (host.Order d piece class grams zone (quote class grams zone)))) h (each.host.order d piece class grams zone)
-    each_taken (ev.Send j) x h = found (ev.Send j) x (take.Host (Call (host.Send j next))) h (each.host.send j)
-    each_taken (ev.Print j) x h = found (ev.Print j) x (take.Host (Call (host.Print j))) h (each.host.print j)
-    each_taken (ev.Close j) x h = found (ev.Close j) x (take.Host (Call (host.Close j))) h (each.host.close j)
-    each_taken (ev.Trust d key) x h = found (ev.Trust d key) x (take.Verifier (Call (verifier.Trust d key))) h (each.verifier.trust d key)
+    each_taken (ev.Order d piece class grams zone) x h = found (ev.Order d piece class grams zone) x (take.Host (Call (host.Order (record { device = d; piece = piece; class = class; grams = grams; zone = zone; price = quote class grams zone })))) h (each.host.order d piece class grams zone)
+    each_taken (ev.Send j) x h = found (ev.Send j) x (take.Host (Call (host.Send (record { job = j; message = next })))) h (each.host.send j)
+    each_taken (ev.Print j) x h = found (ev.Print j) x (take.Host (Call (host.Print (record { job = j })))) h (each.host.print j)
+    each_taken (ev.Close j) x h = found (ev.Close j) x (take.Host (Call (host.Close (record { job = j })))) h (each.host.close j)
+    each_taken (ev.Trust d key) x h = found (ev.Trust d key) x (take.Verifier (Call (verifier.Trust (record { device = d; key = key })))) h (each.verifier.trust d key)
     each_taken (ev.ScanMsg n k) x h = subst (ByNode R D C H V (ev.ScanMsg n k)) (some-same h) (scanned_each n k (slice_get pool k) refl)
-    each_taken (ev.ScanHex n bytes) x h = found (ev.ScanHex n bytes) x (take.Verifier (Call (verifier.Scan n bytes))) h (each.verifier.scan n bytes)
+    each_taken (ev.ScanHex n bytes) x h = found (ev.ScanHex n bytes) x (take.Verifier (Call (verifier.Scan (record { number = n; bytes = bytes })))) h (each.verifier.scan n bytes)
     each_taken (ev.Reconcile d) x h = found (ev.Reconcile d) x (take.Reconcile d) h (each.quiet.reconcile d)
 
   -- == of one kind alone ==

@@ -17,8 +17,8 @@ use Rattle.ledger_terms.specs.Rulings.{ruled_reply}
 use Rattle.ledger_lawful.specs.Further.{RepliesAreRuled}
 use Rattle.ledger_laws.proofs.Histories.{message-sent}
 use Rattle.ledger_moves.specs.Histories.{Unforged, IsKnown}
-use Rattle.bench_views.specs.declared.taken.DeviceCall.{DeviceCall}
-use Rattle.bench_views.specs.declared.taken.DeviceCall.TheVariants.{Make, Debit, Ask, Resend, Ack, Status, Take}
+use Rattle.bench_views.specs.declared.calls.DeviceCall.{DeviceCall}
+use Rattle.bench_views.specs.declared.calls.DeviceCall.TheVariants.{Make, Debit, Ask, Resend, Ack, Status, Take}
 use Rattle.bench_views.specs.declared.taken.Taken.TheVariants as take
 use Rattle.bench_views.specs.Taken as takes
 use Rattle.bench_views.specs.Taken.{taken}
@@ -35,13 +35,13 @@ module _ (H : Ledger) where
 
   -- so those that a call hands to the device
   abbrev pub OfCall : ℕ → DeviceCall → Type 0
-  OfCall d (Make key) = Unit {0}
-  OfCall d (Debit piece postage class) = Unit {0}
-  OfCall d (Ask kind who amount k) = Unit {0}
-  OfCall d (Resend k) = Unit {0}
-  OfCall d (Ack k) = Unit {0}
+  OfCall d (Make c) = Unit {0}
+  OfCall d (Debit c) = Unit {0}
+  OfCall d (Ask c) = Unit {0}
+  OfCall d (Resend c) = Unit {0}
+  OfCall d (Ack c) = Unit {0}
   OfCall d Status = Unit {0}
-  OfCall d (Take bytes k) = IsRuled d bytes
+  OfCall d (Take c) = IsRuled d c.bytes
 
   abbrev pub OfAsked : ℕ → Asked DeviceCall → Type 0
   OfAsked d On = Unit {0}
@@ -62,7 +62,7 @@ module _ (H : Ledger) (replied : RepliesAreRuled H) where
   for_device e d bytes k asked sent is = by (nat_le 1 e && nat_le e 8) is
     where
       by : (t : Bool) → (if t then takes.to_device e bytes k else takes.to_centre bytes k) ≡ take.Device d asked → OfAsked H d asked
-      by true same = let to : Call (Take bytes k) ≡ asked = cc in subst (OfAsked H d) to (was_sent d bytes sent)
+      by true same = let to : Call (Take (record { bytes = bytes; message = k })) ≡ asked = cc in subst (OfAsked H d) to (was_sent d bytes sent)
       by false same = cc
 
   delivered : (d k : ℕ) (bytes : List ℕ) (asked : Asked DeviceCall) (x : Result Message Unread) → IsSent bytes H → takes.delivered_as bytes k x ≡ take.Device d asked → OfAsked H d asked

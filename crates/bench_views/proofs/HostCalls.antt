@@ -39,8 +39,8 @@ use Rattle.host_jobs.specs.Rows.{Jobs, open_in, job_row}
 use Rattle.host_jobs.specs.Seen.{counting, cell_of, rows_in}
 use Rattle.host_jobs.specs.SeenLaws.{SeenLaws}
 use Rattle.host_jobs.specs.Turns.{InTurn}
-use Rattle.bench_views.specs.declared.taken.HostCall.{HostCall}
-use Rattle.bench_views.specs.declared.taken.HostCall.TheVariants as call
+use Rattle.bench_views.specs.declared.calls.HostCall.{HostCall}
+use Rattle.bench_views.specs.declared.calls.HostCall.TheVariants as call
 use Rattle.bench_views.specs.declared.taken.Taken.TheVariants as take
 use Rattle.bench_views.specs.Taken as takes
 use Rattle.bench_views.specs.Taken.{taken}
@@ -83,28 +83,28 @@ refused_quiet : (y : HostRefusal) → IsQuiet (r.HostRefused y)
 refused_quiet y = tt
 
 pub call_quiet : (c : HostCall) (rows : Jobs) → IsQuietAct (host_act c rows)
-call_quiet (call.Order d piece class grams zone price) rows = quiet_says r.HostRefused views.ordered refused_quiet (λ a. refl) (acts.order_act d piece class price rows)
-call_quiet (call.Send j k) rows = quiet_says r.HostRefused (views.sent j k) refused_quiet (λ note. refl) (acts.debit_message_act j rows)
-call_quiet (call.Print j) rows = quiet_says r.HostRefused (views.printed j) refused_quiet (λ mark. refl) (acts.begin_print_act j rows)
-call_quiet (call.Close j) rows = quiet_says r.HostRefused _ refused_quiet (λ u. refl) (acts.close_act j rows)
-call_quiet (call.Take bytes) rows = quiet_says r.HostRefused views.held refused_quiet (λ j. refl) (acts.take_act bytes rows)
+call_quiet (call.Order c) rows = quiet_says r.HostRefused views.ordered refused_quiet (λ a. refl) (acts.order_act c.device c.piece c.class c.price rows)
+call_quiet (call.Send c) rows = quiet_says r.HostRefused (views.sent c.job c.message) refused_quiet (λ note. refl) (acts.debit_message_act c.job rows)
+call_quiet (call.Print c) rows = quiet_says r.HostRefused (views.printed c.job) refused_quiet (λ mark. refl) (acts.begin_print_act c.job rows)
+call_quiet (call.Close c) rows = quiet_says r.HostRefused _ refused_quiet (λ u. refl) (acts.close_act c.job rows)
+call_quiet (call.Take c) rows = quiet_says r.HostRefused views.held refused_quiet (λ j. refl) (acts.take_act c.bytes rows)
 
 -- == what it is handed ==
 
 -- the device of an order is one of 1 to 8
 abbrev pub IsWholeCall : HostCall → Type 0
-IsWholeCall (call.Order d piece class grams zone price) = IsDevice d
-IsWholeCall (call.Send j k) = Unit {0}
-IsWholeCall (call.Print j) = Unit {0}
-IsWholeCall (call.Close j) = Unit {0}
-IsWholeCall (call.Take bytes) = Unit {0}
+IsWholeCall (call.Order c) = IsDevice c.device
+IsWholeCall (call.Send c) = Unit {0}
+IsWholeCall (call.Print c) = Unit {0}
+IsWholeCall (call.Close c) = Unit {0}
+IsWholeCall (call.Take c) = Unit {0}
 
 -- a message for a device is none for the host
 not_host : {P : Type 0} (d : ℕ) (bytes : List ℕ) (k : ℕ) (asked : Asked HostCall) (t : Bool) → (if t then takes.to_device d bytes k else takes.to_centre bytes k) ≡ take.Host asked → P
 not_host d bytes k asked true is = cc
 not_host d bytes k asked false is = cc
 
-delivered_asked : (bytes : List ℕ) (k : ℕ) (asked : Asked HostCall) (x : Result Message Unread) → takes.delivered_as bytes k x ≡ take.Host asked → asked ≡ Call (call.Take bytes)
+delivered_asked : (bytes : List ℕ) (k : ℕ) (asked : Asked HostCall) (x : Result Message Unread) → takes.delivered_as bytes k x ≡ take.Host asked → asked ≡ Call (call.Take (record { bytes = bytes }))
 delivered_asked bytes k asked (Ok (m.Release x)) is = cc
 delivered_asked bytes k asked (Ok (m.Request q)) is = cc
 delivered_asked bytes k asked (Ok (m.Done q)) is = cc
@@ -179,19 +179,19 @@ module _ (H : Ledger) (known : IsKnown (seen_after (counted H))) (turn : InTurn 
   take_good bytes = (sound_placed rows (acts.take_act bytes rows) (leaving.taken bytes), following.taken bytes)
 
   pub call_own : (c : HostCall) → IsWholeCall c → IsOfNode Host (host_act c rows)
-  call_own (call.Order d piece class grams zone price) whole = own_says Host _ _ (acts.order_act d piece class price rows) (own (acts.order_act d piece class price rows) (order_good d piece class price whole))
-  call_own (call.Send j k) whole = own_says Host _ _ (acts.debit_message_act j rows) (own (acts.debit_message_act j rows) (send_good j))
-  call_own (call.Print j) whole = own_says Host _ _ (acts.begin_print_act j rows) (own (acts.begin_print_act j rows) (print_good j))
-  call_own (call.Close j) whole = own_says Host _ _ (acts.close_act j rows) (own (acts.close_act j rows) (close_good j))
-  call_own (call.Take bytes) whole = own_says Host _ _ (acts.take_act bytes rows) (own (acts.take_act bytes rows) (take_good bytes))
+  call_own (call.Order c) whole = own_says Host _ _ (acts.order_act c.device c.piece c.class c.price rows) (own (acts.order_act c.device c.piece c.class c.price rows) (order_good c.device c.piece c.class c.price whole))
+  call_own (call.Send c) whole = own_says Host _ _ (acts.debit_message_act c.job rows) (own (acts.debit_message_act c.job rows) (send_good c.job))
+  call_own (call.Print c) whole = own_says Host _ _ (acts.begin_print_act c.job rows) (own (acts.begin_print_act c.job rows) (print_good c.job))
+  call_own (call.Close c) whole = own_says Host _ _ (acts.close_act c.job rows) (own (acts.close_act c.job rows) (close_good c.job))
+  call_own (call.Take c) whole = own_says Host _ _ (acts.take_act c.bytes rows) (own (acts.take_act c.bytes rows) (take_good c.bytes))
 
   pub call_right : (c : HostCall) → IsWholeCall c → IsRight counting Host seen_after H (host_act c rows)
-  call_right (call.Order d piece class grams zone price) whole =
-      right_says counting Host seen_after H _ _ (acts.order_act d piece class price rows) (right (acts.order_act d piece class price rows) (order_good d piece class price whole))
-  call_right (call.Send j k) whole = right_says counting Host seen_after H _ _ (acts.debit_message_act j rows) (right (acts.debit_message_act j rows) (send_good j))
-  call_right (call.Print j) whole = right_says counting Host seen_after H _ _ (acts.begin_print_act j rows) (right (acts.begin_print_act j rows) (print_good j))
-  call_right (call.Close j) whole = right_says counting Host seen_after H _ _ (acts.close_act j rows) (right (acts.close_act j rows) (close_good j))
-  call_right (call.Take bytes) whole = right_says counting Host seen_after H _ _ (acts.take_act bytes rows) (right (acts.take_act bytes rows) (take_good bytes))
+  call_right (call.Order c) whole =
+      right_says counting Host seen_after H _ _ (acts.order_act c.device c.piece c.class c.price rows) (right (acts.order_act c.device c.piece c.class c.price rows) (order_good c.device c.piece c.class c.price whole))
+  call_right (call.Send c) whole = right_says counting Host seen_after H _ _ (acts.debit_message_act c.job rows) (right (acts.debit_message_act c.job rows) (send_good c.job))
+  call_right (call.Print c) whole = right_says counting Host seen_after H _ _ (acts.begin_print_act c.job rows) (right (acts.begin_print_act c.job rows) (print_good c.job))
+  call_right (call.Close c) whole = right_says counting Host seen_after H _ _ (acts.close_act c.job rows) (right (acts.close_act c.job rows) (close_good c.job))
+  call_right (call.Take c) whole = right_says counting Host seen_after H _ _ (acts.take_act c.bytes rows) (right (acts.take_act c.bytes rows) (take_good c.bytes))
 
   -- == its plan ==
 
@@ -202,12 +202,12 @@ module _ (H : Ledger) (known : IsKnown (seen_after (counted H))) (turn : InTurn 
       ∙ at_seen counting Host seen_after H (says say act) (own_says Host r.HostRefused say act (own act good)) (worn_says counting Host seen_after H r.HostRefused say act (worn_alike act good))
 
   -- by the next message
-  sends : (j : ℕ) → at_node Host H (send_plan (length (sent_in H)) j (shown_state j C) (job_of j C)) ≡ seen_plan counting Host (view_of H) (host_act (call.Send j (length (sent_in H))) rows)
+  sends : (j : ℕ) → at_node Host H (send_plan (length (sent_in H)) j (shown_state j C) (job_of j C)) ≡ seen_plan counting Host (view_of H) (host_act (call.Send (record { job = j; message = length (sent_in H) })) rows)
   sends j =
       at _ (views.sent j (length (sent_in H))) (acts.debit_message_act j rows) (send_good j)
       (sym (plans.sent (length (sent_in H)) j) ∙ plan_says _ _ _ _ (λ note. refl) (λ note. refl) (acts.debit_message_act j rows))
 
-  handed : (bytes : List ℕ) → host_plan bytes H ≡ seen_plan counting Host (view_of H) (host_act (call.Take bytes) rows)
+  handed : (bytes : List ℕ) → host_plan bytes H ≡ seen_plan counting Host (view_of H) (host_act (call.Take (record { bytes = bytes })) rows)
   handed bytes =
       at (host_take (read bytes) C) views.held (acts.take_act bytes rows) (take_good bytes)
       (sym (plans.taken bytes) ∙ plan_says _ _ _ _ (λ j. refl) (λ j. refl) (acts.take_act bytes rows))

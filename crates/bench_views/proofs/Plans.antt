@@ -48,8 +48,8 @@ use Rattle.ledger_moves.specs.Tariffs.{Tariff}
 use Rattle.ledger_moves.specs.Devices as device
 use Rattle.ledger_moves.specs.Devices.{record_in, record_with}
 use Rattle.ledger_moves.specs.Moves.{plan, at_node, debit_by, deliver_to, deliver_plan, device_plan}
-use Rattle.bench_views.specs.declared.taken.DeviceCall.{DeviceCall}
-use Rattle.bench_views.specs.declared.taken.DeviceCall.TheVariants.{Make, Debit, Ask, Resend, Ack, Status, Take}
+use Rattle.bench_views.specs.declared.calls.DeviceCall.{DeviceCall}
+use Rattle.bench_views.specs.declared.calls.DeviceCall.TheVariants.{Make, Debit, Ask, Resend, Ack, Status, Take}
 use Rattle.bench_views.specs.declared.taken.Taken.TheVariants as take
 use Rattle.bench_views.specs.Taken as takes
 use Rattle.bench_views.specs.Taken.{taken}
@@ -131,13 +131,13 @@ module _ (d : ℕ) where
   message_own bytes today s (Err x) = tt
 
   pub call_own : (today : ℤ) (call : DeviceCall) (s : Option State) → IsOfNode (Device d) (device_act d today call s)
-  call_own today (Make key) s = own_says (Device d) _ _ (make_act d key s) (make_own key s)
-  call_own today (Debit piece postage class) s = own_says (Device d) _ _ (debit_act todays_rules d (debit_by d piece postage class) today s) (debit_own (debit_by d piece postage class) today s)
-  call_own today (Ask kind who amount k) s = own_says (Device d) _ _ (ask_act todays_rules d kind who amount today s) (ask_own kind who amount today s)
-  call_own today (Resend k) s = own_says (Device d) _ _ (resend_act s) (resend_own s)
-  call_own today (Ack k) s = own_says (Device d) _ _ (ack_act s) (ack_own s)
+  call_own today (Make c) s = own_says (Device d) _ _ (make_act d c.key s) (make_own c.key s)
+  call_own today (Debit c) s = own_says (Device d) _ _ (debit_act todays_rules d (debit_by d c.piece c.postage c.class) today s) (debit_own (debit_by d c.piece c.postage c.class) today s)
+  call_own today (Ask c) s = own_says (Device d) _ _ (ask_act todays_rules d c.kind c.customer c.amount today s) (ask_own c.kind c.customer c.amount today s)
+  call_own today (Resend c) s = own_says (Device d) _ _ (resend_act s) (resend_own s)
+  call_own today (Ack c) s = own_says (Device d) _ _ (ack_act s) (ack_own s)
   call_own today Status s = own_says (Device d) _ _ (status_act today s) (status_own today s)
-  call_own today (Take bytes k) s = own_says (Device d) _ _ (take_act todays_rules d bytes today s) (message_own bytes today s (read bytes))
+  call_own today (Take c) s = own_says (Device d) _ _ (take_act todays_rules d c.bytes today s) (message_own c.bytes today s (read c.bytes))
 
   -- a device's commit goes into its one cell
   own_cell : (c : Commit) → node_of c ≡ Device d → place_of c ≡ OfDevice d
@@ -180,7 +180,7 @@ module _ (H : Ledger) (resending : ResendingRepeats) where
     by_plan p today call is = ap (at_node (Device d) H) is ∙ at today call
 
     ask_is : (kind : Kind) (who amount : ℕ) (today : ℤ) (k : ℕ) (o : Option (List ℕ))
-        → device.ask_plan todays_rules d kind who amount today k C o ≡ said_plan (device_act d today (Ask kind who amount k) (record_with d C o))
+        → device.ask_plan todays_rules d kind who amount today k C o ≡ said_plan (device_act d today (Ask (record { kind = kind; customer = who; amount = amount; message = k })) (record_with d C o))
     ask_is kind who amount today k None = refl
     ask_is kind who amount today k (Some key) = by (ask_answer todays_rules s kind who amount today) refl
       where
@@ -192,7 +192,7 @@ module _ (H : Ledger) (resending : ResendingRepeats) where
         by (Err x) is = refl
         by (Ok x) is = ap (λ (n : ℕ). plans.made (r.SentRequest d n k) (c.Asked d (s.number + 1) x.1) (entry.Sent x.1 ∷ [])) (sym (counts_on (not_full s kind who amount today x is)))
 
-    ack_is : (today : ℤ) (k : ℕ) (o : Option (List ℕ)) → device.ack_plan d k C o ≡ said_plan (device_act d today (Ack k) (record_with d C o))
+    ack_is : (today : ℤ) (k : ℕ) (o : Option (List ℕ)) → device.ack_plan d k C o ≡ said_plan (device_act d today (Ack (record { message = k })) (record_with d C o))
     ack_is today k None = refl
     ack_is today k (Some key) = plan_says _ _ _ _ (λ note. refl) (λ note. refl) (ack_act (Some (state_of d key C)))
 
@@ -201,7 +201,7 @@ module _ (H : Ledger) (resending : ResendingRepeats) where
     numbered key w out ok = ap (λ (x : ℕ × List ℕ). x.0) (same_Some _ _ out) ∙ ok.number
 
     resend_by : (today : ℤ) (k : ℕ) (key : List ℕ) (w : Option (ℕ × List ℕ)) → pending d C ≡ w → key_of d C ≡ Some key → Holds (state_of d key C)
-        → device.resend_plan d k (Some key) w ≡ said_plan (device_act d today (Resend k) (Some (state_of d key C)))
+        → device.resend_plan d k (Some key) w ≡ said_plan (device_act d today (Resend (record { message = k })) (Some (state_of d key C)))
     resend_by today k key None is made holds = rw is refl
     resend_by today k key (Some w) is made holds =
         let record_is = records key made in
@@ -215,7 +215,7 @@ module _ (H : Ledger) (resending : ResendingRepeats) where
         fits : PendingOk d (number d C) (state_of d key C).phase (state_of d key C).registers (waiting (Some w)) → number d C ≢ 4294967295
         fits ok = λ full. let small = ok.whole.1.1.1.1.0 in omega (arith, small, ok.number, full)
 
-    resend_is : (today : ℤ) (k : ℕ) (o : Option (List ℕ)) → key_of d C ≡ o → device.resend_plan d k o (pending d C) ≡ said_plan (device_act d today (Resend k) (record_with d C o))
+    resend_is : (today : ℤ) (k : ℕ) (o : Option (List ℕ)) → key_of d C ≡ o → device.resend_plan d k o (pending d C) ≡ said_plan (device_act d today (Resend (record { message = k })) (record_with d C o))
     resend_is today k None made = refl
     resend_is today k (Some key) made = resend_by today k key (pending d C) refl made (holds_in made)
       where
@@ -231,24 +231,24 @@ module _ (H : Ledger) (resending : ResendingRepeats) where
     took_tells k (taken_as.Released piece x again) = refl
 
     take_is : (bytes : List ℕ) (today : ℤ) (k : ℕ) (o : Option (List ℕ))
-        → device.device_take todays_rules k today d bytes (read bytes) C o ≡ said_plan (device_act d today (Take bytes k) (record_with d C o))
+        → device.device_take todays_rules k today d bytes (read bytes) C o ≡ said_plan (device_act d today (Take (record { bytes = bytes; message = k })) (record_with d C o))
     take_is bytes today k o = plan_says _ _ _ _ (took_reply k) (took_tells k) (take_act todays_rules d bytes today (record_with d C o))
 
     -- what it is handed, by message k
-    handed : (bytes : List ℕ) (today : ℤ) (k : ℕ) → messages H ≡ k → device_plan todays_rules today d bytes H ≡ seen_plan counting (Device d) (view_of d H) (device_act d today (Take bytes k) (record_in d C))
+    handed : (bytes : List ℕ) (today : ℤ) (k : ℕ) → messages H ≡ k → device_plan todays_rules today d bytes H ≡ seen_plan counting (Device d) (view_of d H) (device_act d today (Take (record { bytes = bytes; message = k })) (record_in d C))
     handed bytes today k is =
-        ap (λ (n : ℕ). at_node (Device d) H (device.device_take todays_rules n today d bytes (read bytes) C (key_of d C))) is ∙ by_plan _ today (Take bytes k) (take_is bytes today k (key_of d C))
+        ap (λ (n : ℕ). at_node (Device d) H (device.device_take todays_rules n today d bytes (read bytes) C (key_of d C))) is ∙ by_plan _ today (Take (record { bytes = bytes; message = k })) (take_is bytes today k (key_of d C))
 
   -- a message for device d
-  for_device : (today : ℤ) (e d k : ℕ) (bytes : List ℕ) (asked : AskedOf DeviceCall) → takes.for_device e bytes k ≡ take.Device d asked → (e ≡ d) × (asked ≡ Call (Take bytes k))
+  for_device : (today : ℤ) (e d k : ℕ) (bytes : List ℕ) (asked : AskedOf DeviceCall) → takes.for_device e bytes k ≡ take.Device d asked → (e ≡ d) × (asked ≡ Call (Take (record { bytes = bytes; message = k })))
   for_device today e d k bytes asked is = by (nat_le 1 e && nat_le e 8) is
     where
-      by : (b : Bool) → (if b then takes.to_device e bytes k else takes.to_centre bytes k) ≡ take.Device d asked → (e ≡ d) × (asked ≡ Call (Take bytes k))
+      by : (b : Bool) → (if b then takes.to_device e bytes k else takes.to_centre bytes k) ≡ take.Device d asked → (e ≡ d) × (asked ≡ Call (Take (record { bytes = bytes; message = k })))
       by true same = (cc, cc)
       by false same = cc
 
   delivered : (today : ℤ) (d k : ℕ) (bytes : List ℕ) (asked : AskedOf DeviceCall) (x : Result Message Unread) → read bytes ≡ x → takes.delivered_as bytes k x ≡ take.Device d asked
-      → (deliver_to todays_rules today bytes x H ≡ device_plan todays_rules today d bytes H) × (asked ≡ Call (Take bytes k))
+      → (deliver_to todays_rules today bytes x H ≡ device_plan todays_rules today d bytes H) × (asked ≡ Call (Take (record { bytes = bytes; message = k })))
   delivered today d k bytes asked (Ok (m.Reply p)) reads is = let at = for_device today p.device d k bytes asked is in (ap (λ (i : ℕ). device_plan todays_rules today i bytes H) at.0, at.1)
   delivered today d k bytes asked (Ok (m.Debit q)) reads is = let at = for_device today q.device d k bytes asked is in (ap (λ (i : ℕ). device_plan todays_rules today i bytes H) at.0, at.1)
   delivered today d k bytes asked (Ok (m.Release x)) reads is = cc
@@ -276,12 +276,12 @@ module _ (H : Ledger) (resending : ResendingRepeats) where
     on = λ d known. rw day refl;
     off = λ d known. rw day refl;
     cut = λ d calls keep byte known. rw day refl;
-    make = λ d key known. rw day (by_plan d known.0 known.1 _ today (Make key) (plan_says _ _ _ _ (λ u. refl) (λ u. refl) (make_act d key (record_in d (counted H)))));
+    make = λ d key known. rw day (by_plan d known.0 known.1 _ today (Make (record { key = key })) (plan_says _ _ _ _ (λ u. refl) (λ u. refl) (make_act d key (record_in d (counted H)))));
     debit = λ d piece postage class known.
-        rw day (by_plan d known.0 known.1 _ today (Debit piece postage class) (plan_says _ _ _ _ (λ f. refl) (λ f. refl) (debit_act todays_rules d (debit_by d piece postage class) today (record_in d (counted H)))));
-    ask = λ d kind who amount known. rw (day, sym (sent_many H)) (by_plan d known.0 known.1 _ today (Ask kind who amount (length (sent_in H))) (ask_is d known.0 known.1 kind who amount today (length (sent_in H)) (key_of d (counted H))));
-    resend = λ d known. rw (day, sym (sent_many H)) (by_plan d known.0 known.1 _ today (Resend (length (sent_in H))) (resend_is d known.0 known.1 today (length (sent_in H)) (key_of d (counted H)) refl));
-    ack = λ d known. rw (day, sym (sent_many H)) (by_plan d known.0 known.1 _ today (Ack (length (sent_in H))) (ack_is d known.0 known.1 today (length (sent_in H)) (key_of d (counted H))));
+        rw day (by_plan d known.0 known.1 _ today (Debit (record { piece = piece; postage = postage; class = class })) (plan_says _ _ _ _ (λ f. refl) (λ f. refl) (debit_act todays_rules d (debit_by d piece postage class) today (record_in d (counted H)))));
+    ask = λ d kind who amount known. rw (day, sym (sent_many H)) (by_plan d known.0 known.1 _ today (Ask (record { kind = kind; customer = who; amount = amount; message = length (sent_in H) })) (ask_is d known.0 known.1 kind who amount today (length (sent_in H)) (key_of d (counted H))));
+    resend = λ d known. rw (day, sym (sent_many H)) (by_plan d known.0 known.1 _ today (Resend (record { message = length (sent_in H) })) (resend_is d known.0 known.1 today (length (sent_in H)) (key_of d (counted H)) refl));
+    ack = λ d known. rw (day, sym (sent_many H)) (by_plan d known.0 known.1 _ today (Ack (record { message = length (sent_in H) })) (ack_is d known.0 known.1 today (length (sent_in H)) (key_of d (counted H))));
     status = λ d known. rw day (by_plan d known.0 known.1 _ today Status (plan_says _ _ _ _ (λ w. refl) (λ w. refl) (status_act today (record_in d (counted H)))));
     give = λ d bytes known. rw day (handed d known.0 known.1 bytes today (length (sent_in H)) (sym (sent_many H)));
     deliver = λ k d asked is known. rw day (delivered_plan τ today k d asked (message k H) refl (subst (λ (o : Option (List ℕ)). takes.message_taken k (length (sent_in H)) o ≡ take.Device d asked) (sent_at H k) is) known);

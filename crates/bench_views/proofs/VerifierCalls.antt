@@ -29,8 +29,8 @@ use Rattle.verifier.specs.Acts.{ScanAct, trust_act, scan_act}
 use Rattle.verifier.specs.ActLaws.{LeavesSound, SoundActs, ActsLeaveSound, IsNext, FollowsCommits, FollowingActs, ActsFollow, PlannedActs, ActsArePlanned}
 use Rattle.verifier.specs.Records.{seen_after, IsRecorded}
 use Rattle.verifier.specs.Seen.{Seen, cell_of, counting}
-use Rattle.bench_views.specs.declared.taken.VerifierCall.{VerifierCall}
-use Rattle.bench_views.specs.declared.taken.VerifierCall.TheVariants as call
+use Rattle.bench_views.specs.declared.calls.VerifierCall.{VerifierCall}
+use Rattle.bench_views.specs.declared.calls.VerifierCall.TheVariants as call
 use Rattle.bench_views.specs.declared.taken.Taken.TheVariants as take
 use Rattle.bench_views.specs.Taken.{taken}
 use Rattle.bench_views.specs.Tariff.{Quote}
@@ -44,8 +44,8 @@ use Rattle.bench_views.proofs.Steps.{IsQuiet, IsQuietAct, IsRight, quiet_says, r
 
 -- the numbers of the call fit their fields
 abbrev pub IsWholeCall : VerifierCall → Type 0
-IsWholeCall (call.Trust d key) = IsDevice d × IsKey key
-IsWholeCall (call.Scan n bytes) = IsCount n × IsBytes bytes
+IsWholeCall (call.Trust c) = IsDevice c.device × IsKey c.key
+IsWholeCall (call.Scan c) = IsCount c.number × IsBytes c.bytes
 
 -- == what is said ==
 
@@ -53,8 +53,8 @@ refused_quiet : (y : ScanRefusal) → IsQuiet (r.ScanRefused y)
 refused_quiet y = tt
 
 pub call_quiet : (today : ℤ) (c : VerifierCall) (s : Seen) → IsQuietAct (verifier_act today c s)
-call_quiet today (call.Trust d key) s = quiet_says r.ScanRefused _ refused_quiet (λ u. refl) (trust_act d key s)
-call_quiet today (call.Scan n bytes) s = quiet_says r.ScanRefused (accepted n) refused_quiet (λ a. refl) (scan_act n bytes today s)
+call_quiet today (call.Trust c) s = quiet_says r.ScanRefused _ refused_quiet (λ u. refl) (trust_act c.device c.key s)
+call_quiet today (call.Scan c) s = quiet_says r.ScanRefused (accepted c.number) refused_quiet (λ a. refl) (scan_act c.number c.bytes today s)
 
 -- == at a ledger ==
 
@@ -107,12 +107,12 @@ module _ (H : Ledger) (recorded : IsRecorded (counted H)) (known : IsKnown (seen
   scan_good n bytes today count are = (leaving.scanned n bytes today count are, following.scanned n bytes today count are)
 
   pub call_own : (today : ℤ) (c : VerifierCall) → IsWholeCall c → IsOfNode Verifier (verifier_act today c s)
-  call_own today (call.Trust d key) whole = own_says Verifier _ _ (trust_act d key s) (own (trust_act d key s) (trust_good d key whole.0 whole.1))
-  call_own today (call.Scan n bytes) whole = own_says Verifier _ _ (scan_act n bytes today s) (own (scan_act n bytes today s) (scan_good n bytes today whole.0 whole.1))
+  call_own today (call.Trust c) whole = own_says Verifier _ _ (trust_act c.device c.key s) (own (trust_act c.device c.key s) (trust_good c.device c.key whole.0 whole.1))
+  call_own today (call.Scan c) whole = own_says Verifier _ _ (scan_act c.number c.bytes today s) (own (scan_act c.number c.bytes today s) (scan_good c.number c.bytes today whole.0 whole.1))
 
   pub call_right : (today : ℤ) (c : VerifierCall) → IsWholeCall c → IsRight counting Verifier seen_after H (verifier_act today c s)
-  call_right today (call.Trust d key) whole = right_says counting Verifier seen_after H _ _ (trust_act d key s) (right (trust_act d key s) (trust_good d key whole.0 whole.1))
-  call_right today (call.Scan n bytes) whole = right_says counting Verifier seen_after H _ _ (scan_act n bytes today s) (right (scan_act n bytes today s) (scan_good n bytes today whole.0 whole.1))
+  call_right today (call.Trust c) whole = right_says counting Verifier seen_after H _ _ (trust_act c.device c.key s) (right (trust_act c.device c.key s) (trust_good c.device c.key whole.0 whole.1))
+  call_right today (call.Scan c) whole = right_says counting Verifier seen_after H _ _ (scan_act c.number c.bytes today s) (right (scan_act c.number c.bytes today s) (scan_good c.number c.bytes today whole.0 whole.1))
 
   -- == its plan ==
 
@@ -123,7 +123,7 @@ module _ (H : Ledger) (recorded : IsRecorded (counted H)) (known : IsKnown (seen
       ∙ at_seen counting Verifier seen_after H (says say act) (own_says Verifier r.ScanRefused say act (own act good)) (worn_says counting Verifier seen_after H r.ScanRefused say act (worn_alike act good))
 
   -- bytes that are scanned
-  scans : (today : ℤ) (n : ℕ) (bytes : List ℕ) → IsCount n → IsBytes bytes → scan_plan n today bytes H ≡ seen_plan counting Verifier (view_of H) (verifier_act today (call.Scan n bytes) s)
+  scans : (today : ℤ) (n : ℕ) (bytes : List ℕ) → IsCount n → IsBytes bytes → scan_plan n today bytes H ≡ seen_plan counting Verifier (view_of H) (verifier_act today (call.Scan (record { number = n; bytes = bytes })) s)
   scans today n bytes count are = at _ (accepted n) (scan_act n bytes today s) (scan_good n bytes today count are)
       (sym (plans.scanned n bytes today are) ∙ plan_says _ _ _ _ (λ a. refl) (λ a. refl) (scan_act n bytes today s))
 

@@ -33,8 +33,8 @@ use Rattle.ledger_terms.specs.Rulings.{own_customer, stored_reply}
 use Rattle.ledger_terms.specs.Centres.{registered, enrolled, withdrawn, ruled, settled, opened, suspended, deposits, receipt}
 use Rattle.centre_ledger.specs.Seen.{Seen, counting, books_in}
 use Rattle.centre_ledger.specs.Acts as acts
-use Rattle.bench_views.specs.declared.taken.CentreCall.{CentreCall}
-use Rattle.bench_views.specs.declared.taken.CentreCall.TheVariants as call
+use Rattle.bench_views.specs.declared.calls.CentreCall.{CentreCall}
+use Rattle.bench_views.specs.declared.calls.CentreCall.TheVariants as call
 
 -- == its record ==
 
@@ -114,24 +114,24 @@ abbrev pub says : {A : Type 0} → (A → Said) → CentreAct A → Act Row Repl
 says say act = saying r.CentreRefused say act
 
 abbrev pub centre_act : CentreCall → Books → Act Row Reply Said
-centre_act (call.Register d origin key) b = says (done (r.Registered d)) (acts.register_act d origin key b)
-centre_act (call.Open w) b = says (done (r.Opened w)) (acts.open_act w b)
-centre_act (call.Deposit w n a) b = says (deposited w n) (acts.deposit_act w n a b)
-centre_act (call.Flag w flag) b = says (done (r.Flagged w flag)) (acts.flag_act w flag b)
-centre_act (call.Balance w) b = says (left w) (acts.balance_act w b)
-centre_act (call.Take bytes k) b = says (took k) (acts.take_act bytes b)
+centre_act (call.Register c) b = says (done (r.Registered c.device)) (acts.register_act c.device c.origin c.key b)
+centre_act (call.Open c) b = says (done (r.Opened c.customer)) (acts.open_act c.customer b)
+centre_act (call.Deposit c) b = says (deposited c.customer c.receipt) (acts.deposit_act c.customer c.receipt c.amount b)
+centre_act (call.Flag c) b = says (done (r.Flagged c.customer c.suspended)) (acts.flag_act c.customer c.suspended b)
+centre_act (call.Balance c) b = says (left c.customer) (acts.balance_act c.customer b)
+centre_act (call.Take c) b = says (took c.message) (acts.take_act c.bytes b)
 
 abbrev pub centre_kind : Kind (Unit {0}) Seen CentreCall
 centre_kind = kind_by counting (λ u. Centre) (λ u. seen_in) (λ u today c s. centre_act c (books_in s))
 
 -- what it is handed is a list of bytes
 abbrev pub IsBytesCall : CentreCall → Type 0
-IsBytesCall (call.Register d origin key) = Unit {0}
-IsBytesCall (call.Open w) = Unit {0}
-IsBytesCall (call.Deposit w n a) = Unit {0}
-IsBytesCall (call.Flag w flag) = Unit {0}
-IsBytesCall (call.Balance w) = Unit {0}
-IsBytesCall (call.Take bytes k) = IsBytes bytes
+IsBytesCall (call.Register c) = Unit {0}
+IsBytesCall (call.Open c) = Unit {0}
+IsBytesCall (call.Deposit c) = Unit {0}
+IsBytesCall (call.Flag c) = Unit {0}
+IsBytesCall (call.Balance c) = Unit {0}
+IsBytesCall (call.Take c) = IsBytes c.bytes
 
 abbrev pub AreBytes : Asked CentreCall → Type 0
 AreBytes On = Unit {0}

@@ -24,8 +24,8 @@ use Rattle.psd_state.specs.declared.acts.Taken.{Taken}
 use Rattle.psd_state.specs.declared.acts.Taken.TheVariants as taken
 use Rattle.ledger_moves.specs.Devices.{record_in}
 use Rattle.ledger_moves.specs.Moves.{debit_by}
-use Rattle.bench_views.specs.declared.taken.DeviceCall.{DeviceCall}
-use Rattle.bench_views.specs.declared.taken.DeviceCall.TheVariants.{Make, Debit, Ask, Resend, Ack, Status, Take}
+use Rattle.bench_views.specs.declared.calls.DeviceCall.{DeviceCall}
+use Rattle.bench_views.specs.declared.calls.DeviceCall.TheVariants.{Make, Debit, Ask, Resend, Ack, Status, Take}
 
 abbrev pub seen_in : ℕ → List Commit → Seen
 seen_in d C = record { count = count_of (Device d) C; state = record_in d C }
@@ -82,13 +82,13 @@ abbrev pub says : {A : Type 0} → ℕ → (A → Said) → DeviceAct A → Act 
 says d say act = saying (r.DevRefused d) say act
 
 abbrev pub device_act : ℕ → ℤ → DeviceCall → Option State → Act State Reply Said
-device_act d today (Make key) s = says d (λ u. made d) (make_act d key s)
-device_act d today (Debit piece postage class) s = says d (marked d piece) (debit_act todays_rules d (debit_by d piece postage class) today s)
-device_act d today (Ask kind who amount k) s = says d (asked d k s) (ask_act todays_rules d kind who amount today s)
-device_act d today (Resend k) s = says d (asked d k s) (resend_act s)
-device_act d today (Ack k) s = says d (sent (r.SentDone d (number_in s) k)) (ack_act s)
+device_act d today (Make c) s = says d (λ u. made d) (make_act d c.key s)
+device_act d today (Debit c) s = says d (marked d c.piece) (debit_act todays_rules d (debit_by d c.piece c.postage c.class) today s)
+device_act d today (Ask c) s = says d (asked d c.message s) (ask_act todays_rules d c.kind c.customer c.amount today s)
+device_act d today (Resend c) s = says d (asked d c.message s) (resend_act s)
+device_act d today (Ack c) s = says d (sent (r.SentDone d (number_in s) c.message)) (ack_act s)
 device_act d today Status s = says d (shown d) (status_act today s)
-device_act d today (Take bytes k) s = says d (took d k) (take_act todays_rules d bytes today s)
+device_act d today (Take c) s = says d (took d c.message) (take_act todays_rules d c.bytes today s)
 
 abbrev pub device_kind : Kind ℕ Seen DeviceCall
 device_kind = kind_by counting (λ d. Device d) seen_in (λ d today call s. device_act d today call s.state)

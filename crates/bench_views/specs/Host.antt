@@ -21,8 +21,8 @@ use Rattle.host_jobs.specs.Seen.{Seen, counting, rows_in}
 use Rattle.host_jobs.specs.Soundness.{AreSound}
 use Rattle.host_jobs.specs.Acts.{HostAct}
 use Rattle.host_jobs.specs.Acts as acts
-use Rattle.bench_views.specs.declared.taken.HostCall.{HostCall}
-use Rattle.bench_views.specs.declared.taken.HostCall.TheVariants as call
+use Rattle.bench_views.specs.declared.calls.HostCall.{HostCall}
+use Rattle.bench_views.specs.declared.calls.HostCall.TheVariants as call
 
 -- == its record ==
 
@@ -59,11 +59,11 @@ abbrev pub says : {A : Type 0} → (A → Said) → HostAct A → Act JobRow Rep
 says say act = saying r.HostRefused say act
 
 abbrev pub host_act : HostCall → Jobs → Act JobRow Reply Said
-host_act (call.Order d piece class grams zone price) rows = says ordered (acts.order_act d piece class price rows)
-host_act (call.Send j k) rows = says (sent j k) (acts.debit_message_act j rows)
-host_act (call.Print j) rows = says (printed j) (acts.begin_print_act j rows)
-host_act (call.Close j) rows = says (done (r.Closed j)) (acts.close_act j rows)
-host_act (call.Take bytes) rows = says held (acts.take_act bytes rows)
+host_act (call.Order c) rows = says ordered (acts.order_act c.device c.piece c.class c.price rows)
+host_act (call.Send c) rows = says (sent c.job c.message) (acts.debit_message_act c.job rows)
+host_act (call.Print c) rows = says (printed c.job) (acts.begin_print_act c.job rows)
+host_act (call.Close c) rows = says (done (r.Closed c.job)) (acts.close_act c.job rows)
+host_act (call.Take c) rows = says held (acts.take_act c.bytes rows)
 
 abbrev pub host_kind : Kind (Unit {0}) Seen HostCall
 host_kind = kind_by counting (λ u. Host) (λ u. seen_after) (λ u today c s. host_act c (rows_in s))

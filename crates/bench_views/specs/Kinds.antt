@@ -7,10 +7,10 @@ use Rattle.psd_state.specs.Seen as device
 use Rattle.centre_ledger.specs.Seen as centre
 use Rattle.host_jobs.specs.Seen as host
 use Rattle.verifier.specs.Seen as verifier
-use Rattle.bench_views.specs.declared.taken.DeviceCall.{DeviceCall}
-use Rattle.bench_views.specs.declared.taken.CentreCall.{CentreCall}
-use Rattle.bench_views.specs.declared.taken.HostCall.{HostCall}
-use Rattle.bench_views.specs.declared.taken.VerifierCall.{VerifierCall}
+use Rattle.bench_views.specs.declared.calls.DeviceCall.{DeviceCall}
+use Rattle.bench_views.specs.declared.calls.CentreCall.{CentreCall}
+use Rattle.bench_views.specs.declared.calls.HostCall.{HostCall}
+use Rattle.bench_views.specs.declared.calls.VerifierCall.{VerifierCall}
 use Rattle.bench_views.specs.Devices.{device_kind}
 use Rattle.bench_views.specs.Centre.{centre_kind}
 use Rattle.bench_views.specs.Host.{host_kind}

@@ -13,14 +13,14 @@ use Rattle.psd_wire.specs.declared.message.Message.TheVariants as m
 use Rattle.psd_wire.specs.Grammar.{read}
 use Rattle.host_jobs.specs.ActLaws.{IsPrice}
 use Rattle.bench_views.specs.Tariff.{Quote}
-use Rattle.bench_views.specs.declared.taken.DeviceCall.{DeviceCall}
-use Rattle.bench_views.specs.declared.taken.DeviceCall.TheVariants as device
-use Rattle.bench_views.specs.declared.taken.CentreCall.{CentreCall}
-use Rattle.bench_views.specs.declared.taken.CentreCall.TheVariants as centre
-use Rattle.bench_views.specs.declared.taken.HostCall.{HostCall}
-use Rattle.bench_views.specs.declared.taken.HostCall.TheVariants as host
-use Rattle.bench_views.specs.declared.taken.VerifierCall.{VerifierCall}
-use Rattle.bench_views.specs.declared.taken.VerifierCall.TheVariants as verifier
+use Rattle.bench_views.specs.declared.calls.DeviceCall.{DeviceCall}
+use Rattle.bench_views.specs.declared.calls.DeviceCall.TheVariants as device
+use Rattle.bench_views.specs.declared.calls.CentreCall.{CentreCall}
+use Rattle.bench_views.specs.declared.calls.CentreCall.TheVariants as centre
+use Rattle.bench_views.specs.declared.calls.HostCall.{HostCall}
+use Rattle.bench_views.specs.declared.calls.HostCall.TheVariants as host
+use Rattle.bench_views.specs.declared.calls.VerifierCall.{VerifierCall}
+use Rattle.bench_views.specs.declared.calls.VerifierCall.TheVariants as verifier
 use Rattle.bench_views.specs.declared.taken.Taken.{Taken}
 use Rattle.bench_views.specs.declared.taken.Taken.TheVariants as take
 
@@ -47,16 +47,16 @@ of_verifier call = take.Verifier (Call call)
 
 -- bytes for a device, for the centre, for the host; and bytes that are scanned under number n
 abbrev pub to_device : ℕ → List ℕ → ℕ → Taken
-to_device d bytes k = of_device d (device.Take bytes k)
+to_device d bytes k = of_device d (device.Take (record { bytes = bytes; message = k }))
 
 abbrev pub to_centre : List ℕ → ℕ → Taken
-to_centre bytes k = of_centre (centre.Take bytes k)
+to_centre bytes k = of_centre (centre.Take (record { bytes = bytes; message = k }))
 
 abbrev pub to_host : List ℕ → Taken
-to_host bytes = of_host (host.Take bytes)
+to_host bytes = of_host (host.Take (record { bytes = bytes }))
 
 abbrev pub to_scanner : ℕ → List ℕ → Taken
-to_scanner n bytes = of_verifier (verifier.Scan n bytes)
+to_scanner n bytes = of_verifier (verifier.Scan (record { number = n; bytes = bytes }))
 
 -- the device of this number; each message that was sent names one of 1 to 8, and what names another goes to the centre, which says
 -- that it takes no such message
@@ -99,27 +99,27 @@ given_to Verifier bytes k = None
 abbrev pub taken : List (List ℕ) → Quote → Event → Option Taken
 taken pool quote (ev.Day t) = Some (take.Day t)
 taken pool quote ev.Rates = Some take.Rates
-taken pool quote (ev.Make d key) = Some (of_device d (device.Make key))
+taken pool quote (ev.Make d key) = Some (of_device d (device.Make (record { key = key })))
 taken pool quote (ev.On n) = Some (of_node n On On On On)
 taken pool quote (ev.Off n) = Some (of_node n Off Off Off Off)
 taken pool quote (ev.Cut n calls keep byte) = Some (of_node n (Cut calls keep byte) (Cut calls keep byte) (Cut calls keep byte) (Cut calls keep byte))
-taken pool quote (ev.Debit d piece postage class) = Some (of_device d (device.Debit piece postage class))
-taken pool quote (ev.Ask d kind who amount) = Some (of_device d (device.Ask kind who amount (length pool)))
-taken pool quote (ev.Resend d) = Some (of_device d (device.Resend (length pool)))
-taken pool quote (ev.Ack d) = Some (of_device d (device.Ack (length pool)))
+taken pool quote (ev.Debit d piece postage class) = Some (of_device d (device.Debit (record { piece = piece; postage = postage; class = class })))
+taken pool quote (ev.Ask d kind who amount) = Some (of_device d (device.Ask (record { kind = kind; customer = who; amount = amount; message = length pool })))
+taken pool quote (ev.Resend d) = Some (of_device d (device.Resend (record { message = length pool })))
+taken pool quote (ev.Ack d) = Some (of_device d (device.Ack (record { message = length pool })))
 taken pool quote (ev.Status d) = Some (of_device d device.Status)
-taken pool quote (ev.Register d origin key) = Some (of_centre (centre.Register d origin key))
-taken pool quote (ev.OpenCustomer w) = Some (of_centre (centre.Open w))
-taken pool quote (ev.Deposit w receipt amount) = Some (of_centre (centre.Deposit w receipt amount))
-taken pool quote (ev.Flag w suspended) = Some (of_centre (centre.Flag w suspended))
-taken pool quote (ev.Balance w) = Some (of_centre (centre.Balance w))
+taken pool quote (ev.Register d origin key) = Some (of_centre (centre.Register (record { device = d; origin = origin; key = key })))
+taken pool quote (ev.OpenCustomer w) = Some (of_centre (centre.Open (record { customer = w })))
+taken pool quote (ev.Deposit w receipt amount) = Some (of_centre (centre.Deposit (record { customer = w; receipt = receipt; amount = amount })))
+taken pool quote (ev.Flag w suspended) = Some (of_centre (centre.Flag (record { customer = w; suspended = suspended })))
+taken pool quote (ev.Balance w) = Some (of_centre (centre.Balance (record { customer = w })))
 taken pool quote (ev.Deliver k) = Some (message_taken k (length pool) (slice_get pool k))
 taken pool quote (ev.Give n bytes) = given_to n bytes (length pool)
-taken pool quote (ev.Order d piece class grams zone) = Some (of_host (host.Order d piece class grams zone (quote class grams zone)))
-taken pool quote (ev.Send j) = Some (of_host (host.Send j (length pool)))
-taken pool quote (ev.Print j) = Some (of_host (host.Print j))
-taken pool quote (ev.Close j) = Some (of_host (host.Close j))
-taken pool quote (ev.Trust d key) = Some (of_verifier (verifier.Trust d key))
+taken pool quote (ev.Order d piece class grams zone) = Some (of_host (host.Order (record { device = d; piece = piece; class = class; grams = grams; zone = zone; price = quote class grams zone })))
+taken pool quote (ev.Send j) = Some (of_host (host.Send (record { job = j; message = length pool })))
+taken pool quote (ev.Print j) = Some (of_host (host.Print (record { job = j })))
+taken pool quote (ev.Close j) = Some (of_host (host.Close (record { job = j })))
+taken pool quote (ev.Trust d key) = Some (of_verifier (verifier.Trust (record { device = d; key = key })))
 taken pool quote (ev.ScanMsg scan k) = Some (scanned scan k (slice_get pool k))
 taken pool quote (ev.ScanHex scan bytes) = Some (to_scanner scan bytes)
 taken pool quote (ev.Reconcile d) = Some (take.Reconcile d)
@@ -179,11 +179,11 @@ as_given pool ev.End = ev.End
 
 -- the price of an order, if it is one, is a postage that a piece may be franked with
 abbrev pub IsPricedCall : HostCall → Type 0
-IsPricedCall (host.Order d piece class grams zone price) = IsPrice price
-IsPricedCall (host.Send j k) = Unit {0}
-IsPricedCall (host.Print j) = Unit {0}
-IsPricedCall (host.Close j) = Unit {0}
-IsPricedCall (host.Take bytes) = Unit {0}
+IsPricedCall (host.Order c) = IsPrice c.price
+IsPricedCall (host.Send c) = Unit {0}
+IsPricedCall (host.Print c) = Unit {0}
+IsPricedCall (host.Close c) = Unit {0}
+IsPricedCall (host.Take c) = Unit {0}
 
 abbrev pub IsPricedAsked : Asked HostCall → Type 0
 IsPricedAsked On = Unit {0}

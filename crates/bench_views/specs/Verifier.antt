@@ -20,8 +20,8 @@ use Rattle.verifier.specs.Records.{seen_after}
 use Rattle.verifier.specs.Seen.{Seen, AreSound, counting}
 use Rattle.verifier.specs.Acts.{ScanAct, trust_act, scan_act}
 use Rattle.verifier.specs.ActLaws.{accepted_reply}
-use Rattle.bench_views.specs.declared.taken.VerifierCall.{VerifierCall}
-use Rattle.bench_views.specs.declared.taken.VerifierCall.TheVariants as call
+use Rattle.bench_views.specs.declared.calls.VerifierCall.{VerifierCall}
+use Rattle.bench_views.specs.declared.calls.VerifierCall.TheVariants as call
 
 -- == its record ==
 
@@ -48,16 +48,16 @@ abbrev pub says : {A : Type 0} → (A → Said) → ScanAct A → Act Change Rep
 says say act = saying r.ScanRefused say act
 
 abbrev pub verifier_act : ℤ → VerifierCall → Seen → Act Change Reply Said
-verifier_act today (call.Trust d key) s = says (done (r.Trusted d)) (trust_act d key s)
-verifier_act today (call.Scan n bytes) s = says (accepted n) (scan_act n bytes today s)
+verifier_act today (call.Trust c) s = says (done (r.Trusted c.device)) (trust_act c.device c.key s)
+verifier_act today (call.Scan c) s = says (accepted c.number) (scan_act c.number c.bytes today s)
 
 abbrev pub verifier_kind : Kind (Unit {0}) Seen VerifierCall
 verifier_kind = kind_by counting (λ u. Verifier) (λ u. seen_after) (λ u today c s. verifier_act today c s)
 
 -- what is scanned is a list of bytes
 abbrev pub IsBytesCall : VerifierCall → Type 0
-IsBytesCall (call.Trust d key) = Unit {0}
-IsBytesCall (call.Scan n bytes) = IsBytes bytes
+IsBytesCall (call.Trust c) = Unit {0}
+IsBytesCall (call.Scan c) = IsBytes c.bytes
 
 abbrev pub AreBytes : Asked VerifierCall → Type 0
 AreBytes On = Unit {0}

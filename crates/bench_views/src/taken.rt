@@ -5,130 +5,19 @@ ghost use Rattle.host_jobs.specs.ActLaws.{IsPrice};
 ghost use Rattle.bench_views.specs.Taken as takes;
 ghost use Rattle.bench_views.specs.Tariff as tariff;
 
+use crate::calls::{
+    AckCall, AskCall, BalanceCall, CentreCall, CloseCall, DebitCall, DepositCall, DeviceCall,
+    FlagCall, Handed, HostCall, MakeCall, OpenCall, OrderCall, PrintCall, RegisterCall, ResendCall,
+    ScanCall, SendCall, TakeReleaseCall, TakeReplyCall, TakeRequestCall, TrustCall, VerifierCall,
+};
 use bench_base::bytes::Note;
 use bench_base::events::Event;
-use bench_base::numbers::{Customer, DayNo, DevNo};
+use bench_base::numbers::{DayNo, DevNo};
 use bench_base::refusals::RateRefusal;
-use bench_base::words::{Key, Kind, Node};
+use bench_base::words::Node;
 use host_rates::Rates;
 use node_acts::Asked;
 use psd_wire::{Message, read_message};
-use std::marker::Model;
-
-/// Bytes that are handed to a node, where they lie.
-#[derive(Drop)]
-pub struct Handed<'a> {
-    bytes: &'a [u8],
-}
-
-impl<'a> Model for Handed<'a> {
-    ghost use Rattle.std.specs.Prelude.{List, ℕ};
-
-    ghost Value = { List ℕ };
-
-    ghost view = { λ h. h.bytes.now };
-}
-
-impl<'a> Handed<'a> {
-    pub fn new(bytes: &'a [u8]) -> Handed<'a>
-        ensures { result ≡ bytes.now }
-    {
-        Handed { bytes }
-    }
-
-    pub fn as_slice(&self) -> &[u8]
-        ensures { result.now ≡ self.now }
-    {
-        self.bytes
-    }
-}
-
-/// A call of a device. What it sends becomes the message of this number.
-#[derive(Drop)]
-pub enum DeviceCall<'a> {
-    Make(Key),
-    /// Postage is in mills.
-    Debit {
-        piece: u32,
-        postage: u32,
-        class: u16,
-    },
-    /// The customer counts for an enrolment, and the amount, in mills, for a reset.
-    Ask {
-        kind: Kind,
-        customer: u32,
-        amount: u32,
-        message: u32,
-    },
-    Resend {
-        message: u32,
-    },
-    Ack {
-        message: u32,
-    },
-    Status,
-    /// A Reply or a Debit.
-    Take {
-        bytes: Handed<'a>,
-        message: u32,
-    },
-}
-
-/// A call of the centre. Amounts are in mills. What it sends becomes the message of this number.
-#[derive(Drop)]
-pub enum CentreCall<'a> {
-    Register {
-        device: DevNo,
-        origin: u32,
-        key: Key,
-    },
-    Open(Customer),
-    Deposit {
-        customer: Customer,
-        receipt: u32,
-        amount: u32,
-    },
-    Flag {
-        customer: Customer,
-        suspended: bool,
-    },
-    Balance(Customer),
-    /// A Request or a Done.
-    Take {
-        bytes: Handed<'a>,
-        message: u32,
-    },
-}
-
-/// A call of the host. Weights are in grams. What it sends becomes the message of this number.
-#[derive(Drop)]
-pub enum HostCall<'a> {
-    /// The price is the postage in mills by the rates of the run, or why they give none; there is none without rates.
-    Order {
-        device: DevNo,
-        piece: u32,
-        class: u16,
-        grams: u32,
-        zone: u32,
-        price: Option<Result<u32, RateRefusal>>,
-    },
-    Send {
-        job: u32,
-        message: u32,
-    },
-    Print(u32),
-    Close(u32),
-    /// A Release.
-    Take(Handed<'a>),
-}
-
-/// A call of the verifier.
-#[derive(Drop)]
-pub enum VerifierCall<'a> {
-    Trust { device: DevNo, key: Key },
-    /// The number of the scan is at least 1.
-    Scan { number: u32, bytes: Handed<'a> },
-}
 
 /// An event, by whom it is for.
 #[derive(Drop)]
@@ -191,37 +80,37 @@ fn of_verifier(call: VerifierCall) -> Taken
 fn to_centre<'a>(bytes: &'a [u8], message: u32) -> Taken<'a>
     ensures { result ≡ takes.to_centre bytes.now message }
 {
-    of_centre(CentreCall::Take {
+    of_centre(CentreCall::Take(TakeRequestCall {
         bytes: Handed::new(bytes),
         message,
-    })
+    }))
 }
 
 fn to_device<'a>(device: DevNo, bytes: &'a [u8], message: u32) -> Taken<'a>
     ensures { result ≡ takes.to_device device bytes.now message }
 {
-    of_device(
-        device,
-        DeviceCall::Take {
-            bytes: Handed::new(bytes),
-            message,
-        },
-    )
+    let call = TakeReplyCall {
+        bytes: Handed::new(bytes),
+        message,
+    };
+    of_device(device, DeviceCall::Take(call))
 }
 
 fn to_host<'a>(bytes: &'a [u8]) -> Taken<'a>
     ensures { result ≡ takes.to_host bytes.now }
 {
-    of_host(HostCall::Take(Handed::new(bytes)))
+    of_host(HostCall::Take(TakeReleaseCall {
+        bytes: Handed::new(bytes),
+    }))
 }
 
 fn to_scanner<'a>(number: u32, bytes: &'a [u8]) -> Taken<'a>
     ensures { result ≡ takes.to_scanner number bytes.now }
 {
-    of_verifier(VerifierCall::Scan {
+    of_verifier(VerifierCall::Scan(ScanCall {
         number,
         bytes: Handed::new(bytes),
-    })
+    }))
 }
 
 // A message for the device of this number. Each message that was sent names one of 1 to 8.
@@ -323,67 +212,82 @@ pub fn take<'a>(event: &'a Event, messages: &'a [Note], rates: &Option<Rates>) -
             Asked::Cut(*calls, *keep, *byte),
             Asked::Cut(*calls, *keep, *byte),
         )),
-        Event::Make(device, key) => Some(of_device(*device, DeviceCall::Make(*key))),
+        Event::Make(device, key) => {
+            Some(of_device(*device, DeviceCall::Make(MakeCall { key: *key })))
+        }
         Event::Debit(device, piece, postage, class) => Some(of_device(
             *device,
-            DeviceCall::Debit {
+            DeviceCall::Debit(DebitCall {
                 piece: *piece,
                 postage: *postage,
                 class: *class,
-            },
+            }),
         )),
         Event::Ask(device, kind, customer, amount) => Some(of_device(
             *device,
-            DeviceCall::Ask {
+            DeviceCall::Ask(AskCall {
                 kind: *kind,
                 customer: *customer,
                 amount: *amount,
                 message: next,
-            },
+            }),
         )),
-        Event::Resend(device) => Some(of_device(*device, DeviceCall::Resend { message: next })),
-        Event::Ack(device) => Some(of_device(*device, DeviceCall::Ack { message: next })),
+        Event::Resend(device) => Some(of_device(
+            *device,
+            DeviceCall::Resend(ResendCall { message: next }),
+        )),
+        Event::Ack(device) => Some(of_device(*device, DeviceCall::Ack(AckCall { message: next }))),
         Event::Status(device) => Some(of_device(*device, DeviceCall::Status)),
-        Event::Register(device, origin, key) => Some(of_centre(CentreCall::Register {
-            device: *device,
-            origin: *origin,
-            key: *key,
-        })),
-        Event::OpenCustomer(customer) => Some(of_centre(CentreCall::Open(*customer))),
-        Event::Deposit(customer, receipt, amount) => Some(of_centre(CentreCall::Deposit {
+        Event::Register(device, origin, key) => {
+            Some(of_centre(CentreCall::Register(RegisterCall {
+                device: *device,
+                origin: *origin,
+                key: *key,
+            })))
+        }
+        Event::OpenCustomer(customer) => Some(of_centre(CentreCall::Open(OpenCall {
             customer: *customer,
-            receipt: *receipt,
-            amount: *amount,
-        })),
-        Event::Flag(customer, suspended) => Some(of_centre(CentreCall::Flag {
+        }))),
+        Event::Deposit(customer, receipt, amount) => {
+            Some(of_centre(CentreCall::Deposit(DepositCall {
+                customer: *customer,
+                receipt: *receipt,
+                amount: *amount,
+            })))
+        }
+        Event::Flag(customer, suspended) => Some(of_centre(CentreCall::Flag(FlagCall {
             customer: *customer,
             suspended: *suspended,
-        })),
-        Event::Balance(customer) => Some(of_centre(CentreCall::Balance(*customer))),
+        }))),
+        Event::Balance(customer) => Some(of_centre(CentreCall::Balance(BalanceCall {
+            customer: *customer,
+        }))),
         Event::Deliver(number) => Some(message_taken(
             *number,
             next,
             messages.get(*number as usize),
         )),
         Event::Give(node, bytes) => given_to(*node, bytes.as_slice(), next),
-        Event::Order(device, piece, class, grams, zone) => Some(of_host(HostCall::Order {
-            device: *device,
-            piece: *piece,
-            class: *class,
-            grams: *grams,
-            zone: *zone,
-            price: quote(rates, *class, *grams, *zone),
-        })),
-        Event::Send(job) => Some(of_host(HostCall::Send {
+        Event::Order(device, piece, class, grams, zone) => {
+            Some(of_host(HostCall::Order(OrderCall {
+                device: *device,
+                piece: *piece,
+                class: *class,
+                grams: *grams,
+                zone: *zone,
+                price: quote(rates, *class, *grams, *zone),
+            })))
+        }
+        Event::Send(job) => Some(of_host(HostCall::Send(SendCall {
             job: *job,
             message: next,
-        })),
-        Event::Print(job) => Some(of_host(HostCall::Print(*job))),
-        Event::Close(job) => Some(of_host(HostCall::Close(*job))),
-        Event::Trust(device, key) => Some(of_verifier(VerifierCall::Trust {
+        }))),
+        Event::Print(job) => Some(of_host(HostCall::Print(PrintCall { job: *job }))),
+        Event::Close(job) => Some(of_host(HostCall::Close(CloseCall { job: *job }))),
+        Event::Trust(device, key) => Some(of_verifier(VerifierCall::Trust(TrustCall {
             device: *device,
             key: *key,
-        })),
+        }))),
         Event::ScanMsg(scan, number) => {
             Some(scanned(*scan, *number, messages.get(*number as usize)))
         }

@@ -54,7 +54,7 @@ use Rattle.ledger_moves.specs.Devices as device
 use Rattle.ledger_moves.specs.Moves as moves
 use Rattle.ledger_moves.specs.Moves.{plan, at_node, unless_worn}
 use Rattle.ledger_moves.specs.Tariffs.{Tariff, TextFault, NoToml, NoForm}
-use Rattle.bench_views.specs.declared.taken.DeviceCall.TheVariants as call
+use Rattle.bench_views.specs.declared.calls.DeviceCall.TheVariants as call
 use Rattle.bench_views.proofs.Plans.{call_own}
 use Rattle.law_good.proofs.Basics.{chosen}
 use Rattle.law_scans.specs.Acceptances.{IsOfPiece, IsScanOf}
@@ -103,7 +103,7 @@ module _ (P : ℕ → ℕ → ℕ → Type 0) (H : Ledger) where
   device_ok : (d : ℕ) (today : ℤ) (bytes : List ℕ) → Clean (moves.device_plan todays_rules today d bytes H)
   device_ok d today bytes =
       let s = device.record_with d (counted H) (key_of d (counted H)) in
-      at (Device d) _ (acts_ok d _ _ (acts.message_act todays_rules d bytes today s (read bytes)) (unsaid (Device d) _ _ _ (call_own d today (call.Take bytes (messages H)) s)) (taken_ok d (messages H)))
+      at (Device d) _ (acts_ok d _ _ (acts.message_act todays_rules d bytes today s (read bytes)) (unsaid (Device d) _ _ _ (call_own d today (call.Take (record { bytes = bytes; message = messages H })) s)) (taken_ok d (messages H)))
 
   -- == the centre ==
 
@@ -301,13 +301,13 @@ module _ (P : ℕ → ℕ → ℕ → Type 0) (H : Ledger) where
     event_ok (ev.On n) text today may = on_ok n
     event_ok (ev.Off n) text today may = at n (told (r.Down n) (e.Down n ∷ [])) (tt, (tt, tt))
     event_ok (ev.Cut n calls keep byte) text today may = (tt, tt)
-    event_ok (ev.Make d key) text today may = at (Device d) _ (acts_ok d _ _ (acts.make_act d key (held d)) (unsaid (Device d) _ _ _ (call_own d today (call.Make key) (held d))) (λ a. tt))
+    event_ok (ev.Make d key) text today may = at (Device d) _ (acts_ok d _ _ (acts.make_act d key (held d)) (unsaid (Device d) _ _ _ (call_own d today (call.Make (record { key = key })) (held d))) (λ a. tt))
     event_ok (ev.Debit d piece postage class) text today may =
-        at (Device d) _ (acts_ok d _ _ (acts.debit_act todays_rules d (moves.debit_by d piece postage class) today (held d)) (unsaid (Device d) _ _ _ (call_own d today (call.Debit piece postage class) (held d))) (λ a. (tt, tt)))
+        at (Device d) _ (acts_ok d _ _ (acts.debit_act todays_rules d (moves.debit_by d piece postage class) today (held d)) (unsaid (Device d) _ _ _ (call_own d today (call.Debit (record { piece = piece; postage = postage; class = class })) (held d))) (λ a. (tt, tt)))
     event_ok (ev.Ask d kind who a) text today may =
-        at (Device d) _ (acts_ok d _ _ (acts.ask_act todays_rules d kind who a today (held d)) (unsaid (Device d) _ _ _ (call_own d today (call.Ask kind who a (messages H)) (held d))) (λ a. (tt, tt)))
+        at (Device d) _ (acts_ok d _ _ (acts.ask_act todays_rules d kind who a today (held d)) (unsaid (Device d) _ _ _ (call_own d today (call.Ask (record { kind = kind; customer = who; amount = a; message = messages H })) (held d))) (λ a. (tt, tt)))
     event_ok (ev.Resend d) text today may = at (Device d) _ (resend_ok d (messages H) (key_of d C) (pending d C))
-    event_ok (ev.Ack d) text today may = at (Device d) _ (acts_ok d _ _ (acts.ack_act (held d)) (unsaid (Device d) _ _ _ (call_own d today (call.Ack (messages H)) (held d))) (λ a. (tt, tt)))
+    event_ok (ev.Ack d) text today may = at (Device d) _ (acts_ok d _ _ (acts.ack_act (held d)) (unsaid (Device d) _ _ _ (call_own d today (call.Ack (record { message = messages H })) (held d))) (λ a. (tt, tt)))
     event_ok (ev.Status d) text today may = at (Device d) _ (acts_ok d _ _ (acts.status_act today (held d)) (unsaid (Device d) _ _ _ (call_own d today call.Status (held d))) (λ a. tt))
     event_ok (ev.Register d origin key) text today may = at Centre _ (register_ok d origin key (registered d C))
     event_ok (ev.OpenCustomer w) text today may = at Centre _ (open_ok w (opened w C))

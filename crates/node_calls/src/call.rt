@@ -28,7 +28,7 @@ pub trait Callee {
 }
 
 /// A call of this node, which is asked of a record R and changes it by X: what it does by that record, and what the node says of it.
-pub trait Call<R, X: Copy, E: Callee> {
+pub trait Call<E: Callee, R, X: Copy> {
     type Answer: Copy;
 
     ghost use Rattle.node_acts.specs.declared.act.Act.{Act};

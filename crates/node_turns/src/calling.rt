@@ -31,7 +31,7 @@ fn commit_in<X: Copy, F: Copy, A: Copy>(act: &Act<X, F, A>) -> Option<Commit>
 }
 
 // How a call with this act that was done is told.
-fn done<T: Tell, K: Node, E: Callee, C: Call<K, K::Change, E>>(
+fn done<T: Tell, K: Node, E: Callee, C: Call<E, K, K::Change>>(
     callee: &E,
     act: &Act<K::Change, E::Refusal, C::Answer>,
     answer: &C::Answer,
@@ -43,7 +43,7 @@ fn done<T: Tell, K: Node, E: Callee, C: Call<K, K::Change, E>>(
 }
 
 // How a call with this act is told, by what it came to.
-fn told<T: Tell, K: Node, E: Callee, C: Call<K, K::Change, E>>(
+fn told<T: Tell, K: Node, E: Callee, C: Call<E, K, K::Change>>(
     callee: &E,
     act: &Act<K::Change, E::Refusal, C::Answer>,
     outcome: &Outcome<E::Refusal, C::Answer>,
@@ -64,7 +64,7 @@ fn told<T: Tell, K: Node, E: Callee, C: Call<K, K::Change, E>>(
 
 /// Calls the node, and tells what that came to. A node that is off decides nothing. `fits`: the record of a node that is on can take
 /// what the call makes of it.
-pub fn call_node<T: Tell, K: Node, E: Callee, C: Call<K, K::Change, E>>(
+pub fn call_node<T: Tell, K: Node, E: Callee, C: Call<E, K, K::Change>>(
     place: &mut K,
     callee: &E,
     call: &C,
@@ -85,7 +85,7 @@ pub fn call_node<T: Tell, K: Node, E: Callee, C: Call<K, K::Change, E>>(
 }
 
 // The mark that is to be printed where the call came to this, with its job.
-fn to_print<K: Node, E: Callee, C: Call<K, K::Change, E>>(
+fn to_print<K: Node, E: Callee, C: Call<E, K, K::Change>>(
     callee: &E,
     outcome: &Outcome<E::Refusal, C::Answer>,
     call: &C,
@@ -117,7 +117,7 @@ fn unprinted<T: Tell>(commit: Option<Commit>, job: u32) -> T
 
 /// Calls the node, prints the mark that it gives to the printer, and tells what that came to. The mark is printed after the commit,
 /// as one line; where the printer fails, the commit stays. `fits` as of `call_node`.
-pub fn call_printing<T: Tell, K: Node, E: Callee, C: Call<K, K::Change, E>, P: Sink>(
+pub fn call_printing<T: Tell, K: Node, E: Callee, C: Call<E, K, K::Change>, P: Sink>(
     place: &mut K,
     callee: &E,
     call: &C,

@@ -22,8 +22,8 @@ use Rattle.centre_ledger.specs.Acts.{left_act}
 use Rattle.ledger_moves.specs.Tariffs.{Tariff}
 use Rattle.ledger_moves.specs.Moves.{answer}
 use Rattle.ledger_moves.specs.Histories.{History}
-use Rattle.bench_views.specs.declared.taken.DeviceCall.TheVariants.{Status}
-use Rattle.bench_views.specs.declared.taken.CentreCall.TheVariants.{Balance}
+use Rattle.bench_views.specs.declared.calls.DeviceCall.TheVariants.{Status}
+use Rattle.bench_views.specs.declared.calls.CentreCall.TheVariants.{Balance}
 use Rattle.bench_views.specs.Centre.{centre_kind, says, left}
 use Rattle.bench_views.specs.Centre as centres
 use Rattle.bench_views.specs.Devices.{device_kind, IsKnown}
@@ -65,4 +65,4 @@ pub balance_answered : CentreFollows centre.counting bench_kinds centres.IsKnown
 balance_answered follows τ H w today history day on named known =
     let b = centre.books_in (centre_in H) in
     let told = left_told w (left_in b w) (customer_at b w) (view_in Centre (centre_kind.seen tt) H) on in
-    ap (λ p. p.reply) (follows τ H (ev.Balance w) today (Call (Balance w)) history tt day named refl tt known (rw told.1 tt)).plan ∙ told.0
+    ap (λ p. p.reply) (follows τ H (ev.Balance w) today (Call (Balance (record { customer = w }))) history tt day named refl tt known (rw told.1 tt)).plan ∙ told.0

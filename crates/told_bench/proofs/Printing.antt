@@ -10,7 +10,7 @@ use Rattle.node_turns.specs.Printing.{print_of}
 use Rattle.ledger_moves.specs.Tariffs.{Tariff}
 use Rattle.ledger_moves.specs.Moves.{plan}
 use Rattle.ledger_moves.specs.Histories.{History}
-use Rattle.bench_views.specs.declared.taken.HostCall.TheVariants.{Print}
+use Rattle.told_host.specs.Records.{printing}
 use Rattle.told_host.specs.Cells as host
 use Rattle.told_host.specs.Verdicts.{AtHosts}
 use Rattle.told_bench.specs.Seeing.{Audit, Sees}
@@ -21,6 +21,6 @@ module _ (a : Audit) (j : ℕ) (τ : Tariff) (H : Ledger) (sees : Sees a H) wher
   undated_none none = ap (λ (p : Plan). print_of p.after) (plan_none τ H (ev.Print j) refl (sym none ∙ sees.day.day))
 
   pub dated_mark : (today : ℤ) (mark : Option (List ℕ)) → a.day ≡ Some today → History τ editions H → IsWholeEvent (ev.Print j)
-      → ((t : ℤ) → AtHosts t (Call (Print j)) (host.view_of a.host) (λ υ K e. print_of (plan υ todays_rules K e []).after ≡ mark))
+      → ((t : ℤ) → AtHosts t (Call (printing j)) (host.view_of a.host) (λ υ K e. print_of (plan υ todays_rules K e []).after ≡ mark))
       → print_of (plan τ todays_rules H (ev.Print j) []).after ≡ mark
   dated_mark today mark day history whole law = law today τ H (ev.Print j) history tt (sym sees.day.day ∙ day) whole refl tt (sym sees.host)

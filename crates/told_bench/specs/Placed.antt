@@ -4,7 +4,7 @@ use Rattle.bench_base.specs.declared.events.Reply.{Reply}
 use Rattle.node_acts.specs.declared.asked.Asked.{Asked}
 use Rattle.psd_state.specs.State.{State}
 use Rattle.centre_ledger.specs.declared.rows.Row.{Row}
-use Rattle.bench_views.specs.declared.taken.DeviceCall.{DeviceCall}
+use Rattle.bench_views.specs.declared.calls.DeviceCall.{DeviceCall}
 use Rattle.bench_views.specs.Comparing.{compare}
 use Rattle.told_nodes.specs.declared.seat.Seat.{Seat}
 use Rattle.told_device.specs.declared.record.DeviceRecord.{DeviceRecord}

@@ -28,8 +28,8 @@ use Rattle.verifier.specs.Seen as verifier
 use Rattle.ledger_moves.specs.Tariffs.{Tariff}
 use Rattle.ledger_moves.specs.Moves.{answer}
 use Rattle.ledger_moves.specs.Histories.{History}
-use Rattle.bench_views.specs.declared.taken.DeviceCall.TheVariants.{Status}
-use Rattle.bench_views.specs.declared.taken.CentreCall.TheVariants.{Balance}
+use Rattle.bench_views.specs.declared.calls.DeviceCall.TheVariants.{Status}
+use Rattle.bench_views.specs.declared.calls.CentreCall.TheVariants.{Balance}
 use Rattle.bench_views.specs.Devices.{device_act}
 use Rattle.bench_views.specs.Centre.{centre_act}
 use Rattle.bench_views.specs.Comparing.{compared}
@@ -56,7 +56,7 @@ status_by d today s = done_by (device_act d today Status s.state)
 
 -- what the centre answers to `balance` of customer w where it is on, by its rows; there is none where w is not open
 abbrev pub balance_by : ℕ → centre.Seen → Option Reply
-balance_by w s = done_by (centre_act (Balance w) (centre.books_in s))
+balance_by w s = done_by (centre_act (Balance (record { customer = w })) (centre.books_in s))
 
 -- what the device shows on a day; there is nothing where it was not made
 abbrev pub shown_by : ℤ → device.Seen → Option DevView

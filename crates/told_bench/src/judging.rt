@@ -143,8 +143,8 @@ fn are_bytes(bytes: &[u8])
 fn hands_centre(asked: &Asked<CentreCall>)
     ensures { centres.AreBytes asked.now }
 {
-    if let Asked::Call(CentreCall::Take { bytes, message: _ }) = asked {
-        are_bytes(bytes.as_slice());
+    if let Asked::Call(CentreCall::Take(call)) = asked {
+        are_bytes(call.bytes.as_slice());
     }
 }
 
@@ -152,8 +152,8 @@ fn hands_centre(asked: &Asked<CentreCall>)
 fn hands_verifier(asked: &Asked<VerifierCall>)
     ensures { verifiers.AreBytes asked.now }
 {
-    if let Asked::Call(VerifierCall::Scan { number: _, bytes }) = asked {
-        are_bytes(bytes.as_slice());
+    if let Asked::Call(VerifierCall::Scan(call)) = asked {
+        are_bytes(call.bytes.as_slice());
     }
 }
 

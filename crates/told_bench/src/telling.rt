@@ -19,7 +19,7 @@ use bench_base::numbers::{Customer, DayNo, DevNo};
 use bench_base::words::Node;
 use bench_calls::compared;
 use bench_views::laws::nodes_follow;
-use bench_views::{CentreCall, DeviceCall};
+use bench_views::{BalanceCall, CentreCall, DeviceCall};
 use centre_ledger::{CustomerRow, DeviceRow, standing_act};
 use node_acts::{Act, Said};
 use node_records::JobsOf;
@@ -91,7 +91,7 @@ impl Auditor {
         nodes_follow();
         told_centre::is_known(&self.centre.record);
         done(&centre_act(
-            &CentreCall::Balance(customer),
+            &CentreCall::Balance(BalanceCall { customer }),
             self.centre.record.accounts(),
         ))
     }

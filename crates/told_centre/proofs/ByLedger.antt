@@ -6,7 +6,7 @@ use Rattle.bench_base.specs.declared.events.Reply.{Reply}
 use Rattle.node_acts.specs.declared.asked.Asked.{Asked}
 use Rattle.node_acts.specs.Views.{View}
 use Rattle.centre_ledger.specs.Seen.{Seen, counting, books_in}
-use Rattle.bench_views.specs.declared.taken.CentreCall.{CentreCall}
+use Rattle.bench_views.specs.declared.calls.CentreCall.{CentreCall}
 use Rattle.bench_views.specs.declared.taken.Taken.TheVariants as take
 use Rattle.bench_views.specs.Centre.{centre_kind, centre_act, IsKnown, AreBytes}
 use Rattle.bench_views.specs.Follows.{CentreFollows}

@@ -23,8 +23,8 @@ use Rattle.centre_ledger.specs.Acts as acts
 use Rattle.centre_ledger.specs.ActLaws.{LeavesSound, SoundActs}
 use Rattle.centre_ledger.specs.Books.{Books, AreSound, put_row}
 use Rattle.centre_ledger.specs.Seen.{Seen, cell_of, books_in, counting}
-use Rattle.bench_views.specs.declared.taken.CentreCall.{CentreCall}
-use Rattle.bench_views.specs.declared.taken.CentreCall.TheVariants as call
+use Rattle.bench_views.specs.declared.calls.CentreCall.{CentreCall}
+use Rattle.bench_views.specs.declared.calls.CentreCall.TheVariants as call
 use Rattle.bench_views.specs.Centre.{IsKnown, centre_act, took}
 use Rattle.told_nodes.specs.Judged.{PrintsNone}
 use Rattle.told_nodes.specs.Seats.{FitsAct}
@@ -44,12 +44,12 @@ leaves_says b say (Tell a) leaves = tt
 leaves_says b say (Commits c x a) leaves = leaves
 
 pub leaves_by : (b : Books) → SoundActs b → (c : CentreCall) → IsRanged c → Leaves b (centre_act c b)
-leaves_by b sound (call.Register d origin key) ranged = leaves_says b _ (acts.register_act d origin key b) (sound.registered d origin key ranged.0 ranged.1)
-leaves_by b sound (call.Open w) ranged = leaves_says b _ (acts.open_act w b) (sound.opened w ranged)
-leaves_by b sound (call.Deposit w n a) ranged = leaves_says b _ (acts.deposit_act w n a b) (sound.deposited w n a)
-leaves_by b sound (call.Flag w flag) ranged = leaves_says b _ (acts.flag_act w flag b) (sound.flagged w flag)
-leaves_by b sound (call.Balance w) ranged = leaves_says b _ (acts.balance_act w b) (sound.balanced w)
-leaves_by b sound (call.Take bytes k) ranged = leaves_says b _ (acts.take_act bytes b) (sound.taken bytes ranged)
+leaves_by b sound (call.Register c) ranged = leaves_says b _ (acts.register_act c.device c.origin c.key b) (sound.registered c.device c.origin c.key ranged.0 ranged.1)
+leaves_by b sound (call.Open c) ranged = leaves_says b _ (acts.open_act c.customer b) (sound.opened c.customer ranged)
+leaves_by b sound (call.Deposit c) ranged = leaves_says b _ (acts.deposit_act c.customer c.receipt c.amount b) (sound.deposited c.customer c.receipt c.amount)
+leaves_by b sound (call.Flag c) ranged = leaves_says b _ (acts.flag_act c.customer c.suspended b) (sound.flagged c.customer c.suspended)
+leaves_by b sound (call.Balance c) ranged = leaves_says b _ (acts.balance_act c.customer b) (sound.balanced c.customer)
+leaves_by b sound (call.Take c) ranged = leaves_says b _ (acts.take_act c.bytes b) (sound.taken c.bytes ranged)
 
 pub fits_by : {F A : Type 0} (s : Seen) (act : Act Row F A) → Leaves (books_in s) act → FitsAct (λ t x. IsFit t x) s act
 fits_by s (Refuse x) leaves = tt
@@ -82,21 +82,20 @@ took_prints k (answer.Ruled d n v note again) j is = cc
 took_prints k (answer.Settled d n again) j is = cc
 
 pub call_plain : (c : CentreCall) (b : Books) → IsPlain (centre_act c b)
-call_plain (call.Register d origin key) b = plain_says _ (λ a. refl) (acts.register_act d origin key b)
-call_plain (call.Open w) b = plain_says _ (λ a. refl) (acts.open_act w b)
-call_plain (call.Deposit w n a) b = plain_says _ (λ x. refl) (acts.deposit_act w n a b)
-call_plain (call.Flag w flag) b = plain_says _ (λ a. refl) (acts.flag_act w flag b)
-call_plain (call.Balance w) b = plain_says _ (λ a. refl) (acts.balance_act w b)
-call_plain (call.Take bytes k) b = plain_says _ (took_did k) (acts.take_act bytes b)
+call_plain (call.Register c) b = plain_says _ (λ a. refl) (acts.register_act c.device c.origin c.key b)
+call_plain (call.Open c) b = plain_says _ (λ a. refl) (acts.open_act c.customer b)
+call_plain (call.Deposit c) b = plain_says _ (λ x. refl) (acts.deposit_act c.customer c.receipt c.amount b)
+call_plain (call.Flag c) b = plain_says _ (λ a. refl) (acts.flag_act c.customer c.suspended b)
+call_plain (call.Balance c) b = plain_says _ (λ a. refl) (acts.balance_act c.customer b)
+call_plain (call.Take c) b = plain_says _ (took_did c.message) (acts.take_act c.bytes b)
 
 pub call_prints : (c : CentreCall) (b : Books) → PrintsNone (centre_act c b)
-call_prints (call.Register d origin key) b = prints_none _ (λ a j is. cc) (acts.register_act d origin key b)
-call_prints (call.Open w) b = prints_none _ (λ a j is. cc) (acts.open_act w b)
-call_prints (call.Deposit w n a) b = prints_none _ (λ x j is. cc) (acts.deposit_act w n a b)
-call_prints (call.Flag w true) b = prints_none _ (λ a j is. cc) (acts.flag_act w true b)
-call_prints (call.Flag w false) b = prints_none _ (λ a j is. cc) (acts.flag_act w false b)
-call_prints (call.Balance w) b = prints_none _ (λ a j is. cc) (acts.balance_act w b)
-call_prints (call.Take bytes k) b = prints_none _ (took_prints k) (acts.take_act bytes b)
+call_prints (call.Register c) b = prints_none _ (λ a j is. cc) (acts.register_act c.device c.origin c.key b)
+call_prints (call.Open c) b = prints_none _ (λ a j is. cc) (acts.open_act c.customer b)
+call_prints (call.Deposit c) b = prints_none _ (λ x j is. cc) (acts.deposit_act c.customer c.receipt c.amount b)
+call_prints (call.Flag c) b = prints_none _ (λ a j is. cc) (acts.flag_act c.customer c.suspended b)
+call_prints (call.Balance c) b = prints_none _ (λ a j is. cc) (acts.balance_act c.customer b)
+call_prints (call.Take c) b = prints_none _ (took_prints c.message) (acts.take_act c.bytes b)
 
 -- == the record after it ==
 

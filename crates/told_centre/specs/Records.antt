@@ -9,8 +9,8 @@ use Rattle.node_acts.specs.RowList.{RowList, row_at, commits_at, commits_in}
 use Rattle.centre_ledger.specs.declared.rows.Row.{Row}
 use Rattle.centre_ledger.specs.Books.{Books, AreSound, put_row}
 use Rattle.centre_ledger.specs.Seen.{Seen, books_in}
-use Rattle.bench_views.specs.declared.taken.CentreCall.{CentreCall}
-use Rattle.bench_views.specs.declared.taken.CentreCall.TheVariants as call
+use Rattle.bench_views.specs.declared.calls.CentreCall.{CentreCall}
+use Rattle.bench_views.specs.declared.calls.CentreCall.TheVariants as call
 
 -- the books are those of the cells, which are counted
 pub record AreKept (cells : RowList Row) (books : Books) (total : ℕ) : Type 0 where
@@ -25,12 +25,12 @@ IsFit s x = AreSound (put_row (books_in s) x)
 
 -- the numbers of a call, as an event brings them
 abbrev pub IsRanged : CentreCall → Type 0
-IsRanged (call.Register d origin key) = IsDevice d × IsWord origin
-IsRanged (call.Open w) = IsCustomer w
-IsRanged (call.Deposit w receipt amount) = IsCustomer w
-IsRanged (call.Flag w suspended) = IsCustomer w
-IsRanged (call.Balance w) = IsCustomer w
-IsRanged (call.Take bytes k) = IsBytes bytes
+IsRanged (call.Register c) = IsDevice c.device × IsWord c.origin
+IsRanged (call.Open c) = IsCustomer c.customer
+IsRanged (call.Deposit c) = IsCustomer c.customer
+IsRanged (call.Flag c) = IsCustomer c.customer
+IsRanged (call.Balance c) = IsCustomer c.customer
+IsRanged (call.Take c) = IsBytes c.bytes
 
 abbrev pub IsRangedAsked : Asked CentreCall → Type 0
 IsRangedAsked On = Unit {0}

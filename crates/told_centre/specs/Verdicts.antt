@@ -10,7 +10,7 @@ use Rattle.node_acts.specs.declared.asked.Asked.{Asked}
 use Rattle.node_acts.specs.Views.{View}
 use Rattle.centre_ledger.specs.Seen.{Seen, counting}
 use Rattle.ledger_moves.specs.Tariffs.{Tariff}
-use Rattle.bench_views.specs.declared.taken.CentreCall.{CentreCall}
+use Rattle.bench_views.specs.declared.calls.CentreCall.{CentreCall}
 use Rattle.bench_views.specs.declared.taken.Taken.TheVariants as take
 use Rattle.bench_views.specs.Centre.{centre_kind, AreBytes}
 use Rattle.told_nodes.specs.Judged.{Judged}

@@ -13,8 +13,8 @@ use Rattle.psd_state.specs.State.{State}
 use Rattle.psd_state.specs.Acts.{make_act, debit_act, ask_act, resend_act, ack_act, status_act, take_act}
 use Rattle.psd_state.specs.declared.acts.Taken.{Taken}
 use Rattle.psd_state.specs.declared.acts.Taken.TheVariants as taken
-use Rattle.bench_views.specs.declared.taken.DeviceCall.{DeviceCall}
-use Rattle.bench_views.specs.declared.taken.DeviceCall.TheVariants.{Make, Debit, Ask, Resend, Ack, Status, Take}
+use Rattle.bench_views.specs.declared.calls.DeviceCall.{DeviceCall}
+use Rattle.bench_views.specs.declared.calls.DeviceCall.TheVariants.{Make, Debit, Ask, Resend, Ack, Status, Take}
 use Rattle.bench_views.specs.Devices.{device_act, took}
 use Rattle.told_nodes.specs.Judged.{PrintsNone}
 
@@ -38,19 +38,19 @@ took_prints d k (taken.Applied n v) j is = cc
 took_prints d k (taken.Released piece x again) j is = cc
 
 pub call_plain : (d : ℕ) (today : ℤ) (call : DeviceCall) (s : Option State) → IsPlain (device_act d today call s)
-call_plain d today (Make key) s = plain_says _ _ (λ x. refl) (λ a. refl) (make_act d key s)
-call_plain d today (Debit piece postage class) s = plain_says _ _ (λ x. refl) (λ a. refl) (debit_act todays_rules d (debit_by d piece postage class) today s)
-call_plain d today (Ask kind who amount k) s = plain_says _ _ (λ x. refl) (λ a. refl) (ask_act todays_rules d kind who amount today s)
-call_plain d today (Resend k) s = plain_says _ _ (λ x. refl) (λ a. refl) (resend_act s)
-call_plain d today (Ack k) s = plain_says _ _ (λ x. refl) (λ a. refl) (ack_act s)
+call_plain d today (Make c) s = plain_says _ _ (λ x. refl) (λ a. refl) (make_act d c.key s)
+call_plain d today (Debit c) s = plain_says _ _ (λ x. refl) (λ a. refl) (debit_act todays_rules d (debit_by d c.piece c.postage c.class) today s)
+call_plain d today (Ask c) s = plain_says _ _ (λ x. refl) (λ a. refl) (ask_act todays_rules d c.kind c.customer c.amount today s)
+call_plain d today (Resend c) s = plain_says _ _ (λ x. refl) (λ a. refl) (resend_act s)
+call_plain d today (Ack c) s = plain_says _ _ (λ x. refl) (λ a. refl) (ack_act s)
 call_plain d today Status s = plain_says _ _ (λ x. refl) (λ a. refl) (status_act today s)
-call_plain d today (Take bytes k) s = plain_says _ _ (λ x. refl) (took_did d k) (take_act todays_rules d bytes today s)
+call_plain d today (Take c) s = plain_says _ _ (λ x. refl) (took_did d c.message) (take_act todays_rules d c.bytes today s)
 
 pub call_prints : (d : ℕ) (today : ℤ) (call : DeviceCall) (s : Option State) → PrintsNone (device_act d today call s)
-call_prints d today (Make key) s = prints_none _ _ (λ a j is. cc) (make_act d key s)
-call_prints d today (Debit piece postage class) s = prints_none _ _ (λ a j is. cc) (debit_act todays_rules d (debit_by d piece postage class) today s)
-call_prints d today (Ask kind who amount k) s = prints_none _ _ (λ a j is. cc) (ask_act todays_rules d kind who amount today s)
-call_prints d today (Resend k) s = prints_none _ _ (λ a j is. cc) (resend_act s)
-call_prints d today (Ack k) s = prints_none _ _ (λ a j is. cc) (ack_act s)
+call_prints d today (Make c) s = prints_none _ _ (λ a j is. cc) (make_act d c.key s)
+call_prints d today (Debit c) s = prints_none _ _ (λ a j is. cc) (debit_act todays_rules d (debit_by d c.piece c.postage c.class) today s)
+call_prints d today (Ask c) s = prints_none _ _ (λ a j is. cc) (ask_act todays_rules d c.kind c.customer c.amount today s)
+call_prints d today (Resend c) s = prints_none _ _ (λ a j is. cc) (resend_act s)
+call_prints d today (Ack c) s = prints_none _ _ (λ a j is. cc) (ack_act s)
 call_prints d today Status s = prints_none _ _ (λ a j is. cc) (status_act today s)
-call_prints d today (Take bytes k) s = prints_none _ _ (took_prints d k) (take_act todays_rules d bytes today s)
+call_prints d today (Take c) s = prints_none _ _ (took_prints d c.message) (take_act todays_rules d c.bytes today s)

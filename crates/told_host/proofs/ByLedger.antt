@@ -6,7 +6,7 @@ use Rattle.bench_base.specs.declared.events.Reply.{Reply}
 use Rattle.node_acts.specs.declared.asked.Asked.{Asked}
 use Rattle.node_acts.specs.Views.{View}
 use Rattle.host_jobs.specs.Seen.{Seen, counting, rows_in}
-use Rattle.bench_views.specs.declared.taken.HostCall.{HostCall}
+use Rattle.bench_views.specs.declared.calls.HostCall.{HostCall}
 use Rattle.bench_views.specs.declared.taken.Taken.TheVariants as take
 use Rattle.bench_views.specs.Host.{host_kind, host_act, IsKnown}
 use Rattle.bench_views.specs.Follows.{HostFollows}

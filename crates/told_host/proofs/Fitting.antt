@@ -22,8 +22,8 @@ use Rattle.host_jobs.specs.ActLaws.{LeavesSound, SoundActs}
 use Rattle.host_jobs.specs.Rows.{Jobs}
 use Rattle.host_jobs.specs.Soundness.{IsNext}
 use Rattle.host_jobs.specs.Seen.{Seen, cell_of, rows_in, counting}
-use Rattle.bench_views.specs.declared.taken.HostCall.{HostCall}
-use Rattle.bench_views.specs.declared.taken.HostCall.TheVariants as call
+use Rattle.bench_views.specs.declared.calls.HostCall.{HostCall}
+use Rattle.bench_views.specs.declared.calls.HostCall.TheVariants as call
 use Rattle.bench_views.specs.Host.{IsKnown, host_act}
 use Rattle.told_nodes.specs.Seats.{FitsAct}
 use Rattle.told_host.specs.Records.{IsFit, IsRanged}
@@ -41,11 +41,11 @@ leaves_says b say (Tell a) leaves = tt
 leaves_says b say (Commits c x a) leaves = (leaves.0, leaves.1)
 
 pub leaves_by : (b : Jobs) → SoundActs b → (c : HostCall) → IsRanged c → Leaves b (host_act c b)
-leaves_by b sound (call.Order d piece class grams zone price) ranged = leaves_says b _ (acts.order_act d piece class price b) (sound.ordered d piece class price ranged.0 ranged.1)
-leaves_by b sound (call.Send j k) ranged = leaves_says b _ (acts.debit_message_act j b) (sound.sent j)
-leaves_by b sound (call.Print j) ranged = leaves_says b _ (acts.begin_print_act j b) (sound.begun j)
-leaves_by b sound (call.Close j) ranged = leaves_says b _ (acts.close_act j b) (sound.closed j)
-leaves_by b sound (call.Take bytes) ranged = leaves_says b _ (acts.take_act bytes b) (sound.taken bytes)
+leaves_by b sound (call.Order c) ranged = leaves_says b _ (acts.order_act c.device c.piece c.class c.price b) (sound.ordered c.device c.piece c.class c.price ranged.0 ranged.1)
+leaves_by b sound (call.Send c) ranged = leaves_says b _ (acts.debit_message_act c.job b) (sound.sent c.job)
+leaves_by b sound (call.Print c) ranged = leaves_says b _ (acts.begin_print_act c.job b) (sound.begun c.job)
+leaves_by b sound (call.Close c) ranged = leaves_says b _ (acts.close_act c.job b) (sound.closed c.job)
+leaves_by b sound (call.Take c) ranged = leaves_says b _ (acts.take_act c.bytes b) (sound.taken c.bytes)
 
 pub fits_by : {F A : Type 0} (s : Seen) (act : Act JobRow F A) → Leaves (rows_in s) act → FitsAct (λ t x. IsFit t x) s act
 fits_by s (Refuse x) leaves = tt
@@ -65,11 +65,11 @@ plain_says say says (Tell a) = says a
 plain_says say says (Commits c x a) = says a
 
 pub call_plain : (c : HostCall) (b : Jobs) → IsPlain (host_act c b)
-call_plain (call.Order d piece class grams zone price) b = plain_says _ (λ x. refl) (acts.order_act d piece class price b)
-call_plain (call.Send j k) b = plain_says _ (λ x. refl) (acts.debit_message_act j b)
-call_plain (call.Print j) b = plain_says _ (λ x. refl) (acts.begin_print_act j b)
-call_plain (call.Close j) b = plain_says _ (λ x. refl) (acts.close_act j b)
-call_plain (call.Take bytes) b = plain_says _ (λ x. refl) (acts.take_act bytes b)
+call_plain (call.Order c) b = plain_says _ (λ x. refl) (acts.order_act c.device c.piece c.class c.price b)
+call_plain (call.Send c) b = plain_says _ (λ x. refl) (acts.debit_message_act c.job b)
+call_plain (call.Print c) b = plain_says _ (λ x. refl) (acts.begin_print_act c.job b)
+call_plain (call.Close c) b = plain_says _ (λ x. refl) (acts.close_act c.job b)
+call_plain (call.Take c) b = plain_says _ (λ x. refl) (acts.take_act c.bytes b)
 
 -- == the record after it ==
 

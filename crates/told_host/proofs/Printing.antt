@@ -8,7 +8,7 @@ use Rattle.node_acts.specs.Views.{View}
 use Rattle.node_turns.specs.Printing.{print_of}
 use Rattle.host_jobs.specs.Seen.{Seen, counting}
 use Rattle.ledger_moves.specs.Moves.{plan}
-use Rattle.bench_views.specs.declared.taken.HostCall.{HostCall}
+use Rattle.bench_views.specs.declared.calls.HostCall.{HostCall}
 use Rattle.bench_views.specs.Host.{IsKnown}
 use Rattle.bench_views.specs.Follows.{HostFollows}
 use Rattle.bench_views.specs.Kinds.{bench_kinds}

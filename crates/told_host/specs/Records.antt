@@ -11,8 +11,8 @@ use Rattle.host_jobs.specs.ActLaws.{IsPrice}
 use Rattle.host_jobs.specs.Rows.{Jobs}
 use Rattle.host_jobs.specs.Seen.{Seen, rows_in}
 use Rattle.host_jobs.specs.Soundness.{IsNext}
-use Rattle.bench_views.specs.declared.taken.HostCall.{HostCall}
-use Rattle.bench_views.specs.declared.taken.HostCall.TheVariants as call
+use Rattle.bench_views.specs.declared.calls.HostCall.{HostCall}
+use Rattle.bench_views.specs.declared.calls.HostCall.TheVariants as call
 
 -- the jobs are those of the cells, which are counted
 pub record AreJoined (cells : RowList JobRow) (jobs : Jobs) (total : ℕ) : Type 0 where
@@ -25,13 +25,17 @@ pub record AreJoined (cells : RowList JobRow) (jobs : Jobs) (total : ℕ) : Type
 abbrev pub IsFit : Seen → JobRow → Type 0
 IsFit s x = IsNext (rows_in s) x
 
+-- the call that prints job j
+abbrev pub printing : ℕ → HostCall
+printing j = call.Print (record { job = j })
+
 -- the numbers of a call, as an event brings them
 abbrev pub IsRanged : HostCall → Type 0
-IsRanged (call.Order d piece class grams zone price) = IsDevice d × IsPrice price
-IsRanged (call.Send j k) = Unit {0}
-IsRanged (call.Print j) = Unit {0}
-IsRanged (call.Close j) = Unit {0}
-IsRanged (call.Take bytes) = Unit {0}
+IsRanged (call.Order c) = IsDevice c.device × IsPrice c.price
+IsRanged (call.Send c) = Unit {0}
+IsRanged (call.Print c) = Unit {0}
+IsRanged (call.Close c) = Unit {0}
+IsRanged (call.Take c) = Unit {0}
 
 abbrev pub IsRangedAsked : Asked HostCall → Type 0
 IsRangedAsked On = Unit {0}

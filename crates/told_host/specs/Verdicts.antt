@@ -10,7 +10,7 @@ use Rattle.node_acts.specs.declared.asked.Asked.{Asked}
 use Rattle.node_acts.specs.Views.{View}
 use Rattle.host_jobs.specs.Seen.{Seen, counting}
 use Rattle.ledger_moves.specs.Tariffs.{Tariff}
-use Rattle.bench_views.specs.declared.taken.HostCall.{HostCall}
+use Rattle.bench_views.specs.declared.calls.HostCall.{HostCall}
 use Rattle.bench_views.specs.declared.taken.Taken.TheVariants as take
 use Rattle.bench_views.specs.Host.{host_kind}
 use Rattle.told_nodes.specs.declared.printing.Told.{Told}

@@ -7,16 +7,16 @@ ghost use Rattle.ledger_moves.specs.Moves.{plan};
 ghost use Rattle.node_acts.specs.declared.asked.Asked.TheVariants.{Call};
 ghost use Rattle.node_acts.specs.Said.{seen_plan, tells};
 ghost use Rattle.node_turns.specs.Printing.{print_of};
-ghost use Rattle.bench_views.specs.declared.taken.HostCall.TheVariants.{Print};
 ghost use Rattle.told_host.specs.Cells.{view_of};
+ghost use Rattle.told_host.specs.Records.{printing};
 ghost use Rattle.told_host.specs.Verdicts.{AtHosts, plan_in};
 
 use crate::acts::host_act;
 use crate::judge::is_known;
 use crate::record::HostRecord;
 use bench_base::events::Reply;
-use bench_views::HostCall;
 use bench_views::laws::host_follows;
+use bench_views::{HostCall, PrintCall};
 use host_jobs::{JobRow, acts_follow_the_commits};
 use node_acts::{Act, GivenOut, Said};
 use told_nodes::{Record, Seat};
@@ -53,12 +53,12 @@ fn mark_by(seat: &Seat<HostRecord, JobRow>, act: &Act<JobRow, Reply, Said>) -> O
 
 /// The mark that a `print` of this job prints where nothing fails; None where it is refused, or the host is off.
 pub fn mark_due(seat: &Seat<HostRecord, JobRow>, job: u32) -> Option<[u8; 64]>
-    ensures by_view { (today : ℤ) → print_of (plan_in today (Call (Print job)) (view_of seat.now)).after ≡ result }
-    ensures by_ledger { (today : ℤ) → AtHosts today (Call (Print job)) (view_of seat.now) (λ τ H e. print_of (plan τ todays_rules H e []).after ≡ result) }
+    ensures by_view { (today : ℤ) → print_of (plan_in today (Call (printing job)) (view_of seat.now)).after ≡ result }
+    ensures by_ledger { (today : ℤ) → AtHosts today (Call (printing job)) (view_of seat.now) (λ τ H e. print_of (plan τ todays_rules H e []).after ≡ result) }
 {
     host_follows();
     acts_follow_the_commits();
     is_known(&seat.record);
-    let act = host_act(&HostCall::Print(job), &seat.record);
+    let act = host_act(&HostCall::Print(PrintCall { job }), &seat.record);
     mark_by(seat, &act)
 }

@@ -7,7 +7,7 @@ use node_acts::{Act, Said};
 use node_calls::{Call, Callee};
 
 /// What a call does by the record that it is asked of, with what the node says of it.
-pub fn said_act<R, X: Copy, E: Callee, C: Call<R, X, E>>(
+pub fn said_act<E: Callee, R, X: Copy, C: Call<E, R, X>>(
     callee: &E,
     call: &C,
     held: &R,

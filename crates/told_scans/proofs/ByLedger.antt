@@ -6,7 +6,7 @@ use Rattle.bench_base.specs.declared.events.Reply.{Reply}
 use Rattle.node_acts.specs.declared.asked.Asked.{Asked}
 use Rattle.node_acts.specs.Views.{View}
 use Rattle.verifier.specs.Seen.{Seen, counting}
-use Rattle.bench_views.specs.declared.taken.VerifierCall.{VerifierCall}
+use Rattle.bench_views.specs.declared.calls.VerifierCall.{VerifierCall}
 use Rattle.bench_views.specs.declared.taken.Taken.TheVariants as take
 use Rattle.bench_views.specs.Verifier.{verifier_kind, verifier_act, IsKnown, AreBytes}
 use Rattle.bench_views.specs.Follows.{VerifierFollows}

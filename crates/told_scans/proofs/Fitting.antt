@@ -20,8 +20,8 @@ use Rattle.verifier.specs.Acts.{ScanAct}
 use Rattle.verifier.specs.Acts as acts
 use Rattle.verifier.specs.ActLaws.{IsFit, LeavesSound, SoundActs}
 use Rattle.verifier.specs.Seen.{Seen, cell_of, counting}
-use Rattle.bench_views.specs.declared.taken.VerifierCall.{VerifierCall}
-use Rattle.bench_views.specs.declared.taken.VerifierCall.TheVariants as call
+use Rattle.bench_views.specs.declared.calls.VerifierCall.{VerifierCall}
+use Rattle.bench_views.specs.declared.calls.VerifierCall.TheVariants as call
 use Rattle.bench_views.specs.Verifier.{IsKnown, verifier_act}
 use Rattle.told_nodes.specs.Judged.{PrintsNone}
 use Rattle.told_nodes.specs.Seats.{FitsAct}
@@ -40,8 +40,8 @@ leaves_says s say (Tell a) leaves = tt
 leaves_says s say (Commits c x a) leaves = leaves
 
 pub leaves_by : (s : Seen) → SoundActs s → (today : ℤ) (c : VerifierCall) → IsRanged c → Leaves s (verifier_act today c s)
-leaves_by s sound today (call.Trust d key) ranged = leaves_says s _ (acts.trust_act d key s) (sound.trusted d key ranged.0 ranged.1)
-leaves_by s sound today (call.Scan n bytes) ranged = leaves_says s _ (acts.scan_act n bytes today s) (sound.scanned n bytes today ranged.0 ranged.1)
+leaves_by s sound today (call.Trust c) ranged = leaves_says s _ (acts.trust_act c.device c.key s) (sound.trusted c.device c.key ranged.0 ranged.1)
+leaves_by s sound today (call.Scan c) ranged = leaves_says s _ (acts.scan_act c.number c.bytes today s) (sound.scanned c.number c.bytes today ranged.0 ranged.1)
 
 pub fits_by : {F A : Type 0} (s : Seen) (act : Act Change F A) → Leaves s act → FitsAct (λ t x. IsFit t x) s act
 fits_by s (Refuse x) leaves = tt
@@ -66,12 +66,12 @@ prints_none say says (Tell a) = says a
 prints_none say says (Commits c x a) = says a
 
 pub call_plain : (today : ℤ) (c : VerifierCall) (s : Seen) → IsPlain (verifier_act today c s)
-call_plain today (call.Trust d key) s = plain_says _ (λ a. refl) (acts.trust_act d key s)
-call_plain today (call.Scan n bytes) s = plain_says _ (λ a. refl) (acts.scan_act n bytes today s)
+call_plain today (call.Trust c) s = plain_says _ (λ a. refl) (acts.trust_act c.device c.key s)
+call_plain today (call.Scan c) s = plain_says _ (λ a. refl) (acts.scan_act c.number c.bytes today s)
 
 pub call_prints : (today : ℤ) (c : VerifierCall) (s : Seen) → PrintsNone (verifier_act today c s)
-call_prints today (call.Trust d key) s = prints_none _ (λ a j is. cc) (acts.trust_act d key s)
-call_prints today (call.Scan n bytes) s = prints_none _ (λ a j is. cc) (acts.scan_act n bytes today s)
+call_prints today (call.Trust c) s = prints_none _ (λ a j is. cc) (acts.trust_act c.device c.key s)
+call_prints today (call.Scan c) s = prints_none _ (λ a j is. cc) (acts.scan_act c.number c.bytes today s)
 
 -- == the record after it ==
 

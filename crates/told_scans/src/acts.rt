@@ -6,7 +6,7 @@ ghost use Rattle.told_scans.specs.Cells.{cells_of};
 use crate::record::ScanRecord;
 use bench_base::events::Reply;
 use bench_base::numbers::DayNo;
-use bench_calls::{ScanCall, TrustCall, VerifierCallee};
+use bench_calls::VerifierCallee;
 use bench_views::VerifierCall;
 use node_acts::{Act, Said};
 use told_nodes::said_act;
@@ -18,19 +18,7 @@ pub fn scan_said(call: &VerifierCall, today: DayNo, rows: &ScanRecord) -> Act<Ch
 {
     let callee = VerifierCallee { day: today };
     match call {
-        VerifierCall::Trust { device, key } => {
-            let call = TrustCall {
-                device: *device,
-                key: *key,
-            };
-            said_act(&callee, &call, rows)
-        }
-        VerifierCall::Scan { number, bytes } => {
-            let call = ScanCall {
-                number: *number,
-                bytes: bytes.as_slice(),
-            };
-            said_act(&callee, &call, rows)
-        }
+        VerifierCall::Trust(call) => said_act(&callee, call, rows),
+        VerifierCall::Scan(call) => said_act(&callee, call, rows),
     }
 }

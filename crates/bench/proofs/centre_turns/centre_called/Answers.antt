@@ -1,8 +1,6 @@
-use Rattle.std.proofs.Common.{◌≡◌, ℕ, ℤ, List, refl, sym, ap, subst}
+use Rattle.std.proofs.Common.{◌≡◌, ℤ, refl, sym, subst}
 use Rattle.bench_base.specs.declared.words.Node.TheVariants.{Centre}
 use Rattle.bench_base.specs.declared.events.Reply.{Reply}
-use Rattle.bench_base.specs.declared.events.Reply.TheVariants as r
-use Rattle.node_acts.specs.declared.act.Act.{Act}
 use Rattle.node_acts.specs.declared.act.Outcome.{Outcome}
 use Rattle.node_acts.specs.declared.asked.Asked.TheVariants.{Call}
 use Rattle.node_acts.specs.declared.said.Said.{Said}
@@ -17,8 +15,8 @@ use Rattle.centre_ledger.specs.Seen.{books_in}
 use Rattle.centre_protocol.specs.declared.node.CentreNode.{CentreNode}
 use Rattle.centre_protocol.specs.declared.room.CentreRoom.{CentreRoom}
 use Rattle.centre_protocol.specs.contracts.kind.CentreNodeNode.TheImpl.{ghosts}
-use Rattle.bench_views.specs.declared.taken.CentreCall.{CentreCall}
-use Rattle.bench_views.specs.declared.taken.CentreCall.TheVariants.{Register, Open, Deposit, Flag, Balance, Take}
+use Rattle.bench_views.specs.declared.calls.CentreCall.{CentreCall}
+use Rattle.bench_views.specs.declared.calls.CentreCall.TheVariants.{Register, Open, Deposit, Flag, Balance, Take}
 use Rattle.bench_views.specs.Centre.{centre_kind, centre_act, IsBytesCall}
 use Rattle.bench.specs.Calls.{centre_event, IsRangedCall}
 use Rattle.bench.proofs.CentreActs as acts
@@ -53,8 +51,8 @@ returns-in-Register g c =
     let s = c.args.place.now in
     record {
       bytes = c.hands_bytes.ensures;
-      did = told_by g c.call_node.result c.args.day c.args.asked.now (Register b.device b.origin b.key) b.is c.requires.ranged c.hands_bytes.ensures s c.call_node.new.place
-          (c.call_node.ensures.did (λ k. centre_act (Register b.device b.origin b.key) (books_in k)) refl);
+      did = told_by g c.call_node.result c.args.day c.args.asked.now (Register b.call) b.is c.requires.ranged c.hands_bytes.ensures s c.call_node.new.place
+          (c.call_node.ensures.did (λ k. centre_act (Register b.call) (books_in k)) refl);
     }
 
 pub returns-in-Open : goal.returns-in-Open
@@ -63,8 +61,8 @@ returns-in-Open g c =
     let s = c.args.place.now in
     record {
       bytes = c.hands_bytes.ensures;
-      did = told_by g c.call_node-in-Open.result c.args.day c.args.asked.now (Open b.customer) b.is c.requires.ranged c.hands_bytes.ensures s c.call_node-in-Open.new.place
-          (c.call_node-in-Open.ensures.did (λ k. centre_act (Open b.customer) (books_in k)) refl);
+      did = told_by g c.call_node-in-Open.result c.args.day c.args.asked.now (Open b.call) b.is c.requires.ranged c.hands_bytes.ensures s c.call_node-in-Open.new.place
+          (c.call_node-in-Open.ensures.did (λ k. centre_act (Open b.call) (books_in k)) refl);
     }
 
 pub returns-in-Deposit : goal.returns-in-Deposit
@@ -73,8 +71,8 @@ returns-in-Deposit g c =
     let s = c.args.place.now in
     record {
       bytes = c.hands_bytes.ensures;
-      did = told_by g c.call_node-in-Deposit.result c.args.day c.args.asked.now (Deposit b.customer b.receipt b.amount) b.is c.requires.ranged c.hands_bytes.ensures s c.call_node-in-Deposit.new.place
-          (c.call_node-in-Deposit.ensures.did (λ k. centre_act (Deposit b.customer b.receipt b.amount) (books_in k)) refl);
+      did = told_by g c.call_node-in-Deposit.result c.args.day c.args.asked.now (Deposit b.call) b.is c.requires.ranged c.hands_bytes.ensures s c.call_node-in-Deposit.new.place
+          (c.call_node-in-Deposit.ensures.did (λ k. centre_act (Deposit b.call) (books_in k)) refl);
     }
 
 pub returns-in-Flag : goal.returns-in-Flag
@@ -83,8 +81,8 @@ returns-in-Flag g c =
     let s = c.args.place.now in
     record {
       bytes = c.hands_bytes.ensures;
-      did = told_by g c.call_node-in-Flag.result c.args.day c.args.asked.now (Flag b.customer b.suspended) b.is c.requires.ranged c.hands_bytes.ensures s c.call_node-in-Flag.new.place
-          (c.call_node-in-Flag.ensures.did (λ k. centre_act (Flag b.customer b.suspended) (books_in k)) refl);
+      did = told_by g c.call_node-in-Flag.result c.args.day c.args.asked.now (Flag b.call) b.is c.requires.ranged c.hands_bytes.ensures s c.call_node-in-Flag.new.place
+          (c.call_node-in-Flag.ensures.did (λ k. centre_act (Flag b.call) (books_in k)) refl);
     }
 
 pub returns-in-Balance : goal.returns-in-Balance
@@ -93,8 +91,8 @@ returns-in-Balance g c =
     let s = c.args.place.now in
     record {
       bytes = c.hands_bytes.ensures;
-      did = told_by g c.call_node-in-Balance.result c.args.day c.args.asked.now (Balance b.customer) b.is c.requires.ranged c.hands_bytes.ensures s c.call_node-in-Balance.new.place
-          (c.call_node-in-Balance.ensures.did (λ k. centre_act (Balance b.customer) (books_in k)) refl);
+      did = told_by g c.call_node-in-Balance.result c.args.day c.args.asked.now (Balance b.call) b.is c.requires.ranged c.hands_bytes.ensures s c.call_node-in-Balance.new.place
+          (c.call_node-in-Balance.ensures.did (λ k. centre_act (Balance b.call) (books_in k)) refl);
     }
 
 pub returns-in-Take : goal.returns-in-Take
@@ -103,6 +101,6 @@ returns-in-Take g c =
     let s = c.args.place.now in
     record {
       bytes = c.hands_bytes.ensures;
-      did = told_by g c.call_node-in-Take.result c.args.day c.args.asked.now (Take b.bytes b.message) b.is c.requires.ranged c.hands_bytes.ensures s c.call_node-in-Take.new.place
-          (c.call_node-in-Take.ensures.did (λ k. centre_act (Take b.bytes b.message) (books_in k)) (ap (λ bytes. centre_act (Take bytes b.message) (books_in ((node_of g).seen s))) (sym c.as_slice.ensures)));
+      did = told_by g c.call_node-in-Take.result c.args.day c.args.asked.now (Take b.call) b.is c.requires.ranged c.hands_bytes.ensures s c.call_node-in-Take.new.place
+          (c.call_node-in-Take.ensures.did (λ k. centre_act (Take b.call) (books_in k)) refl);
     }

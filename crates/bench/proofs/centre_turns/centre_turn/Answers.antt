@@ -11,7 +11,7 @@ use Rattle.centre_ledger.specs.declared.rows.Row.{Row}
 use Rattle.centre_protocol.specs.declared.node.CentreNode.{CentreNode}
 use Rattle.centre_protocol.specs.declared.room.CentreRoom.{CentreRoom}
 use Rattle.centre_protocol.specs.contracts.kind.CentreNodeNode.TheImpl.{ghosts}
-use Rattle.bench_views.specs.declared.taken.CentreCall.{CentreCall}
+use Rattle.bench_views.specs.declared.calls.CentreCall.{CentreCall}
 use Rattle.bench_views.specs.Centre.{centre_kind}
 use Rattle.bench_views.specs.Centre.{AreBytes}
 use Rattle.bench.specs.Calls.{centre_event, IsRanged}

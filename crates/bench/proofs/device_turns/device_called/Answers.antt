@@ -1,10 +1,9 @@
-use Rattle.std.proofs.Common.{◌≡◌, ℕ, ℤ, List, Option, Some, None, refl, sym, ◌∙◌, ap, subst}
+use Rattle.std.proofs.Common.{◌≡◌, ℕ, ℤ, Option, Some, None, refl, sym, subst}
 use Rattle.std.specs.Prelude.{IfSome}
 use Rattle.bench_base.specs.declared.words.Node.TheVariants.{Device}
 use Rattle.bench_base.specs.declared.events.Reply.{Reply}
 use Rattle.bench_base.specs.declared.events.Reply.TheVariants as r
 use Rattle.bench_base.specs.declared.numbers.DevNo.{DevNo}
-use Rattle.node_acts.specs.declared.act.Act.{Act}
 use Rattle.node_acts.specs.declared.act.Outcome.{Outcome}
 use Rattle.node_acts.specs.declared.asked.Asked.TheVariants.{Call}
 use Rattle.node_acts.specs.declared.said.Said.{Said}
@@ -20,9 +19,9 @@ use Rattle.psd_device.specs.Boots.{IsOwn}
 use Rattle.psd_device.specs.declared.node.DeviceNode.{DeviceNode}
 use Rattle.psd_device.specs.contracts.kind.DeviceNodeNode.TheImpl.{ghosts}
 use Rattle.bench_base.specs.Rules.{todays_rules}
-use Rattle.psd_state.specs.Acts.{DeviceAct, ask_act, resend_act, ack_act, take_act}
-use Rattle.bench_views.specs.declared.taken.DeviceCall.{DeviceCall}
-use Rattle.bench_views.specs.declared.taken.DeviceCall.TheVariants.{Make, Debit, Ask, Resend, Ack, Status, Take}
+use Rattle.psd_state.specs.Acts.{ask_act, resend_act, ack_act}
+use Rattle.bench_views.specs.declared.calls.DeviceCall.{DeviceCall}
+use Rattle.bench_views.specs.declared.calls.DeviceCall.TheVariants.{Make, Debit, Ask, Resend, Ack, Status, Take}
 use Rattle.bench_views.specs.Devices.{device_kind, device_act, number_in, next_number}
 use Rattle.bench_calls.proofs.Sends.{says_numbered}
 use Rattle.bench.specs.Calls.{device_event}
@@ -60,35 +59,35 @@ returns-in-Make g c =
     let d = c.args.device in
     let s = c.args.place.now in
     let b = c.in-Make in
-    record { did = told_by g c.call_node.result d c.args.day c.args.asked.now (Make b.key) b.is s c.call_node.new.place (c.call_node.ensures.did (λ k. device_act d c.args.day (Make b.key) k.state) refl) }
+    record { did = told_by g c.call_node.result d c.args.day c.args.asked.now (Make b.call) b.is s c.call_node.new.place (c.call_node.ensures.did (λ k. device_act d c.args.day (Make b.call) k.state) refl) }
 
 pub returns-in-Debit : goal.returns-in-Debit
 returns-in-Debit g c =
     let d = c.args.device in
     let s = c.args.place.now in
     let b = c.in-Debit in
-    record { did = told_by g c.call_node-in-Debit.result d c.args.day c.args.asked.now (Debit b.piece b.postage b.class) b.is s c.call_node-in-Debit.new.place (c.call_node-in-Debit.ensures.did (λ k. device_act d c.args.day (Debit b.piece b.postage b.class) k.state) refl) }
+    record { did = told_by g c.call_node-in-Debit.result d c.args.day c.args.asked.now (Debit b.call) b.is s c.call_node-in-Debit.new.place (c.call_node-in-Debit.ensures.did (λ k. device_act d c.args.day (Debit b.call) k.state) refl) }
 
 pub returns-in-Ask : goal.returns-in-Ask
 returns-in-Ask g c =
     let d = c.args.device in
     let s = c.args.place.now in
     let b = c.in-Ask in
-    record { did = told_by g c.call_node-in-Ask.result d c.args.day c.args.asked.now (Ask b.kind b.customer b.amount b.message) b.is s c.call_node-in-Ask.new.place (c.call_node-in-Ask.ensures.did (λ k. device_act d c.args.day (Ask b.kind b.customer b.amount b.message) k.state) (says_numbered (r.DevRefused d) (λ i. r.SentRequest d i b.message) (next_number s.state) (ask_act todays_rules d b.kind b.customer b.amount c.args.day s.state))) }
+    record { did = told_by g c.call_node-in-Ask.result d c.args.day c.args.asked.now (Ask b.call) b.is s c.call_node-in-Ask.new.place (c.call_node-in-Ask.ensures.did (λ k. device_act d c.args.day (Ask b.call) k.state) (says_numbered (r.DevRefused d) (λ i. r.SentRequest d i b.call.message) (next_number s.state) (ask_act todays_rules d b.call.kind b.call.customer b.call.amount c.args.day s.state))) }
 
 pub returns-in-Resend : goal.returns-in-Resend
 returns-in-Resend g c =
     let d = c.args.device in
     let s = c.args.place.now in
     let b = c.in-Resend in
-    record { did = told_by g c.call_node-in-Resend.result d c.args.day c.args.asked.now (Resend b.message) b.is s c.call_node-in-Resend.new.place (c.call_node-in-Resend.ensures.did (λ k. device_act d c.args.day (Resend b.message) k.state) (says_numbered (r.DevRefused d) (λ i. r.SentRequest d i b.message) (next_number s.state) (resend_act s.state))) }
+    record { did = told_by g c.call_node-in-Resend.result d c.args.day c.args.asked.now (Resend b.call) b.is s c.call_node-in-Resend.new.place (c.call_node-in-Resend.ensures.did (λ k. device_act d c.args.day (Resend b.call) k.state) (says_numbered (r.DevRefused d) (λ i. r.SentRequest d i b.call.message) (next_number s.state) (resend_act s.state))) }
 
 pub returns-in-Ack : goal.returns-in-Ack
 returns-in-Ack g c =
     let d = c.args.device in
     let s = c.args.place.now in
     let b = c.in-Ack in
-    record { did = told_by g c.call_node-in-Ack.result d c.args.day c.args.asked.now (Ack b.message) b.is s c.call_node-in-Ack.new.place (c.call_node-in-Ack.ensures.did (λ k. device_act d c.args.day (Ack b.message) k.state) (says_numbered (r.DevRefused d) (λ i. r.SentDone d i b.message) (number_in s.state) (ack_act s.state))) }
+    record { did = told_by g c.call_node-in-Ack.result d c.args.day c.args.asked.now (Ack b.call) b.is s c.call_node-in-Ack.new.place (c.call_node-in-Ack.ensures.did (λ k. device_act d c.args.day (Ack b.call) k.state) (says_numbered (r.DevRefused d) (λ i. r.SentDone d i b.call.message) (number_in s.state) (ack_act s.state))) }
 
 pub returns-in-Status : goal.returns-in-Status
 returns-in-Status g c =
@@ -102,4 +101,4 @@ returns-in-Take g c =
     let d = c.args.device in
     let s = c.args.place.now in
     let b = c.in-Take in
-    record { did = told_by g c.call_node-in-Take.result d c.args.day c.args.asked.now (Take b.bytes b.message) b.is s c.call_node-in-Take.new.place (c.call_node-in-Take.ensures.did (λ k. device_act d c.args.day (Take b.bytes b.message) k.state) (ap (λ bytes. device_act d c.args.day (Take bytes b.message) s.state) (sym c.as_slice.ensures))) }
+    record { did = told_by g c.call_node-in-Take.result d c.args.day c.args.asked.now (Take b.call) b.is s c.call_node-in-Take.new.place (c.call_node-in-Take.ensures.did (λ k. device_act d c.args.day (Take b.call) k.state) refl) }

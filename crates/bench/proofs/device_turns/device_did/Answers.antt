@@ -10,7 +10,7 @@ use Rattle.node_seat.specs.declared.node.Node.{Ghosts}
 use Rattle.psd_state.specs.declared.record.DevRec.{DevRec}
 use Rattle.psd_device.specs.declared.node.DeviceNode.{DeviceNode}
 use Rattle.psd_device.specs.contracts.kind.DeviceNodeNode.TheImpl.{ghosts}
-use Rattle.bench_views.specs.declared.taken.DeviceCall.{DeviceCall}
+use Rattle.bench_views.specs.declared.calls.DeviceCall.{DeviceCall}
 use Rattle.bench_views.specs.Devices.{device_kind}
 use Rattle.bench.specs.Calls.{device_event}
 use Rattle.bench.proofs.device_turns.device_did.Given.{Over}

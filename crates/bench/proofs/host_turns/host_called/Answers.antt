@@ -1,8 +1,6 @@
-use Rattle.std.proofs.Common.{◌≡◌, ℕ, ℤ, List, refl, sym, ap, subst}
+use Rattle.std.proofs.Common.{◌≡◌, ℤ, refl, sym, subst}
 use Rattle.bench_base.specs.declared.words.Node.TheVariants.{Host}
 use Rattle.bench_base.specs.declared.events.Reply.{Reply}
-use Rattle.bench_base.specs.declared.events.Reply.TheVariants as r
-use Rattle.node_acts.specs.declared.act.Act.{Act}
 use Rattle.node_acts.specs.declared.act.Outcome.{Outcome}
 use Rattle.node_acts.specs.declared.asked.Asked.TheVariants.{Call}
 use Rattle.node_acts.specs.declared.said.Said.{Said}
@@ -17,8 +15,8 @@ use Rattle.host_jobs.specs.Seen.{rows_in}
 use Rattle.host_node.specs.declared.node.HostNode.{HostNode}
 use Rattle.host_node.specs.declared.room.HostRoom.{HostRoom}
 use Rattle.host_node.specs.contracts.kind.HostNodeNode.TheImpl.{ghosts}
-use Rattle.bench_views.specs.declared.taken.HostCall.{HostCall}
-use Rattle.bench_views.specs.declared.taken.HostCall.TheVariants.{Order, Send, Print, Close, Take}
+use Rattle.bench_views.specs.declared.calls.HostCall.{HostCall}
+use Rattle.bench_views.specs.declared.calls.HostCall.TheVariants.{Order, Send, Print, Close, Take}
 use Rattle.bench_views.specs.Host.{host_kind, host_act}
 use Rattle.bench.specs.Calls.{host_event, IsRangedJob}
 use Rattle.bench.proofs.HostActs as acts
@@ -57,8 +55,8 @@ returns-in-Order g c =
     let b = c.in-Order in
     let s = c.args.place.now in
     record {
-      did = told_by g c.call_printing.result c.args.day c.args.asked.now (Order b.device b.piece b.class b.grams b.zone b.price) b.is c.requires.ranged s c.call_printing.new.place
-          (printer_of g.P.Sink c.args.printer.now) (printer_of g.P.Sink c.call_printing.new.printer) (c.call_printing.ensures.did (λ k. host_act (Order b.device b.piece b.class b.grams b.zone b.price) (rows_in k)) refl);
+      did = told_by g c.call_printing.result c.args.day c.args.asked.now (Order b.call) b.is c.requires.ranged s c.call_printing.new.place
+          (printer_of g.P.Sink c.args.printer.now) (printer_of g.P.Sink c.call_printing.new.printer) (c.call_printing.ensures.did (λ k. host_act (Order b.call) (rows_in k)) refl);
     }
 
 pub returns-in-Send : goal.returns-in-Send
@@ -66,8 +64,8 @@ returns-in-Send g c =
     let b = c.in-Send in
     let s = c.args.place.now in
     record {
-      did = told_by g c.call_printing-in-Send.result c.args.day c.args.asked.now (Send b.job b.message) b.is c.requires.ranged s c.call_printing-in-Send.new.place
-          (printer_of g.P.Sink c.args.printer.now) (printer_of g.P.Sink c.call_printing-in-Send.new.printer) (c.call_printing-in-Send.ensures.did (λ k. host_act (Send b.job b.message) (rows_in k)) refl);
+      did = told_by g c.call_printing-in-Send.result c.args.day c.args.asked.now (Send b.call) b.is c.requires.ranged s c.call_printing-in-Send.new.place
+          (printer_of g.P.Sink c.args.printer.now) (printer_of g.P.Sink c.call_printing-in-Send.new.printer) (c.call_printing-in-Send.ensures.did (λ k. host_act (Send b.call) (rows_in k)) refl);
     }
 
 pub returns-in-Print : goal.returns-in-Print
@@ -75,8 +73,8 @@ returns-in-Print g c =
     let b = c.in-Print in
     let s = c.args.place.now in
     record {
-      did = told_by g c.call_printing-in-Print.result c.args.day c.args.asked.now (Print b.job) b.is c.requires.ranged s c.call_printing-in-Print.new.place
-          (printer_of g.P.Sink c.args.printer.now) (printer_of g.P.Sink c.call_printing-in-Print.new.printer) (c.call_printing-in-Print.ensures.did (λ k. host_act (Print b.job) (rows_in k)) refl);
+      did = told_by g c.call_printing-in-Print.result c.args.day c.args.asked.now (Print b.call) b.is c.requires.ranged s c.call_printing-in-Print.new.place
+          (printer_of g.P.Sink c.args.printer.now) (printer_of g.P.Sink c.call_printing-in-Print.new.printer) (c.call_printing-in-Print.ensures.did (λ k. host_act (Print b.call) (rows_in k)) refl);
     }
 
 pub returns-in-Close : goal.returns-in-Close
@@ -84,8 +82,8 @@ returns-in-Close g c =
     let b = c.in-Close in
     let s = c.args.place.now in
     record {
-      did = told_by g c.call_printing-in-Close.result c.args.day c.args.asked.now (Close b.job) b.is c.requires.ranged s c.call_printing-in-Close.new.place
-          (printer_of g.P.Sink c.args.printer.now) (printer_of g.P.Sink c.call_printing-in-Close.new.printer) (c.call_printing-in-Close.ensures.did (λ k. host_act (Close b.job) (rows_in k)) refl);
+      did = told_by g c.call_printing-in-Close.result c.args.day c.args.asked.now (Close b.call) b.is c.requires.ranged s c.call_printing-in-Close.new.place
+          (printer_of g.P.Sink c.args.printer.now) (printer_of g.P.Sink c.call_printing-in-Close.new.printer) (c.call_printing-in-Close.ensures.did (λ k. host_act (Close b.call) (rows_in k)) refl);
     }
 
 pub returns-in-Take : goal.returns-in-Take
@@ -93,6 +91,6 @@ returns-in-Take g c =
     let b = c.in-Take in
     let s = c.args.place.now in
     record {
-      did = told_by g c.call_printing-in-Take.result c.args.day c.args.asked.now (Take b.bytes) b.is c.requires.ranged s c.call_printing-in-Take.new.place
-          (printer_of g.P.Sink c.args.printer.now) (printer_of g.P.Sink c.call_printing-in-Take.new.printer) (c.call_printing-in-Take.ensures.did (λ k. host_act (Take b.bytes) (rows_in k)) (ap (λ bytes. host_act (Take bytes) (rows_in ((node_of g).seen s))) (sym c.as_slice.ensures)));
+      did = told_by g c.call_printing-in-Take.result c.args.day c.args.asked.now (Take b.call) b.is c.requires.ranged s c.call_printing-in-Take.new.place
+          (printer_of g.P.Sink c.args.printer.now) (printer_of g.P.Sink c.call_printing-in-Take.new.printer) (c.call_printing-in-Take.ensures.did (λ k. host_act (Take b.call) (rows_in k)) refl);
     }

@@ -13,7 +13,7 @@ use Rattle.host_jobs.specs.declared.rows.JobRow.{JobRow}
 use Rattle.host_node.specs.declared.node.HostNode.{HostNode}
 use Rattle.host_node.specs.declared.room.HostRoom.{HostRoom}
 use Rattle.host_node.specs.contracts.kind.HostNodeNode.TheImpl.{ghosts}
-use Rattle.bench_views.specs.declared.taken.HostCall.{HostCall}
+use Rattle.bench_views.specs.declared.calls.HostCall.{HostCall}
 use Rattle.bench_views.specs.Host.{host_kind}
 use Rattle.bench.specs.Calls.{host_event}
 use Rattle.bench.proofs.HostActs.{start_quiet, stop_quiet, none_printed}

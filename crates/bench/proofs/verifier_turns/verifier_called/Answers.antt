@@ -1,8 +1,6 @@
-use Rattle.std.proofs.Common.{◌≡◌, ℕ, ℤ, List, refl, sym, ap, subst}
+use Rattle.std.proofs.Common.{◌≡◌, ℤ, refl, sym, subst}
 use Rattle.bench_base.specs.declared.words.Node.TheVariants.{Verifier}
 use Rattle.bench_base.specs.declared.events.Reply.{Reply}
-use Rattle.bench_base.specs.declared.events.Reply.TheVariants as r
-use Rattle.node_acts.specs.declared.act.Act.{Act}
 use Rattle.node_acts.specs.declared.act.Outcome.{Outcome}
 use Rattle.node_acts.specs.declared.asked.Asked.TheVariants.{Call}
 use Rattle.node_acts.specs.declared.said.Said.{Said}
@@ -16,8 +14,8 @@ use Rattle.verifier.specs.declared.acts.Change.{Change}
 use Rattle.verifier_node.specs.declared.node.VerifierNode.{VerifierNode}
 use Rattle.verifier_node.specs.declared.room.VerifierRoom.{VerifierRoom}
 use Rattle.verifier_node.specs.contracts.kind.VerifierNodeNode.TheImpl.{ghosts}
-use Rattle.bench_views.specs.declared.taken.VerifierCall.{VerifierCall}
-use Rattle.bench_views.specs.declared.taken.VerifierCall.TheVariants.{Trust, Scan}
+use Rattle.bench_views.specs.declared.calls.VerifierCall.{VerifierCall}
+use Rattle.bench_views.specs.declared.calls.VerifierCall.TheVariants.{Trust, Scan}
 use Rattle.bench_views.specs.Verifier.{verifier_kind, verifier_act, IsBytesCall}
 use Rattle.bench.specs.Calls.{verifier_event, IsRangedScan}
 use Rattle.bench.proofs.VerifierActs as acts
@@ -54,12 +52,12 @@ pub returns-in-Trust-clause-did : goal.returns-in-Trust-clause-did
 returns-in-Trust-clause-did g c =
     let b = c.in-Trust in
     let s = c.args.place.now in
-    told_by g c.call_node.result c.args.day c.args.asked.now (Trust b.device b.key) b.is c.requires.ranged c.scans_bytes.ensures s c.call_node.new.place
-    (c.call_node.ensures.did (λ k. verifier_act c.args.day (Trust b.device b.key) k) refl)
+    told_by g c.call_node.result c.args.day c.args.asked.now (Trust b.call) b.is c.requires.ranged c.scans_bytes.ensures s c.call_node.new.place
+    (c.call_node.ensures.did (λ k. verifier_act c.args.day (Trust b.call) k) refl)
 
 pub returns-in-Scan-clause-did : goal.returns-in-Scan-clause-did
 returns-in-Scan-clause-did g c =
     let b = c.in-Scan in
     let s = c.args.place.now in
-    told_by g c.call_node-in-Scan.result c.args.day c.args.asked.now (Scan b.number b.bytes) b.is c.requires.ranged c.scans_bytes.ensures s c.call_node-in-Scan.new.place
-    (c.call_node-in-Scan.ensures.did (λ k. verifier_act c.args.day (Scan b.number b.bytes) k) (ap (λ bytes. verifier_act c.args.day (Scan b.number bytes) ((node_of g).seen s)) (sym c.as_slice.ensures)))
+    told_by g c.call_node-in-Scan.result c.args.day c.args.asked.now (Scan b.call) b.is c.requires.ranged c.scans_bytes.ensures s c.call_node-in-Scan.new.place
+    (c.call_node-in-Scan.ensures.did (λ k. verifier_act c.args.day (Scan b.call) k) refl)

@@ -11,7 +11,7 @@ use Rattle.verifier.specs.declared.acts.Change.{Change}
 use Rattle.verifier_node.specs.declared.node.VerifierNode.{VerifierNode}
 use Rattle.verifier_node.specs.declared.room.VerifierRoom.{VerifierRoom}
 use Rattle.verifier_node.specs.contracts.kind.VerifierNodeNode.TheImpl.{ghosts}
-use Rattle.bench_views.specs.declared.taken.VerifierCall.{VerifierCall}
+use Rattle.bench_views.specs.declared.calls.VerifierCall.{VerifierCall}
 use Rattle.bench_views.specs.Verifier.{verifier_kind, AreBytes}
 use Rattle.bench.specs.Calls.{verifier_event, IsRangedOfVerifier}
 use Rattle.bench.proofs.verifier_turns.verifier_turn.Given.{Over}

@@ -14,7 +14,7 @@ use Rattle.node_acts.proofs.Told.{seen_commit, seen_own}
 use Rattle.host_jobs.specs.declared.rows.JobRow.{JobRow}
 use Rattle.host_jobs.specs.Records.{seen_after}
 use Rattle.host_jobs.specs.Seen as host
-use Rattle.bench_views.specs.declared.taken.HostCall.{HostCall}
+use Rattle.bench_views.specs.declared.calls.HostCall.{HostCall}
 use Rattle.bench_views.specs.declared.taken.Taken.TheVariants as take
 use Rattle.bench_views.specs.Taken.{taken}
 use Rattle.bench_views.specs.Host as views

@@ -19,8 +19,8 @@ use Rattle.psd_state.specs.Seen as device
 use Rattle.centre_ledger.specs.Seen as centre
 use Rattle.centre_ledger.specs.declared.rows.Row.{Row}
 use Rattle.law_orders.specs.Nexts.{AreOrdered}
-use Rattle.bench_views.specs.declared.taken.DeviceCall.{DeviceCall}
-use Rattle.bench_views.specs.declared.taken.CentreCall.{CentreCall}
+use Rattle.bench_views.specs.declared.calls.DeviceCall.{DeviceCall}
+use Rattle.bench_views.specs.declared.calls.CentreCall.{CentreCall}
 use Rattle.bench_views.specs.declared.taken.Taken.TheVariants as take
 use Rattle.bench_views.specs.Taken.{taken}
 use Rattle.bench_views.specs.Devices as devices

@@ -14,7 +14,7 @@ use Rattle.node_acts.proofs.Told.{seen_commit, seen_own}
 use Rattle.verifier.specs.declared.acts.Change.{Change}
 use Rattle.verifier.specs.Records.{seen_after, IsRecorded}
 use Rattle.verifier.specs.Seen as verifier
-use Rattle.bench_views.specs.declared.taken.VerifierCall.{VerifierCall}
+use Rattle.bench_views.specs.declared.calls.VerifierCall.{VerifierCall}
 use Rattle.bench_views.specs.declared.taken.Taken.TheVariants as take
 use Rattle.bench_views.specs.Taken.{taken}
 use Rattle.bench_views.specs.Verifier as views

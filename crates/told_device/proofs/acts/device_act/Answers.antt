@@ -2,21 +2,17 @@ use Rattle.std.proofs.Common.{sym, ◌∙◌, ap}
 use Rattle.bench_base.specs.declared.events.Reply.TheVariants as r
 use Rattle.bench_base.specs.Rules.{todays_rules}
 use Rattle.psd_state.specs.Acts.{ask_act, resend_act, ack_act}
-use Rattle.bench_views.specs.declared.taken.DeviceCall.{DeviceCall}
-use Rattle.bench_views.specs.declared.taken.DeviceCall.TheVariants.{Take}
+use Rattle.bench_views.specs.declared.calls.DeviceCall.{DeviceCall}
 use Rattle.bench_views.specs.Devices.{device_act, number_in, next_number}
 use Rattle.bench_calls.proofs.Sends.{says_numbered}
 use Rattle.told_device.proofs.acts.device_act.Goals as goal
-
-pub returns-in-Debit : goal.returns-in-Debit
-returns-in-Debit c = c.said_act-in-Debit.ensures ∙ ap (λ (a : DeviceCall). device_act c.args.device c.args.day a c.args.state.now) (sym c.in-Debit.is)
 
 pub returns-in-Ask : goal.returns-in-Ask
 returns-in-Ask c =
     let d = c.args.device in
     let s = c.args.state.now in
     let b = c.in-Ask in
-    c.said_act-in-Ask.ensures ∙ sym (says_numbered (r.DevRefused d) (λ i. r.SentRequest d i b.message) (next_number s) (ask_act todays_rules d b.kind b.customer b.amount c.args.day s))
+    c.said_act-in-Ask.ensures ∙ sym (says_numbered (r.DevRefused d) (λ i. r.SentRequest d i b.call.message) (next_number s) (ask_act todays_rules d b.call.kind b.call.customer b.call.amount c.args.day s))
     ∙ ap (λ (a : DeviceCall). device_act d c.args.day a s) (sym b.is)
 
 pub returns-in-Resend : goal.returns-in-Resend
@@ -24,17 +20,11 @@ returns-in-Resend c =
     let d = c.args.device in
     let s = c.args.state.now in
     let b = c.in-Resend in
-    c.said_act-in-Resend.ensures ∙ sym (says_numbered (r.DevRefused d) (λ i. r.SentRequest d i b.message) (next_number s) (resend_act s)) ∙ ap (λ (a : DeviceCall). device_act d c.args.day a s) (sym b.is)
+    c.said_act-in-Resend.ensures ∙ sym (says_numbered (r.DevRefused d) (λ i. r.SentRequest d i b.call.message) (next_number s) (resend_act s)) ∙ ap (λ (a : DeviceCall). device_act d c.args.day a s) (sym b.is)
 
 pub returns-in-Ack : goal.returns-in-Ack
 returns-in-Ack c =
     let d = c.args.device in
     let s = c.args.state.now in
     let b = c.in-Ack in
-    c.said_act-in-Ack.ensures ∙ sym (says_numbered (r.DevRefused d) (λ i. r.SentDone d i b.message) (number_in s) (ack_act s)) ∙ ap (λ (a : DeviceCall). device_act d c.args.day a s) (sym b.is)
-
-pub returns-in-Take : goal.returns-in-Take
-returns-in-Take c =
-    let b = c.in-Take in
-    c.said_act-in-Take.ensures ∙ ap (λ bytes. device_act c.args.device c.args.day (Take bytes b.message) c.args.state.now) c.as_slice.ensures
-    ∙ ap (λ (a : DeviceCall). device_act c.args.device c.args.day a c.args.state.now) (sym b.is)
+    c.said_act-in-Ack.ensures ∙ sym (says_numbered (r.DevRefused d) (λ i. r.SentDone d i b.call.message) (number_in s) (ack_act s)) ∙ ap (λ (a : DeviceCall). device_act d c.args.day a s) (sym b.is)

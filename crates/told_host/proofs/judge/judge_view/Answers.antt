@@ -8,7 +8,7 @@ use Rattle.node_acts.specs.Plans.{IsOfNode}
 use Rattle.node_acts.specs.Said.{IsPlain}
 use Rattle.node_acts.specs.Views.{View}
 use Rattle.host_jobs.specs.Seen.{Seen, rows_in}
-use Rattle.bench_views.specs.declared.taken.HostCall.{HostCall}
+use Rattle.bench_views.specs.declared.calls.HostCall.{HostCall}
 use Rattle.bench_views.specs.Host.{host_act, IsKnown}
 use Rattle.told_nodes.specs.declared.printing.Told.{Told}
 use Rattle.told_nodes.specs.Seats.{FitsAct}

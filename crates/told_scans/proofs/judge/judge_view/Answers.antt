@@ -6,7 +6,7 @@ use Rattle.node_acts.specs.Plans.{IsOfNode}
 use Rattle.node_acts.specs.Said.{IsPlain}
 use Rattle.verifier.specs.ActLaws.{IsFit}
 use Rattle.verifier.specs.Seen.{counting}
-use Rattle.bench_views.specs.declared.taken.VerifierCall.{VerifierCall}
+use Rattle.bench_views.specs.declared.calls.VerifierCall.{VerifierCall}
 use Rattle.bench_views.specs.Verifier.{verifier_act, IsKnown}
 use Rattle.told_nodes.specs.Judged.{PrintsNone}
 use Rattle.told_nodes.specs.Seats.{FitsAct, view_of}
