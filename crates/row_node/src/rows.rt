@@ -45,6 +45,7 @@ pub trait Rows: Drop {
     ) -> <Self::Memory as Cells>::Payload
         requires cells { cells_of (Self.Memory.room cells.now) ≡ table.cells }
         requires keeps { Keeps table self.now (kept_in (Self.Memory.room cells.now)) }
+        requires has { table.HasCell change.now }
         requires fits { table.IsFit (seen_of table self.now (kept_in (Self.Memory.room cells.now))) change.now }
         ensures reads { table.reads (table.cell change.now)
             (table.row (seen_of table self.now (kept_in (Self.Memory.room cells.now))) change.now)
