@@ -1,30 +1,30 @@
 -- The rows of the centre as those of a node, and the laws that they meet.
-use Rattle.std.proofs.Common.{◌≡◌, inl, inr, ℕ, ◌+◌, ◌≤◌, List, length, Option, Some, None, false, IfSome, sym, ◌∙◌, ap, subst, arith}
+use Rattle.std.proofs.Common.{◌≡◌, inl, inr, ℕ, ◌+◌, List, length, Option, Some, None, false, IfSome, sym, ◌∙◌, ap, subst, arith}
 use Rattle.std.proofs.Props.{props}
 use Rattle.std.proofs.Math.Logic.{∥∥₁_elim}
 use Rattle.std.proofs.lemmas.Bool.{cases_eq, cases_lt}
 use Rattle.std.proofs.lemmas.List.{get_or_past}
-use Rattle.bench_base.specs.declared.sizes.TheConstants.{MOST_COMMITS, ROW_BYTES, CENTRE_CELLS}
-use Rattle.bench_base.proofs.Facts.{few_more}
+use Rattle.bench_base.specs.declared.sizes.TheConstants.{ROW_BYTES, CENTRE_CELLS}
 use Rattle.nv_store.specs.Slot.{Held}
 use Rattle.node_acts.specs.RowList.{row_at, row_of, commits_at, put}
 use Rattle.node_acts.specs.RowLaws.{put_long, put_here, put_other}
 use Rattle.row_table.specs.ShowsLaws.{ReadsOne}
-use Rattle.row_table.specs.Kept.{IsFilled, seen_long, seen_row, seen_count}
+use Rattle.row_table.specs.Kept.{IsFilled, seen_long, seen_row}
 use Rattle.row_node.specs.Tables.{Table, seen_of}
 use Rattle.row_node.specs.Boots.{Found}
+use Rattle.row_node.specs.Counts.{few_found, few_after}
 use Rattle.row_node.specs.Laws.{Laws}
 use Rattle.centre_ledger.specs.declared.rows.DeviceRow.{DeviceRow}
 use Rattle.centre_ledger.specs.declared.rows.CustomerRow.{CustomerRow}
 use Rattle.centre_ledger.specs.declared.rows.Row.{Row}
 use Rattle.centre_ledger.specs.declared.rows.Row.TheVariants as row
-use Rattle.centre_ledger.specs.Books.{Books, AreSound, put_row}
+use Rattle.centre_ledger.specs.Books.{AreSound}
 use Rattle.centre_ledger.specs.Payload.{row_bytes}
 use Rattle.centre_ledger.proofs.OneRow.{one-device}
 use Rattle.centre_ledger.proofs.CustomerBytes.{one-customer}
 use Rattle.centre_ledger.specs.Seen.{Seen, cell_of, counting, books_in}
 use Rattle.centre_protocol.specs.Payloads.{IsIn, IsPayloadOf}
-use Rattle.centre_protocol.specs.Cells.{HasCell, row_in, cell_inside, is_in, books_kept, cells_put, row_here, row_other}
+use Rattle.centre_protocol.specs.Cells.{HasCell, row_in, cell_inside, is_in, cells_put}
 use Rattle.centre_protocol.specs.Sound.{IsSound, IsFit}
 use Rattle.centre_protocol.specs.declared.kept.CentreRows.{CentreRows}
 
@@ -48,8 +48,6 @@ centre_table = record {
   kept = λ m held k. row_in m.accounts k;
   Follows = λ m held. Unit {0};
   one_follows = λ m held. hlevel props;
-  CanTake = λ blank m x. AreSound (put_row m.accounts x);
-  Takes = λ blank m m' x. m'.accounts ≡ put_row m.accounts x;
 }
 
 device_set : IsSet DeviceRow
@@ -71,10 +69,7 @@ reads_one k (row.Customer r) (row.Customer s) p reads reads' =
 sound_found : (m : CentreRows) (held : ℕ → Option Held) → Found centre_table m held → IsSound (seen_of centre_table m held)
 sound_found m held found = record {
   long = long;
-  few = λ k. elim (cases_lt k CENTRE_CELLS) [
-    | inr past ↦ subst (λ (o : Option (ℕ × Row)). commits_at o ≤ MOST_COMMITS) (sym (get_or_past s k None (omega (arith, long, past)))) (omega arith)
-    | inl inside ↦ subst (λ (n : ℕ). n ≤ MOST_COMMITS) (sym (seen_count CENTRE_CELLS IsPayloadOf (row_in m.accounts) held found.keeps.filled k inside)) (found.few k inside)
-  ];
+  few = few_found centre_table m held found;
   placed = λ k. elim (cases_lt k CENTRE_CELLS) [
     | inr past ↦ subst (λ (o : Option (ℕ × Row)). IfSome (row_of o) (IsIn k)) (sym (get_or_past s k None (omega (arith, long, past)))) tt
     | inl inside ↦
@@ -98,11 +93,7 @@ sound_found m held found = record {
 stays_sound : (s : Seen) (x : Row) → IsSound s → HasCell x → IsFit s x → counting.is_worn s x ≡ false → IsSound (counting.after s x)
 stays_sound s x sound has fits fresh = record {
   long = put_long s (cell_of x) x ∙ sound.long;
-  few = λ k. elim (cases_eq k (cell_of x)) [
-    | inl is ↦
-        subst (λ (o : Option (ℕ × Row)). commits_at o ≤ MOST_COMMITS) (sym (ap (row_at (put s (cell_of x) x)) is ∙ here)) (few_more (commits_at (row_at s (cell_of x))) (sound.few (cell_of x)) fresh)
-    | inr differs ↦ subst (λ (o : Option (ℕ × Row)). commits_at o ≤ MOST_COMMITS) (sym (put_other s (cell_of x) x k differs)) (sound.few k)
-  ];
+  few = few_after s (cell_of x) x (omega (arith, cell_inside x has, sound.long)) sound.few fresh;
   placed = λ k. elim (cases_eq k (cell_of x)) [
     | inl is ↦
         subst (λ (o : Option (ℕ × Row)). IfSome (row_of o) (IsIn k)) (sym (ap (row_at (put s (cell_of x) x)) is ∙ here)) (subst (λ (j : ℕ). IsIn j x) (sym is) (is_in x has))
@@ -123,10 +114,4 @@ centre_laws = record {
   agree = λ s sound. sound.books;
   sound = sound_found;
   stays_sound = stays_sound;
-  can_take = λ m held x payload blank next. subst (λ (b : Books). AreSound (put_row b x)) (books_kept m.accounts held m.places next.keeps.filled) next.fits;
-  row_here = λ m m' held held' x payload blank taken.
-      ap (λ (b : Books). row_in b (cell_of x)) taken.takes ∙ row_here m.accounts x m.places taken.next.has;
-  row_other = λ m m' held held' x payload blank taken k differs.
-      ap (λ (b : Books). row_in b k) taken.takes ∙ row_other m.accounts x k taken.next.has differs;
-  follows = λ m m' held held' x payload blank taken after. tt;
 }

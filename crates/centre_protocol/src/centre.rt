@@ -1,6 +1,6 @@
 //! The running centre: its rows in its storage, and the commit that failed.
 ghost use Rattle.std.specs.Prelude.{◌≡◌, ◌≢◌, IfOk, IfErr, MatchResult, Err, false};
-ghost use Rattle.bench_base.specs.declared.sizes.TheConstants.{CENTRE_CELLS, CENTRE_BYTES};
+ghost use Rattle.bench_base.specs.declared.sizes.TheConstants.{ROW_BYTES, CENTRE_CELLS, CENTRE_BYTES};
 ghost use Rattle.nv_store.specs.RoomView.{cells_of};
 ghost use Rattle.nv_store.specs.Turns.{Kept};
 ghost use Rattle.node_seat.specs.Does.{Reads, Spends};
@@ -8,7 +8,8 @@ ghost use Rattle.node_seat.specs.Ends.{end_of_boot};
 ghost use Rattle.centre_ledger.specs.Books.{AreSound};
 ghost use Rattle.centre_ledger.specs.Seen.{counting};
 ghost use Rattle.centre_protocol.specs.Payloads.{IsDamaged};
-ghost use Rattle.centre_protocol.specs.Sound.{AllShowSound};
+ghost use Rattle.centre_protocol.specs.Table.{centre_table};
+ghost use Rattle.row_node.specs.Boots.{AllShowSound};
 
 use crate::kept::CentreRows;
 use bench_base::ledger::Commit;
@@ -47,7 +48,7 @@ impl<N: Nv> Centre<N> {
         ensures size { N.size nv ≢ CENTRE_BYTES → IfErr result (λ e. (e.0 ≡ nv) × (e.2 ≡ BootFail.Damaged)) }
         ensures damaged { N.tells → MatchResult result (λ c. IsDamaged N.Nv (storage_of c) → ⊥)
             (λ e. e.2 ≡ BootFail.Damaged → IsDamaged N.Nv e.0) }
-        ensures sound { N.tells → N.size nv ≡ CENTRE_BYTES → AllShowSound N.Nv nv → IfErr result (λ e. e.2 ≢ BootFail.Damaged) }
+        ensures sound { N.tells → N.size nv ≡ CENTRE_BYTES → AllShowSound centre_table ROW_BYTES N.Nv nv → IfErr result (λ e. e.2 ≢ BootFail.Damaged) }
         ensures room { IfErr result (λ e. cells_of e.1 ≡ CENTRE_CELLS) }
         ensures spent { MatchResult result (λ c. Spends N.Nv 1 nv (storage_of c) Kept) (λ e. Spends N.Nv 1 nv e.0 (end_of_boot (Err e.2))) }
     {

@@ -1,17 +1,15 @@
 //! The rows of the centre as those of a node: the cell and the payload of a row, and how a row is kept.
 ghost use Rattle.std.specs.Prelude.{◌≡◌};
-ghost use Rattle.bench_base.specs.declared.sizes.TheConstants.{CENTRE_CELLS};
 ghost use Rattle.centre_ledger.specs.Payload.{RowReadsAs, row_bytes};
 ghost use Rattle.centre_ledger.specs.Seen.{cell_of};
 ghost use Rattle.centre_protocol.specs.Cells.{HasCell, IsSoundRow};
 
 use crate::boot::{customers_in, devices_in};
 use crate::kept::CentreRows;
-use bench_base::sizes::{CENTRE_CELLS, ROW_BYTES};
+use bench_base::sizes::ROW_BYTES;
 use centre_ledger::{Accounts, Row};
 use nv_store::Room;
 use row_node::Rows;
-use std::alloc::{AllocError, Global};
 
 // The cell that the row lies in: device d in cell d - 1, and customer w in cell w + 7.
 fn cell_of(row: &Row) -> u32
@@ -47,14 +45,6 @@ impl Rows for CentreRows {
 
     ghost laws = { centre_laws };
 
-    fn cells() -> u32 {
-        CENTRE_CELLS
-    }
-
-    fn new(_alloc: Global) -> Result<CentreRows, AllocError> {
-        Ok(CentreRows::none())
-    }
-
     fn clear(&mut self) {
         self.accounts = Accounts::empty();
     }
@@ -67,7 +57,7 @@ impl Rows for CentreRows {
         payload_of(row)
     }
 
-    fn take(&mut self, row: &Row, _blank: bool) {
+    fn take(&mut self, _cells: &Room<ROW_BYTES>, row: &Row, _blank: bool) {
         self.accounts.put(row);
     }
 

@@ -1,13 +1,14 @@
 //! The running host: its jobs in its storage, and the commit that failed.
 ghost use Rattle.std.specs.Prelude.{◌≡◌, ◌≢◌, IfOk, IfErr, MatchResult, Err, false};
-ghost use Rattle.host_jobs.specs.declared.sizes.TheConstants.{HOST_BYTES};
+ghost use Rattle.host_jobs.specs.declared.sizes.TheConstants.{JOB_BYTES, HOST_BYTES};
 ghost use Rattle.nv_store.specs.Turns.{Kept as WithPower};
 ghost use Rattle.node_seat.specs.Does.{Reads, Spends};
 ghost use Rattle.node_seat.specs.Ends.{end_of_boot};
 ghost use Rattle.host_jobs.specs.Seen.{counting};
 ghost use Rattle.host_jobs.specs.Soundness.{IsKept};
 ghost use Rattle.host_node.specs.Payloads.{IsDamaged};
-ghost use Rattle.host_node.specs.Sound.{AllShowSound};
+ghost use Rattle.host_node.specs.Table.{host_table};
+ghost use Rattle.row_node.specs.Boots.{AllShowSound};
 
 use crate::kept::HostRows;
 use crate::room::HostRoom;
@@ -43,7 +44,7 @@ impl<N: Nv> Host<N> {
         ensures size { N.size nv ≢ HOST_BYTES → IfErr result (λ e. (e.0 ≡ nv) × (e.2 ≡ BootFail.Damaged)) }
         ensures damaged { N.tells → MatchResult result (λ h. IsDamaged N.Nv (storage_of h) → ⊥)
             (λ e. e.2 ≡ BootFail.Damaged → IsDamaged N.Nv e.0) }
-        ensures sound { N.tells → N.size nv ≡ HOST_BYTES → AllShowSound N.Nv nv → IfErr result (λ e. e.2 ≢ BootFail.Damaged) }
+        ensures sound { N.tells → N.size nv ≡ HOST_BYTES → AllShowSound host_table JOB_BYTES N.Nv nv → IfErr result (λ e. e.2 ≢ BootFail.Damaged) }
         ensures spent { MatchResult result (λ h. Spends N.Nv 1 nv (storage_of h) WithPower) (λ e. Spends N.Nv 1 nv e.0 (end_of_boot (Err e.2))) }
     {
         match RunningRows::boot(nv, room.into_rows()) {

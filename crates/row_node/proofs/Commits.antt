@@ -1,5 +1,5 @@
 -- What a commit of a change leaves of a node of rows.
-use Rattle.std.proofs.Common.{◌≡◌, ◌≢◌, ◌⊎◌, inl, inr, ℕ, List, Option, Some, Bool, Result, Ok, Err, IsErrOf, false, is_ok, sym, ◌∙◌, ap, subst}
+use Rattle.std.proofs.Common.{◌≡◌, ◌⊎◌, inl, inr, ℕ, List, Option, Bool, Result, Ok, Err, IsErrOf, false, is_ok, sym, ◌∙◌, ap, subst}
 use Rattle.std.proofs.Math.Path.{fun_ext}
 use Rattle.std.proofs.lemmas.Bool.{cases_eq}
 use Rattle.bench_base.specs.declared.refusals.StoreFail.{StoreFail}
@@ -15,8 +15,8 @@ use Rattle.node_seat.specs.Does.{Commits, Stores, Spends, Writes}
 use Rattle.node_seat.specs.Ends.{begins, end_of_commit, leaves_running}
 use Rattle.node_seat.proofs.Fails.{ends_running, spent_failed, writes_as}
 use Rattle.row_table.specs.Kept.{seen_fills, still_filled, seen_put, between_seen}
-use Rattle.row_node.specs.Tables.{Table, Keeps, IsShown, counting, fill_of, seen_of}
-use Rattle.row_node.specs.Laws.{Laws, IsBlank, IsNext, IsTaken}
+use Rattle.row_node.specs.Tables.{Table, Filled, Keeps, IsShown, counting, fill_of, seen_of}
+use Rattle.row_node.specs.Laws.{Laws, IsBlank, IsNext, IsCommitted, Takes}
 use Rattle.row_node.proofs.Worn.{full}
 
 -- the next change, where its cell was looked up
@@ -59,28 +59,20 @@ module _ {S X N : Type 0} {L : ℕ} {t : Table S X} (laws : Laws L t) (g : Ghost
     }
 
   -- once it is committed
-  module _ {new : Room L} {before now : N} (did : RoomCommits g (t.cell x) payload old new before now (Ok tt)) {m' : S} (takes : t.Takes blank m m' x) where
-    taken : IsTaken t m m' (kept_in old) (kept_in new) x payload blank
-    taken = record { next = next; takes = takes; here = did.puts.here; others = did.puts.others }
+  module _ (new : Room L) {before now : N} (did : RoomCommits g (t.cell x) payload old new before now (Ok tt)) where
+    pub committed : IsCommitted t m (kept_in old) (kept_in new) x payload blank
+    committed = record { next = next; here = did.puts.here; others = did.puts.others }
 
-    here : t.kept m' (kept_in new) (t.cell x) ≡ Some (t.row seen x)
-    here = laws.row_here m m' (kept_in old) (kept_in new) x payload blank taken
+    module _ {m' : S} (takes : Takes t m m' (kept_in old) (kept_in new) x) where
+      pub seen_after : seen_of t m' (kept_in new) ≡ after
+      seen_after =
+          seen_put t.cells t.reads (t.kept m (kept_in old)) (kept_in old) next.keeps.filled (t.cell x) (laws.inside x next.has) (t.row seen x) payload next.reads
+          (t.kept m' (kept_in new)) (kept_in new) takes.here takes.others did.puts.here did.puts.others
 
-    others : (k : ℕ) → k ≢ t.cell x → t.kept m' (kept_in new) k ≡ t.kept m (kept_in old) k
-    others = laws.row_other m m' (kept_in old) (kept_in new) x payload blank taken
-
-    pub seen_after : seen_of t m' (kept_in new) ≡ after
-    seen_after =
-        seen_put t.cells t.reads (t.kept m (kept_in old)) (kept_in old) next.keeps.filled (t.cell x) (laws.inside x next.has) (t.row seen x) payload next.reads
-        (t.kept m' (kept_in new)) (kept_in new) here others did.puts.here did.puts.others
-
-    pub keeps_after : Keeps t m' (kept_in new)
-    keeps_after = record {
-      filled =
+      pub filled_after : Filled t m' (kept_in new)
+      filled_after =
           still_filled t.cells t.reads (t.kept m (kept_in old)) (kept_in old) next.keeps.filled (t.cell x) (laws.inside x next.has) (t.row seen x) payload next.reads
-          (t.kept m' (kept_in new)) (kept_in new) here others did.puts.here did.puts.others;
-      follows = laws.follows m m' (kept_in old) (kept_in new) x payload blank taken seen_after;
-    }
+          (t.kept m' (kept_in new)) (kept_in new) takes.here takes.others did.puts.here did.puts.others
 
   -- where it failed, though its cell was not worn
   module _ {new : Room L} {before now : N} {fail : StoreFail} (did : RoomCommits g (t.cell x) payload old new before now (Err fail)) (fresh : is_worn seen (t.cell x) ≡ false) where

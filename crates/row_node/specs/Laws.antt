@@ -21,12 +21,17 @@ module _ {S X : Type 0} (t : Table S X) where
     pub is_blank : IsBlank blank (held (t.cell x))
     pub reads : t.reads (t.cell x) (t.row (seen_of t m held) x) payload
 
-  -- the cells after it was committed, and what is kept then
-  pub record IsTaken (m m' : S) (held held' : ℕ → Option Held) (x : X) (payload : List ℕ) (blank : Bool) : Type 0 where
+  -- the cells after it was committed
+  pub record IsCommitted (m : S) (held held' : ℕ → Option Held) (x : X) (payload : List ℕ) (blank : Bool) : Type 0 where
     pub next : IsNext m held x payload blank
-    pub takes : t.Takes blank m m' x
     pub here : held' (t.cell x) ≡ after_commit (held (t.cell x)) payload
     pub others : (k : ℕ) → k ≢ t.cell x → held' k ≡ held k
+
+  -- what is kept then: the row lies in its cell, and all others lie where they were
+  pub record Takes (m m' : S) (held held' : ℕ → Option Held) (x : X) : Type 0 where
+    pub here : t.kept m' held' (t.cell x) ≡ Some (t.row (seen_of t m held) x)
+    pub others : (k : ℕ) → k ≢ t.cell x → t.kept m' held' k ≡ t.kept m held k
+    pub follows : t.Follows m' held'
 
 pub record Laws {S X : Type 0} (size : ℕ) (t : Table S X) : Type 0 where
   pub small : size ≤ MOST_BYTES
@@ -39,11 +44,3 @@ pub record Laws {S X : Type 0} (size : ℕ) (t : Table S X) : Type 0 where
   -- what a boot finds is sound, and so is what a commit makes of it
   pub sound : (m : S) (held : ℕ → Option Held) → Found t m held → t.IsSound (seen_of t m held)
   pub stays_sound : (s : RowList t.Row) (x : X) → t.IsSound s → t.HasCell x → t.IsFit s x → (counting t).is_worn s x ≡ false → t.IsSound ((counting t).after s x)
-  -- the next change can be kept, and then lies in its cell, and all others lie where they were
-  pub can_take : (m : S) (held : ℕ → Option Held) (x : X) (payload : List ℕ) (blank : Bool) → IsNext t m held x payload blank → t.CanTake blank m x
-  pub row_here : (m m' : S) (held held' : ℕ → Option Held) (x : X) (payload : List ℕ) (blank : Bool) → IsTaken t m m' held held' x payload blank
-      → t.kept m' held' (t.cell x) ≡ Some (t.row (seen_of t m held) x)
-  pub row_other : (m m' : S) (held held' : ℕ → Option Held) (x : X) (payload : List ℕ) (blank : Bool) → IsTaken t m m' held held' x payload blank
-      → (k : ℕ) → k ≢ t.cell x → t.kept m' held' k ≡ t.kept m held k
-  pub follows : (m m' : S) (held held' : ℕ → Option Held) (x : X) (payload : List ℕ) (blank : Bool) → IsTaken t m m' held held' x payload blank
-      → seen_of t m' held' ≡ (counting t).after (seen_of t m held) x → t.Follows m' held'

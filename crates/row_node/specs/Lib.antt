@@ -8,3 +8,5 @@ pub mod RunningView
 pub mod Unique
 pub mod Knows
 pub mod NodeLaws
+pub mod Committed
+pub mod Counts

@@ -1,5 +1,5 @@
 -- What a node of rows is, whatever its rows: how its cells read as rows, which rows are sound, and what it keeps beside them.
-use Rattle.std.specs.Prelude.{ℕ, ◌+◌, ◌*◌, List, Option, Bool}
+use Rattle.std.specs.Prelude.{ℕ, ◌+◌, ◌*◌, List, Option}
 use Rattle.nv_model.specs.declared.nv.Nv.{Ghosts}
 use Rattle.nv_store.specs.Slot.{Held}
 use Rattle.nv_store.specs.Fills.{Fill}
@@ -33,9 +33,6 @@ pub record Table (S X : Type 0) : Type 1 where
   -- what else is kept follows from the cells
   pub Follows : S → (ℕ → Option Held) → Type 0
   pub one_follows : (m : S) (held : ℕ → Option Held) → IsProp (Follows m held)
-  -- a change, to a cell that was blank or not, can be kept, and how it is
-  pub CanTake : Bool → S → X → Type 0
-  pub Takes : Bool → S → S → X → Type 0
 
 module _ {S X : Type 0} (t : Table S X) where
   -- the size of its storage, with payloads of this size

@@ -13,7 +13,6 @@ use crate::cells::Cells;
 use crate::rows::Rows;
 use bench_base::refusals::StoreFail;
 use nv_model::{Nv, NvFail};
-use std::alloc::{AllocError, Global};
 
 /// The memory that a node of rows runs in.
 #[derive(Drop)]
@@ -21,15 +20,6 @@ pub struct RowRoom<R: Rows> {
     pub cells: R::Memory,
     pub rows: R,
     ghost many: { cells_of (R.Memory.room cells) ≡ R.table.cells },
-}
-
-impl<R: Rows> RowRoom<R> {
-    /// Takes the memory. AllocError is want of memory.
-    pub fn new(alloc: Global) -> Result<RowRoom<R>, AllocError> {
-        let cells = <R::Memory as Cells>::new(alloc, R::cells())?;
-        let rows = R::new(alloc)?;
-        Ok(RowRoom { cells, rows })
-    }
 }
 
 /// A node of rows over its storage: a cell of two slots for each row. While it is off, what it knew of its storage counts
@@ -50,6 +40,7 @@ pub struct RowNode<N: Nv, R: Rows> {
 
 impl<N: Nv, R: Rows> RowNode<N, R> {
     ghost use Rattle.row_node.specs.NodeView.{storage_in, seen_in, is_on};
+    ghost use Rattle.row_node.specs.Committed.{Committed};
 
     /// The node that is off, in this storage and this memory.
     pub fn new(nv: N, room: RowRoom<R>) -> RowNode<N, R>
@@ -112,16 +103,7 @@ impl<N: Nv, R: Rows> RowNode<N, R> {
     pub(crate) fn commit_change(&mut self, change: &R::Change) -> Result<(), StoreFail>
         requires on { is_on self.old ≡ true }
         requires fits { R.table.IsFit (seen_in self.old) change.now }
-        ensures leaves { is_on self.new ≡ leaves_running result }
-        ensures has { R.table.HasCell change.now }
-        ensures rests { IsErrOf result StoreFail.Worn → self.new ≡ self.old }
-        ensures stays { OnErr result (seen_in self.new ≡ seen_in self.old) }
-        ensures answers { Commits (counting R.table) (seen_in self.old) (seen_in self.new) change.now result }
-        ensures stores { Stores N.Nv (IsShown R.table R.Memory.size (seen_in self.old))
-            (IsShown R.table R.Memory.size ((counting R.table).after (seen_in self.old) change.now))
-            (storage_in self.old) (storage_in self.new) (end_of_commit result) }
-        ensures writes { Writes N.Nv (fill_of R.table R.Memory.size (seen_in self.old) change.now)
-            (storage_in self.old) (storage_in self.new) (begins result) (is_ok result) }
+        ensures { Committed change.now self.old self.new result }
     {
         let cell = R::cell_of(change);
         if self.is_worn(cell) {
@@ -131,7 +113,7 @@ impl<N: Nv, R: Rows> RowNode<N, R> {
         let payload = self.rows.payload_with(&self.cells, change);
         match self.cells.commit(&mut self.nv, cell, &payload) {
             Ok(()) => {
-                self.rows.take(change, blank);
+                self.rows.take(&self.cells, change, blank);
                 Ok(())
             }
             Err(fail) => {

@@ -1,12 +1,13 @@
 //! The rows of a node: how its cells read, and what it keeps of them.
-ghost use Rattle.std.specs.Prelude.{◌≡◌, IfOk, MatchBool};
+ghost use Rattle.std.specs.Prelude.{◌≡◌, ℕ, List, Option, MatchBool};
 ghost use Rattle.node_acts.specs.RowList.{RowList};
+ghost use Rattle.nv_store.specs.Slot.{Held};
 ghost use Rattle.nv_store.specs.RoomView.{cells_of, kept_in};
 ghost use Rattle.row_node.specs.Tables.{Keeps, seen_of};
+ghost use Rattle.row_node.specs.Laws.{IsCommitted, Takes};
 ghost use Rattle.row_node.specs.Boots.{Found, HoldNone, IsNone};
 
 use crate::cells::Cells;
-use std::alloc::{AllocError, Global};
 
 /// What a node keeps of the rows of its cells, and how it lays them out.
 pub trait Rows: Drop {
@@ -20,13 +21,6 @@ pub trait Rows: Drop {
 
     /// How the cells read as rows, which rows are sound, and what is kept of them.
     ghost table: { Table Self Self.Change };
-
-    /// The number of cells.
-    fn cells() -> u32
-        ensures { result ≡ table.cells };
-
-    /// Takes the memory. AllocError is want of memory.
-    fn new(alloc: Global) -> Result<Self, AllocError>;
 
     /// Keeps no row.
     fn clear(&mut self)
@@ -54,9 +48,13 @@ pub trait Rows: Drop {
             ≡ table.spelled (table.row (seen_of table self.now (kept_in (Self.Memory.room cells.now))) change.now) };
 
     /// Keeps a change that was committed, to a cell that was blank or not.
-    fn take(&mut self, change: &Self::Change, blank: bool)
-        requires { table.CanTake blank self.old change.now }
-        ensures { table.Takes blank self.old self.new change.now };
+    fn take(&mut self, cells: &Self::Memory, change: &Self::Change, blank: bool)
+        requires many { cells_of (Self.Memory.room cells.now) ≡ table.cells }
+        requires committed { (held : ℕ → Option Held) × (payload : List ℕ)
+            × IsCommitted table self.old held (kept_in (Self.Memory.room cells.now)) change.now payload blank }
+        ensures { (held : ℕ → Option Held) (payload : List ℕ)
+            → IsCommitted table self.old held (kept_in (Self.Memory.room cells.now)) change.now payload blank
+            → Takes table self.old self.new held (kept_in (Self.Memory.room cells.now)) change.now };
 
     /// Reads the rows of the cells. False where a payload reads as no row of its cell, or the rows do not agree.
     fn read(&mut self, cells: &Self::Memory) -> bool
