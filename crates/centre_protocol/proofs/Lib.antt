@@ -1,3 +1,3 @@
-pub mod Commits
 pub mod Booted
 pub mod Fits
+pub mod Seen

@@ -17,15 +17,11 @@ use Rattle.centre_ledger.specs.Books.{Books, put_row, no_rows}
 use Rattle.centre_ledger.specs.Soundness.{IsSoundDevice, IsSoundCustomer}
 use Rattle.centre_ledger.specs.Seen.{Seen, cell_of, device_in, customer_in, books_in}
 use Rattle.centre_protocol.specs.Payloads.{IsIn, IsPayloadOf, HoldRows}
+use Rattle.centre_protocol.specs.Places.{HasPlaces}
 
 -- the row that lies in a cell
 abbrev pub row_in : Books → ℕ → Option Row
 row_in b k = if nat_lt k 8 then option_map row.Device (get_or b.devices k None) else option_map row.Customer (get_or b.customers (k - 8) None)
-
--- there is a place for each device and each customer
-pub record HasPlaces (b : Books) : Type 0 where
-  pub devices : length b.devices ≡ 8
-  pub customers : length b.customers ≡ 64
 
 -- the row has a place
 abbrev pub HasCell : Row → Type 0

@@ -5,7 +5,6 @@ pub mod Sound
 pub mod NodeView
 pub mod CentreView
 -- Bookkeeping: private calls and proofs alone name these.
+pub mod Places
 pub mod Boots
-pub mod Knows
-pub mod NodeLaws
-pub mod Unique
+pub mod Table

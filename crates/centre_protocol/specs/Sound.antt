@@ -1,13 +1,11 @@
 -- The rows of the centre as its storage can show them.
-use Rattle.std.specs.Prelude.{◌≡◌, ℕ, ◌≤◌, List, length, IfSome}
+use Rattle.std.specs.Prelude.{◌≡◌, ℕ, ◌≤◌, length, IfSome}
 use Rattle.bench_base.specs.declared.sizes.TheConstants.{MOST_COMMITS, CENTRE_CELLS}
-use Rattle.nv_model.specs.declared.nv.Nv.{Ghosts}
-use Rattle.nv_model.specs.Moments.{Image}
 use Rattle.node_acts.specs.RowList.{row_at, row_of, commits_at}
 use Rattle.centre_ledger.specs.declared.rows.Row.{Row}
 use Rattle.centre_ledger.specs.Books.{AreSound, put_row}
 use Rattle.centre_ledger.specs.Seen.{Seen, books_in}
-use Rattle.centre_protocol.specs.Payloads.{IsIn, IsShown}
+use Rattle.centre_protocol.specs.Payloads.{IsIn}
 
 -- each row lies in its own cell, and they are sound, also together
 pub record IsSound (s : Seen) : Type 0 where
@@ -19,13 +17,3 @@ pub record IsSound (s : Seen) : Type 0 where
 -- the rows are sound with this one in its place
 abbrev pub IsFit : Seen → Row → Type 0
 IsFit s x = AreSound (put_row (books_in s) x)
-
--- an image that shows sound rows
-pub record ShowsSound (image : List ℕ) : Type 0 where
-  pub rows : Seen
-  pub sound : IsSound rows
-  pub shows : IsShown rows image
-
--- each image does
-abbrev pub AllShowSound : {N : Type 0} → Ghosts N → N → Type 0
-AllShowSound g nv = (image : List ℕ) → Image (g.times nv) image → ShowsSound image

@@ -26,7 +26,7 @@ impl<N: Nv> Centre<N> {
     pub fn take(&mut self, bytes: &[u8]) -> Result<CentreAnswer, CentreFail>
         ensures { Performs (act_of.take_act bytes.now (books_of self.old)) self.old self.new result }
     {
-        let act = take_act(bytes, self.running.node.accounts());
+        let act = take_act(bytes, self.accounts());
         self.perform(act)
     }
 
@@ -34,7 +34,7 @@ impl<N: Nv> Centre<N> {
     pub fn register(&mut self, device: DevNo, origin: u32, key: &Key) -> Result<(), CentreFail>
         ensures { Performs (act_of.register_act device origin key.now (books_of self.old)) self.old self.new result }
     {
-        let act = register_act(device, origin, key, self.running.node.accounts());
+        let act = register_act(device, origin, key, self.accounts());
         self.perform(act)
     }
 
@@ -42,7 +42,7 @@ impl<N: Nv> Centre<N> {
     pub fn open_customer(&mut self, customer: Customer) -> Result<(), CentreFail>
         ensures { Performs (act_of.open_act customer (books_of self.old)) self.old self.new result }
     {
-        let act = open_act(customer, self.running.node.accounts());
+        let act = open_act(customer, self.accounts());
         self.perform(act)
     }
 
@@ -55,7 +55,7 @@ impl<N: Nv> Centre<N> {
     ) -> Result<Deposit, CentreFail>
         ensures { Performs (act_of.deposit_act customer receipt amount (books_of self.old)) self.old self.new result }
     {
-        let act = deposit_act(customer, receipt, amount, self.running.node.accounts());
+        let act = deposit_act(customer, receipt, amount, self.accounts());
         self.perform(act)
     }
 
@@ -64,7 +64,7 @@ impl<N: Nv> Centre<N> {
     pub fn flag(&mut self, customer: Customer, suspended: bool) -> Result<(), CentreFail>
         ensures { Performs (act_of.flag_act customer suspended (books_of self.old)) self.old self.new result }
     {
-        let act = flag_act(customer, suspended, self.running.node.accounts());
+        let act = flag_act(customer, suspended, self.accounts());
         self.perform(act)
     }
 
@@ -72,13 +72,13 @@ impl<N: Nv> Centre<N> {
     pub fn balance(&self, customer: Customer) -> Result<u64, CentreFail>
         ensures { result ≡ answer_of (act_of.balance_act customer (books_of self.now)) }
     {
-        answer(balance_act(customer, self.running.node.accounts()))
+        answer(balance_act(customer, self.accounts()))
     }
 
     /// What the centre holds of the device: see `Standing`. `UnknownDevice` exactly where it is not registered.
     pub fn standing(&self, device: DevNo) -> Result<Standing, CentreFail>
         ensures { result ≡ answer_of (act_of.standing_act device (books_of self.now)) }
     {
-        answer(standing_act(device, self.running.node.accounts()))
+        answer(standing_act(device, self.accounts()))
     }
 }

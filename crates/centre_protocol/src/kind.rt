@@ -5,15 +5,18 @@ ghost use Rattle.centre_protocol.specs.Payloads as payloads;
 ghost use Rattle.centre_protocol.specs.Cells.{HasCell};
 ghost use Rattle.centre_protocol.specs.Sound as sound_by;
 ghost use Rattle.centre_protocol.specs.NodeView as node_view;
-ghost use Rattle.centre_protocol.specs.Knows as known;
-ghost use Rattle.centre_protocol.specs.NodeLaws as laws;
+ghost use Rattle.centre_protocol.specs.Table.{centre_laws};
+ghost use Rattle.row_node.specs.Knows as known;
+ghost use Rattle.row_node.specs.NodeLaws as laws;
 
+use crate::kept::CentreRows;
 use crate::node::CentreNode;
 use crate::room::CentreRoom;
 use bench_base::refusals::{BootFail, StoreFail};
 use centre_ledger::Row;
 use node_seat::{Arms, Node};
 use nv_model::{Fuse, Nv, NvFail};
+use row_node::{RowNode, RowRoom};
 
 impl<M: Nv> Node for CentreNode<M> {
     type Storage = M;
@@ -56,50 +59,54 @@ impl<M: Nv> Node for CentreNode<M> {
 
     ghost stays_same = { λ k. tt };
 
-    ghost sized = { λ k on. known.size k on };
+    ghost sized = { λ k on. known.size k.node on };
 
-    ghost knows = { λ k tells on. known.shows k tells on };
+    ghost knows = { λ k tells on. known.shows k.node tells on };
 
-    ghost one_shown = { λ d a b c. laws.one_shown a b c };
+    ghost one_shown = { λ d a b c. laws.one_shown centre_laws a b c };
 
-    ghost keeps = { λ d s x. laws.keeps s x };
+    ghost keeps = { λ d s x. centre_laws.stays_sound s x };
 
-    ghost counts = { λ d s x. laws.counts s x };
+    ghost counts = { λ d s x. laws.counts centre_laws s x };
 
-    ghost intact = { λ d s nv. laws.intact M.Nv.own s nv };
+    ghost intact = { λ d s nv. laws.intact centre_laws M.Nv.own s nv };
 
     fn off(_number: (), nv: M, spare: CentreRoom) -> CentreNode<M> {
         let CentreRoom { cells } = spare;
-        CentreNode::new(nv, cells)
+        let rows = CentreRows::none();
+        CentreNode {
+            node: RowNode::new(nv, RowRoom { cells, rows }),
+        }
     }
 
     fn is_on(&self) -> bool {
-        self.on
+        self.node.is_on()
     }
 
     fn restart(&mut self) -> Result<(), NvFail> {
-        self.restart_storage()
+        self.node.restart()
     }
 
     fn boot(&mut self, _number: ()) -> Result<(), BootFail> {
-        self.boot_rows()
+        self.node.boot_rows()
     }
 
     fn commit(&mut self, change: &Row) -> Result<(), StoreFail> {
-        self.commit_row(change)
+        self.node.commit(change)
     }
 
     fn commits(&self) -> u64 {
-        self.count()
+        self.node.commits()
     }
 
     fn shut(&mut self) {
-        self.on = false;
+        self.node.shut();
     }
 
     fn into_parts(self) -> (M, CentreRoom) {
-        let (nv, cells) = self.into_storage();
-        (nv, CentreRoom { cells })
+        let CentreNode { node } = self;
+        let (nv, room) = node.into_storage();
+        (nv, CentreRoom { cells: room.cells })
     }
 }
 
@@ -107,6 +114,6 @@ impl<M: Fuse> Arms for CentreNode<M> {
     ghost fuse = { M.Fuse.own };
 
     fn arm(&mut self, calls: u32, keep: u32, byte: u8) {
-        self.nv.arm(calls, keep, byte);
+        self.node.arm(calls, keep, byte);
     }
 }

@@ -4,6 +4,7 @@
 mod boot;
 mod calls;
 mod centre;
+mod kept;
 mod kind;
 mod lending;
 mod node;
@@ -12,5 +13,6 @@ mod rows;
 
 pub use centre::Centre;
 pub use centre_ledger::{CentreAnswer, Deposit, Standing};
+pub use kept::CentreRows;
 pub use node::CentreNode;
 pub use room::CentreRoom;

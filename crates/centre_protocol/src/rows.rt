@@ -1,14 +1,18 @@
-//! The cell and the payload of a row.
+//! The rows of the centre as those of a node: the cell and the payload of a row, and how a row is kept.
 ghost use Rattle.std.specs.Prelude.{◌≡◌};
 ghost use Rattle.centre_ledger.specs.Payload.{RowReadsAs, row_bytes};
 ghost use Rattle.centre_ledger.specs.Seen.{cell_of};
 ghost use Rattle.centre_protocol.specs.Cells.{HasCell, IsSoundRow};
 
+use crate::boot::{customers_in, devices_in};
+use crate::kept::CentreRows;
 use bench_base::sizes::ROW_BYTES;
-use centre_ledger::Row;
+use centre_ledger::{Accounts, Row};
+use nv_store::Room;
+use row_node::Rows;
 
-/// The cell that the row lies in: device d in cell d - 1, and customer w in cell w + 7.
-pub fn cell_of(row: &Row) -> u32
+// The cell that the row lies in: device d in cell d - 1, and customer w in cell w + 7.
+fn cell_of(row: &Row) -> u32
     ensures value { result ≡ cell_of row.now }
     ensures has { HasCell row.now }
 {
@@ -18,8 +22,8 @@ pub fn cell_of(row: &Row) -> u32
     }
 }
 
-/// The spelling of the row, which is sound.
-pub fn payload_of(row: &Row) -> [u8; ROW_BYTES]
+// The spelling of the row, which is sound.
+fn payload_of(row: &Row) -> [u8; ROW_BYTES]
     requires sound { IsSoundRow row.now }
     ensures value { result ≡ row_bytes row.now }
     ensures reads { RowReadsAs row.now result }
@@ -27,5 +31,49 @@ pub fn payload_of(row: &Row) -> [u8; ROW_BYTES]
     match row {
         Row::Device(row) => row.write_payload(),
         Row::Customer(row) => row.write_payload(),
+    }
+}
+
+impl Rows for CentreRows {
+    ghost use Rattle.centre_protocol.specs.Table.{centre_table, centre_laws};
+
+    type Change = Row;
+
+    type Memory = Room<ROW_BYTES>;
+
+    ghost table = { centre_table };
+
+    ghost laws = { centre_laws };
+
+    fn clear(&mut self) {
+        self.accounts = Accounts::empty();
+    }
+
+    fn cell_of(row: &Row) -> u32 {
+        cell_of(row)
+    }
+
+    fn payload_with(&self, _cells: &Room<ROW_BYTES>, row: &Row) -> [u8; ROW_BYTES] {
+        payload_of(row)
+    }
+
+    fn take(&mut self, _cells: &Room<ROW_BYTES>, row: &Row, _blank: bool) {
+        self.accounts.put(row);
+    }
+
+    fn read(&mut self, cells: &Room<ROW_BYTES>) -> bool {
+        let Ok(devices) = devices_in(cells) else {
+            return false;
+        };
+        let Ok(customers) = customers_in(cells) else {
+            return false;
+        };
+        match Accounts::of(devices, customers) {
+            Some(accounts) => {
+                self.accounts = accounts;
+                true
+            }
+            None => false,
+        }
     }
 }

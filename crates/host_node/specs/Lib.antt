@@ -6,6 +6,5 @@ pub mod HostView
 -- Bookkeeping: private calls and proofs alone name these.
 pub mod Cells
 pub mod Boots
-pub mod Knows
-pub mod NodeLaws
 pub mod Unique
+pub mod Table

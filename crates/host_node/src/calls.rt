@@ -13,7 +13,7 @@ use crate::host::Host;
 use bench_base::bytes::Note;
 use bench_base::numbers::DevNo;
 use bench_base::refusals::{HostFail, RateRefusal};
-use host_jobs::Ordered;
+use host_jobs::{Ordered, begin_print_act, close_act, debit_message_act, order_act, take_act};
 use node_seat::answer;
 use nv_model::Nv;
 
@@ -32,7 +32,8 @@ impl<N: Nv> Host<N> {
         requires price { IsPrice price }
         ensures { Performs (act_of.order_act device piece class price (rows_of self.old)) self.old self.new result }
     {
-        let act = self.running.node.order_act(price, device, piece, class);
+        let _number = device.get();
+        let act = order_act(device, piece, class, price, self.jobs(), self.kept());
         self.perform(act)
     }
 
@@ -41,14 +42,14 @@ impl<N: Nv> Host<N> {
     pub fn debit_message(&self, job: u32) -> Result<Note, HostFail>
         ensures { result ≡ answer_of (act_of.debit_message_act job (rows_of self.now)) }
     {
-        answer(self.running.node.debit_message_act(job))
+        answer(debit_message_act(job, self.jobs()))
     }
 
     /// Takes a Release, with a mark of either version, and answers the job that holds it: see `host_jobs::take_act`.
     pub fn take(&mut self, bytes: &[u8]) -> Result<u32, HostFail>
         ensures { Performs (act_of.take_act bytes.now (rows_of self.old)) self.old self.new result }
     {
-        let act = self.running.node.take_act(bytes);
+        let act = take_act(bytes, self.jobs(), self.kept());
         self.perform(act)
     }
 
@@ -57,7 +58,7 @@ impl<N: Nv> Host<N> {
     pub fn begin_print(&mut self, job: u32) -> Result<[u8; 64], HostFail>
         ensures { Performs (act_of.begin_print_act job (rows_of self.old)) self.old self.new result }
     {
-        let act = self.running.node.begin_print_act(job);
+        let act = begin_print_act(job, self.jobs(), self.kept());
         self.perform(act)
     }
 
@@ -65,7 +66,7 @@ impl<N: Nv> Host<N> {
     pub fn close_job(&mut self, job: u32) -> Result<(), HostFail>
         ensures { Performs (act_of.close_act job (rows_of self.old)) self.old self.new result }
     {
-        let act = self.running.node.close_act(job);
+        let act = close_act(job, self.jobs(), self.kept());
         self.perform(act)
     }
 }

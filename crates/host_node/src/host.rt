@@ -1,57 +1,101 @@
 //! The running host: its jobs in its storage, and the commit that failed.
-ghost use Rattle.std.specs.Prelude.{◌≡◌, not, is_some};
-ghost use Rattle.host_jobs.specs.declared.sizes.TheConstants.{HOST_BYTES};
+ghost use Rattle.std.specs.Prelude.{◌≡◌, ◌≢◌, IfOk, IfErr, MatchResult, Err, false};
+ghost use Rattle.host_jobs.specs.declared.sizes.TheConstants.{JOB_BYTES, HOST_BYTES};
+ghost use Rattle.nv_store.specs.Turns.{Kept as WithPower};
+ghost use Rattle.node_seat.specs.Does.{Reads, Spends};
+ghost use Rattle.node_seat.specs.Ends.{end_of_boot};
 ghost use Rattle.host_jobs.specs.Seen.{counting};
-ghost use Rattle.host_node.specs.NodeView.{storage_in, is_on};
+ghost use Rattle.host_jobs.specs.Soundness.{IsKept};
+ghost use Rattle.host_node.specs.Payloads.{IsDamaged};
+ghost use Rattle.host_node.specs.Table.{host_table};
+ghost use Rattle.row_node.specs.Boots.{AllShowSound};
 
-use crate::node::HostNode;
+use crate::kept::HostRows;
 use crate::room::HostRoom;
 use bench_base::ledger::Commit;
-use bench_base::refusals::HostFail;
-use host_jobs::HostAct;
-use node_seat::Running;
+use bench_base::refusals::{BootFail, HostFail};
+use host_jobs::{HostAct, JobRows, Kept};
 use nv_model::{Fused, Nv};
+use row_node::RunningRows;
 
 /// The host over storage of 245,760 bytes: 1,024 cells, each with a job. Job j lies in cell (j - 1) mod 1,024.
 #[derive(Drop)]
 pub struct Host<N: Nv> {
-    pub(crate) running: Running<HostNode<N>>,
-    ghost runs: { is_on running.node ≡ not (is_some running.torn) },
-    ghost room: { N.size (storage_in running.node) ≡ HOST_BYTES },
+    pub(crate) rows: RunningRows<N, HostRows>,
 }
 
 impl<N: Nv> Host<N> {
-    ghost use Rattle.host_node.specs.HostView.{storage_of, seen_of, torn_of, CanCommit, Performs};
+    ghost use Rattle.host_node.specs.HostView.{storage_of, seen_of, rows_of, torn_of, Starts, CanCommit, Performs};
 
-    // Does what a call decided on: see `Running::perform`.
+    /// The host in its storage and in this memory, or why it does not start, with both. Power is not lost. Nothing is written.
+    ///
+    /// `Damaged` where the storage has not 245,760 bytes; where a cell has an open slot of count 0 or two open slots of equal
+    /// counts; where a current payload reads as no job of its cell; and where the jobs do not agree: one of the last 1,024 is
+    /// missing, two of a device are ordered, or one is ordered for a piece that is not above the device's top. Blank storage is
+    /// a host without jobs.
+    pub fn boot(nv: N, room: HostRoom) -> Result<Host<N>, (N, HostRoom, BootFail)>
+        requires { (N.meters nv).lost ≡ false }
+
+        // What starts is what the storage shows, and nothing is written.
+        ensures starts { IfOk result Starts }
+        ensures reads { MatchResult result (λ h. Reads N.Nv nv (storage_of h)) (λ e. Reads N.Nv nv e.0) }
+
+        // Why it fails, and what it costs.
+        ensures size { N.size nv ≢ HOST_BYTES → IfErr result (λ e. (e.0 ≡ nv) × (e.2 ≡ BootFail.Damaged)) }
+        ensures damaged { N.tells → MatchResult result (λ h. IsDamaged N.Nv (storage_of h) → ⊥)
+            (λ e. e.2 ≡ BootFail.Damaged → IsDamaged N.Nv e.0) }
+        ensures sound { N.tells → N.size nv ≡ HOST_BYTES → AllShowSound host_table JOB_BYTES N.Nv nv → IfErr result (λ e. e.2 ≢ BootFail.Damaged) }
+        ensures spent { MatchResult result (λ h. Spends N.Nv 1 nv (storage_of h) WithPower) (λ e. Spends N.Nv 1 nv e.0 (end_of_boot (Err e.2))) }
+    {
+        match RunningRows::boot(nv, room.into_rows()) {
+            Ok(rows) => Ok(Host { rows }),
+            Err((nv, room, fail)) => Err((nv, HostRoom::of(room), fail)),
+        }
+    }
+
+    /// The jobs.
+    pub(crate) fn jobs(&self) -> &JobRows
+        ensures { result.now ≡ rows_of self.now }
+    {
+        &self.rows.node().rows().jobs
+    }
+
+    /// What is kept of them.
+    pub(crate) fn kept(&self) -> &Kept
+        ensures { IsKept (rows_of self.now) result.now }
+    {
+        &self.rows.node().rows().kept
+    }
+
+    // Does what a call decided on: see `RunningRows::perform`.
     pub(crate) fn perform<A: Copy>(&mut self, act: HostAct<A>) -> Result<A, HostFail>
         requires fits { CanCommit act self.old }
         ensures { Performs act self.old self.new result }
     {
-        self.running.perform(act)
+        self.rows.perform(act)
     }
 
     /// The number of commits.
     pub fn commits(&self) -> u64
         ensures { result ≡ counting.count (seen_of self.now) }
     {
-        self.running.commits()
+        self.rows.commits()
     }
 
     /// The commit that a call of this value which answered Power or Fault would have added; None exactly where no call did.
     pub fn torn(&self) -> Option<Commit>
         ensures { result ≡ torn_of self.now }
     {
-        self.running.torn()
+        self.rows.torn()
     }
 
     /// Gives the storage and the memory back.
     pub fn shut(self) -> (N, HostRoom)
         ensures { result.0 ≡ storage_of self }
     {
-        let Host { running } = self;
-        let (nv, cells, rows) = running.into_node().into_storage();
-        (nv, HostRoom { cells, rows })
+        let Host { rows } = self;
+        let (nv, room) = rows.shut();
+        (nv, HostRoom::of(room))
     }
 }
 
@@ -67,6 +111,6 @@ impl<M: Nv> Host<Fused<M>> {
         ensures seen { seen_of self.new ≡ seen_of self.old }
         ensures torn { torn_of self.new ≡ torn_of self.old }
     {
-        self.running.node.nv.arm(calls, keep, byte);
+        self.rows.arm(calls, keep, byte);
     }
 }

@@ -4,8 +4,9 @@ ghost use Rattle.host_jobs.specs.Seen as seen_by;
 ghost use Rattle.host_node.specs.Payloads as payloads;
 ghost use Rattle.host_node.specs.Sound as sound_by;
 ghost use Rattle.host_node.specs.NodeView as node_view;
-ghost use Rattle.host_node.specs.Knows as known;
-ghost use Rattle.host_node.specs.NodeLaws as laws;
+ghost use Rattle.host_node.specs.Table.{host_laws};
+ghost use Rattle.row_node.specs.Knows as known;
+ghost use Rattle.row_node.specs.NodeLaws as laws;
 
 use crate::node::HostNode;
 use crate::room::HostRoom;
@@ -13,6 +14,7 @@ use bench_base::refusals::{BootFail, StoreFail};
 use host_jobs::JobRow;
 use node_seat::{Arms, Node};
 use nv_model::{Fuse, Nv, NvFail};
+use row_node::RowNode;
 
 impl<M: Nv> Node for HostNode<M> {
     type Storage = M;
@@ -55,50 +57,52 @@ impl<M: Nv> Node for HostNode<M> {
 
     ghost stays_same = { λ k. tt };
 
-    ghost sized = { λ k on. known.size k on };
+    ghost sized = { λ k on. known.size k.node on };
 
-    ghost knows = { λ k tells on. known.shows k tells on };
+    ghost knows = { λ k tells on. known.shows k.node tells on };
 
-    ghost one_shown = { λ d a b c. laws.one_shown a b c };
+    ghost one_shown = { λ d a b c. laws.one_shown host_laws a b c };
 
-    ghost keeps = { λ d s x sound kept. laws.keeps s x sound };
+    ghost keeps = { λ d s x. host_laws.stays_sound s x };
 
-    ghost counts = { λ d s x sound kept. laws.counts s x sound };
+    ghost counts = { λ d s x. laws.counts host_laws s x };
 
-    ghost intact = { λ d s nv. laws.intact M.Nv.own s nv };
+    ghost intact = { λ d s nv. laws.intact host_laws M.Nv.own s nv };
 
     fn off(_number: (), nv: M, spare: HostRoom) -> HostNode<M> {
-        let HostRoom { cells, rows } = spare;
-        HostNode::new(nv, cells, rows)
+        HostNode {
+            node: RowNode::new(nv, spare.into_rows()),
+        }
     }
 
     fn is_on(&self) -> bool {
-        self.on
+        self.node.is_on()
     }
 
     fn restart(&mut self) -> Result<(), NvFail> {
-        self.restart_storage()
+        self.node.restart()
     }
 
     fn boot(&mut self, _number: ()) -> Result<(), BootFail> {
-        self.boot_rows()
+        self.node.boot_rows()
     }
 
     fn commit(&mut self, change: &JobRow) -> Result<(), StoreFail> {
-        self.commit_row(change)
+        self.node.commit(change)
     }
 
     fn commits(&self) -> u64 {
-        self.count()
+        self.node.commits()
     }
 
     fn shut(&mut self) {
-        self.on = false;
+        self.node.shut();
     }
 
     fn into_parts(self) -> (M, HostRoom) {
-        let (nv, cells, rows) = self.into_storage();
-        (nv, HostRoom { cells, rows })
+        let HostNode { node } = self;
+        let (nv, room) = node.into_storage();
+        (nv, HostRoom::of(room))
     }
 }
 
@@ -106,6 +110,6 @@ impl<M: Fuse> Arms for HostNode<M> {
     ghost fuse = { M.Fuse.own };
 
     fn arm(&mut self, calls: u32, keep: u32, byte: u8) {
-        self.nv.arm(calls, keep, byte);
+        self.node.arm(calls, keep, byte);
     }
 }

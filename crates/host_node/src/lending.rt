@@ -10,10 +10,10 @@ impl<N: Nv> JobsOf for HostNode<N> {
     ghost jobs = { λ k. jobs_in k };
 
     fn jobs(&self) -> &JobRows {
-        &self.rows
+        &self.node.rows().jobs
     }
 
     fn kept(&self) -> &Kept {
-        &self.kept
+        &self.node.rows().kept
     }
 }

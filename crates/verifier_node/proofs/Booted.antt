@@ -1,28 +1,23 @@
 -- What was read out of the cells of the verifier.
-use Rattle.std.proofs.Common.{◌≡◌, ◌⊎◌, inl, inr, ℕ, ◌+◌, ◌<◌, ◌≤◌, List, [], Option, Some, None, true, false, sym, ap, subst, ◌∙◌, arith, true≢false}
+use Rattle.std.proofs.Common.{◌≡◌, inl, inr, ℕ, ◌+◌, ◌<◌, ◌≤◌, List, [], Option, Some, None, true, false, sym, ap, ◌∙◌, arith, true≢false}
 use Rattle.std.specs.Prelude.{is_some, IsSome}
 use Rattle.std.proofs.lemmas.Bool.{cases_lt}
 use Rattle.std.proofs.lemmas.List.{get_or_past}
-use Rattle.bench_base.specs.declared.sizes.TheConstants.{MOST_COMMITS, BLOCK_BYTES, VERIFIER_CELLS, FIRST_BLOCK}
-use Rattle.nv_model.specs.declared.nv.Nv.{Ghosts}
+use Rattle.bench_base.specs.declared.sizes.TheConstants.{VERIFIER_CELLS, FIRST_BLOCK}
 use Rattle.nv_store.specs.Slot.{Held}
-use Rattle.nv_store.specs.Store.{Shows, OnlyShows, payload_of}
-use Rattle.nv_store.specs.RoomView.{cells_of, kept_in}
-use Rattle.nv_store.specs.Rooms.{RoomRuns}
-use Rattle.nv_store.specs.TableKnows.{table_only}
-use Rattle.nv_store.specs.declared.room.Room.{Room}
-use Rattle.node_acts.specs.RowList.{row_at, commits_at}
-use Rattle.row_table.specs.Shows.{HasMixedCell, HasForeignCell, BreaksTogether}
-use Rattle.row_table.specs.Kept.{foreign_shown, seen_count, seen_shown}
+use Rattle.nv_store.specs.Store.{payload_of}
+use Rattle.node_acts.specs.RowList.{row_at}
 use Rattle.verifier.specs.declared.index.Entry.{Entry}
 use Rattle.verifier.specs.Index.{cell_in}
-use Rattle.verifier.specs.Payload.{word_at, IsPayloadOf}
-use Rattle.verifier.specs.Rows.{Row}
-use Rattle.verifier.specs.Seen.{row_in, block_in, key_at, AreTogether}
+use Rattle.verifier.specs.Payload.{word_at}
+use Rattle.verifier.specs.Seen.{row_in, block_in, key_at}
 use Rattle.verifier.proofs.Cells.{shown-some, shown-none}
-use Rattle.verifier_node.specs.Payloads.{rows_held, seen_held, HoldRows, IsDamaged}
-use Rattle.verifier_node.specs.Held.{held-long, held-each, held-sound}
-use Rattle.verifier_node.specs.Sound.{IsSound}
+use Rattle.verifier_node.specs.Payloads.{rows_held, seen_held, HoldRows}
+use Rattle.verifier_node.specs.Held.{held-long, held-each}
+use Rattle.verifier_node.specs.Table.{verifier_table}
+use Rattle.verifier_node.specs.declared.kept.VerifierRows.{VerifierRows}
+use Rattle.row_node.specs.Boots as none_held
+use Rattle.row_node.specs.Boots.{Found}
 use Rattle.verifier_node.specs.Indexes.{IsAdded}
 use Rattle.verifier_node.specs.Boots.{AreRead, IsIndexed, AreBlank, HasGap, Breaks, AreJoined, HoldNone, HoldSound}
 use Rattle.verifier_node.proofs.Indexing.{all-together, all-indexed, none-indexed, more-indexed, packed-to}
@@ -81,33 +76,13 @@ start-indexed held filled es empty = none-indexed (seen_held held) (held-each he
 
 -- == what a boot comes to ==
 
--- what is seen of cells that hold sound rows
-pub sound_booted : (held : ℕ → Option Held) (es : List Entry) → HoldSound held es → IsSound (seen_held held)
-sound_booted held es holds = record {
-  rows = held-sound held (read-rows held holds.read) holds.joined.together;
-  few = λ k. elim (cases_lt k VERIFIER_CELLS) [
-    | inr past ↦ subst (λ (o : Option (ℕ × Row)). commits_at o ≤ MOST_COMMITS) (sym (get_or_past (seen_held held) k None (omega (arith, held-long held, past)))) (omega arith)
-    | inl inside ↦
-        subst (λ (n : ℕ). n ≤ MOST_COMMITS) (sym (seen_count VERIFIER_CELLS IsPayloadOf (rows_held held) held (read-rows held holds.read) k inside)) (holds.read k inside).few
-  ];
+pub found : (m : VerifierRows) (held : ℕ → Option Held) → HoldSound held m.index → Found verifier_table m held
+found m held holds = record {
+  keeps = record { filled = read-rows held holds.read; follows = record { together = holds.joined.together; indexed = holds.joined.indexed } };
+  agree = holds.joined.together;
+  few = λ k lt. (holds.read k lt).few;
 }
 
--- storage whose cells hold no sound rows is damaged
-pub none_damaged : {N : Type 0} (g : Ghosts N) (room : Room BLOCK_BYTES) (nv : N) → cells_of room ≡ VERIFIER_CELLS → RoomRuns g room nv → g.tells → HoldNone (kept_in room) → IsDamaged g nv
-none_damaged g room nv cells runs tells none = inr (only.only, found none)
-  where
-    only : OnlyShows BLOCK_BYTES 2 (cells_of room) (kept_in room) (g.times nv) (g.content nv)
-    only = table_only room.same (runs.holds tells)
-
-    shows : Shows BLOCK_BYTES 2 VERIFIER_CELLS (kept_in room) (g.content nv)
-    shows = subst (λ (n : ℕ). Shows BLOCK_BYTES 2 n (kept_in room) (g.content nv)) cells only.shows
-
-    found : HoldNone (kept_in room) → HasMixedCell BLOCK_BYTES VERIFIER_CELLS IsPayloadOf (g.content nv) ⊎ (HasForeignCell BLOCK_BYTES VERIFIER_CELLS IsPayloadOf (g.content nv)
-        ⊎ BreaksTogether BLOCK_BYTES VERIFIER_CELLS IsPayloadOf AreTogether (g.content nv))
-    found (inl foreign) = inr (inl (foreign_shown BLOCK_BYTES VERIFIER_CELLS IsPayloadOf (kept_in room) (g.content nv) shows foreign))
-    found (inr u) = inr (inr (record {
-      rows = seen_held (kept_in room);
-      long = held-long (kept_in room);
-      shows = seen_shown VERIFIER_CELLS IsPayloadOf (rows_held (kept_in room)) (kept_in room) u.0 BLOCK_BYTES (g.content nv) shows;
-      breaks = u.1;
-    }))
+pub unsound : (held : ℕ → Option Held) → HoldNone held → none_held.HoldNone verifier_table held
+unsound held (inl foreign) = inl foreign
+unsound held (inr u) = inr (record { rows = rows_held held; are = u.0; breaks = u.1 })

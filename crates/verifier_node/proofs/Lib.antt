@@ -1,6 +1,6 @@
 pub mod Blank
 pub mod Booted
-pub mod Commits
 pub mod Fits
 pub mod Indexing
 pub mod Reading
+pub mod Takes

@@ -1,12 +1,8 @@
 -- What a boot of the verifier finds in its cells.
 use Rattle.std.specs.Prelude.{◌≡◌, ◌⊎◌, ℕ, ◌+◌, ◌<◌, ◌≤◌, List, length, Option, Some, None, IsSome}
-use Rattle.bench_base.specs.declared.sizes.TheConstants.{MOST_COMMITS, BLOCK_BYTES, VERIFIER_CELLS, VERIFIER_BYTES, FIRST_BLOCK}
-use Rattle.nv_model.specs.declared.nv.Nv.{Ghosts}
+use Rattle.bench_base.specs.declared.sizes.TheConstants.{MOST_COMMITS, VERIFIER_CELLS, FIRST_BLOCK}
 use Rattle.nv_store.specs.Slot.{Held}
 use Rattle.nv_store.specs.Store.{count_of}
-use Rattle.nv_store.specs.RoomView.{kept_in}
-use Rattle.nv_store.specs.Rooms.{RoomRuns}
-use Rattle.nv_store.specs.declared.room.Room.{Room}
 use Rattle.node_acts.specs.RowList.{row_at}
 use Rattle.row_table.specs.Kept.{IsFilled, HoldsForeign}
 use Rattle.verifier.specs.declared.index.Entry.{Entry}
@@ -65,9 +61,3 @@ HoldNone held = HasForeign held ⊎ (HoldRows held × Breaks held)
 pub record HoldSound (held : ℕ → Option Held) (es : List Entry) : Type 0 where
   pub read : AreRead held
   pub joined : AreJoined held es
-
--- a storage with power, whose cells this memory keeps, and the index of their rows
-pub record Booted {N : Type 0} (g : Ghosts N) (room : Room BLOCK_BYTES) (nv : N) (es : List Entry) : Type 0 where
-  pub holds : HoldSound (kept_in room) es
-  pub runs : RoomRuns g room nv
-  pub size : g.size nv ≡ VERIFIER_BYTES

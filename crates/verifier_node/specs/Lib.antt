@@ -7,6 +7,4 @@ pub mod VerifierView
 pub mod Held
 pub mod Indexes
 pub mod Boots
-pub mod Knows
-pub mod NodeLaws
-pub mod Unique
+pub mod Table

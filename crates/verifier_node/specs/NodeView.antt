@@ -1,18 +1,17 @@
 -- What contracts see of the verifier in its storage.
 use Rattle.std.specs.Prelude.{Bool}
 use Rattle.nv_model.specs.declared.nv.Nv.{Ghosts}
-use Rattle.nv_store.specs.RoomView.{kept_in}
 use Rattle.verifier.specs.Seen.{Seen}
-use Rattle.verifier_node.specs.Payloads.{seen_held}
+use Rattle.row_node.specs.NodeView as view
 use Rattle.verifier_node.specs.declared.node.VerifierNode.{VerifierNode}
 
 -- its storage
 abbrev pub storage_in : {N : Type 0} {g : Ghosts N} → VerifierNode N g → N
-storage_in k = k.nv
+storage_in k = view.storage_in k.node
 
 -- its rows, with the commits of each
 abbrev pub seen_in : {N : Type 0} {g : Ghosts N} → VerifierNode N g → Seen
-seen_in k = seen_held (kept_in k.room)
+seen_in k = view.seen_in k.node
 
 abbrev pub is_on : {N : Type 0} {g : Ghosts N} → VerifierNode N g → Bool
-is_on k = k.on
+is_on k = view.is_on k.node

@@ -7,6 +7,7 @@
 ghost use Rattle.std.specs.Prelude.{◌≤◌};
 ghost use Rattle.verifier.specs.Acts as act_of;
 
+use crate::lookups::{scanning, trusting};
 use crate::running::Verifier;
 use bench_base::numbers::{DayNo, DevNo};
 use bench_base::refusals::ScanFail;
@@ -21,7 +22,7 @@ impl<N: Nv> Verifier<N> {
     pub fn trust(&mut self, device: DevNo, key: &Key) -> Result<(), ScanFail>
         ensures { Performs (act_of.trust_act device key.now (seen_of self.old)) self.old self.new result }
     {
-        let act = self.running.node.trust_act(device, key);
+        let act = trusting(self.rows.node(), device, key);
         self.perform(act)
     }
 
@@ -31,7 +32,7 @@ impl<N: Nv> Verifier<N> {
         requires { 1 ≤ number }
         ensures { Performs (act_of.scan_act number bytes.now day (seen_of self.old)) self.old self.new result }
     {
-        let act = self.running.node.scan_act(number, bytes, day);
+        let act = scanning(self.rows.node(), number, bytes, day);
         self.perform(act)
     }
 }

@@ -5,14 +5,17 @@ ghost use Rattle.verifier.specs.Seen as seen_by;
 ghost use Rattle.verifier_node.specs.Payloads as payloads;
 ghost use Rattle.verifier_node.specs.Sound as sound_by;
 ghost use Rattle.verifier_node.specs.NodeView as node_view;
-ghost use Rattle.verifier_node.specs.Knows as known;
-ghost use Rattle.verifier_node.specs.NodeLaws as laws;
+ghost use Rattle.verifier_node.specs.Table.{verifier_laws};
+ghost use Rattle.row_node.specs.Knows as known;
+ghost use Rattle.row_node.specs.NodeLaws as laws;
 
+use crate::kept::VerifierRows;
 use crate::node::VerifierNode;
 use crate::room::VerifierRoom;
 use bench_base::refusals::{BootFail, StoreFail};
 use node_seat::{Arms, Node};
 use nv_model::{Fuse, Nv, NvFail};
+use row_node::{RowNode, RowRoom};
 use verifier::Change;
 
 impl<M: Nv> Node for VerifierNode<M> {
@@ -56,50 +59,54 @@ impl<M: Nv> Node for VerifierNode<M> {
 
     ghost stays_same = { λ k. tt };
 
-    ghost sized = { λ k on. known.size k on };
+    ghost sized = { λ k on. known.size k.node on };
 
-    ghost knows = { λ k tells on. known.shows k tells on };
+    ghost knows = { λ k tells on. known.shows k.node tells on };
 
-    ghost one_shown = { λ d a b c. laws.one_shown a b c };
+    ghost one_shown = { λ d a b c. laws.one_shown verifier_laws a b c };
 
-    ghost keeps = { λ d s x. laws.keeps s x };
+    ghost keeps = { λ d s x. verifier_laws.stays_sound s x };
 
-    ghost counts = { λ d s x. laws.counts s x };
+    ghost counts = { λ d s x. laws.counts verifier_laws s x };
 
-    ghost intact = { λ d s nv. laws.intact M.Nv.own s nv };
+    ghost intact = { λ d s nv. laws.intact verifier_laws M.Nv.own s nv };
 
     fn off(_number: (), nv: M, spare: VerifierRoom) -> VerifierNode<M> {
         let VerifierRoom { cells } = spare;
-        VerifierNode::new(nv, cells)
+        let rows = VerifierRows::none();
+        VerifierNode {
+            node: RowNode::new(nv, RowRoom { cells, rows }),
+        }
     }
 
     fn is_on(&self) -> bool {
-        self.on
+        self.node.is_on()
     }
 
     fn restart(&mut self) -> Result<(), NvFail> {
-        self.restart_storage()
+        self.node.restart()
     }
 
     fn boot(&mut self, _number: ()) -> Result<(), BootFail> {
-        self.boot_rows()
+        self.node.boot_rows()
     }
 
     fn commit(&mut self, change: &Change) -> Result<(), StoreFail> {
-        self.commit_change(change)
+        self.node.commit(change)
     }
 
     fn commits(&self) -> u64 {
-        self.count()
+        self.node.commits()
     }
 
     fn shut(&mut self) {
-        self.on = false;
+        self.node.shut();
     }
 
     fn into_parts(self) -> (M, VerifierRoom) {
-        let (nv, cells) = self.into_storage();
-        (nv, VerifierRoom { cells })
+        let VerifierNode { node } = self;
+        let (nv, room) = node.into_storage();
+        (nv, VerifierRoom { cells: room.cells })
     }
 }
 
@@ -107,6 +114,6 @@ impl<M: Fuse> Arms for VerifierNode<M> {
     ghost fuse = { M.Fuse.own };
 
     fn arm(&mut self, calls: u32, keep: u32, byte: u8) {
-        self.nv.arm(calls, keep, byte);
+        self.node.arm(calls, keep, byte);
     }
 }

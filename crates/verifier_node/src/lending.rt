@@ -1,4 +1,5 @@
 //! What the verifier lends to its calls.
+use crate::lookups::{scanning, trusting};
 use crate::node::VerifierNode;
 use bench_base::numbers::{DayNo, DevNo};
 use bench_base::words::Key;
@@ -12,10 +13,10 @@ impl<N: Nv> RowsOf for VerifierNode<N> {
     ghost rows = { λ k. seen_in k };
 
     fn trusting(&self, device: DevNo, key: &Key) -> ScanAct<()> {
-        self.trust_act(device, key)
+        trusting(&self.node, device, key)
     }
 
     fn scanning(&self, number: u32, bytes: &[u8], today: DayNo) -> ScanAct<Accepted> {
-        self.scan_act(number, bytes, today)
+        scanning(&self.node, number, bytes, today)
     }
 }

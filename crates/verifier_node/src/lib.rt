@@ -4,12 +4,16 @@
 mod boot;
 mod calls;
 mod cells;
+mod kept;
 mod kind;
 mod lending;
+mod lookups;
 mod node;
 mod room;
+mod rows;
 mod running;
 
+pub use kept::VerifierRows;
 pub use node::VerifierNode;
 pub use room::VerifierRoom;
 pub use running::Verifier;

@@ -1,58 +1,97 @@
 //! The running verifier: its rows in its storage, and the commit that failed.
-ghost use Rattle.std.specs.Prelude.{◌≡◌, not, is_some};
-ghost use Rattle.bench_base.specs.declared.sizes.TheConstants.{VERIFIER_CELLS, VERIFIER_BYTES};
+ghost use Rattle.std.specs.Prelude.{◌≡◌, ◌≢◌, IfOk, IfErr, MatchResult, Err, false};
+ghost use Rattle.bench_base.specs.declared.sizes.TheConstants.{BLOCK_BYTES, VERIFIER_CELLS, VERIFIER_BYTES};
 ghost use Rattle.nv_store.specs.RoomView.{cells_of};
+ghost use Rattle.nv_store.specs.Turns.{Kept};
+ghost use Rattle.node_seat.specs.Does.{Reads, Spends};
+ghost use Rattle.node_seat.specs.Ends.{end_of_boot};
 ghost use Rattle.verifier.specs.Seen.{counting};
-ghost use Rattle.verifier_node.specs.NodeView.{storage_in, is_on};
+ghost use Rattle.verifier_node.specs.Payloads.{IsDamaged};
+ghost use Rattle.verifier_node.specs.Table.{verifier_table};
+ghost use Rattle.row_node.specs.Boots.{AllShowSound};
 
-use crate::node::VerifierNode;
+use crate::kept::VerifierRows;
 use bench_base::ledger::Commit;
-use bench_base::refusals::ScanFail;
-use bench_base::sizes::BLOCK_BYTES;
-use node_seat::Running;
+use bench_base::refusals::{BootFail, ScanFail};
+use bench_base::sizes::{BLOCK_BYTES, VERIFIER_CELLS};
 use nv_model::{Fused, Nv};
 use nv_store::Room;
+use row_node::{RowRoom, RunningRows};
 use verifier::{BlockIndex, ScanAct};
 
 /// The verifier over storage of 4,253,904 bytes: 1,032 cells, of devices 1 to 8 and then of blocks, each with its row.
 #[derive(Drop)]
 pub struct Verifier<N: Nv> {
-    pub(crate) running: Running<VerifierNode<N>>,
-    ghost runs: { is_on running.node ≡ not (is_some running.torn) },
-    ghost room: { N.size (storage_in running.node) ≡ VERIFIER_BYTES },
+    pub(crate) rows: RunningRows<N, VerifierRows>,
 }
 
 impl<N: Nv> Verifier<N> {
     ghost use Rattle.verifier.specs.Index.{IsIndexOf};
-    ghost use Rattle.verifier_node.specs.VerifierView.{storage_of, seen_of, torn_of, CanCommit, Performs};
+    ghost use Rattle.verifier_node.specs.VerifierView.{storage_of, seen_of, torn_of, Starts, CanCommit, Performs};
 
-    // Does what a call decided on: see `Running::perform`.
+    /// The verifier in its storage and in memory for 1,032 cells, or why it does not start, with both. Power is not lost.
+    /// Nothing is written.
+    ///
+    /// `Damaged` where the storage has not 4,253,904 bytes; where a cell has an open slot of count 0 or two open slots of
+    /// equal counts; where a current payload reads as no row of its cell; and where the rows break a condition together: the
+    /// device of a block is not trusted, a blank cell stands before a block, or two cells hold one block. Blank storage is a
+    /// verifier with no rows.
+    pub fn boot(
+        nv: N,
+        room: Room<BLOCK_BYTES>,
+    ) -> Result<Verifier<N>, (N, Room<BLOCK_BYTES>, BootFail)>
+        requires powered { (N.meters nv).lost ≡ false }
+        requires cells { cells_of room ≡ VERIFIER_CELLS }
+
+        // What starts is what the storage shows, and nothing is written.
+        ensures starts { IfOk result Starts }
+        ensures reads { MatchResult result (λ v. Reads N.Nv nv (storage_of v)) (λ e. Reads N.Nv nv e.0) }
+
+        // Why it fails, and what it costs.
+        ensures size { N.size nv ≢ VERIFIER_BYTES → IfErr result (λ e. (e.0 ≡ nv) × (e.2 ≡ BootFail.Damaged)) }
+        ensures damaged { N.tells → MatchResult result (λ v. IsDamaged N.Nv (storage_of v) → ⊥)
+            (λ e. e.2 ≡ BootFail.Damaged → IsDamaged N.Nv e.0) }
+        ensures sound { N.tells → N.size nv ≡ VERIFIER_BYTES → AllShowSound verifier_table BLOCK_BYTES N.Nv nv → IfErr result (λ e. e.2 ≢ BootFail.Damaged) }
+        ensures room { IfErr result (λ e. cells_of e.1 ≡ VERIFIER_CELLS) }
+        ensures spent { MatchResult result (λ v. Spends N.Nv 1 nv (storage_of v) Kept) (λ e. Spends N.Nv 1 nv e.0 (end_of_boot (Err e.2))) }
+    {
+        let room = RowRoom {
+            cells: room,
+            rows: VerifierRows::none(),
+        };
+        match RunningRows::boot(nv, room) {
+            Ok(rows) => Ok(Verifier { rows }),
+            Err((nv, room, fail)) => Err((nv, room.cells, fail)),
+        }
+    }
+
+    // Does what a call decided on: see `RunningRows::perform`.
     pub(crate) fn perform<A: Copy>(&mut self, act: ScanAct<A>) -> Result<A, ScanFail>
         requires fits { CanCommit act self.old }
         ensures { Performs act self.old self.new result }
     {
-        self.running.perform(act)
+        self.rows.perform(act)
     }
 
     /// The blocks in use, each with its cell.
     pub fn blocks(&self) -> &BlockIndex
         ensures { IsIndexOf result.now (seen_of self.now) }
     {
-        self.running.node.blocks()
+        &self.rows.node().rows().index
     }
 
     /// The number of commits.
     pub fn commits(&self) -> u64
         ensures { result ≡ counting.count (seen_of self.now) }
     {
-        self.running.commits()
+        self.rows.commits()
     }
 
     /// The commit that a call of this value which answered Power or Fault would have added; None exactly where no call did.
     pub fn torn(&self) -> Option<Commit>
         ensures { result ≡ torn_of self.now }
     {
-        self.running.torn()
+        self.rows.torn()
     }
 
     /// Gives the storage and the memory back.
@@ -60,8 +99,9 @@ impl<N: Nv> Verifier<N> {
         ensures storage { result.0 ≡ storage_of self }
         ensures cells { cells_of result.1 ≡ VERIFIER_CELLS }
     {
-        let Verifier { running } = self;
-        running.into_node().into_storage()
+        let Verifier { rows } = self;
+        let (nv, room) = rows.shut();
+        (nv, room.cells)
     }
 }
 
@@ -77,6 +117,6 @@ impl<M: Nv> Verifier<Fused<M>> {
         ensures seen { seen_of self.new ≡ seen_of self.old }
         ensures torn { torn_of self.new ≡ torn_of self.old }
     {
-        self.running.node.nv.arm(calls, keep, byte);
+        self.rows.arm(calls, keep, byte);
     }
 }

@@ -1,6 +1,6 @@
-use Rattle.std.proofs.Common.{sym}
-use Rattle.host_node.specs.Knows.{rows_are}
+use Rattle.row_node.specs.NodeView.{held_in}
+use Rattle.host_node.proofs.Seen.{jobs_lent}
 use Rattle.host_node.proofs.lending.HostNodeJobsOf.jobs.Goals as goal
 
 pub returns : goal.returns
-returns g c = sym (rows_are c.args.self.now)
+returns g c = let k = c.args.self.now.node in jobs_lent k.rows (held_in k) c.rows.result.now c.rows.ensures k.filled

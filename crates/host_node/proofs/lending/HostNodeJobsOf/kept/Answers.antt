@@ -1,8 +1,7 @@
-use Rattle.std.proofs.Common.{sym, subst}
-use Rattle.host_jobs.specs.Rows.{Jobs}
-use Rattle.host_jobs.specs.Soundness.{IsKept}
-use Rattle.host_node.specs.Knows.{rows_are}
+use Rattle.row_node.specs.Knows.{keeps}
+use Rattle.row_node.specs.NodeView.{held_in}
+use Rattle.host_node.proofs.Seen.{kept_lent}
 use Rattle.host_node.proofs.lending.HostNodeJobsOf.kept.Goals as goal
 
 pub returns : goal.returns
-returns g c = subst (λ (rows : Jobs). IsKept rows c.args.self.now.kept) (sym (rows_are c.args.self.now)) c.args.self.now.follows
+returns g c = let k = c.args.self.now.node in kept_lent k.rows (held_in k) c.rows.result.now c.rows.ensures (keeps k)

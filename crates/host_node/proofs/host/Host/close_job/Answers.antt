@@ -1,0 +1,9 @@
+use Rattle.host_jobs.specs.Acts.{close_act}
+use Rattle.host_node.specs.HostView.{rows_of}
+use Rattle.host_node.proofs.Fits.{sound_acts, can_commit}
+use Rattle.host_node.proofs.host.Host.close_job.Goals as goal
+
+pub perform-requires : goal.perform-requires
+perform-requires g c =
+    let rows = rows_of c.args.self.now in
+    record { fits = can_commit c.jobs.result.now rows (λ l. close_act c.args.job l) c.close_act-act.result c.jobs.ensures c.close_act-act.ensures ((sound_acts rows c.kept.result.now c.kept.ensures).closed c.args.job) }

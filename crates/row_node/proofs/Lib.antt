@@ -1,0 +1,3 @@
+mod Booted
+mod Commits
+mod Worn

@@ -1,0 +1,12 @@
+-- Promised: contracts of other crates rest on these.
+pub mod Tables
+pub mod Laws
+pub mod Boots
+pub mod NodeView
+pub mod RunningView
+-- Bookkeeping: private calls and proofs alone name these.
+pub mod Unique
+pub mod Knows
+pub mod NodeLaws
+pub mod Committed
+pub mod Counts
