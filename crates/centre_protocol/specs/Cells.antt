@@ -104,10 +104,6 @@ books_kept b held places filled =
 
 -- == a row that is put ==
 
-pub put_places : (b : Books) (x : Row) → HasPlaces b → HasPlaces (put_row b x)
-put_places b (row.Device r) places = record { devices = length-set b.devices (r.device - 1) (Some r) ∙ places.devices; customers = places.customers }
-put_places b (row.Customer r) places = record { devices = places.devices; customers = length-set b.customers (r.customer - 1) (Some r) ∙ places.customers }
-
 -- the cells of the books with the row put
 pub cells_put : (s : Seen) (x : Row) → length s ≡ CENTRE_CELLS → HasCell x → books_in (put s (cell_of x) x) ≡ put_row (books_in s) x
 cells_put s (row.Device r) long has =
@@ -186,9 +182,6 @@ row_other b (row.Customer r) k has differs =
     else_same false x y z same = same refl
 
 -- == no rows ==
-
-pub no_places : HasPlaces no_rows
-no_places = record { devices = refl; customers = refl }
 
 abbrev nones : {A : Type 0} → ℕ → List (Option A)
 nones n = replicate n None
