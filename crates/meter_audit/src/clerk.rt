@@ -15,7 +15,7 @@ use bench::MOST_MESSAGES;
 use bench_base::events::{Event, Reply};
 use script_text::{is_skipped, read_event};
 use std::alloc::{AllocError, Global};
-use told_bench::{Auditor, Finding, judge};
+use told_bench::{Auditor, Finding, judge, stop};
 
 /// The most lines of a script that are looked at.
 const LINES: u32 = 1_000_000;
@@ -54,6 +54,29 @@ fn judged(
         return Err(Finding::Memory);
     }
     judge(alloc, auditor, event, rates, line)
+}
+
+// What judgements say of a line whose answer was found to be missing.
+fn broken_off(
+    alloc: Global,
+    auditor: &mut Auditor,
+    event: &Event,
+    rates: &[u8],
+    front: &[u8],
+) -> Result<(), Fault>
+    requires whole { IsWholeEvent event.now }
+    requires ready { IsReady (audit_of auditor.old) }
+    ensures ready { IsReady (audit_of auditor.new) }
+{
+    // A run that is judged has at most as many lines.
+    if auditor.message_count() >= MOST_MESSAGES {
+        return Err(Fault::Memory);
+    }
+    match stop(alloc, auditor, event, rates, front) {
+        Ok(()) => Ok(()),
+        Err(Finding::Memory) => Err(Fault::Memory),
+        Err(Finding::Wrong(_)) => Err(Fault::Counted),
+    }
 }
 
 // The answer that is due to the event: no reply has an empty line.
@@ -152,6 +175,33 @@ impl Clerk {
         Ok(taken)
     }
 
+    // Takes an event in which the run was stopped: its commit is open, if it makes one.
+    fn break_off(
+        &mut self,
+        rt: &HostRuntime,
+        names: &[String],
+        place: Place,
+        event: &Event,
+        left: Left<'_>,
+    ) -> Result<(), Fault>
+        requires whole { IsWholeEvent event.now }
+        requires ready { IsReady (audit_of self.old.auditor) }
+        ensures ready { IsReady (audit_of self.new.auditor) }
+    {
+        let doing = doing_of(event);
+        let due = due_to(rt.alloc(), &mut self.auditor, event, left.rates)?;
+        let made = self.book.expected(place, &doing, &due);
+        let before = known(&self.auditor, &made);
+        broken_off(
+            rt.alloc(),
+            &mut self.auditor,
+            event,
+            left.rates,
+            left.report,
+        )?;
+        settle(rt, names, &self.auditor, &mut self.book, &made, &before)
+    }
+
     // Goes over the first line of what is left, and gives what is left behind it. None where there is no line, or no answer to it.
     fn turn<'a>(
         &mut self,
@@ -159,6 +209,7 @@ impl Clerk {
         names: &[String],
         place: Place,
         left: Left<'a>,
+        stopped: Option<u32>,
     ) -> Result<Option<Left<'a>>, Fault>
         requires ready { IsReady (audit_of self.old.auditor) }
         ensures ready { IsReady (audit_of self.new.auditor) }
@@ -176,6 +227,9 @@ impl Clerk {
             return Ok(None);
         };
         if told == left.report.len() {
+            if stopped == Some(place.line) {
+                self.break_off(rt, names, place, event, left)?;
+            }
             return Ok(None);
         }
         let taken = self.take(rt, names, place, event, left.rates, &left.report[..told])?;
@@ -186,13 +240,14 @@ impl Clerk {
         }))
     }
 
-    /// Goes over the run of this place among the names, as far as its report has answers.
+    /// Goes over the run of this place among the names, as far as its report has answers, and over the event of the line in which it was stopped.
     pub fn go_over(
         &mut self,
         rt: &HostRuntime,
         names: &[String],
         place: usize,
         run: &Run,
+        stopped: Option<u32>,
     ) -> Result<(), Fault>
         requires ready { IsReady (audit_of self.old.auditor) }
         ensures ready { IsReady (audit_of self.new.auditor) }
@@ -212,7 +267,7 @@ impl Clerk {
                 run: place,
                 line: count + 1,
             };
-            match self.turn(rt, names, at, left)? {
+            match self.turn(rt, names, at, left, stopped)? {
                 Some(next) => left = next,
                 None => return Ok(()),
             }

@@ -303,13 +303,6 @@ fn stopped_at(verdict: &Verdict) -> Option<u32> {
     }
 }
 
-// What an event did that has no answer is not known, so what follows on a stopped run is not judged.
-fn tell_unjudged(rt: &HostRuntime, asked: Asked, name: &str) -> Result<u8, Fault> {
-    let text = format!(in rt.alloc(); "unjudged {name}, behind a run that was stopped");
-    say(rt, asked, text)?;
-    Ok(FINDING)
-}
-
 // Goes over a run that was judged, where that is asked for.
 fn count(
     rt: &HostRuntime,
@@ -325,7 +318,7 @@ fn count(
     if !is_counted(words.asked) {
         return Ok(());
     }
-    clerk.go_over(rt, words.names.as_slice(), place, run)?;
+    clerk.go_over(rt, words.names.as_slice(), place, run, stopped)?;
     match stopped {
         Some(line) => clerk.book.note(Place { run: place, line }, Mishap::Stop),
         None => Ok(()),
@@ -338,6 +331,7 @@ fn prints_text(
     file: &str,
     imprints: &[Imprint],
     found: Match,
+    stop: Option<usize>,
 ) -> Result<String, AllocError> {
     let place = match found {
         Match::Fit => return format!(in alloc; "prints {file} fit"),
@@ -348,6 +342,9 @@ fn prints_text(
     };
     let line = imprint.line;
     match found {
+        Match::Open(_) if stop == Some(place) => {
+            format!(in alloc; "prints {file} fit before line {line}, where the run was stopped")
+        }
         Match::Open(_) => {
             format!(in alloc; "prints {file} fit before line {line}, where the printer failed")
         }
@@ -356,7 +353,12 @@ fn prints_text(
 }
 
 // Judges the prints of all runs, where a file of them is named: the exit status.
-fn tell_prints(rt: &HostRuntime, words: &Words, imprints: &[Imprint]) -> Result<u8, Fault> {
+fn tell_prints(
+    rt: &HostRuntime,
+    words: &Words,
+    imprints: &[Imprint],
+    stop: Option<usize>,
+) -> Result<u8, Fault> {
     let Some(file) = &words.prints else {
         return Ok(0);
     };
@@ -365,12 +367,23 @@ fn tell_prints(rt: &HostRuntime, words: &Words, imprints: &[Imprint]) -> Result<
     say(
         rt,
         words.asked,
-        prints_text(rt.alloc(), file.as_str(), imprints, found),
+        prints_text(rt.alloc(), file.as_str(), imprints, found, stop),
     )?;
     Ok(match found {
         Match::Fit | Match::Open(_) => 0,
         Match::Differ(_) => FINDING,
     })
+}
+
+// The place of the print in which a run was stopped, which had so many imprints before it: its last, if that is of the line whose answer is missing.
+fn print_of(imprints: &[Imprint], stopped: Option<u32>, before: usize) -> Option<usize> {
+    let line = stopped?;
+    let last = imprints.last()?;
+    if last.line == line && before < imprints.len() {
+        Some(imprints.len() - 1)
+    } else {
+        None
+    }
 }
 
 /// What came of the runs: the exit status, and the last day that was told.
@@ -392,16 +405,13 @@ fn audit(
     ensures ready { IsReady (audit_of auditor.new) }
     ensures ready_clerk { IsReady (audit_of clerk.new.auditor) }
 {
-    let mut stopped = None;
+    let mut stop = None;
     let mut day = None;
     let mut imprints: Vec<Imprint> = Vec::new(rt.alloc());
     for place in 0..words.names.len() {
         let name = words.names[place].as_str();
-        if stopped.is_some() {
-            let code = tell_unjudged(rt, words.asked, name)?;
-            return Ok(Audited { code, day });
-        }
         let run = open_run(rt, name)?;
+        let given = imprints.len();
         let verdict = audit_run(
             rt.alloc(),
             auditor,
@@ -415,10 +425,11 @@ fn audit(
         if code != 0 {
             return Ok(Audited { code, day });
         }
-        stopped = stopped_at(&verdict);
+        let stopped = stopped_at(&verdict);
+        stop = stop.or(print_of(imprints.as_slice(), stopped, given));
         count(rt, words, clerk, &run, place, stopped)?;
     }
-    let code = tell_prints(rt, words, imprints.as_slice())?;
+    let code = tell_prints(rt, words, imprints.as_slice(), stop)?;
     Ok(Audited { code, day })
 }
 

@@ -2,8 +2,10 @@
 pub mod Beginning
 pub mod Judging
 pub mod Seeing
+pub mod Stopping
 pub mod Telling
 -- What the functions inside say.
+pub mod Fronts
 pub mod Placed
 pub mod Plainly
 pub mod RatesTold

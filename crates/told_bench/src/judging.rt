@@ -158,7 +158,7 @@ fn hands_verifier(asked: &Asked<VerifierCall>)
 }
 
 // Judges the line of an event, before its message is sent.
-fn hear(
+pub(crate) fn hear(
     alloc: Global,
     auditor: &mut Auditor,
     event: &Event,
@@ -225,7 +225,7 @@ fn hear(
 }
 
 // Sends the message that was heard of, if there is one.
-fn send(auditor: &mut Auditor, heard: Heard) -> Result<usize, Finding>
+pub(crate) fn send(auditor: &mut Auditor, heard: Heard) -> Result<usize, Finding>
     requires ready { IsReady (audit_of auditor.old) }
     ensures ready { IsReady (audit_of auditor.new) }
     ensures few { length (audit_of auditor.new).messages ≤ length (audit_of auditor.old).messages + 1 }

@@ -6,8 +6,10 @@ pub mod comparing;
 pub mod judging;
 pub mod printed;
 pub mod rates;
+pub mod stopping;
 mod telling;
 
 pub use auditor::Auditor;
 pub use judging::{Finding, judge};
 pub use printed::mark_due;
+pub use stopping::stop;

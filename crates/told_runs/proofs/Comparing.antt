@@ -41,7 +41,7 @@ pub data Compared (τ : Tariff) (P : Ledger → List ℕ → Type 0) (H : Ledger
   longer : (more : List Deed) (K : Ledger) (l : List ℕ) → length b ≡ length a + length more → P K l → AllByRecursion (Reads script_lines) more → AllByRecursion GoesOn more
       → ra ≡ map deed.line_in more ++ rb → ta ≡ report_of script_lines more ++ tb → AreTold τ K l (done_in more)
       → ledger_after τ K (done_in more) ≡ ledger_after τ H (done_in b) → rates_after l (done_in more) ≡ rates_after left (done_in b) → Compared τ P H left a b ra rb ta tb
-  shorter : (p : Pair) (more : List Pair) → length a ≡ length b + (length more + 1) → IsPair p → rb ≡ line_in p ∷ (map line_in more ++ ra) → Compared τ P H left a b ra rb ta tb
+  shorter : (p : Pair) (more : List Pair) → length a ≡ length b + (length more + 1) → IsPair p → rb ≡ line_in p ∷ (map line_in more ++ ra) → tb ≡ text_for p ++ (flat_map text_for more ++ ta) → Compared τ P H left a b ra rb ta tb
 
 -- one pair and its deed before them
 one_more : (τ : Tariff) (P : Ledger → List ℕ → Type 0) (H : Ledger) (left : List ℕ) (p : Pair) (d : Deed) (a : List Pair) (b : List Deed) (ra rb : List (List ℕ)) (ta tb : List ℕ) (K : Ledger) (l : List ℕ)
@@ -49,14 +49,14 @@ one_more : (τ : Tariff) (P : Ledger → List ℕ → Type 0) (H : Ledger) (left
     → Compared τ P K l a b ra rb ta tb → Compared τ P H left (p ∷ a) (d ∷ b) ra rb ta tb
 one_more τ P H left p d a b ra rb ta tb K l ledgers lefts (longer more M r size holds reads goes lines texts are behind left_is) =
     longer more M r (omega (arith, size)) holds reads goes lines texts are (behind ∙ sym ledgers) (left_is ∙ sym lefts)
-one_more τ P H left p d a b ra rb ta tb K l ledgers lefts (shorter q more size is lines) = shorter q more (omega (arith, size)) is lines
+one_more τ P H left p d a b ra rb ta tb K l ledgers lefts (shorter q more size is lines texts) = shorter q more (omega (arith, size)) is lines texts
 
 module _ (one : (x y : Reply) → IsWholeReply x → IsWholeReply y → text_of x ≡ text_of y → told x ≡ told y) (line : (r : Reply) → IsWholeReply r → IsOneLine (text_of r)) (τ : Tariff) (P : Ledger → List ℕ → Type 0) where
   pub compare : (H : Ledger) (left : List ℕ) (a : List Pair) (b : List Deed) (ra rb : List (List ℕ)) (ta tb : List ℕ) → AllByRecursion IsPair a → AllByRecursion (Reads script_lines) b → AllByRecursion GoesOn b
       → map line_in a ++ ra ≡ map deed.line_in b ++ rb → flat_map text_for a ++ ta ≡ report_of script_lines b ++ tb → TellsSo τ P H left a → AreTold τ H left (done_in b)
       → Compared τ P H left a b ra rb ta tb
   compare H left [] b ra rb ta tb pairs reads goes lines texts tells are = longer b H left (omega arith) tells reads goes lines texts are refl refl
-  compare H left (p ∷ a) [] ra rb ta tb pairs reads goes lines texts tells are = shorter p a (omega arith) pairs.0 (sym lines)
+  compare H left (p ∷ a) [] ra rb ta tb pairs reads goes lines texts tells are = shorter p a (omega arith) pairs.0 (sym lines) (sym texts ∙ append_assoc (text_for p) (flat_map text_for a) ta)
   compare H left (Skipped x ∷ a) (deed.Skipped y ∷ b) ra rb ta tb pairs reads goes lines texts tells are =
       one_more τ P H left (Skipped x) (deed.Skipped y) a b ra rb ta tb H left refl refl (compare H left a b ra rb ta tb pairs.1 reads.1 goes.1 (cc) texts tells are)
   compare H left (Skipped x ∷ a) (Did y d ∷ b) ra rb ta tb pairs reads goes lines texts tells are =

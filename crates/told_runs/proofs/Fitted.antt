@@ -1,20 +1,22 @@
 -- What was paired fits, where no event brings anything forged.
-use Rattle.std.proofs.Common.{◌≡◌, ℕ, List, [], ◌∷◌, ◌++◌, length, map, drop, flat_map, refl, sym, ◌∙◌, ap, subst, arith, append-nil}
+use Rattle.std.proofs.Common.{◌≡◌, ℕ, List, [], ◌∷◌, ◌++◌, length, map, drop, flat_map, None, refl, sym, ◌∙◌, ap, subst, arith, append-nil}
 use Rattle.std.specs.List.{AllByRecursion}
 use Rattle.bench_base.specs.declared.events.Event.{Event}
 use Rattle.bench_base.specs.Ledger.{Ledger}
 use Rattle.ledger_moves.specs.Tariffs.{Tariff}
+use Rattle.ledger_moves.specs.Histories.{Unforged}
 use Rattle.line_runs.specs.Deeds.{Reads, report_of}
 use Rattle.line_runs.specs.Ends.{EndsAt}
 use Rattle.line_runs.specs.Lines.{ended}
 use Rattle.desk_runs.specs.Deeds as deed
-use Rattle.desk_runs.specs.Deeds.{Deed, Did, GoesOn, done_in}
+use Rattle.desk_runs.specs.Deeds.{Deed, Did, GoesOn, done, done_in}
 use Rattle.desk_runs.specs.Events.{IsLineOf}
 use Rattle.desk_runs.specs.Scripts.{script_lines, script_grammar}
 use Rattle.script_replay.specs.Deeds.{ledger_by, ledger_after}
+use Rattle.told_bench.specs.Judging.{text_with}
 use Rattle.told_bench.specs.Seeing.{Audit}
-use Rattle.told_runs.specs.Verdicts.{Pair, Skipped, Answered, IsPair, line_in, text_for, status_of, EndsSo, FallsAt, TellsSo, MayEnd, IsSo}
-use Rattle.told_runs.specs.Fitting.{AreTold, rates_after, EndsTold, AreUnforged}
+use Rattle.told_runs.specs.Verdicts.{Pair, Skipped, Answered, IsPair, line_in, text_for, status_of, IsEvent, EndsSo, FallsAt, TellsSo, MayEnd, IsSo, last_given}
+use Rattle.told_runs.specs.Fitting.{AreTold, rates_after, EndsTold, BeginsTold, AreUnforged}
 use Rattle.told_runs.specs.declared.verdict.Ending.{Ending}
 use Rattle.told_runs.specs.declared.verdict.Ending.TheVariants.{Done as Ended, Script, TooLong}
 use Rattle.told_runs.specs.declared.verdict.Verdict.{Verdict}
@@ -77,3 +79,26 @@ module _ (τ : Tariff) (K : Ledger) (l : List ℕ) (new : Audit) (number : ℕ) 
   lawful_ends (Wrong n due) falls so end is = absurd (cc is)
   lawful_ends (More n) falls so end is = absurd (cc is)
   lawful_ends Memory falls so end is = absurd (cc is)
+
+  -- where it is said that a run was stopped, the report ends within a line of the next event
+  pub stopped_begins : (v : Verdict) (falls : FallsAt number rest told v) → IsSo τ K l new number rest told v falls → (n : ℕ) → v ≡ Stopped n
+      → (e : Event) × IsEvent number rest e × (Unforged e K → BeginsTold τ K l e told)
+  stopped_begins (Stopped k) falls so n is = (falls.1, falls.3, begun)
+    where
+      begun : Unforged falls.1 K → BeginsTold τ K l falls.1 told
+      begun unforged =
+          let w = so.0 unforged in
+          let text = text_with τ K falls.1 l told w.reply in
+          (done falls.1 text w.reply [], refl, record { unforged = unforged; moves = w.may.moves; whole = w.may.whole; takes = refl }, w.may.begins)
+  stopped_begins (Lawful e) falls so n is = absurd (cc is)
+  stopped_begins (Wrong k due) falls so n is = absurd (cc is)
+  stopped_begins (More k) falls so n is = absurd (cc is)
+  stopped_begins Memory falls so n is = absurd (cc is)
+
+-- nothing is open of what a run printed that was not stopped
+pub none_open : (number : ℕ) (rest : List (List ℕ)) (told : List ℕ) (v : Verdict) (falls : FallsAt number rest told v) (end : Ending) → v ≡ Lawful end → last_given number rest told v falls ≡ None
+none_open number rest told (Lawful e) falls end is = refl
+none_open number rest told (Stopped n) falls end is = absurd (cc is)
+none_open number rest told (Wrong n due) falls end is = refl
+none_open number rest told (More n) falls end is = refl
+none_open number rest told Memory falls end is = refl

@@ -1,5 +1,5 @@
 -- What the printer was given in an event, by the line that the report has for it.
-use Rattle.std.proofs.Common.{◌≡◌, inl, inr, ℕ, ◌+◌, List, [], Option, Some, option_map, refl, sym, ◌∙◌, ap, subst}
+use Rattle.std.proofs.Common.{◌≡◌, inl, inr, ℕ, ◌+◌, List, [], Option, Some, option_map, true≢false, refl, sym, ◌∙◌, ap, subst}
 use Rattle.bench_base.specs.declared.events.Event.{Event}
 use Rattle.bench_base.specs.declared.events.Event.TheVariants as ev
 use Rattle.bench_base.specs.declared.events.Reply.{Reply}
@@ -18,7 +18,7 @@ use Rattle.told_bench.specs.Judging.{IsTold, text_with}
 use Rattle.told_bench.specs.Seeing.{Audit}
 use Rattle.told_runs.specs.Imprints.{IsGiven, GivesSo, wholly, partly}
 use Rattle.told_runs.specs.declared.imprint.Given.{Given}
-use Rattle.told_runs.proofs.OnlyPrint.{only_print}
+use Rattle.told_bench.proofs.OnlyPrint.{only_print, is_failure}
 
 -- == what of a print is told by its text ==
 
@@ -45,7 +45,7 @@ module _ (τ : Tariff) (H : Ledger) (e : Event) (text : List ℕ) (reply : Reply
 
   pub by_fault : (j : ℕ) → reply ≡ r.PrinterFault j → p.reply ≡ r.Printed j
   by_fault j is = elim moves.1 [
-    | inl same ↦ absurd ((only_print τ todays_rules H e text).uncut j (sym same ∙ is))
+    | inl same ↦ absurd (true≢false (sym (ap is_failure (sym same ∙ is)) ∙ (only_print τ todays_rules H e text).unfailed))
     | inr (inl up) ↦ let wrong : r.PrinterFault j ≡ r.Up up.node (up.count + 1) = sym is ∙ up.more in cc
     | inr (inr (inl fails)) ↦ subst (λ (x : Reply). Fails p x) is fails
     | inr (inr (inr reads)) ↦ let wrong : r.PrinterFault j ≡ r.RatesFault = sym is ∙ reads.reply_is in cc

@@ -5,7 +5,6 @@ mod Giving
 mod MadePrinted
 mod Matching
 mod One
-mod OnlyPrint
 mod Paired
 mod Running
 mod Splits

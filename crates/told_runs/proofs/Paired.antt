@@ -10,9 +10,9 @@ use Rattle.ledger_moves.specs.Histories.{begins}
 use Rattle.line_runs.specs.Ends.{lines_of}
 use Rattle.script_replay.specs.Deeds.{ledger_by}
 use Rattle.told_bench.specs.Seeing.{Audit, Sees}
-use Rattle.told_runs.specs.Verdicts.{Pair, Skipped, Answered, IsPair, line_in, text_for, EndsSo, TellsSo, MayEnd, IsSo, Says, Audited, imprints_from}
+use Rattle.told_runs.specs.Verdicts.{Pair, Skipped, Answered, IsPair, line_in, text_for, EndsSo, TellsSo, MayEnd, IsSo, Says, Audited, imprints_from, last_given}
 use Rattle.told_runs.specs.Imprints.{imprint_at}
-use Rattle.told_runs.specs.Turns.{AtHistories, StandsAt, Turned, Fell, Progress, IsOver}
+use Rattle.told_runs.specs.Turns.{AtHistories, StandsAt, Turned, Fell, FellPut, Progress, IsOver}
 use Rattle.told_runs.specs.declared.audit.Step.{Step}
 use Rattle.told_runs.specs.declared.imprint.Imprint.{Imprint}
 use Rattle.told_runs.specs.declared.verdict.Ending.{Ending}
@@ -86,24 +86,25 @@ module _ (script0 report0 rates0 : List ℕ) (count : ℕ) (script report rates 
       (subst (λ (l : List ℕ). Progress (count + 1) script0 report0 rates0 (drop step.script script) l left old new before after) (sym b)
       (subst (λ (l : List ℕ). Progress (count + 1) script0 report0 rates0 (drop step.script script) (drop step.report report) l old new before after) (sym c) (behind_it step t)))
 
-  said : (v : Verdict) → count ≤ 1000000 → Fell (count + 1) script report rates mid new v → Says v script0 report0 rates0 old new
-  said v few fell =
-      let f : Fell (length p.pairs + 1) script report rates mid new v = subst (λ (n : ℕ). Fell (n + 1) script report rates mid new v) (sym p.number) fell in
-      record {
-        pairs = p.pairs;
-        rest = lines_of script;
-        told = report;
-        front = record { each = p.each; few = omega (arith, few, p.number); script_is = p.script_is; report_is = p.report_is };
-        falls = f.falls;
-        so = λ τ H texts history seen.
-            tells_then τ (StandsAt τ mid rates) (λ K left. IsSo τ K left new (length p.pairs + 1) (lines_of script) report v f.falls)
-            (λ K l at. subst (λ (r : List ℕ). IsSo τ K r new (length p.pairs + 1) (lines_of script) report v f.falls) (sym at.are) (f.so τ K texts at.history at.sees))
-            (Begin ∷ H) rates0 p.pairs (p.so τ H texts history seen);
-      }
+  said : (v : Verdict) → count ≤ 1000000 → Fell (length p.pairs + 1) script report rates mid new v → Says v script0 report0 rates0 old new
+  said v few f = record {
+    pairs = p.pairs;
+    rest = lines_of script;
+    told = report;
+    front = record { each = p.each; few = omega (arith, few, p.number); script_is = p.script_is; report_is = p.report_is };
+    falls = f.falls;
+    so = λ τ H texts history seen.
+        tells_then τ (StandsAt τ mid rates) (λ K left. IsSo τ K left new (length p.pairs + 1) (lines_of script) report v f.falls)
+        (λ K l at. subst (λ (r : List ℕ). IsSo τ K r new (length p.pairs + 1) (lines_of script) report v f.falls) (sym at.are) (f.so τ K texts at.history at.sees))
+        (Begin ∷ H) rates0 p.pairs (p.so τ H texts history seen);
+  }
 
-  pub fallen : (v : Verdict) → count ≤ 1000000 → Fell (count + 1) script report rates mid new v × (after ≡ half) → Audited v script0 report0 rates0 old new before after
+  pub fallen : (v : Verdict) → count ≤ 1000000 → FellPut (count + 1) script report rates mid new half after v → Audited v script0 report0 rates0 old new before after
   unfolding said
-  fallen v few fell = record { says = said v few fell.0; prints = fell.1 ∙ p.prints }
+  fallen v few fell =
+      let f : FellPut (length p.pairs + 1) script report rates mid new half after v = subst (λ (n : ℕ). FellPut (n + 1) script report rates mid new half after v) (sym p.number) fell in
+      let last = imprint_at (length p.pairs + 1) (last_given (length p.pairs + 1) (lines_of script) report v f.0.falls) in
+      record { says = said v few f.0; prints = f.1 ∙ ap (λ (l : List Imprint). l ++ last) p.prints ∙ append_assoc before (imprints_from 1 p.pairs) last }
 
 -- the script ends at the line of this number
 module _ (number : ℕ) (script report rates : List ℕ) (old new : Audit) (end : Ending) where
@@ -113,8 +114,8 @@ module _ (number : ℕ) (script report rates : List ℕ) (old new : Audit) (end 
   lawful : EndsWith [] → Fell number script report rates old new (Lawful end)
   lawful w = record { falls = w.0; so = w.1 }
 
-  pub over_falls : (behind : List ℕ) (v : Verdict) → EndsWith behind → IsOver end number behind v → Fell number script report rates old new v
-  over_falls behind v w over = elim over [
-    | inl o ↦ subst (λ (x : Verdict). Fell number script report rates old new x) (sym o.1) (lawful (subst (λ (b : List ℕ). EndsWith b) o.0 w))
-    | inr o ↦ subst (λ (x : Verdict). Fell number script report rates old new x) (sym o.1) (record { falls = (refl, end, behind, w.0, o.0); so = w.1 })
+  pub over_falls : (behind : List ℕ) (v : Verdict) (before : List Imprint) → EndsWith behind → IsOver end number behind v → FellPut number script report rates old new before before v
+  over_falls behind v before w over = elim over [
+    | inl o ↦ subst (λ (x : Verdict). FellPut number script report rates old new before before x) (sym o.1) (lawful (subst (λ (b : List ℕ). EndsWith b) o.0 w), sym (append-nil before))
+    | inr o ↦ subst (λ (x : Verdict). FellPut number script report rates old new before before x) (sym o.1) (record { falls = (refl, end, behind, w.0, o.0); so = w.1 }, sym (append-nil before))
   ]

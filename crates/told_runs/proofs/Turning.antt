@@ -26,14 +26,15 @@ use Rattle.told_bench.specs.declared.judging.Finding.TheVariants as found
 use Rattle.told_bench.specs.Judging.{AtEach, IsJudged, text_with}
 use Rattle.told_bench.specs.Seeing.{Audit, Sees}
 use Rattle.told_runs.specs.Imprints.{IsGiven, IsDueMark, GivesSo, imprint_at}
-use Rattle.told_runs.specs.Verdicts.{Skipped, Answered, IsEvent, HasLine, IsAnswered}
-use Rattle.told_runs.specs.Turns.{StandsAt, Turned, Fell, BeginsWith, IsOver}
+use Rattle.told_runs.specs.Verdicts.{Skipped, Answered, IsEvent, HasLine, has_line, has_front, IsAnswered}
+use Rattle.told_runs.specs.Stops.{StopsSo}
+use Rattle.told_runs.specs.Turns.{StandsAt, Turned, FellPut, BeginsWith, IsOver}
 use Rattle.told_runs.specs.declared.audit.Step.{Step}
 use Rattle.told_runs.specs.declared.imprint.Given.{Given}
 use Rattle.told_runs.specs.declared.imprint.Imprint.{Imprint}
 use Rattle.told_runs.specs.declared.verdict.Ending.TheVariants as ends
 use Rattle.told_runs.specs.declared.verdict.Verdict.{Verdict}
-use Rattle.told_runs.specs.declared.verdict.Verdict.TheVariants.{Wrong, Memory}
+use Rattle.told_runs.specs.declared.verdict.Verdict.TheVariants.{Lawful, Stopped, Wrong, More, Memory}
 use Rattle.told_runs.proofs.Giving.{given_by}
 use Rattle.told_runs.proofs.Paired.{over_falls}
 
@@ -43,15 +44,35 @@ module _ (number : ℕ) (inside : number ≤ 1000000) (script line : List ℕ) (
   is_event : IsEvent number (lines_of script) e
   is_event = record { inside = inside; line = line; more = lines_of (drop taken script); rest_is = begins.first; short = begins.short; is = begins.is }
 
-  module _ (answer behind : List ℕ) (has : HasLine report answer behind) where
-    pub wrong : (due : Reply) → AtEach old e (λ τ H. IsJudged τ H e rates answer new (Err (found.Wrong due))) → Fell number script report rates old new (Wrong number due)
-    wrong due judged = record {
-      falls = (refl, e, answer, behind, is_event, has);
-      so = λ τ H texts history seen unforged. judged τ H texts history unforged seen;
-    }
+  -- the report ends before the line end of its answer
+  pub stops : (v : Verdict) (before after : List Imprint) → IsOneLine report → StopsSo number e report rates old new before after v → FellPut number script report rates old new before after v
+  stops (Stopped n) before after one stop = (
+    record {
+      falls = (stop.0, e, stop.1, is_event, one);
+      so = λ τ H texts history seen. (λ unforged. stop.2.begun τ H texts history unforged seen, stop.2.left_open τ H history seen);
+    },
+    stop.2.prints,
+  )
+  stops (Wrong n due) before after one stop = (
+    record { falls = (stop.0, e, is_event, has_front one); so = λ τ H texts history seen unforged. stop.1 τ H texts history unforged seen },
+    stop.2 ∙ sym (append-nil before),
+  )
+  stops Memory before after one stop = (record { falls = (e, is_event, has_front one); so = λ τ H texts history seen. tt }, stop ∙ sym (append-nil before))
+  stops (Lawful end) before after one stop = absurd stop
+  stops (More n) before after one stop = absurd stop
 
-    pub wants : Fell number script report rates old new Memory
-    wants = record { falls = (e, answer, behind, is_event, has); so = λ τ H texts history seen. tt }
+  module _ (answer behind : List ℕ) (has : HasLine report answer behind) where
+    pub wrong : (due : Reply) (before : List Imprint) → AtEach old e (λ τ H. IsJudged τ H e rates answer new (Err (found.Wrong due))) → FellPut number script report rates old new before before (Wrong number due)
+    wrong due before judged = (
+      record {
+        falls = (refl, e, is_event, has_line answer behind has);
+        so = λ τ H texts history seen unforged. judged τ H texts history unforged seen;
+      },
+      sym (append-nil before),
+    )
+
+    pub wants : (before : List Imprint) → FellPut number script report rates old new before before Memory
+    wants before = (record { falls = (e, is_event, has_line answer behind has); so = λ τ H texts history seen. tt }, sym (append-nil before))
 
     module _ (used : ℕ) (judged : AtEach old e (λ τ H. IsJudged τ H e rates answer new (Ok used))) (one : (x y : Reply) → IsWholeReply x → IsWholeReply y → text_of x ≡ text_of y → told x ≡ told y)
         (due : Option (List ℕ)) (is_due : IsDueMark old e due) (given : Option Given) (gives : GivesSo e due answer given) where
@@ -82,8 +103,8 @@ module _ (number : ℕ) (inside : number ≤ 1000000) (script line : List ℕ) (
       not_given : e ≡ ev.End → given ≡ None
       not_given is = gives.none (λ j same. let wrong : ev.End ≡ ev.Print j = sym is ∙ same in cc)
 
-      pub ends_here : (v : Verdict) → e ≡ ev.End → IsOver ends.Done number behind v → Fell number script report rates old new v
-      ends_here v is over = over_falls number script report rates old new ends.Done behind v (
+      pub ends_here : (v : Verdict) (before : List Imprint) → e ≡ ev.End → IsOver ends.Done number behind v → FellPut number script report rates old new before before v
+      ends_here v before is over = over_falls number script report rates old new ends.Done behind v before (
         record {
           script = subst (λ (l : List (List ℕ)). EndsAt script_grammar status.Done number l) (sym begins.first) (inside, subst (λ (x : Event). Spells x line) is begins.is.spells);
           report = (answer, has);
@@ -111,19 +132,21 @@ bad_line r fault skipped line none is decides passes = record {
 }
 
 module _ (number : ℕ) (inside : number ≤ 1000000) (script report rates : List ℕ) (old : Audit) where
-  ends_at : (rest : List (List ℕ)) (v : Verdict) → lines_of script ≡ rest → EndsAt script_grammar (status.Script number) number rest → IsOver (ends.Script number) number report v → Fell number script report rates old old v
-  ends_at rest v are at over = over_falls number script report rates old old (ends.Script number) report v (
+  ends_at : (rest : List (List ℕ)) (v : Verdict) (before : List Imprint) → lines_of script ≡ rest → EndsAt script_grammar (status.Script number) number rest → IsOver (ends.Script number) number report v
+      → FellPut number script report rates old old before before v
+  ends_at rest v before are at over = over_falls number script report rates old old (ends.Script number) report v before (
     record { script = subst (λ (l : List (List ℕ)). EndsAt script_grammar (status.Script number) number l) (sym are) at; report = refl },
     λ τ H texts history seen. seen,
   ) over
 
   -- nothing is left
-  pub ends_missing : (v : Verdict) → script ≡ [] → IsOver (ends.Script number) number report v → Fell number script report rates old old v
-  ends_missing v none over = ends_at [] v (ap lines_of none) (inside, refl) over
+  pub ends_missing : (v : Verdict) (before : List Imprint) → script ≡ [] → IsOver (ends.Script number) number report v → FellPut number script report rates old old before before v
+  ends_missing v before none over = ends_at [] v before (ap lines_of none) (inside, refl) over
 
   -- the line is too long, or is neither that of an event nor skipped
-  pub ends_bad : (line : List ℕ) (more : List (List ℕ)) (v : Verdict) → lines_of script ≡ line ∷ more → (600 < length line) ⊎ IsBad line → IsOver (ends.Script number) number report v → Fell number script report rates old old v
-  ends_bad line more v are bad over = ends_at (line ∷ more) v are (inside, refl, bad) over
+  pub ends_bad : (line : List ℕ) (more : List (List ℕ)) (v : Verdict) (before : List Imprint) → lines_of script ≡ line ∷ more → (600 < length line) ⊎ IsBad line → IsOver (ends.Script number) number report v
+      → FellPut number script report rates old old before before v
+  ends_bad line more v before are bad over = ends_at (line ∷ more) v before are (inside, refl, bad) over
 
   pub skips : (before : List Imprint) (line : List ℕ) (step : Step) → lines_of script ≡ line ∷ lines_of (drop step.script script) → IsOneLine line → length line ≤ 600 → IsSkipped line → step.report ≡ 0 → step.rates ≡ 0 → Turned number step script report rates old old before before
   skips before line step first one short is none nothing = record {
@@ -136,7 +159,7 @@ module _ (number : ℕ) (inside : number ≤ 1000000) (script report rates : Lis
   }
 
 -- so many lines were paired that no more is looked at
-pub ends_long : (number : ℕ) (script report rates : List ℕ) (old : Audit) (v : Verdict) → number ≡ 1000001 → IsOver ends.TooLong 1000001 report v → Fell number script report rates old old v
-ends_long number script report rates old v many over =
-    over_falls number script report rates old old ends.TooLong report v (record { script = many; report = refl }, λ τ H texts history seen. seen)
+pub ends_long : (number : ℕ) (script report rates : List ℕ) (old : Audit) (v : Verdict) (before : List Imprint) → number ≡ 1000001 → IsOver ends.TooLong 1000001 report v → FellPut number script report rates old old before before v
+ends_long number script report rates old v before many over =
+    over_falls number script report rates old old ends.TooLong report v before (record { script = many; report = refl }, λ τ H texts history seen. seen)
     (subst (λ (n : ℕ). IsOver ends.TooLong n report v) (sym many) over)

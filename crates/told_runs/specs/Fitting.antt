@@ -1,6 +1,7 @@
 -- What deeds fit a script and its report, prints aside; and how the verdict of an audit stands to them.
 use Rattle.std.specs.Prelude.{◌≡◌, ◌≢◌, ℕ, ◌+◌, ◌≤◌, List, [], ◌∷◌, ◌++◌, length, map, drop, ◌⊎◌}
 use Rattle.std.specs.List.{AllByRecursion}
+use Rattle.bench_base.specs.declared.events.Event.{Event}
 use Rattle.bench_base.specs.declared.events.Event.TheVariants as ev
 use Rattle.bench_base.specs.declared.ledger.Entry.TheVariants.{Begin}
 use Rattle.bench_base.specs.Ledger.{Ledger}
@@ -8,20 +9,22 @@ use Rattle.bench_base.specs.Rules.{editions}
 use Rattle.bench_views.specs.Tariff.{IsOfTexts}
 use Rattle.ledger_moves.specs.Tariffs.{Tariff}
 use Rattle.ledger_moves.specs.Histories.{History, Unforged}
+use Rattle.script_text.specs.Texts.{text_of}
 use Rattle.line_runs.specs.Deeds.{Reads, report_of}
 use Rattle.line_runs.specs.Ends.{lines_of, EndsAt}
 use Rattle.desk_runs.specs.Deeds.{Done, Deed, GoesOn, done_in, line_in, line_of}
 use Rattle.desk_runs.specs.Scripts.{script_lines, script_grammar}
 use Rattle.script_replay.specs.Deeds.{ledger_by, ledger_after, printed_of}
 use Rattle.told_bench.specs.Seeing.{Audit, Sees}
+use Rattle.told_bench.specs.Stopping.{IsFrontOf}
 use Rattle.told_runs.specs.Audits.{MayTell, IsRun}
 use Rattle.told_runs.specs.Prints.{ArePrinted}
-use Rattle.told_runs.specs.Verdicts.{Pair, Skipped, Answered, IsAnswered, Says, Audited, status_of}
+use Rattle.told_runs.specs.Verdicts.{Pair, Skipped, Answered, IsAnswered, IsEvent, Says, Audited, status_of}
 use Rattle.told_runs.specs.declared.imprint.Imprint.{Imprint}
 use Rattle.told_runs.specs.declared.verdict.Ending.{Ending}
 use Rattle.told_runs.specs.declared.verdict.Ending.TheVariants.{Done as Ended, Script, TooLong}
 use Rattle.told_runs.specs.declared.verdict.Verdict.{Verdict}
-use Rattle.told_runs.specs.declared.verdict.Verdict.TheVariants.{Lawful, Memory}
+use Rattle.told_runs.specs.declared.verdict.Verdict.TheVariants.{Lawful, Stopped, Memory}
 
 -- each may be told in turn, at the ledger and with the rates that those before it leave
 abbrev pub AreTold : Tariff → Ledger → List ℕ → List Done → Type 0
@@ -39,6 +42,10 @@ abbrev pub EndsTold : Tariff → Ledger → List ℕ → Ending → List ℕ →
 EndsTold τ K left Ended told = (d : Done) × (d.event ≡ ev.End) × MayTell τ K left d × (told ≡ line_of d.reply)
 EndsTold τ K left (Script line) told = told ≡ []
 EndsTold τ K left TooLong told = told ≡ []
+
+-- At this ledger, with these rates left, what is left of the report is the front of the line of a reply that this event may get: none, some or all of it.
+abbrev pub BeginsTold : Tariff → Ledger → List ℕ → Event → List ℕ → Type 0
+BeginsTold τ K left e told = (d : Done) × (d.event ≡ e) × MayTell τ K left d × IsFrontOf told (text_of d.reply)
 
 -- Over the ledger at which a run begins.
 module _ (τ : Tariff) (H : Ledger) (script report rates : List ℕ) where
@@ -60,6 +67,20 @@ module _ (τ : Tariff) (H : Ledger) (script report rates : List ℕ) where
     pub ends : EndsAt script_grammar (status_of end) (length deeds + 1) fits.rest
     pub ends_told : EndsTold τ (ledger_after τ H (done_in deeds)) (rates_after rates (done_in deeds)) end fits.told
 
+  -- They fit, and the report ends before the line end of the reply to the next event: the run may have been stopped there.
+  pub record FitsStopped (deeds : List Deed) : Type 0 where
+    pub fits : FitsFirst deeds
+    pub event : Event
+    pub next : IsEvent (length deeds + 1) fits.rest event
+    pub begins : BeginsTold τ (ledger_after τ H (done_in deeds)) (rates_after rates (done_in deeds)) event fits.told
+
+  -- They fit, and so may the run have been stopped at the next event if it brings nothing forged.
+  pub record StopsUnforged (deeds : List Deed) : Type 0 where
+    pub fits : FitsFirst deeds
+    pub event : Event
+    pub next : IsEvent (length deeds + 1) fits.rest event
+    pub begins : Unforged event (ledger_after τ H (done_in deeds)) → BeginsTold τ (ledger_after τ H (done_in deeds)) (rates_after rates (done_in deeds)) event fits.told
+
   -- They fit to the end, and print these bytes.
   pub record FitsPrinted (prints : List ℕ) (deeds : List Deed) : Type 0 where
     pub fits : FitsToEnd deeds
@@ -69,6 +90,10 @@ module _ (τ : Tariff) (H : Ledger) (script report rates : List ℕ) where
 -- lawful, or there was no memory
 abbrev pub IsLawful : Verdict → Type 0
 IsLawful v = ((end : Ending) × (v ≡ Lawful end)) ⊎ (v ≡ Memory)
+
+-- stopped at the line of this number, or there was no memory
+abbrev pub IsStoppedAt : Verdict → ℕ → Type 0
+IsStoppedAt v number = (v ≡ Stopped number) ⊎ (v ≡ Memory)
 
 -- P of each history that the auditor saw as a run begins, by a tariff of texts
 abbrev pub AtSeen : Audit → (Tariff → Ledger → Type 0) → Type 0
@@ -82,12 +107,16 @@ AreUnforged τ H left (Answered line e answer given ∷ pairs) =
     Unforged e H × ((d : Done) → IsAnswered τ H left e answer given d → AreUnforged τ (ledger_by τ H d) (drop (length d.text) left) pairs)
 
 -- AN AUDIT IS EXACT: no deeds that fit are more than it paired, unless memory was wanting; so where it says that a line is wrong, none fit with that line.
--- Where any fit to the end, it says that the run is lawful; and where it says so and no event brings anything forged, some do.
+-- Where any fit to the end, it says that the run is lawful; and where it says so and no event brings anything forged, some do. Where any fit up to a place at which
+-- the run may have been stopped, it says that; and where it says so and no event brings anything forged, some do.
 pub record IsExact (v : Verdict) (script report rates : List ℕ) (old new : Audit) (says : Says v script report rates old new) : Type 0 where
   pub longest : v ≢ Memory → AtSeen old (λ τ H. (deeds : List Deed) → FitsFirst τ H script report rates deeds → length deeds ≤ length says.pairs)
   pub complete : AtSeen old (λ τ H. (deeds : List Deed) → FitsToEnd τ H script report rates deeds → IsLawful v)
   pub sound : (end : Ending) → v ≡ Lawful end
       → AtSeen old (λ τ H. AreUnforged τ H rates says.pairs → (deeds : List Deed) × FitsToEnd τ H script report rates deeds)
+  pub stops : AtSeen old (λ τ H. (deeds : List Deed) → FitsStopped τ H script report rates deeds → IsStoppedAt v (length deeds + 1))
+  pub stopped : (n : ℕ) → v ≡ Stopped n
+      → AtSeen old (λ τ H. AreUnforged τ H rates says.pairs → (deeds : List Deed) × StopsUnforged τ H script report rates deeds)
 
 -- Where an audit of a run says that it is lawful, no event brings anything forged, and these are the prints of what was given, some deeds fit that print them.
 abbrev pub PrintsFit : Verdict → List ℕ → List ℕ → List ℕ → Audit → Audit → List Imprint → Type 0

@@ -29,6 +29,12 @@ pub record IsGiven (reply : Reply) (mark : Option (List ℕ)) (given : Option Gi
   pub cut : (job : ℕ) → reply ≡ r.PrinterFault job → (x : List ℕ) × (mark ≡ Some x) × (given ≡ Some (partly x))
   pub none : ((job : ℕ) → reply ≢ r.Printed job) → ((job : ℕ) → reply ≢ r.PrinterFault job) → given ≡ None
 
+-- What is open where the line of the event is missing: in a `print` whose plan prints a mark, the printer may have failed in that mark's line, or taken none of it, or all;
+-- and nothing is open in any other event.
+pub record IsLeftOpen (τ : Tariff) (H : Ledger) (e : Event) (given : Option Given) : Type 0 where
+  pub print : (j : ℕ) → e ≡ ev.Print j → given ≡ option_map partly (print_of (plan τ todays_rules H (ev.Print j) []).after)
+  pub other : ((j : ℕ) → e ≢ ev.Print j) → given ≡ None
+
 -- what was given for the line of this number
 abbrev pub imprint_at : ℕ → Option Given → List Imprint
 imprint_at number None = []
@@ -45,3 +51,8 @@ pub record GivesSo (e : Event) (due : Option (List ℕ)) (line : List ℕ) (give
   pub whole : (j : ℕ) → e ≡ ev.Print j → text_of (r.Printed j) ≡ line → given ≡ option_map wholly due
   pub cut : (j : ℕ) → e ≡ ev.Print j → text_of (r.PrinterFault j) ≡ line → text_of (r.Printed j) ≢ line → given ≡ option_map partly due
   pub none : ((j : ℕ) → e ≡ ev.Print j → (text_of (r.Printed j) ≢ line) × (text_of (r.PrinterFault j) ≢ line)) → given ≡ None
+
+-- a `print` whose plan prints this mark leaves this open, where its line is missing; any other event leaves nothing open
+pub record LeavesOpen (e : Event) (due : Option (List ℕ)) (given : Option Given) : Type 0 where
+  pub print : (j : ℕ) → e ≡ ev.Print j → given ≡ option_map partly due
+  pub other : ((j : ℕ) → e ≢ ev.Print j) → given ≡ None

@@ -5,4 +5,5 @@ pub mod Imprints
 pub mod Prints
 pub mod Verdicts
 -- Bookkeeping: private calls and proofs alone name these.
+pub mod Stops
 pub mod Turns

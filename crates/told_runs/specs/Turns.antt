@@ -12,7 +12,8 @@ use Rattle.line_runs.specs.Ends.{lines_of}
 use Rattle.line_runs.specs.Lines.{IsOneLine, ended}
 use Rattle.desk_runs.specs.Events.{IsLineOf}
 use Rattle.told_bench.specs.Seeing.{Audit, Sees}
-use Rattle.told_runs.specs.Verdicts.{Pair, IsPair, line_in, text_for, TellsSo, FallsAt, IsSo, imprints_from}
+use Rattle.told_runs.specs.Imprints.{imprint_at}
+use Rattle.told_runs.specs.Verdicts.{Pair, IsPair, line_in, text_for, TellsSo, FallsAt, IsSo, imprints_from, last_given}
 use Rattle.told_runs.specs.declared.imprint.Imprint.{Imprint}
 use Rattle.told_runs.specs.declared.lines.FirstLine.{FirstLine}
 use Rattle.told_runs.specs.declared.audit.Step.{Step}
@@ -66,10 +67,14 @@ pub record Progress (count : ℕ) (script0 report0 rates0 script report rates : 
   pub so : AtHistories old (λ τ H. TellsSo τ (StandsAt τ new rates) (Begin ∷ H) rates0 pairs)
   pub prints : after ≡ before ++ imprints_from 1 pairs
 
+-- the verdict falls there, and what is open of what was printed was put behind these imprints
+abbrev pub FellPut : ℕ → List ℕ → List ℕ → List ℕ → Audit → Audit → List Imprint → List Imprint → Verdict → Type 0
+FellPut number script report rates old new before after v = (fell : Fell number script report rates old new v) × (after ≡ before ++ imprint_at number (last_given number (lines_of script) report v fell.falls))
+
 -- what becomes of the line of this number
 abbrev pub TurnsSo : ℕ → List ℕ → List ℕ → List ℕ → Audit → Audit → List Imprint → List Imprint → Result Step Verdict → Type 0
 TurnsSo number script report rates old new before after (Ok step) = Turned number step script report rates old new before after
-TurnsSo number script report rates old new before after (Err v) = Fell number script report rates old new v × (after ≡ before)
+TurnsSo number script report rates old new before after (Err v) = FellPut number script report rates old new before after v
 
 -- the script begins with this line of an event, for which so much of it is taken
 pub record BeginsWith (script line : List ℕ) (taken : ℕ) (e : Event) : Type 0 where

@@ -4,6 +4,7 @@ use Rattle.std.specs.Prelude.{◌≡◌, ℕ, ◌+◌, ◌<◌, ◌≤◌, List,
 use Rattle.std.specs.List.{AllByRecursion}
 use Rattle.bench_base.specs.declared.events.Event.{Event}
 use Rattle.bench_base.specs.declared.events.Event.TheVariants as ev
+use Rattle.bench_base.specs.declared.events.Reply.{Reply}
 use Rattle.bench_base.specs.declared.ledger.Entry.TheVariants.{Begin}
 use Rattle.bench_base.specs.Ledger.{Ledger}
 use Rattle.bench_base.specs.Rules.{todays_rules, editions}
@@ -23,9 +24,10 @@ use Rattle.desk_runs.specs.Events.{IsLineOf}
 use Rattle.desk_runs.specs.Scripts.{script_grammar}
 use Rattle.script_replay.specs.Deeds.{ledger_by}
 use Rattle.told_bench.specs.Judging.{IsUntold}
+use Rattle.told_bench.specs.Stopping.{IsBegun, IsUnbegun}
 use Rattle.told_bench.specs.Seeing.{Audit, Sees}
 use Rattle.told_runs.specs.Audits.{MayTell}
-use Rattle.told_runs.specs.Imprints.{IsGiven, imprint_at}
+use Rattle.told_runs.specs.Imprints.{IsGiven, IsLeftOpen, imprint_at}
 use Rattle.told_runs.specs.declared.imprint.Given.{Given}
 use Rattle.told_runs.specs.declared.imprint.Imprint.{Imprint}
 use Rattle.told_runs.specs.declared.verdict.Ending.{Ending}
@@ -87,6 +89,11 @@ pub record HasLine (told answer behind : List ℕ) : Type 0 where
   pub one : IsOneLine answer
   pub is : told ≡ ended answer ++ behind
 
+-- the report has a line next; or it ends before the next line end
+pub data HasSome (told : List ℕ) : Type 0 where
+  has_line : (answer behind : List ℕ) → HasLine told answer behind → HasSome told
+  has_front : IsOneLine told → HasSome told
+
 -- what the report has for the end of the script, and behind it: a line for `end`, and nothing else for any other end
 abbrev pub HasEnd : Ending → List ℕ → List ℕ → Type 0
 HasEnd Ended told behind = (answer : List ℕ) × HasLine told answer behind
@@ -99,13 +106,22 @@ pub record EndsSo (number : ℕ) (rest : List (List ℕ)) (told : List ℕ) (end
   pub report : HasEnd end told behind
 
 -- The verdict falls at the line of this number, where these lines of the script and these bytes of the report are left: the two end together; the report goes
--- on behind the end of the script; it ends before the line end of the next answer; or it has a line for the next event.
+-- on behind the end of the script; it ends before the line end of the next answer, where this is open of what was printed; or it has a line for the next event, or ends
+-- before its line end, which the event can't get.
 abbrev pub FallsAt : ℕ → List (List ℕ) → List ℕ → Verdict → Type 0
 FallsAt number rest told (Lawful end) = EndsSo number rest told end []
 FallsAt number rest told (More n) = (n ≡ number) × (end : Ending) × (behind : List ℕ) × EndsSo number rest told end behind × (0 < length behind)
-FallsAt number rest told (Stopped n) = (n ≡ number) × (e : Event) × IsEvent number rest e × IsOneLine told
-FallsAt number rest told (Wrong n due) = (n ≡ number) × (e : Event) × (answer behind : List ℕ) × IsEvent number rest e × HasLine told answer behind
-FallsAt number rest told Memory = (e : Event) × (answer behind : List ℕ) × IsEvent number rest e × HasLine told answer behind
+FallsAt number rest told (Stopped n) = (n ≡ number) × (e : Event) × (given : Option Given) × IsEvent number rest e × IsOneLine told
+FallsAt number rest told (Wrong n due) = (n ≡ number) × (e : Event) × IsEvent number rest e × HasSome told
+FallsAt number rest told Memory = (e : Event) × IsEvent number rest e × HasSome told
+
+-- what is open of what was printed, where the run was stopped
+abbrev pub last_given : (number : ℕ) (rest : List (List ℕ)) (told : List ℕ) (v : Verdict) → FallsAt number rest told v → Option Given
+last_given number rest told (Lawful end) at = None
+last_given number rest told (More n) at = None
+last_given number rest told (Stopped n) at = at.2
+last_given number rest told (Wrong n due) at = None
+last_given number rest told Memory at = None
 
 -- == what may be so ==
 
@@ -132,12 +148,18 @@ module _ (τ : Tariff) (H : Ledger) (left : List ℕ) (now : Audit) where
   MayEnd (Script line) told behind has = Sees now H
   MayEnd TooLong told behind has = Sees now H
 
-  -- What the verdict says where it falls: the end may be so; or the next event may get no reply of the line that the report has, where this was the answer.
+  -- the event may get no reply of the line that the report has, or none whose line begins with what it ends with; this was the answer
+  abbrev pub IsWrong : (e : Event) (due : Reply) (told : List ℕ) → HasSome told → Type 0
+  IsWrong e due told (has_line answer behind line) = IsUntold τ H e left answer now due
+  IsWrong e due told (has_front one) = IsUnbegun τ H e left told now due
+
+  -- What the verdict says where it falls: the end may be so; what the report ends with may be the front of the line of a reply, and the auditor sees the ledger in which
+  -- a node lost its power in the event, if one may; or the event may not get what the report has.
   abbrev pub IsSo : (number : ℕ) (rest : List (List ℕ)) (told : List ℕ) (v : Verdict) → FallsAt number rest told v → Type 0
   IsSo number rest told (Lawful end) at = MayEnd end told [] at.report
   IsSo number rest told (More n) at = MayEnd at.1 told at.2 at.3.report
-  IsSo number rest told (Stopped n) at = Sees now H
-  IsSo number rest told (Wrong n due) at = Unforged at.1 H → IsUntold τ H at.1 left at.2 now due
+  IsSo number rest told (Stopped n) at = (Unforged at.1 H → IsBegun τ H at.1 left told now) × IsLeftOpen τ H at.1 at.2
+  IsSo number rest told (Wrong n due) at = Unforged at.1 H → IsWrong at.1 due told at.3
   IsSo number rest told Memory at = Unit {0}
 
 -- WHAT AN AUDIT SAYS of a script, its report and the rates: how far the two were paired and where the verdict falls; and for each history that the auditor
@@ -157,7 +179,7 @@ imprints_from number [] = []
 imprints_from number (Skipped line ∷ pairs) = imprints_from (number + 1) pairs
 imprints_from number (Answered line e answer given ∷ pairs) = imprint_at number given ++ imprints_from (number + 1) pairs
 
--- it says so, and what the printer was given was put behind what it was given before
+-- it says so, and what the printer was given was put behind what it was given before; and behind that what is open of it, where the run was stopped
 pub record Audited (v : Verdict) (script report rates : List ℕ) (old new : Audit) (before after : List Imprint) : Type 0 where
   pub says : Says v script report rates old new
-  pub prints : after ≡ before ++ imprints_from 1 says.pairs
+  pub prints : after ≡ before ++ (imprints_from 1 says.pairs ++ imprint_at (length says.pairs + 1) (last_given (length says.pairs + 1) says.rest says.told v says.falls))

@@ -8,6 +8,7 @@ ghost use Rattle.told_runs.specs.Verdicts.{Audited};
 
 use crate::imprint::{Imprint, due_mark, given_in, keep};
 use crate::lines::{first_line, line_end};
+use crate::stopping::stopped;
 use crate::verdict::{Ending, Verdict};
 use bench_base::events::Event;
 use desk_runs::ended_by;
@@ -73,7 +74,7 @@ fn hear(
         → TurnsSo number script report.now rates.now (audit_of auditor.old) (audit_of auditor.new) imprints.old.items imprints.new.items result }
 {
     let Some(end) = line_end(report) else {
-        return Err(Verdict::Stopped(number));
+        return Err(stopped(alloc, auditor, imprints, number, event, report, rates));
     };
     one_reply();
     let line = &report[..end];
@@ -145,8 +146,9 @@ fn turn(
 /// Audits one run over what the auditor has: whether each event of the script may get the line that the report has for it, in turn, where these are the rates.
 /// The auditor begins the run, and has behind it what the verdict says of the lines that were paired; so runs are audited in order over one auditor.
 ///
-/// What the printer was given in the lines that were paired is put behind the imprints. An answer whose line end is missing is not judged. It is said of each
-/// line whose event brings nothing forged, up to the first that does.
+/// What the printer was given in the lines that were paired is put behind the imprints, and what is open of it where the run was stopped. A stop is told as one in
+/// which a node lost its power, where that may come, so that a run over what was kept may be audited next. It is said of each line whose event brings nothing forged,
+/// up to the first that does.
 pub fn audit_run(
     alloc: Global,
     auditor: &mut Auditor,

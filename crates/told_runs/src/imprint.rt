@@ -2,14 +2,14 @@
 ghost use Rattle.std.specs.Prelude.{◌≡◌, ◌++◌, OnOk, OnErr};
 ghost use Rattle.bench_base.specs.Ranges.{IsWholeEvent};
 ghost use Rattle.told_bench.specs.Seeing.{audit_of};
-ghost use Rattle.told_runs.specs.Imprints.{GivesSo, IsDueMark, imprint_at};
+ghost use Rattle.told_runs.specs.Imprints.{GivesSo, IsDueMark, LeavesOpen, imprint_at};
 
 use bench_base::events::{Event, Reply};
 use std::alloc::AllocError;
 use told_bench::{Auditor, mark_due};
 use told_nodes::is_told;
 
-/// What the printer was given in an event: a mark, and whether it took the whole line of it; else it failed in the line.
+/// What the printer was given in an event: a mark, and whether it took the whole line of it; else it failed in the line, or the run was stopped there.
 #[derive(Clone, Copy)]
 pub struct Given {
     pub mark: [u8; 64],
@@ -51,6 +51,19 @@ pub(crate) fn given_in(event: &Event, due: Option<[u8; 64]>, line: &[u8]) -> Opt
         return Some(Given { mark, whole: false });
     }
     None
+}
+
+// What is open of an event that prints this mark where nothing fails, and whose line is missing: the printer may have taken none, some or all of the mark's line.
+pub(crate) fn open_in(event: &Event, due: Option<[u8; 64]>) -> Option<Given>
+    ensures { LeavesOpen event.now due result }
+{
+    let Event::Print(_) = event else {
+        return None;
+    };
+    let Some(mark) = due else {
+        return None;
+    };
+    Some(Given { mark, whole: false })
 }
 
 // Puts it behind the others, if the printer was given something.

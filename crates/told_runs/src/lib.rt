@@ -6,6 +6,7 @@ pub mod imprint;
 pub mod laws;
 mod lines;
 pub mod prints;
+mod stopping;
 #[cfg(test)]
 mod tests;
 pub mod verdict;

@@ -169,7 +169,7 @@ fn the_ordinary_path_is_lawful(rt: HostRuntime) -> Result<(), Fail> {
 #[test]
 fn altered_reports_are_found(rt: HostRuntime) -> Result<(), Fail> {
     let alloc = rt.alloc();
-    let rows: [(usize, &str, Due); 15] = [
+    let rows: [(usize, &str, Due); 18] = [
         (
             19,
             "ruled d1 3 verdict 5 new msg 5\n",
@@ -208,13 +208,133 @@ fn altered_reports_are_found(rt: HostRuntime) -> Result<(), Fail> {
         (33, "end\nend\n", Due::More(33)),
         (34, "day 20513\n", Due::More(33)),
         (33, "en", Due::Stopped(33)),
+        (33, "end", Due::Stopped(33)),
         (33, "", Due::Stopped(33)),
+        (33, "ends", Due::Wrong(33, "end")),
+        (33, "power d1", Due::Wrong(33, "end")),
     ];
     for row in rows {
         let (number, text, due) = row;
         let report = report_with(alloc, number, text)?;
         says(&rt, alloc, SCRIPT, report.as_slice(), &due, text)?;
     }
+    Ok(())
+}
+
+// The first lines of the report, and behind them this front of the line of this number.
+fn cut_report(alloc: Global, number: usize, front: &str) -> Result<Vec<u8>, Fail> {
+    let mut report = Vec::new(alloc);
+    for place in 0..REPORT.len() {
+        if place + 1 < number {
+            report.extend_from_slice(REPORT[place].as_bytes())?;
+            report.push(b'\n')?;
+        }
+    }
+    report.extend_from_slice(front.as_bytes())?;
+    Ok(report)
+}
+
+#[test]
+fn fronts_are_judged(rt: HostRuntime) -> Result<(), Fail> {
+    let alloc = rt.alloc();
+    let rows: [(usize, &str, Due); 18] = [
+        (1, "", Due::Stopped(1)),
+        (1, "day 2051", Due::Stopped(1)),
+        (1, "day 2052", Due::Wrong(1, "day 20513")),
+        (2, "rates f", Due::Stopped(2)),
+        (2, "rates 3", Due::Wrong(2, "rates 2 2")),
+        (6, "up d1 commits 0", Due::Stopped(6)),
+        (6, "up d1 commits 1", Due::Wrong(6, "up d1 commits 0")),
+        (6, "damaged", Due::Wrong(6, "up d1 commits 0")),
+        (6, "fault d1", Due::Stopped(6)),
+        (21, "power", Due::Wrong(21, "sent d1 done 3 msg 6")),
+        (25, "", Due::Stopped(25)),
+        (25, "relea", Due::Stopped(25)),
+        (25, "power d", Due::Stopped(25)),
+        (25, "fault", Due::Stopped(25)),
+        (25, "power h", Due::Wrong(25, "released d1 1 new msg 8")),
+        (25, "power d2", Due::Wrong(25, "released d1 1 new msg 8")),
+        (27, "printer f", Due::Stopped(27)),
+        (27, "printer fault 2", Due::Wrong(27, "printed 1")),
+    ];
+    for row in rows {
+        let (number, front, due) = row;
+        let report = cut_report(alloc, number, front)?;
+        says(&rt, alloc, SCRIPT, report.as_slice(), &due, front)?;
+    }
+    Ok(())
+}
+
+#[test]
+fn runs_go_on_behind_a_stop(rt: HostRuntime) -> Result<(), Fail> {
+    let alloc = rt.alloc();
+    let wrong = Due::Wrong(2, "up d1 commits 7");
+    let (ack, debit) = (Due::Stopped(21), Due::Stopped(25));
+    let rows: [(usize, Due, &str, &str, Due); 10] = [
+        (21, ack, "sent d1", "6\nend\n", wrong),
+        (21, ack, "sent d1", "7\nend\n", Due::Done),
+        (21, ack, "sent d1", "8\nend\n", wrong),
+        (25, debit, "", "6\nend\n", wrong),
+        (25, debit, "", "7\nend\n", Due::Done),
+        (25, debit, "", "8\nend\n", Due::Done),
+        (25, debit, "", "9\nend\n", wrong),
+        (25, debit, "power d1", "8\nend\n", Due::Done),
+        (25, debit, "", "8", Due::Stopped(2)),
+        (25, debit, "", "9", wrong),
+    ];
+    for row in rows {
+        let (number, stop, front, count, due) = row;
+        let mut auditor = Auditor::new(alloc)?;
+        let mut imprints: Vec<Imprint> = Vec::new(alloc);
+        let report = cut_report(alloc, number, front)?;
+        let first = audit_run(
+            alloc,
+            &mut auditor,
+            SCRIPT.as_bytes(),
+            report.as_slice(),
+            RATES.as_bytes(),
+            &mut imprints,
+        );
+        assert!(rt; is_said(&first, &stop), "{front}");
+        let report = format!(in alloc; "day 20514\nup d1 commits {count}")?;
+        let second = audit_run(
+            alloc,
+            &mut auditor,
+            "day 2026-03-02\non d1\nend\n".as_bytes(),
+            report.as_bytes(),
+            RATES.as_bytes(),
+            &mut imprints,
+        );
+        assert!(rt; is_said(&second, &due), "{number} {front} {report}");
+    }
+    Ok(())
+}
+
+// Whether a print is open, the last, where the report ends before the answer to this line.
+fn is_print_open(alloc: Global, number: usize) -> Result<bool, Fail> {
+    let mut auditor = Auditor::new(alloc)?;
+    let mut imprints: Vec<Imprint> = Vec::new(alloc);
+    let report = cut_report(alloc, number, "")?;
+    audit_run(
+        alloc,
+        &mut auditor,
+        SCRIPT.as_bytes(),
+        report.as_slice(),
+        RATES.as_bytes(),
+        &mut imprints,
+    );
+    Ok(match imprints.last() {
+        Some(imprint) => !imprint.given.whole,
+        None => false,
+    })
+}
+
+#[test]
+fn a_stopped_print_is_open(rt: HostRuntime) -> Result<(), Fail> {
+    let alloc = rt.alloc();
+    assert!(rt; !is_print_open(alloc, 26)?);
+    assert!(rt; is_print_open(alloc, 27)?);
+    assert!(rt; !is_print_open(alloc, 28)?);
     Ok(())
 }
 

@@ -1,4 +1,4 @@
-use Rattle.std.proofs.Common.{◌≡◌, ◌+◌, ℕ, List, length, refl, ap, arith}
+use Rattle.std.proofs.Common.{◌≡◌, ◌+◌, ℕ, List, length, ap, arith}
 use Rattle.told_bench.specs.Seeing.{audit_of}
 use Rattle.told_runs.proofs.Paired.{begun, progress_more, fallen}
 use Rattle.told_runs.proofs.Turning.{ends_long}
@@ -30,4 +30,4 @@ returns-clause-audited c =
     let all : c.loop-count.count ≡ 1000000 = omega (arith, c.loop-count-test.false, c.loop-count.auto.count-end) in
     fallen c.args.script.now c.args.report.now c.args.rates.now c.loop-count.count c.loop-count.lines.now c.loop-count.told.now c.loop-count.left.now
     (audit_of c.args.auditor.now) (audit_of c.loop-count.auditor) (audit_of c.loop-count.auditor) c.args.imprints.now.items c.loop-count.imprints.items c.loop-count.imprints.items c.loop-count.invariant.progress c.over.result (omega (arith, all))
-    (ends_long (c.loop-count.count + 1) c.loop-count.lines.now c.loop-count.told.now c.loop-count.left.now (audit_of c.loop-count.auditor) c.over.result (omega (arith, all)) c.over.ensures, refl)
+    (ends_long (c.loop-count.count + 1) c.loop-count.lines.now c.loop-count.told.now c.loop-count.left.now (audit_of c.loop-count.auditor) c.over.result c.loop-count.imprints.items (omega (arith, all)) c.over.ensures)

@@ -6,15 +6,13 @@ use Rattle.told_runs.proofs.Turning.{ends_missing, ends_bad, skips, line_of_even
 use Rattle.told_runs.proofs.audit.turn.Goals as goal
 
 pub returns-in_default-clause-turns : goal.returns-in_default-clause-turns
-returns-in_default-clause-turns c = (ends_missing c.args.number c.requires.inside c.args.script.now c.args.report.now c.args.rates.now (audit_of c.args.auditor.now) c.over.result c.in_default.ensures c.over.ensures, refl)
+returns-in_default-clause-turns c = ends_missing c.args.number c.requires.inside c.args.script.now c.args.report.now c.args.rates.now (audit_of c.args.auditor.now) c.over.result c.args.imprints.now.items c.in_default.ensures c.over.ensures
 
 pub returns-then-first-gt-LONGEST-clause-turns : goal.returns-then-first-gt-LONGEST-clause-turns
-returns-then-first-gt-LONGEST-clause-turns c = (
-  ends_bad c.args.number c.requires.inside c.args.script.now c.args.report.now c.args.rates.now (audit_of c.args.auditor.now)
-      (take c.in-Some.first.len c.args.script.now) (lines_of (drop c.in-Some.first.taken c.args.script.now)) c.over-then-first-gt-LONGEST.result
-      c.in-Some.ensures.3 (inl (omega (arith, c.if-first-gt-LONGEST.true, c.in-Some.ensures.0, length-take c.in-Some.first.len c.args.script.now))) c.over-then-first-gt-LONGEST.ensures,
-  refl,
-)
+returns-then-first-gt-LONGEST-clause-turns c =
+    ends_bad c.args.number c.requires.inside c.args.script.now c.args.report.now c.args.rates.now (audit_of c.args.auditor.now)
+    (take c.in-Some.first.len c.args.script.now) (lines_of (drop c.in-Some.first.taken c.args.script.now)) c.over-then-first-gt-LONGEST.result c.args.imprints.now.items
+    c.in-Some.ensures.3 (inl (omega (arith, c.if-first-gt-LONGEST.true, c.in-Some.ensures.0, length-take c.in-Some.first.len c.args.script.now))) c.over-then-first-gt-LONGEST.ensures
 
 pub returns-then-is_skipped-clause-turns : goal.returns-then-is_skipped-clause-turns
 returns-then-is_skipped-clause-turns c =
@@ -32,9 +30,7 @@ returns-in-Ok-clause-turns c =
     })
 
 pub returns-in-Err-clause-turns : goal.returns-in-Err-clause-turns
-returns-in-Err-clause-turns c = (
-  ends_bad c.args.number c.requires.inside c.args.script.now c.args.report.now c.args.rates.now (audit_of c.args.auditor.now)
-      (take c.in-Some.first.len c.args.script.now) (lines_of (drop c.in-Some.first.taken c.args.script.now)) c.over-in-Err.result
-      c.in-Some.ensures.3 (inr (bad_line c.read_event.result c.in-Err.field-0 c.is_skipped.result (take c.in-Some.first.len c.args.script.now) c.read_event.ensures.none c.in-Err.is c.is_skipped.ensures c.if-is_skipped.false)) c.over-in-Err.ensures,
-  refl,
-)
+returns-in-Err-clause-turns c =
+    ends_bad c.args.number c.requires.inside c.args.script.now c.args.report.now c.args.rates.now (audit_of c.args.auditor.now)
+    (take c.in-Some.first.len c.args.script.now) (lines_of (drop c.in-Some.first.taken c.args.script.now)) c.over-in-Err.result c.args.imprints.now.items
+    c.in-Some.ensures.3 (inr (bad_line c.read_event.result c.in-Err.field-0 c.is_skipped.result (take c.in-Some.first.len c.args.script.now) c.read_event.ensures.none c.in-Err.is c.is_skipped.ensures c.if-is_skipped.false)) c.over-in-Err.ensures

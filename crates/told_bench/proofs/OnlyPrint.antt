@@ -1,5 +1,5 @@
--- A `print` alone is answered by what was printed, and its plan prints a mark then.
-use Rattle.std.proofs.Common.{◌≡◌, ◌≢◌, ℕ, ℤ, pos, ◌+◌, List, [], ◌∷◌, length, drop, Option, Some, None, Bool, true, false, if◌then◌else◌, nat_lt, Result, Ok, Err, true≢false, refl, sym, ◌∙◌, ap}
+-- A `print` alone is answered by what was printed, and its plan prints a mark then; and no event is answered by a failure.
+use Rattle.std.proofs.Common.{◌≡◌, ℕ, ℤ, pos, ◌+◌, List, [], ◌∷◌, length, drop, Option, Some, None, Bool, true, false, if◌then◌else◌, nat_lt, Result, Ok, Err, true≢false, refl, sym, ◌∙◌, ap}
 use Rattle.bench_base.specs.declared.words.Node.{Node}
 use Rattle.bench_base.specs.declared.words.Node.TheVariants.{Device, Centre, Host, Verifier}
 use Rattle.bench_base.specs.declared.refusals.Unread.{Unread}
@@ -58,13 +58,32 @@ use Rattle.ledger_moves.specs.Moves.{plan, plan_on, on_day, at_node, unless_worn
 
 -- == plans whose answer is no print ==
 
-abbrev of_printer : Reply → Bool
-of_printer (r.Printed j) = true
-of_printer (r.PrinterFault j) = true
-of_printer _ = false
+-- a node, the printer or the rates failed
+abbrev pub is_failure : Reply → Bool
+is_failure (r.PrinterFault j) = true
+is_failure (r.Power m) = true
+is_failure (r.Fault m) = true
+is_failure r.RatesFault = true
+is_failure _ = false
+
+abbrev prints_or_fails : Reply → Bool
+prints_or_fails (r.Printed j) = true
+prints_or_fails (r.PrinterFault j) = true
+prints_or_fails (r.Power m) = true
+prints_or_fails (r.Fault m) = true
+prints_or_fails r.RatesFault = true
+prints_or_fails _ = false
+
+unfailing : (x : Reply) → prints_or_fails x ≡ false → is_failure x ≡ false
+unfailing (r.Printed j) none = refl
+unfailing (r.PrinterFault j) none = none
+unfailing (r.Power m) none = none
+unfailing (r.Fault m) none = none
+unfailing r.RatesFault none = none
+unfailing _ none = refl
 
 record NoPrint (p : Plan) : Type 0 where
-  is : of_printer p.reply ≡ false
+  is : prints_or_fails p.reply ≡ false
 
 either : (b : Bool) (p q : Plan) → NoPrint p → NoPrint q → NoPrint (if b then p else q)
 either true p q one other = one
@@ -77,7 +96,7 @@ unworn C p (Some c) none = either (is_worn c C) (refuse (r.Worn (node_of c))) p 
 at : (m : Node) (H : Ledger) (p : Plan) → NoPrint p → NoPrint (at_node m H p)
 at m H p none = either (is_on m H) (unless_worn (counted H) p p.commit) (refuse (r.OffNode m)) (unworn (counted H) p p.commit none) (record { is = refl })
 
-planned : {A : Type 0} (d : ℕ) (reply : A → Reply) (tell : A → List Entry) (act : DeviceAct A) → ((a : A) → of_printer (reply a) ≡ false) → NoPrint (device.planned d reply tell act)
+planned : {A : Type 0} (d : ℕ) (reply : A → Reply) (tell : A → List Entry) (act : DeviceAct A) → ((a : A) → prints_or_fails (reply a) ≡ false) → NoPrint (device.planned d reply tell act)
 planned d reply tell (Refuse x) none = record { is = refl }
 planned d reply tell (Tell a) none = record { is = none a }
 planned d reply tell (Commits c x a) none = record { is = none a }
@@ -97,7 +116,7 @@ acks d k C key = planned {A = List ℕ} d (λ note. r.SentDone d (number d C) k)
 statuses : (d : ℕ) (today : ℤ) (C : List Commit) (key : Option (List ℕ)) → NoPrint (device.status_plan d today C key)
 statuses d today C key = planned d (r.Status d) (λ view. []) (acts.status_act today (device.record_with d C key)) (λ view. refl)
 
-took : (d k : ℕ) (a : Taken) → of_printer (device.taken_reply d k a) ≡ false
+took : (d k : ℕ) (a : Taken) → prints_or_fails (device.taken_reply d k a) ≡ false
 took d k (taken.Applied n v) = refl
 took d k (taken.Released piece x again) = refl
 
@@ -276,21 +295,21 @@ reads_text text (Ok x) = record { is = refl }
 
 -- == of every event ==
 
--- where the plan's answer is a print, the event is one of that job, and the plan prints a mark
+-- where the plan's answer is a print, the event is one of that job, and the plan prints a mark; no answer is a failure
 pub record Prints (e : Event) (p : Plan) : Type 0 where
   pub answered : (j : ℕ) → p.reply ≡ r.Printed j → (e ≡ ev.Print j) × ((x : List ℕ) × (print_of p.after ≡ Some x))
-  pub uncut : (j : ℕ) → p.reply ≢ r.PrinterFault j
+  pub unfailed : is_failure p.reply ≡ false
 
 none_prints : (e : Event) (p : Plan) → NoPrint p → Prints e p
 none_prints e p none = record {
-  answered = λ j is. absurd (true≢false (sym (ap of_printer is) ∙ none.is));
-  uncut = λ j is. absurd (true≢false (sym (ap of_printer is) ∙ none.is));
+  answered = λ j is. absurd (true≢false (sym (ap prints_or_fails is) ∙ none.is));
+  unfailed = unfailing p.reply none.is;
 }
 
 print_act : (i : ℕ) (x : Option (List ℕ)) (o : Option HostRefusal) → Prints (ev.Print i) (host.print_answered i x o)
 print_act i x (Some o) = none_prints (ev.Print i) _ (record { is = refl })
 print_act i None None = none_prints (ev.Print i) _ (record { is = refl })
-print_act i (Some x) None = record { answered = λ j is. let same : i ≡ j = cc in (ap ev.Print same, (x, refl)); uncut = λ j is. cc }
+print_act i (Some x) None = record { answered = λ j is. let same : i ≡ j = cc in (ap ev.Print same, (x, refl)); unfailed = refl }
 
 either_prints : (e : Event) (b : Bool) (p q : Plan) → Prints e p → Prints e q → Prints e (if b then p else q)
 either_prints e true p q one other = one

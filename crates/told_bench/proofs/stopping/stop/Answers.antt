@@ -1,0 +1,20 @@
+use Rattle.told_bench.specs.Seeing.{audit_of}
+use Rattle.told_bench.proofs.Stops.{comes_begun, fails_begun, none_begun}
+use Rattle.told_bench.proofs.stopping.stop.Goals as goal
+
+pub returns-then-comes-clause-stopped : goal.returns-then-comes-clause-stopped
+returns-then-comes-clause-stopped c τ H texts history unforged sees =
+    let w = c.in-Ok.ensures.due τ H texts history unforged sees in
+    comes_begun τ H c.args.event.now c.args.left.now c.args.front.now (audit_of c.cut.new.auditor) (rw c.if-comes.true at c.comes-comes.ensures τ H c.args.left.now w.1 w.0) c.in-Ok-cut.is_cut
+    (rw c.if-comes.true at c.in-Ok-cut.ensures.cut τ H texts history unforged w.1)
+
+pub returns-then-is_cut-clause-stopped : goal.returns-then-is_cut-clause-stopped
+returns-then-is_cut-clause-stopped c τ H texts history unforged sees =
+    let w = c.in-Ok.ensures.due τ H texts history unforged sees in
+    fails_begun τ H c.args.event.now c.args.left.now c.args.front.now (audit_of c.cut.new.auditor) (rw (c.if-comes.false, c.if-is_cut.true) at c.in-Ok-cut.ensures.cut τ H texts history unforged w.1)
+
+pub returns-clause-stopped : goal.returns-clause-stopped
+returns-clause-stopped c τ H texts history unforged sees =
+    let w = c.in-Ok.ensures.due τ H texts history unforged sees in
+    none_begun τ H c.args.event.now c.args.left.now c.args.front.now (audit_of c.cut.new.auditor) c.in-Ok.due w.0 (rw c.if-comes.false at c.comes-comes.ensures τ H c.args.left.now w.1 w.0)
+    (rw (c.if-comes.false, c.if-is_cut.false) at c.in-Ok-cut.ensures.cut τ H texts history unforged w.1)

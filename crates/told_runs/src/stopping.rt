@@ -1,0 +1,40 @@
+//! Where a report ends before the line end of an answer.
+ghost use Rattle.std.specs.Prelude.{◌+◌, ◌<◌, ◌≤◌, length};
+ghost use Rattle.bench_base.specs.Ranges.{IsWholeEvent};
+ghost use Rattle.bench.specs.declared.benches.TheConstants.{MOST_MESSAGES};
+ghost use Rattle.told_bench.specs.Seeing.{IsReady, audit_of};
+ghost use Rattle.told_runs.specs.Stops.{StopsSo};
+
+use crate::imprint::{Imprint, due_mark, keep, open_in};
+use crate::verdict::Verdict;
+use bench_base::events::Event;
+use std::alloc::Global;
+use told_bench::{Auditor, Finding, stop};
+
+// What is said where these bytes are all that the report has for the event of the line of this number.
+pub(crate) fn stopped(
+    alloc: Global,
+    auditor: &mut Auditor,
+    imprints: &mut Vec<Imprint>,
+    number: u32,
+    event: &Event,
+    report: &[u8],
+    rates: &[u8],
+) -> Verdict
+    requires whole { IsWholeEvent event.now }
+    requires ready { IsReady (audit_of auditor.old) }
+    requires few { length (audit_of auditor.old).messages < MOST_MESSAGES }
+    ensures ready { IsReady (audit_of auditor.new) }
+    ensures few { length (audit_of auditor.new).messages ≤ length (audit_of auditor.old).messages + 1 }
+    ensures stops { StopsSo number event.now report.now rates.now (audit_of auditor.old) (audit_of auditor.new) imprints.old.items imprints.new.items result }
+{
+    let open = open_in(event, due_mark(auditor, event));
+    match stop(alloc, auditor, event, rates, report) {
+        Err(Finding::Wrong(due)) => Verdict::Wrong(number, due),
+        Err(Finding::Memory) => Verdict::Memory,
+        Ok(()) => match keep(imprints, number, open) {
+            Ok(()) => Verdict::Stopped(number),
+            Err(_) => Verdict::Memory,
+        },
+    }
+}
