@@ -1,6 +1,8 @@
 mod Answered
 mod Begun
 mod Days
+mod Forged
+mod Keeping
 mod Lifting
 mod Nodes
 mod OfRates
@@ -8,5 +10,6 @@ mod Printing
 mod Quiet
 mod Seen
 mod Sent
-mod Shutting
+mod Sets
 mod Shown
+mod Shutting

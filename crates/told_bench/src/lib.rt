@@ -3,11 +3,14 @@
 
 pub mod auditor;
 pub mod comparing;
+pub mod forging;
 pub mod judging;
+pub mod known;
 pub mod printed;
 pub mod rates;
 mod telling;
 
 pub use auditor::Auditor;
+pub use forging::is_forged;
 pub use judging::{Finding, judge};
 pub use printed::mark_due;
