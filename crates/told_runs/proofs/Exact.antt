@@ -29,11 +29,11 @@ use Rattle.told_bench.specs.Seeing.{Audit}
 use Rattle.told_runs.specs.Audits.{MayTell}
 use Rattle.told_runs.specs.Verdicts.{Pair, Skipped, Answered, IsPair, line_in, status_of, IsEvent, HasLine, EndsSo, FallsAt, IsSo, TellsSo, Says, imprints_from}
 use Rattle.told_runs.specs.Prints.{ArePrinted}
-use Rattle.told_runs.specs.Fitting.{FitsPrinted, AreTold, rates_after, FitsFirst, FitsToEnd, EndsTold, AreUnforged, IsLawful, IsExact}
+use Rattle.told_runs.specs.Fitting.{FitsPrinted, AreTold, rates_after, FitsFirst, FitsToEnd, EndsTold, IsLawful, IsExact}
 use Rattle.told_runs.specs.declared.verdict.Ending.{Ending}
 use Rattle.told_runs.specs.declared.verdict.Ending.TheVariants.{Done as Ended, Script, TooLong}
 use Rattle.told_runs.specs.declared.verdict.Verdict.{Verdict}
-use Rattle.told_runs.specs.declared.verdict.Verdict.TheVariants.{Lawful, Stopped, Wrong, More, Memory}
+use Rattle.told_runs.specs.declared.verdict.Verdict.TheVariants.{Lawful, Stopped, Wrong, Forged, More, Memory}
 use Rattle.told_runs.proofs.Fitted.{Made, made, lawful_ends}
 use Rattle.told_runs.proofs.MadePrinted.{made_printed}
 use Rattle.told_runs.proofs.Comparing.{Compared, longer, shorter, compare, one_split}
@@ -76,10 +76,10 @@ not_one (c ∷ a) x one = not_one a x one.1
 module _ (one : (x y : Reply) → IsWholeReply x → IsWholeReply y → text_of x ≡ text_of y → told x ≡ told y) (line : (r : Reply) → IsWholeReply r → IsOneLine (text_of r)) where
   -- no reply that may be told has a line of which it was said that none has it
   untold_not : (τ : Tariff) (K : Ledger) (l : List ℕ) (e : Event) (answer behind told_is : List ℕ) (new : Audit) (due : Reply) (d : Done) (x : List ℕ) → HasLine told_is answer behind
-      → (Unforged e K → IsUntold τ K e l answer new due) → d.event ≡ e → MayTell τ K l d → told_is ≡ line_of d.reply ++ x → ⊥
+      → IsUntold τ K e l answer new due → d.event ≡ e → MayTell τ K l d → told_is ≡ line_of d.reply ++ x → ⊥
   untold_not τ K l e answer behind told_is new due d x has untold event may is =
       let split = one_split (text_of d.reply) answer x behind (line d.reply may.whole) has.one (sym is ∙ has.is) in
-      let u = untold (subst (λ (f : Event). Unforged f K) event may.unforged) in
+      let u = untold in
       let moves : Moves τ todays_rules K d.event (taken_by d.event (day_in K) (told_by d.reply) l) d.reply = subst (λ (t : List ℕ). Moves τ todays_rules K d.event t d.reply) may.takes may.moves in
       u.none d.reply (subst (λ (f : Event). Moves τ todays_rules K f (taken_by f (day_in K) (told_by d.reply) l) d.reply) event moves) split.0
 
@@ -102,7 +102,14 @@ module _ (one : (x y : Reply) → IsWholeReply x → IsWholeReply y → text_of 
   goes_past (Wrong n due) number rest told_is falls τ K l new so inside (Did y d) more lines x reads goes rest_is text are =
       let same : falls.4.line ≡ y = cc (falls.4.rest_is, rest_is) in
       let event : d.event ≡ falls.1 = one_event_of d.event falls.1 y reads.is.0.whole falls.4.is.whole reads.is.0.spells (subst (λ (z : List ℕ). Spells falls.1 z) same falls.4.is.spells) in
-      absurd (untold_not τ K l falls.1 falls.2 falls.3 told_is new due d x falls.5 so event are.0 text)
+      absurd (untold_not τ K l falls.1 falls.2 falls.3 told_is new due d x falls.5 so.1 event are.0 text)
+  goes_past (Forged n) number rest told_is falls τ K l new so inside (deed.Skipped y) more lines x reads goes rest_is text are =
+      let same : falls.2.line ≡ y = cc (falls.2.rest_is, rest_is) in
+      absurd (no_event_skipped falls.1 falls.2.line falls.2.is.spells (subst (λ (z : List ℕ). IsSkipped z) (sym same) reads.is))
+  goes_past (Forged n) number rest told_is falls τ K l new so inside (Did y d) more lines x reads goes rest_is text are =
+      let same : falls.2.line ≡ y = cc (falls.2.rest_is, rest_is) in
+      let event : d.event ≡ falls.1 = one_event_of d.event falls.1 y reads.is.0.whole falls.2.is.whole reads.is.0.spells (subst (λ (z : List ℕ). Spells falls.1 z) same falls.2.is.spells) in
+      absurd (so.0 (subst (λ (f : Event). Unforged f K) event are.0.unforged))
   goes_past Memory number rest told_is falls τ K l new so inside d more lines x reads goes rest_is text are = refl
 
   -- where something fits to the end that is the place where the verdict falls, it is lawful
@@ -116,9 +123,14 @@ module _ (one : (x y : Reply) → IsWholeReply x → IsWholeReply y → text_of 
   ends_there (Stopped n) number rest told_is falls τ K l new so TooLong at ends = let w = event_ends TooLong number rest falls.1 falls.2 at in absurd (cc (w.0))
   ends_there (Wrong n due) number rest told_is falls τ K l new so Ended at ends =
       let w = event_ends Ended number rest falls.1 falls.4 at in
-      absurd (untold_not τ K l falls.1 falls.2 falls.3 told_is new due ends.0 [] falls.5 so (ends.1 ∙ sym w.1) ends.2 (ends.3 ∙ sym (append-nil (line_of ends.0.reply))))
+      absurd (untold_not τ K l falls.1 falls.2 falls.3 told_is new due ends.0 [] falls.5 so.1 (ends.1 ∙ sym w.1) ends.2 (ends.3 ∙ sym (append-nil (line_of ends.0.reply))))
   ends_there (Wrong n due) number rest told_is falls τ K l new so (Script k) at ends = let w = event_ends (Script k) number rest falls.1 falls.4 at in absurd (cc (w.0))
   ends_there (Wrong n due) number rest told_is falls τ K l new so TooLong at ends = let w = event_ends TooLong number rest falls.1 falls.4 at in absurd (cc (w.0))
+  ends_there (Forged n) number rest told_is falls τ K l new so Ended at ends =
+      let w = event_ends Ended number rest falls.1 falls.2 at in
+      absurd (so.0 (subst (λ (f : Event). Unforged f K) (ends.1 ∙ sym w.1) ends.2.unforged))
+  ends_there (Forged n) number rest told_is falls τ K l new so (Script k) at ends = let w = event_ends (Script k) number rest falls.1 falls.2 at in absurd (cc (w.0))
+  ends_there (Forged n) number rest told_is falls τ K l new so TooLong at ends = let w = event_ends TooLong number rest falls.1 falls.2 at in absurd (cc (w.0))
   ends_there (More n) number rest told_is falls τ K l new so end at ends = absurd (goes_on falls.1 falls.2 falls.3 falls.4 end at ends)
     where
       nothing : (a b : List ℕ) → a ≡ b → a ≡ [] → 0 < length b → ⊥
@@ -204,20 +216,20 @@ module _ (one : (x y : Reply) → IsWholeReply x → IsWholeReply y → text_of 
           ends_told = w.1;
         }
 
-    fits_whole : (τ : Tariff) (H : Ledger) (end : Ending) → v ≡ Lawful end → TellsSo τ (Falls τ) (Begin ∷ H) rates says.pairs → AreUnforged τ (Begin ∷ H) rates says.pairs
+    fits_whole : (τ : Tariff) (H : Ledger) (end : Ending) → v ≡ Lawful end → TellsSo τ (Falls τ) (Begin ∷ H) rates says.pairs
         → (deeds : List Deed) × FitsToEnd τ (Begin ∷ H) script report rates deeds
-    fits_whole τ H end is so unforged = let m = made τ (Falls τ) (Begin ∷ H) rates says.pairs says.front.each so unforged in (m.deeds, fits_made τ H end is m)
+    fits_whole τ H end is so = let m = made τ (Falls τ) (Begin ∷ H) rates says.pairs says.front.each so in (m.deeds, fits_made τ H end is m)
 
     -- with prints that are those of the pairs
-    pub fits_printed : (τ : Tariff) (H : Ledger) (end : Ending) (prints : List ℕ) → v ≡ Lawful end → TellsSo τ (Falls τ) (Begin ∷ H) rates says.pairs → AreUnforged τ (Begin ∷ H) rates says.pairs
+    pub fits_printed : (τ : Tariff) (H : Ledger) (end : Ending) (prints : List ℕ) → v ≡ Lawful end → TellsSo τ (Falls τ) (Begin ∷ H) rates says.pairs
         → ArePrinted (imprints_from 1 says.pairs) prints → (deeds : List Deed) × FitsPrinted τ (Begin ∷ H) script report rates prints deeds
-    fits_printed τ H end prints is so unforged printed =
-        let m = made_printed τ (Falls τ) (Begin ∷ H) rates says.pairs 1 prints says.front.each so unforged printed in
+    fits_printed τ H end prints is so printed =
+        let m = made_printed τ (Falls τ) (Begin ∷ H) rates says.pairs 1 prints says.front.each so printed in
         (m.made.deeds, record { fits = fits_made τ H end is m.made; run = m.run; prints_are = m.prints })
 
     pub exact : IsExact v script report rates old new says
     exact = record {
       longest = λ other τ H texts history seen deeds fits. no_longer τ H deeds fits.rest fits.told fits.few other (beside τ H deeds fits (says.so τ H texts history seen));
       complete = λ τ H texts history seen deeds fw. whole τ H deeds fw (beside τ H deeds fw.fits (says.so τ H texts history seen));
-      sound = λ end is τ H texts history seen unforged. fits_whole τ H end is (says.so τ H texts history seen) unforged;
+      sound = λ end is τ H texts history seen. fits_whole τ H end is (says.so τ H texts history seen);
     }

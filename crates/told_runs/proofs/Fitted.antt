@@ -1,4 +1,4 @@
--- What was paired fits, where no event brings anything forged.
+-- What was paired fits.
 use Rattle.std.proofs.Common.{◌≡◌, ℕ, List, [], ◌∷◌, ◌++◌, length, map, drop, flat_map, refl, sym, ◌∙◌, ap, subst, arith, append-nil}
 use Rattle.std.specs.List.{AllByRecursion}
 use Rattle.bench_base.specs.declared.events.Event.{Event}
@@ -14,11 +14,11 @@ use Rattle.desk_runs.specs.Scripts.{script_lines, script_grammar}
 use Rattle.script_replay.specs.Deeds.{ledger_by, ledger_after}
 use Rattle.told_bench.specs.Seeing.{Audit}
 use Rattle.told_runs.specs.Verdicts.{Pair, Skipped, Answered, IsPair, line_in, text_for, status_of, EndsSo, FallsAt, TellsSo, MayEnd, IsSo}
-use Rattle.told_runs.specs.Fitting.{AreTold, rates_after, EndsTold, AreUnforged}
+use Rattle.told_runs.specs.Fitting.{AreTold, rates_after, EndsTold}
 use Rattle.told_runs.specs.declared.verdict.Ending.{Ending}
 use Rattle.told_runs.specs.declared.verdict.Ending.TheVariants.{Done as Ended, Script, TooLong}
 use Rattle.told_runs.specs.declared.verdict.Verdict.{Verdict}
-use Rattle.told_runs.specs.declared.verdict.Verdict.TheVariants.{Lawful, Stopped, Wrong, More, Memory}
+use Rattle.told_runs.specs.declared.verdict.Verdict.TheVariants.{Lawful, Stopped, Wrong, Forged, More, Memory}
 
 -- deeds of these pairs, behind which P holds
 pub record Made (τ : Tariff) (P : Ledger → List ℕ → Type 0) (H : Ledger) (left : List ℕ) (a : List Pair) : Type 0 where
@@ -31,10 +31,10 @@ pub record Made (τ : Tariff) (P : Ledger → List ℕ → Type 0) (H : Ledger) 
   pub are : AreTold τ H left (done_in deeds)
   pub holds : P (ledger_after τ H (done_in deeds)) (rates_after left (done_in deeds))
 
-pub made : (τ : Tariff) (P : Ledger → List ℕ → Type 0) (H : Ledger) (left : List ℕ) (a : List Pair) → AllByRecursion IsPair a → TellsSo τ P H left a → AreUnforged τ H left a → Made τ P H left a
-made τ P H left [] each tells unforged = record { deeds = []; each = tt; go_on = tt; size = refl; lines = refl; texts = refl; are = tt; holds = tells }
-made τ P H left (Skipped x ∷ a) each tells unforged =
-    let m = made τ P H left a each.1 tells unforged in
+pub made : (τ : Tariff) (P : Ledger → List ℕ → Type 0) (H : Ledger) (left : List ℕ) (a : List Pair) → AllByRecursion IsPair a → TellsSo τ P H left a → Made τ P H left a
+made τ P H left [] each tells = record { deeds = []; each = tt; go_on = tt; size = refl; lines = refl; texts = refl; are = tt; holds = tells }
+made τ P H left (Skipped x ∷ a) each tells =
+    let m = made τ P H left a each.1 tells in
     record {
       deeds = deed.Skipped x ∷ m.deeds;
       each = (record { one = each.0.one; short = each.0.short; is = each.0.is }, m.each);
@@ -45,9 +45,9 @@ made τ P H left (Skipped x ∷ a) each tells unforged =
       are = m.are;
       holds = m.holds;
     }
-made τ P H left (Answered x e answer given ∷ a) each tells unforged =
-    let w = tells unforged.0 in
-    let m = made τ P (ledger_by τ H w.0) (drop (length w.0.text) left) a each.1 w.2 (unforged.1 w.0 w.1) in
+made τ P H left (Answered x e answer given ∷ a) each tells =
+    let w = tells in
+    let m = made τ P (ledger_by τ H w.0) (drop (length w.0.text) left) a each.1 w.2 in
     record {
       deeds = Did x w.0 ∷ m.deeds;
       each = (record { one = each.0.one; short = each.0.short; is = (subst (λ (f : Event). IsLineOf f x) (sym w.1.event) each.0.is.0, w.1.may.whole) }, m.each);
@@ -62,7 +62,7 @@ made τ P H left (Answered x e answer given ∷ a) each tells unforged =
 module _ (τ : Tariff) (K : Ledger) (l : List ℕ) (new : Audit) (number : ℕ) (rest : List (List ℕ)) (told : List ℕ) where
   ends_told : (end : Ending) (at : EndsSo number rest told end []) → MayEnd τ K l new end told [] at.report → EndsTold τ K l end told
   ends_told Ended at may =
-      let w = may tt in
+      let w = may in
       (w.0, w.1.event, w.1.may, at.report.1.is ∙ append-nil (ended at.report.0) ∙ ap (λ (t : List ℕ). ended t) (sym w.1.text))
   ends_told (Script n) at may = at.report
   ends_told TooLong at may = at.report
@@ -75,5 +75,6 @@ module _ (τ : Tariff) (K : Ledger) (l : List ℕ) (new : Audit) (number : ℕ) 
       subst (λ (x : Ending). EndsAt script_grammar (status_of x) number rest × EndsTold τ K l x told) same (falls.script, ends_told e falls so)
   lawful_ends (Stopped n) falls so end is = absurd (cc is)
   lawful_ends (Wrong n due) falls so end is = absurd (cc is)
+  lawful_ends (Forged n) falls so end is = absurd (cc is)
   lawful_ends (More n) falls so end is = absurd (cc is)
   lawful_ends Memory falls so end is = absurd (cc is)

@@ -31,7 +31,7 @@ use Rattle.told_runs.specs.declared.imprint.Imprint.{Imprint}
 use Rattle.told_runs.specs.declared.verdict.Ending.{Ending}
 use Rattle.told_runs.specs.declared.verdict.Ending.TheVariants.{Done as Ended, Script, TooLong}
 use Rattle.told_runs.specs.declared.verdict.Verdict.{Verdict}
-use Rattle.told_runs.specs.declared.verdict.Verdict.TheVariants.{Lawful, Stopped, Wrong, More, Memory}
+use Rattle.told_runs.specs.declared.verdict.Verdict.TheVariants.{Lawful, Stopped, Wrong, Forged, More, Memory}
 
 -- == lines of the script, each with its line of the report ==
 
@@ -99,12 +99,13 @@ pub record EndsSo (number : ℕ) (rest : List (List ℕ)) (told : List ℕ) (end
   pub report : HasEnd end told behind
 
 -- The verdict falls at the line of this number, where these lines of the script and these bytes of the report are left: the two end together; the report goes
--- on behind the end of the script; it ends before the line end of the next answer; or it has a line for the next event.
+-- on behind the end of the script; it ends before the line end of the next answer; it has a line for the next event; or there is a next event.
 abbrev pub FallsAt : ℕ → List (List ℕ) → List ℕ → Verdict → Type 0
 FallsAt number rest told (Lawful end) = EndsSo number rest told end []
 FallsAt number rest told (More n) = (n ≡ number) × (end : Ending) × (behind : List ℕ) × EndsSo number rest told end behind × (0 < length behind)
 FallsAt number rest told (Stopped n) = (n ≡ number) × (e : Event) × IsEvent number rest e × IsOneLine told
 FallsAt number rest told (Wrong n due) = (n ≡ number) × (e : Event) × (answer behind : List ℕ) × IsEvent number rest e × HasLine told answer behind
+FallsAt number rest told (Forged n) = (n ≡ number) × (e : Event) × IsEvent number rest e
 FallsAt number rest told Memory = (e : Event) × (answer behind : List ℕ) × IsEvent number rest e × HasLine told answer behind
 
 -- == what may be so ==
@@ -116,32 +117,34 @@ pub record IsAnswered (τ : Tariff) (H : Ledger) (left : List ℕ) (e : Event) (
   pub may : MayTell τ H left d
   pub gives : IsGiven d.reply (print_of (plan τ todays_rules H d.event d.text).after) given
 
--- Each event in turn, at the ledger and with the rates that those before it leave: where it brings nothing forged, it may get a reply of its line. And P holds
--- of the ledger and the rates behind them.
+-- Each event in turn, at the ledger and with the rates that those before it leave, may get a reply of its line, and brings nothing forged. And P holds of the
+-- ledger and the rates behind them.
 abbrev pub TellsSo : Tariff → (Ledger → List ℕ → Type 0) → Ledger → List ℕ → List Pair → Type 0
 TellsSo τ P H left [] = P H left
 TellsSo τ P H left (Skipped line ∷ pairs) = TellsSo τ P H left pairs
 TellsSo τ P H left (Answered line e answer given ∷ pairs) =
-    Unforged e H → (d : Done) × IsAnswered τ H left e answer given d × TellsSo τ P (ledger_by τ H d) (drop (length d.text) left) pairs
+    (d : Done) × IsAnswered τ H left e answer given d × TellsSo τ P (ledger_by τ H d) (drop (length d.text) left) pairs
 
 -- At this ledger, with these rates left; the auditor is left so.
 module _ (τ : Tariff) (H : Ledger) (left : List ℕ) (now : Audit) where
   -- `end` may get this line, and the auditor sees the ledger behind it; at any other end it sees this one
   abbrev pub MayEnd : (end : Ending) (told behind : List ℕ) → HasEnd end told behind → Type 0
-  MayEnd Ended told behind has = Unforged ev.End H → (d : Done) × IsAnswered τ H left ev.End has.0 None d × Sees now (ledger_by τ H d)
+  MayEnd Ended told behind has = (d : Done) × IsAnswered τ H left ev.End has.0 None d × Sees now (ledger_by τ H d)
   MayEnd (Script line) told behind has = Sees now H
   MayEnd TooLong told behind has = Sees now H
 
-  -- What the verdict says where it falls: the end may be so; or the next event may get no reply of the line that the report has, where this was the answer.
+  -- What the verdict says where it falls: the end may be so; the next event, which brings nothing forged, may get no reply of the line that the report has,
+  -- where this was the answer; or it brings something forged.
   abbrev pub IsSo : (number : ℕ) (rest : List (List ℕ)) (told : List ℕ) (v : Verdict) → FallsAt number rest told v → Type 0
   IsSo number rest told (Lawful end) at = MayEnd end told [] at.report
   IsSo number rest told (More n) at = MayEnd at.1 told at.2 at.3.report
   IsSo number rest told (Stopped n) at = Sees now H
-  IsSo number rest told (Wrong n due) at = Unforged at.1 H → IsUntold τ H at.1 left at.2 now due
+  IsSo number rest told (Wrong n due) at = Unforged at.1 H × IsUntold τ H at.1 left at.2 now due
+  IsSo number rest told (Forged n) at = (Unforged at.1 H → ⊥) × Sees now H
   IsSo number rest told Memory at = Unit {0}
 
 -- WHAT AN AUDIT SAYS of a script, its report and the rates: how far the two were paired and where the verdict falls; and for each history that the auditor
--- sees as the run begins, by a tariff of texts, that the pairs may be so, as far as no event brings anything forged, and what the verdict says there.
+-- sees as the run begins, by a tariff of texts, that the pairs may be so, and what the verdict says there.
 pub record Says (v : Verdict) (script report rates : List ℕ) (old new : Audit) : Type 0 where
   pub pairs : List Pair
   pub rest : List (List ℕ)

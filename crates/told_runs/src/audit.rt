@@ -14,7 +14,7 @@ use desk_runs::ended_by;
 use script_text::laws::one_reply;
 use script_text::{is_skipped, read_event};
 use std::alloc::Global;
-use told_bench::{Auditor, Finding, judge};
+use told_bench::{Auditor, Finding, is_forged, judge};
 
 /// The most lines of a script that are looked at.
 const LINES: u32 = 1_000_000;
@@ -72,6 +72,9 @@ fn hear(
     ensures turns { (script line : List ℕ) → BeginsWith script line taken event.now
         → TurnsSo number script report.now rates.now (audit_of auditor.old) (audit_of auditor.new) imprints.old.items imprints.new.items result }
 {
+    if is_forged(auditor, event) {
+        return Err(Verdict::Forged(number));
+    }
     let Some(end) = line_end(report) else {
         return Err(Verdict::Stopped(number));
     };
@@ -145,8 +148,8 @@ fn turn(
 /// Audits one run over what the auditor has: whether each event of the script may get the line that the report has for it, in turn, where these are the rates.
 /// The auditor begins the run, and has behind it what the verdict says of the lines that were paired; so runs are audited in order over one auditor.
 ///
-/// What the printer was given in the lines that were paired is put behind the imprints. An answer whose line end is missing is not judged. It is said of each
-/// line whose event brings nothing forged, up to the first that does.
+/// What the printer was given in the lines that were paired is put behind the imprints. An answer whose line end is missing is not judged, nor one to an event
+/// that brings forged bytes: the audit ends there.
 pub fn audit_run(
     alloc: Global,
     auditor: &mut Auditor,

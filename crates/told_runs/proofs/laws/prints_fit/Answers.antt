@@ -8,6 +8,6 @@ use Rattle.told_runs.proofs.Exact.{fits_printed}
 use Rattle.told_runs.proofs.laws.prints_fit.Goals as goal
 
 pub returns : goal.returns
-returns c = λ v script report rates old new given a end prints is printed τ H texts history seen unforged.
+returns c = λ v script report rates old new given a end prints is printed τ H texts history seen.
     fits_printed c.one_reply.ensures.law (λ r whole. from_all (text_of r) (recursion_from_All _ (text_of r) (c.one_line.ensures.law r whole))) v script report rates old new a.says τ H end prints is
-    (a.says.so τ H texts history seen) unforged (subst (λ (l : List Imprint). ArePrinted l prints) a.prints printed)
+    (a.says.so τ H texts history seen) (subst (λ (l : List Imprint). ArePrinted l prints) a.prints printed)
