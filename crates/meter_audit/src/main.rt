@@ -249,6 +249,13 @@ fn wrong_text(
     format!(in alloc; "wrong {name} line {number}: due {due}\nfound {has}")
 }
 
+// A finding: the line whose event brings forged bytes, and what the report has.
+fn forged_text(alloc: Global, name: &str, run: &Run, number: u32) -> Result<String, AllocError> {
+    let has = found_line(run.script.as_slice(), run.report.as_slice(), number);
+    let has = shown(alloc, has)?;
+    format!(in alloc; "forged {name} line {number}\nfound {has}")
+}
+
 fn verdict_text(
     alloc: Global,
     name: &str,
@@ -270,6 +277,7 @@ fn verdict_text(
             format!(in alloc; "more {name}: the report goes on behind line {line}")
         }
         Verdict::Wrong(line, due) => wrong_text(alloc, name, run, *line, due),
+        Verdict::Forged(line) => forged_text(alloc, name, run, *line),
         Verdict::Memory => Err(AllocError),
     }
 }
@@ -278,7 +286,7 @@ fn verdict_text(
 fn status_of(verdict: &Verdict) -> u8 {
     match verdict {
         Verdict::Lawful(_) | Verdict::Stopped(_) => 0,
-        Verdict::Wrong(_, _) | Verdict::More(_) => FINDING,
+        Verdict::Wrong(_, _) | Verdict::Forged(_) | Verdict::More(_) => FINDING,
         Verdict::Memory => 3,
     }
 }
@@ -299,7 +307,11 @@ fn tell(
 fn stopped_at(verdict: &Verdict) -> Option<u32> {
     match verdict {
         Verdict::Stopped(line) => Some(*line),
-        Verdict::Lawful(_) | Verdict::Wrong(_, _) | Verdict::More(_) | Verdict::Memory => None,
+        Verdict::Lawful(_)
+        | Verdict::Wrong(_, _)
+        | Verdict::Forged(_)
+        | Verdict::More(_)
+        | Verdict::Memory => None,
     }
 }
 

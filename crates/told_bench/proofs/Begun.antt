@@ -18,7 +18,10 @@ use Rattle.told_centre.specs.declared.record.CentreRecord.{CentreRecord}
 use Rattle.told_host.specs.declared.record.HostRecord.{HostRecord}
 use Rattle.told_scans.specs.declared.record.ScanRecord.{ScanRecord}
 use Rattle.told_bench.specs.Beginning.{shut, AreShut, AreBlank, IsBlankCentre, IsBlankHost, IsBlankVerifier}
-use Rattle.told_bench.specs.Seeing.{Audit, IsReady, Sees}
+use Rattle.told_bench.specs.declared.known.Known.{Known}
+use Rattle.told_bench.specs.Known.{IsBlank}
+use Rattle.told_bench.specs.Seeing.{Audit, IsReady, Sees, SeesRun}
+use Rattle.told_bench.proofs.Keeping.{knows_begun, knows_blank}
 
 -- a node that is seen so, switched off
 abbrev pub off : {S : Type 0} → View S → View S
@@ -34,10 +37,11 @@ begun a devices messages = record {
   centre = shut a.centre;
   host = shut a.host;
   verifier = shut a.verifier;
+  known = a.known;
 }
 
-pub begun_sees : (a : Audit) (devices : List (Seat DeviceRecord State)) (messages : List (List ℕ)) → AreShut a.devices devices → messages ≡ [] → (H : Ledger) → Sees a H → Sees (begun a devices messages) (Begin ∷ H)
-begun_sees a devices messages shut_are none H sees = record {
+begun_run : (a : Audit) (devices : List (Seat DeviceRecord State)) (messages : List (List ℕ)) → AreShut a.devices devices → messages ≡ [] → (H : Ledger) → SeesRun a H → SeesRun (begun a devices messages) (Begin ∷ H)
+begun_run a devices messages shut_are none H sees = record {
   day = record { day = refl; messages = none; rates = tt };
   devices = λ i t at.
       let w = shut_are.each i t at in
@@ -47,9 +51,12 @@ begun_sees a devices messages shut_are none H sees = record {
   verifier = ap (λ (v : View verifier_seen.Seen). off v) sees.verifier;
 }
 
-module _ (devices : List (Seat DeviceRecord State)) (c : Seat CentreRecord Row) (h : Seat HostRecord JobRow) (v : Seat ScanRecord Change) (messages : List (List ℕ)) where
+pub begun_sees : (a : Audit) (devices : List (Seat DeviceRecord State)) (messages : List (List ℕ)) → AreShut a.devices devices → messages ≡ [] → (H : Ledger) → Sees a H → Sees (begun a devices messages) (Begin ∷ H)
+begun_sees a devices messages shut_are none H sees = record { run = begun_run a devices messages shut_are none H sees.run; known = knows_begun a.known H sees.known }
+
+module _ (devices : List (Seat DeviceRecord State)) (c : Seat CentreRecord Row) (h : Seat HostRecord JobRow) (v : Seat ScanRecord Change) (messages : List (List ℕ)) (k : Known) where
   abbrev pub of_blank : Audit
-  of_blank = record { day = None; messages = messages; rates = None; devices = devices; centre = c; host = h; verifier = v }
+  of_blank = record { day = None; messages = messages; rates = None; devices = devices; centre = c; host = h; verifier = v; known = k }
 
   pub blank_ready : length devices ≡ 8 → AreBlank devices → IsBlankCentre c → IsBlankHost h → IsBlankVerifier v → IsReady of_blank
   blank_ready eight blank centre host verifier = record {
@@ -60,11 +67,14 @@ module _ (devices : List (Seat DeviceRecord State)) (c : Seat CentreRecord Row) 
     verifier = verifier.settled;
   }
 
-  pub blank_sees : messages ≡ [] → AreBlank devices → IsBlankCentre c → IsBlankHost h → IsBlankVerifier v → Sees of_blank []
-  blank_sees none blank centre host verifier = record {
+  blank_run : messages ≡ [] → AreBlank devices → IsBlankCentre c → IsBlankHost h → IsBlankVerifier v → SeesRun of_blank []
+  blank_run none blank centre host verifier = record {
     day = record { day = refl; messages = none; rates = tt };
     devices = λ i s at. (blank i s at).blank (i + 1);
     centre = centre.blank;
     host = host.blank;
     verifier = verifier.blank;
   }
+
+  pub blank_sees : messages ≡ [] → IsBlank k → AreBlank devices → IsBlankCentre c → IsBlankHost h → IsBlankVerifier v → Sees of_blank []
+  blank_sees none unknown blank centre host verifier = record { run = blank_run none blank centre host verifier; known = knows_blank k unknown }

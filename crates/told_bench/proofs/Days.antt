@@ -42,10 +42,12 @@ use Rattle.told_bench.specs.declared.judging.Heard.{Heard}
 use Rattle.told_bench.specs.declared.judging.Finding.{Finding}
 use Rattle.told_device.specs.Records as device_records
 use Rattle.told_centre.specs.Cells as centre_cells
+use Rattle.told_views.specs.Verdicts.{Adds}
 use Rattle.told_bench.specs.Judging.{is_rates, failed_to_read, IsHeard}
 use Rattle.told_bench.specs.Plainly.{IsPlainly}
 use Rattle.told_bench.specs.Placed.{ComparesInPlace}
-use Rattle.told_bench.specs.Seeing.{Audit, IsReady, Sees}
+use Rattle.told_bench.specs.Seeing.{Audit, IsReady, SeesRun}
+use Rattle.told_bench.proofs.Keeping.{adds_none}
 use Rattle.told_bench.proofs.Lifting.{TakesNone, takes_none}
 use Rattle.told_bench.proofs.Nodes.{taken_there, not_for_rates}
 use Rattle.told_bench.proofs.Quiet.{IsSilent, heard_plainly}
@@ -133,9 +135,13 @@ end_still = record { no_up = λ n k is. cc; no_print = λ j is. cc; stays = λ H
 pub missing_still : (k : ℕ) → IsStill (r.NoMessage k)
 missing_still k = record { no_up = λ n c is. cc; no_print = λ j is. cc; stays = λ H. refl }
 
+-- a day sends and releases nothing
+day_adds : (t : ℤ) (L : Ledger) → Adds None None L (entry.Day t ∷ L)
+day_adds t L = let none = adds_none L in record { sends = none.sends; releases = none.releases }
+
 -- == what is heard ==
 
-module _ (τ : Tariff) (H : Ledger) (left line : List ℕ) (old : Audit) (sees : Sees old H) where
+module _ (τ : Tariff) (H : Ledger) (left line : List ℕ) (old : Audit) (sees : SeesRun old H) where
   pub hears_day : (e : Event) (t : ℤ) → e ≡ ev.Day t → IsWholeEvent e → (heard : Heard) → IsPlainly (r.Day t) line (Ok heard) → IsHeard τ H e left line (record old { day = Some t }) (Ok heard)
   hears_day e t is whole heard plainly =
       heard_plainly τ H e (told (r.Day t) (entry.Day t ∷ [])) (subst (λ (i : Event). plan τ todays_rules H i [] ≡ told (r.Day t) (entry.Day t ∷ [])) (sym is) (plan_day τ H t)) quiet
@@ -153,12 +159,12 @@ module _ (τ : Tariff) (H : Ledger) (left line : List ℕ) (old : Audit) (sees :
       not same = let wrong : ev.Day t ≡ ev.Rates = sym is ∙ same in cc
 
       quiet : IsSilent (told (r.Day t) (entry.Day t ∷ []))
-      quiet = record { silent = refl; no_up = λ m k named. cc; no_print = λ j named. cc }
+      quiet = record { silent = refl; no_up = λ m k named. cc; no_print = λ j named. cc; adds = day_adds t }
 
   pub misses_day : (e : Event) (t : ℤ) → e ≡ ev.Day t → IsWholeEvent e → (finding : Finding) → IsPlainly (r.Day t) line (Err finding) → IsHeard τ H e left line old (Err finding)
   misses_day e t is whole finding plainly =
       heard_plainly τ H e (told (r.Day t) (entry.Day t ∷ [])) (subst (λ (i : Event). plan τ todays_rules H i [] ≡ told (r.Day t) (entry.Day t ∷ [])) (sym is) (plan_day τ H t))
-      (record { silent = refl; no_up = λ m k named. cc; no_print = λ j named. cc })
+      (record { silent = refl; no_up = λ m k named. cc; no_print = λ j named. cc; adds = day_adds t })
       (λ reply reading. not reading.event) left line (takes_none e (day_in H) left not) whole old old (Err finding) plainly sees (λ h wrong. cc) (λ due same. refl)
     where
       not : e ≢ ev.Rates
@@ -167,7 +173,7 @@ module _ (τ : Tariff) (H : Ledger) (left line : List ℕ) (old : Audit) (sees :
   -- without a day
   pub hears_no_day : (e : Event) → needs_day e ≡ true → old.day ≡ None → IsWholeEvent e → (result : Result Heard Finding) → IsPlainly r.NoDay line result → IsHeard τ H e left line old result
   hears_no_day e needs none whole result plainly =
-      heard_plainly τ H e (refuse r.NoDay) (plan_none τ H e needs (sym none ∙ sees.day.day)) (record { silent = refl; no_up = λ m k is. cc; no_print = λ j is. cc }) reads left line (takes_undated e (day_in H) left undated) whole
+      heard_plainly τ H e (refuse r.NoDay) (plan_none τ H e needs (sym none ∙ sees.day.day)) (record { silent = refl; no_up = λ m k is. cc; no_print = λ j is. cc; adds = λ L. adds_none L }) reads left line (takes_undated e (day_in H) left undated) whole
       old old result plainly sees (λ heard is. sees) (λ due is. refl)
     where
       undated : is_some (day_in H) ≡ false
@@ -178,8 +184,8 @@ module _ (τ : Tariff) (H : Ledger) (left line : List ℕ) (old : Audit) (sees :
 
   pub hears_still : (e : Event) (x : Reply) → plan τ todays_rules H e [] ≡ refuse x → IsStill x → e ≢ ev.Rates → IsWholeEvent e → (result : Result Heard Finding) → IsPlainly x line result → IsHeard τ H e left line old result
   hears_still e x planned still not whole result plainly =
-      heard_plainly τ H e (refuse x) planned (record { silent = refl; no_up = still.no_up; no_print = still.no_print }) (λ reply reading. not reading.event) left line (takes_none e (day_in H) left not) whole
-      old old result plainly sees (λ heard is. subst (λ (K : Ledger). Sees old K) (sym (still.stays H)) sees) (λ due is. refl)
+      heard_plainly τ H e (refuse x) planned (record { silent = refl; no_up = still.no_up; no_print = still.no_print; adds = λ L. subst (λ (K : Ledger). Adds None None L K) (sym (still.stays L)) (adds_none L) }) (λ reply reading. not reading.event) left line (takes_none e (day_in H) left not) whole
+      old old result plainly sees (λ heard is. subst (λ (K : Ledger). SeesRun old K) (sym (still.stays H)) sees) (λ due is. refl)
 
   pub hears_end : (e : Event) → e ≡ ev.End → IsWholeEvent e → (result : Result Heard Finding) → IsPlainly r.End line result → IsHeard τ H e left line old result
   hears_end e is whole result plainly = hears_still e r.End (subst (λ (i : Event). plan τ todays_rules H i [] ≡ refuse r.End) (sym is) (plan_end τ H)) end_still (λ same. let wrong : ev.End ≡ ev.Rates = sym is ∙ same in cc) whole result plainly
@@ -203,7 +209,7 @@ module _ (τ : Tariff) (H : Ledger) (left line : List ℕ) (old : Audit) (sees :
         by (Some today) some plain = hears_quiet today some e x is of other reply answers still whole result plain
 
 -- what compares a device and the centre is what the ledger compares
-pub compared_at : (H : Ledger) (old : Audit) → Sees old H → IsReady old → (d : ℕ) → IsDevice d → (reply : Reply) → ComparesInPlace d old.devices old.centre reply → (quiet_by bench_kinds H (take.Reconcile d) ≡ Some reply) × IsStill reply
+pub compared_at : (H : Ledger) (old : Audit) → SeesRun old H → IsReady old → (d : ℕ) → IsDevice d → (reply : Reply) → ComparesInPlace d old.devices old.centre reply → (quiet_by bench_kinds H (take.Reconcile d) ≡ Some reply) × IsStill reply
 compared_at H old sees ready d named reply shows =
     let i = d - 1 in
     let place : d ≡ i + 1 = omega (arith, named.0) in

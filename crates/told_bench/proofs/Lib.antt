@@ -1,6 +1,8 @@
 mod Answered
 mod Begun
 mod Days
+mod Forged
+mod Keeping
 mod Lifting
 mod Nodes
 mod OfRates
@@ -9,6 +11,7 @@ mod Printing
 mod Quiet
 mod Seen
 mod Sent
+mod Sets
+mod Shown
 mod Shutting
 mod Stops
-mod Shown

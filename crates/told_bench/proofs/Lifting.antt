@@ -10,8 +10,9 @@ use Rattle.ledger_moves.specs.Tariffs.{Tariff}
 use Rattle.ledger_moves.specs.Moves.{Moves, answer, entries}
 use Rattle.script_text.specs.Texts.{text_of}
 use Rattle.script_text.specs.Told.{IsWholeReply}
-use Rattle.told_bench.specs.Judging.{is_rates, taken_by, text_with, IsTold, IsUntold}
-use Rattle.told_bench.specs.Seeing.{Audit, Sees}
+use Rattle.told_views.specs.Verdicts.{Adds}
+use Rattle.told_bench.specs.Judging.{is_rates, taken_by, text_with, ledger_with, IsToldBy, IsUntoldBy}
+use Rattle.told_bench.specs.Seeing.{Audit, SeesRun}
 
 pub not_rates : (e : Event) → e ≢ ev.Rates → is_rates e ≡ false
 not_rates ev.Rates not = absurd (not refl)
@@ -28,17 +29,20 @@ module _ (τ : Tariff) (H : Ledger) (e : Event) (left line : List ℕ) (none : T
   pub nothing_taken : (reply : Reply) → 0 ≡ length (text_with τ H e left line reply)
   nothing_taken reply = ap length (sym (none (told_by reply)))
 
-  pub lift_told : (a : Audit) (reply : Reply) → text_of reply ≡ line → IsWholeReply reply → Moves τ todays_rules H e [] reply → Sees a (entries τ todays_rules H e [] reply) → IsTold τ H e left line a reply
+  pub lift_told : (a : Audit) (reply : Reply) → text_of reply ≡ line → IsWholeReply reply → Moves τ todays_rules H e [] reply → SeesRun a (entries τ todays_rules H e [] reply) → IsToldBy τ H e left line (SeesRun a) reply
   lift_told a reply text whole moves sees = record {
     text = text;
     whole = whole;
     moves = subst (λ (t : List ℕ). Moves τ todays_rules H e t reply) (sym (none (told_by reply))) moves;
-    sees = subst (λ (t : List ℕ). Sees a (entries τ todays_rules H e t reply)) (sym (none (told_by reply))) sees;
+    sees = subst (λ (t : List ℕ). SeesRun a (entries τ todays_rules H e t reply)) (sym (none (told_by reply))) sees;
   }
 
-  pub lift_untold : (a : Audit) (due : Reply) → due ≡ answer τ todays_rules H e [] → ((reply : Reply) → Moves τ todays_rules H e [] reply → text_of reply ≢ line) → Sees a H → IsUntold τ H e left line a due
+  pub lift_untold : (a : Audit) (due : Reply) → due ≡ answer τ todays_rules H e [] → ((reply : Reply) → Moves τ todays_rules H e [] reply → text_of reply ≢ line) → SeesRun a H → IsUntoldBy τ H e left line (SeesRun a) due
   lift_untold a due is never rests = record {
     due_is = is ∙ ap (λ (t : List ℕ). answer τ todays_rules H e t) (sym (none Did));
     none = λ reply may. never reply (subst (λ (t : List ℕ). Moves τ todays_rules H e t reply) (none (told_by reply)) may);
     rests = rests;
   }
+
+  pub lift_adds : (sent released : Option (List ℕ)) (reply : Reply) → Adds sent released H (entries τ todays_rules H e [] reply) → Adds sent released H (ledger_with τ H e left line reply)
+  lift_adds sent released reply adds = subst (λ (t : List ℕ). Adds sent released H (entries τ todays_rules H e t reply)) (sym (none (told_by reply))) adds

@@ -31,6 +31,7 @@ use Rattle.bench_views.specs.Kinds.{bench_kinds}
 use Rattle.bench_views.specs.Messages.{sent_in}
 use Rattle.bench_views.specs.Tariff.{IsOfTexts, Quote, quote, quote_in}
 use Rattle.bench_views.specs.Taken.{taken}
+use Rattle.told_nodes.specs.declared.giving.GaveOut.{GaveOut}
 use Rattle.told_nodes.specs.declared.printing.Told.{Told}
 use Rattle.told_nodes.specs.declared.seat.Seat.{Seat}
 use Rattle.told_views.specs.Verdicts.{listed}
@@ -49,13 +50,13 @@ use Rattle.told_scans.specs.Verdicts as verifier_verdicts
 use Rattle.told_bench.specs.Judging.{IsHeard}
 use Rattle.told_bench.specs.Placed.{DeviceJudged}
 use Rattle.bench_views.proofs.RatesPlans.{taken_by}
-use Rattle.told_bench.specs.Plainly.{heard_of, heard_of_host}
-use Rattle.told_bench.specs.Seeing.{Audit, Sees, sending}
-use Rattle.told_bench.proofs.Lifting.{TakesNone, takes_none, nothing_taken, lift_told, lift_untold}
+use Rattle.told_bench.specs.Plainly.{heard_of, heard_of_device, heard_of_host}
+use Rattle.told_bench.specs.Seeing.{Audit, SeesRun, sending}
+use Rattle.told_bench.proofs.Lifting.{TakesNone, takes_none, nothing_taken, lift_told, lift_untold, lift_adds}
 use Rattle.told_bench.proofs.Seen.{sends_nothing, sees_device, sees_centre, sees_host, sees_verifier}
 
 -- what is taken by what the auditor has is taken by the ledger
-pub taken_there : (τ : Tariff) → KeptPrices → IsOfTexts τ → (H : Ledger) (a : Audit) (e : Event) (x : Taken) → Sees a H → taken a.messages (quote a.rates) e ≡ Some x → taken (sent_in H) (quote_in τ H) e ≡ Some x
+pub taken_there : (τ : Tariff) → KeptPrices → IsOfTexts τ → (H : Ledger) (a : Audit) (e : Event) (x : Taken) → SeesRun a H → taken a.messages (quote a.rates) e ≡ Some x → taken (sent_in H) (quote_in τ H) e ≡ Some x
 taken_there τ prices texts H a e x sees is = taken_by τ prices texts H a.messages a.rates e x sees.day.messages sees.day.rates is
 
 -- an event that is for a node reads no rates
@@ -63,7 +64,7 @@ pub not_for_rates : (pool : List (List ℕ)) (q : Quote) (e : Event) (x : Taken)
 not_for_rates pool q e x is not same = let it : Some take.Rates ≡ Some x = sym (ap (taken pool q) same) ∙ is in let named : x ≡ take.Rates = cc in not named
 
 module _ (old : Audit) (e : Event) (prices : KeptPrices) (whole : IsWholeEvent e) (today : ℤ) (dated : old.day ≡ Some today) (left line : List ℕ)
-    (τ : Tariff) (H : Ledger) (texts : IsOfTexts τ) (history : History τ editions H) (unforged : Unforged e H) (sees : Sees old H) where
+    (τ : Tariff) (H : Ledger) (texts : IsOfTexts τ) (history : History τ editions H) (unforged : Unforged e H) (sees : SeesRun old H) where
   day_is : day_in H ≡ Some today
   day_is = sym sees.day.day ∙ dated
 
@@ -77,13 +78,13 @@ module _ (old : Audit) (e : Event) (prices : KeptPrices) (whole : IsWholeEvent e
   unsent : sent_in H ≡ sent_in H ++ listed None
   unsent = sym (append-nil (sent_in H))
 
-  as_it_was : (a : Audit) → Sees (sending None a) H → Sees a H
-  as_it_was a = subst (λ (b : Audit). Sees b H) (sends_nothing a)
+  as_it_was : (a : Audit) → SeesRun (sending None a) H → SeesRun a H
+  as_it_was a = subst (λ (b : Audit). SeesRun b H) (sends_nothing a)
 
-  pub hears_device : (d : ℕ) (asked : Asked DeviceCall) → taken old.messages (quote old.rates) e ≡ Some (take.Device d asked) → (devices : List (Seat DeviceRecord State)) (result : Result (Option (List ℕ)) Reply)
-      → DeviceJudged d today asked line old.devices devices result → IsHeard τ H e left line (record old { devices = devices }) (heard_of result)
+  pub hears_device : (d : ℕ) (asked : Asked DeviceCall) → taken old.messages (quote old.rates) e ≡ Some (take.Device d asked) → (devices : List (Seat DeviceRecord State)) (result : Result GaveOut Reply)
+      → DeviceJudged d today asked line old.devices devices result → IsHeard τ H e left line (record old { devices = devices }) (heard_of_device result)
   hears_device d asked is devices result judged =
-      subst (λ (l : List (Seat DeviceRecord State)). IsHeard τ H e left line (record old { devices = l }) (heard_of result)) (sym judged.set)
+      subst (λ (l : List (Seat DeviceRecord State)). IsHeard τ H e left line (record old { devices = l }) (heard_of_device result)) (sym judged.set)
       (by result (judged.by_ledger τ H e history unforged day_is whole (taken_there τ prices texts H old e (take.Device d asked) sees is) tt seen))
     where
       none : TakesNone e (day_in H) left
@@ -95,12 +96,13 @@ module _ (old : Audit) (e : Event) (prices : KeptPrices) (whole : IsWholeEvent e
       now : Audit
       now = record old { devices = slice_set old.devices judged.place judged.now }
 
-      by : (r : Result (Option (List ℕ)) Reply) → device_verdicts.MovesBy τ H e d line (device.view_of judged.now) r → IsHeard τ H e left line now (heard_of r)
-      by (Ok sent) so = (
+      by : (r : Result GaveOut Reply) → device_verdicts.MovesBy τ H e d line (device.view_of judged.now) r → IsHeard τ H e left line now (heard_of_device r)
+      by (Ok gave) so = (
         so.0,
-        lift_told τ H e left line none (sending sent now) so.0 so.1.text so.1.whole so.1.moves
-            (sees_device old H _ sees sent so.1.rests so.1.sends d judged.place judged.before judged.now judged.is_device judged.was so.1.here so.1.others),
+        lift_told τ H e left line none (sending gave.sent now) so.0 so.1.text so.1.whole so.1.moves
+            (sees_device old H _ sees gave.sent so.1.rests so.1.sends d judged.place judged.before judged.now judged.is_device judged.was so.1.here so.1.others),
         nothing_taken τ H e left line none so.0,
+        lift_adds τ H e left line none gave.sent gave.released so.0 so.1.adds,
       )
       by (Err due) never = lift_untold τ H e left line none now due never.due_is never.never
           (as_it_was now (sees_device old H H sees None rests unsent d judged.place judged.before judged.now judged.is_device judged.was (sym never.rests) (stays (Device d))))
@@ -117,6 +119,7 @@ module _ (old : Audit) (e : Event) (prices : KeptPrices) (whole : IsWholeEvent e
         so.0,
         lift_told τ H e left line none (sending sent (record old { centre = now })) so.0 so.1.text so.1.whole so.1.moves (sees_centre old H _ sees sent so.1.rests so.1.sends now so.1.here so.1.others),
         nothing_taken τ H e left line none so.0,
+        lift_adds τ H e left line none sent None so.0 so.1.adds,
       )
       by (Err due) never = lift_untold τ H e left line none (record old { centre = now }) due never.due_is never.never
           (as_it_was (record old { centre = now }) (sees_centre old H H sees None rests unsent now (sym never.rests) (stays Centre)))
@@ -133,6 +136,7 @@ module _ (old : Audit) (e : Event) (prices : KeptPrices) (whole : IsWholeEvent e
         so.0,
         lift_told τ H e left line none (sending told.sent (record old { host = now })) so.0 so.1.text so.1.whole so.1.moves (sees_host old H _ sees told.sent so.1.rests so.1.sends now so.1.here so.1.others),
         nothing_taken τ H e left line none so.0,
+        lift_adds τ H e left line none told.sent None so.0 so.1.adds,
       )
       by (Err due) never = lift_untold τ H e left line none (record old { host = now }) due never.due_is never.never
           (as_it_was (record old { host = now }) (sees_host old H H sees None rests unsent now (sym never.rests) (stays Host)))
@@ -149,6 +153,7 @@ module _ (old : Audit) (e : Event) (prices : KeptPrices) (whole : IsWholeEvent e
         so.0,
         lift_told τ H e left line none (sending sent (record old { verifier = now })) so.0 so.1.text so.1.whole so.1.moves (sees_verifier old H _ sees sent so.1.rests so.1.sends now so.1.here so.1.others),
         nothing_taken τ H e left line none so.0,
+        lift_adds τ H e left line none sent None so.0 so.1.adds,
       )
       by (Err due) never = lift_untold τ H e left line none (record old { verifier = now }) due never.due_is never.never
           (as_it_was (record old { verifier = now }) (sees_verifier old H H sees None rests unsent now (sym never.rests) (stays Verifier)))

@@ -23,21 +23,31 @@ use Rattle.bench.specs.Outside.{rates_turn, rates_after}
 use Rattle.script_text.specs.Texts.{text_of}
 use Rattle.told_bench.specs.declared.judging.Finding.{Finding}
 use Rattle.told_bench.specs.declared.judging.Finding.TheVariants.{Wrong, Memory}
+use Rattle.told_views.specs.Verdicts.{Adds}
 use Rattle.told_bench.specs.Judging.{failed_to_read, taken_by, text_with, IsHeard}
 use Rattle.told_bench.specs.Plainly.{heard_of_rates}
 use Rattle.told_bench.specs.RatesTold.{IsToldOfRates, failed, read, due_of, text_of_rates}
-use Rattle.told_bench.specs.Seeing.{Audit, Sees, sending}
+use Rattle.told_bench.specs.Seeing.{Audit, SeesRun, sending}
+use Rattle.told_bench.proofs.Keeping.{adds_none}
 use Rattle.told_bench.proofs.Quiet.{IsSilent, never_fails}
 use Rattle.told_bench.proofs.Seen.{sends_nothing}
 
 -- == the plan of a text ==
 
+-- it sends and releases nothing
+read_adds : (text : List ℕ) (x : Result RateTable RatesFail) (L : Ledger) → Adds None None L (after (plan_of text x) (plan_of text x).reply L)
+read_adds text (Ok x) L = let none = adds_none L in record { sends = none.sends; releases = none.releases }
+read_adds text (Err (fail.Length n)) L = adds_none L
+read_adds text (Err fail.Toml) L = adds_none L
+read_adds text (Err fail.Form) L = adds_none L
+read_adds text (Err (fail.Memory x)) L = adds_none L
+
 silent : (text : List ℕ) (x : Result RateTable RatesFail) → IsSilent (plan_of text x)
-silent text (Ok x) = record { silent = refl; no_up = λ m k is. cc; no_print = λ j is. cc }
-silent text (Err (fail.Length n)) = record { silent = refl; no_up = λ m k is. cc; no_print = λ j is. cc }
-silent text (Err fail.Toml) = record { silent = refl; no_up = λ m k is. cc; no_print = λ j is. cc }
-silent text (Err fail.Form) = record { silent = refl; no_up = λ m k is. cc; no_print = λ j is. cc }
-silent text (Err (fail.Memory x)) = record { silent = refl; no_up = λ m k is. cc; no_print = λ j is. cc }
+silent text (Ok x) = record { silent = refl; no_up = λ m k is. cc; no_print = λ j is. cc; adds = λ L. read_adds text (Ok x) L }
+silent text (Err (fail.Length n)) = record { silent = refl; no_up = λ m k is. cc; no_print = λ j is. cc; adds = λ L. read_adds text (Err (fail.Length n)) L }
+silent text (Err fail.Toml) = record { silent = refl; no_up = λ m k is. cc; no_print = λ j is. cc; adds = λ L. read_adds text (Err fail.Toml) L }
+silent text (Err fail.Form) = record { silent = refl; no_up = λ m k is. cc; no_print = λ j is. cc; adds = λ L. read_adds text (Err fail.Form) L }
+silent text (Err (fail.Memory x)) = record { silent = refl; no_up = λ m k is. cc; no_print = λ j is. cc; adds = λ L. read_adds text (Err (fail.Memory x)) L }
 
 -- an answer doesn't tell that the source failed
 was_read : (text : List ℕ) (x : Result RateTable RatesFail) → failed_to_read (told_by (plan_of text x).reply) ≡ false
@@ -93,22 +103,22 @@ module _ (τ : Tariff) (H : Ledger) (of : IsOfTexts τ) (today : ℤ) (day : day
       absurd (never_fails (p text) (silent text (answer text)) (told_by reply) (subst (λ (q : Plan). Fails q reply) (plan_is text) fails))
   kind reply (whole, inr (inr (inr reading))) = inr reading.reply_is
 
-  module _ (old new : Audit) (sees : Sees old H) (new_is : new ≡ record old { rates = new.rates }) where
+  module _ (old new : Audit) (sees : SeesRun old H) (new_is : new ≡ record old { rates = new.rates }) where
     kept : new.rates ≡ old.rates → new ≡ old
     kept same = new_is ∙ λ k. record old { rates = same k }
 
-    sees_read : (x : Result RateTable RatesFail) → answer T ≡ x → new.rates ≡ rates_after old.rates x → Sees new (after (plan_of T x) (plan_of T x).reply H)
-    sees_read (Ok x) is kept_is = subst (λ (a : Audit). Sees a (entry.Rates T ∷ H)) (sym new_is) (record {
+    sees_read : (x : Result RateTable RatesFail) → answer T ≡ x → new.rates ≡ rates_after old.rates x → SeesRun new (after (plan_of T x) (plan_of T x).reply H)
+    sees_read (Ok x) is kept_is = subst (λ (a : Audit). SeesRun a (entry.Rates T ∷ H)) (sym new_is) (record {
       day = record { day = sees.day.day; messages = sees.day.messages; rates = subst (λ (o : Option RateTable). Keeps (Some T) o) (sym kept_is) (are_rates T x is) };
       devices = sees.devices;
       centre = sees.centre;
       host = sees.host;
       verifier = sees.verifier;
     })
-    sees_read (Err (fail.Length k)) is kept_is = subst (λ (a : Audit). Sees a H) (sym (kept kept_is)) sees
-    sees_read (Err fail.Toml) is kept_is = subst (λ (a : Audit). Sees a H) (sym (kept kept_is)) sees
-    sees_read (Err fail.Form) is kept_is = subst (λ (a : Audit). Sees a H) (sym (kept kept_is)) sees
-    sees_read (Err (fail.Memory y)) is kept_is = subst (λ (a : Audit). Sees a H) (sym (kept kept_is)) sees
+    sees_read (Err (fail.Length k)) is kept_is = subst (λ (a : Audit). SeesRun a H) (sym (kept kept_is)) sees
+    sees_read (Err fail.Toml) is kept_is = subst (λ (a : Audit). SeesRun a H) (sym (kept kept_is)) sees
+    sees_read (Err fail.Form) is kept_is = subst (λ (a : Audit). SeesRun a H) (sym (kept kept_is)) sees
+    sees_read (Err (fail.Memory y)) is kept_is = subst (λ (a : Audit). SeesRun a H) (sym (kept kept_is)) sees
 
     sent_is : sending None new ≡ new
     sent_is = sends_nothing new
@@ -120,9 +130,10 @@ module _ (τ : Tariff) (H : Ledger) (of : IsOfTexts τ) (today : ℤ) (day : day
         text = text;
         whole = tt;
         moves = (tt, inr (inr (inr (record { event = refl; reply_is = refl; dated = dated }))));
-        sees = subst (λ (a : Audit). Sees a H) (sym (sent_is ∙ kept keeps)) sees;
+        sees = subst (λ (a : Audit). SeesRun a H) (sym (sent_is ∙ kept keeps)) sees;
       },
       none ∙ ap length (sym takes_none),
+      adds_none H,
     )
     heard_rates (Ok taken) (read text whole all keeps) =
         let fine : failed_to_read (told_by (due_of T)) ≡ false = ap (λ (y : Reply). failed_to_read (told_by y)) due ∙ was_read T (answer T) in
@@ -134,10 +145,11 @@ module _ (τ : Tariff) (H : Ledger) (of : IsOfTexts τ) (today : ℤ) (day : day
             text = text;
             whole = whole;
             moves = subst (λ (t : List ℕ). Moves τ todays_rules H ev.Rates t (due_of T)) (sym text_is) (tt, inl reply_is);
-            sees = subst (λ (a : Audit). Sees a (entries τ todays_rules H ev.Rates (text_with τ H ev.Rates left line (due_of T)) (due_of T))) (sym sent_is)
-                (subst (λ (t : List ℕ). Sees new (entries τ todays_rules H ev.Rates t (due_of T))) (sym text_is) (subst (λ (K : Ledger). Sees new K) (sym after_is) (sees_read (answer T) refl keeps)));
+            sees = subst (λ (a : Audit). SeesRun a (entries τ todays_rules H ev.Rates (text_with τ H ev.Rates left line (due_of T)) (due_of T))) (sym sent_is)
+                (subst (λ (t : List ℕ). SeesRun new (entries τ todays_rules H ev.Rates t (due_of T))) (sym text_is) (subst (λ (K : Ledger). SeesRun new K) (sym after_is) (sees_read (answer T) refl keeps)));
           },
           all ∙ ap length (sym text_is),
+          subst (λ (t : List ℕ). Adds None None H (entries τ todays_rules H ev.Rates t (due_of T))) (sym text_is) (subst (λ (K : Ledger). Adds None None H K) (sym after_is) (read_adds T (answer T) H)),
         )
     heard_rates (Err (Wrong due_reply)) never = record {
       due_is = never.due_is ∙ due ∙ ap (λ (q : Plan). q.reply) (sym (plan_is T)) ∙ ap (λ (t : List ℕ). answer_in τ todays_rules H ev.Rates t) (sym all_taken);
@@ -145,7 +157,7 @@ module _ (τ : Tariff) (H : Ledger) (of : IsOfTexts τ) (today : ℤ) (day : day
           (λ (same : reply ≡ due_of T). never.other (ap text_of (never.due_is ∙ sym same) ∙ is))
           (λ (same : reply ≡ r.RatesFault). never.no_fault (ap text_of (sym same) ∙ is))
           (kind reply may);
-      rests = subst (λ (a : Audit). Sees a H) (sym (kept never.keeps)) sees;
+      rests = subst (λ (a : Audit). SeesRun a H) (sym (kept never.keeps)) sees;
     }
       where
         all_taken : taken_by ev.Rates (day_in H) Did left ≡ T

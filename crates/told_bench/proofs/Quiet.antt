@@ -16,10 +16,11 @@ use Rattle.script_text.specs.Texts.{text_of}
 use Rattle.told_bench.specs.declared.judging.Heard.{Heard}
 use Rattle.told_bench.specs.declared.judging.Finding.{Finding}
 use Rattle.told_bench.specs.declared.judging.Finding.TheVariants.{Wrong, Memory}
-use Rattle.told_bench.specs.Judging.{IsHeard}
+use Rattle.told_views.specs.Verdicts.{Adds}
+use Rattle.told_bench.specs.Judging.{IsHeard, ledger_with}
 use Rattle.told_bench.specs.Plainly.{IsPlainly}
-use Rattle.told_bench.specs.Seeing.{Audit, Sees, sending}
-use Rattle.told_bench.proofs.Lifting.{TakesNone, nothing_taken, lift_told, lift_untold}
+use Rattle.told_bench.specs.Seeing.{Audit, SeesRun, sending}
+use Rattle.told_bench.proofs.Lifting.{TakesNone, nothing_taken, lift_told, lift_untold, lift_adds}
 use Rattle.told_bench.proofs.Seen.{sends_nothing}
 
 -- the plan tells of no failure that may come, nor of a print
@@ -27,6 +28,7 @@ pub record IsSilent (p : Plan) : Type 0 where
   pub silent : p.commit ≡ None
   pub no_up : (m : Node) (k : ℕ) → p.reply ≢ r.Up m k
   pub no_print : (j : ℕ) → p.reply ≢ r.Printed j
+  pub adds : (H : Ledger) → Adds None None H (after p p.reply H)
 
 none_some : {X P : Type 0} {o : Option X} (x : X) → o ≡ None → o ≡ Some x → P
 none_some x none some = let wrong : None ≡ Some x = sym none ∙ some in cc
@@ -57,18 +59,19 @@ module _ (τ : Tariff) (H : Ledger) (e : Event) (p : Plan) (plan_is : plan τ to
   only reply (whole, inr (inr (inr reading))) = absurd (reads reply reading)
 
   -- what is heard of it
-  pub heard_plainly : (left line : List ℕ) → TakesNone e (day_in H) left → IsWholeEvent e → (old new : Audit) (result : Result Heard Finding) → IsPlainly p.reply line result → Sees old H
-      → ((heard : Heard) → result ≡ Ok heard → Sees new (after p p.reply H)) → ((due : Reply) → result ≡ Err (Wrong due) → new ≡ old) → IsHeard τ H e left line new result
+  pub heard_plainly : (left line : List ℕ) → TakesNone e (day_in H) left → IsWholeEvent e → (old new : Audit) (result : Result Heard Finding) → IsPlainly p.reply line result → SeesRun old H
+      → ((heard : Heard) → result ≡ Ok heard → SeesRun new (after p p.reply H)) → ((due : Reply) → result ≡ Err (Wrong due) → new ≡ old) → IsHeard τ H e left line new result
   heard_plainly left line none whole old new (Ok heard) plainly sees after_it keeps =
       let nothing = plainly.2 in
       let entries_are : entries τ todays_rules H e [] p.reply ≡ after p p.reply H = ap (λ (q : Plan). after q p.reply H) plan_is in
       let unsent : sending heard.sent new ≡ new = ap (λ (h : Heard). sending h.sent new) nothing ∙ sends_nothing new in (
         p.reply,
         lift_told τ H e left line none (sending heard.sent new) p.reply plainly.0 plainly.1 (whole, inl (sym reply_is))
-            (subst (λ (a : Audit). Sees a (entries τ todays_rules H e [] p.reply)) (sym unsent) (subst (λ (K : Ledger). Sees new K) (sym entries_are) (after_it heard refl))),
+            (subst (λ (a : Audit). SeesRun a (entries τ todays_rules H e [] p.reply)) (sym unsent) (subst (λ (K : Ledger). SeesRun new K) (sym entries_are) (after_it heard refl))),
         ap (λ (h : Heard). h.taken) nothing ∙ nothing_taken τ H e left line none p.reply,
+        subst (λ (h : Heard). Adds h.sent h.released H (ledger_with τ H e left line p.reply)) (sym nothing) (lift_adds τ H e left line none None None p.reply (subst (λ (K : Ledger). Adds None None H K) (sym entries_are) (quiet.adds H))),
       )
   heard_plainly left line none whole old new (Err (Wrong due)) plainly sees after_it keeps =
       lift_untold τ H e left line none new due (plainly.0 ∙ sym reply_is) (λ reply moves is. plainly.1 (ap text_of (sym (only reply moves)) ∙ is))
-      (subst (λ (a : Audit). Sees a H) (sym (keeps due refl)) sees)
+      (subst (λ (a : Audit). SeesRun a H) (sym (keeps due refl)) sees)
   heard_plainly left line none whole old new (Err Memory) plainly sees after_it keeps = tt

@@ -21,7 +21,7 @@ use Rattle.told_centre.specs.Cells as centre
 use Rattle.told_host.specs.Cells as host
 use Rattle.told_scans.specs.Cells as verifier
 use Rattle.told_views.specs.Verdicts.{listed}
-use Rattle.told_bench.specs.Seeing.{Audit, AreSettled, Sees, sending}
+use Rattle.told_bench.specs.Seeing.{Audit, AreSettled, SeesRun, sending}
 
 -- what stands at the places of a list of which one was set
 set_same : {X : Type 0} (xs : List X) (i : ℕ) (x y : X) → i < length xs → slice_get (slice_set xs i x) i ≡ Some y → y ≡ x
@@ -34,7 +34,7 @@ set_other (y ∷ ys) zero x (suc j) differs = refl
 set_other (y ∷ ys) (suc i) x zero differs = refl
 set_other (y ∷ ys) (suc i) x (suc j) differs = set_other ys i x j (λ is. differs (ap (λ (k : ℕ). suc k) is))
 
-module _ (a : Audit) (H K : Ledger) (sees : Sees a H) (sent : Option (List ℕ)) (rests : Rests H K) (sends : sent_in K ≡ sent_in H ++ listed sent) where
+module _ (a : Audit) (H K : Ledger) (sees : SeesRun a H) (sent : Option (List ℕ)) (rests : Rests H K) (sends : sent_in K ≡ sent_in H ++ listed sent) where
   day_after : HasDay a.day (a.messages ++ listed sent) a.rates K
   day_after = record {
     day = sees.day.day ∙ sym rests.day;
@@ -43,7 +43,7 @@ module _ (a : Audit) (H K : Ledger) (sees : Sees a H) (sent : Option (List ℕ))
   }
 
   pub sees_device : (d i : ℕ) (before now : Seat DeviceRecord State) → d ≡ i + 1 → slice_get a.devices i ≡ Some before → view_in (Device d) (bench_kinds.devices.seen d) K ≡ device.view_of now → OthersStay bench_kinds (Device d) H K
-      → Sees (sending sent (record a { devices = slice_set a.devices i now })) K
+      → SeesRun (sending sent (record a { devices = slice_set a.devices i now })) K
   sees_device d i before now d_is was here others = record {
     day = day_after;
     devices = λ j s at. ⊎_elim
@@ -63,7 +63,7 @@ module _ (a : Audit) (H K : Ledger) (sees : Sees a H) (sent : Option (List ℕ))
       place : (j : ℕ) → Device (j + 1) ≡ Device d → j ≡ i
       place j is = let same : j + 1 ≡ d = cc in omega arith
 
-  pub sees_centre : (now : _) → view_in Centre (bench_kinds.centre.seen tt) K ≡ centre.view_of now → OthersStay bench_kinds Centre H K → Sees (sending sent (record a { centre = now })) K
+  pub sees_centre : (now : _) → view_in Centre (bench_kinds.centre.seen tt) K ≡ centre.view_of now → OthersStay bench_kinds Centre H K → SeesRun (sending sent (record a { centre = now })) K
   sees_centre now here others = record {
     day = day_after;
     devices = λ j s at. sees.devices j s at ∙ sym (others.devices (j + 1) (λ is. cc));
@@ -72,7 +72,7 @@ module _ (a : Audit) (H K : Ledger) (sees : Sees a H) (sent : Option (List ℕ))
     verifier = sees.verifier ∙ sym (others.verifier (λ is. cc));
   }
 
-  pub sees_host : (now : _) → view_in Host (bench_kinds.host.seen tt) K ≡ host.view_of now → OthersStay bench_kinds Host H K → Sees (sending sent (record a { host = now })) K
+  pub sees_host : (now : _) → view_in Host (bench_kinds.host.seen tt) K ≡ host.view_of now → OthersStay bench_kinds Host H K → SeesRun (sending sent (record a { host = now })) K
   sees_host now here others = record {
     day = day_after;
     devices = λ j s at. sees.devices j s at ∙ sym (others.devices (j + 1) (λ is. cc));
@@ -81,7 +81,7 @@ module _ (a : Audit) (H K : Ledger) (sees : Sees a H) (sent : Option (List ℕ))
     verifier = sees.verifier ∙ sym (others.verifier (λ is. cc));
   }
 
-  pub sees_verifier : (now : _) → view_in Verifier (bench_kinds.verifier.seen tt) K ≡ verifier.view_of now → OthersStay bench_kinds Verifier H K → Sees (sending sent (record a { verifier = now })) K
+  pub sees_verifier : (now : _) → view_in Verifier (bench_kinds.verifier.seen tt) K ≡ verifier.view_of now → OthersStay bench_kinds Verifier H K → SeesRun (sending sent (record a { verifier = now })) K
   sees_verifier now here others = record {
     day = day_after;
     devices = λ j s at. sees.devices j s at ∙ sym (others.devices (j + 1) (λ is. cc));

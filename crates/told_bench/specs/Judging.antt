@@ -15,7 +15,8 @@ use Rattle.script_text.specs.Told.{IsWholeReply}
 use Rattle.told_bench.specs.declared.judging.Heard.{Heard}
 use Rattle.told_bench.specs.declared.judging.Finding.{Finding}
 use Rattle.told_bench.specs.declared.judging.Finding.TheVariants.{Wrong, Memory}
-use Rattle.told_bench.specs.Seeing.{Audit, Sees, sending}
+use Rattle.told_views.specs.Verdicts.{Adds}
+use Rattle.told_bench.specs.Seeing.{Audit, Sees, SeesRun, sending}
 
 abbrev pub is_rates : Event → Bool
 is_rates ev.Rates = true
@@ -76,23 +77,30 @@ module _ (τ : Tariff) (H : Ledger) (e : Event) (left line : List ℕ) where
   abbrev pub ledger_with : Reply → Ledger
   ledger_with reply = entries τ todays_rules H e (text_with reply) reply
 
-  -- the line is that of this reply, whose numbers are in range and which the event may get, and the auditor has what the ledger shows then
-  pub record IsTold (a : Audit) (reply : Reply) : Type 0 where
+  -- the line is that of this reply, whose numbers are in range and which the event may get, and P holds of the ledger that it leaves
+  pub record IsToldBy (P : Ledger → Type 0) (reply : Reply) : Type 0 where
     pub text : text_of reply ≡ line
     pub whole : IsWholeReply reply
     pub moves : MayGet reply
-    pub sees : Sees a (ledger_with reply)
+    pub sees : P (ledger_with reply)
 
-  -- the line is that of no reply which the event may get; this was the answer, and the auditor has what it had
-  pub record IsUntold (a : Audit) (due : Reply) : Type 0 where
+  -- the line is that of no reply which the event may get; this was the answer, and P holds of this ledger
+  pub record IsUntoldBy (P : Ledger → Type 0) (due : Reply) : Type 0 where
     pub due_is : due ≡ answer τ todays_rules H e (taken_by e (day_in H) Did left)
     pub none : (reply : Reply) → MayGet reply → text_of reply ≢ line
-    pub rests : Sees a H
+    pub rests : P H
 
-  -- what is judged of the line: how much of the rates was taken, and what is sent next
+  -- the auditor has what the ledger shows then, or what it had
+  abbrev pub IsTold : Audit → Reply → Type 0
+  IsTold a reply = IsToldBy (Sees a) reply
+
+  abbrev pub IsUntold : Audit → Reply → Type 0
+  IsUntold a due = IsUntoldBy (Sees a) due
+
+  -- what is judged of the line: how much of the rates was taken, what is sent next, and what is added to what was sent and released in all runs
   abbrev pub IsHeard : Audit → Result Heard Finding → Type 0
-  IsHeard a (Ok heard) = (reply : Reply) × IsTold (sending heard.sent a) reply × (heard.taken ≡ length (text_with reply))
-  IsHeard a (Err (Wrong due)) = IsUntold a due
+  IsHeard a (Ok heard) = (reply : Reply) × IsToldBy (SeesRun (sending heard.sent a)) reply × (heard.taken ≡ length (text_with reply)) × Adds heard.sent heard.released H (ledger_with reply)
+  IsHeard a (Err (Wrong due)) = IsUntoldBy (SeesRun a) due
   IsHeard a (Err Memory) = Unit {0}
 
   -- the same, where the message was sent
@@ -104,3 +112,7 @@ module _ (τ : Tariff) (H : Ledger) (e : Event) (left line : List ℕ) where
 -- P at each history that the auditor has, at which the event brings nothing forged, by a tariff of texts
 abbrev pub AtEach : Audit → Event → (Tariff → Ledger → Type 0) → Type 0
 AtEach a e P = (τ : Tariff) (H : Ledger) → IsOfTexts τ → History τ editions H → Unforged e H → Sees a H → P τ H
+
+-- the same, whatever is kept of all runs
+abbrev pub AtEachRun : Audit → Event → (Tariff → Ledger → Type 0) → Type 0
+AtEachRun a e P = (τ : Tariff) (H : Ledger) → IsOfTexts τ → History τ editions H → Unforged e H → SeesRun a H → P τ H

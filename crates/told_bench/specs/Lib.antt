@@ -1,6 +1,8 @@
 -- Promised: public contracts name these.
 pub mod Beginning
+pub mod Forging
 pub mod Judging
+pub mod Known
 pub mod Seeing
 pub mod Stopping
 pub mod Telling

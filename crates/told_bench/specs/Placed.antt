@@ -1,11 +1,12 @@
 -- A device that was judged in its place.
-use Rattle.std.specs.Prelude.{◌≡◌, ℕ, ℤ, ◌+◌, List, Option, Some, Result, slice_get, slice_set}
+use Rattle.std.specs.Prelude.{◌≡◌, ℕ, ℤ, ◌+◌, List, Some, Result, slice_get, slice_set}
 use Rattle.bench_base.specs.declared.events.Reply.{Reply}
 use Rattle.node_acts.specs.declared.asked.Asked.{Asked}
 use Rattle.psd_state.specs.State.{State}
 use Rattle.centre_ledger.specs.declared.rows.Row.{Row}
 use Rattle.bench_views.specs.declared.calls.DeviceCall.{DeviceCall}
 use Rattle.bench_views.specs.Comparing.{compare}
+use Rattle.told_nodes.specs.declared.giving.GaveOut.{GaveOut}
 use Rattle.told_nodes.specs.declared.seat.Seat.{Seat}
 use Rattle.told_device.specs.declared.record.DeviceRecord.{DeviceRecord}
 use Rattle.told_device.specs.Records.{view_of}
@@ -14,7 +15,7 @@ use Rattle.told_centre.specs.declared.record.CentreRecord.{CentreRecord}
 use Rattle.told_centre.specs.Cells as centre
 
 -- the line was judged of device d, which is the one in this place
-pub record DeviceJudged (d : ℕ) (today : ℤ) (asked : Asked DeviceCall) (line : List ℕ) (old new : List (Seat DeviceRecord State)) (result : Result (Option (List ℕ)) Reply) : Type 0 where
+pub record DeviceJudged (d : ℕ) (today : ℤ) (asked : Asked DeviceCall) (line : List ℕ) (old new : List (Seat DeviceRecord State)) (result : Result GaveOut Reply) : Type 0 where
   pub place : ℕ
   pub is_device : d ≡ place + 1
   pub before : Seat DeviceRecord State

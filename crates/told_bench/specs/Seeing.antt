@@ -21,9 +21,11 @@ use Rattle.told_scans.specs.declared.record.ScanRecord.{ScanRecord}
 use Rattle.told_scans.specs.Cells as verifier
 use Rattle.told_views.specs.Verdicts.{listed}
 use Rattle.told_bench.specs.declared.auditor.Auditor.{Auditor}
+use Rattle.told_bench.specs.declared.known.Known.{Known}
+use Rattle.told_bench.specs.Known.{Knows}
 
--- the day, the messages of the run, of which the first was sent first, the rates that were read last, and the nodes by what was told of
--- them: of the devices number i is device i + 1
+-- the day, the messages of the run, of which the first was sent first, the rates that were read last, the nodes by what was told of
+-- them, of the devices number i is device i + 1, and what was sent and released in all runs
 pub record Audit : Type 0 where
   pub day : Option ℤ
   pub messages : List (List ℕ)
@@ -32,6 +34,7 @@ pub record Audit : Type 0 where
   pub centre : Seat CentreRecord Row
   pub host : Seat HostRecord JobRow
   pub verifier : Seat ScanRecord Change
+  pub known : Known
 
 abbrev pub audit_of : Auditor → Audit
 audit_of a = record {
@@ -42,6 +45,7 @@ audit_of a = record {
   centre = a.centre;
   host = a.host;
   verifier = a.verifier;
+  known = a.known;
 }
 
 abbrev pub AreSettled : List (Seat DeviceRecord State) → Type 0
@@ -55,13 +59,18 @@ pub record IsReady (a : Audit) : Type 0 where
   pub host : host.IsSettled a.host
   pub verifier : verifier.IsSettled a.verifier
 
--- WHAT THE AUDITOR HAS is what the ledger shows: the day, the messages and the rates of the run, and each node
-pub record Sees (a : Audit) (H : Ledger) : Type 0 where
+-- what the auditor has of the run and of each node is what the ledger shows: the day, the messages and the rates, and the nodes
+pub record SeesRun (a : Audit) (H : Ledger) : Type 0 where
   pub day : HasDay a.day a.messages a.rates H
   pub devices : (i : ℕ) (s : Seat DeviceRecord State) → slice_get a.devices i ≡ Some s → device.view_of s ≡ view_in (Device (i + 1)) (bench_kinds.devices.seen (i + 1)) H
   pub centre : centre.view_of a.centre ≡ view_in Centre (bench_kinds.centre.seen tt) H
   pub host : host.view_of a.host ≡ view_in Host (bench_kinds.host.seen tt) H
   pub verifier : verifier.view_of a.verifier ≡ view_in Verifier (bench_kinds.verifier.seen tt) H
+
+-- WHAT THE AUDITOR HAS is what the ledger shows: of the run, of each node, and of what was sent and released in all runs
+pub record Sees (a : Audit) (H : Ledger) : Type 0 where
+  pub run : SeesRun a H
+  pub known : Knows a.known H
 
 -- with this message sent, if there is one
 abbrev pub sending : Option (List ℕ) → Audit → Audit

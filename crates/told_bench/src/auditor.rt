@@ -1,7 +1,8 @@
-//! The auditor: each node by what was told of it, with the day, the rates and the messages of the run.
+//! The auditor: each node by what was told of it, with the day, the rates and the messages of the run, and what was sent and released in all runs.
 ghost use Rattle.std.specs.Prelude.{◌≡◌, ◌<◌, length, IfOk};
 ghost use Rattle.told_bench.specs.Beginning.{AreBlank, AreShut, ShutsAt, IsBlankDevice, IsBlankCentre, IsBlankHost, IsBlankVerifier};
 
+use crate::known::Known;
 use bench_base::bytes::Note;
 use bench_base::numbers::DayNo;
 use centre_ledger::Row;
@@ -16,7 +17,7 @@ use told_nodes::Seat;
 use told_scans::ScanRecord;
 use verifier::Change;
 
-/// What was told of a bench: of eight devices, the centre, the host and the verifier, and of the run.
+/// What was told of a bench: of eight devices, the centre, the host and the verifier, of the run, and of all messages and marks.
 #[derive(Drop)]
 pub struct Auditor {
     pub(crate) devices: Vec<Seat<DeviceRecord, DevRec>>,
@@ -26,6 +27,7 @@ pub struct Auditor {
     pub(crate) day: Option<DayNo>,
     pub(crate) rates: Option<Rates>,
     pub(crate) messages: Vec<Note>,
+    pub(crate) known: Known,
 }
 
 // A device that wasn't made, and is off.
@@ -131,6 +133,7 @@ impl Auditor {
             day: None,
             rates: None,
             messages: Vec::new(alloc),
+            known: Known::new(alloc),
         })
     }
 

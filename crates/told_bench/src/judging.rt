@@ -7,9 +7,9 @@ ghost use Rattle.bench_views.specs.Verifier as verifiers;
 ghost use Rattle.bench.specs.declared.benches.TheConstants.{MOST_MESSAGES};
 ghost use Rattle.bench.specs.Calls.{dated};
 ghost use Rattle.told_bench.specs.Placed.{DeviceJudged, ComparesInPlace};
-ghost use Rattle.told_bench.specs.Plainly.{IsPlainly, SendsHeard, heard_of, heard_of_host, heard_of_rates};
+ghost use Rattle.told_bench.specs.Plainly.{IsPlainly, SendsHeard, heard_of, heard_of_device, heard_of_host, heard_of_rates};
 ghost use Rattle.told_bench.specs.Seeing.{AreSettled, IsReady, audit_of};
-ghost use Rattle.told_bench.specs.Judging.{AtEach, IsHeard, IsJudged};
+ghost use Rattle.told_bench.specs.Judging.{AtEach, AtEachRun, IsHeard, IsJudged};
 
 use crate::auditor::Auditor;
 use crate::comparing::compare;
@@ -27,7 +27,7 @@ use std::alloc::Global;
 use told_centre::{CentreRecord, is_known, judge_centre};
 use told_device::{DeviceRecord, judge_device};
 use told_host::judge_host;
-use told_nodes::{Seat, Told, is_told};
+use told_nodes::{GaveOut, Seat, Told, is_told};
 use told_scans::judge_scans;
 
 /// What is found where a line of the report can't be told of its event.
@@ -39,10 +39,11 @@ pub enum Finding {
     Memory,
 }
 
-/// What is heard of an event by its line: the message that it sent, and how much of the rates it took, in bytes.
+/// What is heard of an event by its line: the message that it sent, the mark that it released, and how much of the rates it took, in bytes.
 #[derive(Clone, Copy)]
 pub struct Heard {
     pub sent: Option<Note>,
+    pub released: Option<[u8; 64]>,
     pub taken: usize,
 }
 
@@ -63,6 +64,7 @@ fn plain(due: Reply, line: &[u8]) -> Result<Heard, Finding>
     if is_told(&due, line) {
         Ok(Heard {
             sent: None,
+            released: None,
             taken: 0,
         })
     } else {
@@ -75,7 +77,25 @@ fn of_node(judged: Result<Option<Note>, Reply>) -> Result<Heard, Finding>
     ensures { result ≡ heard_of judged }
 {
     match judged {
-        Ok(sent) => Ok(Heard { sent, taken: 0 }),
+        Ok(sent) => Ok(Heard {
+            sent,
+            released: None,
+            taken: 0,
+        }),
+        Err(due) => Err(Finding::Wrong(due)),
+    }
+}
+
+// What is heard of a device.
+fn of_device(judged: Result<GaveOut, Reply>) -> Result<Heard, Finding>
+    ensures { result ≡ heard_of_device judged }
+{
+    match judged {
+        Ok(gave) => Ok(Heard {
+            sent: gave.sent,
+            released: gave.released,
+            taken: 0,
+        }),
         Err(due) => Err(Finding::Wrong(due)),
     }
 }
@@ -87,6 +107,7 @@ fn of_host(judged: Result<Told, Reply>) -> Result<Heard, Finding>
     match judged {
         Ok(told) => Ok(Heard {
             sent: told.sent,
+            released: None,
             taken: 0,
         }),
         Err(due) => Err(Finding::Wrong(due)),
@@ -98,7 +119,11 @@ fn of_rates(judged: Result<usize, Finding>) -> Result<Heard, Finding>
     ensures { result ≡ heard_of_rates judged }
 {
     match judged {
-        Ok(taken) => Ok(Heard { sent: None, taken }),
+        Ok(taken) => Ok(Heard {
+            sent: None,
+            released: None,
+            taken,
+        }),
         Err(finding) => Err(finding),
     }
 }
@@ -110,7 +135,7 @@ fn device_in_place(
     day: DayNo,
     asked: &Asked<DeviceCall>,
     line: &[u8],
-) -> Result<Option<Note>, Reply>
+) -> Result<GaveOut, Reply>
     requires eight { length devices.old.items ≡ 8 }
     requires settled { AreSettled devices.old.items }
     ensures settled { AreSettled devices.new.items }
@@ -170,7 +195,8 @@ pub(crate) fn hear(
     requires few { length (audit_of auditor.old).messages < MOST_MESSAGES }
     ensures ready { IsReady (audit_of auditor.new) }
     ensures unsent { (audit_of auditor.new).messages ≡ (audit_of auditor.old).messages }
-    ensures judged { AtEach (audit_of auditor.old) event.now (λ τ H. IsHeard τ H event.now left.now line.now (audit_of auditor.new) result) }
+    ensures unlearnt { (audit_of auditor.new).known ≡ (audit_of auditor.old).known }
+    ensures judged { AtEachRun (audit_of auditor.old) event.now (λ τ H. IsHeard τ H event.now left.now line.now (audit_of auditor.new) result) }
 {
     // What is seen of the nodes follows from the ledger.
     nodes_follow();
@@ -201,7 +227,13 @@ pub(crate) fn hear(
         },
         Taken::Device(device, asked) => match today {
             None => plain(Reply::NoDay, line),
-            Some(day) => of_node(device_in_place(&mut auditor.devices, *device, day, asked, line)),
+            Some(day) => of_device(device_in_place(
+                &mut auditor.devices,
+                *device,
+                day,
+                asked,
+                line,
+            )),
         },
         Taken::Centre(asked) => match today {
             None => plain(Reply::NoDay, line),
@@ -224,13 +256,20 @@ pub(crate) fn hear(
     }
 }
 
-// Sends the message that was heard of, if there is one.
-pub(crate) fn send(auditor: &mut Auditor, heard: Heard) -> Result<usize, Finding>
+// Sends the message that was heard of, if there is one, and keeps it, and the mark.
+pub(crate) fn send(alloc: Global, auditor: &mut Auditor, heard: Heard) -> Result<usize, Finding>
     requires ready { IsReady (audit_of auditor.old) }
     ensures ready { IsReady (audit_of auditor.new) }
     ensures few { length (audit_of auditor.new).messages ≤ length (audit_of auditor.old).messages + 1 }
     ensures sent { SendsHeard heard (audit_of auditor.old) (audit_of auditor.new) result }
 {
+    if auditor
+        .known
+        .learn(alloc, &heard.sent, &heard.released)
+        .is_err()
+    {
+        return Err(Finding::Memory);
+    }
     let Some(note) = heard.sent else {
         return Ok(heard.taken);
     };
@@ -258,7 +297,7 @@ pub fn judge(
     ensures judged { AtEach (audit_of auditor.old) event.now (λ τ H. IsJudged τ H event.now left.now line.now (audit_of auditor.new) result) }
 {
     match hear(alloc, auditor, event, left, line) {
-        Ok(heard) => send(auditor, heard),
+        Ok(heard) => send(alloc, auditor, heard),
         Err(finding) => Err(finding),
     }
 }

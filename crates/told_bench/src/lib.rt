@@ -3,13 +3,16 @@
 
 pub mod auditor;
 pub mod comparing;
+pub mod forging;
 pub mod judging;
+pub mod known;
 pub mod printed;
 pub mod rates;
 pub mod stopping;
 mod telling;
 
 pub use auditor::Auditor;
+pub use forging::is_forged;
 pub use judging::{Finding, judge};
 pub use printed::mark_due;
 pub use stopping::stop;

@@ -49,7 +49,10 @@ fn shown(state: &Option<ReadyRecord>, day: DayNo) -> Option<DevView>
 }
 
 // The seat of the device.
-fn seat_of(devices: &[Seat<DeviceRecord, DevRec>], device: DevNo) -> &Seat<DeviceRecord, DevRec>
+pub(crate) fn seat_of(
+    devices: &[Seat<DeviceRecord, DevRec>],
+    device: DevNo,
+) -> &Seat<DeviceRecord, DevRec>
     requires eight { length devices.now ≡ 8 }
     ensures at { slice_get devices.now (device - 1) ≡ Some result.now }
     ensures named { device ≡ device - 1 + 1 }

@@ -27,6 +27,7 @@ use Rattle.bench_views.specs.declared.calls.CentreCall.{CentreCall}
 use Rattle.bench_views.specs.declared.calls.CentreCall.TheVariants as call
 use Rattle.bench_views.specs.Centre.{IsKnown, centre_act, took}
 use Rattle.told_nodes.specs.Judged.{PrintsNone}
+use Rattle.told_nodes.specs.Giving.{released_as, ReleasesNone}
 use Rattle.told_nodes.specs.Seats.{FitsAct}
 use Rattle.told_centre.specs.Placed.{PlacesAct}
 use Rattle.told_centre.specs.Records.{IsFit, IsRanged}
@@ -96,6 +97,24 @@ call_prints (call.Deposit c) b = prints_none _ (λ x j is. cc) (acts.deposit_act
 call_prints (call.Flag c) b = prints_none _ (λ a j is. cc) (acts.flag_act c.customer c.suspended b)
 call_prints (call.Balance c) b = prints_none _ (λ a j is. cc) (acts.balance_act c.customer b)
 call_prints (call.Take c) b = prints_none _ (took_prints c.message) (acts.take_act c.bytes b)
+
+-- it releases nothing
+unreleased_says : {A : Type 0} (say : A → Said) → ((a : A) → released_as (say a).given ≡ None) → (act : CentreAct A) → ReleasesNone (saying r.CentreRefused say act)
+unreleased_says say says (Refuse x) = tt
+unreleased_says say says (Tell a) = says a
+unreleased_says say says (Commits c x a) = says a
+
+took_releases : (k : ℕ) (a : CentreAnswer) → released_as (took k a).given ≡ None
+took_releases k (answer.Ruled d n v note again) = refl
+took_releases k (answer.Settled d n again) = refl
+
+pub call_releases : (c : CentreCall) (b : Books) → ReleasesNone (centre_act c b)
+call_releases (call.Register d origin key) b = unreleased_says _ (λ a. refl) (acts.register_act d origin key b)
+call_releases (call.Open w) b = unreleased_says _ (λ a. refl) (acts.open_act w b)
+call_releases (call.Deposit w n a) b = unreleased_says _ (λ x. refl) (acts.deposit_act w n a b)
+call_releases (call.Flag w flag) b = unreleased_says _ (λ a. refl) (acts.flag_act w flag b)
+call_releases (call.Balance w) b = unreleased_says _ (λ a. refl) (acts.balance_act w b)
+call_releases (call.Take bytes k) b = unreleased_says _ (took_releases k) (acts.take_act bytes b)
 
 -- == the record after it ==
 

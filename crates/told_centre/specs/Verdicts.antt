@@ -1,5 +1,5 @@
 -- What a line of the report tells of an event of the centre, by what is seen of it, and by the ledger.
-use Rattle.std.specs.Prelude.{ℕ, ℤ, List, Option, Result, Ok, Err}
+use Rattle.std.specs.Prelude.{ℕ, ℤ, List, Option, None, Result, Ok, Err}
 use Rattle.bench_base.specs.declared.words.Node.TheVariants.{Centre}
 use Rattle.bench_base.specs.declared.ledger.Commit.{Commit}
 use Rattle.bench_base.specs.declared.events.Event.{Event}
@@ -29,7 +29,7 @@ abbrev pub IsByView : ℤ → Asked CentreCall → List ℕ → View Seen → Vi
 IsByView today asked line v w result = Judged counting Centre v (plan_in today asked v) (commit_in today asked v) line w result
 
 abbrev pub MovesBy : Tariff → Ledger → Event → List ℕ → View Seen → Result (Option (List ℕ)) Reply → Type 0
-MovesBy τ H e line w (Ok sent) = (reply : Reply) × MovesSo counting centre_kind Centre tt τ H e line w sent reply
+MovesBy τ H e line w (Ok sent) = (reply : Reply) × MovesSo counting centre_kind Centre tt τ H e line w sent None reply
 MovesBy τ H e line w (Err due) = MovesNever counting centre_kind Centre tt τ H e line w due
 
 -- At each history at which the centre is seen so, and for each event that asks this of it on this day and brings nothing forged, the

@@ -1,5 +1,5 @@
 -- What is judged of a line by what is seen of the device is so by the ledger.
-use Rattle.std.proofs.Common.{◌≢◌, ℕ, ℤ, List, Option, Result, Ok, Err, refl}
+use Rattle.std.proofs.Common.{◌≢◌, ℕ, ℤ, List, Result, Ok, Err, refl}
 use Rattle.std.specs.Prelude.{IfSome}
 use Rattle.bench_base.specs.declared.words.Node.TheVariants.{Device}
 use Rattle.bench_base.specs.declared.events.Reply.{Reply}
@@ -11,7 +11,8 @@ use Rattle.bench_views.specs.declared.taken.Taken.TheVariants as take
 use Rattle.bench_views.specs.Devices.{device_kind, device_act, IsKnown}
 use Rattle.bench_views.specs.Follows.{DevicesFollow}
 use Rattle.bench_views.specs.Kinds.{bench_kinds}
-use Rattle.told_nodes.specs.Judged.{Judged}
+use Rattle.told_nodes.specs.declared.giving.GaveOut.{GaveOut}
+use Rattle.told_nodes.specs.Giving.{JudgedGiving}
 use Rattle.told_views.proofs.Lifted.{IsByActs, lifts_so, lifts_never}
 use Rattle.told_device.specs.Verdicts.{plan_in, commit_in, IsByLedger}
 use Rattle.told_device.proofs.Plain.{call_plain}
@@ -22,9 +23,9 @@ by_acts d today v call = (device_act d today call v.state.state, refl, call_plai
 no_rates : (d : ℕ) (asked : Asked DeviceCall) → take.Device d asked ≢ take.Rates
 no_rates d asked is = cc
 
-pub by_ledger : (d : ℕ) (today : ℤ) (asked : Asked DeviceCall) (line : List ℕ) (v w : View Seen) (result : Result (Option (List ℕ)) Reply) → DevicesFollow counting bench_kinds IsKnown
-    → IsKnown v.state → IfSome (commit_in d today asked v) (λ x. IsKnown x.1) → Judged counting (Device d) v (plan_in d today asked v) (commit_in d today asked v) line w result → IsByLedger d today asked line v w result
-by_ledger d today asked line v w (Ok sent) law known next judged τ H e history unforged day whole asks ranged seen =
-    (judged.0, lifts_so counting device_kind (Device d) d (by_acts d) (take.Device d) (no_rates d) (λ a. Unit {0}) IsKnown (law d) today asked line v w known next sent judged.0 judged.1 τ H e history unforged day whole asks ranged seen)
+pub by_ledger : (d : ℕ) (today : ℤ) (asked : Asked DeviceCall) (line : List ℕ) (v w : View Seen) (result : Result GaveOut Reply) → DevicesFollow counting bench_kinds IsKnown
+    → IsKnown v.state → IfSome (commit_in d today asked v) (λ x. IsKnown x.1) → JudgedGiving counting (Device d) v (plan_in d today asked v) (commit_in d today asked v) line w result → IsByLedger d today asked line v w result
+by_ledger d today asked line v w (Ok gave) law known next judged τ H e history unforged day whole asks ranged seen =
+    (judged.0, lifts_so counting device_kind (Device d) d (by_acts d) (take.Device d) (no_rates d) (λ a. Unit {0}) IsKnown (law d) today asked line v w known next gave.sent gave.released judged.0 judged.1 judged.2 τ H e history unforged day whole asks ranged seen)
 by_ledger d today asked line v w (Err due) law known next judged τ H e history unforged day whole asks ranged seen =
     lifts_never counting device_kind (Device d) d (by_acts d) (take.Device d) (no_rates d) (λ a. Unit {0}) IsKnown (law d) today asked line v w known next due judged τ H e history unforged day whole asks ranged seen

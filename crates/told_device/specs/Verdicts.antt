@@ -13,7 +13,8 @@ use Rattle.ledger_moves.specs.Tariffs.{Tariff}
 use Rattle.bench_views.specs.declared.calls.DeviceCall.{DeviceCall}
 use Rattle.bench_views.specs.declared.taken.Taken.TheVariants as take
 use Rattle.bench_views.specs.Devices.{device_kind}
-use Rattle.told_nodes.specs.Judged.{Judged}
+use Rattle.told_nodes.specs.declared.giving.GaveOut.{GaveOut}
+use Rattle.told_nodes.specs.Giving.{JudgedGiving}
 use Rattle.told_views.specs.Verdicts as views
 use Rattle.told_views.specs.Verdicts.{MovesSo, MovesNever, ByLedger}
 
@@ -25,15 +26,15 @@ abbrev pub commit_in : ℕ → ℤ → Asked DeviceCall → View Seen → Option
 commit_in d today asked v = views.commit_in counting device_kind (Device d) d today asked v
 
 -- the judgement of the line is that of what is seen of the device
-abbrev pub IsByView : ℕ → ℤ → Asked DeviceCall → List ℕ → View Seen → View Seen → Result (Option (List ℕ)) Reply → Type 0
-IsByView d today asked line v w result = Judged counting (Device d) v (plan_in d today asked v) (commit_in d today asked v) line w result
+abbrev pub IsByView : ℕ → ℤ → Asked DeviceCall → List ℕ → View Seen → View Seen → Result GaveOut Reply → Type 0
+IsByView d today asked line v w result = JudgedGiving counting (Device d) v (plan_in d today asked v) (commit_in d today asked v) line w result
 
-abbrev pub MovesBy : Tariff → Ledger → Event → ℕ → List ℕ → View Seen → Result (Option (List ℕ)) Reply → Type 0
-MovesBy τ H e d line w (Ok sent) = (reply : Reply) × MovesSo counting device_kind (Device d) d τ H e line w sent reply
+abbrev pub MovesBy : Tariff → Ledger → Event → ℕ → List ℕ → View Seen → Result GaveOut Reply → Type 0
+MovesBy τ H e d line w (Ok gave) = (reply : Reply) × MovesSo counting device_kind (Device d) d τ H e line w gave.sent gave.released reply
 MovesBy τ H e d line w (Err due) = MovesNever counting device_kind (Device d) d τ H e line w due
 
 -- At each history at which the device is seen so, and for each event that asks this of it on this day and brings nothing forged, the
 -- judgement of the line is that of the ledger.
-abbrev pub IsByLedger : ℕ → ℤ → Asked DeviceCall → List ℕ → View Seen → View Seen → Result (Option (List ℕ)) Reply → Type 0
+abbrev pub IsByLedger : ℕ → ℤ → Asked DeviceCall → List ℕ → View Seen → View Seen → Result GaveOut Reply → Type 0
 IsByLedger d today asked line v w result =
     ByLedger counting device_kind (Device d) d (take.Device d) (λ a. Unit {0}) today asked v (λ τ H e. MovesBy τ H e d line w result)

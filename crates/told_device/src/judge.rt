@@ -6,7 +6,6 @@ ghost use Rattle.told_device.specs.Verdicts.{IsByView, IsByLedger, commit_in};
 
 use crate::acts::{device_act, holds_act};
 use crate::record::DeviceRecord;
-use bench_base::bytes::Note;
 use bench_base::events::Reply;
 use bench_base::numbers::{DayNo, DevNo};
 use bench_base::words::Node;
@@ -14,7 +13,7 @@ use bench_views::DeviceCall;
 use bench_views::laws::nodes_follow;
 use node_acts::Asked;
 use psd_state::DevRec;
-use told_nodes::{Seat, judge_call, judge_cut, judge_off, judge_on};
+use told_nodes::{GaveOut, Seat, judge_cut, judge_giving, judge_off, judge_on, unreleased};
 
 /// A record is one that storage can show.
 pub fn is_known(kept: &DeviceRecord)
@@ -33,7 +32,7 @@ fn judge_view(
     day: DayNo,
     asked: &Asked<DeviceCall>,
     line: &[u8],
-) -> Result<Option<Note>, Reply>
+) -> Result<GaveOut, Reply>
     requires settled { IsSettled seat.old }
     ensures settled { IsSettled seat.new }
     ensures judged { IsByView device day asked.now line.now (view_of seat.old) (view_of seat.new) result }
@@ -43,19 +42,19 @@ fn judge_view(
     is_known(&seat.record);
     let name = Node::Device(device);
     match asked {
-        Asked::On => judge_on(seat, &name, line),
-        Asked::Off => judge_off(seat, &name, line),
-        Asked::Cut(_, _, _) => judge_cut(seat, &name, line),
+        Asked::On => unreleased(&judge_on(seat, &name, line)),
+        Asked::Off => unreleased(&judge_off(seat, &name, line)),
+        Asked::Cut(_, _, _) => unreleased(&judge_cut(seat, &name, line)),
         Asked::Call(call) => {
             let act = device_act(device, day, call, &seat.record.state);
             holds_act(&act);
-            judge_call(seat, &name, &act, line)
+            judge_giving(seat, &name, &act, line)
         }
     }
 }
 
-/// Judges the line of an event that asks this of the device on that day. `Ok`, with the message that was sent, exactly where the event may
-/// get a reply of that line, at each history at which the device is seen as the seat shows: the seat then shows the device at the ledger
+/// Judges the line of an event that asks this of the device on that day. `Ok`, with the message that was sent and the mark that was released, exactly where the
+/// event may get a reply of that line, at each history at which the device is seen as the seat shows: the seat then shows the device at the ledger
 /// that the reply leaves. `Err`, with the answer that was due, exactly where it may get none; the seat rests.
 pub fn judge_device(
     seat: &mut Seat<DeviceRecord, DevRec>,
@@ -63,7 +62,7 @@ pub fn judge_device(
     day: DayNo,
     asked: &Asked<DeviceCall>,
     line: &[u8],
-) -> Result<Option<Note>, Reply>
+) -> Result<GaveOut, Reply>
     requires settled { IsSettled seat.old }
     ensures settled { IsSettled seat.new }
     ensures by_view { IsByView device day asked.now line.now (view_of seat.old) (view_of seat.new) result }

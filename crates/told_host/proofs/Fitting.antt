@@ -25,6 +25,7 @@ use Rattle.host_jobs.specs.Seen.{Seen, cell_of, rows_in, counting}
 use Rattle.bench_views.specs.declared.calls.HostCall.{HostCall}
 use Rattle.bench_views.specs.declared.calls.HostCall.TheVariants as call
 use Rattle.bench_views.specs.Host.{IsKnown, host_act}
+use Rattle.told_nodes.specs.Giving.{released_as, ReleasesNone}
 use Rattle.told_nodes.specs.Seats.{FitsAct}
 use Rattle.told_host.specs.Records.{IsFit, IsRanged}
 use Rattle.told_host.proofs.Joined.{put_known}
@@ -70,6 +71,19 @@ call_plain (call.Send c) b = plain_says _ (λ x. refl) (acts.debit_message_act c
 call_plain (call.Print c) b = plain_says _ (λ x. refl) (acts.begin_print_act c.job b)
 call_plain (call.Close c) b = plain_says _ (λ x. refl) (acts.close_act c.job b)
 call_plain (call.Take c) b = plain_says _ (λ x. refl) (acts.take_act c.bytes b)
+
+-- it releases nothing
+unreleased_says : {A : Type 0} (say : A → Said) → ((a : A) → released_as (say a).given ≡ None) → (act : HostAct A) → ReleasesNone (saying r.HostRefused say act)
+unreleased_says say says (Refuse x) = tt
+unreleased_says say says (Tell a) = says a
+unreleased_says say says (Commits c x a) = says a
+
+pub call_releases : (c : HostCall) (b : Jobs) → ReleasesNone (host_act c b)
+call_releases (call.Order d piece class grams zone price) b = unreleased_says _ (λ x. refl) (acts.order_act d piece class price b)
+call_releases (call.Send j k) b = unreleased_says _ (λ x. refl) (acts.debit_message_act j b)
+call_releases (call.Print j) b = unreleased_says _ (λ x. refl) (acts.begin_print_act j b)
+call_releases (call.Close j) b = unreleased_says _ (λ x. refl) (acts.close_act j b)
+call_releases (call.Take bytes) b = unreleased_says _ (λ x. refl) (acts.take_act bytes b)
 
 -- == the record after it ==
 

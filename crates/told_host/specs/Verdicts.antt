@@ -1,5 +1,5 @@
 -- What a line of the report tells of an event of the host, by what is seen of it, and by the ledger.
-use Rattle.std.specs.Prelude.{◌≡◌, ℕ, ℤ, List, Option, Result, Ok, Err}
+use Rattle.std.specs.Prelude.{◌≡◌, ℕ, ℤ, List, Option, None, Result, Ok, Err}
 use Rattle.bench_base.specs.declared.words.Node.TheVariants.{Host}
 use Rattle.bench_base.specs.declared.ledger.Commit.{Commit}
 use Rattle.bench_base.specs.declared.events.Event.{Event}
@@ -31,7 +31,7 @@ IsByView today asked line v w result = JudgedPrint counting Host v (plan_in toda
 
 -- what was sent, and whether the printer failed
 abbrev pub MovesBy : Tariff → Ledger → Event → List ℕ → View Seen → Result Told Reply → Type 0
-MovesBy τ H e line w (Ok told) = (reply : Reply) × MovesSo counting host_kind Host tt τ H e line w told.sent reply × (told.cut ≡ is_cut reply)
+MovesBy τ H e line w (Ok told) = (reply : Reply) × MovesSo counting host_kind Host tt τ H e line w told.sent None reply × (told.cut ≡ is_cut reply)
 MovesBy τ H e line w (Err due) = MovesNever counting host_kind Host tt τ H e line w due
 
 -- P at each history at which the host is seen so, for each event that asks this of it on this day and brings nothing forged

@@ -2,6 +2,7 @@
 //! report can be the reply to an event of the node.
 #![tactic(auto)]
 
+mod giving;
 mod judge;
 mod printing;
 mod record;
@@ -9,6 +10,7 @@ mod said;
 mod seat;
 mod switch;
 
+pub use giving::{GaveOut, judge_giving, unreleased};
 pub use judge::{is_told, judge_call};
 pub use printing::{Told, judge_printing, unprinted};
 pub use record::Record;

@@ -1,11 +1,9 @@
 -- Deeds that fit beside the pairs of an audit: they are the same, one by one.
 use Rattle.std.proofs.Common.{◌≡◌, ◌≢◌, ℕ, ◌+◌, List, [], ◌∷◌, ◌++◌, length, map, drop, flat_map, refl, sym, ◌∙◌, ap, subst, arith, append_assoc}
 use Rattle.std.specs.List.{AllByRecursion}
-use Rattle.bench_base.specs.declared.events.Event.{Event}
 use Rattle.bench_base.specs.declared.events.Reply.{Reply}
 use Rattle.bench_base.specs.Ledger.{Ledger}
 use Rattle.ledger_moves.specs.Tariffs.{Tariff}
-use Rattle.ledger_moves.specs.Histories.{Unforged}
 use Rattle.script_text.specs.Grammar.{Spells, IsSkipped}
 use Rattle.script_text.specs.Texts.{text_of}
 use Rattle.script_text.specs.Told.{IsWholeReply, told}
@@ -70,7 +68,7 @@ module _ (one : (x y : Reply) → IsWholeReply x → IsWholeReply y → text_of 
       let event : d.event ≡ e = one_event_of d.event e x reads.0.is.0.whole pairs.0.is.0.whole (subst (λ (l : List ℕ). Spells d.event l) (sym same) reads.0.is.0.spells) pairs.0.is.0.spells in
       let split = one_split answer (text_of d.reply) (flat_map text_for a ++ ta) (report_of script_lines b ++ tb) pairs.0.is.1 (line d.reply reads.0.is.1)
       (sym (append_assoc (ended answer) (flat_map text_for a) ta) ∙ texts ∙ append_assoc (line_of d.reply) (report_of script_lines b) tb) in
-      let w = tells (subst (λ (f : Event). Unforged f H) event are.0.unforged) in
+      let w = tells in
       let alike : w.0.event ≡ d.event = w.1.event ∙ sym event in
       let text : text_of w.0.reply ≡ text_of d.reply = w.1.text ∙ split.0 in
       let ledgers = same_ledger one τ H left w.0 d w.1.may are.0 alike text in

@@ -29,11 +29,11 @@ use Rattle.told_bench.specs.Seeing.{Audit}
 use Rattle.told_runs.specs.Audits.{MayTell}
 use Rattle.told_runs.specs.Verdicts.{Pair, Skipped, Answered, IsPair, line_in, text_for, status_of, IsEvent, HasLine, HasSome, has_line, has_front, EndsSo, FallsAt, IsWrong, IsSo, TellsSo, Says, imprints_from}
 use Rattle.told_runs.specs.Prints.{ArePrinted}
-use Rattle.told_runs.specs.Fitting.{FitsPrinted, AreTold, rates_after, FitsFirst, FitsToEnd, FitsStopped, StopsUnforged, EndsTold, BeginsTold, AreUnforged, IsLawful, IsStoppedAt, IsExact}
+use Rattle.told_runs.specs.Fitting.{FitsPrinted, AreTold, rates_after, FitsFirst, FitsToEnd, FitsStopped, EndsTold, BeginsTold, IsLawful, IsStoppedAt, IsExact}
 use Rattle.told_runs.specs.declared.verdict.Ending.{Ending}
 use Rattle.told_runs.specs.declared.verdict.Ending.TheVariants.{Done as Ended, Script, TooLong}
 use Rattle.told_runs.specs.declared.verdict.Verdict.{Verdict}
-use Rattle.told_runs.specs.declared.verdict.Verdict.TheVariants.{Lawful, Stopped, Wrong, More, Memory}
+use Rattle.told_runs.specs.declared.verdict.Verdict.TheVariants.{Lawful, Stopped, Wrong, Forged, More, Memory}
 use Rattle.told_runs.proofs.Fitted.{Made, made, lawful_ends, stopped_begins}
 use Rattle.told_runs.proofs.MadePrinted.{made_printed}
 use Rattle.told_runs.proofs.Comparing.{Compared, longer, shorter, compare, one_split}
@@ -99,15 +99,14 @@ module _ (one : (x y : Reply) → IsWholeReply x → IsWholeReply y → text_of 
 
   -- no reply that may be told has a line of which it was said that none has it
   untold_not : (τ : Tariff) (K : Ledger) (l : List ℕ) (e : Event) (answer behind told_is : List ℕ) (new : Audit) (due : Reply) (d : Done) (x : List ℕ) → HasLine told_is answer behind
-      → (Unforged e K → IsUntold τ K e l answer new due) → d.event ≡ e → MayTell τ K l d → told_is ≡ line_of d.reply ++ x → ⊥
+      → IsUntold τ K e l answer new due → d.event ≡ e → MayTell τ K l d → told_is ≡ line_of d.reply ++ x → ⊥
   untold_not τ K l e answer behind told_is new due d x has untold event may is =
       let split = one_split (text_of d.reply) answer x behind (line d.reply may.whole) has.one (sym is ∙ has.is) in
-      let u = untold (subst (λ (f : Event). Unforged f K) event may.unforged) in
-      u.none d.reply (may_get τ K l answer e d event may) split.0
+      untold.none d.reply (may_get τ K l answer e d event may) split.0
 
   -- no reply that may be told has a line where the report has that of none
   wrong_not : (τ : Tariff) (K : Ledger) (l : List ℕ) (e : Event) (told_is : List ℕ) (new : Audit) (due : Reply) (d : Done) (x : List ℕ) (has : HasSome told_is)
-      → (Unforged e K → IsWrong τ K l new e due told_is has) → d.event ≡ e → MayTell τ K l d → told_is ≡ line_of d.reply ++ x → ⊥
+      → IsWrong τ K l new e due told_is has → d.event ≡ e → MayTell τ K l d → told_is ≡ line_of d.reply ++ x → ⊥
   wrong_not τ K l e told_is new due d x (has_line answer behind has) wrong event may is = untold_not τ K l e answer behind told_is new due d x has wrong event may is
   wrong_not τ K l e told_is new due d x (has_front one) wrong event may is = not_one (text_of d.reply) x (subst (λ (z : List ℕ). IsOneLine z) is one)
 
@@ -128,7 +127,13 @@ module _ (one : (x y : Reply) → IsWholeReply x → IsWholeReply y → text_of 
   goes_past (Wrong n due) number rest told_is falls τ K l new so inside (Did y d) more lines x reads goes rest_is text are =
       let same : falls.2.line ≡ y = cc (falls.2.rest_is, rest_is) in
       let event : d.event ≡ falls.1 = one_event_of d.event falls.1 y reads.is.0.whole falls.2.is.whole reads.is.0.spells (subst (λ (z : List ℕ). Spells falls.1 z) same falls.2.is.spells) in
-      absurd (wrong_not τ K l falls.1 told_is new due d x falls.3 so event are.0 text)
+      absurd (wrong_not τ K l falls.1 told_is new due d x falls.3 so.1 event are.0 text)
+  goes_past (Forged n) number rest told_is falls τ K l new so inside (deed.Skipped y) more lines x reads goes rest_is text are =
+      absurd (skips_none number rest falls.1 falls.2 y lines rest_is reads.is)
+  goes_past (Forged n) number rest told_is falls τ K l new so inside (Did y d) more lines x reads goes rest_is text are =
+      let same : falls.2.line ≡ y = cc (falls.2.rest_is, rest_is) in
+      let event : d.event ≡ falls.1 = one_event_of d.event falls.1 y reads.is.0.whole falls.2.is.whole reads.is.0.spells (subst (λ (z : List ℕ). Spells falls.1 z) same falls.2.is.spells) in
+      absurd (so.0 (subst (λ (f : Event). Unforged f K) event are.0.unforged))
   goes_past Memory number rest told_is falls τ K l new so inside d more lines x reads goes rest_is text are = refl
 
   -- where something fits to the end that is the place where the verdict falls, it is lawful
@@ -142,9 +147,14 @@ module _ (one : (x y : Reply) → IsWholeReply x → IsWholeReply y → text_of 
   ends_there (Stopped n) number rest told_is falls τ K l new so TooLong at ends = let w = event_ends TooLong number rest falls.1 falls.3 at in absurd (cc (w.0))
   ends_there (Wrong n due) number rest told_is falls τ K l new so Ended at ends =
       let w = event_ends Ended number rest falls.1 falls.2 at in
-      absurd (wrong_not τ K l falls.1 told_is new due ends.0 [] falls.3 so (ends.1 ∙ sym w.1) ends.2 (ends.3 ∙ sym (append-nil (line_of ends.0.reply))))
+      absurd (wrong_not τ K l falls.1 told_is new due ends.0 [] falls.3 so.1 (ends.1 ∙ sym w.1) ends.2 (ends.3 ∙ sym (append-nil (line_of ends.0.reply))))
   ends_there (Wrong n due) number rest told_is falls τ K l new so (Script k) at ends = let w = event_ends (Script k) number rest falls.1 falls.2 at in absurd (cc (w.0))
   ends_there (Wrong n due) number rest told_is falls τ K l new so TooLong at ends = let w = event_ends TooLong number rest falls.1 falls.2 at in absurd (cc (w.0))
+  ends_there (Forged n) number rest told_is falls τ K l new so Ended at ends =
+      let w = event_ends Ended number rest falls.1 falls.2 at in
+      absurd (so.0 (subst (λ (f : Event). Unforged f K) (ends.1 ∙ sym w.1) ends.2.unforged))
+  ends_there (Forged n) number rest told_is falls τ K l new so (Script k) at ends = let w = event_ends (Script k) number rest falls.1 falls.2 at in absurd (cc (w.0))
+  ends_there (Forged n) number rest told_is falls τ K l new so TooLong at ends = let w = event_ends TooLong number rest falls.1 falls.2 at in absurd (cc (w.0))
   ends_there (More n) number rest told_is falls τ K l new so end at ends = absurd (goes_on falls.1 falls.2 falls.3 falls.4 end at ends)
     where
       nothing : (a b : List ℕ) → a ≡ b → a ≡ [] → 0 < length b → ⊥
@@ -187,18 +197,17 @@ module _ (one : (x y : Reply) → IsWholeReply x → IsWholeReply y → text_of 
       not_ended (Script k) behind at = let w = event_ends (Script k) number rest e next at.script in cc (w.0)
       not_ended TooLong behind at = let w = event_ends TooLong number rest e next at.script in cc (w.0)
 
-      not_wrong : (f : Event) (due : Reply) → e ≡ f → (has : HasSome told_is) → (Unforged f K → IsWrong τ K l new f due told_is has) → ⊥
+      not_wrong : (f : Event) (due : Reply) → e ≡ f → (has : HasSome told_is) → IsWrong τ K l new f due told_is has → ⊥
       not_wrong f due same (has_line answer behind has) wrong = not_one answer behind (subst (λ (z : List ℕ). IsOneLine z) has.is one_told)
       not_wrong f due same (has_front one) wrong =
-          let event : begins.0.event ≡ f = begins.1 ∙ same in
-          let u = wrong (subst (λ (x : Event). Unforged x K) event begins.2.unforged) in
-          u.none begins.0.reply (record { moves = may_get τ K l told_is f begins.0 event begins.2; whole = begins.2.whole; begins = begins.3 })
+          wrong.none begins.0.reply (record { moves = may_get τ K l told_is f begins.0 (begins.1 ∙ same) begins.2; whole = begins.2.whole; begins = begins.3 })
 
       by : (x : Verdict) (at : FallsAt number rest told_is x) → IsSo τ K l new number rest told_is x at → IsStoppedAt x number
       by (Lawful end) at is = absurd (not_ended end [] at)
       by (More n) at is = absurd (not_ended at.1 at.2 at.3)
       by (Stopped n) at is = inl (ap (λ (k : ℕ). Stopped k) at.0)
-      by (Wrong n due) at is = absurd (not_wrong at.1 due (one_next number number rest e at.1 next at.2) at.3 is)
+      by (Wrong n due) at is = absurd (not_wrong at.1 due (one_next number number rest e at.1 next at.2) at.3 is.1)
+      by (Forged n) at is = absurd (is.0 (subst (λ (x : Event). Unforged x K) (begins.1 ∙ one_next number number rest e at.1 next at.2) begins.2.unforged))
       by Memory at is = inr refl
 
   module _ (v : Verdict) (script report rates : List ℕ) (old new : Audit) (says : Says v script report rates old new) where
@@ -268,7 +277,7 @@ module _ (one : (x y : Reply) → IsWholeReply x → IsWholeReply y → text_of 
     }
 
     -- where it says so, they fit up to where the run was stopped
-    stopped_made : (τ : Tariff) (H : Ledger) (n : ℕ) → v ≡ Stopped n → (m : Made τ (Falls τ) (Begin ∷ H) rates says.pairs) → StopsUnforged τ (Begin ∷ H) script report rates m.deeds
+    stopped_made : (τ : Tariff) (H : Ledger) (n : ℕ) → v ≡ Stopped n → (m : Made τ (Falls τ) (Begin ∷ H) rates says.pairs) → FitsStopped τ (Begin ∷ H) script report rates m.deeds
     unfolding first_made
     stopped_made τ H n is m =
         let K = ledger_after τ (Begin ∷ H) (done_in m.deeds) in
@@ -294,24 +303,24 @@ module _ (one : (x y : Reply) → IsWholeReply x → IsWholeReply y → text_of 
           ends_told = w.1;
         }
 
-    fits_whole : (τ : Tariff) (H : Ledger) (end : Ending) → v ≡ Lawful end → TellsSo τ (Falls τ) (Begin ∷ H) rates says.pairs → AreUnforged τ (Begin ∷ H) rates says.pairs
+    fits_whole : (τ : Tariff) (H : Ledger) (end : Ending) → v ≡ Lawful end → TellsSo τ (Falls τ) (Begin ∷ H) rates says.pairs
         → (deeds : List Deed) × FitsToEnd τ (Begin ∷ H) script report rates deeds
-    fits_whole τ H end is so unforged = let m = made τ (Falls τ) (Begin ∷ H) rates says.pairs says.front.each so unforged in (m.deeds, fits_made τ H end is m)
+    fits_whole τ H end is so = let m = made τ (Falls τ) (Begin ∷ H) rates says.pairs says.front.each so in (m.deeds, fits_made τ H end is m)
 
     -- with prints that are those of the pairs
-    pub fits_printed : (τ : Tariff) (H : Ledger) (end : Ending) (prints : List ℕ) → v ≡ Lawful end → TellsSo τ (Falls τ) (Begin ∷ H) rates says.pairs → AreUnforged τ (Begin ∷ H) rates says.pairs
+    pub fits_printed : (τ : Tariff) (H : Ledger) (end : Ending) (prints : List ℕ) → v ≡ Lawful end → TellsSo τ (Falls τ) (Begin ∷ H) rates says.pairs
         → ArePrinted (imprints_from 1 says.pairs) prints → (deeds : List Deed) × FitsPrinted τ (Begin ∷ H) script report rates prints deeds
-    fits_printed τ H end prints is so unforged printed =
-        let m = made_printed τ (Falls τ) (Begin ∷ H) rates says.pairs 1 prints says.front.each so unforged printed in
+    fits_printed τ H end prints is so printed =
+        let m = made_printed τ (Falls τ) (Begin ∷ H) rates says.pairs 1 prints says.front.each so printed in
         (m.made.deeds, record { fits = fits_made τ H end is m.made; run = m.run; prints_are = m.prints })
 
     pub exact : IsExact v script report rates old new says
     exact = record {
       longest = λ other τ H texts history seen deeds fits. no_longer τ H deeds fits.rest fits.told fits.few other (beside τ H deeds fits (says.so τ H texts history seen));
       complete = λ τ H texts history seen deeds fw. whole τ H deeds fw (beside τ H deeds fw.fits (says.so τ H texts history seen));
-      sound = λ end is τ H texts history seen unforged. fits_whole τ H end is (says.so τ H texts history seen) unforged;
+      sound = λ end is τ H texts history seen. fits_whole τ H end is (says.so τ H texts history seen);
       stops = λ τ H texts history seen deeds fw. stops_whole τ H deeds fw (beside τ H deeds fw.fits (says.so τ H texts history seen));
-      stopped = λ n is τ H texts history seen unforged.
-          let m = made τ (Falls τ) (Begin ∷ H) rates says.pairs says.front.each (says.so τ H texts history seen) unforged in
+      stopped = λ n is τ H texts history seen.
+          let m = made τ (Falls τ) (Begin ∷ H) rates says.pairs says.front.each (says.so τ H texts history seen) in
           (m.deeds, stopped_made τ H n is m);
     }

@@ -1,4 +1,4 @@
--- What was paired fits, where no event brings anything forged.
+-- What was paired fits.
 use Rattle.std.proofs.Common.{◌≡◌, ℕ, List, [], ◌∷◌, ◌++◌, length, map, drop, flat_map, None, refl, sym, ◌∙◌, ap, subst, arith, append-nil}
 use Rattle.std.specs.List.{AllByRecursion}
 use Rattle.bench_base.specs.declared.events.Event.{Event}
@@ -16,11 +16,11 @@ use Rattle.script_replay.specs.Deeds.{ledger_by, ledger_after}
 use Rattle.told_bench.specs.Judging.{text_with}
 use Rattle.told_bench.specs.Seeing.{Audit}
 use Rattle.told_runs.specs.Verdicts.{Pair, Skipped, Answered, IsPair, line_in, text_for, status_of, IsEvent, EndsSo, FallsAt, TellsSo, MayEnd, IsSo, last_given}
-use Rattle.told_runs.specs.Fitting.{AreTold, rates_after, EndsTold, BeginsTold, AreUnforged}
+use Rattle.told_runs.specs.Fitting.{AreTold, rates_after, EndsTold, BeginsTold}
 use Rattle.told_runs.specs.declared.verdict.Ending.{Ending}
 use Rattle.told_runs.specs.declared.verdict.Ending.TheVariants.{Done as Ended, Script, TooLong}
 use Rattle.told_runs.specs.declared.verdict.Verdict.{Verdict}
-use Rattle.told_runs.specs.declared.verdict.Verdict.TheVariants.{Lawful, Stopped, Wrong, More, Memory}
+use Rattle.told_runs.specs.declared.verdict.Verdict.TheVariants.{Lawful, Stopped, Wrong, Forged, More, Memory}
 
 -- deeds of these pairs, behind which P holds
 pub record Made (τ : Tariff) (P : Ledger → List ℕ → Type 0) (H : Ledger) (left : List ℕ) (a : List Pair) : Type 0 where
@@ -33,10 +33,10 @@ pub record Made (τ : Tariff) (P : Ledger → List ℕ → Type 0) (H : Ledger) 
   pub are : AreTold τ H left (done_in deeds)
   pub holds : P (ledger_after τ H (done_in deeds)) (rates_after left (done_in deeds))
 
-pub made : (τ : Tariff) (P : Ledger → List ℕ → Type 0) (H : Ledger) (left : List ℕ) (a : List Pair) → AllByRecursion IsPair a → TellsSo τ P H left a → AreUnforged τ H left a → Made τ P H left a
-made τ P H left [] each tells unforged = record { deeds = []; each = tt; go_on = tt; size = refl; lines = refl; texts = refl; are = tt; holds = tells }
-made τ P H left (Skipped x ∷ a) each tells unforged =
-    let m = made τ P H left a each.1 tells unforged in
+pub made : (τ : Tariff) (P : Ledger → List ℕ → Type 0) (H : Ledger) (left : List ℕ) (a : List Pair) → AllByRecursion IsPair a → TellsSo τ P H left a → Made τ P H left a
+made τ P H left [] each tells = record { deeds = []; each = tt; go_on = tt; size = refl; lines = refl; texts = refl; are = tt; holds = tells }
+made τ P H left (Skipped x ∷ a) each tells =
+    let m = made τ P H left a each.1 tells in
     record {
       deeds = deed.Skipped x ∷ m.deeds;
       each = (record { one = each.0.one; short = each.0.short; is = each.0.is }, m.each);
@@ -47,9 +47,9 @@ made τ P H left (Skipped x ∷ a) each tells unforged =
       are = m.are;
       holds = m.holds;
     }
-made τ P H left (Answered x e answer given ∷ a) each tells unforged =
-    let w = tells unforged.0 in
-    let m = made τ P (ledger_by τ H w.0) (drop (length w.0.text) left) a each.1 w.2 (unforged.1 w.0 w.1) in
+made τ P H left (Answered x e answer given ∷ a) each tells =
+    let w = tells in
+    let m = made τ P (ledger_by τ H w.0) (drop (length w.0.text) left) a each.1 w.2 in
     record {
       deeds = Did x w.0 ∷ m.deeds;
       each = (record { one = each.0.one; short = each.0.short; is = (subst (λ (f : Event). IsLineOf f x) (sym w.1.event) each.0.is.0, w.1.may.whole) }, m.each);
@@ -64,7 +64,7 @@ made τ P H left (Answered x e answer given ∷ a) each tells unforged =
 module _ (τ : Tariff) (K : Ledger) (l : List ℕ) (new : Audit) (number : ℕ) (rest : List (List ℕ)) (told : List ℕ) where
   ends_told : (end : Ending) (at : EndsSo number rest told end []) → MayEnd τ K l new end told [] at.report → EndsTold τ K l end told
   ends_told Ended at may =
-      let w = may tt in
+      let w = may in
       (w.0, w.1.event, w.1.may, at.report.1.is ∙ append-nil (ended at.report.0) ∙ ap (λ (t : List ℕ). ended t) (sym w.1.text))
   ends_told (Script n) at may = at.report
   ends_told TooLong at may = at.report
@@ -77,21 +77,20 @@ module _ (τ : Tariff) (K : Ledger) (l : List ℕ) (new : Audit) (number : ℕ) 
       subst (λ (x : Ending). EndsAt script_grammar (status_of x) number rest × EndsTold τ K l x told) same (falls.script, ends_told e falls so)
   lawful_ends (Stopped n) falls so end is = absurd (cc is)
   lawful_ends (Wrong n due) falls so end is = absurd (cc is)
+  lawful_ends (Forged n) falls so end is = absurd (cc is)
   lawful_ends (More n) falls so end is = absurd (cc is)
   lawful_ends Memory falls so end is = absurd (cc is)
 
   -- where it is said that a run was stopped, the report ends within a line of the next event
   pub stopped_begins : (v : Verdict) (falls : FallsAt number rest told v) → IsSo τ K l new number rest told v falls → (n : ℕ) → v ≡ Stopped n
-      → (e : Event) × IsEvent number rest e × (Unforged e K → BeginsTold τ K l e told)
-  stopped_begins (Stopped k) falls so n is = (falls.1, falls.3, begun)
-    where
-      begun : Unforged falls.1 K → BeginsTold τ K l falls.1 told
-      begun unforged =
-          let w = so.0 unforged in
-          let text = text_with τ K falls.1 l told w.reply in
-          (done falls.1 text w.reply [], refl, record { unforged = unforged; moves = w.may.moves; whole = w.may.whole; takes = refl }, w.may.begins)
+      → (e : Event) × IsEvent number rest e × BeginsTold τ K l e told
+  stopped_begins (Stopped k) falls so n is =
+      let w = so.1 in
+      let text = text_with τ K falls.1 l told w.reply in
+      (falls.1, falls.3, done falls.1 text w.reply [], refl, record { unforged = so.0; moves = w.may.moves; whole = w.may.whole; takes = refl }, w.may.begins)
   stopped_begins (Lawful e) falls so n is = absurd (cc is)
   stopped_begins (Wrong k due) falls so n is = absurd (cc is)
+  stopped_begins (Forged k) falls so n is = absurd (cc is)
   stopped_begins (More k) falls so n is = absurd (cc is)
   stopped_begins Memory falls so n is = absurd (cc is)
 
@@ -100,5 +99,6 @@ pub none_open : (number : ℕ) (rest : List (List ℕ)) (told : List ℕ) (v : V
 none_open number rest told (Lawful e) falls end is = refl
 none_open number rest told (Stopped n) falls end is = absurd (cc is)
 none_open number rest told (Wrong n due) falls end is = refl
+none_open number rest told (Forged n) falls end is = refl
 none_open number rest told (More n) falls end is = refl
 none_open number rest told Memory falls end is = refl

@@ -21,7 +21,6 @@ use Rattle.told_runs.specs.Audits.{IsRun, MayTell}
 use Rattle.told_runs.specs.Imprints.{IsGiven, wholly, partly}
 use Rattle.told_runs.specs.Prints.{Took, ArePrinted}
 use Rattle.told_runs.specs.Verdicts.{Pair, Skipped, Answered, IsPair, IsAnswered, TellsSo, imprints_from}
-use Rattle.told_runs.specs.Fitting.{AreUnforged}
 use Rattle.told_runs.proofs.Fitted.{Made}
 
 gave_nothing : (reply : Reply) (mark : Option (List ℕ)) → IsGiven reply mark None → IsPrinted reply mark []
@@ -69,15 +68,15 @@ before τ P H left x e answer given a piece rest d is w printed m = record {
     told : MayTell τ H left (record d { printed = piece })
     told = record { unforged = w.may.unforged; moves = w.may.moves; whole = w.may.whole; takes = w.may.takes }
 
-pub made_printed : (τ : Tariff) (P : Ledger → List ℕ → Type 0) (H : Ledger) (left : List ℕ) (a : List Pair) (number : ℕ) (bytes : List ℕ) → AllByRecursion IsPair a → TellsSo τ P H left a → AreUnforged τ H left a
+pub made_printed : (τ : Tariff) (P : Ledger → List ℕ → Type 0) (H : Ledger) (left : List ℕ) (a : List Pair) (number : ℕ) (bytes : List ℕ) → AllByRecursion IsPair a → TellsSo τ P H left a
     → ArePrinted (imprints_from number a) bytes → MadePrinted τ P H left a bytes
-made_printed τ P H left [] number bytes each tells unforged printed = record {
+made_printed τ P H left [] number bytes each tells printed = record {
   made = record { deeds = []; each = tt; go_on = tt; size = refl; lines = refl; texts = refl; are = tt; holds = tells };
   run = tt;
   prints = printed;
 }
-made_printed τ P H left (Skipped x ∷ a) number bytes each tells unforged printed =
-    let m = made_printed τ P H left a (number + 1) bytes each.1 tells unforged printed in
+made_printed τ P H left (Skipped x ∷ a) number bytes each tells printed =
+    let m = made_printed τ P H left a (number + 1) bytes each.1 tells printed in
     record {
       made = record {
         deeds = deed.Skipped x ∷ m.made.deeds;
@@ -92,12 +91,12 @@ made_printed τ P H left (Skipped x ∷ a) number bytes each tells unforged prin
       run = m.run;
       prints = m.prints;
     }
-made_printed τ P H left (Answered x e answer None ∷ a) number bytes each tells unforged printed =
-    let w = tells unforged.0 in
+made_printed τ P H left (Answered x e answer None ∷ a) number bytes each tells printed =
+    let w = tells in
     before τ P H left x e answer None a [] bytes w.0 each.0 w.1 (gave_nothing w.0.reply (print_of (plan τ todays_rules H w.0.event w.0.text).after) w.1.gives)
-    (made_printed τ P (ledger_by τ H w.0) (drop (length w.0.text) left) a (number + 1) bytes each.1 w.2 (unforged.1 w.0 w.1) printed)
-made_printed τ P H left (Answered x e answer (Some g) ∷ a) number bytes each tells unforged printed =
-    let w = tells unforged.0 in
+    (made_printed τ P (ledger_by τ H w.0) (drop (length w.0.text) left) a (number + 1) bytes each.1 w.2 printed)
+made_printed τ P H left (Answered x e answer (Some g) ∷ a) number bytes each tells printed =
+    let w = tells in
     subst (λ (l : List ℕ). MadePrinted τ P H left (Answered x e answer (Some g) ∷ a) l) (sym printed.2) (
     before τ P H left x e answer (Some g) a printed.0 printed.1 w.0 each.0 w.1 (gave w.0.reply (print_of (plan τ todays_rules H w.0.event w.0.text).after) g printed.0 w.1.gives printed.3)
-    (made_printed τ P (ledger_by τ H w.0) (drop (length w.0.text) left) a (number + 1) printed.1 each.1 w.2 (unforged.1 w.0 w.1) printed.4))
+    (made_printed τ P (ledger_by τ H w.0) (drop (length w.0.text) left) a (number + 1) printed.1 each.1 w.2 printed.4))

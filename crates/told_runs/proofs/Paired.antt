@@ -28,8 +28,8 @@ tells_more : (τ : Tariff) (P Q : Ledger → List ℕ → Type 0) (b : List Pair
     → (H : Ledger) (left : List ℕ) (a : List Pair) → TellsSo τ P H left a → TellsSo τ Q H left (a ++ b)
 tells_more τ P Q b then H left [] tells = then H left tells
 tells_more τ P Q b then H left (Skipped line ∷ a) tells = tells_more τ P Q b then H left a tells
-tells_more τ P Q b then H left (Answered line e answer given ∷ a) tells = λ unforged.
-    let w = tells unforged in
+tells_more τ P Q b then H left (Answered line e answer given ∷ a) tells =
+    let w = tells in
     (w.0, w.1, tells_more τ P Q b then (ledger_by τ H w.0) (drop (length w.0.text) left) a w.2)
 
 -- the same pairs, and what follows of the ledger behind them

@@ -23,6 +23,7 @@ use Rattle.desk_runs.specs.Events.{IsLineOf, IsBad}
 use Rattle.desk_runs.specs.Scripts.{script_grammar}
 use Rattle.script_replay.specs.Deeds.{ledger_by}
 use Rattle.told_bench.specs.declared.judging.Finding.TheVariants as found
+use Rattle.told_bench.specs.Forging.{AtSeen}
 use Rattle.told_bench.specs.Judging.{AtEach, IsJudged, text_with}
 use Rattle.told_bench.specs.Seeing.{Audit, Sees}
 use Rattle.told_runs.specs.Imprints.{IsGiven, IsDueMark, GivesSo, imprint_at}
@@ -34,7 +35,7 @@ use Rattle.told_runs.specs.declared.imprint.Given.{Given}
 use Rattle.told_runs.specs.declared.imprint.Imprint.{Imprint}
 use Rattle.told_runs.specs.declared.verdict.Ending.TheVariants as ends
 use Rattle.told_runs.specs.declared.verdict.Verdict.{Verdict}
-use Rattle.told_runs.specs.declared.verdict.Verdict.TheVariants.{Lawful, Stopped, Wrong, More, Memory}
+use Rattle.told_runs.specs.declared.verdict.Verdict.TheVariants.{Lawful, Stopped, Wrong, Forged, More, Memory}
 use Rattle.told_runs.proofs.Giving.{given_by}
 use Rattle.told_runs.proofs.Paired.{over_falls}
 
@@ -44,29 +45,44 @@ module _ (number : ℕ) (inside : number ≤ 1000000) (script line : List ℕ) (
   is_event : IsEvent number (lines_of script) e
   is_event = record { inside = inside; line = line; more = lines_of (drop taken script); rest_is = begins.first; short = begins.short; is = begins.is }
 
+  -- the event brings nothing forged, at each history that the auditor has
+  abbrev IsUnforgedThere : Type 0
+  IsUnforgedThere = AtSeen old (λ H. Unforged e H)
+
+  -- or something, at each
+  pub forged : (before : List Imprint) → AtSeen old (λ H. Unforged e H → ⊥) → FellPut number script report rates old old before before (Forged number)
+  forged before brings = (record { falls = (refl, e, is_event); so = λ τ H texts history seen. (brings τ H history seen, seen) }, sym (append-nil before))
+
   -- the report ends before the line end of its answer
-  pub stops : (v : Verdict) (before after : List Imprint) → IsOneLine report → StopsSo number e report rates old new before after v → FellPut number script report rates old new before after v
-  stops (Stopped n) before after one stop = (
+  pub stops : (v : Verdict) (before after : List Imprint) → IsOneLine report → IsUnforgedThere → StopsSo number e report rates old new before after v → FellPut number script report rates old new before after v
+  stops (Stopped n) before after one unforged stop = (
     record {
       falls = (stop.0, e, stop.1, is_event, one);
-      so = λ τ H texts history seen. (λ unforged. stop.2.begun τ H texts history unforged seen, stop.2.left_open τ H history seen);
+      so = λ τ H texts history seen.
+          let here = unforged τ H history seen in
+          (here, stop.2.begun τ H texts history here seen, stop.2.left_open τ H history seen);
     },
     stop.2.prints,
   )
-  stops (Wrong n due) before after one stop = (
-    record { falls = (stop.0, e, is_event, has_front one); so = λ τ H texts history seen unforged. stop.1 τ H texts history unforged seen },
+  stops (Wrong n due) before after one unforged stop = (
+    record {
+      falls = (stop.0, e, is_event, has_front one);
+      so = λ τ H texts history seen. let here = unforged τ H history seen in (here, stop.1 τ H texts history here seen);
+    },
     stop.2 ∙ sym (append-nil before),
   )
-  stops Memory before after one stop = (record { falls = (e, is_event, has_front one); so = λ τ H texts history seen. tt }, stop ∙ sym (append-nil before))
-  stops (Lawful end) before after one stop = absurd stop
-  stops (More n) before after one stop = absurd stop
+  stops Memory before after one unforged stop = (record { falls = (e, is_event, has_front one); so = λ τ H texts history seen. tt }, stop ∙ sym (append-nil before))
+  stops (Lawful end) before after one unforged stop = absurd stop
+  stops (More n) before after one unforged stop = absurd stop
+  stops (Forged n) before after one unforged stop = absurd stop
 
   module _ (answer behind : List ℕ) (has : HasLine report answer behind) where
-    pub wrong : (due : Reply) (before : List Imprint) → AtEach old e (λ τ H. IsJudged τ H e rates answer new (Err (found.Wrong due))) → FellPut number script report rates old new before before (Wrong number due)
-    wrong due before judged = (
+    pub wrong : (due : Reply) (before : List Imprint) → IsUnforgedThere → AtEach old e (λ τ H. IsJudged τ H e rates answer new (Err (found.Wrong due)))
+        → FellPut number script report rates old new before before (Wrong number due)
+    wrong due before unforged judged = (
       record {
         falls = (refl, e, is_event, has_line answer behind has);
-        so = λ τ H texts history seen unforged. judged τ H texts history unforged seen;
+        so = λ τ H texts history seen. let here = unforged τ H history seen in (here, judged τ H texts history here seen);
       },
       sym (append-nil before),
     )
@@ -74,17 +90,18 @@ module _ (number : ℕ) (inside : number ≤ 1000000) (script line : List ℕ) (
     pub wants : (before : List Imprint) → FellPut number script report rates old new before before Memory
     wants before = (record { falls = (e, is_event, has_line answer behind has); so = λ τ H texts history seen. tt }, sym (append-nil before))
 
-    module _ (used : ℕ) (judged : AtEach old e (λ τ H. IsJudged τ H e rates answer new (Ok used))) (one : (x y : Reply) → IsWholeReply x → IsWholeReply y → text_of x ≡ text_of y → told x ≡ told y)
+    module _ (used : ℕ) (unforged : IsUnforgedThere) (judged : AtEach old e (λ τ H. IsJudged τ H e rates answer new (Ok used))) (one : (x y : Reply) → IsWholeReply x → IsWholeReply y → text_of x ≡ text_of y → told x ≡ told y)
         (due : Option (List ℕ)) (is_due : IsDueMark old e due) (given : Option Given) (gives : GivesSo e due answer given) where
       -- what may be done for the event
-      may : (τ : Tariff) (H : Ledger) → IsOfTexts τ → History τ editions H → Sees old H → Unforged e H
+      may : (τ : Tariff) (H : Ledger) → IsOfTexts τ → History τ editions H → Sees old H
           → (d : Done) × IsAnswered τ H rates e answer given d × StandsAt τ new (drop used rates) (ledger_by τ H d) (drop (length d.text) rates)
-      may τ H texts history seen unforged =
-          let w = judged τ H texts history unforged seen in
+      may τ H texts history seen =
+          let here = unforged τ H history seen in
+          let w = judged τ H texts history here seen in
           let text = text_with τ H e rates answer w.0 in (
             done e text w.0 [],
-            record { event = refl; text = w.1.text; may = record { unforged = unforged; moves = w.1.moves; whole = w.1.whole; takes = refl }; gives = given_by one τ H e rates answer new w.0 w.1 (begins.is.whole) due (λ j same. is_due j same τ H history seen) given gives },
-            record { history = moves e text w.0 history unforged w.1.moves; sees = w.1.sees; are = ap (λ (n : ℕ). drop n rates) (sym w.2) },
+            record { event = refl; text = w.1.text; may = record { unforged = here; moves = w.1.moves; whole = w.1.whole; takes = refl }; gives = given_by one τ H e rates answer new w.0 w.1 (begins.is.whole) due (λ j same. is_due j same τ H history seen) given gives },
+            record { history = moves e text w.0 history here w.1.moves; sees = w.1.sees; are = ap (λ (n : ℕ). drop n rates) (sym w.2) },
           )
 
       pub goes_on : (step : Step) (before after : List Imprint) → step.script ≡ taken → behind ≡ drop step.report report → step.rates ≡ used → e ≢ ev.End → after ≡ before ++ imprint_at number given
@@ -94,8 +111,8 @@ module _ (number : ℕ) (inside : number ≤ 1000000) (script line : List ℕ) (
         is = record { one = begins.one; short = begins.short; is = (begins.is, has.one, passes) };
         script_is = begins.first ∙ ap (λ (n : ℕ). line ∷ lines_of (drop n script)) (sym script_is);
         report_is = has.is ∙ ap (λ (l : List ℕ). ended answer ++ l) report_is;
-        so = λ τ H texts history seen unforged.
-            let w = may τ H texts history seen unforged in
+        so = λ τ H texts history seen.
+            let w = may τ H texts history seen in
             (w.0, w.1, subst (λ (n : ℕ). StandsAt τ new (drop n rates) (ledger_by τ H w.0) (drop (length w.0.text) rates)) (sym rates_is) w.2);
         prints = put ∙ ap (λ (l : List Imprint). before ++ l) (sym (append-nil (imprint_at number given)));
       }
@@ -109,8 +126,8 @@ module _ (number : ℕ) (inside : number ≤ 1000000) (script line : List ℕ) (
           script = subst (λ (l : List (List ℕ)). EndsAt script_grammar status.Done number l) (sym begins.first) (inside, subst (λ (x : Event). Spells x line) is begins.is.spells);
           report = (answer, has);
         },
-        λ τ H texts history seen unforged.
-            let w = may τ H texts history seen (subst (λ (x : Event). Unforged x H) (sym is) unforged) in
+        λ τ H texts history seen.
+            let w = may τ H texts history seen in
             (w.0, record { event = w.1.event ∙ is; text = w.1.text; may = w.1.may; gives = subst (λ (g : Option Given). IsGiven w.0.reply (print_of (plan τ todays_rules H w.0.event w.0.text).after) g) (not_given is) w.1.gives }, w.2.sees),
       ) over
 

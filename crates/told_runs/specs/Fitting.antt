@@ -8,7 +8,7 @@ use Rattle.bench_base.specs.Ledger.{Ledger}
 use Rattle.bench_base.specs.Rules.{editions}
 use Rattle.bench_views.specs.Tariff.{IsOfTexts}
 use Rattle.ledger_moves.specs.Tariffs.{Tariff}
-use Rattle.ledger_moves.specs.Histories.{History, Unforged}
+use Rattle.ledger_moves.specs.Histories.{History}
 use Rattle.script_text.specs.Texts.{text_of}
 use Rattle.line_runs.specs.Deeds.{Reads, report_of}
 use Rattle.line_runs.specs.Ends.{lines_of, EndsAt}
@@ -19,7 +19,7 @@ use Rattle.told_bench.specs.Seeing.{Audit, Sees}
 use Rattle.told_bench.specs.Stopping.{IsFrontOf}
 use Rattle.told_runs.specs.Audits.{MayTell, IsRun}
 use Rattle.told_runs.specs.Prints.{ArePrinted}
-use Rattle.told_runs.specs.Verdicts.{Pair, Skipped, Answered, IsAnswered, IsEvent, Says, Audited, status_of}
+use Rattle.told_runs.specs.Verdicts.{IsEvent, Says, Audited, status_of}
 use Rattle.told_runs.specs.declared.imprint.Imprint.{Imprint}
 use Rattle.told_runs.specs.declared.verdict.Ending.{Ending}
 use Rattle.told_runs.specs.declared.verdict.Ending.TheVariants.{Done as Ended, Script, TooLong}
@@ -74,13 +74,6 @@ module _ (τ : Tariff) (H : Ledger) (script report rates : List ℕ) where
     pub next : IsEvent (length deeds + 1) fits.rest event
     pub begins : BeginsTold τ (ledger_after τ H (done_in deeds)) (rates_after rates (done_in deeds)) event fits.told
 
-  -- They fit, and so may the run have been stopped at the next event if it brings nothing forged.
-  pub record StopsUnforged (deeds : List Deed) : Type 0 where
-    pub fits : FitsFirst deeds
-    pub event : Event
-    pub next : IsEvent (length deeds + 1) fits.rest event
-    pub begins : Unforged event (ledger_after τ H (done_in deeds)) → BeginsTold τ (ledger_after τ H (done_in deeds)) (rates_after rates (done_in deeds)) event fits.told
-
   -- They fit to the end, and print these bytes.
   pub record FitsPrinted (prints : List ℕ) (deeds : List Deed) : Type 0 where
     pub fits : FitsToEnd deeds
@@ -99,27 +92,20 @@ IsStoppedAt v number = (v ≡ Stopped number) ⊎ (v ≡ Memory)
 abbrev pub AtSeen : Audit → (Tariff → Ledger → Type 0) → Type 0
 AtSeen old P = (τ : Tariff) (H : Ledger) → IsOfTexts τ → History τ editions H → Sees old H → P τ (Begin ∷ H)
 
--- each event is unforged where it comes, whatever was done for those before it that got their lines
-abbrev pub AreUnforged : Tariff → Ledger → List ℕ → List Pair → Type 0
-AreUnforged τ H left [] = Unit {0}
-AreUnforged τ H left (Skipped line ∷ pairs) = AreUnforged τ H left pairs
-AreUnforged τ H left (Answered line e answer given ∷ pairs) =
-    Unforged e H × ((d : Done) → IsAnswered τ H left e answer given d → AreUnforged τ (ledger_by τ H d) (drop (length d.text) left) pairs)
-
--- AN AUDIT IS EXACT: no deeds that fit are more than it paired, unless memory was wanting; so where it says that a line is wrong, none fit with that line.
--- Where any fit to the end, it says that the run is lawful; and where it says so and no event brings anything forged, some do. Where any fit up to a place at which
--- the run may have been stopped, it says that; and where it says so and no event brings anything forged, some do.
+-- AN AUDIT IS EXACT: no deeds that fit are more than it paired, unless memory was wanting; so where it says that a line is wrong, or that its event brings
+-- something forged, none fit with that line. Where any fit to the end, it says that the run is lawful; and where it says so, some do. Where any fit up to a place at which
+-- the run may have been stopped, it says that; and where it says so, some do.
 pub record IsExact (v : Verdict) (script report rates : List ℕ) (old new : Audit) (says : Says v script report rates old new) : Type 0 where
   pub longest : v ≢ Memory → AtSeen old (λ τ H. (deeds : List Deed) → FitsFirst τ H script report rates deeds → length deeds ≤ length says.pairs)
   pub complete : AtSeen old (λ τ H. (deeds : List Deed) → FitsToEnd τ H script report rates deeds → IsLawful v)
   pub sound : (end : Ending) → v ≡ Lawful end
-      → AtSeen old (λ τ H. AreUnforged τ H rates says.pairs → (deeds : List Deed) × FitsToEnd τ H script report rates deeds)
+      → AtSeen old (λ τ H. (deeds : List Deed) × FitsToEnd τ H script report rates deeds)
   pub stops : AtSeen old (λ τ H. (deeds : List Deed) → FitsStopped τ H script report rates deeds → IsStoppedAt v (length deeds + 1))
   pub stopped : (n : ℕ) → v ≡ Stopped n
-      → AtSeen old (λ τ H. AreUnforged τ H rates says.pairs → (deeds : List Deed) × StopsUnforged τ H script report rates deeds)
+      → AtSeen old (λ τ H. (deeds : List Deed) × FitsStopped τ H script report rates deeds)
 
--- Where an audit of a run says that it is lawful, no event brings anything forged, and these are the prints of what was given, some deeds fit that print them.
+-- Where an audit of a run says that it is lawful, and these are the prints of what was given, some deeds fit that print them.
 abbrev pub PrintsFit : Verdict → List ℕ → List ℕ → List ℕ → Audit → Audit → List Imprint → Type 0
 PrintsFit v script report rates old new given =
     (a : Audited v script report rates old new [] given) (end : Ending) (prints : List ℕ) → v ≡ Lawful end → ArePrinted given prints
-    → AtSeen old (λ τ H. AreUnforged τ H rates a.says.pairs → (deeds : List Deed) × FitsPrinted τ H script report rates prints deeds)
+    → AtSeen old (λ τ H. (deeds : List Deed) × FitsPrinted τ H script report rates prints deeds)

@@ -33,7 +33,7 @@ use Rattle.told_runs.specs.declared.imprint.Imprint.{Imprint}
 use Rattle.told_runs.specs.declared.verdict.Ending.{Ending}
 use Rattle.told_runs.specs.declared.verdict.Ending.TheVariants.{Done as Ended, Script, TooLong}
 use Rattle.told_runs.specs.declared.verdict.Verdict.{Verdict}
-use Rattle.told_runs.specs.declared.verdict.Verdict.TheVariants.{Lawful, Stopped, Wrong, More, Memory}
+use Rattle.told_runs.specs.declared.verdict.Verdict.TheVariants.{Lawful, Stopped, Wrong, Forged, More, Memory}
 
 -- == lines of the script, each with its line of the report ==
 
@@ -106,13 +106,14 @@ pub record EndsSo (number : ℕ) (rest : List (List ℕ)) (told : List ℕ) (end
   pub report : HasEnd end told behind
 
 -- The verdict falls at the line of this number, where these lines of the script and these bytes of the report are left: the two end together; the report goes
--- on behind the end of the script; it ends before the line end of the next answer, where this is open of what was printed; or it has a line for the next event, or ends
--- before its line end, which the event can't get.
+-- on behind the end of the script; it ends before the line end of the next answer, where this is open of what was printed; it has a line for the next event, or ends
+-- before its line end, which the event can't get; or there is a next event, which brings something forged.
 abbrev pub FallsAt : ℕ → List (List ℕ) → List ℕ → Verdict → Type 0
 FallsAt number rest told (Lawful end) = EndsSo number rest told end []
 FallsAt number rest told (More n) = (n ≡ number) × (end : Ending) × (behind : List ℕ) × EndsSo number rest told end behind × (0 < length behind)
 FallsAt number rest told (Stopped n) = (n ≡ number) × (e : Event) × (given : Option Given) × IsEvent number rest e × IsOneLine told
 FallsAt number rest told (Wrong n due) = (n ≡ number) × (e : Event) × IsEvent number rest e × HasSome told
+FallsAt number rest told (Forged n) = (n ≡ number) × (e : Event) × IsEvent number rest e
 FallsAt number rest told Memory = (e : Event) × IsEvent number rest e × HasSome told
 
 -- what is open of what was printed, where the run was stopped
@@ -121,6 +122,7 @@ last_given number rest told (Lawful end) at = None
 last_given number rest told (More n) at = None
 last_given number rest told (Stopped n) at = at.2
 last_given number rest told (Wrong n due) at = None
+last_given number rest told (Forged n) at = None
 last_given number rest told Memory at = None
 
 -- == what may be so ==
@@ -132,19 +134,19 @@ pub record IsAnswered (τ : Tariff) (H : Ledger) (left : List ℕ) (e : Event) (
   pub may : MayTell τ H left d
   pub gives : IsGiven d.reply (print_of (plan τ todays_rules H d.event d.text).after) given
 
--- Each event in turn, at the ledger and with the rates that those before it leave: where it brings nothing forged, it may get a reply of its line. And P holds
--- of the ledger and the rates behind them.
+-- Each event in turn, at the ledger and with the rates that those before it leave, may get a reply of its line, and brings nothing forged. And P holds of the
+-- ledger and the rates behind them.
 abbrev pub TellsSo : Tariff → (Ledger → List ℕ → Type 0) → Ledger → List ℕ → List Pair → Type 0
 TellsSo τ P H left [] = P H left
 TellsSo τ P H left (Skipped line ∷ pairs) = TellsSo τ P H left pairs
 TellsSo τ P H left (Answered line e answer given ∷ pairs) =
-    Unforged e H → (d : Done) × IsAnswered τ H left e answer given d × TellsSo τ P (ledger_by τ H d) (drop (length d.text) left) pairs
+    (d : Done) × IsAnswered τ H left e answer given d × TellsSo τ P (ledger_by τ H d) (drop (length d.text) left) pairs
 
 -- At this ledger, with these rates left; the auditor is left so.
 module _ (τ : Tariff) (H : Ledger) (left : List ℕ) (now : Audit) where
   -- `end` may get this line, and the auditor sees the ledger behind it; at any other end it sees this one
   abbrev pub MayEnd : (end : Ending) (told behind : List ℕ) → HasEnd end told behind → Type 0
-  MayEnd Ended told behind has = Unforged ev.End H → (d : Done) × IsAnswered τ H left ev.End has.0 None d × Sees now (ledger_by τ H d)
+  MayEnd Ended told behind has = (d : Done) × IsAnswered τ H left ev.End has.0 None d × Sees now (ledger_by τ H d)
   MayEnd (Script line) told behind has = Sees now H
   MayEnd TooLong told behind has = Sees now H
 
@@ -153,17 +155,19 @@ module _ (τ : Tariff) (H : Ledger) (left : List ℕ) (now : Audit) where
   IsWrong e due told (has_line answer behind line) = IsUntold τ H e left answer now due
   IsWrong e due told (has_front one) = IsUnbegun τ H e left told now due
 
-  -- What the verdict says where it falls: the end may be so; what the report ends with may be the front of the line of a reply, and the auditor sees the ledger in which
-  -- a node lost its power in the event, if one may; or the event may not get what the report has.
+  -- What the verdict says where it falls: the end may be so; the next event brings nothing forged, and what the report ends with may be the front of the line of a
+  -- reply, and the auditor sees the ledger in which a node lost its power in the event, if one may; it brings nothing forged, and may not get what the report
+  -- has; or it brings something forged.
   abbrev pub IsSo : (number : ℕ) (rest : List (List ℕ)) (told : List ℕ) (v : Verdict) → FallsAt number rest told v → Type 0
   IsSo number rest told (Lawful end) at = MayEnd end told [] at.report
   IsSo number rest told (More n) at = MayEnd at.1 told at.2 at.3.report
-  IsSo number rest told (Stopped n) at = (Unforged at.1 H → IsBegun τ H at.1 left told now) × IsLeftOpen τ H at.1 at.2
-  IsSo number rest told (Wrong n due) at = Unforged at.1 H → IsWrong at.1 due told at.3
+  IsSo number rest told (Stopped n) at = Unforged at.1 H × IsBegun τ H at.1 left told now × IsLeftOpen τ H at.1 at.2
+  IsSo number rest told (Wrong n due) at = Unforged at.1 H × IsWrong at.1 due told at.3
+  IsSo number rest told (Forged n) at = (Unforged at.1 H → ⊥) × Sees now H
   IsSo number rest told Memory at = Unit {0}
 
 -- WHAT AN AUDIT SAYS of a script, its report and the rates: how far the two were paired and where the verdict falls; and for each history that the auditor
--- sees as the run begins, by a tariff of texts, that the pairs may be so, as far as no event brings anything forged, and what the verdict says there.
+-- sees as the run begins, by a tariff of texts, that the pairs may be so, and what the verdict says there.
 pub record Says (v : Verdict) (script report rates : List ℕ) (old new : Audit) : Type 0 where
   pub pairs : List Pair
   pub rest : List (List ℕ)

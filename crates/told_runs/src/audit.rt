@@ -15,7 +15,7 @@ use desk_runs::ended_by;
 use script_text::laws::one_reply;
 use script_text::{is_skipped, read_event};
 use std::alloc::Global;
-use told_bench::{Auditor, Finding, judge};
+use told_bench::{Auditor, Finding, is_forged, judge};
 
 /// The most lines of a script that are looked at.
 const LINES: u32 = 1_000_000;
@@ -73,6 +73,9 @@ fn hear(
     ensures turns { (script line : List ℕ) → BeginsWith script line taken event.now
         → TurnsSo number script report.now rates.now (audit_of auditor.old) (audit_of auditor.new) imprints.old.items imprints.new.items result }
 {
+    if is_forged(auditor, event) {
+        return Err(Verdict::Forged(number));
+    }
     let Some(end) = line_end(report) else {
         return Err(stopped(alloc, auditor, imprints, number, event, report, rates));
     };
@@ -147,8 +150,8 @@ fn turn(
 /// The auditor begins the run, and has behind it what the verdict says of the lines that were paired; so runs are audited in order over one auditor.
 ///
 /// What the printer was given in the lines that were paired is put behind the imprints, and what is open of it where the run was stopped. A stop is told as one in
-/// which a node lost its power, where that may come, so that a run over what was kept may be audited next. It is said of each line whose event brings nothing forged,
-/// up to the first that does.
+/// which a node lost its power, where that may come, so that a run over what was kept may be audited next. No answer is judged of an event that brings forged
+/// bytes: the audit ends there.
 pub fn audit_run(
     alloc: Global,
     auditor: &mut Auditor,

@@ -1,4 +1,6 @@
 //! Audits of the ordinary path over blank nodes, with its report as it is and altered.
+ghost use Rattle.told_bench.specs.Seeing.{IsReady, audit_of};
+
 use crate::{Ending, Imprint, Verdict, audit_run};
 use bench_base::events::Reply;
 use script_text::{Line, put_reply};
@@ -92,6 +94,7 @@ enum Due {
     Bad(u32),
     Stopped(u32),
     Wrong(u32, &'static str),
+    Forged(u32),
     More(u32),
 }
 
@@ -108,6 +111,7 @@ fn is_said(verdict: &Verdict, due: &Due) -> bool {
         (Verdict::Stopped(line), Due::Stopped(number)) => *line == *number,
         (Verdict::Wrong(line, reply), Due::Wrong(number, text)) => *line == *number
             && has_text(reply, text),
+        (Verdict::Forged(line), Due::Forged(number)) => *line == *number,
         (Verdict::More(line), Due::More(number)) => *line == *number,
         (_, _) => false,
     }
@@ -130,6 +134,32 @@ fn report_with(alloc: Global, number: usize, text: &str) -> Result<Vec<u8>, Fail
     Ok(report)
 }
 
+// Audits a run behind those that the auditor has.
+fn says_behind(
+    rt: &impl Abort,
+    alloc: Global,
+    auditor: &mut Auditor,
+    script: &str,
+    report: &[u8],
+    due: &Due,
+    row: &str,
+) -> Result<(), Fail>
+    requires ready { IsReady (audit_of auditor.old) }
+    ensures ready { IsReady (audit_of auditor.new) }
+{
+    let mut imprints: Vec<Imprint> = Vec::new(alloc);
+    let verdict = audit_run(
+        alloc,
+        auditor,
+        script.as_bytes(),
+        report,
+        RATES.as_bytes(),
+        &mut imprints,
+    );
+    assert!(rt; is_said(&verdict, due), "{row}");
+    Ok(())
+}
+
 fn says(
     rt: &impl Abort,
     alloc: Global,
@@ -139,17 +169,7 @@ fn says(
     row: &str,
 ) -> Result<(), Fail> {
     let mut auditor = Auditor::new(alloc)?;
-    let mut imprints: Vec<Imprint> = Vec::new(alloc);
-    let verdict = audit_run(
-        alloc,
-        &mut auditor,
-        script.as_bytes(),
-        report,
-        RATES.as_bytes(),
-        &mut imprints,
-    );
-    assert!(rt; is_said(&verdict, due), "{row}");
-    Ok(())
+    says_behind(rt, alloc, &mut auditor, script, report, due, row)
 }
 
 #[test]
@@ -359,4 +379,94 @@ fn scripts_end(rt: HostRuntime) -> Result<(), Fail> {
         says(&rt, alloc, script, report.as_bytes(), &due, report)?;
     }
     Ok(())
+}
+
+/// A device asks to be enrolled.
+const ENROLS: &str = "day 2026-03-01\n\
+    on centre\n\
+    on d1\n\
+    make d1 0101010101010101010101010101010101010101010101010101010101010101\n\
+    register d1 94105 0101010101010101010101010101010101010101010101010101010101010101\n\
+    customer 1\n\
+    deposit 1 1 100000\n\
+    ask d1 enrol 1\n";
+
+const ENROLLED: &str = "day 20513\n\
+    up centre commits 0\n\
+    up d1 commits 0\n\
+    made d1\n\
+    registered d1\n\
+    opened 1\n\
+    deposited 1 1 new 100000\n\
+    sent d1 request 1 msg 0\n";
+
+/// The Reply that grants it, and one of another origin with its right code; and a Release of a mark that was never released.
+const GRANTED: &str =
+    "02020000000100000001010000000000000000000000000000016f99352ddf461a00161b609e915f9073105ab38e2059ab4b082b43d73dbe44492299";
+
+const FORGED: &str =
+    "02020000000100000001010000000000000000000000000000016f9aadebc51d0a7380a0fab311537eaa101bdb6c12d4a357e69d1fd8fd310ce8da59";
+
+const RELEASE: &str =
+    "011102010000000000000000000000000000000000000000000000000000000000000000000000000000000000000000000000000000000000000000000000000000";
+
+// The script or report with this behind it.
+fn joined(alloc: Global, front: &str, line: &str, bytes: &str) -> Result<String, Fail> {
+    let mut text = String::new(alloc);
+    text.push_str(front)?;
+    text.push_str(line)?;
+    text.push_str(bytes)?;
+    text.push('\n')?;
+    Ok(text)
+}
+
+#[test]
+fn forged_bytes_are_found(rt: HostRuntime) -> Result<(), Fail> {
+    let alloc = rt.alloc();
+    let rows: [(&str, &str, &str); 3] = [
+        ("give d1 ", FORGED, "applied d1 1 verdict 0"),
+        ("give d1 ", GRANTED, "applied d1 1 verdict 0"),
+        ("give host ", RELEASE, "off host"),
+    ];
+    for row in rows {
+        let (line, bytes, told) = row;
+        let script = joined(alloc, ENROLS, line, bytes)?;
+        let report = joined(alloc, ENROLLED, told, "")?;
+        says(
+            &rt,
+            alloc,
+            script.as_str(),
+            report.as_bytes(),
+            &Due::Forged(9),
+            bytes,
+        )?;
+    }
+    Ok(())
+}
+
+#[test]
+fn what_an_earlier_run_sent_is_not_forged(rt: HostRuntime) -> Result<(), Fail> {
+    let alloc = rt.alloc();
+    let mut auditor = Auditor::new(alloc)?;
+    let script = joined(alloc, ENROLS, "deliver 0\nend", "")?;
+    let report = joined(alloc, ENROLLED, "ruled d1 1 verdict 0 new msg 1\nend", "")?;
+    says_behind(
+        &rt,
+        alloc,
+        &mut auditor,
+        script.as_str(),
+        report.as_bytes(),
+        &Due::Done,
+        "sent",
+    )?;
+    let script = joined(alloc, "day 2026-03-02\non d1\ngive d1 ", GRANTED, "\nend")?;
+    says_behind(
+        &rt,
+        alloc,
+        &mut auditor,
+        script.as_str(),
+        "day 20514\nup d1 commits 2\napplied d1 1 verdict 0\nend\n".as_bytes(),
+        &Due::Done,
+        "given again",
+    )
 }

@@ -23,6 +23,9 @@ pub enum Verdict {
     /// The lines before the line of this number may be so, but its event may get no reply of the line that the report has, nor one whose line begins
     /// with what it ends with. This was the answer.
     Wrong(u32, Reply),
+    /// The lines before the line of this number may be so, and its event brings forged bytes: with the right code of whoever they name, or as a mark
+    /// for the host, and not sent or released in any run before. What the report has for it is not looked at.
+    Forged(u32),
     /// The script ends at the line of this number, and the report goes on behind.
     More(u32),
     /// There was no memory, for rates or for a message.

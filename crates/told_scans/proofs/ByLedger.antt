@@ -1,5 +1,5 @@
 -- What is judged of a line by what is seen of the verifier is so by the ledger.
-use Rattle.std.proofs.Common.{◌≢◌, ℕ, ℤ, List, Option, Result, Ok, Err, refl}
+use Rattle.std.proofs.Common.{◌≢◌, ℕ, ℤ, List, Option, None, Result, Ok, Err, refl}
 use Rattle.std.specs.Prelude.{IfSome}
 use Rattle.bench_base.specs.declared.words.Node.TheVariants.{Verifier}
 use Rattle.bench_base.specs.declared.events.Reply.{Reply}
@@ -12,12 +12,15 @@ use Rattle.bench_views.specs.Verifier.{verifier_kind, verifier_act, IsKnown, Are
 use Rattle.bench_views.specs.Follows.{VerifierFollows}
 use Rattle.bench_views.specs.Kinds.{bench_kinds}
 use Rattle.told_nodes.specs.Judged.{Judged}
-use Rattle.told_views.proofs.Lifted.{IsByActs, lifts_so, lifts_never}
+use Rattle.told_views.proofs.Lifted.{IsByActs, AreUnreleasing, asked_releases, lifts_so, lifts_never}
 use Rattle.told_scans.specs.Verdicts.{plan_in, commit_in, IsByLedger}
-use Rattle.told_scans.proofs.Fitting.{call_plain}
+use Rattle.told_scans.proofs.Fitting.{call_plain, call_releases}
 
 by_acts : IsByActs counting verifier_kind Verifier tt
 by_acts today v call = (verifier_act today call v.state, refl, call_plain today call v.state)
+
+unreleasing : AreUnreleasing counting verifier_kind Verifier tt
+unreleasing today v call = (verifier_act today call v.state, refl, call_releases today call v.state)
 
 no_rates : (asked : Asked VerifierCall) → take.Verifier asked ≢ take.Rates
 no_rates asked is = cc
@@ -25,6 +28,6 @@ no_rates asked is = cc
 pub by_ledger : (today : ℤ) (asked : Asked VerifierCall) (line : List ℕ) (v w : View Seen) (result : Result (Option (List ℕ)) Reply) → VerifierFollows counting bench_kinds IsKnown
     → IsKnown v.state → IfSome (commit_in today asked v) (λ x. IsKnown x.1) → Judged counting Verifier v (plan_in today asked v) (commit_in today asked v) line w result → IsByLedger today asked line v w result
 by_ledger today asked line v w (Ok sent) law known next judged τ H e history unforged day whole asks ranged seen =
-    (judged.0, lifts_so counting verifier_kind Verifier tt by_acts take.Verifier no_rates AreBytes IsKnown law today asked line v w known next sent judged.0 judged.1 τ H e history unforged day whole asks ranged seen)
+    (judged.0, lifts_so counting verifier_kind Verifier tt by_acts take.Verifier no_rates AreBytes IsKnown law today asked line v w known next sent None judged.0 judged.1 (asked_releases counting verifier_kind Verifier tt unreleasing today asked v judged.0) τ H e history unforged day whole asks ranged seen)
 by_ledger today asked line v w (Err due) law known next judged τ H e history unforged day whole asks ranged seen =
     lifts_never counting verifier_kind Verifier tt by_acts take.Verifier no_rates AreBytes IsKnown law today asked line v w known next due judged τ H e history unforged day whole asks ranged seen

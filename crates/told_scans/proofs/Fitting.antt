@@ -24,6 +24,7 @@ use Rattle.bench_views.specs.declared.calls.VerifierCall.{VerifierCall}
 use Rattle.bench_views.specs.declared.calls.VerifierCall.TheVariants as call
 use Rattle.bench_views.specs.Verifier.{IsKnown, verifier_act}
 use Rattle.told_nodes.specs.Judged.{PrintsNone}
+use Rattle.told_nodes.specs.Giving.{released_as, ReleasesNone}
 use Rattle.told_nodes.specs.Seats.{FitsAct}
 use Rattle.told_scans.specs.Records.{IsRanged}
 use Rattle.told_scans.proofs.Kept.{few_put}
@@ -72,6 +73,16 @@ call_plain today (call.Scan c) s = plain_says _ (λ a. refl) (acts.scan_act c.nu
 pub call_prints : (today : ℤ) (c : VerifierCall) (s : Seen) → PrintsNone (verifier_act today c s)
 call_prints today (call.Trust c) s = prints_none _ (λ a j is. cc) (acts.trust_act c.device c.key s)
 call_prints today (call.Scan c) s = prints_none _ (λ a j is. cc) (acts.scan_act c.number c.bytes today s)
+
+-- it releases nothing
+unreleased_says : {A : Type 0} (say : A → Said) → ((a : A) → released_as (say a).given ≡ None) → (act : ScanAct A) → ReleasesNone (saying r.ScanRefused say act)
+unreleased_says say says (Refuse x) = tt
+unreleased_says say says (Tell a) = says a
+unreleased_says say says (Commits c x a) = says a
+
+pub call_releases : (today : ℤ) (c : VerifierCall) (s : Seen) → ReleasesNone (verifier_act today c s)
+call_releases today (call.Trust d key) s = unreleased_says _ (λ a. refl) (acts.trust_act d key s)
+call_releases today (call.Scan n bytes) s = unreleased_says _ (λ a. refl) (acts.scan_act n bytes today s)
 
 -- == the record after it ==
 

@@ -121,8 +121,8 @@ impl ScanRecord {
         })
     }
 
-    // The key under which marks of the device are trusted.
-    fn key(&self, device: u32) -> Option<&ReadyKey>
+    /// The key under which marks of the device are trusted.
+    pub fn key(&self, device: u32) -> Option<&ReadyKey>
         ensures { option_copied result ≡ seen.key_at (cells_of self.now) device }
     {
         if device == 0 {

@@ -1,5 +1,5 @@
 -- What a line of the report tells of an event of one node, by the ledger.
-use Rattle.std.specs.Prelude.{◌≡◌, ◌≢◌, ℕ, ℤ, List, [], ◌∷◌, ◌++◌, Option, Some, None}
+use Rattle.std.specs.Prelude.{◌≡◌, ◌≢◌, ◌⊎◌, ◌↔◌, ℕ, ℤ, List, [], ◌∷◌, ◌++◌, Option, Some, None}
 use Rattle.bench_base.specs.declared.words.Node.{Node}
 use Rattle.bench_base.specs.declared.ledger.Commit.{Commit}
 use Rattle.bench_base.specs.declared.events.Event.{Event}
@@ -7,7 +7,7 @@ use Rattle.bench_base.specs.declared.events.Reply.{Reply}
 use Rattle.bench_base.specs.Plans.{Plan}
 use Rattle.bench_base.specs.Ranges.{IsWholeEvent}
 use Rattle.bench_base.specs.Rules.{todays_rules, editions}
-use Rattle.bench_base.specs.Ledger.{Ledger, day_in}
+use Rattle.bench_base.specs.Ledger.{Ledger, day_in, IsSent, IsReleased}
 use Rattle.node_acts.specs.declared.asked.Asked.{Asked}
 use Rattle.node_acts.specs.Views.{Counting, View}
 use Rattle.node_acts.specs.Kinds.{Kind, view_in, node_plan, node_commit}
@@ -32,6 +32,11 @@ listed (Some bytes) = bytes ∷ []
 abbrev pub behind : Tariff → Ledger → Event → Reply → Ledger
 behind τ H e reply = entries τ todays_rules H e [] reply
 
+-- what was sent and released at L, in any run, is what was at H, and this message and this mark, if there are any
+pub record Adds (sent released : Option (List ℕ)) (H L : Ledger) : Type 0 where
+  pub sends : (bytes : List ℕ) → IsSent bytes L ↔ ((sent ≡ Some bytes) ⊎ IsSent bytes H)
+  pub releases : (mark : List ℕ) → IsReleased mark L ↔ ((released ≡ Some mark) ⊎ IsReleased mark H)
+
 -- Node m, which is d of its kind.
 module _ {N S X C : Type 0} (n : Counting S X) (kind : Kind N S C) (m : Node) (d : N) where
   -- the plan of what it is asked on a day, and the commit, by what is seen of it
@@ -44,7 +49,7 @@ module _ {N S X C : Type 0} (n : Counting S X) (kind : Kind N S C) (m : Node) (d
   module _ (τ : Tariff) (H : Ledger) (e : Event) (line : List ℕ) where
     -- The line is that of this reply, which the event may get at this ledger: the node is seen so at the ledger that it leaves, all
     -- else is as it was but for what was sent, and any other reply that the event may get with that line leaves the same ledger.
-    pub record MovesSo (w : View S) (sent : Option (List ℕ)) (reply : Reply) : Type 0 where
+    pub record MovesSo (w : View S) (sent released : Option (List ℕ)) (reply : Reply) : Type 0 where
       pub text : text_of reply ≡ line
       pub whole : IsWholeReply reply
       pub moves : Moves τ todays_rules H e [] reply
@@ -52,6 +57,7 @@ module _ {N S X C : Type 0} (n : Counting S X) (kind : Kind N S C) (m : Node) (d
       pub others : OthersStay bench_kinds m H (behind τ H e reply)
       pub rests : Rests H (behind τ H e reply)
       pub sends : sent_in (behind τ H e reply) ≡ sent_in H ++ listed sent
+      pub adds : Adds sent released H (behind τ H e reply)
       pub alone : (other : Reply) → Moves τ todays_rules H e [] other → text_of other ≡ line → behind τ H e other ≡ behind τ H e reply
 
     -- no reply that the event may get at this ledger has this line; this was the answer

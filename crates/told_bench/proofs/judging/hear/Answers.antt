@@ -127,7 +127,7 @@ returns-in-Some-today-2-clause-judged c τ H texts history unforged sees =
     let b = c.in-Device in
     let is = taken_as old.messages c.deref.result.now (quote old.rates) c.args.event.now c.take-found.result c.in-Some.taken (take.Device b.device b.asked) c.deref.ensures.value c.take-found.ensures.exact c.in-Some.is b.is in
     let heard = hears_device old c.args.event.now c.prices_by_text.ensures.kept c.requires.whole c.in-Some-today-2.day c.in-Some-today-2.is c.args.left.now c.args.line.now τ H texts history unforged sees b.device b.asked is c.device_in_place.new.devices.items c.device_in_place.result c.device_in_place.ensures.judged in
-    subst (λ (x : Result Heard Finding). IsHeard τ H c.args.event.now c.args.left.now c.args.line.now (record old { devices = c.device_in_place.new.devices.items }) x) (sym c.of_node.ensures) heard
+    subst (λ (x : Result Heard Finding). IsHeard τ H c.args.event.now c.args.left.now c.args.line.now (record old { devices = c.device_in_place.new.devices.items }) x) (sym c.of_device.ensures) heard
 
 pub returns-in-Some-today-3-clause-judged : goal.returns-in-Some-today-3-clause-judged
 returns-in-Some-today-3-clause-judged c τ H texts history unforged sees =
@@ -135,7 +135,7 @@ returns-in-Some-today-3-clause-judged c τ H texts history unforged sees =
     let b = c.in-Centre in
     let is = taken_as old.messages c.deref.result.now (quote old.rates) c.args.event.now c.take-found.result c.in-Some.taken (take.Centre b.asked) c.deref.ensures.value c.take-found.ensures.exact c.in-Some.is b.is in
     let heard = hears_centre old c.args.event.now c.prices_by_text.ensures.kept c.requires.whole c.in-Some-today-3.day c.in-Some-today-3.is c.args.left.now c.args.line.now τ H texts history unforged sees b.asked is c.hands_centre.ensures c.judge_centre.new.seat c.judge_centre.result c.judge_centre.ensures.by_ledger in
-    subst (λ (x : Result Heard Finding). IsHeard τ H c.args.event.now c.args.left.now c.args.line.now (record old { centre = c.judge_centre.new.seat }) x) (sym c.of_node-in-Some-today-3.ensures) heard
+    subst (λ (x : Result Heard Finding). IsHeard τ H c.args.event.now c.args.left.now c.args.line.now (record old { centre = c.judge_centre.new.seat }) x) (sym c.of_node.ensures) heard
 
 pub returns-in-Some-today-4-clause-judged : goal.returns-in-Some-today-4-clause-judged
 returns-in-Some-today-4-clause-judged c τ H texts history unforged sees =

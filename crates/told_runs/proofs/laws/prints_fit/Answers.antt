@@ -23,6 +23,6 @@ paired v script report rates old new all a end is =
     ap (λ (o : Option Given). given ++ imprint_at (length a.says.pairs + 1) o) (none_open (length a.says.pairs + 1) a.says.rest a.says.told v a.says.falls end is) ∙ append-nil given
 
 pub returns : goal.returns
-returns c = λ v script report rates old new given a end prints is printed τ H texts history seen unforged.
+returns c = λ v script report rates old new given a end prints is printed τ H texts history seen.
     fits_printed c.one_reply.ensures.law (λ r whole. from_all (text_of r) (recursion_from_All _ (text_of r) (c.one_line.ensures.law r whole))) v script report rates old new a.says τ H end prints is
-    (a.says.so τ H texts history seen) unforged (subst (λ (l : List Imprint). ArePrinted l prints) (a.prints ∙ paired v script report rates old new given a end is) printed)
+    (a.says.so τ H texts history seen) (subst (λ (l : List Imprint). ArePrinted l prints) (a.prints ∙ paired v script report rates old new given a end is) printed)

@@ -14,7 +14,7 @@ by_rows : (c : goal.After-done) → c.done.result ≡ balance_by c.args.customer
 by_rows c = search rules
 
 pub returns-clause-by_ledger : goal.returns-clause-by_ledger
-returns-clause-by_ledger c H sees = by_rows c ∙ ap (λ v. balance_by c.args.customer v.state) sees.centre
+returns-clause-by_ledger c H sees = by_rows c ∙ ap (λ v. balance_by c.args.customer v.state) sees.run.centre
 
 ranged : (c : goal.After-done) → IsCustomer c.args.customer
 ranged c = search rules
@@ -22,5 +22,5 @@ ranged c = search rules
 pub returns-clause-answered : goal.returns-clause-answered
 returns-clause-answered c today τ H history sees day on =
     let w = c.args.customer in
-    balance_answered c.nodes_follow.ensures.centre τ H w today history day on (ranged c) (subst (λ (v : View Seen). IsKnown v.state) sees.centre c.is_known.ensures)
-    ∙ ap (done_or (r.CentreRefused (no.UnknownCustomer w))) (sym (by_rows c ∙ ap (λ v. balance_by w v.state) sees.centre))
+    balance_answered c.nodes_follow.ensures.centre τ H w today history day on (ranged c) (subst (λ (v : View Seen). IsKnown v.state) sees.run.centre c.is_known.ensures)
+    ∙ ap (done_or (r.CentreRefused (no.UnknownCustomer w))) (sym (by_rows c ∙ ap (λ v. balance_by w v.state) sees.run.centre))

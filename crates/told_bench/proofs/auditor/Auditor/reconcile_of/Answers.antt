@@ -14,4 +14,4 @@ pub returns-clause-by_ledger : goal.returns-clause-by_ledger
 returns-clause-by_ledger c H sees =
     let d = c.args.device in
     device_shown (audit_of c.args.self.now) H sees d (λ v. reconcile_by d v.state (cells_of c.args.self.now.centre.record)) c.compared.result (by_view c)
-    ∙ ap (λ v. reconcile_by d (device_in d H) v.state) sees.centre
+    ∙ ap (λ v. reconcile_by d (device_in d H) v.state) sees.run.centre

@@ -1,0 +1,188 @@
+//! Whether an event brings forged bytes from outside.
+ghost use Rattle.std.specs.Prelude.{◌≡◌, Some, option_map};
+ghost use Rattle.bench_base.specs.declared.words.Node.TheVariants as n;
+ghost use Rattle.indicium.specs.Marks.{read_mark};
+ghost use Rattle.psd_wire.specs.Codes.{has_code};
+ghost use Rattle.psd_wire.specs.Grammar.{read};
+ghost use Rattle.ledger_moves.specs.Histories.{IsKnown, IsKnownMark};
+ghost use Rattle.told_centre.specs.Cells.{cells_of};
+ghost use Rattle.centre_ledger.specs.Seen.{books_in};
+ghost use Rattle.told_device.specs.Records.{seen_of};
+ghost use Rattle.told_scans.specs.Cells as scans;
+ghost use Rattle.told_bench.specs.Forging as forging;
+ghost use Rattle.told_bench.specs.Forging.{AtSeen, TellsNot, TellsForged};
+ghost use Rattle.told_bench.specs.Seeing.{IsReady, audit_of};
+ghost use Rattle.told_bench.specs.Telling.{OfDevice};
+
+use crate::auditor::Auditor;
+use crate::known::ByteSet;
+use crate::telling::seat_of;
+use bench_base::events::Event;
+use bench_base::numbers::DevNo;
+use bench_base::words::Node;
+use centre_ledger::Accounts;
+use hmac_core::ReadyKey;
+use indicium::read_indicium;
+use ledger_laws::laws::{counts, histories};
+use psd_state::ReadyRecord;
+use psd_wire::{Message, code_matches_by, read_message};
+use told_scans::ScanRecord;
+
+// Whether the last 32 bytes are the code, under the key, of all before them.
+fn has_right_code(bytes: &[u8], key: &ReadyKey) -> bool
+    ensures { result ≡ has_code key.now bytes.now }
+{
+    code_matches_by(bytes, key)
+}
+
+// Whether the bytes have the code of this key and are not known.
+fn is_unknown(bytes: &[u8], key: &ReadyKey, known: &ByteSet) -> bool
+    ensures { result ≡ forging.is_unknown bytes.now (Some key.now) known.now }
+{
+    has_right_code(bytes, key) && !known.has(bytes)
+}
+
+// Whether the bytes have the code of the device of this record and are not known.
+fn is_unknown_of(state: &Option<ReadyRecord>, bytes: &[u8], known: &ByteSet) -> bool
+    ensures { result ≡ forging.is_unknown bytes.now (option_map (λ s. s.key) state.now) known.now }
+{
+    match state {
+        Some(state) => is_unknown(bytes, &ReadyKey::new(state.record().key()), known),
+        None => false,
+    }
+}
+
+// Whether bytes that name this device have the code of its row and are not known.
+fn is_forged_by(accounts: &Accounts, device: u32, bytes: &[u8], known: &ByteSet) -> bool
+    ensures { result ≡ forging.forged_by accounts.now device bytes.now known.now }
+{
+    let Some(device) = DevNo::new(device) else {
+        return false;
+    };
+    match accounts.ready(device.get()) {
+        Some(row) => is_unknown(bytes, row.key(), known),
+        None => false,
+    }
+}
+
+// Whether bytes that are given to this device are a forged Reply.
+fn is_forged_reply(auditor: &Auditor, device: DevNo, bytes: &[u8]) -> bool
+    requires ready { IsReady (audit_of auditor.now) }
+    ensures { OfDevice device (audit_of auditor.now) (λ s. result ≡ forging.forged_reply (seen_of s.record).state device bytes.now (audit_of auditor.now).known.sent (read bytes.now)) }
+{
+    let seat = seat_of(&auditor.devices, device);
+    match &read_message(bytes) {
+        Ok(Message::Reply(reply)) => reply.device == device.get()
+            && is_unknown_of(&seat.record.state, bytes, &auditor.known.sent),
+        Ok(Message::Request(_))
+        | Ok(Message::Done(_))
+        | Ok(Message::Debit(_))
+        | Ok(Message::Release(_))
+        | Err(_) => false,
+    }
+}
+
+// Whether bytes that are given to the centre are a forged Request or a forged Done.
+fn is_forged_message(accounts: &Accounts, bytes: &[u8], known: &ByteSet) -> bool
+    ensures { result ≡ forging.forged_message accounts.now bytes.now known.now (read bytes.now) }
+{
+    match &read_message(bytes) {
+        Ok(Message::Request(request)) => is_forged_by(accounts, request.device, bytes, known),
+        Ok(Message::Done(done)) => is_forged_by(accounts, done.device, bytes, known),
+        Ok(Message::Reply(_)) | Ok(Message::Debit(_)) | Ok(Message::Release(_)) | Err(_) => false,
+    }
+}
+
+// Whether bytes that are given to the host are a forged Release: it has no key, so each that was not released is.
+fn is_forged_release(bytes: &[u8], known: &ByteSet) -> bool
+    ensures { result ≡ forging.forged_release known.now (read bytes.now) }
+{
+    match &read_message(bytes) {
+        Ok(Message::Release(mark)) => !known.has(&mark[..]),
+        Ok(Message::Request(_))
+        | Ok(Message::Done(_))
+        | Ok(Message::Debit(_))
+        | Ok(Message::Reply(_))
+        | Err(_) => false,
+    }
+}
+
+// Whether scanned bytes are a forged mark.
+fn is_forged_mark(rows: &ScanRecord, bytes: &[u8], known: &ByteSet) -> bool
+    ensures { result ≡ forging.forged_mark (scans.cells_of rows.now) bytes.now known.now (read_mark bytes.now) }
+{
+    match &read_indicium(bytes) {
+        Ok((mark, _)) => match rows.key(mark.device) {
+            Some(key) => is_unknown(bytes, key, known),
+            None => false,
+        },
+        Err(_) => false,
+    }
+}
+
+// Whether bytes that are given to this node are forged.
+fn gives_forged(auditor: &Auditor, node: &Node, bytes: &[u8]) -> bool
+    requires ready { IsReady (audit_of auditor.now) }
+    ensures { AtSeen (audit_of auditor.now) (λ H. TellsNot result (IsKnown bytes.now (read bytes.now) node.now H)) }
+{
+    // The devices in a history are eight.
+    histories();
+    counts();
+    match node {
+        Node::Device(device) => is_forged_reply(auditor, *device, bytes),
+        Node::Centre => is_forged_message(
+            auditor.centre.record.accounts(),
+            bytes,
+            &auditor.known.sent,
+        ),
+        Node::Host => is_forged_release(bytes, &auditor.known.released),
+        Node::Verifier => false,
+    }
+}
+
+// Whether scanned bytes are forged.
+fn scans_forged(auditor: &Auditor, bytes: &[u8]) -> bool
+    ensures { AtSeen (audit_of auditor.now) (λ H. TellsNot result (IsKnownMark bytes.now (read_mark bytes.now) H)) }
+{
+    // The devices in a history are eight.
+    histories();
+    counts();
+    is_forged_mark(&auditor.verifier.record, bytes, &auditor.known.released)
+}
+
+/// Whether the event brings something forged: bytes of a `give` or of a `scan hex` that have the right code of whoever they name and that
+/// no node sent, or released, in any run before; or a mark for the host, which has no key, that was not released.
+pub fn is_forged(auditor: &Auditor, event: &Event) -> bool
+    requires ready { IsReady (audit_of auditor.now) }
+    ensures { TellsForged (audit_of auditor.now) event.now result }
+{
+    match event {
+        Event::Give(node, bytes) => gives_forged(auditor, node, bytes.as_slice()),
+        Event::ScanHex(_, bytes) => scans_forged(auditor, bytes.as_slice()),
+        Event::Day(_)
+        | Event::Rates
+        | Event::Make(_, _)
+        | Event::On(_)
+        | Event::Off(_)
+        | Event::Cut(_, _, _, _)
+        | Event::Debit(_, _, _, _)
+        | Event::Ask(_, _, _, _)
+        | Event::Resend(_)
+        | Event::Ack(_)
+        | Event::Status(_)
+        | Event::Register(_, _, _)
+        | Event::OpenCustomer(_)
+        | Event::Deposit(_, _, _)
+        | Event::Flag(_, _)
+        | Event::Balance(_)
+        | Event::Deliver(_)
+        | Event::Order(_, _, _, _, _)
+        | Event::Send(_)
+        | Event::Print(_)
+        | Event::Close(_)
+        | Event::Trust(_, _)
+        | Event::ScanMsg(_, _)
+        | Event::Reconcile(_)
+        | Event::End => false,
+    }
+}
