@@ -28,7 +28,7 @@ use Rattle.node_turns.specs.Printing.{PrinterDid, print_of}
 use Rattle.host_rates.specs.Laws.{KeptPrices}
 use Rattle.ledger_moves.specs.Tariffs.{Tariff}
 use Rattle.ledger_moves.specs.Moves as ledger
-use Rattle.ledger_moves.specs.Moves.{plan, price_by}
+use Rattle.ledger_moves.specs.Moves.{plan}
 use Rattle.bench_views.specs.declared.taken.Taken.{Taken}
 use Rattle.bench_views.specs.declared.taken.Taken.TheVariants as take
 use Rattle.bench_views.specs.Tariff.{quote}

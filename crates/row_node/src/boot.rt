@@ -1,5 +1,5 @@
 //! A node of rows out of its storage.
-ghost use Rattle.std.specs.Prelude.{◌≡◌, ◌≢◌, OnOk, OnErr, IsErrOf, Err, false, is_ok};
+ghost use Rattle.std.specs.Prelude.{◌≡◌, ◌≢◌, OnOk, IsErrOf, Err, false, is_ok};
 ghost use Rattle.nv_store.specs.RoomView.{cells_of, kept_in};
 ghost use Rattle.nv_store.specs.Rooms.{RoomRuns};
 ghost use Rattle.node_seat.specs.Does.{Reads, Spends};

@@ -1,12 +1,11 @@
 //! A node of rows, on or off.
-ghost use Rattle.std.specs.Prelude.{◌≡◌, ◌<◌, OnErr, IsErrOf, true, false, is_ok};
+ghost use Rattle.std.specs.Prelude.{◌≡◌, ◌<◌, true, false};
 ghost use Rattle.nv_model.specs.Meters.{Restarts};
 ghost use Rattle.nv_store.specs.RoomView.{cells_of, kept_in};
 ghost use Rattle.nv_store.specs.Rooms.{RoomRuns};
-ghost use Rattle.node_seat.specs.Does.{Reads, Commits, Stores, Writes};
+ghost use Rattle.node_seat.specs.Does.{Reads};
 ghost use Rattle.node_acts.specs.RowList.{is_worn};
-ghost use Rattle.node_seat.specs.Ends.{begins, end_of_commit, leaves_running};
-ghost use Rattle.row_node.specs.Tables.{Filled, IsShown, bytes_of, counting, fill_of};
+ghost use Rattle.row_node.specs.Tables.{Filled, bytes_of, counting};
 ghost use Rattle.row_node.specs.Unique.{filled_one};
 
 use crate::cells::Cells;

@@ -64,12 +64,12 @@ then_ok P Q follows (Err e) is = tt
 
 module _ (τ : Tariff) (H : Ledger) (e : Event) (left : List ℕ) (m : Node) (named : IsNode m) where
   -- the line of a lost power was heard
-  pub power_told : ((x y : Reply) → IsWholeReply x → IsWholeReply y → text_of x ≡ text_of y → told x ≡ told y) → (line : List ℕ) → line ≡ text_of (r.Power m) → (a b : Audit) (reply : Reply)
-      → IsTold τ H e left line a reply → b ≡ a → CutsAt τ H e left m b true
-  power_told one line line_is a b reply t same =
+  pub power_told : ((x y : Reply) → IsWholeReply x → IsWholeReply y → text_of x ≡ text_of y → told x ≡ told y) → (line : List ℕ) → line ≡ text_of (r.Power m) → (a : Audit) (reply : Reply)
+      → IsTold τ H e left line a reply → CutsAt τ H e left m a true
+  power_told one line line_is a reply t =
       let is : reply ≡ r.Power m = power_back reply m (one reply (r.Power m) t.whole named (t.text ∙ line_is)) in (
         subst (λ (x : Reply). MayGet τ H e left [] x) is t.moves,
-        subst (λ (x : Reply). Sees b (ledger_with τ H e left [] x)) is (subst (λ (z : Audit). Sees z (ledger_with τ H e left [] reply)) (sym same) t.sees),
+        subst (λ (x : Reply). Sees a (ledger_with τ H e left [] x)) is t.sees,
       )
 
   pub cuts_asked : (front : List ℕ) (comes : Bool) (now : Audit) → Asks front comes m → (b : Bool) → CutsAt τ H e left m now b → CutsThere τ H e left front comes m now b

@@ -6,7 +6,6 @@ ghost use Rattle.psd_wire.specs.Codes.{has_code};
 ghost use Rattle.psd_wire.specs.Grammar.{read};
 ghost use Rattle.ledger_moves.specs.Histories.{IsKnown, IsKnownMark};
 ghost use Rattle.told_centre.specs.Cells.{cells_of};
-ghost use Rattle.centre_ledger.specs.Seen.{books_in};
 ghost use Rattle.told_device.specs.Records.{seen_of};
 ghost use Rattle.told_scans.specs.Cells as scans;
 ghost use Rattle.told_bench.specs.Forging as forging;

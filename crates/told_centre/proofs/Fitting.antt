@@ -109,12 +109,12 @@ took_releases k (answer.Ruled d n v note again) = refl
 took_releases k (answer.Settled d n again) = refl
 
 pub call_releases : (c : CentreCall) (b : Books) → ReleasesNone (centre_act c b)
-call_releases (call.Register d origin key) b = unreleased_says _ (λ a. refl) (acts.register_act d origin key b)
-call_releases (call.Open w) b = unreleased_says _ (λ a. refl) (acts.open_act w b)
-call_releases (call.Deposit w n a) b = unreleased_says _ (λ x. refl) (acts.deposit_act w n a b)
-call_releases (call.Flag w flag) b = unreleased_says _ (λ a. refl) (acts.flag_act w flag b)
-call_releases (call.Balance w) b = unreleased_says _ (λ a. refl) (acts.balance_act w b)
-call_releases (call.Take bytes k) b = unreleased_says _ (took_releases k) (acts.take_act bytes b)
+call_releases (call.Register c) b = unreleased_says _ (λ a. refl) (acts.register_act c.device c.origin c.key b)
+call_releases (call.Open c) b = unreleased_says _ (λ a. refl) (acts.open_act c.customer b)
+call_releases (call.Deposit c) b = unreleased_says _ (λ x. refl) (acts.deposit_act c.customer c.receipt c.amount b)
+call_releases (call.Flag c) b = unreleased_says _ (λ a. refl) (acts.flag_act c.customer c.suspended b)
+call_releases (call.Balance c) b = unreleased_says _ (λ a. refl) (acts.balance_act c.customer b)
+call_releases (call.Take c) b = unreleased_says _ (took_releases c.message) (acts.take_act c.bytes b)
 
 -- == the record after it ==
 

@@ -79,11 +79,11 @@ unreleased_says say says (Tell a) = says a
 unreleased_says say says (Commits c x a) = says a
 
 pub call_releases : (c : HostCall) (b : Jobs) → ReleasesNone (host_act c b)
-call_releases (call.Order d piece class grams zone price) b = unreleased_says _ (λ x. refl) (acts.order_act d piece class price b)
-call_releases (call.Send j k) b = unreleased_says _ (λ x. refl) (acts.debit_message_act j b)
-call_releases (call.Print j) b = unreleased_says _ (λ x. refl) (acts.begin_print_act j b)
-call_releases (call.Close j) b = unreleased_says _ (λ x. refl) (acts.close_act j b)
-call_releases (call.Take bytes) b = unreleased_says _ (λ x. refl) (acts.take_act bytes b)
+call_releases (call.Order c) b = unreleased_says _ (λ x. refl) (acts.order_act c.device c.piece c.class c.price b)
+call_releases (call.Send c) b = unreleased_says _ (λ x. refl) (acts.debit_message_act c.job b)
+call_releases (call.Print c) b = unreleased_says _ (λ x. refl) (acts.begin_print_act c.job b)
+call_releases (call.Close c) b = unreleased_says _ (λ x. refl) (acts.close_act c.job b)
+call_releases (call.Take c) b = unreleased_says _ (λ x. refl) (acts.take_act c.bytes b)
 
 -- == the record after it ==
 

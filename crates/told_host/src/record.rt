@@ -1,5 +1,5 @@
 //! The record of the host, with the count of each of its cells.
-ghost use Rattle.std.specs.Prelude.{◌≡◌, ◌<◌, [], false, length, IfOk};
+ghost use Rattle.std.specs.Prelude.{◌≡◌, ◌<◌, [], false, IfOk};
 ghost use Rattle.node_acts.specs.RowList.{commits_at, is_worn, put};
 ghost use Rattle.host_jobs.specs.Records.{seen_after};
 ghost use Rattle.host_jobs.specs.Seen as host;

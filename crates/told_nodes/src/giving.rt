@@ -1,6 +1,5 @@
 //! Whether a line of the report can be the reply to a call of a node that may give out a mark.
 ghost use Rattle.std.specs.Prelude.{◌≡◌};
-ghost use Rattle.node_acts.specs.Acts.{MayCome};
 ghost use Rattle.node_acts.specs.Plans.{IsOfNode};
 ghost use Rattle.node_acts.specs.Said.{IsPlain};
 ghost use Rattle.told_nodes.specs.Giving as giving;

@@ -81,8 +81,8 @@ unreleased_says say says (Tell a) = says a
 unreleased_says say says (Commits c x a) = says a
 
 pub call_releases : (today : ℤ) (c : VerifierCall) (s : Seen) → ReleasesNone (verifier_act today c s)
-call_releases today (call.Trust d key) s = unreleased_says _ (λ a. refl) (acts.trust_act d key s)
-call_releases today (call.Scan n bytes) s = unreleased_says _ (λ a. refl) (acts.scan_act n bytes today s)
+call_releases today (call.Trust c) s = unreleased_says _ (λ a. refl) (acts.trust_act c.device c.key s)
+call_releases today (call.Scan c) s = unreleased_says _ (λ a. refl) (acts.scan_act c.number c.bytes today s)
 
 -- == the record after it ==
 

@@ -34,4 +34,4 @@ pub returns : goal.returns
 returns c τ H left sees due_is =
     last τ H c.args.event.now left c.args.front.now c.requires.whole c.args.due.now due_is (no_front c.begins.result c.begins.ensures.exact.1 c.if-begins.false)
     (rw c.if-begins_other_up.false at c.begins_other_up.ensures H sees) (rw c.if-begins_cut_print.false at c.begins_cut_print.ensures) c.begins_rates_fault.result
-    (subst (λ (day : Option ℤ). MatchBool c.begins_rates_fault.result (BeginsRatesFault c.args.event.now day c.args.front.now) (BeginsRatesFault c.args.event.now day c.args.front.now → ⊥)) sees.day.day c.begins_rates_fault.ensures)
+    (subst (λ (day : Option ℤ). MatchBool c.begins_rates_fault.result (BeginsRatesFault c.args.event.now day c.args.front.now) (BeginsRatesFault c.args.event.now day c.args.front.now → ⊥)) sees.run.day.day c.begins_rates_fault.ensures)

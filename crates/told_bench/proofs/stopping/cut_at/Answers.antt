@@ -1,8 +1,13 @@
-use Rattle.std.proofs.Common.{◌∙◌}
+use Rattle.std.proofs.Common.{sym, ◌∙◌, subst}
+use Rattle.told_bench.specs.Known.{Knows}
+use Rattle.told_bench.proofs.Sent.{sent_judged}
 use Rattle.told_bench.proofs.Stops.{power_told}
 use Rattle.told_bench.proofs.stopping.cut_at.Goals as goal
 
 pub returns-in-Ok-send-clause-cut : goal.returns-in-Ok-send-clause-cut
 returns-in-Ok-send-clause-cut c τ H texts history unforged sees =
-    let w = c.in-Ok.ensures.judged τ H texts history unforged sees in
-    power_told τ H c.args.event.now c.args.left.now c.args.node.now c.put_reply.ensures.whole c.one_reply.ensures.law c.as_slice.result.now (c.as_slice.ensures ∙ c.put_reply.ensures.value) _ _ w.0 w.1 c.in-Ok-send.ensures.sent.0
+    let line = c.as_slice.result.now in
+    let knows = subst (λ k. Knows k H) (sym c.hear.ensures.unlearnt) sees.known in
+    let judged = sent_judged τ H c.args.event.now c.args.left.now line c.in-Ok.heard _ _ c.send.result c.send.ensures.sent knows (rw c.in-Ok.is at c.hear.ensures.judged τ H texts history unforged sees.run) in
+    let w = rw c.in-Ok-send.is at judged in
+    power_told τ H c.args.event.now c.args.left.now c.args.node.now c.put_reply.ensures.whole c.one_reply.ensures.law line (c.as_slice.ensures ∙ c.put_reply.ensures.value) _ w.0 w.1
