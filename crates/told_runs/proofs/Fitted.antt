@@ -4,7 +4,6 @@ use Rattle.std.specs.List.{AllByRecursion}
 use Rattle.bench_base.specs.declared.events.Event.{Event}
 use Rattle.bench_base.specs.Ledger.{Ledger}
 use Rattle.ledger_moves.specs.Tariffs.{Tariff}
-use Rattle.ledger_moves.specs.Histories.{Unforged}
 use Rattle.line_runs.specs.Deeds.{Reads, report_of}
 use Rattle.line_runs.specs.Ends.{EndsAt}
 use Rattle.line_runs.specs.Lines.{ended}
@@ -87,7 +86,7 @@ module _ (τ : Tariff) (K : Ledger) (l : List ℕ) (new : Audit) (number : ℕ) 
   stopped_begins (Stopped k) falls so n is =
       let w = so.1 in
       let text = text_with τ K falls.1 l told w.reply in
-      (falls.1, falls.3, done falls.1 text w.reply [], refl, record { unforged = so.0; moves = w.may.moves; whole = w.may.whole; takes = refl }, w.may.begins)
+      (falls.1, falls.3, (done falls.1 text w.reply [], refl, record { unforged = so.0; moves = w.may.moves; whole = w.may.whole; takes = refl }, w.may.begins))
   stopped_begins (Lawful e) falls so n is = absurd (cc is)
   stopped_begins (Wrong k due) falls so n is = absurd (cc is)
   stopped_begins (Forged k) falls so n is = absurd (cc is)
