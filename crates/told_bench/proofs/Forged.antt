@@ -3,6 +3,7 @@ use Rattle.std.proofs.Common.{◌≡◌, ◌≢◌, ◌↔◌, ℕ, List, [], �
 use Rattle.std.specs.Prelude.{All}
 use Rattle.std.proofs.lemmas.Bool.Decides.{nat_tests}
 use Rattle.std.proofs.lemmas.List.Elements.{All-head, All-tail}
+use Rattle.bench_base.specs.declared.words.Node.{Node}
 use Rattle.bench_base.specs.declared.words.Node.TheVariants.{Device, Centre, Host, Verifier}
 use Rattle.bench_base.specs.declared.refusals.Unread.{Unread}
 use Rattle.bench_base.specs.declared.refusals.MarkFault.{MarkFault}
@@ -16,6 +17,7 @@ use Rattle.indicium.specs.declared.Mark.{Mark}
 use Rattle.psd_wire.specs.declared.message.Message.{Message}
 use Rattle.psd_wire.specs.declared.message.Message.TheVariants as m
 use Rattle.psd_wire.specs.Codes.{has_code}
+use Rattle.psd_wire.specs.Grammar.{read}
 use Rattle.psd_state.specs.Seen as device
 use Rattle.centre_ledger.specs.Books.{Books, device_at}
 use Rattle.centre_ledger.specs.Seen as centre
@@ -35,7 +37,7 @@ use Rattle.told_bench.specs.declared.known.ByteSet.{ByteSet}
 use Rattle.told_bench.specs.Known.{Has, has}
 use Rattle.told_bench.specs.Seeing.{Audit, Sees}
 use Rattle.told_bench.specs.Telling.{OfDevice}
-use Rattle.told_bench.specs.Forging.{is_unknown, forged_reply, forged_by, forged_message, forged_release, forged_mark, TellsNot}
+use Rattle.told_bench.specs.Forging.{is_unknown, forged_reply, forged_by, forged_message, forged_release, forged_mark, GivesForged, TellsNot}
 use Rattle.told_bench.proofs.Shown.{device_shown}
 
 -- == what is told of one is told of the other ==
@@ -182,7 +184,7 @@ release_tells bytes known H same (Ok (m.Reply p)) = tt
 release_tells bytes known H same (Ok (m.Debit q)) = tt
 release_tells bytes known H same (Err x) = tt
 
-pub verifier_tells : (bytes : List ℕ) (H : Ledger) (x : Result Message Unread) → IsKnown bytes x Verifier H
+verifier_tells : (bytes : List ℕ) (H : Ledger) (x : Result Message Unread) → IsKnown bytes x Verifier H
 verifier_tells bytes H (Ok (m.Release x)) = tt
 verifier_tells bytes H (Ok (m.Request q)) = tt
 verifier_tells bytes H (Ok (m.Done q)) = tt
@@ -200,18 +202,24 @@ mark_tells bytes known s H same keys (Err fault) = tt
 -- == by what the auditor has ==
 
 module _ (a : Audit) (H : Ledger) (sees : Sees a H) (bytes : List ℕ) (x : Result Message Unread) where
-  pub told_reply : (d : ℕ) (b : Bool) → OfDevice d a (λ s. b ≡ forged_reply (seen_of s.record).state d bytes a.known.sent x) → TellsNot b (IsKnown bytes x (Device d) H)
+  told_reply : (d : ℕ) (b : Bool) → OfDevice d a (λ s. b ≡ forged_reply (seen_of s.record).state d bytes a.known.sent x) → TellsNot b (IsKnown bytes x (Device d) H)
   told_reply d b of =
       let shown = device_shown a H sees d (λ (v : View device.Seen). forged_reply v.state.state d bytes a.known.sent x) b (record { place = of.place; is_device = of.is_device; seat = of.seat; at = of.at; holds = of.holds }) in
       subst (λ (t : Bool). TellsNot t (IsKnown bytes x (Device d) H)) (sym shown) (reply_tells bytes a.known.sent d H (sees.known.sent bytes) x)
 
-  pub told_message : All InRange (counted H) → (b : Bool) → b ≡ forged_message (centre.books_in (centre_cells.cells_of a.centre.record)) bytes a.known.sent x → TellsNot b (IsKnown bytes x Centre H)
+  told_message : All InRange (counted H) → (b : Bool) → b ≡ forged_message (centre.books_in (centre_cells.cells_of a.centre.record)) bytes a.known.sent x → TellsNot b (IsKnown bytes x Centre H)
   told_message range b is =
       let shown = is ∙ ap (λ (v : View centre.Seen). forged_message (centre.books_in v.state) bytes a.known.sent x) sees.run.centre in
       subst (λ (t : Bool). TellsNot t (IsKnown bytes x Centre H)) (sym shown) (message_tells bytes a.known.sent H (sees.known.sent bytes) range x)
 
-  pub told_release : (b : Bool) → b ≡ forged_release a.known.released x → TellsNot b (IsKnown bytes x Host H)
+  told_release : (b : Bool) → b ≡ forged_release a.known.released x → TellsNot b (IsKnown bytes x Host H)
   told_release b is = subst (λ (t : Bool). TellsNot t (IsKnown bytes x Host H)) (sym is) (release_tells bytes a.known.released H sees.known.released x)
+
+pub told_given : (a : Audit) (H : Ledger) → Sees a H → All InRange (counted H) → (n : Node) (bytes : List ℕ) (b : Bool) → GivesForged a n bytes b → TellsNot b (IsKnown bytes (read bytes) n H)
+told_given a H sees range (Device d) bytes b is = told_reply a H sees bytes (read bytes) d b is
+told_given a H sees range Centre bytes b is = told_message a H sees bytes (read bytes) range b is
+told_given a H sees range Host bytes b is = told_release a H sees bytes (read bytes) b is
+told_given a H sees range Verifier bytes b is = subst (λ (t : Bool). TellsNot t (IsKnown bytes (read bytes) Verifier H)) (sym is) (verifier_tells bytes H (read bytes))
 
 pub told_mark : (a : Audit) (H : Ledger) (sees : Sees a H) (bytes : List ℕ) (x : Result (Mark × List ℕ) MarkFault) → All InRange (counted H) → (b : Bool)
     → b ≡ forged_mark (scan_cells.cells_of a.verifier.record) bytes a.known.released x → TellsNot b (IsKnownMark bytes x H)

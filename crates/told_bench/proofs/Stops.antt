@@ -19,7 +19,7 @@ use Rattle.script_text.specs.Told.{IsWholeReply, told}
 use Rattle.told_bench.specs.Judging.{is_rates, failed_to_read, taken_by, text_with, MayGet, ledger_with, IsTold}
 use Rattle.told_bench.specs.Seeing.{Audit, Sees}
 use Rattle.told_bench.specs.Stopping.{IsFrontOf, MayBegin, MayLose, torn, rests, IsBegun, IsUnbegun}
-use Rattle.told_bench.specs.Fronts.{number_of, BeginsOtherUp, BeginsCutPrint, BeginsRatesFault, Asks, IsFailure, IsDue, OnlyFails, Comes, CutsAt, CutsThere, NoneBelow, Cuts}
+use Rattle.told_bench.specs.Fronts.{number_of, BeginsOtherUp, BeginsCutPrint, BeginsRatesFault, Asks, IsFailure, IsDue, OnlyFails, Comes, LosesAt, LosesThere, NoneBelow, Loses}
 use Rattle.told_bench.proofs.OnlyPrint.{only_print, is_failure}
 
 -- two nodes of one number are one
@@ -65,28 +65,28 @@ then_ok P Q follows (Err e) is = tt
 module _ (τ : Tariff) (H : Ledger) (e : Event) (left : List ℕ) (m : Node) (named : IsNode m) where
   -- the line of a lost power was heard
   pub power_told : ((x y : Reply) → IsWholeReply x → IsWholeReply y → text_of x ≡ text_of y → told x ≡ told y) → (line : List ℕ) → line ≡ text_of (r.Power m) → (a : Audit) (reply : Reply)
-      → IsTold τ H e left line a reply → CutsAt τ H e left m a true
+      → IsTold τ H e left line a reply → LosesAt τ H e left m a true
   power_told one line line_is a reply t =
       let is : reply ≡ r.Power m = power_back reply m (one reply (r.Power m) t.whole named (t.text ∙ line_is)) in (
         subst (λ (x : Reply). MayGet τ H e left [] x) is t.moves,
         subst (λ (x : Reply). Sees a (ledger_with τ H e left [] x)) is t.sees,
       )
 
-  pub cuts_asked : (front : List ℕ) (comes : Bool) (now : Audit) → Asks front comes m → (b : Bool) → CutsAt τ H e left m now b → CutsThere τ H e left front comes m now b
-  cuts_asked front comes now asked true cut = ((named, cut.0), asked, cut.1)
-  cuts_asked front comes now asked false cut = (λ may asks. cut.0 may.1, cut.1)
+  pub loses_asked : (front : List ℕ) (comes : Bool) (now : Audit) → Asks front comes m → (b : Bool) → LosesAt τ H e left m now b → LosesThere τ H e left front comes m now b
+  loses_asked front comes now asked true lost = ((named, lost.0), asked, lost.1)
+  loses_asked front comes now asked false lost = (λ may asks. lost.0 may.1, lost.1)
 
   -- one node more
-  pub one_more : (front : List ℕ) (comes : Bool) (now : Audit) (number : ℕ) → number_of m ≡ number → NoneBelow τ H e left number front comes → CutsThere τ H e left front comes m now false
+  pub one_more : (front : List ℕ) (comes : Bool) (now : Audit) (number : ℕ) → number_of m ≡ number → NoneBelow τ H e left number front comes → LosesThere τ H e left front comes m now false
       → NoneBelow τ H e left (number + 1) front comes
-  one_more front comes now number number_is below cut n before may asks = ⊎_elim
+  one_more front comes now number number_is below lost n before may asks = ⊎_elim
       (λ (same : number_of n ≡ number).
       let is : n ≡ m = one_node n m may.0 named (same ∙ sym number_is) in
-      cut.0 (subst (λ (x : Node). MayLose τ H e left front x) is may) (subst (λ (x : Node). Asks front comes x) is asks))
+      lost.0 (subst (λ (x : Node). MayLose τ H e left front x) is may) (subst (λ (x : Node). Asks front comes x) is asks))
       (λ (differs : number_of n ≢ number). below n (omega (arith, before, differs)) may asks)
       (cases_eq (number_of n) number)
 
-pub all_below : (τ : Tariff) (H : Ledger) (e : Event) (left front : List ℕ) (comes : Bool) (now : Audit) → NoneBelow τ H e left 12 front comes → Sees now H → Cuts τ H e left front comes now false
+pub all_below : (τ : Tariff) (H : Ledger) (e : Event) (left front : List ℕ) (comes : Bool) (now : Audit) → NoneBelow τ H e left 12 front comes → Sees now H → Loses τ H e left front comes now false
 all_below τ H e left front comes now below sees = (λ m may asks. let w = numbered m may.0 in below m (omega (arith, w.1)) may asks, sees)
 
 module _ (τ : Tariff) (H : Ledger) (e : Event) (left front : List ℕ) where
@@ -174,27 +174,27 @@ module _ (τ : Tariff) (H : Ledger) (e : Event) (left front : List ℕ) where
 
   module _ (now : Audit) where
     -- a reply comes that is no failure of a node
-    pub comes_begun : Comes τ H e left front true → (b : Bool) → Cuts τ H e left front true now b → IsBegun τ H e left front now
-    comes_begun come true cut = record { reply = come.0; may = come.1; leaves = torn cut.0 cut.1 cut.3 }
-    comes_begun come false cut = record { reply = come.0; may = come.1; leaves = rests (λ m may. cut.0 m may (inl refl)) cut.1 }
+    pub comes_begun : Comes τ H e left front true → (b : Bool) → Loses τ H e left front true now b → IsBegun τ H e left front now
+    comes_begun come true lost = record { reply = come.0; may = come.1; leaves = torn lost.0 lost.1 lost.3 }
+    comes_begun come false lost = record { reply = come.0; may = come.1; leaves = rests (λ m may. lost.0 m may (inl refl)) lost.1 }
 
     -- a failure of a node begins so
-    pub fails_begun : Cuts τ H e left front false now true → IsBegun τ H e left front now
+    pub fails_begun : Loses τ H e left front false now true → IsBegun τ H e left front now
     fails_begun (m, may, asked, sees) = elim asked [
       | inl wrong ↦ absurd (true≢false (sym wrong))
       | inr (inl power) ↦ record { reply = r.Power m; may = record { moves = may.1; whole = may.0; begins = power }; leaves = torn m may sees }
       | inr (inr fault) ↦ record { reply = r.Fault m; may = record { moves = power_faults m may.1; whole = may.0; begins = fault }; leaves = torn m may sees }
     ]
 
-    pub none_begun : (due : Reply) → IsDue τ H e left due → OnlyFails τ H e left front → Cuts τ H e left front false now false → IsUnbegun τ H e left front now due
-    none_begun due due_is only cut = record { due_is = due_is; none = none; rests = cut.1 }
+    pub none_begun : (due : Reply) → IsDue τ H e left due → OnlyFails τ H e left front → Loses τ H e left front false now false → IsUnbegun τ H e left front now due
+    none_begun due due_is only lost = record { due_is = due_is; none = none; rests = lost.1 }
       where
         none : (reply : Reply) → MayBegin τ H e left front reply → ⊥
         none reply may = let w = only reply may in elim w.1 [
           | inl power ↦
               let it = subst (λ (x : Reply). MayBegin τ H e left front x) power may in
-              cut.0 w.0 (it.whole, it.moves) (inr (inl it.begins))
+              lost.0 w.0 (it.whole, it.moves) (inr (inl it.begins))
           | inr fault ↦
               let it = subst (λ (x : Reply). MayBegin τ H e left front x) fault may in
-              cut.0 w.0 (it.whole, fault_powers w.0 it.moves) (inr (inr it.begins))
+              lost.0 w.0 (it.whole, fault_powers w.0 it.moves) (inr (inr it.begins))
         ]

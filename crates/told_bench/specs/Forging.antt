@@ -1,23 +1,33 @@
 -- Whether bytes from outside are forged, by what the auditor has: the keys of its records, and what was sent and released in all runs.
-use Rattle.std.specs.Prelude.{ℕ, Bool, false, not, ◌&&◌, nat_le, List, Option, Some, None, option_map, Result, Ok, Err, ◌==◌, if◌then◌else◌, MatchBool}
+use Rattle.std.specs.Prelude.{◌≡◌, ℕ, Bool, false, not, ◌&&◌, nat_le, List, Option, Some, None, option_map, Result, Ok, Err, ◌==◌, if◌then◌else◌, MatchBool}
+use Rattle.bench_base.specs.declared.words.Node.{Node}
+use Rattle.bench_base.specs.declared.words.Node.TheVariants.{Device, Centre, Host, Verifier}
 use Rattle.bench_base.specs.declared.refusals.Unread.{Unread}
 use Rattle.bench_base.specs.declared.refusals.MarkFault.{MarkFault}
 use Rattle.bench_base.specs.declared.events.Event.{Event}
+use Rattle.bench_base.specs.declared.events.Event.TheVariants as ev
 use Rattle.bench_base.specs.Ledger.{Ledger}
 use Rattle.bench_base.specs.Rules.{editions}
 use Rattle.indicium.specs.declared.Mark.{Mark}
+use Rattle.indicium.specs.Marks.{read_mark}
 use Rattle.psd_wire.specs.declared.message.Message.{Message}
 use Rattle.psd_wire.specs.declared.message.Message.TheVariants as m
 use Rattle.psd_wire.specs.Codes.{has_code}
+use Rattle.psd_wire.specs.Grammar.{read}
 use Rattle.psd_state.specs.State.{State}
 use Rattle.centre_ledger.specs.Books.{Books, device_at}
+use Rattle.centre_ledger.specs.Seen.{books_in}
 use Rattle.verifier.specs.Seen.{key_at}
 use Rattle.verifier.specs.Seen as verifier
 use Rattle.ledger_moves.specs.Tariffs.{Tariff}
 use Rattle.ledger_moves.specs.Histories.{History, Unforged}
+use Rattle.told_device.specs.Records.{seen_of}
+use Rattle.told_centre.specs.Cells as centre_cells
+use Rattle.told_scans.specs.Cells as verifier_cells
 use Rattle.told_bench.specs.declared.known.ByteSet.{ByteSet}
 use Rattle.told_bench.specs.Known.{has}
 use Rattle.told_bench.specs.Seeing.{Audit, Sees}
+use Rattle.told_bench.specs.Telling.{OfDevice}
 
 -- the bytes have the code of this key, and are not among those that are known
 abbrev pub is_unknown : List ℕ → Option (List ℕ) → ByteSet → Bool
@@ -60,14 +70,55 @@ abbrev pub forged_mark : verifier.Seen → List ℕ → ByteSet → Result (Mark
 forged_mark s bytes known (Ok k) = is_unknown bytes (key_at s k.0.device) known
 forged_mark s bytes known (Err fault) = false
 
+-- == by what the auditor has ==
+
+-- whether bytes that are given to a node are forged: by the seat of the device, the rows of the centre, or what was released; the verifier takes none
+abbrev pub GivesForged : Audit → Node → List ℕ → Bool → Type 0
+GivesForged a (Device d) bytes b = OfDevice d a (λ s. b ≡ forged_reply (seen_of s.record).state d bytes a.known.sent (read bytes))
+GivesForged a Centre bytes b = b ≡ forged_message (books_in (centre_cells.cells_of a.centre.record)) bytes a.known.sent (read bytes)
+GivesForged a Host bytes b = b ≡ forged_release a.known.released (read bytes)
+GivesForged a Verifier bytes b = b ≡ false
+
+-- whether the event brings something forged, by the records of the auditor and what it keeps of all runs
+abbrev pub BringsForged : Audit → Event → Bool → Type 0
+BringsForged a (ev.Give n bytes) b = GivesForged a n bytes b
+BringsForged a (ev.ScanHex scan bytes) b = b ≡ forged_mark (verifier_cells.cells_of a.verifier.record) bytes a.known.released (read_mark bytes)
+BringsForged a (ev.Day t) b = b ≡ false
+BringsForged a ev.Rates b = b ≡ false
+BringsForged a (ev.Make d key) b = b ≡ false
+BringsForged a (ev.On n) b = b ≡ false
+BringsForged a (ev.Off n) b = b ≡ false
+BringsForged a (ev.Cut n calls keep byte) b = b ≡ false
+BringsForged a (ev.Debit d piece postage class) b = b ≡ false
+BringsForged a (ev.Ask d kind who amount) b = b ≡ false
+BringsForged a (ev.Resend d) b = b ≡ false
+BringsForged a (ev.Ack d) b = b ≡ false
+BringsForged a (ev.Status d) b = b ≡ false
+BringsForged a (ev.Register d origin key) b = b ≡ false
+BringsForged a (ev.OpenCustomer w) b = b ≡ false
+BringsForged a (ev.Deposit w receipt amount) b = b ≡ false
+BringsForged a (ev.Flag w suspended) b = b ≡ false
+BringsForged a (ev.Balance w) b = b ≡ false
+BringsForged a (ev.Deliver k) b = b ≡ false
+BringsForged a (ev.Order d piece class grams zone) b = b ≡ false
+BringsForged a (ev.Send j) b = b ≡ false
+BringsForged a (ev.Print j) b = b ≡ false
+BringsForged a (ev.Close j) b = b ≡ false
+BringsForged a (ev.Trust d key) b = b ≡ false
+BringsForged a (ev.ScanMsg scan k) b = b ≡ false
+BringsForged a (ev.Reconcile d) b = b ≡ false
+BringsForged a ev.End b = b ≡ false
+
+-- == by the ledger ==
+
 -- P does not hold where b is true, and holds where it is false
 abbrev pub TellsNot : Bool → Type 0 → Type 0
 TellsNot b P = MatchBool b (P → ⊥) P
 
 -- P at each history that the auditor has
-abbrev pub AtSeen : Audit → (Ledger → Type 0) → Type 0
-AtSeen a P = (τ : Tariff) (H : Ledger) → History τ editions H → Sees a H → P H
+abbrev pub AtHistory : Audit → (Ledger → Type 0) → Type 0
+AtHistory a P = (τ : Tariff) (H : Ledger) → History τ editions H → Sees a H → P H
 
 -- whether the event brings something forged, at each history that the auditor has
 abbrev pub TellsForged : Audit → Event → Bool → Type 0
-TellsForged a e b = AtSeen a (λ H. TellsNot b (Unforged e H))
+TellsForged a e b = AtHistory a (λ H. TellsNot b (Unforged e H))

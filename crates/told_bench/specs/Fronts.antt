@@ -73,20 +73,20 @@ module _ (τ : Tariff) (H : Ledger) (e : Event) (left : List ℕ) where
   Comes front false = OnlyFails front
 
   -- the event was told as one in which the node lost its power; or it may not be told so, and the auditor has what it had
-  abbrev pub CutsAt : Node → Audit → Bool → Type 0
-  CutsAt m a true = MayGet τ H e left [] (r.Power m) × Sees a (ledger_with τ H e left [] (r.Power m))
-  CutsAt m a false = (MayGet τ H e left [] (r.Power m) → ⊥) × Sees a H
+  abbrev pub LosesAt : Node → Audit → Bool → Type 0
+  LosesAt m a true = MayGet τ H e left [] (r.Power m) × Sees a (ledger_with τ H e left [] (r.Power m))
+  LosesAt m a false = (MayGet τ H e left [] (r.Power m) → ⊥) × Sees a H
 
-  -- the same of a node, where it is asked for
-  abbrev pub CutsThere : List ℕ → Bool → Node → Audit → Bool → Type 0
-  CutsThere front comes m a true = MayLose τ H e left front m × Asks front comes m × Sees a (ledger_with τ H e left front (r.Power m))
-  CutsThere front comes m a false = (MayLose τ H e left front m → Asks front comes m → ⊥) × Sees a H
+  -- the event was told as one in which the node, for which that is asked, lost its power; or it is not asked for or may not be told so, and the auditor has what it had
+  abbrev pub LosesThere : List ℕ → Bool → Node → Audit → Bool → Type 0
+  LosesThere front comes m a true = MayLose τ H e left front m × Asks front comes m × Sees a (ledger_with τ H e left front (r.Power m))
+  LosesThere front comes m a false = (MayLose τ H e left front m → Asks front comes m → ⊥) × Sees a H
 
   -- no node whose number is below this loses its power where it is asked for
   abbrev pub NoneBelow : ℕ → List ℕ → Bool → Type 0
   NoneBelow number front comes = (m : Node) → number_of m < number → MayLose τ H e left front m → Asks front comes m → ⊥
 
-  -- of any node
-  abbrev pub Cuts : List ℕ → Bool → Audit → Bool → Type 0
-  Cuts front comes a true = (m : Node) × MayLose τ H e left front m × Asks front comes m × Sees a (ledger_with τ H e left front (r.Power m))
-  Cuts front comes a false = ((m : Node) → MayLose τ H e left front m → Asks front comes m → ⊥) × Sees a H
+  -- the event was told as one in which some node, for which that is asked, lost its power; or there is none that may be told so, and the auditor has what it had
+  abbrev pub Loses : List ℕ → Bool → Audit → Bool → Type 0
+  Loses front comes a true = (m : Node) × MayLose τ H e left front m × Asks front comes m × Sees a (ledger_with τ H e left front (r.Power m))
+  Loses front comes a false = ((m : Node) → MayLose τ H e left front m → Asks front comes m → ⊥) × Sees a H

@@ -1,15 +1,13 @@
 //! Whether an event brings forged bytes from outside.
 ghost use Rattle.std.specs.Prelude.{◌≡◌, Some, option_map};
-ghost use Rattle.bench_base.specs.declared.words.Node.TheVariants as n;
 ghost use Rattle.indicium.specs.Marks.{read_mark};
 ghost use Rattle.psd_wire.specs.Codes.{has_code};
 ghost use Rattle.psd_wire.specs.Grammar.{read};
-ghost use Rattle.ledger_moves.specs.Histories.{IsKnown, IsKnownMark};
 ghost use Rattle.told_centre.specs.Cells.{cells_of};
 ghost use Rattle.told_device.specs.Records.{seen_of};
 ghost use Rattle.told_scans.specs.Cells as scans;
 ghost use Rattle.told_bench.specs.Forging as forging;
-ghost use Rattle.told_bench.specs.Forging.{AtSeen, TellsNot, TellsForged};
+ghost use Rattle.told_bench.specs.Forging.{GivesForged, BringsForged, TellsForged};
 ghost use Rattle.told_bench.specs.Seeing.{IsReady, audit_of};
 ghost use Rattle.told_bench.specs.Telling.{OfDevice};
 
@@ -122,11 +120,8 @@ fn is_forged_mark(rows: &ScanRecord, bytes: &[u8], known: &ByteSet) -> bool
 // Whether bytes that are given to this node are forged.
 fn gives_forged(auditor: &Auditor, node: &Node, bytes: &[u8]) -> bool
     requires ready { IsReady (audit_of auditor.now) }
-    ensures { AtSeen (audit_of auditor.now) (λ H. TellsNot result (IsKnown bytes.now (read bytes.now) node.now H)) }
+    ensures { GivesForged (audit_of auditor.now) node.now bytes.now result }
 {
-    // The devices in a history are eight.
-    histories();
-    counts();
     match node {
         Node::Device(device) => is_forged_reply(auditor, *device, bytes),
         Node::Centre => is_forged_message(
@@ -139,25 +134,23 @@ fn gives_forged(auditor: &Auditor, node: &Node, bytes: &[u8]) -> bool
     }
 }
 
-// Whether scanned bytes are forged.
-fn scans_forged(auditor: &Auditor, bytes: &[u8]) -> bool
-    ensures { AtSeen (audit_of auditor.now) (λ H. TellsNot result (IsKnownMark bytes.now (read_mark bytes.now) H)) }
-{
-    // The devices in a history are eight.
-    histories();
-    counts();
-    is_forged_mark(&auditor.verifier.record, bytes, &auditor.known.released)
-}
-
 /// Whether the event brings something forged: bytes of a `give` or of a `scan hex` that have the right code of whoever they name and that
 /// no node sent, or released, in any run before; or a mark for the host, which has no key, that was not released.
 pub fn is_forged(auditor: &Auditor, event: &Event) -> bool
     requires ready { IsReady (audit_of auditor.now) }
-    ensures { TellsForged (audit_of auditor.now) event.now result }
+    ensures by_record { BringsForged (audit_of auditor.now) event.now result }
+    ensures by_ledger { TellsForged (audit_of auditor.now) event.now result }
 {
+    // The devices in a history are eight.
+    histories();
+    counts();
     match event {
         Event::Give(node, bytes) => gives_forged(auditor, node, bytes.as_slice()),
-        Event::ScanHex(_, bytes) => scans_forged(auditor, bytes.as_slice()),
+        Event::ScanHex(_, bytes) => is_forged_mark(
+            &auditor.verifier.record,
+            bytes.as_slice(),
+            &auditor.known.released,
+        ),
         Event::Day(_)
         | Event::Rates
         | Event::Make(_, _)

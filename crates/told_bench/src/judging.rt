@@ -1,7 +1,6 @@
 //! Whether a line of the report can be the reply to an event.
 ghost use Rattle.std.specs.Prelude.{◌≡◌, ◌+◌, ◌<◌, ◌≤◌, length};
 ghost use Rattle.bench_base.specs.Ranges.{IsDevice, IsWholeEvent};
-ghost use Rattle.bench_base.specs.Table.{IsBytes};
 ghost use Rattle.bench_views.specs.Centre as centres;
 ghost use Rattle.bench_views.specs.Verifier as verifiers;
 ghost use Rattle.bench.specs.declared.benches.TheConstants.{MOST_MESSAGES};
@@ -17,6 +16,7 @@ use crate::rates::judge_rates;
 use bench_base::bytes::Note;
 use bench_base::events::{Event, Reply};
 use bench_base::numbers::{DayNo, DevNo};
+use bench_calls::{hands_bytes, scans_bytes};
 use bench_views::laws::nodes_follow;
 use bench_views::{CentreCall, DeviceCall, Taken, VerifierCall, take};
 use centre_ledger::Row;
@@ -35,7 +35,7 @@ use told_scans::judge_scans;
 pub enum Finding {
     /// No reply that the event may get has the line; this was the answer.
     Wrong(Reply),
-    /// There was no memory, for rates or for a message.
+    /// There was no memory, for rates, a message or a mark.
     Memory,
 }
 
@@ -160,16 +160,12 @@ fn compare_in_place(
     compare(device, &devices[place], centre)
 }
 
-fn are_bytes(bytes: &[u8])
-    ensures { IsBytes bytes.now }
-{}
-
 // What the centre is handed is a list of bytes.
 fn hands_centre(asked: &Asked<CentreCall>)
     ensures { centres.AreBytes asked.now }
 {
-    if let Asked::Call(CentreCall::Take(call)) = asked {
-        are_bytes(call.bytes.as_slice());
+    if let Asked::Call(call) = asked {
+        hands_bytes(call);
     }
 }
 
@@ -177,8 +173,8 @@ fn hands_centre(asked: &Asked<CentreCall>)
 fn hands_verifier(asked: &Asked<VerifierCall>)
     ensures { verifiers.AreBytes asked.now }
 {
-    if let Asked::Call(VerifierCall::Scan(call)) = asked {
-        are_bytes(call.bytes.as_slice());
+    if let Asked::Call(call) = asked {
+        scans_bytes(call);
     }
 }
 
@@ -281,7 +277,7 @@ pub(crate) fn send(alloc: Global, auditor: &mut Auditor, heard: Heard) -> Result
 
 /// Judges the line of an event, where these bytes of the rates are left. `Ok`, with how many of them the event took, exactly where it may get a reply
 /// of that line; the auditor then has what the ledger shows that the reply leaves. `Wrong`, with the answer that was due, exactly where it may get
-/// none; the auditor has what it had. `Memory` is want of memory, for rates or for a message.
+/// none; the auditor has what it had. `Memory` is want of memory, for rates, a message or a mark.
 pub fn judge(
     alloc: Global,
     auditor: &mut Auditor,

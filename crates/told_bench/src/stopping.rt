@@ -6,7 +6,7 @@ ghost use Rattle.bench.specs.declared.benches.TheConstants.{MOST_MESSAGES};
 ghost use Rattle.ledger_moves.specs.Tariffs.{Tariff};
 ghost use Rattle.script_text.specs.Texts.{text_of};
 ghost use Rattle.script_text.specs.Told.{IsWholeReply};
-ghost use Rattle.told_bench.specs.Fronts.{number_of, BeginsOtherUp, BeginsCutPrint, BeginsRatesFault, Asks, IsDue, Comes, CutsAt, CutsThere, Cuts};
+ghost use Rattle.told_bench.specs.Fronts.{number_of, BeginsOtherUp, BeginsCutPrint, BeginsRatesFault, Asks, IsDue, Comes, LosesAt, LosesThere, Loses};
 ghost use Rattle.told_bench.specs.Judging.{AtEach};
 ghost use Rattle.told_bench.specs.Seeing.{IsReady, Sees, audit_of};
 ghost use Rattle.told_bench.specs.Stopping.{IsFrontOf, IsStopped};
@@ -103,8 +103,8 @@ fn due_to(
     }
 }
 
-// Tells the event as one in which this node lost its power, if it may be told so: whether it may.
-fn cut_at(
+// Tells the event as one in which this node lost its power, if it may be told so. True exactly where it may.
+fn lose_power_at(
     alloc: Global,
     auditor: &mut Auditor,
     event: &Event,
@@ -117,7 +117,7 @@ fn cut_at(
     ensures ready { IsReady (audit_of auditor.new) }
     ensures few { length (audit_of auditor.new).messages ≤ length (audit_of auditor.old).messages + 1 }
     ensures unsent { IfOk result (λ b. b ≡ false → (audit_of auditor.new).messages ≡ (audit_of auditor.old).messages) }
-    ensures cut { AtEach (audit_of auditor.old) event.now (λ τ H. IfOk result (λ b. CutsAt τ H event.now left.now node.now (audit_of auditor.new) b)) }
+    ensures lost { AtEach (audit_of auditor.old) event.now (λ τ H. IfOk result (λ b. LosesAt τ H event.now left.now node.now (audit_of auditor.new) b)) }
 {
     one_reply();
     let mut line = Line::new();
@@ -156,8 +156,9 @@ fn asks(comes: bool, node: &Node, front: &[u8]) -> bool
     comes || begins(&Reply::Power(*node), front) || begins(&Reply::Fault(*node), front)
 }
 
-// The same of this node, where it is asked for.
-fn cut_there(
+// Tells the event as one in which this node lost its power, if a reply comes that begins so or a failure of the node does, and it may be told so. True
+// exactly where both hold.
+fn lose_power_there(
     alloc: Global,
     auditor: &mut Auditor,
     event: &Event,
@@ -173,17 +174,17 @@ fn cut_there(
     ensures ready { IsReady (audit_of auditor.new) }
     ensures few { length (audit_of auditor.new).messages ≤ length (audit_of auditor.old).messages + 1 }
     ensures unsent { IfOk result (λ b. b ≡ false → (audit_of auditor.new).messages ≡ (audit_of auditor.old).messages) }
-    ensures cut { AtEach (audit_of auditor.old) event.now (λ τ H. IfOk result (λ b. CutsThere τ H event.now left.now front.now comes node.now (audit_of auditor.new) b)) }
+    ensures lost { AtEach (audit_of auditor.old) event.now (λ τ H. IfOk result (λ b. LosesThere τ H event.now left.now front.now comes node.now (audit_of auditor.new) b)) }
 {
     if asks(comes, node, front) {
-        cut_at(alloc, auditor, event, left, node)
+        lose_power_at(alloc, auditor, event, left, node)
     } else {
         Ok(false)
     }
 }
 
-// The same of any node.
-fn cut(
+// Tells the event as one in which a node lost its power: the first of all for which that is asked and may be told. True exactly where there is one.
+fn lose_power(
     alloc: Global,
     auditor: &mut Auditor,
     event: &Event,
@@ -196,11 +197,11 @@ fn cut(
     requires few { length (audit_of auditor.old).messages < MOST_MESSAGES }
     ensures ready { IsReady (audit_of auditor.new) }
     ensures few { length (audit_of auditor.new).messages ≤ length (audit_of auditor.old).messages + 1 }
-    ensures cut { AtEach (audit_of auditor.old) event.now (λ τ H. IfOk result (λ b. Cuts τ H event.now left.now front.now comes (audit_of auditor.new) b)) }
+    ensures lost { AtEach (audit_of auditor.old) event.now (λ τ H. IfOk result (λ b. Loses τ H event.now left.now front.now comes (audit_of auditor.new) b)) }
 {
     for number in 1..12 {
         let node = node_at(number);
-        if cut_there(alloc, auditor, event, left, front, comes, &node)? {
+        if lose_power_there(alloc, auditor, event, left, front, comes, &node)? {
             return Ok(true);
         }
     }
@@ -210,7 +211,7 @@ fn cut(
 /// Judges bytes that a report ends with, where the line of this event should stand: none, some or all of it, without its line end. `Ok` exactly where they are
 /// the front of the line of a reply that the event may get. Whether the event is done is open then, so it is told as one in which its node lost its power, where
 /// it may be told so: the next `up` says whether its commit counts. `Wrong`, with the answer that was due, exactly where they are the front of none; the auditor
-/// has what it had. `Memory` is want of memory, for rates or for a message.
+/// has what it had. `Memory` is want of memory, for rates, a message or a mark.
 pub fn stop(
     alloc: Global,
     auditor: &mut Auditor,
@@ -229,13 +230,13 @@ pub fn stop(
         return Err(Finding::Memory);
     };
     let comes = comes(auditor, event, &due, front);
-    let Ok(is_cut) = cut(alloc, auditor, event, left, front, comes) else {
+    let Ok(is_lost) = lose_power(alloc, auditor, event, left, front, comes) else {
         return Err(Finding::Memory);
     };
     if comes {
         return Ok(());
     }
-    if is_cut {
+    if is_lost {
         return Ok(());
     }
     Err(Finding::Wrong(due))

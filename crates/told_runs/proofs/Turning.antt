@@ -23,7 +23,7 @@ use Rattle.desk_runs.specs.Events.{IsLineOf, IsBad}
 use Rattle.desk_runs.specs.Scripts.{script_grammar}
 use Rattle.script_replay.specs.Deeds.{ledger_by}
 use Rattle.told_bench.specs.declared.judging.Finding.TheVariants as found
-use Rattle.told_bench.specs.Forging.{AtSeen}
+use Rattle.told_bench.specs.Forging.{AtHistory}
 use Rattle.told_bench.specs.Judging.{AtEach, IsJudged, text_with}
 use Rattle.told_bench.specs.Seeing.{Audit, Sees}
 use Rattle.told_runs.specs.Imprints.{IsGiven, IsDueMark, GivesSo, imprint_at}
@@ -47,10 +47,10 @@ module _ (number : ℕ) (inside : number ≤ 1000000) (script line : List ℕ) (
 
   -- the event brings nothing forged, at each history that the auditor has
   abbrev IsUnforgedThere : Type 0
-  IsUnforgedThere = AtSeen old (λ H. Unforged e H)
+  IsUnforgedThere = AtHistory old (λ H. Unforged e H)
 
   -- or something, at each
-  pub forged : (before : List Imprint) → AtSeen old (λ H. Unforged e H → ⊥) → FellPut number script report rates old old before before (Forged number)
+  pub forged : (before : List Imprint) → AtHistory old (λ H. Unforged e H → ⊥) → FellPut number script report rates old old before before (Forged number)
   forged before brings = (record { falls = (refl, e, is_event); so = λ τ H texts history seen. (brings τ H history seen, seen) }, sym (append-nil before))
 
   -- the report ends before the line end of its answer

@@ -2,7 +2,7 @@ use Rattle.std.proofs.Common.{◌≡◌, ◌≤◌}
 use Rattle.told_bench.specs.Fronts.{NoneBelow}
 use Rattle.told_bench.specs.Judging.{AtEach}
 use Rattle.told_bench.specs.Seeing.{IsReady, Sees, audit_of}
-use Rattle.told_bench.proofs.stopping.cut.Given as goal
+use Rattle.told_bench.proofs.stopping.lose_power.Given as goal
 
 abbrev pub invariant-loop-number : goal.invariant-loop-number
 invariant-loop-number l = record {

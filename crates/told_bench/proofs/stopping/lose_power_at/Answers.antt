@@ -2,10 +2,10 @@ use Rattle.std.proofs.Common.{sym, ◌∙◌, subst}
 use Rattle.told_bench.specs.Known.{Knows}
 use Rattle.told_bench.proofs.Sent.{sent_judged}
 use Rattle.told_bench.proofs.Stops.{power_told}
-use Rattle.told_bench.proofs.stopping.cut_at.Goals as goal
+use Rattle.told_bench.proofs.stopping.lose_power_at.Goals as goal
 
-pub returns-in-Ok-send-clause-cut : goal.returns-in-Ok-send-clause-cut
-returns-in-Ok-send-clause-cut c τ H texts history unforged sees =
+pub returns-in-Ok-send-clause-lost : goal.returns-in-Ok-send-clause-lost
+returns-in-Ok-send-clause-lost c τ H texts history unforged sees =
     let line = c.as_slice.result.now in
     let knows = subst (λ k. Knows k H) (sym c.hear.ensures.unlearnt) sees.known in
     let judged = sent_judged τ H c.args.event.now c.args.left.now line c.in-Ok.heard _ _ c.send.result c.send.ensures.sent knows (rw c.in-Ok.is at c.hear.ensures.judged τ H texts history unforged sees.run) in

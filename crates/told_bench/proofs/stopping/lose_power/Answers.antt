@@ -1,0 +1,17 @@
+use Rattle.std.proofs.Common.{◌∙◌, Bool, subst, arith}
+use Rattle.told_bench.specs.Fronts.{LosesThere}
+use Rattle.told_bench.specs.Seeing.{audit_of}
+use Rattle.told_bench.proofs.Stops.{one_more}
+use Rattle.told_bench.proofs.stopping.lose_power.Goals as goal
+
+pub loop-number-preserved : goal.loop-number-preserved
+loop-number-preserved c = record {
+  ready = c.lose_power_there.ensures.ready;
+  first = omega (arith, c.loop-number.invariant.first);
+  unsent = c.in_ok-lose_power_there.ensures.unsent c.if-branch.false ∙ c.loop-number.invariant.unsent;
+  rests = λ τ H texts history unforged sees.
+      let before = c.loop-number.invariant.rests τ H texts history unforged sees in
+      let now = audit_of c.lose_power_there.new.auditor in
+      let lost = subst (λ (b : Bool). LosesThere τ H c.args.event.now c.args.left.now c.args.front.now c.args.comes c.node_at-node.result now b) c.if-branch.false (c.in_ok-lose_power_there.ensures.lost τ H texts history unforged before.1) in
+      (one_more τ H c.args.event.now c.args.left.now c.node_at-node.result c.node_at-node.ensures.named c.args.front.now c.args.comes now c.loop-number.number c.node_at-node.ensures.number before.0 lost, lost.1);
+}
