@@ -105,7 +105,7 @@ fn or_memory<T, E: Drop>(made: Result<T, E>) -> Result<T, Fault> {
     }
 }
 
-// What is told where no node had its power cut, no storage failed and no printer.
+// That this node lost its power, or its storage failed, if the line tells that.
 fn mishap_at(node: &Node, line: &[u8]) -> Option<Mishap> {
     if is_told(&Reply::Power(*node), line) {
         return Some(Mishap::Power(*node));

@@ -1,6 +1,7 @@
 //! The auditor's program: whether the reports that some meter wrote for these scripts may be those of a lawful meter. Each NAME is a
-//! run, in order: NAME.script, NAME.report and NAME.rates, which is empty where it is missing. One word before them may ask for more: `--table` for what
-//! the auditor has behind the runs, `--page` for what they came to, `--csv` and `--json` for the journal of what they committed.
+//! run, in order: NAME.script, NAME.report and NAME.rates, which is empty where it is missing. `--prints FILE` before them asks whether the file has the prints of
+//! all runs. One word behind that may ask for more: `--table` for what the auditor has behind the runs, `--page` for what they came to, `--csv` and `--json` for the
+//! journal of what they committed.
 #![tactic(auto)]
 
 mod book;
@@ -30,9 +31,9 @@ use std::{env, fs, io};
 use table::tell_table;
 use thiserror::Error;
 use told_bench::Auditor;
-use told_runs::{Ending, Imprint, Match, Verdict, audit_run, match_prints};
+use told_runs::{Ending, Imprint, Match, Taken, Verdict, audit_run, match_prints};
 
-/// The exit status of a finding: what can't be so, or could not be judged.
+/// The exit status of a finding: what can't be so, what is forged, or a report that goes on.
 const FINDING: u8 = 1;
 
 /// Why nothing more is judged: the line that is printed on standard error.
@@ -343,7 +344,6 @@ fn prints_text(
     file: &str,
     imprints: &[Imprint],
     found: Match,
-    stop: Option<usize>,
 ) -> Result<String, AllocError> {
     let place = match found {
         Match::Fit => return format!(in alloc; "prints {file} fit"),
@@ -353,24 +353,18 @@ fn prints_text(
         return format!(in alloc; "prints {file} go on behind the last");
     };
     let line = imprint.line;
-    match found {
-        Match::Open(_) if stop == Some(place) => {
-            format!(in alloc; "prints {file} fit before line {line}, where the run was stopped")
-        }
-        Match::Open(_) => {
-            format!(in alloc; "prints {file} fit before line {line}, where the printer failed")
-        }
-        Match::Fit | Match::Differ(_) => format!(in alloc; "prints {file} differ at line {line}"),
-    }
+    let Match::Open(_) = found else {
+        return format!(in alloc; "prints {file} differ at line {line}");
+    };
+    let cause = match imprint.given.taken {
+        Taken::Stopped => "the run was stopped",
+        Taken::Whole | Taken::Failed => "the printer failed",
+    };
+    format!(in alloc; "prints {file} fit before line {line}, where {cause}")
 }
 
 // Judges the prints of all runs, where a file of them is named: the exit status.
-fn tell_prints(
-    rt: &HostRuntime,
-    words: &Words,
-    imprints: &[Imprint],
-    stop: Option<usize>,
-) -> Result<u8, Fault> {
+fn tell_prints(rt: &HostRuntime, words: &Words, imprints: &[Imprint]) -> Result<u8, Fault> {
     let Some(file) = &words.prints else {
         return Ok(0);
     };
@@ -379,23 +373,12 @@ fn tell_prints(
     say(
         rt,
         words.asked,
-        prints_text(rt.alloc(), file.as_str(), imprints, found, stop),
+        prints_text(rt.alloc(), file.as_str(), imprints, found),
     )?;
     Ok(match found {
         Match::Fit | Match::Open(_) => 0,
         Match::Differ(_) => FINDING,
     })
-}
-
-// The place of the print in which a run was stopped, which had so many imprints before it: its last, if that is of the line whose answer is missing.
-fn print_of(imprints: &[Imprint], stopped: Option<u32>, before: usize) -> Option<usize> {
-    let line = stopped?;
-    let last = imprints.last()?;
-    if last.line == line && before < imprints.len() {
-        Some(imprints.len() - 1)
-    } else {
-        None
-    }
 }
 
 /// What came of the runs: the exit status, and the last day that was told.
@@ -417,13 +400,11 @@ fn audit(
     ensures ready { IsReady (audit_of auditor.new) }
     ensures ready_clerk { IsReady (audit_of clerk.new.auditor) }
 {
-    let mut stop = None;
     let mut day = None;
     let mut imprints: Vec<Imprint> = Vec::new(rt.alloc());
     for place in 0..words.names.len() {
         let name = words.names[place].as_str();
         let run = open_run(rt, name)?;
-        let given = imprints.len();
         let verdict = audit_run(
             rt.alloc(),
             auditor,
@@ -437,11 +418,9 @@ fn audit(
         if code != 0 {
             return Ok(Audited { code, day });
         }
-        let stopped = stopped_at(&verdict);
-        stop = stop.or(print_of(imprints.as_slice(), stopped, given));
-        count(rt, words, clerk, &run, place, stopped)?;
+        count(rt, words, clerk, &run, place, stopped_at(&verdict))?;
     }
-    let code = tell_prints(rt, words, imprints.as_slice(), stop)?;
+    let code = tell_prints(rt, words, imprints.as_slice())?;
     Ok(Audited { code, day })
 }
 

@@ -16,7 +16,7 @@ use Rattle.script_text.specs.Texts.{text_of}
 use Rattle.script_text.specs.Told.{IsWholeReply, told}
 use Rattle.told_bench.specs.Judging.{IsTold, text_with}
 use Rattle.told_bench.specs.Seeing.{Audit}
-use Rattle.told_runs.specs.Imprints.{IsGiven, GivesSo, wholly, partly}
+use Rattle.told_runs.specs.Imprints.{IsGiven, GivesSo, taken_whole, failed_in}
 use Rattle.told_runs.specs.declared.imprint.Given.{Given}
 use Rattle.told_bench.proofs.OnlyPrint.{only_print, is_failure}
 
@@ -72,21 +72,21 @@ module _ (one : (x y : Reply) → IsWholeReply x → IsWholeReply y → text_of 
   ranged : (j : ℕ) → e ≡ ev.Print j → IsWholeReply (r.Printed j) × IsWholeReply (r.PrinterFault j)
   ranged j is = let w = subst IsWholeEvent is whole in (w, w)
 
-  whole_given : (j : ℕ) → reply ≡ r.Printed j → (x : List ℕ) × (print_of q.after ≡ Some x) × (given ≡ Some (wholly x))
+  whole_given : (j : ℕ) → reply ≡ r.Printed j → (x : List ℕ) × (print_of q.after ≡ Some x) × (given ≡ Some (taken_whole x))
   whole_given j is =
       let w = (only_print τ todays_rules H e text).answered j (by_printed τ H e text reply t.moves j is) in
       let due_is : due ≡ Some w.1.0 = sym (marks j w.0) ∙ w.1.1 in
-      (w.1.0, w.1.1, gives.whole j w.0 (sym (ap text_of is) ∙ t.text) ∙ ap (λ (o : Option (List ℕ)). option_map wholly o) due_is)
+      (w.1.0, w.1.1, gives.whole j w.0 (sym (ap text_of is) ∙ t.text) ∙ ap (λ (o : Option (List ℕ)). option_map taken_whole o) due_is)
 
   apart : (j : ℕ) → e ≡ ev.Print j → text_of (r.PrinterFault j) ≡ line → text_of (r.Printed j) ≡ line → ⊥
   apart j is fault print = let w = ranged j is in let wrong : r.Printed j ≡ r.PrinterFault j = one (r.Printed j) (r.PrinterFault j) w.0 w.1 (print ∙ sym fault) in cc
 
-  cut_given : (j : ℕ) → reply ≡ r.PrinterFault j → (x : List ℕ) × (print_of q.after ≡ Some x) × (given ≡ Some (partly x))
+  cut_given : (j : ℕ) → reply ≡ r.PrinterFault j → (x : List ℕ) × (print_of q.after ≡ Some x) × (given ≡ Some (failed_in x))
   cut_given j is =
       let w = (only_print τ todays_rules H e text).answered j (by_fault τ H e text reply t.moves j is) in
       let due_is : due ≡ Some w.1.0 = sym (marks j w.0) ∙ w.1.1 in
       let fault : text_of (r.PrinterFault j) ≡ line = sym (ap text_of is) ∙ t.text in
-      (w.1.0, w.1.1, gives.cut j w.0 fault (apart j w.0 fault) ∙ ap (λ (o : Option (List ℕ)). option_map partly o) due_is)
+      (w.1.0, w.1.1, gives.cut j w.0 fault (apart j w.0 fault) ∙ ap (λ (o : Option (List ℕ)). option_map failed_in o) due_is)
 
   pub given_by : IsGiven reply (print_of q.after) given
   given_by = record {

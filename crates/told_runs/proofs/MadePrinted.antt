@@ -18,25 +18,25 @@ use Rattle.script_replay.specs.Deeds.{ledger_by, printed_of}
 use Rattle.script_replay.specs.Marks.{IsPrinted}
 use Rattle.told_runs.specs.declared.imprint.Given.{Given}
 use Rattle.told_runs.specs.Audits.{IsRun, MayTell}
-use Rattle.told_runs.specs.Imprints.{IsGiven, wholly, partly}
+use Rattle.told_runs.specs.Imprints.{IsGiven, taken_whole, failed_in}
 use Rattle.told_runs.specs.Prints.{Took, ArePrinted}
 use Rattle.told_runs.specs.Verdicts.{Pair, Skipped, Answered, IsPair, IsAnswered, TellsSo, imprints_from}
 use Rattle.told_runs.proofs.Fitted.{Made}
 
 gave_nothing : (reply : Reply) (mark : Option (List ℕ)) → IsGiven reply mark None → IsPrinted reply mark []
 gave_nothing reply mark g = record {
-  whole = λ j is. let w = g.whole j is in let wrong : None ≡ Some (wholly w.0) = w.2 in cc;
-  cut = λ j is. let w = g.cut j is in let wrong : None ≡ Some (partly w.0) = w.2 in cc;
+  whole = λ j is. let w = g.whole j is in let wrong : None ≡ Some (taken_whole w.0) = w.2 in cc;
+  cut = λ j is. let w = g.cut j is in let wrong : None ≡ Some (failed_in w.0) = w.2 in cc;
   none = λ a b. refl;
 }
 
-took_given : (g f : Given) (piece : List ℕ) → Some g ≡ Some f → Took g.whole g.mark piece → Took f.whole f.mark piece
-took_given g f piece is took = let same : g ≡ f = cc in subst (λ (x : Given). Took x.whole x.mark piece) same took
+took_given : (g f : Given) (piece : List ℕ) → Some g ≡ Some f → Took g.taken g.mark piece → Took f.taken f.mark piece
+took_given g f piece is took = let same : g ≡ f = cc in subst (λ (x : Given). Took x.taken x.mark piece) same took
 
-gave : (reply : Reply) (mark : Option (List ℕ)) (g : Given) (piece : List ℕ) → IsGiven reply mark (Some g) → Took g.whole g.mark piece → IsPrinted reply mark piece
+gave : (reply : Reply) (mark : Option (List ℕ)) (g : Given) (piece : List ℕ) → IsGiven reply mark (Some g) → Took g.taken g.mark piece → IsPrinted reply mark piece
 gave reply mark g piece given took = record {
-  whole = λ j is. let w = given.whole j is in (w.0, w.1, took_given g (wholly w.0) piece w.2 took);
-  cut = λ j is. let w = given.cut j is in (w.0, w.1, took_given g (partly w.0) piece w.2 took);
+  whole = λ j is. let w = given.whole j is in (w.0, w.1, took_given g (taken_whole w.0) piece w.2 took);
+  cut = λ j is. let w = given.cut j is in (w.0, w.1, took_given g (failed_in w.0) piece w.2 took);
   none = λ a b. let wrong : Some g ≡ None = given.none a b in cc;
 }
 

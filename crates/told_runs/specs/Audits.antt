@@ -1,15 +1,14 @@
 -- What a script, its report, the rates and the prints tell together, and what an audit says of them.
-use Rattle.std.specs.Prelude.{◌≡◌, ◌≢◌, ℕ, ◌+◌, ◌<◌, ◌≤◌, List, [], ◌∷◌, ◌++◌, length, drop, Bool, true, false, ◌⊎◌}
+use Rattle.std.specs.Prelude.{◌≡◌, ℕ, ◌+◌, ◌<◌, ◌≤◌, List, [], ◌∷◌, ◌++◌, length, drop, Bool, true, false, ◌⊎◌}
 use Rattle.std.specs.List.{AllByRecursion}
 use Rattle.bench_base.specs.declared.events.Event.{Event}
 use Rattle.bench_base.specs.declared.events.Event.TheVariants as ev
-use Rattle.bench_base.specs.declared.events.Reply.{Reply}
 use Rattle.bench_base.specs.declared.events.Reply.TheVariants as r
 use Rattle.bench_base.specs.Ledger.{Ledger, day_in}
-use Rattle.bench_base.specs.Replies.{Did, told_by}
+use Rattle.bench_base.specs.Replies.{told_by}
 use Rattle.bench_base.specs.Rules.{todays_rules}
 use Rattle.ledger_moves.specs.Tariffs.{Tariff}
-use Rattle.ledger_moves.specs.Moves.{Moves, answer, plan}
+use Rattle.ledger_moves.specs.Moves.{Moves, plan}
 use Rattle.ledger_moves.specs.Histories.{Unforged}
 use Rattle.node_turns.specs.Printing.{print_of}
 use Rattle.script_text.specs.Texts.{text_of}
@@ -135,36 +134,3 @@ module _ (τ : Tariff) (H : Ledger) (script report rates : List ℕ) where
   -- the ledger that the run leaves; where it was stopped, the one before the line in which it was
   abbrev pub ledger_left : {prints : List ℕ} → Fits prints → Ledger
   ledger_left f = ledger_after τ H (done_in f.front.deeds ++ done_last f.ends)
-
-  -- the lines before the line of this number fit, and this is its event
-  pub record Reaches (number : ℕ) : Type 0 where
-    pub front : Front
-    pub number_is : number ≡ length front.deeds + 1
-    pub event : Event
-    pub line : List ℕ
-    pub behind : List ℕ
-    pub next : IsNext event number front.rest line behind
-
-  -- this may be done for that event there
-  abbrev pub MayComeAt : {number : ℕ} → Reaches number → Done → Type 0
-  MayComeAt at d = (d.event ≡ at.event) × MayDo τ (ledger_behind at.front) (rates_behind at.front) d
-
-  -- its answer
-  abbrev pub answer_at : {number : ℕ} → Reaches number → Reply
-  answer_at at =
-      let L = ledger_behind at.front in
-      answer τ todays_rules L at.event (taken_by at.event (day_in L) Did (rates_behind at.front))
-
-  -- The lines before this one fit, and what the report has for it is the line of no reply that its event may get there, nor a part of one.
-  -- This was the answer.
-  pub record Wrong (number : ℕ) (due : Reply) : Type 0 where
-    pub at : Reaches number
-    pub unforged : Unforged at.event (ledger_behind at.front)
-    pub none : (d : Done) → MayComeAt at d → (more : List ℕ) → at.front.told ≢ line_of d.reply ++ more
-    pub no_part : (d : Done) → MayComeAt at d → IsCutOff at.front.told (line_of d.reply) → ⊥
-    pub due_is : due ≡ answer_at at
-
-  -- The lines before this one fit, and its event brings bytes with a right code that were never sent, or released.
-  pub record Forged (number : ℕ) : Type 0 where
-    pub at : Reaches number
-    pub forged : Unforged at.event (ledger_behind at.front) → ⊥

@@ -1,5 +1,5 @@
 -- What the printer was given in the events of a run.
-use Rattle.std.specs.Prelude.{◌≡◌, ◌≢◌, ℕ, List, [], ◌∷◌, true, false, Option, Some, None, option_map}
+use Rattle.std.specs.Prelude.{◌≡◌, ◌≢◌, ℕ, List, [], ◌∷◌, Option, Some, None, option_map}
 use Rattle.bench_base.specs.declared.events.Event.{Event}
 use Rattle.bench_base.specs.declared.events.Event.TheVariants as ev
 use Rattle.bench_base.specs.declared.events.Reply.{Reply}
@@ -14,25 +14,29 @@ use Rattle.script_text.specs.Texts.{text_of}
 use Rattle.told_bench.specs.Seeing.{Audit, Sees}
 use Rattle.told_runs.specs.declared.imprint.Given.{Given}
 use Rattle.told_runs.specs.declared.imprint.Imprint.{Imprint}
+use Rattle.told_runs.specs.declared.imprint.Taken.TheVariants.{Whole, Failed, Stopped}
 
--- a mark whose whole line was taken, or in whose line the printer failed
-abbrev pub wholly : List ℕ → Given
-wholly mark = record { mark = mark; whole = true }
+-- a mark whose whole line was taken, in whose line the printer failed, or at which the run was stopped
+abbrev pub taken_whole : List ℕ → Given
+taken_whole mark = record { mark = mark; taken = Whole }
 
-abbrev pub partly : List ℕ → Given
-partly mark = record { mark = mark; whole = false }
+abbrev pub failed_in : List ℕ → Given
+failed_in mark = record { mark = mark; taken = Failed }
+
+abbrev pub stopped_at : List ℕ → Given
+stopped_at mark = record { mark = mark; taken = Stopped }
 
 -- In an event with this reply, whose plan prints this mark, the printer was given this: the mark that is told as printed, or in whose line the printer failed,
 -- and else nothing.
 pub record IsGiven (reply : Reply) (mark : Option (List ℕ)) (given : Option Given) : Type 0 where
-  pub whole : (job : ℕ) → reply ≡ r.Printed job → (x : List ℕ) × (mark ≡ Some x) × (given ≡ Some (wholly x))
-  pub cut : (job : ℕ) → reply ≡ r.PrinterFault job → (x : List ℕ) × (mark ≡ Some x) × (given ≡ Some (partly x))
+  pub whole : (job : ℕ) → reply ≡ r.Printed job → (x : List ℕ) × (mark ≡ Some x) × (given ≡ Some (taken_whole x))
+  pub cut : (job : ℕ) → reply ≡ r.PrinterFault job → (x : List ℕ) × (mark ≡ Some x) × (given ≡ Some (failed_in x))
   pub none : ((job : ℕ) → reply ≢ r.Printed job) → ((job : ℕ) → reply ≢ r.PrinterFault job) → given ≡ None
 
--- What is open where the line of the event is missing: in a `print` whose plan prints a mark, the printer may have failed in that mark's line, or taken none of it, or all;
--- and nothing is open in any other event.
+-- What is open where the line of the event is missing: in a `print` whose plan prints a mark, the run was stopped at that mark, and the printer may have taken none, some or
+-- all of its line; and nothing is open in any other event.
 pub record IsLeftOpen (τ : Tariff) (H : Ledger) (e : Event) (given : Option Given) : Type 0 where
-  pub print : (j : ℕ) → e ≡ ev.Print j → given ≡ option_map partly (print_of (plan τ todays_rules H (ev.Print j) []).after)
+  pub print : (j : ℕ) → e ≡ ev.Print j → given ≡ option_map stopped_at (print_of (plan τ todays_rules H (ev.Print j) []).after)
   pub other : ((j : ℕ) → e ≢ ev.Print j) → given ≡ None
 
 -- what was given for the line of this number
@@ -48,11 +52,11 @@ IsDueMark a e due = (j : ℕ) → e ≡ ev.Print j → (τ : Tariff) (H : Ledger
 
 -- a `print` whose plan prints this mark, with this line of the report, gave this; any other event gave nothing
 pub record GivesSo (e : Event) (due : Option (List ℕ)) (line : List ℕ) (given : Option Given) : Type 0 where
-  pub whole : (j : ℕ) → e ≡ ev.Print j → text_of (r.Printed j) ≡ line → given ≡ option_map wholly due
-  pub cut : (j : ℕ) → e ≡ ev.Print j → text_of (r.PrinterFault j) ≡ line → text_of (r.Printed j) ≢ line → given ≡ option_map partly due
+  pub whole : (j : ℕ) → e ≡ ev.Print j → text_of (r.Printed j) ≡ line → given ≡ option_map taken_whole due
+  pub cut : (j : ℕ) → e ≡ ev.Print j → text_of (r.PrinterFault j) ≡ line → text_of (r.Printed j) ≢ line → given ≡ option_map failed_in due
   pub none : ((j : ℕ) → e ≡ ev.Print j → (text_of (r.Printed j) ≢ line) × (text_of (r.PrinterFault j) ≢ line)) → given ≡ None
 
 -- a `print` whose plan prints this mark leaves this open, where its line is missing; any other event leaves nothing open
 pub record LeavesOpen (e : Event) (due : Option (List ℕ)) (given : Option Given) : Type 0 where
-  pub print : (j : ℕ) → e ≡ ev.Print j → given ≡ option_map partly due
+  pub print : (j : ℕ) → e ≡ ev.Print j → given ≡ option_map stopped_at due
   pub other : ((j : ℕ) → e ≢ ev.Print j) → given ≡ None

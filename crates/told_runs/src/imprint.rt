@@ -9,11 +9,22 @@ use std::alloc::AllocError;
 use told_bench::{Auditor, mark_due};
 use told_nodes::is_told;
 
-/// What the printer was given in an event: a mark, and whether it took the whole line of it; else it failed in the line, or the run was stopped there.
+/// What the printer took of the line of a mark.
+#[derive(Clone, Copy)]
+pub enum Taken {
+    /// The whole line.
+    Whole,
+    /// The first bytes of it, or none, but not all: the printer failed in it.
+    Failed,
+    /// None, some or all of it: the run was stopped there.
+    Stopped,
+}
+
+/// What the printer was given in an event: a mark, and what it took of its line.
 #[derive(Clone, Copy)]
 pub struct Given {
     pub mark: [u8; 64],
-    pub whole: bool,
+    pub taken: Taken,
 }
 
 /// What the printer was given for a line of a script, which is counted from 1.
@@ -45,10 +56,16 @@ pub(crate) fn given_in(event: &Event, due: Option<[u8; 64]>, line: &[u8]) -> Opt
         return None;
     };
     if is_told(&Reply::Printed(*job), line) {
-        return Some(Given { mark, whole: true });
+        return Some(Given {
+            mark,
+            taken: Taken::Whole,
+        });
     }
     if is_told(&Reply::PrinterFault(*job), line) {
-        return Some(Given { mark, whole: false });
+        return Some(Given {
+            mark,
+            taken: Taken::Failed,
+        });
     }
     None
 }
@@ -63,7 +80,10 @@ pub(crate) fn open_in(event: &Event, due: Option<[u8; 64]>) -> Option<Given>
     let Some(mark) = due else {
         return None;
     };
-    Some(Given { mark, whole: false })
+    Some(Given {
+        mark,
+        taken: Taken::Stopped,
+    })
 }
 
 // Puts it behind the others, if the printer was given something.

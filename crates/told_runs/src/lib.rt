@@ -12,6 +12,6 @@ mod tests;
 pub mod verdict;
 
 pub use audit::audit_run;
-pub use imprint::{Given, Imprint};
+pub use imprint::{Given, Imprint, Taken};
 pub use prints::{Match, match_prints};
 pub use verdict::{Ending, Verdict};

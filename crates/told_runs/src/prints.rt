@@ -4,7 +4,7 @@ ghost use Rattle.text_streams.specs.Texts.{print_line};
 ghost use Rattle.told_runs.specs.Prints.{Matches};
 
 use crate::audit::behind;
-use crate::imprint::Imprint;
+use crate::imprint::{Imprint, Taken};
 
 /// The bytes of the line of a mark: two hexadecimal digits for each of its 64 bytes, and the line end.
 const LINE: usize = 129;
@@ -14,9 +14,10 @@ const LINE: usize = 129;
 pub enum Match {
     /// They are those of the imprints.
     Fit,
-    /// They aren't: the imprint in this place, counted from 0, is not the next, or bytes are left over behind the last.
+    /// They aren't: they fit before the imprint in this place, counted from 0, and there is not its line; where it is the number of imprints, all fit, and bytes
+    /// are left over.
     Differ(usize),
-    /// The printer failed in the imprint in this place, and what is printed from there on is not judged.
+    /// They fit before the imprint in this place, in which the printer failed or the run was stopped; what is printed from there on is not judged.
     Open(usize),
 }
 
@@ -57,15 +58,16 @@ fn imprint_in(imprints: &[Imprint], place: usize) -> Imprint
     imprints[place]
 }
 
-/// Whether the prints are those of the imprints of all runs, in order: exactly, as far as the printer did not fail in one of them.
+/// Whether the prints are those of the imprints of all runs, in order, as far as the printer took whole lines.
 pub fn match_prints(imprints: &[Imprint], prints: &[u8]) -> Match
     ensures { Matches imprints.now prints.now result }
 {
     let mut rest = prints;
     for place in 0..imprints.len() {
         let imprint = imprint_in(imprints, place);
-        if !imprint.given.whole {
-            return Match::Open(place);
+        match imprint.given.taken {
+            Taken::Whole => {}
+            Taken::Failed | Taken::Stopped => return Match::Open(place),
         }
         if !is_line(&imprint.given.mark, first_of(rest)) {
             return Match::Differ(place);

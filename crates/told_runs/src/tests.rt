@@ -1,7 +1,7 @@
 //! Audits of the ordinary path over blank nodes, with its report as it is and altered.
 ghost use Rattle.told_bench.specs.Seeing.{IsReady, audit_of};
 
-use crate::{Ending, Imprint, Verdict, audit_run};
+use crate::{Ending, Imprint, Taken, Verdict, audit_run};
 use bench_base::events::Reply;
 use script_text::{Line, put_reply};
 use std::alloc::Global;
@@ -343,9 +343,12 @@ fn is_print_open(alloc: Global, number: usize) -> Result<bool, Fail> {
         RATES.as_bytes(),
         &mut imprints,
     );
-    Ok(match imprints.last() {
-        Some(imprint) => !imprint.given.whole,
-        None => false,
+    let Some(imprint) = imprints.last() else {
+        return Ok(false);
+    };
+    Ok(match imprint.given.taken {
+        Taken::Stopped => true,
+        Taken::Whole | Taken::Failed => false,
     })
 }
 
