@@ -5,7 +5,6 @@ use Rattle.bench_base.specs.declared.words.Node.{Node}
 use Rattle.bench_base.specs.declared.events.Event.{Event}
 use Rattle.bench_base.specs.declared.events.Reply.{Reply}
 use Rattle.bench_base.specs.Events.{may_commit, calls_of}
-use Rattle.bench_base.specs.Rows.{first_holding}
 use Rattle.node_acts.specs.declared.act.Act.{Act}
 use Rattle.node_acts.specs.declared.act.Act.TheVariants.{Refuse, Tell, Commits}
 use Rattle.node_acts.specs.declared.said.Said.{Said}
@@ -54,13 +53,3 @@ pub fits_says : {K S N C R F A : Type 0} (n : Ghosts K S N C R) (d : N) (s : n.S
 fits_says n d s refusal say (Refuse x) fits = tt
 fits_says n d s refusal say (Tell a) fits = tt
 fits_says n d s refusal say (Commits c x a) fits = fits
-
--- == the first that holds ==
-
-pub either : {A : Type 0} (P : A → Type 0) (b : Bool) (x y : A) → (b ≡ true → P x) → P y → P (if b then x else y)
-either P true x y p q = p refl
-either P false x y p q = q
-
-pub holding : {A : Type 0} (P : A → Type 0) (rows : List (Bool × A)) (otherwise : A) → AllByRecursion (λ row. P row.1) rows → P otherwise → P (first_holding rows otherwise)
-holding P [] otherwise each p = p
-holding P (row ∷ rows) otherwise each p = either P row.0 row.1 (first_holding rows otherwise) (λ _. each.0) (holding P rows otherwise each.1 p)

@@ -19,6 +19,7 @@ use Rattle.psd_wire.specs.declared.message.Message.TheVariants as m
 use Rattle.psd_wire.specs.Grammar.{read}
 use Rattle.psd_wire.specs.Codes.{has_code}
 use Rattle.bench_base.specs.declared.refusals.Unread.{Unread}
+use Rattle.bench_base.proofs.Rows.{chosen}
 use Rattle.centre_ledger.specs.declared.taking.CentreAnswer.{CentreAnswer}
 use Rattle.centre_ledger.specs.declared.taking.CentreAnswer.TheVariants as answer
 use Rattle.centre_ledger.specs.Acts as acts
@@ -32,7 +33,7 @@ use Rattle.bench_views.specs.Centre as views
 use Rattle.bench_views.specs.Centre.{centre_act, IsBytesCall}
 use Rattle.bench_views.proofs.Calling.{own_says}
 use Rattle.bench.specs.Calls.{centre_call_event, IsRangedCall}
-use Rattle.bench.proofs.Calls.{polite_says, CommitsNone, none_says, told_made, told_none, fits_says, either}
+use Rattle.bench.proofs.Calls.{polite_says, CommitsNone, none_says, told_made, told_none, fits_says}
 use Rattle.node_turns.proofs.Calls.{IsCallOf, IsToldBy, MayRefuse, MaySay}
 use Rattle.bench.proofs.CentreFits.{act_fits}
 
@@ -97,11 +98,11 @@ turn_own bytes q x b (Ok false) = refl
 
 request_own : (bytes : List ℕ) (q : Request) (o : Option DeviceRow) (b : Books) → IsOfNode Centre (acts.request_act bytes q o b)
 request_own bytes q None b = tt
-request_own bytes q (Some x) b = either (λ (a : CentreAct CentreAnswer). IsOfNode Centre a) (has_code x.key bytes) _ _ (λ _. turn_own bytes q x b _) tt
+request_own bytes q (Some x) b = chosen (λ (a : CentreAct CentreAnswer). IsOfNode Centre a) (has_code x.key bytes) _ _ (λ _. turn_own bytes q x b _) (λ _. tt)
 
 done_own : (bytes : List ℕ) (q : DoneMsg) (o : Option DeviceRow) → IsOfNode Centre (acts.done_act bytes q o)
 done_own bytes q None = tt
-done_own bytes q (Some x) = either (λ (a : CentreAct CentreAnswer). IsOfNode Centre a) (has_code x.key bytes) _ _ (λ _. settled_own x q.number _) tt
+done_own bytes q (Some x) = chosen (λ (a : CentreAct CentreAnswer). IsOfNode Centre a) (has_code x.key bytes) _ _ (λ _. settled_own x q.number _) (λ _. tt)
 
 take_own : (bytes : List ℕ) (b : Books) (x : Result Message Unread) → IsOfNode Centre (acts.message_act bytes b x)
 take_own bytes b (Ok (m.Request q)) = request_own bytes q (device_at b q.device) b

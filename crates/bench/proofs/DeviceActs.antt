@@ -11,6 +11,7 @@ use Rattle.bench_base.specs.declared.refusals.Unread.{Unread}
 use Rattle.bench_base.specs.declared.events.Event.TheVariants as ev
 use Rattle.bench_base.specs.declared.events.Reply.TheVariants as r
 use Rattle.bench_base.specs.Rules.{Rules, todays_rules}
+use Rattle.bench_base.proofs.Rows.{chosen, first}
 use Rattle.indicium.specs.declared.Mark.{Mark}
 use Rattle.indicium.specs.Marks as marks
 use Rattle.node_acts.specs.declared.act.Act.TheVariants.{Refuse, Tell, Commits}
@@ -38,7 +39,7 @@ use Rattle.bench_views.specs.Devices as views
 use Rattle.bench_views.specs.Devices.{device_act}
 use Rattle.bench_views.proofs.Plans.{call_own}
 use Rattle.bench.specs.Calls.{device_call_event}
-use Rattle.bench.proofs.Calls.{polite_says, CommitsNone, none_says, told_made, told_none, fits_says, either, holding}
+use Rattle.bench.proofs.Calls.{polite_says, CommitsNone, none_says, told_made, told_none, fits_says}
 use Rattle.node_turns.proofs.Calls.{IsCallOf, IsToldBy, MayRefuse, MaySay}
 
 -- == what a call changes ==
@@ -56,15 +57,15 @@ unless_keeps n (Some k) answer keeps = tt
 again_keeps : (n : ℕ) (o : Option Mark) (c : DebitMsg) (key : List ℕ) (otherwise : Result Debited DevRefusal) → Keeps n otherwise → Keeps n (unless_again o c key otherwise)
 again_keeps n None c key otherwise keeps = keeps
 again_keeps n (Some k) c key otherwise keeps =
-    either (Keeps n) ((k.postage == c.postage) && (k.class == c.class)) (Ok (Again (marks.spell k key))) (Err (no.Conflict k.postage k.class)) (λ _. tt) tt
+    chosen (Keeps n) ((k.postage == c.postage) && (k.class == c.class)) (Ok (Again (marks.spell k key))) (Err (no.Conflict k.postage k.class)) (λ _. tt) (λ _. tt)
 
 -- a debit leaves the device's number
 debit_keeps : (ρ : Rules) (s : State) (c : DebitMsg) (today : ℤ) → Keeps s.device (debit_answer ρ s c today)
-debit_keeps ρ s c today = either (Keeps s.device) (c.device == s.device) (unless_again (repeated s.mark c.piece) c s.key (new_answer ρ s c today)) (Err (no.WrongDevice c.device))
+debit_keeps ρ s c today = chosen (Keeps s.device) (c.device == s.device) (unless_again (repeated s.mark c.piece) c s.key (new_answer ρ s c today)) (Err (no.WrongDevice c.device))
     (λ same. again_keeps s.device (repeated s.mark c.piece) c s.key (new_answer ρ s c today)
-    (holding (Keeps s.device) (piece_rows s c) _ (search rules)
-    (unless_keeps s.device (frozen_kind s.pending) _ (holding (Keeps s.device) (debit_rows ρ s c today) _ (search rules) refl))))
-    tt
+    (first (Keeps s.device) (piece_rows s c) _ (search rules)
+    (λ _. unless_keeps s.device (frozen_kind s.pending) _ (first (Keeps s.device) (debit_rows ρ s c today) _ (search rules) (λ _. refl)))))
+    (λ _. tt)
 
 -- so does what is asked
 abbrev KeepsAsked : ℕ → Result (State × List ℕ) DevRefusal → Type 0
@@ -77,7 +78,7 @@ unless_asked n (Some k) answer keeps = tt
 
 ask_keeps : (s : State) (kind : Kind) (who amount : ℕ) (today : ℤ) → KeepsAsked s.device (ask_answer todays_rules s kind who amount today)
 ask_keeps s kind who amount today =
-    unless_asked s.device (waiting_kind s.pending) _ (holding (KeepsAsked s.device) (ask_rows todays_rules s kind amount today) _ (search rules) refl)
+    unless_asked s.device (waiting_kind s.pending) _ (first (KeepsAsked s.device) (ask_rows todays_rules s kind amount today) _ (search rules) (λ _. refl))
 
 -- and what is applied
 abbrev KeepsApplied : ℕ → Result State DevRefusal → Type 0
@@ -93,8 +94,8 @@ granted_keeps kinds.Withdraw s q p = refl
 
 apply_keeps : (s : State) (o : Option Request) (p : ReplyMsg) → KeepsApplied s.device (apply_answer s o p)
 apply_keeps s None p = tt
-apply_keeps s (Some q) p = holding (KeepsApplied s.device) (apply_rows p q) (Ok (after_apply s q p)) (search rules)
-    (either (λ (x : State). x.device ≡ s.device) (is_granted p.verdict) _ _ (λ _. granted_keeps q.kind s q p) refl)
+apply_keeps s (Some q) p = first (KeepsApplied s.device) (apply_rows p q) (Ok (after_apply s q p)) (search rules)
+    (λ _. chosen (λ (x : State). x.device ≡ s.device) (is_granted p.verdict) _ _ (λ _. granted_keeps q.kind s q p) (λ _. refl))
 
 module _ {K S R : Type 0} (n : Ghosts K S ℕ State R) (from : (d : ℕ) (s : n.Seen) (x : State) → x.device ≡ d → n.IsFrom d s x) (d : ℕ) (seen : n.Seen) where
   make_fits : (key : List ℕ) (state : Option State) → IsFitting n d seen (make_act d key state)
@@ -142,8 +143,8 @@ module _ {K S R : Type 0} (n : Ghosts K S ℕ State R) (from : (d : ℕ) (s : n.
   reply_fits : (bytes : List ℕ) (p : ReplyMsg) (state : Option State) → IfSome state (λ s. s.device ≡ d) → IsFitting n d seen (reply_act d bytes p state)
   reply_fits bytes p None is = tt
   reply_fits bytes p (Some s) is =
-      holding (λ (a : DeviceAct Taken). IsFitting n d seen a) (reply_rows d bytes p s.key) (applied_act d p (apply_answer s s.pending p)) (search rules)
-      (applied_fits p (apply_answer s s.pending p) (subst (λ (k : ℕ). KeepsApplied k (apply_answer s s.pending p)) is (apply_keeps s s.pending p)))
+      first (λ (a : DeviceAct Taken). IsFitting n d seen a) (reply_rows d bytes p s.key) (applied_act d p (apply_answer s s.pending p)) (search rules)
+      (λ _. applied_fits p (apply_answer s s.pending p) (subst (λ (k : ℕ). KeepsApplied k (apply_answer s s.pending p)) is (apply_keeps s s.pending p)))
 
   released_fits : (piece : ℕ) (act : DeviceAct Franked) → IsFitting n d seen act → IsFitting n d seen (released piece act)
   released_fits piece (Refuse x) fits = tt

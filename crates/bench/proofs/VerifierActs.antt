@@ -6,6 +6,7 @@ use Rattle.bench_base.specs.declared.refusals.MarkFault.{MarkFault}
 use Rattle.bench_base.specs.declared.refusals.ScanRefusal.{ScanRefusal}
 use Rattle.bench_base.specs.declared.events.Event.TheVariants as ev
 use Rattle.bench_base.specs.declared.events.Reply.TheVariants as r
+use Rattle.bench_base.proofs.Rows.{chosen}
 use Rattle.node_acts.specs.Plans.{IsOfNode}
 use Rattle.node_seat.specs.declared.node.Node.{Ghosts}
 use Rattle.node_seat.specs.Shown.{IsFitting}
@@ -27,7 +28,7 @@ use Rattle.bench_views.specs.Verifier as views
 use Rattle.bench_views.specs.Verifier.{verifier_act, IsBytesCall}
 use Rattle.bench_views.proofs.Calling.{own_says}
 use Rattle.bench.specs.Calls.{verifier_call_event, IsRangedScan}
-use Rattle.bench.proofs.Calls.{polite_says, told_made, fits_says, either}
+use Rattle.bench.proofs.Calls.{polite_says, told_made, fits_says}
 use Rattle.bench.proofs.VerifierFits.{act_fits}
 
 -- == what a call changes ==
@@ -57,7 +58,7 @@ answer_own n k cell (Ok false) = refl
 
 marked_own : (n : ℕ) (bytes : List ℕ) (k : Mark) (today : ℤ) (key : Option (List ℕ)) (spot : Spot) → IsOfNode Verifier (acts.marked_act n bytes k today key spot)
 marked_own n bytes k today None spot = tt
-marked_own n bytes k today (Some key) spot = either (λ (a : ScanAct Accepted). IsOfNode Verifier a) (has_code key bytes) _ _ (λ _. answer_own n k spot.cell _) tt
+marked_own n bytes k today (Some key) spot = chosen (λ (a : ScanAct Accepted). IsOfNode Verifier a) (has_code key bytes) _ _ (λ _. answer_own n k spot.cell _) (λ _. tt)
 
 read_own : (n : ℕ) (bytes : List ℕ) (today : ℤ) (s : Seen) (result : Result (Mark × List ℕ) MarkFault) → IsOfNode Verifier (acts.read_act n bytes today s result)
 read_own n bytes today s (Err fault) = tt

@@ -1,6 +1,6 @@
 -- Small facts that all subjects share: of the variant that an Option or a Result has, of a test, of the first that is found, and of nodes and versions.
-use Rattle.std.proofs.Common.{◌≡◌, ℕ, ◌+◌, ◌≤◌, Bool, true, false, cond, List, ◌++◌, take, drop, take-append-drop, drop-drop, Option, Some, None, IsSome, IfNone, Result, Ok, Err, refl, sym, ap, ◌∙◌, ⊎_elim, true≢false, arith}
-use Rattle.std.specs.Prelude.{◌==◌}
+use Rattle.std.proofs.Common.{◌≡◌, ◌⊎◌, inl, inr, ℕ, ◌+◌, ◌≤◌, Bool, true, false, cond, List, ◌++◌, take, drop, take-append-drop, drop-drop, Option, Some, None, IsSome, IfNone, Result, Ok, Err, refl, sym, ap, ◌∙◌, ⊎_elim, true≢false, arith}
+use Rattle.std.specs.Prelude.{◌==◌, ◌&&◌}
 use Rattle.std.proofs.lemmas.Bool.{eqb-true, eq-eqb, cases_Bool}
 use Rattle.std.proofs.lemmas.Bool.Decides.{nat_tests}
 use Rattle.bench_base.specs.declared.words.Node.{Node}
@@ -46,7 +46,26 @@ err-ok h = cc
 pub either : (e d : ℕ) {P : Type 0} → ((e == d) ≡ true → e ≡ d → P) → ((e == d) ≡ false → P) → P
 either e d same other = ⊎_elim (λ (h : (e == d) ≡ true). same h (eqb-true e d h)) other (cases_Bool (e == d))
 
+pub and_false : (x y : Bool) → (x && y) ≡ false → x ≡ true → y ≡ false
+and_false true y h e = h
+and_false false y h e = absurd (true≢false (sym e))
+
+-- a choice that is not 0
+pub when : (t : Bool) (x : ℕ) → (cond t x 0 ≡ 0) ⊎ ((t ≡ true) × (cond t x 0 ≡ x))
+when true x = inr (refl, refl)
+when false x = inl refl
+
 -- == look-ups that take the first in time ==
+
+-- what is found is new, or was found before
+pub found : {A : Type 0} (t : Bool) (o : Option A) (a b : A) → cond t (first_of o (Some a)) o ≡ Some b → ((t ≡ true) × (a ≡ b)) ⊎ (o ≡ Some b)
+found true None a b e = inl (refl, cc)
+found true (Some y) a b e = inr e
+found false o a b e = inr e
+
+pub first_of-some : {A : Type 0} (o : Option A) (a : A) → (b : A) × (first_of o (Some a) ≡ Some b)
+first_of-some None a = (a, refl)
+first_of-some (Some b) a = (b, refl)
 
 -- what was found stays
 pub kept_first : {A : Type 0} (t : Bool) (o : Option A) (a b : A) → o ≡ Some b → cond t (first_of o (Some a)) o ≡ Some b

@@ -1,9 +1,17 @@
 -- What an event needs, and what it may do: a row for every event.
-use Rattle.std.specs.Prelude.{◌≡◌, ℕ, ℤ, Bool, true, false, Option, Some, None}
+use Rattle.std.specs.Prelude.{◌≡◌, ℕ, ℤ, Bool, true, false, List, Option, Some, None}
 use Rattle.bench_base.specs.declared.words.Node.{Node}
 use Rattle.bench_base.specs.declared.words.Node.TheVariants.{Device, Centre, Host, Verifier}
 use Rattle.bench_base.specs.declared.events.Event.{Event}
 use Rattle.bench_base.specs.declared.events.Event.TheVariants as ev
+
+-- bytes from outside
+pub data Brought : Type 0 where
+  Nothing : Brought
+  -- they are handed to a node
+  Handed : Node → List ℕ → Brought
+  -- they are scanned
+  Scanned : List ℕ → Brought
 
 pub record Needs : Type 0 where
   -- the node that it is for; none where it is the bench's own, or where a message tells the node
@@ -18,34 +26,40 @@ pub record Needs : Type 0 where
   pub calls : ℕ
   -- the day that it sets
   pub sets : Option ℤ
+  -- what it brings from outside
+  pub brings : Brought
 
 -- the bench's own: it sets the day, it needs no day, or it needs one
 abbrev pub dates : ℤ → Needs
-dates t = record { node = None; day = false; on = false; commits = false; calls = 0; sets = Some t }
+dates t = record { node = None; day = false; on = false; commits = false; calls = 0; sets = Some t; brings = Nothing }
 
 abbrev pub apart : Needs
-apart = record { node = None; day = false; on = false; commits = false; calls = 0; sets = None }
+apart = record { node = None; day = false; on = false; commits = false; calls = 0; sets = None; brings = Nothing }
 
 abbrev pub on_a_day : Needs
-on_a_day = record { node = None; day = true; on = false; commits = false; calls = 0; sets = None }
+on_a_day = record { node = None; day = true; on = false; commits = false; calls = 0; sets = None; brings = Nothing }
 
 -- of a node, on or off: it boots the node, or leaves its storage alone
 abbrev pub boots : Node → Needs
-boots n = record { node = Some n; day = true; on = false; commits = false; calls = 1; sets = None }
+boots n = record { node = Some n; day = true; on = false; commits = false; calls = 1; sets = None; brings = Nothing }
 
 abbrev pub arms : Node → Needs
-arms n = record { node = Some n; day = true; on = false; commits = false; calls = 0; sets = None }
+arms n = record { node = Some n; day = true; on = false; commits = false; calls = 0; sets = None; brings = Nothing }
 
 -- of a node that is on: it commits nothing, or it may commit
 abbrev pub asks : Node → Needs
-asks n = record { node = Some n; day = true; on = true; commits = false; calls = 0; sets = None }
+asks n = record { node = Some n; day = true; on = true; commits = false; calls = 0; sets = None; brings = Nothing }
 
 abbrev pub changes : Node → Needs
-changes n = record { node = Some n; day = true; on = true; commits = true; calls = 6; sets = None }
+changes n = record { node = Some n; day = true; on = true; commits = true; calls = 6; sets = None; brings = Nothing }
 
 -- of the node that a message is for
 abbrev pub delivers : Needs
-delivers = record { node = None; day = true; on = true; commits = true; calls = 6; sets = None }
+delivers = record { node = None; day = true; on = true; commits = true; calls = 6; sets = None; brings = Nothing }
+
+-- of a node that is on and takes these bytes
+abbrev pub takes : Node → Brought → Needs
+takes n bytes = record (changes n) { brings = bytes }
 
 abbrev pub needs : Event → Needs
 needs (ev.Day t) = dates t
@@ -65,14 +79,14 @@ needs (ev.Deposit w receipt amount) = changes Centre
 needs (ev.Flag w suspended) = changes Centre
 needs (ev.Balance w) = asks Centre
 needs (ev.Deliver k) = delivers
-needs (ev.Give n bytes) = changes n
+needs (ev.Give n bytes) = takes n (Handed n bytes)
 needs (ev.Order d piece class grams zone) = changes Host
 needs (ev.Send j) = asks Host
 needs (ev.Print j) = changes Host
 needs (ev.Close j) = changes Host
 needs (ev.Trust d key) = changes Verifier
 needs (ev.ScanMsg scan k) = changes Verifier
-needs (ev.ScanHex scan bytes) = changes Verifier
+needs (ev.ScanHex scan bytes) = takes Verifier (Scanned bytes)
 needs (ev.Reconcile d) = asks (Device d)
 needs ev.End = apart
 
@@ -90,6 +104,9 @@ may_commit e = (needs e).commits
 
 abbrev pub calls_of : Event → ℕ
 calls_of e = (needs e).calls
+
+abbrev pub brought_by : Event → Brought
+brought_by e = (needs e).brings
 
 abbrev pub set_or : Option ℤ → Option ℤ → Option ℤ
 set_or None today = today

@@ -10,41 +10,85 @@ pub enum Event {
     Day(DayNo),
     /// Reads the rates to come, as text.
     Rates,
-    Make(DevNo, Key),
+    Make {
+        device: DevNo,
+        key: Key,
+    },
     On(Node),
     Off(Node),
-    /// After so many more calls of its storage a node loses power; of the write in hand so many
+    /// After `calls` more calls of its storage the node loses power; of the write in hand `keep`
     /// bytes are kept, and the others hold the byte.
-    Cut(Node, u32, u32, u8),
-    /// Device, piece, postage and class.
-    Debit(DevNo, u32, u32, u16),
-    /// Device, kind, customer (of an enrolment, else 0) and amount (of a reset, else 0).
-    Ask(DevNo, Kind, u32, u32),
+    Cut {
+        node: Node,
+        calls: u32,
+        keep: u32,
+        byte: u8,
+    },
+    Debit {
+        device: DevNo,
+        piece: u32,
+        postage: u32,
+        class: u16,
+    },
+    /// The customer is that of an enrolment, else 0; the amount that of a reset, else 0.
+    Ask {
+        device: DevNo,
+        kind: Kind,
+        customer: u32,
+        amount: u32,
+    },
     Resend(DevNo),
     Ack(DevNo),
     Status(DevNo),
-    /// Device, origin and key.
-    Register(DevNo, u32, Key),
+    Register {
+        device: DevNo,
+        origin: u32,
+        key: Key,
+    },
     OpenCustomer(Customer),
-    /// Customer, receipt and amount.
-    Deposit(Customer, u32, u32),
-    /// Whether the customer is to be suspended.
-    Flag(Customer, bool),
+    Deposit {
+        customer: Customer,
+        receipt: u32,
+        amount: u32,
+    },
+    /// The customer is suspended from now on, or no more.
+    Flag {
+        customer: Customer,
+        suspended: bool,
+    },
     Balance(Customer),
     /// Hands the message of this number to the node that it is for.
     Deliver(u32),
     /// Hands bytes from outside to a node.
-    Give(Node, Given),
-    /// Device, piece, class, weight in grams and zone.
-    Order(DevNo, u32, u16, u32, u32),
+    Give {
+        node: Node,
+        bytes: Given,
+    },
+    Order {
+        device: DevNo,
+        piece: u32,
+        class: u16,
+        grams: u32,
+        zone: u32,
+    },
+    /// The number of a job, as in the next two.
     Send(u32),
     Print(u32),
     Close(u32),
-    Trust(DevNo, Key),
-    /// Scan number, and the message whose mark is scanned.
-    ScanMsg(u32, u32),
-    /// Scan number, and the bytes that are scanned.
-    ScanHex(u32, Given),
+    Trust {
+        device: DevNo,
+        key: Key,
+    },
+    /// Scans the mark of the message, under this scan number.
+    ScanMsg {
+        scan: u32,
+        message: u32,
+    },
+    /// Scans these bytes, under this scan number.
+    ScanHex {
+        scan: u32,
+        bytes: Given,
+    },
     Reconcile(DevNo),
     End,
 }
@@ -70,49 +114,110 @@ pub struct DevView {
 pub enum Reply {
     Day(DayNo),
     /// How many classes and zones the rates have.
-    Rates(u32, u32),
+    Rates {
+        classes: u32,
+        zones: u32,
+    },
     RatesFault,
     RatesLength,
     RatesToml,
     RatesForm,
     Made(DevNo),
     /// The node is on, with this many commits.
-    Up(Node, u64),
+    Up {
+        node: Node,
+        commits: u64,
+    },
     Down(Node),
     CutSet(Node),
-    /// Device, piece, whether it was debited before, and the mark.
-    Marked(DevNo, u32, bool, [u8; 64]),
-    /// Device, number of the request, and of the message.
-    SentRequest(DevNo, u32, u32),
-    /// Device, number of the transaction, and of the message.
-    SentDone(DevNo, u32, u32),
-    Status(DevNo, DevView),
+    /// `again` says, here and below, that the same was done before.
+    Marked {
+        device: DevNo,
+        piece: u32,
+        again: bool,
+        mark: [u8; 64],
+    },
+    /// `number` is here and below that of the device's transaction, `message` that of the message which was sent.
+    SentRequest {
+        device: DevNo,
+        number: u32,
+        message: u32,
+    },
+    SentDone {
+        device: DevNo,
+        number: u32,
+        message: u32,
+    },
+    Status {
+        device: DevNo,
+        view: DevView,
+    },
     Registered(DevNo),
     Opened(Customer),
-    /// Customer, receipt, whether it was taken before, and the deposits after it.
-    Deposited(Customer, u32, bool, u64),
-    Flagged(Customer, bool),
-    Balance(Customer, u64),
-    /// Device, number, verdict, whether it was ruled before, and the number of the message.
-    Ruled(DevNo, u32, Verdict, bool, u32),
-    /// Device, number, and whether it was settled before.
-    Settled(DevNo, u32, bool),
-    Applied(DevNo, u32, Verdict),
-    /// Device, piece, whether it was debited before, and the number of the message.
-    Released(DevNo, u32, bool, u32),
+    /// `total` is what the customer has deposited so far.
+    Deposited {
+        customer: Customer,
+        receipt: u32,
+        again: bool,
+        total: u64,
+    },
+    Flagged {
+        customer: Customer,
+        suspended: bool,
+    },
+    Balance {
+        customer: Customer,
+        left: u64,
+    },
+    Ruled {
+        device: DevNo,
+        number: u32,
+        verdict: Verdict,
+        again: bool,
+        message: u32,
+    },
+    Settled {
+        device: DevNo,
+        number: u32,
+        again: bool,
+    },
+    Applied {
+        device: DevNo,
+        number: u32,
+        verdict: Verdict,
+    },
+    Released {
+        device: DevNo,
+        piece: u32,
+        again: bool,
+        message: u32,
+    },
     Held(u32),
-    /// Job and postage.
-    Ordered(u32, u32),
-    /// Job, and the number of the message.
-    SentDebit(u32, u32),
+    Ordered {
+        job: u32,
+        postage: u32,
+    },
+    SentDebit {
+        job: u32,
+        message: u32,
+    },
     Printed(u32),
     PrinterFault(u32),
     Closed(u32),
     Trusted(DevNo),
-    /// Device, piece, scan number, and whether it was accepted before.
-    Accepted(DevNo, u32, u32, bool),
-    /// Device, its control total, the centre's, and the transaction in flight.
-    Reconciled(DevNo, u64, u64, Option<(Kind, u64)>),
+    Accepted {
+        device: DevNo,
+        piece: u32,
+        scan: u32,
+        again: bool,
+    },
+    /// The control total that the device holds, that of the centre, and the transaction in flight.
+    Reconciled {
+        device: DevNo,
+        held: u64,
+        centre: u64,
+        in_flight: Option<(Kind, u64)>,
+    },
     End,
     NoDay,
     NoMessage(u32),
@@ -122,7 +227,10 @@ pub enum Reply {
     Fault(Node),
     Worn(Node),
     Damaged(Node),
-    DevRefused(DevNo, DevRefusal),
+    DevRefused {
+        device: DevNo,
+        refusal: DevRefusal,
+    },
     CentreRefused(CentreRefusal),
     HostRefused(HostRefusal),
     ScanRefused(ScanRefusal),

@@ -9,31 +9,79 @@ use std::marker::Model;
 /// A change of one node's record, made whole or not at all.
 #[derive(Clone, Copy)]
 pub enum Commit {
-    Made(DevNo, Key),
-    /// The request of this number, as it was sent.
-    Asked(DevNo, u32, Note),
-    Applied(DevNo, u32, Verdict),
-    /// Piece, postage, class, day, and the version of the mark.
-    Debited(DevNo, u32, u32, u16, DayNo, u8),
-    /// Origin and key.
-    Registered(DevNo, u32, Key),
+    Made {
+        device: DevNo,
+        key: Key,
+    },
+    /// The request, as it was sent.
+    Asked {
+        device: DevNo,
+        number: u32,
+        request: Note,
+    },
+    Applied {
+        device: DevNo,
+        number: u32,
+        verdict: Verdict,
+    },
+    /// The version is that of the mark.
+    Debited {
+        device: DevNo,
+        piece: u32,
+        postage: u32,
+        class: u16,
+        day: DayNo,
+        version: u8,
+    },
+    Registered {
+        device: DevNo,
+        origin: u32,
+        key: Key,
+    },
     Opened(Customer),
-    /// Receipt and amount.
-    Deposited(Customer, u32, u32),
-    /// Whether the customer is suspended.
-    Flagged(Customer, bool),
+    Deposited {
+        customer: Customer,
+        receipt: u32,
+        amount: u32,
+    },
+    Flagged {
+        customer: Customer,
+        suspended: bool,
+    },
     /// The ruling on the request of this number, and that request.
-    Ruled(DevNo, u32, Verdict, Note),
-    Settled(DevNo, u32),
-    /// Job, device, piece, postage and class.
-    Ordered(u32, DevNo, u32, u32, u16),
-    /// Job and mark.
-    Held(u32, [u8; 64]),
+    Ruled {
+        device: DevNo,
+        number: u32,
+        verdict: Verdict,
+        request: Note,
+    },
+    Settled {
+        device: DevNo,
+        number: u32,
+    },
+    Ordered {
+        job: u32,
+        device: DevNo,
+        piece: u32,
+        postage: u32,
+        class: u16,
+    },
+    Held {
+        job: u32,
+        mark: [u8; 64],
+    },
+    /// The number of a job, as in the next.
     Began(u32),
     Closed(u32),
-    Trusted(DevNo, Key),
-    /// Piece and scan.
-    Accepted(DevNo, u32, u32),
+    Trusted {
+        device: DevNo,
+        key: Key,
+    },
+    Accepted {
+        device: DevNo,
+        piece: u32,
+        scan: u32,
+    },
 }
 
 /// One entry of the ledger: what happened on the bench, as far as anyone may rely on it.
@@ -41,18 +89,29 @@ pub enum Commit {
 pub enum Entry {
     Commit(Commit),
     /// A commit of a node that failed: it may count or not.
-    Torn(Node, Commit),
+    Torn {
+        node: Node,
+        commit: Commit,
+    },
     Begin,
     Day(DayNo),
     /// The text that the rates were read from.
     Rates(Text),
     Sent(Note),
-    /// Device, piece and mark.
-    Released(DevNo, u32, [u8; 64]),
-    /// Job and mark.
-    Printed(u32, [u8; 64]),
+    Released {
+        device: DevNo,
+        piece: u32,
+        mark: [u8; 64],
+    },
+    Printed {
+        job: u32,
+        mark: [u8; 64],
+    },
     /// A node came on with this many commits.
-    Up(Node, u64),
+    Up {
+        node: Node,
+        commits: u64,
+    },
     Down(Node),
 }
 

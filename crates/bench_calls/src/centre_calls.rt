@@ -98,7 +98,12 @@ impl<R: BooksOf> Call<CentreCallee, R, Row> for DepositCall {
     }
 
     fn answer(&self, _callee: &CentreCallee, deposit: &Deposit) -> Said {
-        Said::of(Reply::Deposited(self.customer, self.receipt, deposit.again, deposit.total))
+        Said::of(Reply::Deposited {
+            customer: self.customer,
+            receipt: self.receipt,
+            again: deposit.again,
+            total: deposit.total,
+        })
     }
 }
 
@@ -118,7 +123,10 @@ impl<R: BooksOf> Call<CentreCallee, R, Row> for FlagCall {
     }
 
     fn answer(&self, _callee: &CentreCallee, _flagged: &()) -> Said {
-        Said::of(Reply::Flagged(self.customer, self.suspended))
+        Said::of(Reply::Flagged {
+            customer: self.customer,
+            suspended: self.suspended,
+        })
     }
 }
 
@@ -138,7 +146,10 @@ impl<R: BooksOf> Call<CentreCallee, R, Row> for BalanceCall {
     }
 
     fn answer(&self, _callee: &CentreCallee, left: &u64) -> Said {
-        Said::of(Reply::Balance(self.customer, *left))
+        Said::of(Reply::Balance {
+            customer: self.customer,
+            left: *left,
+        })
     }
 }
 
@@ -174,14 +185,24 @@ fn took(message: u32, answer: &CentreAnswer) -> Said
             reply,
             again,
         } => Said::sending(
-            Reply::Ruled(*device, *number, *verdict, *again, message),
+            Reply::Ruled {
+                device: *device,
+                number: *number,
+                verdict: *verdict,
+                again: *again,
+                message,
+            },
             *reply,
         ),
         CentreAnswer::Settled {
             device,
             number,
             again,
-        } => Said::of(Reply::Settled(*device, *number, *again)),
+        } => Said::of(Reply::Settled {
+            device: *device,
+            number: *number,
+            again: *again,
+        }),
     }
 }
 

@@ -15,7 +15,12 @@ fn stood(device: DevNo, held: u64, act: CentreAct<Standing>) -> Reply
     match act {
         Act::Refuse(refusal) => Reply::CentreRefused(refusal),
         Act::Tell(standing) | Act::Commits(_, _, standing) => {
-            Reply::Reconciled(device, held, standing.centre, standing.in_flight)
+            Reply::Reconciled {
+                device,
+                held,
+                centre: standing.centre,
+                in_flight: standing.in_flight,
+            }
         }
     }
 }
@@ -26,6 +31,9 @@ pub fn compared(device: DevNo, state: &DeviceState, act: CentreAct<Standing>) ->
 {
     match state {
         Some(kept) => stood(device, kept.record().held(), act),
-        None => Reply::DevRefused(device, DevRefusal::Blank),
+        None => Reply::DevRefused {
+            device,
+            refusal: DevRefusal::Blank,
+        },
     }
 }

@@ -47,7 +47,10 @@ impl Callee for DeviceCallee {
     }
 
     fn refusal(&self, refusal: DevRefusal) -> Reply {
-        Reply::DevRefused(self.device, refusal)
+        Reply::DevRefused {
+            device: self.device,
+            refusal,
+        }
     }
 }
 
@@ -103,7 +106,12 @@ impl<R: StateOf> Call<DeviceCallee, R, DevRec> for DebitCall {
     fn answer(&self, callee: &DeviceCallee, franked: &Franked) -> Said {
         let mark = franked.mark;
         Said::giving(
-            Reply::Marked(callee.device, self.piece, franked.again, mark),
+            Reply::Marked {
+                device: callee.device,
+                piece: self.piece,
+                again: franked.again,
+                mark,
+            },
             GivenOut::Released(Released {
                 device: callee.device,
                 piece: self.piece,
@@ -139,7 +147,11 @@ impl<R: StateOf> Call<DeviceCallee, R, DevRec> for AskCall {
 
     fn answer(&self, callee: &DeviceCallee, sent: &Numbered) -> Said {
         Said::sending(
-            Reply::SentRequest(callee.device, sent.number, self.message),
+            Reply::SentRequest {
+                device: callee.device,
+                number: sent.number,
+                message: self.message,
+            },
             sent.note,
         )
     }
@@ -163,7 +175,11 @@ impl<R: StateOf> Call<DeviceCallee, R, DevRec> for ResendCall {
 
     fn answer(&self, callee: &DeviceCallee, sent: &Numbered) -> Said {
         Said::sending(
-            Reply::SentRequest(callee.device, sent.number, self.message),
+            Reply::SentRequest {
+                device: callee.device,
+                number: sent.number,
+                message: self.message,
+            },
             sent.note,
         )
     }
@@ -187,7 +203,11 @@ impl<R: StateOf> Call<DeviceCallee, R, DevRec> for AckCall {
 
     fn answer(&self, callee: &DeviceCallee, sent: &Numbered) -> Said {
         Said::sending(
-            Reply::SentDone(callee.device, sent.number, self.message),
+            Reply::SentDone {
+                device: callee.device,
+                number: sent.number,
+                message: self.message,
+            },
             sent.note,
         )
     }
@@ -213,7 +233,10 @@ impl<R: StateOf> Call<DeviceCallee, R, DevRec> for StatusCall {
     }
 
     fn answer(&self, callee: &DeviceCallee, view: &DevView) -> Said {
-        Said::of(Reply::Status(callee.device, *view))
+        Said::of(Reply::Status {
+            device: callee.device,
+            view: *view,
+        })
     }
 }
 
@@ -259,9 +282,18 @@ fn took(device: DevNo, message: u32, taken: &Taken) -> Said
     ensures { result ≡ views.took device message taken.now }
 {
     match taken {
-        Taken::Applied { number, verdict } => Said::of(Reply::Applied(device, *number, *verdict)),
+        Taken::Applied { number, verdict } => Said::of(Reply::Applied {
+            device,
+            number: *number,
+            verdict: *verdict,
+        }),
         Taken::Released { piece, mark, again } => Said {
-            reply: Reply::Released(device, *piece, *again, message),
+            reply: Reply::Released {
+                device,
+                piece: *piece,
+                again: *again,
+                message,
+            },
             given: Some(GivenOut::Released(Released {
                 device,
                 piece: *piece,

@@ -63,7 +63,10 @@ impl<R: JobsOf> Call<HostCallee, R, JobRow> for OrderCall {
     }
 
     fn answer(&self, _callee: &HostCallee, done: &Ordered) -> Said {
-        Said::of(Reply::Ordered(done.job, done.postage))
+        Said::of(Reply::Ordered {
+            job: done.job,
+            postage: done.postage,
+        })
     }
 }
 
@@ -83,7 +86,13 @@ impl<R: JobsOf> Call<HostCallee, R, JobRow> for SendCall {
     }
 
     fn answer(&self, _callee: &HostCallee, note: &Note) -> Said {
-        Said::sending(Reply::SentDebit(self.job, self.message), *note)
+        Said::sending(
+            Reply::SentDebit {
+                job: self.job,
+                message: self.message,
+            },
+            *note,
+        )
     }
 }
 

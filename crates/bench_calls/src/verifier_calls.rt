@@ -76,7 +76,12 @@ impl<'a, R: RowsOf> Call<VerifierCallee, R, Change> for ScanCall<'a> {
     }
 
     fn answer(&self, _callee: &VerifierCallee, piece: &Accepted) -> Said {
-        Said::of(Reply::Accepted(piece.device, piece.piece, self.number, piece.again))
+        Said::of(Reply::Accepted {
+            device: piece.device,
+            piece: piece.piece,
+            scan: self.number,
+            again: piece.again,
+        })
     }
 }
 

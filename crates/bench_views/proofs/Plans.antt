@@ -29,7 +29,8 @@ use Rattle.ledger_terms.specs.Devices.{key_of, pending, number, waiting}
 use Rattle.psd_state.specs.State.{State, Holds, PendingOk}
 use Rattle.psd_state.specs.Records.{IsRecordOf, IsOutstanding, state_of}
 use Rattle.psd_state.specs.Answers.{debit_answer, ask_answer, ask_rows, waiting_kind, apply_answer, resend_answer, done_answer}
-use Rattle.psd_state.proofs.Keeping.{passes, unless-passes}
+use Rattle.bench_base.proofs.Rows.{passes}
+use Rattle.psd_state.proofs.Keeping.{unless-passes}
 use Rattle.psd_state.specs.Laws.{ResendingRepeats}
 use Rattle.psd_state.specs.declared.debiting.Debited.{Debited}
 use Rattle.psd_state.specs.declared.debiting.Debited.TheVariants.{New, Again}

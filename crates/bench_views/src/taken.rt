@@ -205,17 +205,27 @@ pub fn take<'a>(event: &'a Event, messages: &'a [Note], rates: &Option<Rates>) -
         Event::Rates => Some(Taken::Rates),
         Event::On(node) => Some(of_node(*node, Asked::On, Asked::On, Asked::On, Asked::On)),
         Event::Off(node) => Some(of_node(*node, Asked::Off, Asked::Off, Asked::Off, Asked::Off)),
-        Event::Cut(node, calls, keep, byte) => Some(of_node(
+        Event::Cut {
+            node,
+            calls,
+            keep,
+            byte,
+        } => Some(of_node(
             *node,
             Asked::Cut(*calls, *keep, *byte),
             Asked::Cut(*calls, *keep, *byte),
             Asked::Cut(*calls, *keep, *byte),
             Asked::Cut(*calls, *keep, *byte),
         )),
-        Event::Make(device, key) => {
+        Event::Make { device, key } => {
             Some(of_device(*device, DeviceCall::Make(MakeCall { key: *key })))
         }
-        Event::Debit(device, piece, postage, class) => Some(of_device(
+        Event::Debit {
+            device,
+            piece,
+            postage,
+            class,
+        } => Some(of_device(
             *device,
             DeviceCall::Debit(DebitCall {
                 piece: *piece,
@@ -223,7 +233,12 @@ pub fn take<'a>(event: &'a Event, messages: &'a [Note], rates: &Option<Rates>) -
                 class: *class,
             }),
         )),
-        Event::Ask(device, kind, customer, amount) => Some(of_device(
+        Event::Ask {
+            device,
+            kind,
+            customer,
+            amount,
+        } => Some(of_device(
             *device,
             DeviceCall::Ask(AskCall {
                 kind: *kind,
@@ -238,7 +253,11 @@ pub fn take<'a>(event: &'a Event, messages: &'a [Note], rates: &Option<Rates>) -
         )),
         Event::Ack(device) => Some(of_device(*device, DeviceCall::Ack(AckCall { message: next }))),
         Event::Status(device) => Some(of_device(*device, DeviceCall::Status)),
-        Event::Register(device, origin, key) => {
+        Event::Register {
+            device,
+            origin,
+            key,
+        } => {
             Some(of_centre(CentreCall::Register(RegisterCall {
                 device: *device,
                 origin: *origin,
@@ -248,14 +267,21 @@ pub fn take<'a>(event: &'a Event, messages: &'a [Note], rates: &Option<Rates>) -
         Event::OpenCustomer(customer) => Some(of_centre(CentreCall::Open(OpenCall {
             customer: *customer,
         }))),
-        Event::Deposit(customer, receipt, amount) => {
+        Event::Deposit {
+            customer,
+            receipt,
+            amount,
+        } => {
             Some(of_centre(CentreCall::Deposit(DepositCall {
                 customer: *customer,
                 receipt: *receipt,
                 amount: *amount,
             })))
         }
-        Event::Flag(customer, suspended) => Some(of_centre(CentreCall::Flag(FlagCall {
+        Event::Flag {
+            customer,
+            suspended,
+        } => Some(of_centre(CentreCall::Flag(FlagCall {
             customer: *customer,
             suspended: *suspended,
         }))),
@@ -267,8 +293,14 @@ pub fn take<'a>(event: &'a Event, messages: &'a [Note], rates: &Option<Rates>) -
             next,
             messages.get(*number as usize),
         )),
-        Event::Give(node, bytes) => given_to(*node, bytes.as_slice(), next),
-        Event::Order(device, piece, class, grams, zone) => {
+        Event::Give { node, bytes } => given_to(*node, bytes.as_slice(), next),
+        Event::Order {
+            device,
+            piece,
+            class,
+            grams,
+            zone,
+        } => {
             Some(of_host(HostCall::Order(OrderCall {
                 device: *device,
                 piece: *piece,
@@ -284,14 +316,15 @@ pub fn take<'a>(event: &'a Event, messages: &'a [Note], rates: &Option<Rates>) -
         }))),
         Event::Print(job) => Some(of_host(HostCall::Print(PrintCall { job: *job }))),
         Event::Close(job) => Some(of_host(HostCall::Close(CloseCall { job: *job }))),
-        Event::Trust(device, key) => Some(of_verifier(VerifierCall::Trust(TrustCall {
+        Event::Trust { device, key } => Some(of_verifier(VerifierCall::Trust(TrustCall {
             device: *device,
             key: *key,
         }))),
-        Event::ScanMsg(scan, number) => {
-            Some(scanned(*scan, *number, messages.get(*number as usize)))
-        }
-        Event::ScanHex(scan, bytes) => Some(to_scanner(*scan, bytes.as_slice())),
+        Event::ScanMsg {
+            scan,
+            message: number,
+        } => { Some(scanned(*scan, *number, messages.get(*number as usize))) }
+        Event::ScanHex { scan, bytes } => Some(to_scanner(*scan, bytes.as_slice())),
         Event::Reconcile(device) => Some(Taken::Reconcile(*device)),
     }
 }

@@ -64,7 +64,11 @@ pub fn register_act(device: DevNo, origin: u32, key: &Key, accounts: &Accounts) 
     match accounts.device(device.get()) {
         Some(_) => Act::Refuse(CentreRefusal::Known),
         None => Act::Commits(
-            Commit::Registered(device, origin, *key),
+            Commit::Registered {
+                device,
+                origin,
+                key: *key,
+            },
             Row::Device(registered_row(device, origin, key)),
             (),
         ),
@@ -93,7 +97,10 @@ pub fn flag_act(customer: Customer, suspended: bool, accounts: &Accounts) -> Cen
 {
     match accounts.customer(customer.get()) {
         Some(row) => Act::Commits(
-            Commit::Flagged(customer, suspended),
+            Commit::Flagged {
+                customer,
+                suspended,
+            },
             Row::Customer(CustomerRow { suspended, ..*row }),
             (),
         ),
@@ -106,7 +113,11 @@ fn taken_act(customer: Customer, receipt: u32, amount: u32, row: &CustomerRow) -
     requires { IsSoundCustomer row.now }
     ensures { result ≡ act_of.deposited_act customer receipt amount (Some row.now) }
 {
-    let commit = Commit::Deposited(customer, receipt, amount);
+    let commit = Commit::Deposited {
+        customer,
+        receipt,
+        amount,
+    };
     match deposited(row, receipt, amount) {
         Err(refusal) => Act::Refuse(refusal),
         Ok(None) => {

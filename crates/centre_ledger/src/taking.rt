@@ -111,7 +111,12 @@ fn ruled_act(
     let next = ruled_on(row, key, request, note, verdict, left);
     let reply = next.reply;
     Act::Commits(
-        Commit::Ruled(row.device, request.number, verdict, *note),
+        Commit::Ruled {
+            device: row.device,
+            number: request.number,
+            verdict,
+            request: *note,
+        },
         Row::Device(next),
         CentreAnswer::Ruled {
             device: row.device,
@@ -155,7 +160,7 @@ fn settled_act(row: &DeviceRow, number: u32) -> CentreAct<CentreAnswer>
             again: true,
         }),
         Ok(Some(next)) => Act::Commits(
-            Commit::Settled(device, number),
+            Commit::Settled { device, number },
             Row::Device(next),
             CentreAnswer::Settled {
                 device,

@@ -18,7 +18,7 @@ use Rattle.ledger_moves.specs.Moves as moves
 use Rattle.ledger_moves.specs.Moves.{Moves, OtherUp, plan, at_node, unless_worn}
 use Rattle.ledger_moves.specs.Tariffs.{Tariff}
 use Rattle.ledger_terms.specs.Centres.{balance, opened}
-use Rattle.law_good.proofs.Basics.{chosen}
+use Rattle.bench_base.proofs.Rows.{chosen}
 
 module _ (w : ℕ) (H : Ledger) where
   -- the reply is the customer's balance, and the centre is on; or it is no balance of the customer's

@@ -50,7 +50,7 @@ use Rattle.ledger_moves.specs.Devices as device
 use Rattle.ledger_moves.specs.Moves as moves
 use Rattle.ledger_moves.specs.Moves.{plan, at_node, unless_worn}
 use Rattle.ledger_moves.specs.Tariffs.{Tariff, TextFault, NoToml, NoForm}
-use Rattle.law_good.proofs.Basics.{chosen}
+use Rattle.bench_base.proofs.Rows.{chosen}
 
 -- an entry that neither counts, opens nor settles a commit
 abbrev pub IsCalm : Entry → Type 0

@@ -8,7 +8,7 @@ use Rattle.bench_base.specs.declared.ledger.Commit.TheVariants.{Ruled}
 use Rattle.bench_base.specs.Kinds.{is_granted, empties}
 use Rattle.bench_base.specs.Ledger.{Ledger, counted}
 use Rattle.bench_base.specs.Rules.{Rules}
-use Rattle.bench_base.proofs.Facts.{either}
+use Rattle.bench_base.proofs.Facts.{either, when}
 use Rattle.psd_wire.specs.declared.message.Request.{Request}
 use Rattle.ledger_terms.specs.Requests.{request_in}
 use Rattle.ledger_terms.specs.Sums.{adds, takes, bought, returned, descending}
@@ -17,7 +17,6 @@ use Rattle.ledger_lawful.specs.Editions.{Editions}
 use Rattle.ledger_lawful.specs.Lawful.{Always, Lawful, LawfulAt, Balances, Refunds}
 use Rattle.ledger_moves.specs.Histories.{History}
 use Rattle.ledger_moves.specs.Tariffs.{Tariff}
-use Rattle.law_good.proofs.Basics.{when}
 use Rattle.law_good.proofs.Good.{Good, Fits}
 use Rattle.law_money.proofs.Links.{link, note-le}
 use Rattle.law_money.proofs.Money as money

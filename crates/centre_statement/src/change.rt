@@ -56,13 +56,20 @@ pub fn change_in(commit: &Commit, customer: Customer) -> Option<Change>
     ensures { result ≡ change_in commit.now customer }
 {
     match commit {
-        Commit::Deposited(who, receipt, amount) if *who == customer => Some(Change {
+        Commit::Deposited {
+            customer: who,
+            receipt,
+            amount,
+        } if *who == customer => Some(Change {
             cause: Cause::Deposit(*receipt),
             amount: u64::from(*amount),
         }),
-        Commit::Ruled(device, number, Verdict::Granted, note) => {
-            granted_change(*device, *number, note.as_slice(), customer)
-        }
+        Commit::Ruled {
+            device,
+            number,
+            verdict: Verdict::Granted,
+            request: note,
+        } => { granted_change(*device, *number, note.as_slice(), customer) }
         _ => None,
     }
 }

@@ -18,22 +18,22 @@ fn is_centres(commit: &Commit) -> bool
     ensures { result ≡ is_centre (node_of commit.now) }
 {
     match commit {
-        Commit::Registered(_, _, _)
+        Commit::Registered { .. }
         | Commit::Opened(_)
-        | Commit::Deposited(_, _, _)
-        | Commit::Flagged(_, _)
-        | Commit::Ruled(_, _, _, _)
-        | Commit::Settled(_, _) => true,
-        Commit::Made(_, _)
-        | Commit::Asked(_, _, _)
-        | Commit::Applied(_, _, _)
-        | Commit::Debited(_, _, _, _, _, _)
-        | Commit::Ordered(_, _, _, _, _)
-        | Commit::Held(_, _)
+        | Commit::Deposited { .. }
+        | Commit::Flagged { .. }
+        | Commit::Ruled { .. }
+        | Commit::Settled { .. } => true,
+        Commit::Made { .. }
+        | Commit::Asked { .. }
+        | Commit::Applied { .. }
+        | Commit::Debited { .. }
+        | Commit::Ordered { .. }
+        | Commit::Held { .. }
         | Commit::Began(_)
         | Commit::Closed(_)
-        | Commit::Trusted(_, _)
-        | Commit::Accepted(_, _, _) => false,
+        | Commit::Trusted { .. }
+        | Commit::Accepted { .. } => false,
     }
 }
 
@@ -69,19 +69,31 @@ impl Watch {
     {
         match entry {
             Entry::Commit(commit) => self.made(commit),
-            Entry::Torn(Node::Centre, commit) => {
+            Entry::Torn {
+                node: Node::Centre,
+                commit,
+            } => {
                 self.torn = Some(*commit);
                 None
             }
-            Entry::Up(Node::Centre, commits) => self.came_on(*commits),
-            Entry::Torn(Node::Device(_) | Node::Host | Node::Verifier, _)
-            | Entry::Up(Node::Device(_) | Node::Host | Node::Verifier, _)
+            Entry::Up {
+                node: Node::Centre,
+                commits,
+            } => self.came_on(*commits),
+            Entry::Torn {
+                node: Node::Device(_) | Node::Host | Node::Verifier,
+                ..
+            }
+            | Entry::Up {
+                node: Node::Device(_) | Node::Host | Node::Verifier,
+                ..
+            }
             | Entry::Begin
             | Entry::Day(_)
             | Entry::Rates(_)
             | Entry::Sent(_)
-            | Entry::Released(_, _, _)
-            | Entry::Printed(_, _)
+            | Entry::Released { .. }
+            | Entry::Printed { .. }
             | Entry::Down(_) => None,
         }
     }

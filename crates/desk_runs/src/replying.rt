@@ -23,29 +23,29 @@ pub fn ended_by(event: &Event) -> Option<SideStatus>
         Event::End => Some(SideStatus::Run(Status::Done)),
         Event::Day(_)
         | Event::Rates
-        | Event::Make(_, _)
+        | Event::Make { .. }
         | Event::On(_)
         | Event::Off(_)
-        | Event::Cut(_, _, _, _)
-        | Event::Debit(_, _, _, _)
-        | Event::Ask(_, _, _, _)
+        | Event::Cut { .. }
+        | Event::Debit { .. }
+        | Event::Ask { .. }
         | Event::Resend(_)
         | Event::Ack(_)
         | Event::Status(_)
-        | Event::Register(_, _, _)
+        | Event::Register { .. }
         | Event::OpenCustomer(_)
-        | Event::Deposit(_, _, _)
-        | Event::Flag(_, _)
+        | Event::Deposit { .. }
+        | Event::Flag { .. }
         | Event::Balance(_)
         | Event::Deliver(_)
-        | Event::Give(_, _)
-        | Event::Order(_, _, _, _, _)
+        | Event::Give { .. }
+        | Event::Order { .. }
         | Event::Send(_)
         | Event::Print(_)
         | Event::Close(_)
-        | Event::Trust(_, _)
-        | Event::ScanMsg(_, _)
-        | Event::ScanHex(_, _)
+        | Event::Trust { .. }
+        | Event::ScanMsg { .. }
+        | Event::ScanHex { .. }
         | Event::Reconcile(_) => None,
     }
 }

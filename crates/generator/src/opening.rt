@@ -44,7 +44,12 @@ fn debit_event(place: u32) -> Option<Event>
     if place > 9 {
         return None;
     }
-    Some(Event::Debit(first_device(), place + 1, 1, 1))
+    Some(Event::Debit {
+        device: first_device(),
+        piece: place + 1,
+        postage: 1,
+        class: 1,
+    })
 }
 
 /// The event in this place of the opening, counted from 0; None behind the last of its 28 events.
@@ -58,18 +63,47 @@ pub fn opening_event(place: u32) -> Option<Event>
         1 => Some(Event::On(Node::Centre)),
         2 => Some(Event::On(Node::Verifier)),
         3 => Some(Event::On(Node::Device(device))),
-        4 => Some(Event::Make(device, FIRST_KEY)),
-        5 => Some(Event::Register(device, 94_105, FIRST_KEY)),
-        6 => Some(Event::Trust(device, FIRST_KEY)),
+        4 => Some(Event::Make {
+            device,
+            key: FIRST_KEY,
+        }),
+        5 => Some(Event::Register {
+            device,
+            origin: 94_105,
+            key: FIRST_KEY,
+        }),
+        6 => Some(Event::Trust {
+            device,
+            key: FIRST_KEY,
+        }),
         7 => Some(Event::OpenCustomer(customer)),
-        8 => Some(Event::Deposit(customer, 1, 1_000_000_000)),
-        9 => Some(Event::Ask(device, Kind::Enrol, 1, 0)),
+        8 => Some(Event::Deposit {
+            customer,
+            receipt: 1,
+            amount: 1_000_000_000,
+        }),
+        9 => Some(Event::Ask {
+            device,
+            kind: Kind::Enrol,
+            customer: 1,
+            amount: 0,
+        }),
         10 => Some(Event::Deliver(0)),
         11 => Some(Event::Deliver(1)),
-        12 => Some(Event::Ask(device, Kind::Audit, 0, 0)),
+        12 => Some(Event::Ask {
+            device,
+            kind: Kind::Audit,
+            customer: 0,
+            amount: 0,
+        }),
         13 => Some(Event::Deliver(2)),
         14 => Some(Event::Deliver(3)),
-        15 => Some(Event::Ask(device, Kind::Reset, 0, 1_000_000)),
+        15 => Some(Event::Ask {
+            device,
+            kind: Kind::Reset,
+            customer: 0,
+            amount: 1_000_000,
+        }),
         16 => Some(Event::Deliver(4)),
         17 => Some(Event::Deliver(5)),
         _ => debit_event(place - 18),

@@ -80,39 +80,56 @@ fn with(number: u32, rest: [u32; 3]) -> [u32; 4] {
 fn numbers(event: &Event) -> (u32, [u32; 4]) {
     match event {
         Event::Day(day) => (1, [day.get() as u32, 0, 0, 0]),
-        Event::Make(d, key) => (2, with(d.get(), [of_key(key), 0, 0])),
+        Event::Make { device: d, key } => (2, with(d.get(), [of_key(key), 0, 0])),
         Event::On(node) => (3, [node_number(*node), 0, 0, 0]),
-        Event::Cut(node, calls, keep, byte) => (
-            4,
-            [node_number(*node), *calls, *keep, u32::from(*byte)],
-        ),
-        Event::Debit(d, piece, postage, class) => (
-            5,
-            with(d.get(), [*piece, *postage, u32::from(*class)]),
-        ),
-        Event::Ask(d, kind, customer, amount) => (
-            6,
-            with(d.get(), [kind_number(*kind), *customer, *amount]),
-        ),
-        Event::Register(d, origin, key) => (7, with(d.get(), [*origin, of_key(key), 0])),
+        Event::Cut {
+            node,
+            calls,
+            keep,
+            byte,
+        } => (4, [node_number(*node), *calls, *keep, u32::from(*byte)]),
+        Event::Debit {
+            device: d,
+            piece,
+            postage,
+            class,
+        } => (5, with(d.get(), [*piece, *postage, u32::from(*class)])),
+        Event::Ask {
+            device: d,
+            kind,
+            customer,
+            amount,
+        } => (6, with(d.get(), [kind_number(*kind), *customer, *amount])),
+        Event::Register {
+            device: d,
+            origin,
+            key,
+        } => (7, with(d.get(), [*origin, of_key(key), 0])),
         Event::OpenCustomer(c) => (8, [c.get(), 0, 0, 0]),
-        Event::Deposit(c, receipt, amount) => (9, [c.get(), *receipt, *amount, 0]),
+        Event::Deposit {
+            customer: c,
+            receipt,
+            amount,
+        } => (9, [c.get(), *receipt, *amount, 0]),
         Event::Deliver(k) => (10, [*k, 0, 0, 0]),
-        Event::Give(node, bytes) => (13, with(node_number(*node), of_bytes(bytes))),
-        Event::Trust(d, key) => (11, with(d.get(), [of_key(key), 0, 0])),
-        Event::ScanMsg(n, k) => (12, [*n, *k, 0, 0]),
+        Event::Give { node, bytes } => (13, with(node_number(*node), of_bytes(bytes))),
+        Event::Trust { device: d, key } => (11, with(d.get(), [of_key(key), 0, 0])),
+        Event::ScanMsg {
+            scan: n,
+            message: k,
+        } => (12, [*n, *k, 0, 0]),
         Event::Rates
         | Event::Off(_)
         | Event::Resend(_)
         | Event::Ack(_)
         | Event::Status(_)
-        | Event::Flag(_, _)
+        | Event::Flag { .. }
         | Event::Balance(_)
-        | Event::Order(_, _, _, _, _)
+        | Event::Order { .. }
         | Event::Send(_)
         | Event::Print(_)
         | Event::Close(_)
-        | Event::ScanHex(_, _)
+        | Event::ScanHex { .. }
         | Event::Reconcile(_)
         | Event::End => (0, [0, 0, 0, 0]),
     }

@@ -42,7 +42,10 @@ fn give_debit(piece: u32, postage: u32) -> Event
     };
     let message = write_body(&Message::Debit(debit));
     match Given::new(message.as_slice()) {
-        Some(bytes) => Event::Give(Node::Device(first_device()), bytes),
+        Some(bytes) => Event::Give {
+            node: Node::Device(first_device()),
+            bytes,
+        },
         None => unreachable!(),
     }
 }
@@ -53,7 +56,10 @@ fn scan_event(counts: &Counts, postage: u32, place: u32) -> Option<Event>
 {
     match place {
         0 => Some(give_debit(counts.pieces + 1, postage)),
-        1 => Some(Event::ScanMsg(counts.scans + 1, counts.messages)),
+        1 => Some(Event::ScanMsg {
+            scan: counts.scans + 1,
+            message: counts.messages,
+        }),
         _ => None,
     }
 }
@@ -71,7 +77,12 @@ fn cut_event(
 {
     let device = Node::Device(first_device());
     match place {
-        0 => Some(Event::Cut(device, calls, keep, byte)),
+        0 => Some(Event::Cut {
+            node: device,
+            calls,
+            keep,
+            byte,
+        }),
         1 | 3 => Some(give_debit(counts.pieces + 1, postage)),
         2 => Some(Event::On(device)),
         _ => None,
@@ -83,7 +94,12 @@ fn reset_event(counts: &Counts, place: u32) -> Option<Event>
     ensures value { result ≡ slice_get (events_of counts.now turn.Reset) place }
 {
     match place {
-        0 => Some(Event::Ask(first_device(), Kind::Reset, 0, 10_000)),
+        0 => Some(Event::Ask {
+            device: first_device(),
+            kind: Kind::Reset,
+            customer: 0,
+            amount: 10_000,
+        }),
         1 | 2 => Some(Event::Deliver(counts.messages)),
         3 => Some(Event::Deliver(counts.messages + 1)),
         4 => Some(Event::Deliver(counts.messages + 2)),

@@ -72,7 +72,13 @@ fn ordered_act(
     match order(&shelf, piece) {
         Err(refusal) => Act::Refuse(refusal),
         Ok(job) => Act::Commits(
-            Commit::Ordered(job, device, piece, postage, class),
+            Commit::Ordered {
+                job,
+                device,
+                piece,
+                postage,
+                class,
+            },
             JobRow {
                 job,
                 device,
@@ -232,7 +238,10 @@ fn held_act(bytes: &[u8; 64], mark: &Mark, job: u32, rows: &JobRows, kept: &Kept
     match hold(mark, row.piece, row.postage, row.class) {
         Some(refusal) => Act::Refuse(refusal),
         None => Act::Commits(
-            Commit::Held(row.job, *bytes),
+            Commit::Held {
+                job: row.job,
+                mark: *bytes,
+            },
             held_row(row, bytes, rows, kept),
             row.job,
         ),

@@ -40,7 +40,7 @@ use Rattle.centre_ledger.specs.Answers as centre
 use Rattle.centre_ledger.specs.Answers.{last_ruling}
 use Rattle.ledger_moves.specs.Histories.{IsKnown}
 use Rattle.ledger_lawful.specs.Sane.{IsSaneCentre, is_imbalance}
-use Rattle.law_good.proofs.Basics.{chosen, first, first-that, none-holds}
+use Rattle.bench_base.proofs.Rows.{chosen, first, first-that, none-holds}
 use Rattle.std.specs.Prelude.{min}
 use Rattle.std.proofs.Math.Nat.{min-le_right, min-eq_left}
 use Rattle.std.proofs.lemmas.Option.{same_Some, none-some}

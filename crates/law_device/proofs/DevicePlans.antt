@@ -57,7 +57,8 @@ use Rattle.ledger_lawful.specs.Editions.{IsCarried}
 use Rattle.ledger_moves.specs.Histories.{IsKnown}
 use Rattle.node_acts.specs.Plans.{with_commit, after}
 use Rattle.ledger_lawful.specs.Sane.{IsSane, IsSaneDevice}
-use Rattle.law_good.proofs.Basics.{and_false, chosen, first, AllFalse}
+use Rattle.bench_base.proofs.Facts.{and_false}
+use Rattle.bench_base.proofs.Rows.{AllFalse, chosen, first}
 use Rattle.law_device.proofs.Dates.{not_before, before}
 use Rattle.bench_base.specs.Table.{IsNumber}
 use Rattle.law_plans.proofs.Whole.{sum-fits, word-fits, whole-request, whole-done}

@@ -1,4 +1,3 @@
-pub mod Basics
 pub mod Frame
 pub mod Good
 pub mod Grown

@@ -27,7 +27,7 @@ use Rattle.bench_base.specs.Ranges.{IsDevice, IsWord, IsCount, IsPostage, IsKey}
 use Rattle.bench_base.specs.Ledger.{Ledger, counted, is_on, torn_of, at_up, count_of, IsReleased, IsReleasedAs}
 use Rattle.bench_base.specs.Jobs.{Job, last_job, job_of, state_of, held_of, open_job, top, begun, in_cells}
 use Rattle.bench_base.specs.Scans.{trusted, accepted, blocks}
-use Rattle.bench_base.proofs.Facts.{ok-same, either}
+use Rattle.bench_base.proofs.Facts.{ok-same, either, found}
 use Rattle.indicium.specs.declared.Mark.{Mark}
 use Rattle.indicium.specs.Marks.{read_mark}
 use Rattle.psd_wire.specs.declared.message.Message.{Message}
@@ -40,7 +40,7 @@ use Rattle.host_jobs.specs.Answers as host
 use Rattle.verifier.specs.Answers as scans
 use Rattle.ledger_lawful.specs.Editions.{IsCarried}
 use Rattle.ledger_moves.specs.Histories.{IsKnown, IsKnownMark}
-use Rattle.law_good.proofs.Basics.{chosen, first, found}
+use Rattle.bench_base.proofs.Rows.{chosen, first}
 use Rattle.law_plans.proofs.Whole.{whole-debit}
 use Rattle.law_good.proofs.Good.{Good}
 use Rattle.law_plans.proofs.Franked.{marked-reads, MarkOf, device-word}

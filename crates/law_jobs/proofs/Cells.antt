@@ -11,10 +11,9 @@ use Rattle.bench_base.specs.declared.ledger.Commit.TheVariants.{Ordered, Held, B
 use Rattle.bench_base.specs.Rules.{Rules}
 use Rattle.bench_base.specs.Jobs.{last_job, state_of, held_of, in_cells}
 use Rattle.bench_base.specs.Scans.{block_of, block_place, with_block, blocks}
-use Rattle.bench_base.proofs.Facts.{some-none, either, none-if}
+use Rattle.bench_base.proofs.Facts.{some-none, either, none-if, and_false, found}
 use Rattle.host_jobs.specs.Answers.{is_open}
 use Rattle.verifier.specs.Order.{IsRoomy}
-use Rattle.law_good.proofs.Basics.{found, and_false}
 use Rattle.law_good.proofs.Good.{Good}
 use Rattle.law_jobs.proofs.Jobs.{jobs}
 

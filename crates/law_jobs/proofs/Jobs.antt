@@ -9,12 +9,11 @@ use Rattle.bench_base.specs.declared.ledger.Commit.{Commit}
 use Rattle.bench_base.specs.declared.ledger.Commit.TheVariants.{Ordered, Held, Began, Closed}
 use Rattle.bench_base.specs.Rules.{Rules}
 use Rattle.bench_base.specs.Rows.{first_of}
-use Rattle.law_good.proofs.Basics.{first_of-some}
 use Rattle.law_good.proofs.Good.{Good}
 use Rattle.bench_base.specs.declared.words.JobState.{JobState}
 use Rattle.bench_base.specs.declared.words.JobState.TheVariants.{Ordered as OrderedJob, Held as HeldJob, Begun as BegunJob, Closed as ClosedJob}
 use Rattle.bench_base.specs.Jobs.{Job, last_job, job_of, state_of, held_of, open_job, unless_job, piece_at, top, begun}
-use Rattle.bench_base.proofs.Facts.{either, kept_first, first_of-none}
+use Rattle.bench_base.proofs.Facts.{either, kept_first, first_of-none, first_of-some}
 use Rattle.host_jobs.proofs.JobFacts.{at-most}
 use Rattle.ledger_lawful.specs.Lawful.{is_of_piece, held_piece}
 

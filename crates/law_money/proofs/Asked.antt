@@ -9,13 +9,12 @@ use Rattle.bench_base.specs.declared.ledger.Commit.TheVariants.{Asked, Applied, 
 use Rattle.bench_base.specs.Rules.{Rules}
 use Rattle.bench_base.specs.Ranges.{IsDevice, IsWord}
 use Rattle.bench_base.specs.Kinds.{empties}
-use Rattle.bench_base.proofs.Facts.{either, first_of-none}
+use Rattle.bench_base.proofs.Facts.{either, first_of-none, found}
 use Rattle.psd_wire.specs.declared.message.Message.TheVariants as m
 use Rattle.psd_wire.specs.Grammar.{read, IsWhole}
 use Rattle.ledger_terms.specs.Requests.{request_in, note_of}
 use Rattle.ledger_terms.specs.Devices.{asked, number, pending, unless_applied, frozen, applied_of}
 use Rattle.ledger_lawful.specs.Lawful.{debited_since}
-use Rattle.law_good.proofs.Basics.{found}
 use Rattle.law_good.proofs.Kept.{note-kept}
 use Rattle.law_good.proofs.Good.{Good, Fits}
 use Rattle.law_money.proofs.Links.{waits, waits-none, note-le}

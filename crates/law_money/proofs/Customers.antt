@@ -14,17 +14,16 @@ use Rattle.bench_base.specs.declared.ledger.Commit.TheVariants.{Deposited, Ruled
 use Rattle.bench_base.specs.Rules.{Rules}
 use Rattle.bench_base.specs.Rows.{first_of, first_holding}
 use Rattle.bench_base.specs.Kinds.{same_kind, is_granted}
-use Rattle.bench_base.proofs.Facts.{either}
+use Rattle.bench_base.proofs.Facts.{either, and_false, when}
 use Rattle.psd_wire.specs.declared.message.Request.{Request}
 use Rattle.ledger_terms.specs.Requests.{request_in}
 use Rattle.ledger_terms.specs.Sums.{adds, takes, ruled_sum}
-use Rattle.law_good.proofs.Basics.{when}
+use Rattle.bench_base.proofs.Rows.{AllFalse}
 use Rattle.law_good.proofs.Good.{Good}
 use Rattle.ledger_terms.specs.Centres.{enrolled, withdrawn, deposits, customer_sum, balance, is_some_at, device_numbers, sum_over, device_share}
 use Rattle.ledger_terms.specs.Rulings.{verdict, verdict_by, verdict_rows, account_of, own_customer, has_left, is_enrolled}
 use Rattle.centre_ledger.proofs.RuledBooks.{no-enrol}
 use Rattle.law_money.proofs.Asked.{note-reads}
-use Rattle.law_good.proofs.Basics.{AllFalse, and_false}
 
 unfoldable pub AllRefuse : List (Bool × (Verdict × ℕ)) → Type 0
 AllRefuse [] = Unit {0}

@@ -8,14 +8,13 @@ use Rattle.bench_base.specs.declared.words.Verdict.{Verdict}
 use Rattle.bench_base.specs.declared.ledger.Commit.{Commit}
 use Rattle.bench_base.specs.declared.ledger.Commit.TheVariants.{Asked, Applied, Ruled, Settled}
 use Rattle.bench_base.specs.Rules.{Rules}
-use Rattle.bench_base.proofs.Facts.{either}
+use Rattle.bench_base.proofs.Facts.{either, found}
 use Rattle.psd_wire.specs.declared.message.ReplyMsg.{ReplyMsg}
 use Rattle.ledger_terms.specs.Requests.{request_in, note_of}
 use Rattle.ledger_terms.specs.Devices.{asked, number, pending, unless_applied, applied_of}
 use Rattle.ledger_terms.specs.Centres.{ruled, settled}
 use Rattle.ledger_terms.specs.InFlight.{ruling_of}
 use Rattle.ledger_terms.specs.Rulings.{reply_to, ruled_reply}
-use Rattle.law_good.proofs.Basics.{found}
 use Rattle.law_good.proofs.Good.{Good, Fits}
 
 module _ (ρ : Rules) where

@@ -12,7 +12,7 @@ use Rattle.bench_base.specs.declared.ledger.Commit.{Commit}
 use Rattle.bench_base.specs.declared.ledger.Commit.TheVariants.{Asked, Applied, Debited, Ruled}
 use Rattle.bench_base.specs.Rules.{Rules}
 use Rattle.bench_base.specs.Kinds.{empties, is_granted}
-use Rattle.bench_base.proofs.Facts.{either, first_of-none}
+use Rattle.bench_base.proofs.Facts.{either, first_of-none, first_of-some, found, when}
 use Rattle.psd_wire.specs.declared.message.Request.{Request}
 use Rattle.ledger_terms.specs.Requests.{request_in, note_of, in_note, request_of}
 use Rattle.ledger_terms.specs.Sums.{adds, takes, applied_sum, ruled_sum, loaded, refunded, bought, returned, ascending, descending}
@@ -22,7 +22,6 @@ use Rattle.ledger_terms.specs.InFlight.{ruling_of, ruled_sum_to, acknowledged_re
 use Rattle.ledger_terms.specs.Rulings.{reply_to, ruled_reply}
 use Rattle.centre_ledger.specs.Answers.{last_ruling}
 use Rattle.centre_ledger.proofs.Standings.{sum-to_all}
-use Rattle.law_good.proofs.Basics.{found, first_of-some, when}
 use Rattle.law_good.proofs.Good.{Good, Fits}
 use Rattle.law_good.proofs.Kept.{note-kept}
 use Rattle.law_money.proofs.Links.{link, waits, waits-some, ruling-le, ruled_reply-le, note-le, applied-le}

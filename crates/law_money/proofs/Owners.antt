@@ -16,10 +16,9 @@ use Rattle.psd_wire.specs.declared.message.Request.{Request}
 use Rattle.ledger_terms.specs.Requests.{request_in, note_of, in_note, request_of}
 use Rattle.ledger_terms.specs.Devices.{pending, unless_applied}
 use Rattle.ledger_terms.specs.InFlight.{ruling_of}
-use Rattle.law_good.proofs.Basics.{found}
 use Rattle.law_good.proofs.Good.{Good, Fits}
 use Rattle.bench_base.specs.Kinds.{is_allowed}
-use Rattle.bench_base.proofs.Facts.{either, kept_first}
+use Rattle.bench_base.proofs.Facts.{either, kept_first, found}
 use Rattle.ledger_terms.specs.Devices.{applied_kind, customer, phase_of}
 use Rattle.ledger_terms.specs.Centres.{enrolled}
 use Rattle.law_good.proofs.Kept.{enrolled-kept}

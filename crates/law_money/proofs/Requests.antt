@@ -18,13 +18,12 @@ use Rattle.ledger_terms.specs.Sums.{adds, loaded, refunded, bought, returned}
 use Rattle.ledger_terms.specs.Devices.{asked, number, pending, unless_applied}
 use Rattle.ledger_terms.specs.Centres.{ruled}
 use Rattle.ledger_terms.specs.InFlight.{ruling_of}
-use Rattle.law_good.proofs.Basics.{found}
 use Rattle.law_good.proofs.Good.{Good, Fits}
 use Rattle.law_money.proofs.Links.{link, waits, waits-some, note-le}
 use Rattle.std.specs.Prelude.{nat_lt}
 use Rattle.std.proofs.lemmas.Option.{same_Some}
 use Rattle.bench_base.specs.Rows.{any_true}
-use Rattle.bench_base.proofs.Facts.{either}
+use Rattle.bench_base.proofs.Facts.{either, found}
 use Rattle.ledger_terms.specs.Rulings.{verdict, verdict_by, verdict_rows, account_of, out_of_balance, imbalances, buys_limit}
 use Rattle.ledger_lawful.specs.Sane.{is_imbalance}
 use Rattle.law_money.proofs.Links.{Waits}

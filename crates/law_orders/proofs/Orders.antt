@@ -11,7 +11,7 @@ use Rattle.bench_base.specs.declared.ledger.Commit.{Commit}
 use Rattle.bench_base.specs.declared.ledger.Commit.TheVariants.{Made, Asked, Applied, Debited, Registered, Opened, Deposited, Flagged, Ruled, Settled, Ordered, Held, Began, Closed, Trusted, Accepted}
 use Rattle.bench_base.specs.Rules.{Rules}
 use Rattle.bench_base.specs.Jobs.{last_job}
-use Rattle.bench_base.proofs.Facts.{some-none, either, none-if}
+use Rattle.bench_base.proofs.Facts.{some-none, either, none-if, found}
 use Rattle.host_jobs.specs.Answers.{is_open}
 use Rattle.psd_wire.specs.declared.message.Message.TheVariants as m
 use Rattle.psd_wire.specs.Grammar.{spell}
@@ -26,7 +26,6 @@ use Rattle.centre_ledger.specs.Order as centre
 use Rattle.host_jobs.specs.Order as host
 use Rattle.host_jobs.specs.Turns as turns
 use Rattle.verifier.specs.Order as verifier
-use Rattle.law_good.proofs.Basics.{found}
 use Rattle.law_good.proofs.Good.{Good, Fits}
 use Rattle.law_money.proofs.Links.{waits, waits-none, waits-some, applied-le}
 use Rattle.law_money.proofs.Money.{funds, ruling-asked}

@@ -10,7 +10,7 @@ use Rattle.bench_base.specs.declared.ledger.Commit.TheVariants.{Made, Applied, D
 use Rattle.bench_base.specs.Rules.{Rules}
 use Rattle.bench_base.specs.Ranges.{IsDevice, IsWord}
 use Rattle.bench_base.specs.Kinds.{is_granted, same_kind}
-use Rattle.bench_base.proofs.Facts.{some-none, either, first_of-none}
+use Rattle.bench_base.proofs.Facts.{some-none, either, first_of-none, found}
 use Rattle.indicium.specs.declared.Mark.{Mark}
 use Rattle.indicium.specs.Marks as marks
 use Rattle.indicium.specs.Marks.{read_mark}
@@ -21,7 +21,6 @@ use Rattle.ledger_terms.specs.Centres.{registered, origin_in}
 use Rattle.ledger_terms.specs.Devices.{key_of, applied_kind, origin, customer}
 use Rattle.ledger_terms.specs.Franking.{key_or_none, mark_after, indicium_after, kept, marked}
 use Rattle.ledger_lawful.specs.Editions.{IsCarried}
-use Rattle.law_good.proofs.Basics.{found}
 use Rattle.law_good.proofs.Good.{Good, Fits}
 use Rattle.law_money.proofs.Asked.{note-reads}
 use Rattle.law_plans.proofs.Whole.{whole-mark}

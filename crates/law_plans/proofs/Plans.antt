@@ -19,7 +19,7 @@ use Rattle.bench_base.specs.Replies.{Told, LostPower, Faulted, PrinterFailed, to
 use Rattle.bench_base.proofs.Facts.{some-none}
 use Rattle.node_acts.specs.Plans.{with_commit, with_torn, after, after_told, MayFail, Fails, FailsTold}
 use Rattle.ledger_moves.specs.Moves.{OtherUp, FailsToRead, unless_worn, at_node}
-use Rattle.law_good.proofs.Basics.{chosen}
+use Rattle.bench_base.proofs.Rows.{chosen}
 use Rattle.law_good.proofs.Good.{Fits}
 use Rattle.law_good.proofs.Grown.{Inv, Sure, inv-commit, inv-torn, inv-up}
 

@@ -25,7 +25,7 @@ use Rattle.ledger_moves.specs.Histories.{IsKnownMark}
 use Rattle.ledger_moves.specs.Moves as moves
 use Rattle.ledger_moves.specs.Moves.{Moves, plan, entries, at_node, unless_worn, OtherUp, FailsToRead}
 use Rattle.ledger_moves.specs.Tariffs.{Tariff}
-use Rattle.law_good.proofs.Basics.{chosen, first}
+use Rattle.bench_base.proofs.Rows.{chosen, first}
 use Rattle.law_scans.specs.Acceptances.{IsAccepted, Accepts}
 
 module _ (n : ℕ) (bytes : List ℕ) (H : Ledger) where

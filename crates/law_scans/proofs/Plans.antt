@@ -56,7 +56,7 @@ use Rattle.ledger_moves.specs.Moves.{plan, at_node, unless_worn}
 use Rattle.ledger_moves.specs.Tariffs.{Tariff, TextFault, NoToml, NoForm}
 use Rattle.bench_views.specs.declared.calls.DeviceCall.TheVariants as call
 use Rattle.bench_views.proofs.Plans.{call_own}
-use Rattle.law_good.proofs.Basics.{chosen}
+use Rattle.bench_base.proofs.Rows.{chosen}
 use Rattle.law_scans.specs.Acceptances.{IsOfPiece, IsScanOf}
 use Rattle.law_scans.proofs.Entries.{Is, AllBring, PlanBrings}
 

@@ -9,44 +9,44 @@ pub fn is_accepted(reply: &Reply) -> bool
     ensures { IsTrue result ↔ IsAccepted reply.now }
 {
     match reply {
-        Reply::Accepted(_, _, _, _) => true,
-        Reply::DevRefused(_, _)
+        Reply::Accepted { .. } => true,
+        Reply::DevRefused { .. }
         | Reply::CentreRefused(_)
         | Reply::HostRefused(_)
         | Reply::ScanRefused(_)
         | Reply::Power(_)
         | Reply::Fault(_)
-        | Reply::Released(_, _, _, _)
+        | Reply::Released { .. }
         | Reply::Day(_)
-        | Reply::Rates(_, _)
+        | Reply::Rates { .. }
         | Reply::RatesFault
         | Reply::RatesLength
         | Reply::RatesToml
         | Reply::RatesForm
         | Reply::Made(_)
-        | Reply::Up(_, _)
+        | Reply::Up { .. }
         | Reply::Down(_)
         | Reply::CutSet(_)
-        | Reply::Marked(_, _, _, _)
-        | Reply::SentRequest(_, _, _)
-        | Reply::SentDone(_, _, _)
-        | Reply::Status(_, _)
+        | Reply::Marked { .. }
+        | Reply::SentRequest { .. }
+        | Reply::SentDone { .. }
+        | Reply::Status { .. }
         | Reply::Registered(_)
         | Reply::Opened(_)
-        | Reply::Deposited(_, _, _, _)
-        | Reply::Flagged(_, _)
-        | Reply::Balance(_, _)
-        | Reply::Ruled(_, _, _, _, _)
-        | Reply::Settled(_, _, _)
-        | Reply::Applied(_, _, _)
+        | Reply::Deposited { .. }
+        | Reply::Flagged { .. }
+        | Reply::Balance { .. }
+        | Reply::Ruled { .. }
+        | Reply::Settled { .. }
+        | Reply::Applied { .. }
         | Reply::Held(_)
-        | Reply::Ordered(_, _)
-        | Reply::SentDebit(_, _)
+        | Reply::Ordered { .. }
+        | Reply::SentDebit { .. }
         | Reply::Printed(_)
         | Reply::PrinterFault(_)
         | Reply::Closed(_)
         | Reply::Trusted(_)
-        | Reply::Reconciled(_, _, _, _)
+        | Reply::Reconciled { .. }
         | Reply::End
         | Reply::NoDay
         | Reply::NoMessage(_)

@@ -24,7 +24,7 @@ use Rattle.ledger_moves.specs.Histories.{History}
 use Rattle.ledger_moves.specs.Moves as moves
 use Rattle.ledger_moves.specs.Moves.{Moves, plan, at_node, unless_worn, OtherUp, FailsToRead}
 use Rattle.ledger_moves.specs.Tariffs.{Tariff}
-use Rattle.law_good.proofs.Basics.{chosen}
+use Rattle.bench_base.proofs.Rows.{chosen}
 use Rattle.law_good.proofs.Good.{Good}
 use Rattle.law_good.proofs.Grown.{Inv}
 use Rattle.law_plans.proofs.Franked.{device-word}

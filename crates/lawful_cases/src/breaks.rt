@@ -398,21 +398,50 @@ fn day(later: i32) -> DayNo {
 fn commit_of(step: Step) -> Option<Commit> {
     let d = device();
     let commit = match step {
-        Ask(n, asked) => Commit::Asked(d, n, note_of(asked)),
-        Rule(n, verdict, asked) => Commit::Ruled(d, n, verdict, note_of(asked)),
-        Apply(n, verdict) => Commit::Applied(d, n, verdict),
-        Settle(n) => Commit::Settled(d, n),
-        Debit(piece, postage, later, version) => Commit::Debited(
-            d,
+        Ask(n, asked) => Commit::Asked {
+            device: d,
+            number: n,
+            request: note_of(asked),
+        },
+        Rule(n, verdict, asked) => Commit::Ruled {
+            device: d,
+            number: n,
+            verdict,
+            request: note_of(asked),
+        },
+        Apply(n, verdict) => Commit::Applied {
+            device: d,
+            number: n,
+            verdict,
+        },
+        Settle(n) => Commit::Settled {
+            device: d,
+            number: n,
+        },
+        Debit(piece, postage, later, version) => Commit::Debited {
+            device: d,
             piece,
             postage,
-            1,
-            day(later),
+            class: 1,
+            day: day(later),
             version,
-        ),
-        Order(job, piece) => Commit::Ordered(job, d, piece, 550, 1),
-        Hold(job, mark) => Commit::Held(job, bytes_of(mark)),
-        Accept(piece, scan) => Commit::Accepted(d, piece, scan),
+        },
+        Order(job, piece) => Commit::Ordered {
+            job,
+            device: d,
+            piece,
+            postage: 550,
+            class: 1,
+        },
+        Hold(job, mark) => Commit::Held {
+            job,
+            mark: bytes_of(mark),
+        },
+        Accept(piece, scan) => Commit::Accepted {
+            device: d,
+            piece,
+            scan,
+        },
         _ => return None,
     };
     Some(commit)
@@ -425,13 +454,30 @@ pub fn entry_of(version: Version, step: Step) -> Entry {
     }
     let d = device();
     match step {
-        TornDebit(piece, postage) => Entry::Torn(
-            Node::Device(d),
-            Commit::Debited(d, piece, postage, 1, first_day(), 1),
-        ),
-        Up(count) => Entry::Up(Node::Device(d), count),
-        Release(piece, mark) => Entry::Released(d, piece, bytes_of(mark)),
-        Print(job) => Entry::Printed(job, mark_of(version)),
+        TornDebit(piece, postage) => Entry::Torn {
+            node: Node::Device(d),
+            commit: Commit::Debited {
+                device: d,
+                piece,
+                postage,
+                class: 1,
+                day: first_day(),
+                version: 1,
+            },
+        },
+        Up(count) => Entry::Up {
+            node: Node::Device(d),
+            commits: count,
+        },
+        Release(piece, mark) => Entry::Released {
+            device: d,
+            piece,
+            mark: bytes_of(mark),
+        },
+        Print(job) => Entry::Printed {
+            job,
+            mark: mark_of(version),
+        },
         _ => Entry::Begin,
     }
 }

@@ -32,8 +32,17 @@ fn ledger_of(alloc: Global, case: &Case) -> Result<Vec<Entry>, AllocError> {
 fn counted_at(alloc: Global, commits: u64) -> Result<usize, AllocError> {
     let d = path::device();
     let mut ledger = Vec::new(alloc);
-    ledger.push(Entry::Torn(Node::Device(d), Commit::Made(d, [1; 32])))?;
-    ledger.push(Entry::Up(Node::Device(d), commits))?;
+    ledger.push(Entry::Torn {
+        node: Node::Device(d),
+        commit: Commit::Made {
+            device: d,
+            key: [1; 32],
+        },
+    })?;
+    ledger.push(Entry::Up {
+        node: Node::Device(d),
+        commits,
+    })?;
     Ok(counted(alloc, &ledger)?.len())
 }
 

@@ -91,27 +91,103 @@ fn commit(version: Version, at: usize) -> Option<Commit> {
     let d = device();
     let granted = Verdict::Granted;
     let made = match at {
-        7 => Commit::Made(d, [1; 32]),
-        8 => Commit::Registered(d, 94105, [1; 32]),
-        9 => Commit::Trusted(d, [1; 32]),
+        7 => Commit::Made {
+            device: d,
+            key: [1; 32],
+        },
+        8 => Commit::Registered {
+            device: d,
+            origin: 94105,
+            key: [1; 32],
+        },
+        9 => Commit::Trusted {
+            device: d,
+            key: [1; 32],
+        },
         10 => Commit::Opened(customer()),
-        11 => Commit::Deposited(customer(), 1, 100000),
-        12 => Commit::Asked(d, 1, request_of(version, 1)),
-        14 => Commit::Ruled(d, 1, granted, request_of(version, 1)),
-        16 => Commit::Applied(d, 1, granted),
-        17 => Commit::Asked(d, 2, request_of(version, 2)),
-        19 => Commit::Ruled(d, 2, granted, request_of(version, 2)),
-        21 => Commit::Applied(d, 2, granted),
-        22 => Commit::Asked(d, 3, request_of(version, 3)),
-        24 => Commit::Ruled(d, 3, granted, request_of(version, 3)),
-        26 => Commit::Applied(d, 3, granted),
-        28 => Commit::Settled(d, 3),
-        29 => Commit::Ordered(1, d, 1, 550, 1),
-        31 => Commit::Debited(d, 1, 550, 1, first_day(), number_of(version)),
-        34 => Commit::Held(1, mark_of(version)),
+        11 => Commit::Deposited {
+            customer: customer(),
+            receipt: 1,
+            amount: 100000,
+        },
+        12 => Commit::Asked {
+            device: d,
+            number: 1,
+            request: request_of(version, 1),
+        },
+        14 => Commit::Ruled {
+            device: d,
+            number: 1,
+            verdict: granted,
+            request: request_of(version, 1),
+        },
+        16 => Commit::Applied {
+            device: d,
+            number: 1,
+            verdict: granted,
+        },
+        17 => Commit::Asked {
+            device: d,
+            number: 2,
+            request: request_of(version, 2),
+        },
+        19 => Commit::Ruled {
+            device: d,
+            number: 2,
+            verdict: granted,
+            request: request_of(version, 2),
+        },
+        21 => Commit::Applied {
+            device: d,
+            number: 2,
+            verdict: granted,
+        },
+        22 => Commit::Asked {
+            device: d,
+            number: 3,
+            request: request_of(version, 3),
+        },
+        24 => Commit::Ruled {
+            device: d,
+            number: 3,
+            verdict: granted,
+            request: request_of(version, 3),
+        },
+        26 => Commit::Applied {
+            device: d,
+            number: 3,
+            verdict: granted,
+        },
+        28 => Commit::Settled {
+            device: d,
+            number: 3,
+        },
+        29 => Commit::Ordered {
+            job: 1,
+            device: d,
+            piece: 1,
+            postage: 550,
+            class: 1,
+        },
+        31 => Commit::Debited {
+            device: d,
+            piece: 1,
+            postage: 550,
+            class: 1,
+            day: first_day(),
+            version: number_of(version),
+        },
+        34 => Commit::Held {
+            job: 1,
+            mark: mark_of(version),
+        },
         35 => Commit::Began(1),
         37 => Commit::Closed(1),
-        38 => Commit::Accepted(d, 1, 1),
+        38 => Commit::Accepted {
+            device: d,
+            piece: 1,
+            scan: 1,
+        },
         _ => return None,
     };
     Some(made)
@@ -145,12 +221,31 @@ pub fn entry(alloc: Global, version: Version, at: usize) -> Option<Entry> {
         0 => Entry::Begin,
         1 => Entry::Day(first_day()),
         2 => Entry::Rates(Text::new(Vec::new(alloc))),
-        3 => Entry::Up(Node::Centre, 0),
-        4 => Entry::Up(Node::Host, 0),
-        5 => Entry::Up(Node::Verifier, 0),
-        6 => Entry::Up(Node::Device(device()), 0),
-        32 => Entry::Released(device(), 1, mark_of(version)),
-        36 => Entry::Printed(1, mark_of(version)),
+        3 => Entry::Up {
+            node: Node::Centre,
+            commits: 0,
+        },
+        4 => Entry::Up {
+            node: Node::Host,
+            commits: 0,
+        },
+        5 => Entry::Up {
+            node: Node::Verifier,
+            commits: 0,
+        },
+        6 => Entry::Up {
+            node: Node::Device(device()),
+            commits: 0,
+        },
+        32 => Entry::Released {
+            device: device(),
+            piece: 1,
+            mark: mark_of(version),
+        },
+        36 => Entry::Printed {
+            job: 1,
+            mark: mark_of(version),
+        },
         _ => return None,
     };
     Some(other)

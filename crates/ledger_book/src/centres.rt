@@ -14,7 +14,11 @@ fn registered_in(commit: &Commit, device: DevNo) -> Option<(u32, Key)>
     ensures { result ≡ registered device (commit.now ∷ []) }
 {
     match *commit {
-        Commit::Registered(d, origin, key) if d == device => Some((origin, key)),
+        Commit::Registered {
+            device: d,
+            origin,
+            key,
+        } if d == device => Some((origin, key)),
         _ => None,
     }
 }
@@ -34,7 +38,12 @@ fn enrolled_in(commit: &Commit, device: DevNo) -> Option<u32>
     ensures { result ≡ enrolled device (commit.now ∷ []) }
 {
     match *commit {
-        Commit::Ruled(d, _, verdict, note) if d == device => {
+        Commit::Ruled {
+            device: d,
+            verdict,
+            request: note,
+            ..
+        } if d == device => {
             let request = request_in(&note);
             if is_granted(verdict) && same_kind(request.kind, Kind::Enrol) {
                 Some(request.customer)
@@ -61,7 +70,11 @@ fn ruled_in(commit: &Commit, device: DevNo) -> u32
     ensures { result ≡ ruled device (commit.now ∷ []) }
 {
     match *commit {
-        Commit::Ruled(d, n, _, _) if d == device => n,
+        Commit::Ruled {
+            device: d,
+            number: n,
+            ..
+        } if d == device => n,
         _ => 0,
     }
 }
@@ -81,7 +94,10 @@ fn done_in(commit: &Commit, device: DevNo) -> u32
     ensures { result ≡ done device (commit.now ∷ []) }
 {
     match *commit {
-        Commit::Settled(d, n) if d == device => n,
+        Commit::Settled {
+            device: d,
+            number: n,
+        } if d == device => n,
         _ => 0,
     }
 }
@@ -110,7 +126,11 @@ fn deposited_in(commit: &Commit, customer: Customer) -> u32
     ensures { result ≡ deposits customer (commit.now ∷ []) }
 {
     match *commit {
-        Commit::Deposited(c, _, amount) if c == customer => amount,
+        Commit::Deposited {
+            customer: c,
+            amount,
+            ..
+        } if c == customer => amount,
         _ => 0,
     }
 }

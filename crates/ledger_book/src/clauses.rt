@@ -38,7 +38,7 @@ fn asks_in(commit: &Commit, device: DevNo) -> u64
     ensures small { result ≤ 1 }
 {
     match *commit {
-        Commit::Asked(d, _, _) if d == device => 1,
+        Commit::Asked { device: d, .. } if d == device => 1,
         _ => 0,
     }
 }
@@ -92,9 +92,22 @@ fn is_numbered(newest: &Commit, before: &[Commit]) -> bool
     ensures { IsTrue result ↔ Numbering (newest.now ∷ reverse before.now) }
 {
     match *newest {
-        Commit::Asked(d, n, _) => is_next_ask(before, d, n),
-        Commit::Ruled(d, n, _, note) => is_next_ruling(before, d, n, &note),
-        Commit::Applied(d, n, verdict) => is_next_application(before, d, n, verdict),
+        Commit::Asked {
+            device: d,
+            number: n,
+            ..
+        } => is_next_ask(before, d, n),
+        Commit::Ruled {
+            device: d,
+            number: n,
+            request: note,
+            ..
+        } => is_next_ruling(before, d, n, &note),
+        Commit::Applied {
+            device: d,
+            number: n,
+            verdict,
+        } => is_next_application(before, d, n, verdict),
         _ => true,
     }
 }
@@ -114,7 +127,13 @@ fn is_next_debit(newest: &Commit, before: &[Commit]) -> bool
     ensures { IsTrue result ↔ NextDebit todays_rules (newest.now ∷ reverse before.now) }
 {
     match *newest {
-        Commit::Debited(d, piece, postage, _, _, version) => {
+        Commit::Debited {
+            device: d,
+            piece,
+            postage,
+            version,
+            ..
+        } => {
             u128::from(piece) == pieces(before, d) + 1
                 && 1 <= postage
                 && postage <= POSTAGE
@@ -178,8 +197,12 @@ fn debited_after(commit: &Commit, device: DevNo, number: u32, before: bool) -> b
         → result ≡ debited_since device number (commit.now ∷ C) }
 {
     match *commit {
-        Commit::Asked(d, n, _) if d == device && n == number => false,
-        Commit::Debited(d, _, _, _, _, _) if d == device => true,
+        Commit::Asked {
+            device: d,
+            number: n,
+            ..
+        } if d == device && n == number => false,
+        Commit::Debited { device: d, .. } if d == device => true,
         _ => before,
     }
 }
@@ -216,8 +239,17 @@ fn is_refunded(newest: &Commit, before: &[Commit], commits: &[Commit]) -> bool
     ensures { IsTrue result ↔ Refunds (newest.now ∷ reverse before.now) }
 {
     match *newest {
-        Commit::Ruled(d, _, verdict, note) => is_whole_refund(before, d, verdict, &note),
-        Commit::Applied(d, n, verdict) => leaves_nothing(commits, before, d, n, verdict),
+        Commit::Ruled {
+            device: d,
+            verdict,
+            request: note,
+            ..
+        } => is_whole_refund(before, d, verdict, &note),
+        Commit::Applied {
+            device: d,
+            number: n,
+            verdict,
+        } => leaves_nothing(commits, before, d, n, verdict),
         _ => true,
     }
 }
@@ -237,7 +269,10 @@ fn is_after_applied(newest: &Commit, before: &[Commit]) -> bool
     ensures { IsTrue result ↔ AfterApplied (newest.now ∷ reverse before.now) }
 {
     match *newest {
-        Commit::Settled(d, n) => applied_of(before, d, u64::from(n)).is_some(),
+        Commit::Settled {
+            device: d,
+            number: n,
+        } => applied_of(before, d, u64::from(n)).is_some(),
         _ => true,
     }
 }
@@ -328,7 +363,12 @@ fn is_in_time(newest: &Commit, before: &[Commit]) -> bool
     ensures { IsTrue result ↔ Days todays_rules (newest.now ∷ reverse before.now) }
 {
     match *newest {
-        Commit::Debited(d, _, postage, _, day, _) => {
+        Commit::Debited {
+            device: d,
+            postage,
+            day,
+            ..
+        } => {
             last_day(before, d) <= day.get()
                 && is_franked_on(day, deadline(before, d), postage)
                 && phase(before, d) == Phase::InService

@@ -32,8 +32,8 @@ fn torn_after(entry: &Entry, node: &Node, before: Option<Commit>) -> Option<Comm
     ensures { (H : Ledger) → torn_of node.now H ≡ before → result ≡ torn_of node.now (entry.now ∷ H) }
 {
     match *entry {
-        Entry::Torn(n, commit) if same_node(&n, node) => Some(commit),
-        Entry::Up(n, _) if same_node(&n, node) => None,
+        Entry::Torn { node: n, commit } if same_node(&n, node) => Some(commit),
+        Entry::Up { node: n, .. } if same_node(&n, node) => None,
         _ => before,
     }
 }
@@ -55,7 +55,10 @@ fn newest(entry: &Entry, before: &[Entry], commits: &[Commit]) -> Option<Commit>
 {
     match *entry {
         Entry::Commit(commit) => Some(commit),
-        Entry::Up(node, count) if count == count_of(commits, &node) + 1 => torn_of(before, &node),
+        Entry::Up {
+            node,
+            commits: count,
+        } if count == count_of(commits, &node) + 1 => torn_of(before, &node),
         _ => None,
     }
 }

@@ -14,7 +14,7 @@ fn key_in(commit: &Commit, device: DevNo) -> Option<Key>
     ensures { result ≡ key_of device (commit.now ∷ []) }
 {
     match *commit {
-        Commit::Made(d, key) if d == device => Some(key),
+        Commit::Made { device: d, key } if d == device => Some(key),
         _ => None,
     }
 }
@@ -34,7 +34,11 @@ fn applied_in(commit: &Commit, device: DevNo, number: u64) -> Option<Verdict>
     ensures { result ≡ applied_of device number (commit.now ∷ []) }
 {
     match *commit {
-        Commit::Applied(d, n, verdict) if d == device && u64::from(n) == number => Some(verdict),
+        Commit::Applied {
+            device: d,
+            number: n,
+            verdict,
+        } if d == device && u64::from(n) == number => Some(verdict),
         _ => None,
     }
 }
@@ -64,8 +68,16 @@ fn pending_after(commit: &Commit, device: DevNo, before: Option<(u32, Note)>) ->
     ensures { (C : List ACommit) → pending device C ≡ before → result ≡ pending device (commit.now ∷ C) }
 {
     match *commit {
-        Commit::Asked(d, n, note) if d == device => Some((n, note)),
-        Commit::Applied(d, n, _) if d == device => unless_applied(n, before),
+        Commit::Asked {
+            device: d,
+            number: n,
+            request: note,
+        } if d == device => Some((n, note)),
+        Commit::Applied {
+            device: d,
+            number: n,
+            ..
+        } if d == device => unless_applied(n, before),
         _ => before,
     }
 }
@@ -97,7 +109,11 @@ fn applies_kind(commit: &Commit, before: &[Commit], device: DevNo, kind: Kind) -
         (result || applied_kind kind device (reverse before.now)) }
 {
     match *commit {
-        Commit::Applied(d, n, verdict) if d == device => {
+        Commit::Applied {
+            device: d,
+            number: n,
+            verdict,
+        } if d == device => {
             is_granted(verdict) && same_kind(request_of(before, device, n).kind, kind)
         }
         _ => false,
@@ -136,7 +152,11 @@ fn deadline_after(commit: &Commit, before: &[Commit], device: DevNo, earlier: i3
         → result ≡ deadline device (commit.now ∷ reverse before.now) }
 {
     match *commit {
-        Commit::Applied(d, n, verdict) if d == device => {
+        Commit::Applied {
+            device: d,
+            number: n,
+            verdict,
+        } if d == device => {
             let request = request_of(before, device, n);
             if is_dated(verdict, request.kind) {
                 request.day.get() + 92
@@ -164,8 +184,12 @@ fn last_day_after(commit: &Commit, device: DevNo, earlier: i32) -> i32
     ensures { (C : List ACommit) → last_day device C ≡ earlier → result ≡ last_day device (commit.now ∷ C) }
 {
     match *commit {
-        Commit::Asked(d, _, note) if d == device => request_in(&note).day.get(),
-        Commit::Debited(d, _, _, _, day, _) if d == device => day.get(),
+        Commit::Asked {
+            device: d,
+            request: note,
+            ..
+        } if d == device => request_in(&note).day.get(),
+        Commit::Debited { device: d, day, .. } if d == device => day.get(),
         _ => earlier,
     }
 }

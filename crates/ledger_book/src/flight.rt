@@ -17,9 +17,12 @@ fn ruling_in(commit: &Commit, device: DevNo, number: u64) -> Option<(Verdict, No
     ensures { result ≡ ruling_of device number (commit.now ∷ []) }
 {
     match *commit {
-        Commit::Ruled(d, n, verdict, note) if d == device && u64::from(n) == number => Some((
-            verdict, note,
-        )),
+        Commit::Ruled {
+            device: d,
+            number: n,
+            verdict,
+            request: note,
+        } if d == device && u64::from(n) == number => Some((verdict, note)),
         _ => None,
     }
 }
@@ -40,11 +43,12 @@ fn acknowledged_in(commit: &Commit, device: DevNo, side: Side, limit: u32) -> u6
     ensures small { result < 2 ^ 64 }
 {
     match *commit {
-        Commit::Ruled(d, n, verdict, note) if d == device && n <= limit => amount_of(
-            side,
+        Commit::Ruled {
+            device: d,
+            number: n,
             verdict,
-            &request_in(&note),
-        ),
+            request: note,
+        } if d == device && n <= limit => amount_of(side, verdict, &request_in(&note)),
         _ => 0,
     }
 }

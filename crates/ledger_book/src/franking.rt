@@ -97,7 +97,14 @@ fn marked_in(commit: &Commit, before: &[Commit], device: DevNo, piece: u32) -> O
         (marked device piece (reverse before.now)) result }
 {
     match *commit {
-        Commit::Debited(d, p, postage, class, day, version) if d == device && p == piece => {
+        Commit::Debited {
+            device: d,
+            piece: p,
+            postage,
+            class,
+            day,
+            version,
+        } if d == device && p == piece => {
             let mark = mark_after(before, d, p, postage, class, day, version);
             Some(spelled(&mark, key_of(before, d)))
         }

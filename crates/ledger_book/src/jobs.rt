@@ -12,7 +12,12 @@ fn named_in(commit: &Commit, job: u32) -> Option<(DevNo, u32)>
     ensures { result ≡ named (job_of job (commit.now ∷ [])) }
 {
     match *commit {
-        Commit::Ordered(j, device, piece, _, _) if j == job => Some((device, piece)),
+        Commit::Ordered {
+            job: j,
+            device,
+            piece,
+            ..
+        } if j == job => Some((device, piece)),
         _ => None,
     }
 }
@@ -32,7 +37,7 @@ fn held_in(commit: &Commit, job: u32) -> Option<[u8; 64]>
     ensures { result ≡ held_of job (commit.now ∷ []) }
 {
     match *commit {
-        Commit::Held(j, mark) if j == job => Some(mark),
+        Commit::Held { job: j, mark } if j == job => Some(mark),
         _ => None,
     }
 }
@@ -74,7 +79,7 @@ fn holds_piece(commit: &Commit, before: &[Commit], device: DevNo, piece: u32) ->
         (result || held_piece device piece (reverse before.now)) }
 {
     match *commit {
-        Commit::Held(job, _) => match named(before, job) {
+        Commit::Held { job, .. } => match named(before, job) {
             Some((d, p)) => d == device && p == piece,
             None => false,
         },
@@ -97,7 +102,11 @@ fn accepted_in(commit: &Commit, device: DevNo, piece: u32) -> Option<u32>
     ensures { result ≡ accepted device piece (commit.now ∷ []) }
 {
     match *commit {
-        Commit::Accepted(d, p, scan) if d == device && p == piece => Some(scan),
+        Commit::Accepted {
+            device: d,
+            piece: p,
+            scan,
+        } if d == device && p == piece => Some(scan),
         _ => None,
     }
 }

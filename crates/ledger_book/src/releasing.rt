@@ -35,9 +35,11 @@ pub(crate) fn releases(entry: &Entry, before: &[Commit]) -> bool
     ensures { (H : Ledger) → reverse before.now ≡ counted H → (IsTrue result ↔ Releases (entry.now ∷ H)) }
 {
     match *entry {
-        Entry::Released(device, piece, mark) => {
-            is_made(before, device) && is_marked(before, device, piece, &mark)
-        }
+        Entry::Released {
+            device,
+            piece,
+            mark,
+        } => { is_made(before, device) && is_marked(before, device, piece, &mark) }
         _ => true,
     }
 }
@@ -46,7 +48,11 @@ fn releases_as(entry: &Entry, device: DevNo, piece: u32) -> bool
     ensures { IsTrue result ↔ IsReleasedAs device piece (entry.now ∷ []) }
 {
     match *entry {
-        Entry::Released(d, p, _) => d == device && p == piece,
+        Entry::Released {
+            device: d,
+            piece: p,
+            ..
+        } => d == device && p == piece,
         _ => false,
     }
 }
@@ -66,7 +72,7 @@ fn releases_mark(entry: &Entry, mark: &[u8; 64]) -> bool
     ensures { IsTrue result ↔ IsReleased mark.now (entry.now ∷ []) }
 {
     match *entry {
-        Entry::Released(_, _, x) => x == *mark,
+        Entry::Released { mark: x, .. } => x == *mark,
         _ => false,
     }
 }
@@ -86,7 +92,7 @@ fn prints_job(entry: &Entry, job: u32) -> bool
     ensures { IsTrue result ↔ IsPrinted job (entry.now ∷ []) }
 {
     match *entry {
-        Entry::Printed(j, _) => j == job,
+        Entry::Printed { job: j, .. } => j == job,
         _ => false,
     }
 }
@@ -106,7 +112,7 @@ fn is_accepted_once(newest: &Commit, before: &[Commit], book: &[Entry]) -> bool
     ensures { IsTrue result ↔ AcceptedOnce (reverse book.now) (newest.now ∷ reverse before.now) }
 {
     match *newest {
-        Commit::Accepted(device, piece, _) => {
+        Commit::Accepted { device, piece, .. } => {
             accepted(before, device, piece).is_none() && is_released_as(book, device, piece)
         }
         _ => true,
@@ -130,7 +136,7 @@ pub(crate) fn printed_once(entry: &Entry, before: &[Entry], commits: &[Commit]) 
     ensures { IsTrue result ↔ PrintedOnce (entry.now ∷ reverse before.now) }
 {
     match *entry {
-        Entry::Printed(job, mark) => is_held_with(commits, job, &mark)
+        Entry::Printed { job, mark } => is_held_with(commits, job, &mark)
             && is_begun(commits, job)
             && !is_printed(before, job),
         _ => true,
@@ -161,7 +167,7 @@ fn is_held_once(newest: &Commit, before: &[Commit], book: &[Entry]) -> bool
     ensures { IsTrue result ↔ HeldOnce (reverse book.now) (newest.now ∷ reverse before.now) }
 {
     match *newest {
-        Commit::Held(job, mark) => is_first_held(before, job) && is_released(book, &mark),
+        Commit::Held { job, mark } => is_first_held(before, job) && is_released(book, &mark),
         _ => true,
     }
 }

@@ -54,7 +54,11 @@ fn asked_in(commit: &Commit, device: DevNo, number: u32) -> Option<Note>
     ensures { result ≡ note_of device number (commit.now ∷ []) }
 {
     match *commit {
-        Commit::Asked(d, n, note) if d == device && n == number => Some(note),
+        Commit::Asked {
+            device: d,
+            number: n,
+            request: note,
+        } if d == device && n == number => Some(note),
         _ => None,
     }
 }

@@ -42,7 +42,7 @@ fn debits_in(commit: &Commit, device: DevNo) -> u128
     ensures small { result ≤ 1 }
 {
     match *commit {
-        Commit::Debited(d, _, _, _, _, _) if d == device => 1,
+        Commit::Debited { device: d, .. } if d == device => 1,
         _ => 0,
     }
 }
@@ -63,7 +63,11 @@ fn postage_in(commit: &Commit, device: DevNo) -> u32
     ensures { result ≡ ascending device (commit.now ∷ []) }
 {
     match *commit {
-        Commit::Debited(d, _, postage, _, _, _) if d == device => postage,
+        Commit::Debited {
+            device: d,
+            postage,
+            ..
+        } if d == device => postage,
         _ => 0,
     }
 }
@@ -87,9 +91,11 @@ fn applied_in(commit: &Commit, before: &[Commit], device: DevNo, side: Side) -> 
     ensures small { result < 2 ^ 64 }
 {
     match *commit {
-        Commit::Applied(d, n, verdict) if d == device => {
-            amount_of(side, verdict, &request_of(before, device, n))
-        }
+        Commit::Applied {
+            device: d,
+            number: n,
+            verdict,
+        } if d == device => { amount_of(side, verdict, &request_of(before, device, n)) }
         _ => 0,
     }
 }
@@ -111,11 +117,12 @@ fn ruled_in(commit: &Commit, device: DevNo, side: Side) -> u64
     ensures small { result < 2 ^ 64 }
 {
     match *commit {
-        Commit::Ruled(d, _, verdict, note) if d == device => amount_of(
-            side,
+        Commit::Ruled {
+            device: d,
             verdict,
-            &request_in(&note),
-        ),
+            request: note,
+            ..
+        } if d == device => amount_of(side, verdict, &request_in(&note)),
         _ => 0,
     }
 }

@@ -44,11 +44,14 @@ pub(crate) fn node_of(commit: &Commit) -> Node
     ensures { result ≡ node_of commit.now }
 {
     match *commit {
-        Commit::Made(d, _) | Commit::Asked(d, _, _) | Commit::Applied(d, _, _) => Node::Device(d),
-        Commit::Debited(d, _, _, _, _, _) => Node::Device(d),
-        Commit::Registered(..) | Commit::Opened(_) | Commit::Deposited(..) => Node::Centre,
-        Commit::Flagged(..) | Commit::Ruled(..) | Commit::Settled(..) => Node::Centre,
-        Commit::Ordered(..) | Commit::Held(..) | Commit::Began(_) | Commit::Closed(_) => Node::Host,
-        Commit::Trusted(..) | Commit::Accepted(..) => Node::Verifier,
+        Commit::Made { device: d, .. }
+        | Commit::Asked { device: d, .. }
+        | Commit::Applied { device: d, .. } => Node::Device(d),
+        Commit::Debited { device: d, .. } => Node::Device(d),
+        Commit::Registered { .. } | Commit::Opened(_) | Commit::Deposited { .. } => Node::Centre,
+        Commit::Flagged { .. } | Commit::Ruled { .. } | Commit::Settled { .. } => Node::Centre,
+        Commit::Ordered { .. } | Commit::Held { .. } | Commit::Began(_) | Commit::Closed(_) =>
+            Node::Host,
+        Commit::Trusted { .. } | Commit::Accepted { .. } => Node::Verifier,
     }
 }

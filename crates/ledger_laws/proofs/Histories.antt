@@ -40,7 +40,7 @@ use Rattle.bench_base.proofs.Facts.{ok-same}
 use Rattle.ledger_moves.specs.Moves
 use Rattle.ledger_moves.specs.Moves.{plan}
 use Rattle.ledger_moves.specs.Histories.{IsKnown, IsKnownMark, Unforged, History, nothing, begins, moves, earlier}
-use Rattle.law_good.proofs.Basics.{chosen}
+use Rattle.bench_base.proofs.Rows.{chosen}
 use Rattle.law_good.proofs.Good.{Fits, Good}
 use Rattle.law_money.proofs.Money.{ruling-asked}
 use Rattle.law_money.proofs.Asked.{note-reads}

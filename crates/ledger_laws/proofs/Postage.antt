@@ -10,12 +10,11 @@ use Rattle.bench_base.specs.declared.ledger.Entry.TheVariants as entry
 use Rattle.bench_base.specs.Rules.{Rules}
 use Rattle.bench_base.specs.Ledger.{Ledger, IsReleasedAs, count_of, torn_of, at_up, counted}
 use Rattle.bench_base.specs.Scans.{accepted}
-use Rattle.bench_base.proofs.Facts.{some-none, either, kept_first, none-if}
+use Rattle.bench_base.proofs.Facts.{some-none, either, kept_first, none-if, first_of-some, found}
 use Rattle.ledger_terms.specs.Sums.{ascending, pieces}
 use Rattle.ledger_terms.specs.Franking.{marked}
 use Rattle.ledger_lawful.specs.Lawful.{Always}
 use Rattle.ledger_lawful.specs.Further.{postage_of, sum_of, accepted_postage, Paid}
-use Rattle.law_good.proofs.Basics.{found, first_of-some}
 use Rattle.law_good.proofs.Good.{Good, Fits}
 use Rattle.law_good.proofs.Grown.{Inv, Told, Sure, NewestSure}
 use Rattle.law_money.proofs.Money.{account}

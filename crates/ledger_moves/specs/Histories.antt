@@ -6,7 +6,7 @@ use Rattle.bench_base.specs.declared.refusals.Unread.{Unread}
 use Rattle.bench_base.specs.declared.refusals.MarkFault.{MarkFault}
 use Rattle.bench_base.specs.declared.ledger.Entry.TheVariants as e
 use Rattle.bench_base.specs.declared.events.Event.{Event}
-use Rattle.bench_base.specs.declared.events.Event.TheVariants as ev
+use Rattle.bench_base.specs.Events.{Brought, Nothing, Handed, Scanned, brought_by}
 use Rattle.bench_base.specs.declared.events.Reply.{Reply}
 use Rattle.bench_base.specs.Rules.{Rules}
 use Rattle.bench_base.specs.Ledger.{Ledger, counted, IsSent, IsReleased}
@@ -61,35 +61,15 @@ abbrev pub IsKnownMark : List ℕ → Result (Mark × List ℕ) MarkFault → Le
 IsKnownMark bytes (Err fault) H = Unit {0}
 IsKnownMark bytes (Ok k) H = (key : List ℕ) → trusted k.0.device (counted H) ≡ Some key → has_code key bytes ≡ true → IsReleased bytes H
 
+-- bytes from outside are not forged
+abbrev pub AreKnown : Brought → Ledger → Type 0
+AreKnown Nothing H = Unit {0}
+AreKnown (Handed n bytes) H = IsKnown bytes (read bytes) n H
+AreKnown (Scanned bytes) H = IsKnownMark bytes (read_mark bytes) H
+
 -- nothing that comes from outside is forged
 abbrev pub Unforged : Event → Ledger → Type 0
-Unforged (ev.Give n bytes) H = IsKnown bytes (read bytes) n H
-Unforged (ev.ScanHex n bytes) H = IsKnownMark bytes (read_mark bytes) H
-Unforged (ev.Day t) H = Unit {0}
-Unforged ev.Rates H = Unit {0}
-Unforged (ev.Make d key) H = Unit {0}
-Unforged (ev.On n) H = Unit {0}
-Unforged (ev.Off n) H = Unit {0}
-Unforged (ev.Cut n calls keep byte) H = Unit {0}
-Unforged (ev.Debit d piece postage class) H = Unit {0}
-Unforged (ev.Ask d kind who amount) H = Unit {0}
-Unforged (ev.Resend d) H = Unit {0}
-Unforged (ev.Ack d) H = Unit {0}
-Unforged (ev.Status d) H = Unit {0}
-Unforged (ev.Register d origin key) H = Unit {0}
-Unforged (ev.OpenCustomer w) H = Unit {0}
-Unforged (ev.Deposit w receipt amount) H = Unit {0}
-Unforged (ev.Flag w suspended) H = Unit {0}
-Unforged (ev.Balance w) H = Unit {0}
-Unforged (ev.Deliver k) H = Unit {0}
-Unforged (ev.Order d piece class grams zone) H = Unit {0}
-Unforged (ev.Send j) H = Unit {0}
-Unforged (ev.Print j) H = Unit {0}
-Unforged (ev.Close j) H = Unit {0}
-Unforged (ev.Trust d key) H = Unit {0}
-Unforged (ev.ScanMsg scan k) H = Unit {0}
-Unforged (ev.Reconcile d) H = Unit {0}
-Unforged ev.End H = Unit {0}
+Unforged x H = AreKnown (brought_by x) H
 
 -- a history under these editions of the rules, of which the newest comes first: what was one by the earlier editions is one
 pub data History (τ : Tariff) : List Rules → Ledger → Type 0 where

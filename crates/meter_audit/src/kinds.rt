@@ -141,30 +141,30 @@ pub enum Doing {
 pub fn doing_of(event: &Event) -> Doing {
     match event {
         Event::On(node) => Doing::On(*node),
-        Event::Ask(_, kind, _, _) => Doing::Ask(*kind),
+        Event::Ask { kind, .. } => Doing::Ask(*kind),
         Event::Print(job) => Doing::Print(*job),
         Event::Day(_)
         | Event::Rates
-        | Event::Make(_, _)
+        | Event::Make { .. }
         | Event::Off(_)
-        | Event::Cut(_, _, _, _)
-        | Event::Debit(_, _, _, _)
+        | Event::Cut { .. }
+        | Event::Debit { .. }
         | Event::Resend(_)
         | Event::Ack(_)
         | Event::Status(_)
-        | Event::Register(_, _, _)
+        | Event::Register { .. }
         | Event::OpenCustomer(_)
-        | Event::Deposit(_, _, _)
-        | Event::Flag(_, _)
+        | Event::Deposit { .. }
+        | Event::Flag { .. }
         | Event::Balance(_)
         | Event::Deliver(_)
-        | Event::Give(_, _)
-        | Event::Order(_, _, _, _, _)
+        | Event::Give { .. }
+        | Event::Order { .. }
         | Event::Send(_)
         | Event::Close(_)
-        | Event::Trust(_, _)
-        | Event::ScanMsg(_, _)
-        | Event::ScanHex(_, _)
+        | Event::Trust { .. }
+        | Event::ScanMsg { .. }
+        | Event::ScanHex { .. }
         | Event::Reconcile(_)
         | Event::End => Doing::Other,
     }
@@ -210,42 +210,48 @@ pub fn word_of(deed: Deed) -> &'static str {
 pub fn entry_of(doing: &Doing, due: &Reply) -> Option<Entry> {
     match due {
         Reply::Made(device) => of_device(*device, Deed::Made, 0),
-        Reply::SentRequest(device, number, _) => of_device(*device, asks(doing), *number),
-        Reply::Applied(device, number, _) => of_device(*device, Deed::Applied, *number),
-        Reply::Marked(device, piece, _, _) | Reply::Released(device, piece, _, _) => {
+        Reply::SentRequest { device, number, .. } => of_device(*device, asks(doing), *number),
+        Reply::Applied { device, number, .. } => of_device(*device, Deed::Applied, *number),
+        Reply::Marked { device, piece, .. } | Reply::Released { device, piece, .. } => {
             of_device(*device, Deed::Debited, *piece)
         }
         Reply::Registered(device) => of_centre(*device, Deed::Registered, 0),
-        Reply::Ruled(device, number, _, _, _) => of_centre(*device, Deed::Ruled, *number),
-        Reply::Settled(device, number, _) => of_centre(*device, Deed::Settled, *number),
+        Reply::Ruled { device, number, .. } => of_centre(*device, Deed::Ruled, *number),
+        Reply::Settled { device, number, .. } => of_centre(*device, Deed::Settled, *number),
         Reply::Opened(customer) => of_customer(*customer, Deed::Opened, 0),
-        Reply::Deposited(customer, receipt, _, _) => of_customer(
-            *customer,
-            Deed::Deposited,
-            *receipt,
-        ),
-        Reply::Flagged(customer, true) => of_customer(*customer, Deed::Suspended, 0),
-        Reply::Flagged(customer, false) => of_customer(*customer, Deed::Resumed, 0),
-        Reply::Ordered(job, postage) => of_job(Deed::Ordered, *job, Some(*postage)),
+        Reply::Deposited {
+            customer,
+            receipt,
+            ..
+        } => of_customer(*customer, Deed::Deposited, *receipt),
+        Reply::Flagged {
+            customer,
+            suspended: true,
+        } => of_customer(*customer, Deed::Suspended, 0),
+        Reply::Flagged {
+            customer,
+            suspended: false,
+        } => of_customer(*customer, Deed::Resumed, 0),
+        Reply::Ordered { job, postage } => of_job(Deed::Ordered, *job, Some(*postage)),
         Reply::Held(job) => of_job(Deed::Held, *job, None),
         Reply::Printed(job) | Reply::PrinterFault(job) => of_job(Deed::Begun, *job, None),
         Reply::Closed(job) => of_job(Deed::Closed, *job, None),
         Reply::Trusted(device) => of_verifier(*device, Deed::Trusted, 0),
-        Reply::Accepted(device, piece, _, _) => of_verifier(*device, Deed::Accepted, *piece),
+        Reply::Accepted { device, piece, .. } => of_verifier(*device, Deed::Accepted, *piece),
         Reply::Day(_)
-        | Reply::Rates(_, _)
+        | Reply::Rates { .. }
         | Reply::RatesFault
         | Reply::RatesLength
         | Reply::RatesToml
         | Reply::RatesForm
-        | Reply::Up(_, _)
+        | Reply::Up { .. }
         | Reply::Down(_)
         | Reply::CutSet(_)
-        | Reply::SentDone(_, _, _)
-        | Reply::Status(_, _)
-        | Reply::Balance(_, _)
-        | Reply::SentDebit(_, _)
-        | Reply::Reconciled(_, _, _, _)
+        | Reply::SentDone { .. }
+        | Reply::Status { .. }
+        | Reply::Balance { .. }
+        | Reply::SentDebit { .. }
+        | Reply::Reconciled { .. }
         | Reply::End
         | Reply::NoDay
         | Reply::NoMessage(_)
@@ -255,7 +261,7 @@ pub fn entry_of(doing: &Doing, due: &Reply) -> Option<Entry> {
         | Reply::Fault(_)
         | Reply::Worn(_)
         | Reply::Damaged(_)
-        | Reply::DevRefused(_, _)
+        | Reply::DevRefused { .. }
         | Reply::CentreRefused(_)
         | Reply::HostRefused(_)
         | Reply::ScanRefused(_) => None,
@@ -278,40 +284,38 @@ fn scan_refused(refusal: &ScanRefusal) -> Counted {
 // What is counted of a reply that was told.
 fn told_by(reply: &Reply) -> Counted {
     match reply {
-        Reply::Marked(_, _, again, _) | Reply::Released(_, _, again, _) => {
-            Counted::Released(*again)
-        }
-        Reply::Accepted(_, _, _, again) => Counted::Accepted(*again),
+        Reply::Marked { again, .. } | Reply::Released { again, .. } => { Counted::Released(*again) }
+        Reply::Accepted { again, .. } => Counted::Accepted(*again),
         Reply::Printed(_) => Counted::Printed,
         Reply::ScanRefused(refusal) => scan_refused(refusal),
         Reply::Day(_)
-        | Reply::Rates(_, _)
+        | Reply::Rates { .. }
         | Reply::RatesFault
         | Reply::RatesLength
         | Reply::RatesToml
         | Reply::RatesForm
         | Reply::Made(_)
-        | Reply::Up(_, _)
+        | Reply::Up { .. }
         | Reply::Down(_)
         | Reply::CutSet(_)
-        | Reply::SentRequest(_, _, _)
-        | Reply::SentDone(_, _, _)
-        | Reply::Status(_, _)
+        | Reply::SentRequest { .. }
+        | Reply::SentDone { .. }
+        | Reply::Status { .. }
         | Reply::Registered(_)
         | Reply::Opened(_)
-        | Reply::Deposited(_, _, _, _)
-        | Reply::Flagged(_, _)
-        | Reply::Balance(_, _)
-        | Reply::Ruled(_, _, _, _, _)
-        | Reply::Settled(_, _, _)
-        | Reply::Applied(_, _, _)
+        | Reply::Deposited { .. }
+        | Reply::Flagged { .. }
+        | Reply::Balance { .. }
+        | Reply::Ruled { .. }
+        | Reply::Settled { .. }
+        | Reply::Applied { .. }
         | Reply::Held(_)
-        | Reply::Ordered(_, _)
-        | Reply::SentDebit(_, _)
+        | Reply::Ordered { .. }
+        | Reply::SentDebit { .. }
         | Reply::PrinterFault(_)
         | Reply::Closed(_)
         | Reply::Trusted(_)
-        | Reply::Reconciled(_, _, _, _)
+        | Reply::Reconciled { .. }
         | Reply::End
         | Reply::NoDay
         | Reply::NoMessage(_)
@@ -321,7 +325,7 @@ fn told_by(reply: &Reply) -> Counted {
         | Reply::Fault(_)
         | Reply::Worn(_)
         | Reply::Damaged(_)
-        | Reply::DevRefused(_, _)
+        | Reply::DevRefused { .. }
         | Reply::CentreRefused(_)
         | Reply::HostRefused(_) => Counted::Nothing,
     }

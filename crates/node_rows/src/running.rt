@@ -73,22 +73,41 @@ fn unstarted(alloc: Global, fail: BootFail) -> Left {
 /// The commits that rows cut, as they are told.
 fn torn_of(commit: Commit) -> Torn {
     match commit {
-        Commit::Debited(device, piece, postage, class, _, _) => {
+        Commit::Debited {
+            device,
+            piece,
+            postage,
+            class,
+            ..
+        } => {
             (
                 "debited",
                 [device.get(), piece, postage, u32::from(class), 0],
             )
         }
         Commit::Opened(customer) => ("opened", [customer.get(), 0, 0, 0, 0]),
-        Commit::Flagged(customer, on) => ("flagged", [customer.get(), u32::from(on), 0, 0, 0]),
-        Commit::Ordered(job, device, piece, postage, class) => {
+        Commit::Flagged {
+            customer,
+            suspended: on,
+        } => ("flagged", [customer.get(), u32::from(on), 0, 0, 0]),
+        Commit::Ordered {
+            job,
+            device,
+            piece,
+            postage,
+            class,
+        } => {
             (
                 "ordered",
                 [job, device.get(), piece, postage, u32::from(class)],
             )
         }
         Commit::Began(job) => ("began", [job, 0, 0, 0, 0]),
-        Commit::Accepted(device, piece, scan) => ("accepted", [device.get(), piece, scan, 0, 0]),
+        Commit::Accepted {
+            device,
+            piece,
+            scan,
+        } => ("accepted", [device.get(), piece, scan, 0, 0]),
         _ => ("another commit", [0; 5]),
     }
 }

@@ -57,8 +57,20 @@ fn told<T: Tell, K: Node, E: Callee, C: Call<E, K, K::Change>>(
         Outcome::Refused(refusal) => T::silent(callee.refusal(*refusal)),
         Outcome::Done(answer) => done(callee, act, answer, call),
         Outcome::Worn => T::silent(Reply::Worn(*node)),
-        Outcome::Power(commit) => T::one(Reply::Power(*node), Entry::Torn(*node, *commit)),
-        Outcome::Fault(commit) => T::one(Reply::Fault(*node), Entry::Torn(*node, *commit)),
+        Outcome::Power(commit) => T::one(
+            Reply::Power(*node),
+            Entry::Torn {
+                node: *node,
+                commit: *commit,
+            },
+        ),
+        Outcome::Fault(commit) => T::one(
+            Reply::Fault(*node),
+            Entry::Torn {
+                node: *node,
+                commit: *commit,
+            },
+        ),
     }
 }
 

@@ -44,9 +44,16 @@ fn given_entry(given: Option<GivenOut>) -> Option<Entry>
 {
     match given {
         Some(GivenOut::Released(released)) => {
-            Some(Entry::Released(released.device, released.piece, released.mark))
+            Some(Entry::Released {
+                device: released.device,
+                piece: released.piece,
+                mark: released.mark,
+            })
         }
-        Some(GivenOut::Printed(printed)) => Some(Entry::Printed(printed.job, printed.mark)),
+        Some(GivenOut::Printed(printed)) => Some(Entry::Printed {
+            job: printed.job,
+            mark: printed.mark,
+        }),
         None => None,
     }
 }

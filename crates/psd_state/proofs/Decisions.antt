@@ -6,7 +6,8 @@ use Rattle.bench_base.specs.declared.words.Kind.{Kind}
 use Rattle.bench_base.specs.declared.refusals.DevRefusal.TheVariants as no
 use Rattle.psd_state.specs.State.{State}
 use Rattle.psd_state.specs.Answers.{ask_answer, ask_rows, waiting_kind}
-use Rattle.psd_state.proofs.Keeping.{passes, unless-passes}
+use Rattle.bench_base.proofs.Rows.{passes}
+use Rattle.psd_state.proofs.Keeping.{unless-passes}
 
 -- a request is numbered only below the last number
 pub asks-below : (ρ : Rules) (s : State) (k : Kind) (who a : ℕ) (today : ℤ) (x : State × List ℕ) → ask_answer ρ s k who a today ≡ Ok x → s.number < 4294967295

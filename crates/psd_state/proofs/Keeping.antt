@@ -12,6 +12,7 @@ use Rattle.bench_base.specs.declared.ledger.Commit.{Commit}
 use Rattle.bench_base.specs.declared.ledger.Commit.TheVariants.{Made, Asked, Applied, Debited, Registered}
 use Rattle.bench_base.specs.Rows.{first_holding}
 use Rattle.bench_base.specs.Kinds.{same_kind, empties, is_granted, is_dated, is_allowed}
+use Rattle.bench_base.proofs.Rows.{AllFalse, passes}
 use Rattle.bench_base.proofs.Facts.{not-none, is-some, either, ok-same, err-ok}
 use Rattle.indicium.specs.declared.Mark.{Mark}
 use Rattle.indicium.specs.Marks as marks
@@ -35,38 +36,13 @@ use Rattle.psd_state.proofs.Ordered.{last, asked-asks, pending-note, pending-una
 
 -- == an answer that is no refusal ==
 
-err_not : {A F : Type 0} (r : Result A F) (y : A) → IsErr r → r ≡ Ok y → ⊥
-err_not (Err e) y h k = err-ok k
-err_not (Ok x) y h k = true≢false (sym h)
-
--- each row refuses
-abbrev Refusing : {A F : Type 0} → List (Bool × Result A F) → Type 0
-Refusing [] = Unit {0}
-Refusing (row ∷ rows) = IsErr row.1 × Refusing rows
-
--- no row holds
-abbrev Passed : {A F : Type 0} → List (Bool × Result A F) → Type 0
-Passed [] = Unit {0}
-Passed (row ∷ rows) = (row.0 ≡ false) × Passed rows
-
-passed : {A F : Type 0} (b : Bool) (x rest : Result A F) (y : A) → IsErr x → (if b then x else rest) ≡ Ok y → (b ≡ false) × (rest ≡ Ok y)
-passed true x rest y h e = absurd (err_not x y h e)
-passed false x rest y h e = (refl, e)
-
-pub passes : {A F : Type 0} (rows : List (Bool × Result A F)) (x : Result A F) (y : A) → Refusing rows → first_holding rows x ≡ Ok y → Passed rows × (x ≡ Ok y)
-passes [] x y r e = (tt, e)
-passes (row ∷ rows) x y r e =
-    let here = passed row.0 row.1 (first_holding rows x) y r.0 e in
-    let rest = passes rows x y r.1 here.1 in
-    ((here.0, rest.0), rest.1)
-
 -- the test of the last row
 abbrev last_test : {A F : Type 0} → List (Bool × Result A F) → Bool
 last_test [] = false
 last_test (row ∷ []) = row.0
 last_test (row ∷ next ∷ rows) = last_test (next ∷ rows)
 
-last_passed : {A F : Type 0} (rows : List (Bool × Result A F)) → Passed rows → last_test rows ≡ false
+last_passed : {A F : Type 0} (rows : List (Bool × Result A F)) → AllFalse rows → last_test rows ≡ false
 last_passed [] p = refl
 last_passed (row ∷ []) p = p.0
 last_passed (row ∷ next ∷ rows) p = last_passed (next ∷ rows) p.1

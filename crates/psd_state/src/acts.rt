@@ -49,14 +49,14 @@ pub enum Taken {
 pub fn debit_commit(device: DevNo, command: &DebitMsg, day: DayNo) -> Commit
     ensures { result ≡ act_of.debit_commit todays_rules device command.now day }
 {
-    Commit::Debited(
+    Commit::Debited {
         device,
-        command.piece,
-        command.postage,
-        command.class,
+        piece: command.piece,
+        postage: command.postage,
+        class: command.class,
         day,
-        VERSION,
-    )
+        version: VERSION,
+    }
 }
 
 /// Makes the device under a key. `Made` exactly where it was made before.
@@ -65,7 +65,11 @@ pub fn make_act(device: DevNo, key: &Key, state: &Option<ReadyRecord>) -> Device
 {
     match state {
         Some(_) => Act::Refuse(DevRefusal::Made),
-        None => Act::Commits(Commit::Made(device, *key), DevRec::made(device, key), ()),
+        None => Act::Commits(
+            Commit::Made { device, key: *key },
+            DevRec::made(device, key),
+            (),
+        ),
     }
 }
 
@@ -132,7 +136,15 @@ pub fn ask_act(
         Err(refusal) => Act::Refuse(refusal),
         Ok((next, note)) => {
             let number = kept.number() + 1;
-            Act::Commits(Commit::Asked(device, number, note), next, note)
+            Act::Commits(
+                Commit::Asked {
+                    device,
+                    number,
+                    request: note,
+                },
+                next,
+                note,
+            )
         }
     }
 }
@@ -144,7 +156,11 @@ fn apply_act(device: DevNo, reply: &ReplyMsg, kept: &DevRec) -> DeviceAct<Taken>
     match kept.apply(reply) {
         Err(refusal) => Act::Refuse(refusal),
         Ok(next) => Act::Commits(
-            Commit::Applied(device, reply.number, reply.verdict),
+            Commit::Applied {
+                device,
+                number: reply.number,
+                verdict: reply.verdict,
+            },
             next,
             Taken::Applied {
                 number: reply.number,

@@ -202,7 +202,17 @@ fn ordered(
     requires { IsKept rows.now kept.now }
 {
     match order_act(device, 1, 2, Some(Ok(550)), rows, kept) {
-        Act::Commits(Commit::Ordered(job, _, piece, postage, class), row, told) => Some((
+        Act::Commits(
+            Commit::Ordered {
+                job,
+                piece,
+                postage,
+                class,
+                ..
+            },
+            row,
+            told,
+        ) => Some((
             (job, piece, postage, class),
             row.job,
             (told.job, told.postage),

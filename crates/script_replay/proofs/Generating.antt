@@ -11,13 +11,14 @@ use Rattle.bench_base.specs.declared.events.Reply.TheVariants as r
 use Rattle.bench_base.specs.Ledger.{Ledger}
 use Rattle.bench_base.specs.Replies.{MayGet}
 use Rattle.node_turns.specs.Printing.{Printer}
-use Rattle.ledger_moves.specs.Histories.{IsKnown}
+use Rattle.bench_base.specs.Events.{Brought, Nothing, Handed, Scanned, brought_by}
+use Rattle.ledger_moves.specs.Histories.{IsKnown, AreKnown}
 use Rattle.ledger_moves.specs.Tariffs.{Tariff}
 use Rattle.bench_views.specs.Taken.{as_given, as_given_by, as_scanned_by}
 use Rattle.bench.specs.Benches.{Nodes}
 use Rattle.bench.specs.Outside.{Outside, Feed}
 use Rattle.generator.specs.Events.{generated}
-use Rattle.generator.specs.Given.{GivesOnlyDebits, NeedsNoStream}
+use Rattle.generator.specs.Given.{AreOnlyDebits, GivesOnlyDebits, NeedsNoStream}
 use Rattle.script_text.specs.Summaries.{Tally, tally_of, one_in, column_of}
 use Rattle.script_text.specs.declared.column.Column.{Column}
 use Rattle.script_text.specs.declared.column.Column.TheVariants as column
@@ -49,14 +50,14 @@ next_of P (x ∷ a) e b each = next_of P a e b each.1
 
 -- == nothing is forged ==
 
-unforged : (H : Ledger) (e : Event) → GivesOnlyDebits e → Unforged H e
-unforged H (ev.Give n bytes) debit = subst (λ x. IsKnown bytes x n H) (sym debit.1) tt
-unforged H (ev.ScanHex scan bytes) debit = absurd debit
-unforged H _ debit = tt
+known : (H : Ledger) (x : Brought) → AreOnlyDebits x → AreKnown x H
+known H Nothing debit = tt
+known H (Handed n bytes) debit = subst (λ x. IsKnown bytes x n H) (sym debit.1) tt
+known H (Scanned bytes) debit = absurd debit
 
 pub none_forged : (τ : Tariff) (H : Ledger) (done : List Done) → AllByRecursion GivesOnlyDebits (events_of done) → AreUnforged τ Unforged H done
 none_forged τ H [] each = tt
-none_forged τ H (d ∷ rest) each = (unforged H d.event each.0, none_forged τ (ledger_by τ H d) rest each.1)
+none_forged τ H (d ∷ rest) each = (known H (brought_by d.event) each.0, none_forged τ (ledger_by τ H d) rest each.1)
 
 -- == so far ==
 

@@ -20,45 +20,45 @@ pub fn column_of(reply: &Reply) -> Column
     ensures { result ≡ summaries.column_of reply.now }
 {
     match reply {
-        Reply::DevRefused(_, _)
+        Reply::DevRefused { .. }
         | Reply::CentreRefused(_)
         | Reply::HostRefused(_)
         | Reply::ScanRefused(_) => Column::Refused,
         Reply::Power(_) => Column::Power,
         Reply::Fault(_) => Column::Fault,
-        Reply::Released(_, _, _, _) => Column::Released,
-        Reply::Accepted(_, _, _, true) => Column::Uncounted,
-        Reply::Accepted(_, _, _, false) => Column::Accepted,
+        Reply::Released { .. } => Column::Released,
+        Reply::Accepted { again: true, .. } => Column::Uncounted,
+        Reply::Accepted { again: false, .. } => Column::Accepted,
         Reply::Day(_)
-        | Reply::Rates(_, _)
+        | Reply::Rates { .. }
         | Reply::RatesFault
         | Reply::RatesLength
         | Reply::RatesToml
         | Reply::RatesForm
         | Reply::Made(_)
-        | Reply::Up(_, _)
+        | Reply::Up { .. }
         | Reply::Down(_)
         | Reply::CutSet(_)
-        | Reply::Marked(_, _, _, _)
-        | Reply::SentRequest(_, _, _)
-        | Reply::SentDone(_, _, _)
-        | Reply::Status(_, _)
+        | Reply::Marked { .. }
+        | Reply::SentRequest { .. }
+        | Reply::SentDone { .. }
+        | Reply::Status { .. }
         | Reply::Registered(_)
         | Reply::Opened(_)
-        | Reply::Deposited(_, _, _, _)
-        | Reply::Flagged(_, _)
-        | Reply::Balance(_, _)
-        | Reply::Ruled(_, _, _, _, _)
-        | Reply::Settled(_, _, _)
-        | Reply::Applied(_, _, _)
+        | Reply::Deposited { .. }
+        | Reply::Flagged { .. }
+        | Reply::Balance { .. }
+        | Reply::Ruled { .. }
+        | Reply::Settled { .. }
+        | Reply::Applied { .. }
         | Reply::Held(_)
-        | Reply::Ordered(_, _)
-        | Reply::SentDebit(_, _)
+        | Reply::Ordered { .. }
+        | Reply::SentDebit { .. }
         | Reply::Printed(_)
         | Reply::PrinterFault(_)
         | Reply::Closed(_)
         | Reply::Trusted(_)
-        | Reply::Reconciled(_, _, _, _)
+        | Reply::Reconciled { .. }
         | Reply::End
         | Reply::NoDay
         | Reply::NoMessage(_)

@@ -32,7 +32,7 @@ pub fn make(rest: &[u8]) -> Result<Event, LineFault>
     ensures read { IsEventBehind Keyword.Make (words_in rest.now) result }
 {
     let (device, key) = two::<DevNo, Key>(rest)?;
-    Ok(Event::Make(device, key))
+    Ok(Event::Make { device, key })
 }
 
 pub fn on(rest: &[u8]) -> Result<Event, LineFault>
@@ -53,14 +53,24 @@ pub fn cut(rest: &[u8]) -> Result<Event, LineFault>
     ensures read { IsEventBehind Keyword.Cut (words_in rest.now) result }
 {
     let (node, calls, keep, byte) = four::<Node, u32, u32, Byte>(rest)?;
-    Ok(Event::Cut(node, calls, keep, byte.0))
+    Ok(Event::Cut {
+        node,
+        calls,
+        keep,
+        byte: byte.0,
+    })
 }
 
 pub fn debit(rest: &[u8]) -> Result<Event, LineFault>
     ensures read { IsEventBehind Keyword.Debit (words_in rest.now) result }
 {
     let (device, piece, postage, class) = four::<DevNo, u32, u32, u16>(rest)?;
-    Ok(Event::Debit(device, piece, postage, class))
+    Ok(Event::Debit {
+        device,
+        piece,
+        postage,
+        class,
+    })
 }
 
 pub fn resend(rest: &[u8]) -> Result<Event, LineFault>
@@ -88,7 +98,11 @@ pub fn register(rest: &[u8]) -> Result<Event, LineFault>
     ensures read { IsEventBehind Keyword.Register (words_in rest.now) result }
 {
     let (device, origin, key) = three::<DevNo, u32, Key>(rest)?;
-    Ok(Event::Register(device, origin, key))
+    Ok(Event::Register {
+        device,
+        origin,
+        key,
+    })
 }
 
 pub fn customer(rest: &[u8]) -> Result<Event, LineFault>
@@ -102,21 +116,31 @@ pub fn deposit(rest: &[u8]) -> Result<Event, LineFault>
     ensures read { IsEventBehind Keyword.Deposit (words_in rest.now) result }
 {
     let (customer, receipt, amount) = three::<Customer, u32, u32>(rest)?;
-    Ok(Event::Deposit(customer, receipt, amount))
+    Ok(Event::Deposit {
+        customer,
+        receipt,
+        amount,
+    })
 }
 
 pub fn suspend(rest: &[u8]) -> Result<Event, LineFault>
     ensures read { IsEventBehind Keyword.Suspend (words_in rest.now) result }
 {
     let customer = one::<Customer>(rest)?;
-    Ok(Event::Flag(customer, true))
+    Ok(Event::Flag {
+        customer,
+        suspended: true,
+    })
 }
 
 pub fn resume(rest: &[u8]) -> Result<Event, LineFault>
     ensures read { IsEventBehind Keyword.Resume (words_in rest.now) result }
 {
     let customer = one::<Customer>(rest)?;
-    Ok(Event::Flag(customer, false))
+    Ok(Event::Flag {
+        customer,
+        suspended: false,
+    })
 }
 
 pub fn balance(rest: &[u8]) -> Result<Event, LineFault>
@@ -137,7 +161,13 @@ pub fn order(rest: &[u8]) -> Result<Event, LineFault>
     ensures read { IsEventBehind Keyword.Order (words_in rest.now) result }
 {
     let (device, piece, class, grams, zone) = five::<DevNo, u32, u16, u32, u32>(rest)?;
-    Ok(Event::Order(device, piece, class, grams, zone))
+    Ok(Event::Order {
+        device,
+        piece,
+        class,
+        grams,
+        zone,
+    })
 }
 
 pub fn send(rest: &[u8]) -> Result<Event, LineFault>
@@ -165,7 +195,7 @@ pub fn trust(rest: &[u8]) -> Result<Event, LineFault>
     ensures read { IsEventBehind Keyword.Trust (words_in rest.now) result }
 {
     let (device, key) = two::<DevNo, Key>(rest)?;
-    Ok(Event::Trust(device, key))
+    Ok(Event::Trust { device, key })
 }
 
 pub fn reconcile(rest: &[u8]) -> Result<Event, LineFault>
@@ -181,7 +211,7 @@ pub fn give(rest: &[u8]) -> Result<Event, LineFault>
     let (node, bytes) = two::<Node, Given>(rest)?;
     match node {
         Node::Verifier => Err(LineFault),
-        Node::Device(_) | Node::Centre | Node::Host => Ok(Event::Give(node, bytes)),
+        Node::Device(_) | Node::Centre | Node::Host => Ok(Event::Give { node, bytes }),
     }
 }
 
@@ -189,18 +219,18 @@ pub fn scan(rest: &[u8]) -> Result<Event, LineFault>
     ensures read { IsEventBehind Keyword.Scan (words_in rest.now) result }
 {
     match three::<u32, Msg, u32>(rest) {
-        Ok((number, _, message)) => {
-            if number < 1 {
+        Ok((scan, _, message)) => {
+            if scan < 1 {
                 return Err(LineFault);
             }
-            Ok(Event::ScanMsg(number, message))
+            Ok(Event::ScanMsg { scan, message })
         }
         Err(_) => {
-            let (number, _, bytes) = three::<u32, Hex, Given>(rest)?;
-            if number < 1 {
+            let (scan, _, bytes) = three::<u32, Hex, Given>(rest)?;
+            if scan < 1 {
                 return Err(LineFault);
             }
-            Ok(Event::ScanHex(number, bytes))
+            Ok(Event::ScanHex { scan, bytes })
         }
     }
 }
@@ -215,7 +245,12 @@ fn ask_alone(rest: &[u8]) -> Result<Event, LineFault>
     match kind {
         Kind::Enrol => Err(LineFault),
         Kind::Reset => Err(LineFault),
-        _ => Ok(Event::Ask(device, kind, 0, 0)),
+        _ => Ok(Event::Ask {
+            device,
+            kind,
+            customer: 0,
+            amount: 0,
+        }),
     }
 }
 
@@ -223,8 +258,18 @@ pub fn ask(rest: &[u8]) -> Result<Event, LineFault>
     ensures read { IsEventBehind Keyword.Ask (words_in rest.now) result }
 {
     match three::<DevNo, Kind, u32>(rest) {
-        Ok((device, Kind::Enrol, customer)) => Ok(Event::Ask(device, Kind::Enrol, customer, 0)),
-        Ok((device, Kind::Reset, amount)) => Ok(Event::Ask(device, Kind::Reset, 0, amount)),
+        Ok((device, Kind::Enrol, customer)) => Ok(Event::Ask {
+            device,
+            kind: Kind::Enrol,
+            customer,
+            amount: 0,
+        }),
+        Ok((device, Kind::Reset, amount)) => Ok(Event::Ask {
+            device,
+            kind: Kind::Reset,
+            customer: 0,
+            amount,
+        }),
         Ok(_) => Err(LineFault),
         Err(_) => ask_alone(rest),
     }

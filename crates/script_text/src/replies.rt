@@ -69,31 +69,31 @@ fn put_marked(line: &mut Line, device: DevNo, piece: u32, again: bool, mark: &[u
 }
 
 #[tactic(auto, unfolding(crate::specs::Texts::reply_words))]
-fn put_sent_request(line: &mut Line, device: DevNo, number: u32, msg: u32)
+fn put_sent_request(line: &mut Line, device: DevNo, number: u32, message: u32)
     requires empty { line.old ≡ [] }
-    ensures value { line.new ≡ text_of (Reply.SentRequest device number msg) }
-    ensures whole { IsWholeReply (Reply.SentRequest device number msg) }
+    ensures value { line.new ≡ text_of (Reply.SentRequest device number message) }
+    ensures whole { IsWholeReply (Reply.SentRequest device number message) }
     ensures short { length line.new ≤ 231 }
 {
     of_device(line, b"sent", device);
     line.word(b"request");
     line.number(number);
     line.word(b"msg");
-    line.number(msg);
+    line.number(message);
 }
 
 #[tactic(auto, unfolding(crate::specs::Texts::reply_words))]
-fn put_sent_done(line: &mut Line, device: DevNo, number: u32, msg: u32)
+fn put_sent_done(line: &mut Line, device: DevNo, number: u32, message: u32)
     requires empty { line.old ≡ [] }
-    ensures value { line.new ≡ text_of (Reply.SentDone device number msg) }
-    ensures whole { IsWholeReply (Reply.SentDone device number msg) }
+    ensures value { line.new ≡ text_of (Reply.SentDone device number message) }
+    ensures whole { IsWholeReply (Reply.SentDone device number message) }
     ensures short { length line.new ≤ 231 }
 {
     of_device(line, b"sent", device);
     line.word(b"done");
     line.number(number);
     line.word(b"msg");
-    line.number(msg);
+    line.number(message);
 }
 
 #[tactic(auto, unfolding(crate::specs::Texts::reply_words))]
@@ -121,10 +121,17 @@ fn put_balance(line: &mut Line, customer: Customer, total: u64)
 }
 
 #[tactic(auto, unfolding(crate::specs::Texts::reply_words))]
-fn put_ruled(line: &mut Line, device: DevNo, number: u32, verdict: Verdict, again: bool, msg: u32)
+fn put_ruled(
+    line: &mut Line,
+    device: DevNo,
+    number: u32,
+    verdict: Verdict,
+    again: bool,
+    message: u32,
+)
     requires empty { line.old ≡ [] }
-    ensures value { line.new ≡ text_of (Reply.Ruled device number verdict again msg) }
-    ensures whole { IsWholeReply (Reply.Ruled device number verdict again msg) }
+    ensures value { line.new ≡ text_of (Reply.Ruled device number verdict again message) }
+    ensures whole { IsWholeReply (Reply.Ruled device number verdict again message) }
     ensures short { length line.new ≤ 231 }
 {
     of_device(line, b"ruled", device);
@@ -133,7 +140,7 @@ fn put_ruled(line: &mut Line, device: DevNo, number: u32, verdict: Verdict, agai
     line.number(verdict_code(verdict));
     line.again(again);
     line.word(b"msg");
-    line.number(msg);
+    line.number(message);
 }
 
 #[tactic(auto, unfolding(crate::specs::Texts::reply_words))]
@@ -162,17 +169,17 @@ fn put_applied(line: &mut Line, device: DevNo, number: u32, verdict: Verdict)
 }
 
 #[tactic(auto, unfolding(crate::specs::Texts::reply_words))]
-fn put_released(line: &mut Line, device: DevNo, piece: u32, again: bool, msg: u32)
+fn put_released(line: &mut Line, device: DevNo, piece: u32, again: bool, message: u32)
     requires empty { line.old ≡ [] }
-    ensures value { line.new ≡ text_of (Reply.Released device piece again msg) }
-    ensures whole { IsWholeReply (Reply.Released device piece again msg) }
+    ensures value { line.new ≡ text_of (Reply.Released device piece again message) }
+    ensures whole { IsWholeReply (Reply.Released device piece again message) }
     ensures short { length line.new ≤ 231 }
 {
     of_device(line, b"released", device);
     line.number(piece);
     line.again(again);
     line.word(b"msg");
-    line.number(msg);
+    line.number(message);
 }
 
 #[tactic(auto, unfolding(crate::specs::Texts::reply_words))]
@@ -188,15 +195,15 @@ fn put_ordered(line: &mut Line, job: u32, postage: u32)
 }
 
 #[tactic(auto, unfolding(crate::specs::Texts::reply_words))]
-fn put_sent_debit(line: &mut Line, job: u32, msg: u32)
+fn put_sent_debit(line: &mut Line, job: u32, message: u32)
     requires empty { line.old ≡ [] }
-    ensures value { line.new ≡ text_of (Reply.SentDebit job msg) }
-    ensures whole { IsWholeReply (Reply.SentDebit job msg) }
+    ensures value { line.new ≡ text_of (Reply.SentDebit job message) }
+    ensures whole { IsWholeReply (Reply.SentDebit job message) }
     ensures short { length line.new ≤ 231 }
 {
     numbered(line, b"sent host debit", job);
     line.word(b"msg");
-    line.number(msg);
+    line.number(message);
 }
 
 #[tactic(auto, unfolding(crate::specs::Texts::reply_words))]
@@ -356,59 +363,100 @@ pub fn put_reply(line: &mut Line, reply: &Reply)
 {
     match reply {
         Reply::Day(day) => numbered(line, b"day", day.get()),
-        Reply::Rates(classes, zones) => put_rates(line, *classes, *zones),
+        Reply::Rates { classes, zones } => put_rates(line, *classes, *zones),
         Reply::RatesFault => starting(line, b"rates fault"),
         Reply::RatesLength => starting(line, b"rates length"),
         Reply::RatesToml => starting(line, b"rates toml"),
         Reply::RatesForm => starting(line, b"rates form"),
         Reply::Made(device) => of_device(line, b"made", *device),
-        Reply::Up(node, commits) => put_up(line, *node, *commits),
+        Reply::Up { node, commits } => put_up(line, *node, *commits),
         Reply::Down(node) => of_node(line, b"down", *node),
         Reply::CutSet(node) => of_node(line, b"cut", *node),
-        Reply::Marked(device, piece, again, mark) => put_marked(
-            line, *device, *piece, *again, mark,
-        ),
-        Reply::SentRequest(device, number, msg) => put_sent_request(line, *device, *number, *msg),
-        Reply::SentDone(device, number, msg) => put_sent_done(line, *device, *number, *msg),
+        Reply::Marked {
+            device,
+            piece,
+            again,
+            mark,
+        } => put_marked(line, *device, *piece, *again, mark),
+        Reply::SentRequest {
+            device,
+            number,
+            message,
+        } => put_sent_request(line, *device, *number, *message),
+        Reply::SentDone {
+            device,
+            number,
+            message,
+        } => put_sent_done(line, *device, *number, *message),
         Reply::Registered(device) => of_device(line, b"registered", *device),
         Reply::Opened(customer) => numbered(line, b"opened", customer.get()),
-        Reply::Deposited(customer, receipt, again, total) => {
-            put_deposited(line, *customer, *receipt, *again, *total)
-        }
-        Reply::Balance(customer, total) => put_balance(line, *customer, *total),
-        Reply::Ruled(device, number, verdict, again, msg) => {
-            put_ruled(line, *device, *number, *verdict, *again, *msg)
-        }
-        Reply::Settled(device, number, again) => put_settled(line, *device, *number, *again),
-        Reply::Applied(device, number, verdict) => put_applied(line, *device, *number, *verdict),
-        Reply::Released(device, piece, again, msg) => put_released(
-            line, *device, *piece, *again, *msg,
-        ),
+        Reply::Deposited {
+            customer,
+            receipt,
+            again,
+            total,
+        } => { put_deposited(line, *customer, *receipt, *again, *total) }
+        Reply::Balance {
+            customer,
+            left: total,
+        } => put_balance(line, *customer, *total),
+        Reply::Ruled {
+            device,
+            number,
+            verdict,
+            again,
+            message,
+        } => { put_ruled(line, *device, *number, *verdict, *again, *message) }
+        Reply::Settled {
+            device,
+            number,
+            again,
+        } => put_settled(line, *device, *number, *again),
+        Reply::Applied {
+            device,
+            number,
+            verdict,
+        } => put_applied(line, *device, *number, *verdict),
+        Reply::Released {
+            device,
+            piece,
+            again,
+            message,
+        } => put_released(line, *device, *piece, *again, *message),
         Reply::Held(job) => numbered(line, b"held", *job),
-        Reply::Ordered(job, postage) => put_ordered(line, *job, *postage),
-        Reply::SentDebit(job, msg) => put_sent_debit(line, *job, *msg),
+        Reply::Ordered { job, postage } => put_ordered(line, *job, *postage),
+        Reply::SentDebit { job, message } => put_sent_debit(line, *job, *message),
         Reply::Printed(job) => numbered(line, b"printed", *job),
         Reply::PrinterFault(job) => numbered(line, b"printer fault", *job),
         Reply::Closed(job) => numbered(line, b"closed", *job),
         Reply::Trusted(device) => of_device(line, b"trusted", *device),
-        Reply::Accepted(device, piece, scan, again) => {
-            put_accepted(line, *device, *piece, *scan, *again)
-        }
+        Reply::Accepted {
+            device,
+            piece,
+            scan,
+            again,
+        } => { put_accepted(line, *device, *piece, *scan, *again) }
         Reply::End => starting(line, b"end"),
         Reply::NoDay => starting(line, b"no day"),
-        Reply::NoMessage(msg) => numbered(line, b"no message", *msg),
+        Reply::NoMessage(message) => numbered(line, b"no message", *message),
         Reply::OffNode(node) => of_node(line, b"off", *node),
         Reply::OnAlready(node) => of_node(line, b"on already", *node),
         Reply::Power(node) => of_node(line, b"power", *node),
         Reply::Fault(node) => of_node(line, b"fault", *node),
         Reply::Worn(node) => of_node(line, b"worn", *node),
         Reply::Damaged(node) => of_node(line, b"damaged", *node),
-        Reply::Status(device, view) => put_status(line, *device, *view),
-        Reply::Flagged(customer, suspended) => put_flagged(line, *customer, *suspended),
-        Reply::Reconciled(device, own, centre, flight) => {
-            put_reconciled(line, *device, *own, *centre, *flight)
-        }
-        Reply::DevRefused(device, refusal) => put_dev_refused(line, *device, *refusal),
+        Reply::Status { device, view } => put_status(line, *device, *view),
+        Reply::Flagged {
+            customer,
+            suspended,
+        } => put_flagged(line, *customer, *suspended),
+        Reply::Reconciled {
+            device,
+            held: own,
+            centre,
+            in_flight: flight,
+        } => { put_reconciled(line, *device, *own, *centre, *flight) }
+        Reply::DevRefused { device, refusal } => put_dev_refused(line, *device, *refusal),
         Reply::CentreRefused(refusal) => put_centre_refused(line, *refusal),
         Reply::HostRefused(refusal) => put_host_refused(line, *refusal),
         Reply::ScanRefused(refusal) => put_scan_refused(line, *refusal),

@@ -77,7 +77,10 @@ fn scan_under(number: u32, mark: &[u8]) -> Event
     ensures whole { IsWholeEvent result }
 {
     match Given::new(mark) {
-        Some(bytes) => Event::ScanHex(number, bytes),
+        Some(bytes) => Event::ScanHex {
+            scan: number,
+            bytes,
+        },
         None => unreachable!(),
     }
 }

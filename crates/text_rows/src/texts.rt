@@ -59,41 +59,64 @@ fn numbers(event: &Event) -> (u32, [u32; 5]) {
     match event {
         Event::Day(day) => (1, [day.get() as u32, 0, 0, 0, 0]),
         Event::Rates => (2, [0, 0, 0, 0, 0]),
-        Event::Make(d, key) => (3, [d.get(), of_key(key), 0, 0, 0]),
+        Event::Make { device: d, key } => (3, [d.get(), of_key(key), 0, 0, 0]),
         Event::On(node) => (4, [node_number(*node), 0, 0, 0, 0]),
         Event::Off(node) => (5, [node_number(*node), 0, 0, 0, 0]),
-        Event::Cut(node, calls, keep, byte) => (
-            6,
-            [node_number(*node), *calls, *keep, u32::from(*byte), 0],
-        ),
-        Event::Debit(d, piece, postage, class) => (
-            7,
-            [d.get(), *piece, *postage, u32::from(*class), 0],
-        ),
-        Event::Ask(d, kind, customer, amount) => (
-            8,
-            [d.get(), kind_number(*kind), *customer, *amount, 0],
-        ),
+        Event::Cut {
+            node,
+            calls,
+            keep,
+            byte,
+        } => (6, [node_number(*node), *calls, *keep, u32::from(*byte), 0]),
+        Event::Debit {
+            device: d,
+            piece,
+            postage,
+            class,
+        } => (7, [d.get(), *piece, *postage, u32::from(*class), 0]),
+        Event::Ask {
+            device: d,
+            kind,
+            customer,
+            amount,
+        } => (8, [d.get(), kind_number(*kind), *customer, *amount, 0]),
         Event::Resend(d) => (9, [d.get(), 0, 0, 0, 0]),
         Event::Ack(d) => (10, [d.get(), 0, 0, 0, 0]),
         Event::Status(d) => (11, [d.get(), 0, 0, 0, 0]),
-        Event::Register(d, origin, key) => (12, [d.get(), *origin, of_key(key), 0, 0]),
+        Event::Register {
+            device: d,
+            origin,
+            key,
+        } => (12, [d.get(), *origin, of_key(key), 0, 0]),
         Event::OpenCustomer(c) => (13, [c.get(), 0, 0, 0, 0]),
-        Event::Deposit(c, receipt, amount) => (14, [c.get(), *receipt, *amount, 0, 0]),
-        Event::Flag(c, suspended) => (15, [c.get(), u32::from(*suspended), 0, 0, 0]),
+        Event::Deposit {
+            customer: c,
+            receipt,
+            amount,
+        } => (14, [c.get(), *receipt, *amount, 0, 0]),
+        Event::Flag {
+            customer: c,
+            suspended,
+        } => (15, [c.get(), u32::from(*suspended), 0, 0, 0]),
         Event::Balance(c) => (16, [c.get(), 0, 0, 0, 0]),
         Event::Deliver(k) => (17, [*k, 0, 0, 0, 0]),
-        Event::Give(node, bytes) => (18, [node_number(*node), count(bytes), last(bytes), 0, 0]),
-        Event::Order(d, piece, class, grams, zone) => (
-            19,
-            [d.get(), *piece, u32::from(*class), *grams, *zone],
-        ),
+        Event::Give { node, bytes } => (18, [node_number(*node), count(bytes), last(bytes), 0, 0]),
+        Event::Order {
+            device: d,
+            piece,
+            class,
+            grams,
+            zone,
+        } => (19, [d.get(), *piece, u32::from(*class), *grams, *zone]),
         Event::Send(j) => (20, [*j, 0, 0, 0, 0]),
         Event::Print(j) => (21, [*j, 0, 0, 0, 0]),
         Event::Close(j) => (22, [*j, 0, 0, 0, 0]),
-        Event::Trust(d, key) => (23, [d.get(), of_key(key), 0, 0, 0]),
-        Event::ScanMsg(n, k) => (24, [*n, *k, 0, 0, 0]),
-        Event::ScanHex(n, bytes) => (25, [*n, count(bytes), last(bytes), 0, 0]),
+        Event::Trust { device: d, key } => (23, [d.get(), of_key(key), 0, 0, 0]),
+        Event::ScanMsg {
+            scan: n,
+            message: k,
+        } => (24, [*n, *k, 0, 0, 0]),
+        Event::ScanHex { scan: n, bytes } => (25, [*n, count(bytes), last(bytes), 0, 0]),
         Event::Reconcile(d) => (26, [d.get(), 0, 0, 0, 0]),
         Event::End => (27, [0, 0, 0, 0, 0]),
     }
@@ -317,7 +340,10 @@ fn view(phase: Phase, pending: Option<Kind>) -> DevView {
 fn replies_of_nodes(rt: HostRuntime) {
     for (reply, text) in [
         (
-            Reply::Up(Node::Centre, u64::MAX),
+            Reply::Up {
+                node: Node::Centre,
+                commits: u64::MAX,
+            },
             "up centre commits 18446744073709551615",
         ),
         (Reply::Down(Node::Device(device(8))), "down d8"),
@@ -338,32 +364,66 @@ fn replies_of_rates_and_devices(rt: HostRuntime) {
     let day = DayNo::new(20_513).unwrap();
     for (reply, text) in [
         (Reply::Day(day), "day 20513"),
-        (Reply::Rates(2, 3), "rates 2 3"),
+        (
+            Reply::Rates {
+                classes: 2,
+                zones: 3,
+            },
+            "rates 2 3",
+        ),
         (Reply::RatesFault, "rates fault"),
         (Reply::RatesLength, "rates length"),
         (Reply::RatesToml, "rates toml"),
         (Reply::RatesForm, "rates form"),
         (Reply::Made(device(1)), "made d1"),
         (
-            Reply::SentRequest(device(1), 2, 3),
+            Reply::SentRequest {
+                device: device(1),
+                number: 2,
+                message: 3,
+            },
             "sent d1 request 2 msg 3",
         ),
-        (Reply::SentDone(device(1), 2, 3), "sent d1 done 2 msg 3"),
         (
-            Reply::Status(device(1), view(Phase::InService, None)),
+            Reply::SentDone {
+                device: device(1),
+                number: 2,
+                message: 3,
+            },
+            "sent d1 done 2 msg 3",
+        ),
+        (
+            Reply::Status {
+                device: device(1),
+                view: view(Phase::InService, None),
+            },
             "status d1 in-service ascending 550 descending 999450 refunded 0 pieces 1 number 3 deadline 20605 pending none",
         ),
         (
-            Reply::Status(device(2), view(Phase::Manufactured, Some(Kind::Enrol))),
+            Reply::Status {
+                device: device(2),
+                view: view(Phase::Manufactured, Some(Kind::Enrol)),
+            },
             "status d2 manufactured ascending 550 descending 999450 refunded 0 pieces 1 number 3 deadline 20605 pending enrol",
         ),
         (Reply::Registered(device(3)), "registered d3"),
         (Reply::Opened(customer(64)), "opened 64"),
         (
-            Reply::Deposited(customer(1), 2, false, 3_000),
+            Reply::Deposited {
+                customer: customer(1),
+                receipt: 2,
+                again: false,
+                total: 3_000,
+            },
             "deposited 1 2 new 3000",
         ),
-        (Reply::Flagged(customer(1), true), "suspended 1"),
+        (
+            Reply::Flagged {
+                customer: customer(1),
+                suspended: true,
+            },
+            "suspended 1",
+        ),
     ] {
         holds(&rt, write_reply(&reply).as_slice() == text.as_bytes(), text);
     }
@@ -372,38 +432,96 @@ fn replies_of_rates_and_devices(rt: HostRuntime) {
 #[test]
 fn replies_of_others(rt: HostRuntime) {
     for (reply, text) in [
-        (Reply::Flagged(customer(1), false), "resumed 1"),
-        (Reply::Balance(customer(1), 5), "balance 1 5"),
         (
-            Reply::Ruled(device(1), 2, Verdict::NoFunds, false, 4),
+            Reply::Flagged {
+                customer: customer(1),
+                suspended: false,
+            },
+            "resumed 1",
+        ),
+        (
+            Reply::Balance {
+                customer: customer(1),
+                left: 5,
+            },
+            "balance 1 5",
+        ),
+        (
+            Reply::Ruled {
+                device: device(1),
+                number: 2,
+                verdict: Verdict::NoFunds,
+                again: false,
+                message: 4,
+            },
             "ruled d1 2 verdict 5 new msg 4",
         ),
-        (Reply::Settled(device(1), 2, true), "settled d1 2 again"),
         (
-            Reply::Applied(device(1), 2, Verdict::Imbalance),
+            Reply::Settled {
+                device: device(1),
+                number: 2,
+                again: true,
+            },
+            "settled d1 2 again",
+        ),
+        (
+            Reply::Applied {
+                device: device(1),
+                number: 2,
+                verdict: Verdict::Imbalance,
+            },
             "applied d1 2 verdict 6",
         ),
         (
-            Reply::Released(device(1), 2, true, 3),
+            Reply::Released {
+                device: device(1),
+                piece: 2,
+                again: true,
+                message: 3,
+            },
             "released d1 2 again msg 3",
         ),
         (Reply::Held(1), "held 1"),
-        (Reply::Ordered(1, 550), "ordered 1 postage 550"),
-        (Reply::SentDebit(1, 2), "sent host debit 1 msg 2"),
+        (
+            Reply::Ordered {
+                job: 1,
+                postage: 550,
+            },
+            "ordered 1 postage 550",
+        ),
+        (
+            Reply::SentDebit { job: 1, message: 2 },
+            "sent host debit 1 msg 2",
+        ),
         (Reply::Printed(1), "printed 1"),
         (Reply::PrinterFault(1), "printer fault 1"),
         (Reply::Closed(1), "closed 1"),
         (Reply::Trusted(device(1)), "trusted d1"),
         (
-            Reply::Accepted(device(1), 2, 3, false),
+            Reply::Accepted {
+                device: device(1),
+                piece: 2,
+                scan: 3,
+                again: false,
+            },
             "accepted d1 2 scan 3 new",
         ),
         (
-            Reply::Reconciled(device(1), 2, 3, None),
+            Reply::Reconciled {
+                device: device(1),
+                held: 2,
+                centre: 3,
+                in_flight: None,
+            },
             "reconcile d1 device 2 centre 3 in-flight none",
         ),
         (
-            Reply::Reconciled(device(1), 2, 3, Some((Kind::Reset, 4))),
+            Reply::Reconciled {
+                device: device(1),
+                held: 2,
+                centre: 3,
+                in_flight: Some((Kind::Reset, 4)),
+            },
             "reconcile d1 device 2 centre 3 in-flight reset 4",
         ),
         (Reply::End, "end"),
@@ -461,7 +579,14 @@ fn refusals_of_devices(rt: HostRuntime) {
     for (reply, text) in OF_DEVICES {
         holds(
             &rt,
-            is_refused(Reply::DevRefused(device(1), *reply), "refused d1 ", *text),
+            is_refused(
+                Reply::DevRefused {
+                    device: device(1),
+                    refusal: *reply,
+                },
+                "refused d1 ",
+                *text,
+            ),
             *text,
         );
     }
@@ -567,7 +692,12 @@ fn marks_are_written(rt: HostRuntime) {
         (false, 0x1f, "mark d1 2 new ", b"1f"),
         (true, 0xa0, "mark d1 2 again ", b"a0"),
     ] {
-        let line = write_reply(&Reply::Marked(device(1), 2, again, [byte; 64]));
+        let line = write_reply(&Reply::Marked {
+            device: device(1),
+            piece: 2,
+            again,
+            mark: [byte; 64],
+        });
         let text = line.as_slice();
         assert!(rt; text.len() == front.len() + 128 && text.starts_with(front.as_bytes()));
         holds(
@@ -585,10 +715,30 @@ fn a_summary(rt: HostRuntime) {
     let mut summary = Summary::new();
     summary.count(&Reply::Made(device(1)));
     summary.count(&Reply::Power(Node::Centre));
-    summary.count(&Reply::Released(device(1), 2, true, 3));
-    summary.count(&Reply::Released(device(1), 3, false, 4));
-    summary.count(&Reply::Accepted(device(1), 2, 1, false));
-    summary.count(&Reply::Accepted(device(1), 2, 1, true));
+    summary.count(&Reply::Released {
+        device: device(1),
+        piece: 2,
+        again: true,
+        message: 3,
+    });
+    summary.count(&Reply::Released {
+        device: device(1),
+        piece: 3,
+        again: false,
+        message: 4,
+    });
+    summary.count(&Reply::Accepted {
+        device: device(1),
+        piece: 2,
+        scan: 1,
+        again: false,
+    });
+    summary.count(&Reply::Accepted {
+        device: device(1),
+        piece: 2,
+        scan: 1,
+        again: true,
+    });
     summary.count(&Reply::CentreRefused(CentreRefusal::Known));
     summary.count(&Reply::NoDay);
     summary.count(&Reply::Fault(Node::Verifier));

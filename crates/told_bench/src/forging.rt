@@ -145,35 +145,35 @@ pub fn is_forged(auditor: &Auditor, event: &Event) -> bool
     histories();
     counts();
     match event {
-        Event::Give(node, bytes) => gives_forged(auditor, node, bytes.as_slice()),
-        Event::ScanHex(_, bytes) => is_forged_mark(
+        Event::Give { node, bytes } => gives_forged(auditor, node, bytes.as_slice()),
+        Event::ScanHex { bytes, .. } => is_forged_mark(
             &auditor.verifier.record,
             bytes.as_slice(),
             &auditor.known.released,
         ),
         Event::Day(_)
         | Event::Rates
-        | Event::Make(_, _)
+        | Event::Make { .. }
         | Event::On(_)
         | Event::Off(_)
-        | Event::Cut(_, _, _, _)
-        | Event::Debit(_, _, _, _)
-        | Event::Ask(_, _, _, _)
+        | Event::Cut { .. }
+        | Event::Debit { .. }
+        | Event::Ask { .. }
         | Event::Resend(_)
         | Event::Ack(_)
         | Event::Status(_)
-        | Event::Register(_, _, _)
+        | Event::Register { .. }
         | Event::OpenCustomer(_)
-        | Event::Deposit(_, _, _)
-        | Event::Flag(_, _)
+        | Event::Deposit { .. }
+        | Event::Flag { .. }
         | Event::Balance(_)
         | Event::Deliver(_)
-        | Event::Order(_, _, _, _, _)
+        | Event::Order { .. }
         | Event::Send(_)
         | Event::Print(_)
         | Event::Close(_)
-        | Event::Trust(_, _)
-        | Event::ScanMsg(_, _)
+        | Event::Trust { .. }
+        | Event::ScanMsg { .. }
         | Event::Reconcile(_)
         | Event::End => false,
     }

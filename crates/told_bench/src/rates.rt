@@ -27,7 +27,10 @@ fn due_to(read: &Result<Rates, RatesFail>) -> Option<Reply>
     ensures { result ≡ reply_to «read».now }
 {
     match read {
-        Ok(rates) => Some(Reply::Rates(rates.classes(), rates.zones())),
+        Ok(rates) => Some(Reply::Rates {
+            classes: rates.classes(),
+            zones: rates.zones(),
+        }),
         Err(RatesFail::Memory(_)) => None,
         Err(RatesFail::Length(_)) => Some(Reply::RatesLength),
         Err(RatesFail::Toml) => Some(Reply::RatesToml),

@@ -35,13 +35,20 @@ fn begins_other_up(auditor: &Auditor, due: &Reply, front: &[u8]) -> bool
     requires ready { IsReady (audit_of auditor.now) }
     ensures { (H : Ledger) → Sees (audit_of auditor.now) H → MatchBool result (BeginsOtherUp due.now H front.now) (BeginsOtherUp due.now H front.now → ⊥) }
 {
-    let Reply::Up(node, commits) = due else {
+    let Reply::Up { node, commits } = due else {
         return false;
     };
     let Some(more) = commits.checked_add(1) else {
         return false;
     };
-    auditor.is_open(node) && begins(&Reply::Up(*node, more), front)
+    auditor.is_open(node)
+        && begins(
+            &Reply::Up {
+                node: *node,
+                commits: more,
+            },
+            front,
+        )
 }
 
 // Whether a failure of the printer begins so, where this is the answer.

@@ -48,36 +48,36 @@ fn printed_job(answer: &Reply) -> Option<u32>
     match answer {
         Reply::Printed(job) => Some(*job),
         Reply::Day(_)
-        | Reply::Rates(_, _)
+        | Reply::Rates { .. }
         | Reply::RatesFault
         | Reply::RatesLength
         | Reply::RatesToml
         | Reply::RatesForm
         | Reply::Made(_)
-        | Reply::Up(_, _)
+        | Reply::Up { .. }
         | Reply::Down(_)
         | Reply::CutSet(_)
-        | Reply::Marked(_, _, _, _)
-        | Reply::SentRequest(_, _, _)
-        | Reply::SentDone(_, _, _)
-        | Reply::Status(_, _)
+        | Reply::Marked { .. }
+        | Reply::SentRequest { .. }
+        | Reply::SentDone { .. }
+        | Reply::Status { .. }
         | Reply::Registered(_)
         | Reply::Opened(_)
-        | Reply::Deposited(_, _, _, _)
-        | Reply::Flagged(_, _)
-        | Reply::Balance(_, _)
-        | Reply::Ruled(_, _, _, _, _)
-        | Reply::Settled(_, _, _)
-        | Reply::Applied(_, _, _)
-        | Reply::Released(_, _, _, _)
+        | Reply::Deposited { .. }
+        | Reply::Flagged { .. }
+        | Reply::Balance { .. }
+        | Reply::Ruled { .. }
+        | Reply::Settled { .. }
+        | Reply::Applied { .. }
+        | Reply::Released { .. }
         | Reply::Held(_)
-        | Reply::Ordered(_, _)
-        | Reply::SentDebit(_, _)
+        | Reply::Ordered { .. }
+        | Reply::SentDebit { .. }
         | Reply::PrinterFault(_)
         | Reply::Closed(_)
         | Reply::Trusted(_)
-        | Reply::Accepted(_, _, _, _)
-        | Reply::Reconciled(_, _, _, _)
+        | Reply::Accepted { .. }
+        | Reply::Reconciled { .. }
         | Reply::End
         | Reply::NoDay
         | Reply::NoMessage(_)
@@ -87,7 +87,7 @@ fn printed_job(answer: &Reply) -> Option<u32>
         | Reply::Fault(_)
         | Reply::Worn(_)
         | Reply::Damaged(_)
-        | Reply::DevRefused(_, _)
+        | Reply::DevRefused { .. }
         | Reply::CentreRefused(_)
         | Reply::HostRefused(_)
         | Reply::ScanRefused(_) => None,

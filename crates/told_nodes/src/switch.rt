@@ -45,14 +45,23 @@ pub fn judge_on<R: Record<X>, X: Copy>(
         };
     }
     let commits = seat.record.commits();
-    let due = Reply::Up(*node, commits);
+    let due = Reply::Up {
+        node: *node,
+        commits,
+    };
     if is_told(&due, line) {
         seat.open = None;
         seat.on = true;
         return Ok(None);
     }
     if let Some(change) = seat.open {
-        if is_told(&Reply::Up(*node, commits + 1), line) {
+        if is_told(
+            &Reply::Up {
+                node: *node,
+                commits: commits + 1,
+            },
+            line,
+        ) {
             seat.record.put(&change);
             seat.open = None;
             seat.on = true;

@@ -59,7 +59,7 @@ pub fn trust_act(device: DevNo, key: &Key, known: bool) -> ScanAct<()>
         Act::Refuse(ScanRefusal::Known)
     } else {
         Act::Commits(
-            Commit::Trusted(device, *key),
+            Commit::Trusted { device, key: *key },
             Change::Trust(device, *key),
             (),
         )
@@ -87,7 +87,11 @@ fn spot_act(number: u32, device: DevNo, mark: &Mark, today: DayNo, spot: Spot) -
             again: true,
         }),
         Ok(false) => Act::Commits(
-            Commit::Accepted(device, piece, number),
+            Commit::Accepted {
+                device,
+                piece,
+                scan: number,
+            },
             Change::Accept {
                 cell: spot.cell,
                 device,

@@ -1,36 +1,15 @@
--- Small facts about options, tests and look-ups that all subjects share.
-use Rattle.std.proofs.Common.{◌≡◌, ℕ, Bool, true, false, List, [], ◌∷◌, Option, Some, None, cond, ◌⊎◌, inl, inr, refl, sym, true≢false}
-use Rattle.std.specs.Prelude.{◌&&◌}
-use Rattle.bench_base.specs.Rows.{first_of, first_holding}
+-- Tables of rows of which the first that holds counts, and a choice between two.
+use Rattle.std.proofs.Common.{◌≡◌, Bool, true, false, List, [], ◌∷◌, cond, IsErr, Result, Ok, Err, refl, sym, true≢false}
+use Rattle.std.specs.Prelude.{if◌then◌else◌}
+use Rattle.bench_base.specs.Rows.{first_holding}
+use Rattle.bench_base.proofs.Facts.{err-ok}
 
 -- one way of a choice, or the other
 pub chosen : {A : Type 0} (P : A → Type 0) (t : Bool) (a b : A) → (t ≡ true → P a) → (t ≡ false → P b) → P (cond t a b)
 chosen P true a b one other = one refl
 chosen P false a b one other = other refl
 
-pub and_false : (x y : Bool) → (x && y) ≡ false → x ≡ true → y ≡ false
-and_false true y h e = h
-and_false false y h e = absurd (true≢false (sym e))
-
--- a choice that is not 0
-pub when : (t : Bool) (x : ℕ) → (cond t x 0 ≡ 0) ⊎ ((t ≡ true) × (cond t x 0 ≡ x))
-when true x = inr (refl, refl)
-when false x = inl refl
-
--- == look-ups that take the first in time ==
-
--- what is found is new, or was found before
-pub found : {A : Type 0} (t : Bool) (o : Option A) (a b : A) → cond t (first_of o (Some a)) o ≡ Some b → ((t ≡ true) × (a ≡ b)) ⊎ (o ≡ Some b)
-found true None a b e = inl (refl, cc)
-found true (Some y) a b e = inr e
-found false o a b e = inr e
-
-pub first_of-some : {A : Type 0} (o : Option A) (a : A) → (b : A) × (first_of o (Some a) ≡ Some b)
-first_of-some None a = (a, refl)
-first_of-some (Some b) a = (b, refl)
-
--- == rows ==
-
+-- no row holds
 abbrev pub AllFalse : {A : Type 0} → List (Bool × A) → Type 0
 AllFalse [] = Unit {0}
 AllFalse (row ∷ rows) = (row.0 ≡ false) × AllFalse rows
@@ -56,3 +35,21 @@ first-that P (row ∷ rows) a each last = chosen P row.0 row.1 (first_holding ro
 pub none-holds : {A : Type 0} (rows : List (Bool × A)) (a : A) → AllFalse rows → first_holding rows a ≡ a
 none-holds [] a h = refl
 none-holds (row ∷ rows) a h = rw h.0 (none-holds rows a h.1)
+
+-- == rows that refuse ==
+
+err_not : {A F : Type 0} (r : Result A F) (y : A) → IsErr r → r ≡ Ok y → ⊥
+err_not (Err e) y h k = err-ok k
+err_not (Ok x) y h k = true≢false (sym h)
+
+passed : {A F : Type 0} (b : Bool) (x rest : Result A F) (y : A) → IsErr x → (if b then x else rest) ≡ Ok y → (b ≡ false) × (rest ≡ Ok y)
+passed true x rest y h e = absurd (err_not x y h e)
+passed false x rest y h e = (refl, e)
+
+-- where each row refuses and the answer is no refusal, no row holds
+pub passes : {A F : Type 0} (rows : List (Bool × Result A F)) (x : Result A F) (y : A) → AllRows IsErr rows → first_holding rows x ≡ Ok y → AllFalse rows × (x ≡ Ok y)
+passes [] x y r e = (tt, e)
+passes (row ∷ rows) x y r e =
+    let here = passed row.0 row.1 (first_holding rows x) y r.0 e in
+    let rest = passes rows x y r.1 here.1 in
+    ((here.0, rest.0), rest.1)
