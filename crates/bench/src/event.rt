@@ -24,7 +24,7 @@ use bench_base::numbers::DayNo;
 use bench_base::stream::{Sink, Source};
 use bench_views::laws::{host_follows, nodes_follow, verifier_follows};
 use bench_views::{Taken, take};
-use host_rates::theorems::prices_by_text;
+use host_rates::laws::prices_by_text;
 use node_turns::{Sending, Tell, Turn};
 use nv_model::{Fuse, Nv};
 use std::alloc::{AllocError, Global};

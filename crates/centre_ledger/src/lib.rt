@@ -5,6 +5,7 @@ mod accounts;
 mod acts;
 mod balances;
 mod customers;
+mod laws;
 mod messages;
 mod page;
 mod payload;
@@ -16,13 +17,13 @@ mod settling;
 mod soundness;
 mod standing;
 mod taking;
-mod theorems;
 
 pub use accounts::Accounts;
 pub use acts::{
     CentreAct, Deposit, balance_act, deposit_act, flag_act, open_act, register_act, standing_act,
 };
 pub use balances::{Balances, balance_of};
+pub use laws::{acts_follow_the_commits, one_row, rows_follow_the_commits};
 pub use ready_row::ReadyRow;
 pub use replies::ruled;
 pub use rows::{CustomerRow, DeviceRow, ENROLLED, REGISTERED, Row, WITHDRAWN};
@@ -30,4 +31,3 @@ pub use rulings::verdict;
 pub use settling::{deposited, is_repeat, settled};
 pub use standing::Standing;
 pub use taking::{CentreAnswer, take_act};
-pub use theorems::{acts_follow_the_commits, one_row, rows_follow_the_commits};

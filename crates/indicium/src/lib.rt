@@ -1,12 +1,12 @@
 //! The indicium: the mark of one debit, signed under the device's key.
 #![tactic(auto)]
 
+mod laws;
 mod reading;
-mod theorems;
 mod writing;
 
+pub use laws::{one_spelling, round_trip};
 pub use reading::{read_indicium, verify_mark, verify_mark_by};
-pub use theorems::{one_spelling, round_trip};
 pub use writing::{code_by, code_of, write_coded, write_indicium, write_indicium_by};
 
 /// What an indicium says of a debit. Money is in mills, and a day counts from 1970-01-01.

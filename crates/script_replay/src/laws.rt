@@ -15,7 +15,7 @@ ghost use Rattle.script_replay.specs.Outside.{BringsNone};
 ghost use Rattle.script_replay.specs.Run.{Unforged};
 ghost use Rattle.line_runs.specs.declared.status.Status.{Status};
 
-use host_rates::theorems::prices_by_text;
+use host_rates::laws::prices_by_text;
 
 /// A script ends in one way: two statuses that its bytes allow are one.
 pub fn one_end()

@@ -20,7 +20,7 @@ use bench_calls::{hands_bytes, scans_bytes};
 use bench_views::laws::nodes_follow;
 use bench_views::{CentreCall, DeviceCall, Taken, VerifierCall, take};
 use centre_ledger::Row;
-use host_rates::theorems::prices_by_text;
+use host_rates::laws::prices_by_text;
 use node_acts::Asked;
 use psd_state::DevRec;
 use std::alloc::Global;

@@ -4,15 +4,15 @@
 mod acts;
 mod index;
 mod keys;
+mod laws;
 mod payload;
 mod scans;
-mod theorems;
 
 pub use acts::{Accepted, Change, ScanAct, Spot, scan_act, trust_act};
 pub use index::{BlockIndex, Entry};
 pub use keys::ReadyKeys;
+pub use laws::{acts_follow_the_commits, one_row};
 pub use payload::{
     accept_payload, block_in, key_in, read_block, read_trust, scan_in, trust_payload,
 };
 pub use scans::scan;
-pub use theorems::{acts_follow_the_commits, one_row};

@@ -1,5 +1,0 @@
-use Rattle.centre_ledger.proofs.OneRow.{payload-laws}
-use Rattle.centre_ledger.proofs.theorems.one_row.Goals as goal
-
-pub returns : goal.returns
-returns c = payload-laws

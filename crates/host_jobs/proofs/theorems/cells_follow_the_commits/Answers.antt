@@ -1,5 +1,0 @@
-use Rattle.host_jobs.proofs.Seeing.{seen-laws}
-use Rattle.host_jobs.proofs.theorems.cells_follow_the_commits.Goals as goal
-
-pub returns : goal.returns
-returns c = seen-laws

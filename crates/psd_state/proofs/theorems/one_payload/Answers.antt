@@ -1,8 +1,0 @@
-use Rattle.psd_state.proofs.Parted.{one-payload, one-reading}
-use Rattle.psd_state.proofs.theorems.one_payload.Goals as goal
-
-pub returns-clause-one_spelling : goal.returns-clause-one_spelling
-returns-clause-one_spelling c = one-payload
-
-pub returns-clause-one_reading : goal.returns-clause-one_reading
-returns-clause-one_reading c = one-reading

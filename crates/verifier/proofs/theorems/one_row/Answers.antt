@@ -1,5 +1,0 @@
-use Rattle.verifier.proofs.Laid.{payload-laws}
-use Rattle.verifier.proofs.theorems.one_row.Goals as goal
-
-pub returns : goal.returns
-returns c = payload-laws
