@@ -37,7 +37,8 @@ use Rattle.bench_views.specs.Follows.{Follows, FollowsAlways}
 use Rattle.bench_views.proofs.Events.{some-same}
 use Rattle.bench.specs.Benches.{Nodes, OneKind, OfChange, At, IsReady, Stands, devices, centre, host, verifier, BenchOf}
 use Rattle.bench.specs.Outside.{Outside}
-use Rattle.bench.specs.Steps.{notes_in, tells_failure, Steps, StepsByViews, DoesAsked, ShowsLedger, HoldsImage, after_stop}
+use Rattle.bench_base.specs.Replies.{tells_failure}
+use Rattle.bench.specs.Steps.{notes_in, Steps, StepsByViews, DoesAsked, ShowsLedger, HoldsImage, after_stop}
 use Rattle.bench.proofs.Events.{IsOfNode, no_day}
 use Rattle.bench.proofs.EachKind.{OthersRest}
 use Rattle.bench.proofs.OneNode as one

@@ -7,7 +7,7 @@ use Rattle.bench_base.specs.declared.ledger.Commit.{Commit}
 use Rattle.bench_base.specs.declared.ledger.Entry.TheVariants as entry
 use Rattle.bench_base.specs.declared.events.Event.{Event}
 use Rattle.bench_base.specs.declared.events.Reply.TheVariants as r
-use Rattle.bench_base.specs.Replies.{Told, Did, Refused, Armed, CameOn, WentOff, LostPower, Faulted, WasDamaged, PrinterFailed, RatesFailed, told_by}
+use Rattle.bench_base.specs.Replies.{Told, Did, Refused, Armed, CameOn, WentOff, LostPower, Faulted, WasDamaged, PrinterFailed, RatesFailed, told_by, is_failure, tells_failure}
 use Rattle.bench_base.specs.Plans.{Plan}
 use Rattle.bench_base.specs.Nodes.{node_of}
 use Rattle.bench_base.specs.Rules.{todays_rules}
@@ -34,7 +34,7 @@ use Rattle.bench_views.proofs.Events.{some-same}
 use Rattle.bench_views.proofs.Views.{same-self}
 use Rattle.bench_views.specs.Messages.{sent_in}
 use Rattle.bench.proofs.Notes.{few_notes}
-use Rattle.bench.specs.Steps.{notes_in, ShowsCommit, ShowsLedger, HoldsImage, with_open, after_stop, is_failure, tells_failure}
+use Rattle.bench.specs.Steps.{notes_in, ShowsCommit, ShowsLedger, HoldsImage, with_open, after_stop}
 
 own_torn : (m : Node) (c : Commit) (H : Ledger) → torn_of m (entry.Torn m c ∷ H) ≡ Some c
 own_torn m c H = rw (same-self m) refl

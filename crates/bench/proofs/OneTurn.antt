@@ -9,7 +9,7 @@ use Rattle.bench_base.specs.declared.events.Event.{Event}
 use Rattle.bench_base.specs.declared.events.Event.TheVariants as ev
 use Rattle.bench_base.specs.declared.events.Reply.TheVariants as r
 use Rattle.bench_base.specs.Events.{node_for, may_commit}
-use Rattle.bench_base.specs.Replies.{is_refusal, has_read, tells_power, tells_fault, MayGet}
+use Rattle.bench_base.specs.Replies.{is_refusal, has_read, tells_power, tells_fault, MayGet, tells_failure}
 use Rattle.bench_base.specs.Nodes.{node_of}
 use Rattle.bench_base.specs.Rules.{todays_rules, editions}
 use Rattle.bench_base.specs.Ranges.{IsWholeEvent}
@@ -41,7 +41,7 @@ use Rattle.bench_views.specs.Messages.{sent_in}
 use Rattle.bench_views.specs.Follows.{OthersStay, Rests}
 use Rattle.bench.specs.Benches.{Places, Nodes, OneKind, OfState, OfChange, At, Of, By, IsReady, Stands, StoresStand, StoreStandsOff, store_of, devices, centre, host, verifier, BenchOf}
 use Rattle.bench.specs.Outside.{Feed, Outside}
-use Rattle.bench.specs.Steps.{Steps, StepsOn, StepsAlone, ShowsLedger, HoldsImage, AreLeft, StayClosed, Leaves, UsesFuse, notes_in, sending, with_open, after_stop, tells_failure}
+use Rattle.bench.specs.Steps.{Steps, StepsOn, StepsAlone, ShowsLedger, HoldsImage, AreLeft, StayClosed, Leaves, UsesFuse, notes_in, sending, with_open, after_stop}
 use Rattle.bench.proofs.Events.{IsOfNode, NeedsAlike, given_alike, node_is, untold, same_or_not}
 use Rattle.bench.proofs.EachKind.{OthersRest, of_all, of_with, of_by, at_both, stays, walk}
 use Rattle.bench.proofs.Making.{get_some}

@@ -91,24 +91,6 @@ notes_in entries = notes_of (turns.sent_in entries)
 abbrev pub sending : {D C H V : Type 0} → Turn → Bench D C H V → Bench D C H V
 sending turn bench = record bench { messages = bench.messages ++ notes_in turn.entries }
 
--- == failures ==
-
-abbrev pub is_failure : Told → Bool
-is_failure Did = false
-is_failure Refused = false
-is_failure (Armed n) = false
-is_failure (CameOn n k) = false
-is_failure (WentOff n) = false
-is_failure (LostPower n) = true
-is_failure (Faulted n) = true
-is_failure (WasDamaged n) = false
-is_failure (PrinterFailed j) = false
-is_failure RatesFailed = false
-
--- the reply tells that power was cut at a node, or that its storage failed
-abbrev pub tells_failure : Reply → Bool
-tells_failure reply = is_failure (told_by reply)
-
 -- a node without an open commit has none now
 abbrev pub StayClosed : Ledger → Ledger → Type 0
 StayClosed old new = (m : Node) → torn_of m old ≡ None → torn_of m new ≡ None

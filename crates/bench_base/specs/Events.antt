@@ -26,44 +26,46 @@ pub record Needs : Type 0 where
   pub calls : ℕ
   -- the day that it sets
   pub sets : Option ℤ
+  -- whether it takes a text of the rates
+  pub rates : Bool
   -- what it brings from outside
   pub brings : Brought
 
--- the bench's own: it sets the day, it needs no day, or it needs one
-abbrev pub dates : ℤ → Needs
-dates t = record { node = None; day = false; on = false; commits = false; calls = 0; sets = Some t; brings = Nothing }
-
+-- the bench's own: it needs nothing, it sets the day, or it reads the rates to come
 abbrev pub apart : Needs
-apart = record { node = None; day = false; on = false; commits = false; calls = 0; sets = None; brings = Nothing }
+apart = record { node = None; day = false; on = false; commits = false; calls = 0; sets = None; rates = false; brings = Nothing }
 
-abbrev pub on_a_day : Needs
-on_a_day = record { node = None; day = true; on = false; commits = false; calls = 0; sets = None; brings = Nothing }
+abbrev pub dates : ℤ → Needs
+dates t = record apart { sets = Some t }
+
+abbrev pub reads_rates : Needs
+reads_rates = record apart { day = true; rates = true }
 
 -- of a node, on or off: it boots the node, or leaves its storage alone
 abbrev pub boots : Node → Needs
-boots n = record { node = Some n; day = true; on = false; commits = false; calls = 1; sets = None; brings = Nothing }
+boots n = record apart { node = Some n; day = true; calls = 1 }
 
 abbrev pub arms : Node → Needs
-arms n = record { node = Some n; day = true; on = false; commits = false; calls = 0; sets = None; brings = Nothing }
+arms n = record apart { node = Some n; day = true }
 
 -- of a node that is on: it commits nothing, or it may commit
 abbrev pub asks : Node → Needs
-asks n = record { node = Some n; day = true; on = true; commits = false; calls = 0; sets = None; brings = Nothing }
+asks n = record apart { node = Some n; day = true; on = true }
 
 abbrev pub changes : Node → Needs
-changes n = record { node = Some n; day = true; on = true; commits = true; calls = 6; sets = None; brings = Nothing }
+changes n = record apart { node = Some n; day = true; on = true; commits = true; calls = 6 }
 
--- of the node that a message is for
-abbrev pub delivers : Needs
-delivers = record { node = None; day = true; on = true; commits = true; calls = 6; sets = None; brings = Nothing }
-
--- of a node that is on and takes these bytes
+-- of a node that takes these bytes
 abbrev pub takes : Node → Brought → Needs
 takes n bytes = record (changes n) { brings = bytes }
 
+-- of the node that a message is for
+abbrev pub delivers : Needs
+delivers = record apart { day = true; on = true; commits = true; calls = 6 }
+
 abbrev pub needs : Event → Needs
 needs (ev.Day t) = dates t
-needs ev.Rates = on_a_day
+needs ev.Rates = reads_rates
 needs (ev.Make d key) = changes (Device d)
 needs (ev.On n) = boots n
 needs (ev.Off n) = asks n
@@ -104,6 +106,9 @@ may_commit e = (needs e).commits
 
 abbrev pub calls_of : Event → ℕ
 calls_of e = (needs e).calls
+
+abbrev pub takes_rates : Event → Bool
+takes_rates e = (needs e).rates
 
 abbrev pub brought_by : Event → Brought
 brought_by e = (needs e).brings

@@ -1,5 +1,5 @@
 -- What each reply tells, and which events may get it: two tables with a row for every reply.
-use Rattle.std.specs.Prelude.{◌≡◌, ◌≢◌, ◌⊎◌, ℕ, Bool, true, false, List}
+use Rattle.std.specs.Prelude.{◌≡◌, ◌≢◌, ◌⊎◌, ◌||◌, ℕ, Bool, true, false, List, Option, Some, None, is_some}
 use Rattle.bench_base.specs.declared.words.Kind.{Kind}
 use Rattle.bench_base.specs.declared.words.Node.{Node}
 use Rattle.bench_base.specs.declared.words.Node.TheVariants.{Device, Centre, Host, Verifier}
@@ -79,58 +79,59 @@ told_by (r.ScanRefused why) = Refused
 
 -- == what a reply tells of ==
 
--- the event was refused: by the bench, or by the node
+pub record Telling : Type 0 where
+  -- the event was refused: by the bench, or by the node
+  pub refused : Bool
+  -- the node at which power was cut, whose storage failed, whose fuse was armed
+  pub power : Option Node
+  pub fault : Option Node
+  pub armed : Option Node
+  -- a storage was read, to switch its node on
+  pub read : Bool
+  -- whether the node of the event is on afterwards; none where it is as before
+  pub on : Option Bool
+  -- the printer failed, the rates could not be read
+  pub unprinted : Bool
+  pub unread : Bool
+
+-- none of these
+abbrev pub plainly : Telling
+plainly = record { refused = false; power = None; fault = None; armed = None; read = false; on = None; unprinted = false; unread = false }
+
+abbrev pub telling : Told → Telling
+telling Did = plainly
+telling Refused = record plainly { refused = true }
+telling (Armed n) = record plainly { armed = Some n }
+telling (CameOn n k) = record plainly { read = true; on = Some true }
+telling (WentOff n) = record plainly { on = Some false }
+telling (LostPower n) = record plainly { power = Some n; on = Some false }
+telling (Faulted n) = record plainly { fault = Some n; on = Some false }
+telling (WasDamaged n) = record plainly { read = true; on = Some false }
+telling (PrinterFailed j) = record plainly { unprinted = true }
+telling RatesFailed = record plainly { unread = true }
+
+abbrev pub is_named : Node → Option Node → Bool
+is_named n None = false
+is_named n (Some m) = same_node m n
+
+abbrev pub set_on : Option Bool → Bool → Bool
+set_on None was = was
+set_on (Some is) was = is
+
 abbrev pub refuses : Told → Bool
-refuses Did = false
-refuses Refused = true
-refuses (Armed n) = false
-refuses (CameOn n k) = false
-refuses (WentOff n) = false
-refuses (LostPower n) = false
-refuses (Faulted n) = false
-refuses (WasDamaged n) = false
-refuses (PrinterFailed j) = false
-refuses RatesFailed = false
+refuses t = (telling t).refused
 
 abbrev pub is_refusal : Reply → Bool
 is_refusal reply = refuses (told_by reply)
 
--- power was cut at this node, its storage failed, its fuse was armed
 abbrev pub loses_power : Node → Told → Bool
-loses_power n Did = false
-loses_power n Refused = false
-loses_power n (Armed m) = false
-loses_power n (CameOn m k) = false
-loses_power n (WentOff m) = false
-loses_power n (LostPower m) = same_node m n
-loses_power n (Faulted m) = false
-loses_power n (WasDamaged m) = false
-loses_power n (PrinterFailed j) = false
-loses_power n RatesFailed = false
+loses_power n t = is_named n (telling t).power
 
 abbrev pub faults : Node → Told → Bool
-faults n Did = false
-faults n Refused = false
-faults n (Armed m) = false
-faults n (CameOn m k) = false
-faults n (WentOff m) = false
-faults n (LostPower m) = false
-faults n (Faulted m) = same_node m n
-faults n (WasDamaged m) = false
-faults n (PrinterFailed j) = false
-faults n RatesFailed = false
+faults n t = is_named n (telling t).fault
 
 abbrev pub arms : Node → Told → Bool
-arms n Did = false
-arms n Refused = false
-arms n (Armed m) = same_node m n
-arms n (CameOn m k) = false
-arms n (WentOff m) = false
-arms n (LostPower m) = false
-arms n (Faulted m) = false
-arms n (WasDamaged m) = false
-arms n (PrinterFailed j) = false
-arms n RatesFailed = false
+arms n t = is_named n (telling t).armed
 
 abbrev pub tells_power : Node → Reply → Bool
 tells_power n reply = loses_power n (told_by reply)
@@ -141,34 +142,27 @@ tells_fault n reply = faults n (told_by reply)
 abbrev pub tells_cut : Node → Reply → Bool
 tells_cut n reply = arms n (told_by reply)
 
--- a storage was read, to switch its node on
-abbrev pub reads : Told → Bool
-reads Did = false
-reads Refused = false
-reads (Armed n) = false
-reads (CameOn n k) = true
-reads (WentOff n) = false
-reads (LostPower n) = false
-reads (Faulted n) = false
-reads (WasDamaged n) = true
-reads (PrinterFailed j) = false
-reads RatesFailed = false
+-- power was cut at some node, or its storage failed
+abbrev pub is_failure : Told → Bool
+is_failure t = is_some (telling t).power || is_some (telling t).fault
+
+abbrev pub tells_failure : Reply → Bool
+tells_failure reply = is_failure (told_by reply)
 
 abbrev pub has_read : Reply → Bool
-has_read reply = reads (told_by reply)
+has_read reply = (telling (told_by reply)).read
 
--- whether the node of the event is on afterwards
+abbrev pub tells_printer : Reply → Bool
+tells_printer reply = (telling (told_by reply)).unprinted
+
+abbrev pub fails_to_read : Told → Bool
+fails_to_read t = (telling t).unread
+
+abbrev pub tells_rates : Reply → Bool
+tells_rates reply = fails_to_read (told_by reply)
+
 abbrev pub leaves_on : Told → Bool → Bool
-leaves_on Did was = was
-leaves_on Refused was = was
-leaves_on (Armed n) was = was
-leaves_on (CameOn n k) was = true
-leaves_on (WentOff n) was = false
-leaves_on (LostPower n) was = false
-leaves_on (Faulted n) was = false
-leaves_on (WasDamaged n) was = false
-leaves_on (PrinterFailed j) was = was
-leaves_on RatesFailed was = was
+leaves_on t was = set_on (telling t).on was
 
 abbrev pub on_after : Reply → Bool → Bool
 on_after reply was = leaves_on (told_by reply) was

@@ -9,7 +9,7 @@ use Rattle.bench_base.specs.declared.events.Reply.TheVariants as r
 use Rattle.bench_base.specs.declared.words.Node.{Node}
 use Rattle.bench_base.specs.declared.words.Node.TheVariants.{Device, Centre, Host, Verifier}
 use Rattle.bench_base.specs.Events.{calls_of}
-use Rattle.bench_base.specs.Replies.{tells_power, tells_fault, tells_cut, MayGet}
+use Rattle.bench_base.specs.Replies.{tells_power, tells_fault, tells_cut, MayGet, tells_printer, tells_rates}
 use Rattle.nv_model.specs.Meters.{Meters, Uses}
 use Rattle.node_seat.specs.declared.node.Node.{Ghosts}
 use Rattle.node_seat.specs.Stands.{meters_of}
@@ -24,7 +24,7 @@ use Rattle.bench.proofs.Making.{pairs_at}
 use Rattle.script_replay.specs.Chains.{Scene, scene, DidEvent, DidEvents, SceneOf}
 use Rattle.script_replay.specs.Counts.{BalancedAt, AreBalanced}
 use Rattle.desk_runs.specs.Deeds.{Done}
-use Rattle.script_replay.specs.Faults.{tells_printer, tells_rates, FaultsTold}
+use Rattle.script_replay.specs.Faults.{FaultsTold}
 use Rattle.script_replay.specs.Run.{Leaves}
 use Rattle.line_runs.specs.declared.status.Status.TheVariants as status
 use Rattle.line_runs.specs.declared.status.SideStatus.{SideStatus}

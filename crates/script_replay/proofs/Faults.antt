@@ -9,7 +9,7 @@ use Rattle.bench_base.specs.declared.events.Event.TheVariants as ev
 use Rattle.bench_base.specs.declared.events.Reply.{Reply}
 use Rattle.bench_base.specs.declared.events.Reply.TheVariants as r
 use Rattle.bench_base.specs.Events.{needs_day}
-use Rattle.bench_base.specs.Replies.{MayGet}
+use Rattle.bench_base.specs.Replies.{MayGet, tells_printer, tells_rates}
 use Rattle.host_rates.specs.declared.reading.RatesFail.{RatesFail}
 use Rattle.host_rates.specs.declared.reading.RatesFail.TheVariants as fail
 use Rattle.host_rates.specs.Tables.{RateTable}
@@ -20,7 +20,7 @@ use Rattle.node_turns.specs.Printing.{Printer, PrinterDid}
 use Rattle.bench_views.specs.Taken.{as_given, as_given_by, as_scanned_by}
 use Rattle.bench.specs.Costs.{one_if}
 use Rattle.bench.specs.Outside.{Feed, rates_turn, ReadsText, ReadsNothing, ReadsRates}
-use Rattle.script_replay.specs.Faults.{tells_printer, tells_rates, FaultsTold}
+use Rattle.script_replay.specs.Faults.{FaultsTold}
 use Rattle.script_replay.specs.Marks.{IsPrinted}
 use Rattle.desk_runs.proofs.Texts.{cut_off}
 

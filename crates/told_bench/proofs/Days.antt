@@ -8,7 +8,7 @@ use Rattle.bench_base.specs.declared.events.Event.{Event}
 use Rattle.bench_base.specs.declared.events.Event.TheVariants as ev
 use Rattle.bench_base.specs.declared.events.Reply.{Reply}
 use Rattle.bench_base.specs.declared.events.Reply.TheVariants as r
-use Rattle.bench_base.specs.Events.{needs_day}
+use Rattle.bench_base.specs.Events.{needs_day, takes_rates}
 use Rattle.bench_base.specs.Plans.{refuse, told}
 use Rattle.node_acts.specs.declared.act.Act.TheVariants.{Refuse, Tell, Commits}
 use Rattle.node_acts.specs.Kinds.{view_in}
@@ -43,7 +43,8 @@ use Rattle.told_bench.specs.declared.judging.Finding.{Finding}
 use Rattle.told_device.specs.Records as device_records
 use Rattle.told_centre.specs.Cells as centre_cells
 use Rattle.told_views.specs.Verdicts.{Adds}
-use Rattle.told_bench.specs.Judging.{is_rates, failed_to_read, IsHeard}
+use Rattle.bench_base.specs.Replies.{fails_to_read}
+use Rattle.told_bench.specs.Judging.{IsHeard}
 use Rattle.told_bench.specs.Plainly.{IsPlainly}
 use Rattle.told_bench.specs.Placed.{ComparesInPlace}
 use Rattle.told_bench.specs.Seeing.{Audit, IsReady, SeesRun}
@@ -93,9 +94,9 @@ plan_none τ H e needs none = rw (sym none, needs) refl
 
 -- without a day nothing is taken
 takes_undated : (e : Event) (today : Option ℤ) (left : List ℕ) → is_some today ≡ false → TakesNone e today left
-takes_undated e today left undated t = by (is_rates e) (is_some today) undated
+takes_undated e today left undated t = by (takes_rates e) (is_some today) undated
   where
-    by : (b c : Bool) → c ≡ false → (if b && (c && not (failed_to_read t)) then take 65537 left else []) ≡ []
+    by : (b c : Bool) → c ≡ false → (if b && (c && not (fails_to_read t)) then take 65537 left else []) ≡ []
     by true true wrong = absurd (true≢false wrong)
     by true false none = refl
     by false c none = refl

@@ -11,10 +11,11 @@ use Rattle.ledger_moves.specs.Moves.{Moves, answer, entries}
 use Rattle.script_text.specs.Texts.{text_of}
 use Rattle.script_text.specs.Told.{IsWholeReply}
 use Rattle.told_views.specs.Verdicts.{Adds}
-use Rattle.told_bench.specs.Judging.{is_rates, taken_by, text_with, ledger_with, IsToldBy, IsUntoldBy}
+use Rattle.bench_base.specs.Events.{takes_rates}
+use Rattle.told_bench.specs.Judging.{taken_by, text_with, ledger_with, IsToldBy, IsUntoldBy}
 use Rattle.told_bench.specs.Seeing.{Audit, SeesRun}
 
-pub not_rates : (e : Event) → e ≢ ev.Rates → is_rates e ≡ false
+pub not_rates : (e : Event) → e ≢ ev.Rates → takes_rates e ≡ false
 not_rates ev.Rates not = absurd (not refl)
 not_rates _ not = refl
 

@@ -8,7 +8,7 @@ use Rattle.bench_base.specs.declared.events.Event.{Event}
 use Rattle.bench_base.specs.declared.events.Reply.{Reply}
 use Rattle.bench_base.specs.declared.events.Reply.TheVariants as r
 use Rattle.bench_base.specs.Ranges.{IsNode, IsWholeEvent}
-use Rattle.bench_base.specs.Replies.{Did, told_by}
+use Rattle.bench_base.specs.Replies.{Did, told_by, fails_to_read}
 use Rattle.bench_base.specs.Rules.{todays_rules}
 use Rattle.bench_base.specs.Ledger.{Ledger, day_in}
 use Rattle.node_acts.specs.Plans.{Fails}
@@ -16,7 +16,8 @@ use Rattle.ledger_moves.specs.Tariffs.{Tariff}
 use Rattle.ledger_moves.specs.Moves.{plan, answer, OtherUp}
 use Rattle.script_text.specs.Texts.{text_of}
 use Rattle.script_text.specs.Told.{IsWholeReply, told}
-use Rattle.told_bench.specs.Judging.{is_rates, failed_to_read, taken_by, text_with, MayGet, ledger_with, IsTold}
+use Rattle.bench_base.specs.Events.{takes_rates}
+use Rattle.told_bench.specs.Judging.{taken_by, text_with, MayGet, ledger_with, IsTold}
 use Rattle.told_bench.specs.Seeing.{Audit, Sees}
 use Rattle.told_bench.specs.Stopping.{IsFrontOf, MayBegin, MayLose, torn, rests, IsBegun, IsUnbegun}
 use Rattle.told_bench.specs.Fronts.{number_of, BeginsOtherUp, BeginsCutPrint, BeginsRatesFault, Asks, IsFailure, IsDue, OnlyFails, Comes, LosesAt, LosesThere, NoneBelow, Loses}
@@ -48,7 +49,7 @@ numbered Host is = (omega arith, omega arith)
 numbered Verifier is = (omega arith, omega arith)
 
 -- what tells no failure doesn't tell that the rates can't be read
-read_fine : (x : Reply) → is_failure x ≡ false → failed_to_read (told_by x) ≡ false
+read_fine : (x : Reply) → is_failure x ≡ false → fails_to_read (told_by x) ≡ false
 read_fine r.RatesFault wrong = absurd (true≢false wrong)
 read_fine _ is = refl
 
@@ -97,8 +98,8 @@ module _ (τ : Tariff) (H : Ledger) (e : Event) (left front : List ℕ) where
   abbrev T : List ℕ
   T = taken_by e (day_in H) Did left
 
-  fine_text : (reply : Reply) → failed_to_read (told_by reply) ≡ false → text reply ≡ T
-  fine_text reply fine = ap (λ (b : Bool). if is_rates e && (is_some (day_in H) && not b) then take 65537 left else []) fine
+  fine_text : (reply : Reply) → fails_to_read (told_by reply) ≡ false → text reply ≡ T
+  fine_text reply fine = ap (λ (b : Bool). if takes_rates e && (is_some (day_in H) && not b) then take 65537 left else []) fine
 
   answers_fine : (t : List ℕ) → is_failure (answer τ todays_rules H e t) ≡ false
   answers_fine t = (only_print τ todays_rules H e t).unfailed
@@ -124,18 +125,18 @@ module _ (τ : Tariff) (H : Ledger) (e : Event) (left front : List ℕ) where
   -- == beside the answer ==
 
   module _ (whole : IsWholeEvent e) (due : Reply) (due_is : IsDue τ H e left due) where
-    due_fine : failed_to_read (told_by due) ≡ false
+    due_fine : fails_to_read (told_by due) ≡ false
     due_fine = read_fine due (ap is_failure due_is ∙ answers_fine T)
 
     -- the answer to what is taken with a reply that tells no fault of the rates
-    answered : (reply : Reply) → failed_to_read (told_by reply) ≡ false → due ≡ answer τ todays_rules H e (text reply)
+    answered : (reply : Reply) → fails_to_read (told_by reply) ≡ false → due ≡ answer τ todays_rules H e (text reply)
     answered reply fine = due_is ∙ ap (λ (t : List ℕ). answer τ todays_rules H e t) (sym (fine_text reply fine))
 
     pub by_answer : IsWholeReply due → IsFrontOf front (text_of due) → Comes τ H e left front true
     by_answer ranged is = (due, record { moves = (whole, inl (answered due due_fine)); whole = ranged; begins = is })
 
-    up_fine : (up : Reply) (m : Node) (k : ℕ) → up ≡ r.Up m k → failed_to_read (told_by up) ≡ false
-    up_fine up m k is = ap (λ (x : Reply). failed_to_read (told_by x)) is
+    up_fine : (up : Reply) (m : Node) (k : ℕ) → up ≡ r.Up m k → fails_to_read (told_by up) ≡ false
+    up_fine up m k is = ap (λ (x : Reply). fails_to_read (told_by x)) is
 
     pub by_up : BeginsOtherUp due H front → Comes τ H e left front true
     by_up b =

@@ -3,7 +3,8 @@ use Rattle.std.specs.Prelude.{◌≡◌, ◌≢◌, ℕ, ℤ, List, [], length, 
 use Rattle.bench_base.specs.declared.events.Event.{Event}
 use Rattle.bench_base.specs.declared.events.Event.TheVariants as ev
 use Rattle.bench_base.specs.declared.events.Reply.{Reply}
-use Rattle.bench_base.specs.Replies.{Told, Did, Refused, Armed, CameOn, WentOff, LostPower, Faulted, WasDamaged, PrinterFailed, RatesFailed, told_by}
+use Rattle.bench_base.specs.Events.{takes_rates}
+use Rattle.bench_base.specs.Replies.{Told, Did, told_by, fails_to_read}
 use Rattle.bench_base.specs.Rules.{todays_rules, editions}
 use Rattle.bench_base.specs.Ledger.{Ledger, day_in}
 use Rattle.ledger_moves.specs.Tariffs.{Tariff}
@@ -18,50 +19,9 @@ use Rattle.told_bench.specs.declared.judging.Finding.TheVariants.{Wrong, Memory}
 use Rattle.told_views.specs.Verdicts.{Adds}
 use Rattle.told_bench.specs.Seeing.{Audit, Sees, SeesRun, sending}
 
-abbrev pub is_rates : Event → Bool
-is_rates ev.Rates = true
-is_rates (ev.Day t) = false
-is_rates (ev.Make d key) = false
-is_rates (ev.On n) = false
-is_rates (ev.Off n) = false
-is_rates (ev.Cut n calls keep byte) = false
-is_rates (ev.Debit d piece postage class) = false
-is_rates (ev.Ask d kind who amount) = false
-is_rates (ev.Resend d) = false
-is_rates (ev.Ack d) = false
-is_rates (ev.Status d) = false
-is_rates (ev.Register d origin key) = false
-is_rates (ev.OpenCustomer w) = false
-is_rates (ev.Deposit w receipt amount) = false
-is_rates (ev.Flag w suspended) = false
-is_rates (ev.Balance w) = false
-is_rates (ev.Deliver k) = false
-is_rates (ev.Give n bytes) = false
-is_rates (ev.Order d piece class grams zone) = false
-is_rates (ev.Send j) = false
-is_rates (ev.Print j) = false
-is_rates (ev.Close j) = false
-is_rates (ev.Trust d key) = false
-is_rates (ev.ScanMsg scan k) = false
-is_rates (ev.ScanHex scan bytes) = false
-is_rates (ev.Reconcile d) = false
-is_rates ev.End = false
-
-abbrev pub failed_to_read : Told → Bool
-failed_to_read Did = false
-failed_to_read Refused = false
-failed_to_read (Armed m) = false
-failed_to_read (CameOn m k) = false
-failed_to_read (WentOff m) = false
-failed_to_read (LostPower m) = false
-failed_to_read (Faulted m) = false
-failed_to_read (WasDamaged m) = false
-failed_to_read (PrinterFailed j) = false
-failed_to_read RatesFailed = true
-
 -- what an event takes of the rates that are left: a `rates` on a day at most 65,537 bytes, unless they can't be read; any other nothing
 abbrev pub taken_by : Event → Option ℤ → Told → List ℕ → List ℕ
-taken_by e today told left = if is_rates e && (is_some today && not (failed_to_read told)) then take 65537 left else []
+taken_by e today told left = if takes_rates e && (is_some today && not (fails_to_read told)) then take 65537 left else []
 
 -- At ledger H, where these rates are left, the report has this line for this event.
 module _ (τ : Tariff) (H : Ledger) (e : Event) (left line : List ℕ) where

@@ -8,14 +8,15 @@ use Rattle.bench_base.specs.Plans.{refuse, told}
 use Rattle.node_acts.specs.Plans.{on_plan, when_on}
 use Rattle.node_acts.specs.Views.{View}
 use Rattle.host_jobs.specs.Seen.{Seen, counting}
-use Rattle.told_nodes.specs.Judged.{JudgedPrint, JudgedOn, JudgedOff, JudgedCut, is_cut, unprinted}
+use Rattle.bench_base.specs.Replies.{tells_printer}
+use Rattle.told_nodes.specs.Judged.{JudgedPrint, JudgedOn, JudgedOff, JudgedCut, unprinted}
 use Rattle.told_nodes.proofs.Silent.{prints_none}
 
 on_prints : (on : Bool) (k j : ℕ) → (if on then refuse (r.OnAlready Host) else told (r.Up Host k) (entry.Up Host k ∷ [])).reply ≢ r.Printed j
 on_prints true k j is = cc
 on_prints false k j is = cc
 
-on_uncut : (on : Bool) (k : ℕ) → is_cut (if on then refuse (r.OnAlready Host) else told (r.Up Host k) (entry.Up Host k ∷ [])).reply ≡ false
+on_uncut : (on : Bool) (k : ℕ) → tells_printer (if on then refuse (r.OnAlready Host) else told (r.Up Host k) (entry.Up Host k ∷ [])).reply ≡ false
 on_uncut true k = refl
 on_uncut false k = refl
 
@@ -23,7 +24,7 @@ off_prints : (on : Bool) (j : ℕ) → (if on then told (r.Down Host) (entry.Dow
 off_prints true j is = cc
 off_prints false j is = cc
 
-off_uncut : (on : Bool) → is_cut (if on then told (r.Down Host) (entry.Down Host ∷ []) else refuse (r.OffNode Host)).reply ≡ false
+off_uncut : (on : Bool) → tells_printer (if on then told (r.Down Host) (entry.Down Host ∷ []) else refuse (r.OffNode Host)).reply ≡ false
 off_uncut true = refl
 off_uncut false = refl
 

@@ -14,7 +14,8 @@ use Rattle.bench_views.specs.declared.calls.HostCall.{HostCall}
 use Rattle.bench_views.specs.declared.taken.Taken.TheVariants as take
 use Rattle.bench_views.specs.Host.{host_kind}
 use Rattle.told_nodes.specs.declared.printing.Told.{Told}
-use Rattle.told_nodes.specs.Judged.{is_cut, JudgedPrint}
+use Rattle.bench_base.specs.Replies.{tells_printer}
+use Rattle.told_nodes.specs.Judged.{JudgedPrint}
 use Rattle.told_views.specs.Verdicts as views
 use Rattle.told_views.specs.Verdicts.{MovesSo, MovesNever, ByLedger}
 
@@ -31,7 +32,7 @@ IsByView today asked line v w result = JudgedPrint counting Host v (plan_in toda
 
 -- what was sent, and whether the printer failed
 abbrev pub MovesBy : Tariff → Ledger → Event → List ℕ → View Seen → Result Told Reply → Type 0
-MovesBy τ H e line w (Ok told) = (reply : Reply) × MovesSo counting host_kind Host tt τ H e line w told.sent None reply × (told.cut ≡ is_cut reply)
+MovesBy τ H e line w (Ok told) = (reply : Reply) × MovesSo counting host_kind Host tt τ H e line w told.sent None reply × (told.cut ≡ tells_printer reply)
 MovesBy τ H e line w (Err due) = MovesNever counting host_kind Host tt τ H e line w due
 
 -- P at each history at which the host is seen so, for each event that asks this of it on this day and brings nothing forged

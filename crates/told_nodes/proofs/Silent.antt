@@ -7,12 +7,13 @@ use Rattle.bench_base.specs.declared.events.Reply.TheVariants as r
 use Rattle.bench_base.specs.Plans.{Plan}
 use Rattle.node_acts.specs.Views.{Counting, View}
 use Rattle.node_acts.specs.Plans.{MayReply}
-use Rattle.told_nodes.specs.Judged.{Judged, JudgedPrint, is_cut, unprinted}
+use Rattle.bench_base.specs.Replies.{tells_printer}
+use Rattle.told_nodes.specs.Judged.{Judged, JudgedPrint, unprinted}
 
-module _ {S X : Type 0} (n : Counting S X) (m : Node) (v : View S) (p : Plan) (none : (j : ℕ) → p.reply ≢ r.Printed j) (uncut : is_cut p.reply ≡ false) where
-  never_cut : (reply : Reply) → MayReply n m v p reply → is_cut reply ≡ false
-  never_cut reply (inl is) = ap is_cut is ∙ uncut
-  never_cut reply (inr (inl up)) = ap is_cut up.2
+module _ {S X : Type 0} (n : Counting S X) (m : Node) (v : View S) (p : Plan) (none : (j : ℕ) → p.reply ≢ r.Printed j) (uncut : tells_printer p.reply ≡ false) where
+  never_cut : (reply : Reply) → MayReply n m v p reply → tells_printer reply ≡ false
+  never_cut reply (inl is) = ap tells_printer is ∙ uncut
+  never_cut reply (inr (inl up)) = ap tells_printer up.2
   never_cut (r.PrinterFault j) (inr (inr fails)) = absurd (none j fails)
   never_cut _ (inr (inr fails)) = refl
 

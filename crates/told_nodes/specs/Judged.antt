@@ -7,8 +7,7 @@ use Rattle.bench_base.specs.declared.events.Reply.{Reply}
 use Rattle.bench_base.specs.declared.events.Reply.TheVariants as r
 use Rattle.bench_base.specs.Plans.{Plan, refuse, told}
 use Rattle.bench_base.specs.Ledger.{Ledger}
-use Rattle.bench_base.specs.Replies as replies
-use Rattle.bench_base.specs.Replies.{told_by}
+use Rattle.bench_base.specs.Replies.{told_by, tells_printer}
 use Rattle.node_acts.specs.declared.act.Act.{Act}
 use Rattle.node_acts.specs.declared.act.Act.TheVariants.{Refuse, Tell, Commits}
 use Rattle.node_acts.specs.declared.said.Said.{Said}
@@ -31,22 +30,6 @@ abbrev pub PrintsNone : {X : Type 0} → Act X Reply Said → Type 0
 PrintsNone (Refuse x) = Unit {0}
 PrintsNone (Tell a) = (j : ℕ) → a.reply ≢ r.Printed j
 PrintsNone (Commits c x a) = (j : ℕ) → a.reply ≢ r.Printed j
-
--- the printer failed
-abbrev pub fails_to_print : replies.Told → Bool
-fails_to_print replies.Did = false
-fails_to_print replies.Refused = false
-fails_to_print (replies.Armed m) = false
-fails_to_print (replies.CameOn m k) = false
-fails_to_print (replies.WentOff m) = false
-fails_to_print (replies.LostPower m) = false
-fails_to_print (replies.Faulted m) = false
-fails_to_print (replies.WasDamaged m) = false
-fails_to_print (replies.PrinterFailed j) = true
-fails_to_print replies.RatesFailed = false
-
-abbrev pub is_cut : Reply → Bool
-is_cut reply = fails_to_print (told_by reply)
 
 -- == what a line tells ==
 
@@ -75,7 +58,7 @@ module _ {S X : Type 0} (n : Counting S X) (m : Node) (v : View S) (p : Plan) (m
 
   -- what is judged of the line of a call that may print: the message that was sent, and whether the printer failed
   abbrev pub JudgedPrint : List ℕ → View S → Result Told Reply → Type 0
-  JudgedPrint line w (Ok told) = (reply : Reply) × TellsOf line w told.sent reply × (told.cut ≡ is_cut reply)
+  JudgedPrint line w (Ok told) = (reply : Reply) × TellsOf line w told.sent reply × (told.cut ≡ tells_printer reply)
   JudgedPrint line w (Err due) = TellsNone line w due
 
 -- of an event that prints nothing
