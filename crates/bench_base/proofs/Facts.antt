@@ -1,11 +1,14 @@
 -- Small facts that all subjects share: of the variant that an Option or a Result has, of a test, of the first that is found, and of nodes and versions.
-use Rattle.std.proofs.Common.{◌≡◌, ◌⊎◌, inl, inr, ℕ, ◌+◌, ◌≤◌, Bool, true, false, cond, List, ◌++◌, take, drop, take-append-drop, drop-drop, Option, Some, None, IsSome, IfNone, Result, Ok, Err, refl, sym, ap, ◌∙◌, ⊎_elim, true≢false, arith}
-use Rattle.std.specs.Prelude.{◌==◌, ◌&&◌}
+use Rattle.std.proofs.Common.{◌≡◌, ◌≢◌, ◌⊎◌, inl, inr, ℕ, ◌+◌, ◌≤◌, Bool, true, false, cond, List, ◌++◌, take, drop, take-append-drop, drop-drop, Option, Some, None, IsSome, IfNone, Result, Ok, Err, refl, sym, ap, ◌∙◌, ⊎_elim, true≢false, arith}
+use Rattle.std.specs.Prelude.{◌==◌, ◌&&◌, ◌↔◌, IsTrue}
 use Rattle.std.proofs.lemmas.Bool.{eqb-true, eq-eqb, cases_Bool}
 use Rattle.std.proofs.lemmas.Bool.Decides.{nat_tests}
+use Rattle.bench_base.specs.declared.words.Kind.{Kind}
+use Rattle.bench_base.specs.declared.words.Kind.TheVariants.{Enrol, Reset, Audit, Refund, Withdraw}
 use Rattle.bench_base.specs.declared.words.Node.{Node}
 use Rattle.bench_base.specs.declared.words.Node.TheVariants.{Device, Centre, Host, Verifier}
 use Rattle.bench_base.specs.declared.sizes.TheConstants.{MOST_COMMITS}
+use Rattle.bench_base.specs.Kinds.{same_kind}
 use Rattle.bench_base.specs.Nodes.{same_node}
 use Rattle.bench_base.specs.Rows.{first_of}
 use Rattle.bench_base.specs.Rules.{is_version, IsVersion}
@@ -54,6 +57,21 @@ and_false false y h e = absurd (true≢false (sym e))
 pub when : (t : Bool) (x : ℕ) → (cond t x 0 ≡ 0) ⊎ ((t ≡ true) × (cond t x 0 ≡ x))
 when true x = inr (refl, refl)
 when false x = inl refl
+
+-- another number
+pub unlike : (a b : ℕ) → (a == b) ≡ false → a ≢ b
+unlike a b other same = true≢false (sym (eq-eqb a b same) ∙ other)
+
+-- a test that says whether something holds
+pub is_so : (b : Bool) (P : Type 0) → (IsTrue b ↔ P) → b ≡ true → P
+is_so b P h e = h.0 e
+
+pub not_so : (b : Bool) (P : Type 0) → (IsTrue b ↔ P) → b ≡ false → P → ⊥
+not_so b P h e p = true≢false (sym (h.1 p) ∙ e)
+
+-- a count that isn't full has room for one more
+pub room_left : (n : ℕ) → n ≤ MOST_COMMITS → (n == MOST_COMMITS) ≡ false → n + 1 ≤ MOST_COMMITS
+room_left n within not_full = grind (arith, nat_tests)
 
 -- == look-ups that take the first in time ==
 
@@ -109,3 +127,14 @@ known_is v h = grind arith
 -- a count that has not come to its end can grow
 pub few_more : (count : ℕ) → count ≤ MOST_COMMITS → (count == MOST_COMMITS) ≡ false → count + 1 ≤ MOST_COMMITS
 few_more count few fresh = grind (arith, nat_tests)
+
+-- == kinds of transactions ==
+
+-- an enrolment is no reset
+pub no_reset : (k : Kind) → same_kind k Enrol ≡ true → same_kind k Reset ≡ false
+unfolding same_kind
+no_reset Enrol h = refl
+no_reset Reset h = absurd (true≢false (sym h))
+no_reset Audit h = refl
+no_reset Refund h = refl
+no_reset Withdraw h = refl

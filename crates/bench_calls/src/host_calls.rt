@@ -1,5 +1,4 @@
 //! The calls of the host: what each does by the host's jobs, and what the host says of it. Postage is in mills.
-ghost use Rattle.std.specs.Prelude.{◌≡◌};
 ghost use Rattle.bench_base.specs.declared.words.Node.TheVariants as node;
 ghost use Rattle.bench_base.specs.declared.events.Reply.TheVariants as r;
 ghost use Rattle.bench_base.specs.Ranges.{IsDevice};

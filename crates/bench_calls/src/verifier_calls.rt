@@ -3,7 +3,6 @@ ghost use Rattle.bench_base.specs.declared.words.Node.TheVariants as node;
 ghost use Rattle.bench_base.specs.declared.events.Reply.TheVariants as r;
 ghost use Rattle.bench_base.specs.Ranges.{IsCount, IsDevice, IsKey};
 ghost use Rattle.bench_base.specs.Table.{IsBytes};
-ghost use Rattle.std.specs.Prelude.{◌≡◌};
 ghost use Rattle.verifier.specs.Acts as acts;
 ghost use Rattle.verifier.specs.ActLaws.{IsFit};
 ghost use Rattle.bench_views.specs.Verifier as views;

@@ -11,7 +11,7 @@ use Rattle.bench_base.specs.Plans.{Plan}
 use Rattle.bench_base.specs.Replies.{Told, Did, Refused, Armed, CameOn, WentOff, LostPower, Faulted, WasDamaged, PrinterFailed, RatesFailed}
 use Rattle.bench_base.specs.Ledger.{Ledger, messages, message}
 use Rattle.node_acts.specs.Plans.{after_told, with_commit, with_torn}
-use Rattle.bench_views.specs.Messages.{sent_in}
+use Rattle.bench_views.specs.Messages.{sent_in, SendsNone}
 
 -- there are as many as were sent
 pub sent_many : (H : Ledger) → length (sent_in H) ≡ messages H
@@ -89,3 +89,10 @@ sent_after p t H none = by t
     by (WasDamaged m) = done
     by (PrinterFailed j) = nothing (with_commit p.commit H) (with_commit p.commit []) (commits p.commit H) (commits p.commit [])
     by RatesFailed = nothing H [] refl refl
+
+-- entries that send nothing have no message among them
+pub sends_none : (T : List Entry) → SendsNone T → sent_in T ≡ []
+sends_none [] none = refl
+sends_none (entry.Sent bytes ∷ T) none = absurd none
+sends_none (entry.Begin ∷ T) none = refl
+sends_none (_ ∷ T) none = sends_none T none

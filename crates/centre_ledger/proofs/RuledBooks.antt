@@ -17,6 +17,7 @@ use Rattle.centre_ledger.specs.Acts.{payer_in, own_left, verdict_in, ruled_in}
 use Rattle.centre_ledger.proofs.Keeping.{WasGranted, granted, funded, left-of, and-then}
 use Rattle.centre_ledger.proofs.Payers.{found-device, found-owned}
 use Rattle.centre_ledger.proofs.Puts.{CanPay}
+use Rattle.bench_base.proofs.Facts.{no_reset}
 
 -- the customer after a ruling is open, where the device is enrolled then
 owned-after : (has : ℕ → Type 0) (k : Kind) (g : Bool) (s own c : ℕ) → 1 ≤ s → (2 ≤ s → has own)
@@ -48,14 +49,6 @@ no-enrol Audit h = refl
 no-enrol Refund h = refl
 no-enrol Withdraw h = refl
 
-no-reset : (k : Kind) → same_kind k Enrol ≡ true → same_kind k Reset ≡ false
-unfolding same_kind
-no-reset Enrol h = refl
-no-reset Reset h = absurd (true≢false (sym h))
-no-reset Audit h = refl
-no-reset Refund h = refl
-no-reset Withdraw h = refl
-
 -- what a granted reset adds is left to the device's own customer
 adds-most : (b : Books) (r : DeviceRow) (q : Request) → adds (verdict_in b r q) q ≤ left_in b r.customer
 unfolding adds
@@ -80,7 +73,7 @@ fresh b r q sound g enrol = ⊎_elim
     (λ (one : r.state ≡ 1).
     let buys = (sound.registered one).1 in
     let least = sound.returns_le in
-    let none : same_kind q.kind Reset ≡ false = no-reset q.kind enrol in
+    let none : same_kind q.kind Reset ≡ false = no_reset q.kind enrol in
     record { bought = rw (g, none) (omega arith); returned = omega arith })
     (λ (more : r.state ≡ 1 → ⊥).
     let was : is_enrolled (enrolled_in r) ≡ false = and-then (same_kind q.kind Enrol) (is_enrolled (enrolled_in r)) enrol (was-granted b r q g).new in

@@ -15,6 +15,7 @@ use Rattle.ledger_terms.specs.Requests.{request_in}
 use Rattle.ledger_terms.specs.Sums.{adds, takes, ruled_sum}
 use Rattle.ledger_terms.specs.Centres.{enrolled, customer_sum, is_some_at, device_numbers, sum_over, device_share}
 use Rattle.ledger_lawful.specs.Further.{HasOwner}
+use Rattle.bench_base.proofs.Facts.{no_reset}
 
 -- each ruling of the list has the owner of its device
 abbrev pub Owned : List Commit → Type 0
@@ -145,14 +146,6 @@ module _ (f : Verdict → Request → ℕ) (move : IsMove f) (d n : ℕ) (v : Ve
 
 -- == the two sums ==
 
-reset_enrols : (k : Kind) → same_kind k Enrol ≡ true → same_kind k Reset ≡ false
-unfolding same_kind
-reset_enrols Enrol h = refl
-reset_enrols Reset h = absurd (true≢false (sym h))
-reset_enrols Audit h = refl
-reset_enrols Refund h = refl
-reset_enrols Withdraw h = refl
-
 empties_enrols : (k : Kind) → same_kind k Enrol ≡ true → empties k ≡ false
 unfolding same_kind
 empties_enrols Enrol h = refl
@@ -169,7 +162,7 @@ pub adds_moves : IsMove adds
 unfolding adds
 adds_moves = record {
   granted = λ v q h. rw h refl;
-  enrol = λ v q h. and_not (is_granted v) (same_kind q.kind Reset) q.amount (reset_enrols q.kind h);
+  enrol = λ v q h. and_not (is_granted v) (same_kind q.kind Reset) q.amount (no_reset q.kind h);
 }
 
 pub takes_moves : IsMove takes

@@ -24,6 +24,7 @@ use Rattle.centre_statement.specs.StatementsDesk.{statements_desk}
 use Rattle.centre_statement.specs.declared.desk.StatementDesk.{StatementDesk}
 use Rattle.centre_statement.specs.declared.lines.OwnLine.{OwnLine}
 use Rattle.centre_statement.proofs.Stating.{Laws, none_broken, all_stated, starts_with}
+use Rattle.desk_runs.proofs.Wanting.{no_words}
 
 -- == each line of a run is what its deed says ==
 
@@ -86,9 +87,6 @@ module _ (n : Nodes) (laws : Laws) (old new : SceneOf n) (desk after : Statement
   }
 
 -- == no run is stopped ==
-
-no_words : Run status.Words ≡ Stopped → ⊥
-no_words is = cc
 
 module _ (n : Nodes) (old new : SceneOf n) (desk after : StatementDesk) (outcome : SideStatus) (stopped : outcome ≡ Stopped) where
   never_broken : (a b t u : Option (List ℕ)) → Replayed (side_lines statements_desk) outcome (DidStatements n old new desk after outcome) a b t u → ⊥

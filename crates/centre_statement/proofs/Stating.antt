@@ -55,6 +55,7 @@ use Rattle.centre_statement.specs.declared.said.Said.TheVariants as said
 use Rattle.centre_statement.proofs.Asking as asking
 use Rattle.centre_statement.proofs.Counting.{GoesWith, Lists, Listed, Kept, Sound}
 use Rattle.centre_statement.proofs.Turns.{IsSmall, turn_seen}
+use Rattle.desk_runs.proofs.Wanting.{step_event, ends_at}
 
 -- the texts of the desk's answer
 abbrev pub texts_in : View → List (List ℕ)
@@ -155,11 +156,6 @@ closes o v t H s reply here with_it told did = by told did
 abbrev ItsWorld : Nodes → Type 0
 ItsWorld n = World (SceneOf n) StatementDesk
 
-abbrev step_event : Event → Next → Event
-step_event z (Step e) = e
-step_event z Say = z
-step_event z Stop = z
-
 no_step : (e : Event) → Say ≡ Step e → ⊥
 no_step e is = subst (λ (x : Next). IsStep x → ⊥) is (λ none. none) tt
 
@@ -169,8 +165,7 @@ no_stop is = cc
 module _ (n : Nodes) where
   -- what is wanted last, where it is no step
   ended : (old new : ItsWorld n) (next last : Next) (steps : List Done) → next ≡ Say → Asks statements_desk (StepsBy n) old new next steps last → (steps ≡ []) × (last ≡ Say) × (new ≡ old)
-  ended old new next last [] say asks = (refl, asks.0 ∙ say, asks.1)
-  ended old new next last (d ∷ rest) say asks = absurd (no_step d.event (sym say ∙ asks.2.asks))
+  ended old new next last steps say asks = let end = ends_at statements_desk (StepsBy n) old new next steps last asks (inl say) in (end.0, end.1 ∙ say, end.2)
 
   -- one step was done, and then it said its answer
   record OneStep (old new : ItsWorld n) (desk : StatementDesk) (e : Event) (steps : List Done) (last : Next) : Type 0 where

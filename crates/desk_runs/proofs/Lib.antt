@@ -1,3 +1,4 @@
 mod Asking
 mod Doing
 pub mod Texts
+pub mod Wanting

@@ -16,7 +16,7 @@ use Rattle.line_runs.specs.declared.status.SideStatus.{SideStatus}
 use Rattle.line_runs.specs.declared.status.SideStatus.TheVariants.{Stopped}
 use Rattle.desk_runs.specs.SideDeeds.{SideDeed}
 use Rattle.desk_stops.specs.Stops as stops
-use Rattle.desk_stops.specs.Stops.{HasBroken, RowCommit, DeskView, rows_seen, meters_seen, row_view, with_commit}
+use Rattle.desk_stops.specs.Stops.{HasBroken, RowCommit, DeskView, rows_seen, meters_seen, row_view}
 
 -- == counts ==
 

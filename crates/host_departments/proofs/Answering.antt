@@ -2,7 +2,6 @@
 use Rattle.std.proofs.Common.{◌≡◌, ◌⊎◌, inl, inr, ℕ, ◌+◌, ◌-◌, List, [], ◌∷◌, Option, Some, None, Result, Ok, Err, Bool, true, false, refl, sym, ap, ◌∙◌, subst}
 use Rattle.std.specs.Prelude.{codes, nat_lt}
 use Rattle.std.proofs.lemmas.Bool.{false_from_ne_true}
-use Rattle.bench_base.specs.declared.events.Event.{Event}
 use Rattle.bench_base.specs.declared.events.Event.TheVariants as ev
 use Rattle.bench_base.specs.declared.refusals.StoreFail.{StoreFail}
 use Rattle.bench_base.specs.declared.refusals.StoreFail.TheVariants as fail
@@ -14,12 +13,9 @@ use Rattle.node_acts.specs.RowList.{is_worn, put}
 use Rattle.node_turns.specs.Turns.{sent_in}
 use Rattle.node_turns.specs.declared.turn.Turn.{Turn}
 use Rattle.line_runs.specs.declared.status.Status.TheVariants as status
-use Rattle.line_runs.specs.declared.status.SideStatus.{SideStatus}
-use Rattle.line_runs.specs.declared.status.SideStatus.TheVariants.{Run, Stopped}
 use Rattle.desk_runs.specs.Deeds.{Done, Skipped, Did}
-use Rattle.desk_runs.specs.Desks.{World, world, Asks, Does, SideLeaves}
+use Rattle.desk_runs.specs.Desks.{World, world, Asks, Does}
 use Rattle.desk_runs.specs.SideDeeds.{SideDeed, Plain, Own, Broken}
-use Rattle.desk_runs.specs.Wants.{IsStep}
 use Rattle.desk_runs.specs.declared.desk.Desk.{Ghosts}
 use Rattle.desk_runs.specs.declared.desk.Next.{Next}
 use Rattle.desk_runs.specs.declared.desk.Next.TheVariants.{Step, Say, Stop}
@@ -45,23 +41,7 @@ use Rattle.host_departments.specs.declared.row.DepartmentRow.{DepartmentRow}
 use Rattle.host_departments.specs.declared.row.DepartmentRow.TheVariants as row
 use Rattle.host_departments.specs.declared.said.Said.{Said}
 use Rattle.host_departments.specs.declared.said.Said.TheVariants as said
-
-no_step : (n : Next) → (n ≡ Say) ⊎ (n ≡ Stop) → IsStep n → ⊥
-no_step n (inl say) step = subst (λ (x : Next). IsStep x) say step
-no_step n (inr stop) step = subst (λ (x : Next). IsStep x) stop step
-
-abbrev IsSay : Next → Type 0
-IsSay (Step e) = ⊥
-IsSay Say = Unit {0}
-IsSay Stop = ⊥
-
-no_say : (n : Next) → n ≡ Stop → Say ≡ n → ⊥
-no_say n stop say = subst (λ (x : Next). IsSay x) (say ∙ stop) tt
-
-abbrev step_event : Event → Next → Event
-step_event z (Step e) = e
-step_event z Say = z
-step_event z Stop = z
+use Rattle.desk_runs.proofs.Wanting.{no_step, no_say, step_event, ends_at}
 
 one_limit : (a b : ℕ) → Some a ≡ Some b → a ≡ b
 one_limit a b is = cc
@@ -69,12 +49,6 @@ one_limit a b is = cc
 -- the step was done, and this is its turn
 abbrev pub Tells : {B : Type 0} → (B → B → Done → Turn → Type 0) → Done → Turn → Type 0
 Tells {B} Steps d turn = (s t : B) × Steps s t d turn
-
--- what is wanted first is wanted last where it is no step
-ends_at : {B K T : Type 0} (k : Ghosts K T) (Steps : B → B → Done → Turn → Type 0) (old new : World B K) (next : Next) (steps : List Done) (last : Next) → Asks k Steps old new next steps last
-    → (next ≡ Say) ⊎ (next ≡ Stop) → (steps ≡ []) × (last ≡ next) × (new ≡ old)
-ends_at k Steps old new next [] last asks none = (refl, asks.0, asks.1)
-ends_at k Steps old new next (d ∷ rest) last asks none = absurd (no_step next none (subst (λ (x : Next). IsStep x) (sym asks.2.asks) tt))
 
 abbrev commit_of : ℕ → DepartmentRow → CellCommit
 commit_of k x = record { cell = k; kept = x }
@@ -463,14 +437,3 @@ module _ {N : Type 0} {g : nv.Ghosts N} (nested : (s : N) → g.tells → Nested
                 (ap (λ (w : World B (Departments N g)). w.scene) end, ap (λ (w : World B (Departments N g)). rows_of w.desk) end ∙ cut.0, refl),
           ),
         )
-
--- the end of a run leaves the departments as the deeds left them
-pub desk_left : {B K : Type 0} (Wants : B → B → Type 0) (s : SideStatus) (behind now : World B K) → SideLeaves Wants s behind now → now.desk ≡ behind.desk
-desk_left Wants (Run status.Done) behind now is = ap (λ w. w.desk) is
-desk_left Wants (Run status.Words) behind now is = ap (λ w. w.desk) is
-desk_left Wants (Run (status.Script line)) behind now is = ap (λ w. w.desk) is
-desk_left Wants (Run status.ReadFault) behind now is = ap (λ w. w.desk) is
-desk_left Wants (Run status.WriteFault) behind now is = ap (λ w. w.desk) is
-desk_left Wants (Run status.Memory) behind now is = is.0
-desk_left Wants (Run status.TooLong) behind now is = ap (λ w. w.desk) is
-desk_left Wants Stopped behind now is = ap (λ w. w.desk) is

@@ -6,7 +6,6 @@ use Rattle.bench_base.specs.declared.events.Event.TheVariants as ev
 use Rattle.script_words.specs.Words.{words_in}
 use Rattle.script_text.proofs.EventWords.{words_spelled}
 use Rattle.script_text.proofs.EventsBack.{one_event_of}
-use Rattle.script_text.proofs.ReadBack.{number_in, word_again}
 use Rattle.desk_runs.specs.Events.{IsLineOf}
 use Rattle.host_departments.specs.DepartmentLines.{IsBehind, IsDepartmentLine}
 use Rattle.desk_runs.specs.Wants.{IsEvent}
@@ -14,10 +13,6 @@ use Rattle.host_departments.specs.Passes.{Passes, IsPrintOf}
 use Rattle.host_departments.specs.Rows.{Rows, IsDepartment}
 use Rattle.host_departments.specs.declared.row.DepartmentLine.{DepartmentLine}
 use Rattle.host_departments.specs.declared.row.DepartmentLine.TheVariants.{Quota, Assign, Spent, Print}
-
--- the number is the one that was read
-pub one_number : (ws : List (List ℕ)) (c d : ℕ) (v w : List (List ℕ)) → IsWord c → IsWord d → ws ≡ decimal c ∷ v → ws ≡ decimal d ∷ w → c ≡ d
-one_number ws c d v w short short' is is' = let same : decimal c ≡ decimal d = cc in sym (word_again c short) ∙ ap (λ (x : List ℕ). number_in x) same ∙ word_again d short'
 
 -- a department's number is short
 pub few : (d : ℕ) → IsDepartment d → IsWord d

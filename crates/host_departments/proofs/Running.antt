@@ -31,13 +31,14 @@ use Rattle.host_departments.specs.View.{rows_of, view_of}
 use Rattle.host_departments.specs.declared.desk.Departments.{Departments}
 use Rattle.host_departments.specs.declared.row.DepartmentLine.{DepartmentLine}
 use Rattle.host_departments.specs.declared.row.TheConstants.{CELLS}
-use Rattle.host_departments.proofs.Answering.{all_answered, desk_left}
+use Rattle.host_departments.proofs.Answering.{all_answered}
 use Rattle.host_departments.proofs.Backing.{backed_after}
 use Rattle.host_departments.proofs.Cutting.{desk_sound}
 use Rattle.host_departments.proofs.Holding.{departments_hold}
 use Rattle.host_departments.proofs.Places.{one_department}
 use Rattle.host_departments.proofs.Printing.{prints_by, all_printed}
 use Rattle.host_departments.proofs.Showing.{shows_now}
+use Rattle.desk_runs.proofs.Wanting.{desk_left}
 
 -- the first moment of a run
 first_between : (n : Nodes) (τ : Tariff) (L : Ledger) (old new : SceneOf n) (deeds : List Done) (did : DidEvents n old new deeds) → Throughout n τ L old new deeds did → IsBetween n τ old.bench L

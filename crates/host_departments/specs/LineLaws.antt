@@ -6,12 +6,12 @@ use Rattle.bench_base.specs.declared.events.Event.TheVariants as ev
 use Rattle.script_words.specs.Words.{joined, words_in}
 use Rattle.script_text.specs.Grammar.{IsSkipped}
 use Rattle.script_text.proofs.EventsBack.{one_event_of, no_event_skipped}
-use Rattle.script_words.proofs.Splits.{joined-words_in}
 use Rattle.desk_runs.specs.Events.{IsLineOf}
 use Rattle.desk_runs.specs.Wants.{IsAlone}
 use Rattle.host_departments.specs.DepartmentLines.{IsDepartmentLine}
 use Rattle.host_departments.specs.declared.row.DepartmentLine.{DepartmentLine}
 use Rattle.host_departments.specs.declared.row.DepartmentLine.TheVariants.{Quota, Assign, Spent, Print}
+use Rattle.script_words.proofs.Splits.{begins_with}
 
 -- a line that is that of another event than `end`
 event_alone : (e : Event) (line : List ℕ) → IsLineOf e line → e ≢ ev.End → IsAlone line
@@ -19,10 +19,6 @@ event_alone e line is other = record {
   not_skipped = λ skipped. no_event_skipped e line is.spells skipped;
   not_end = λ end. other (one_event_of e ev.End line is.whole tt is.spells end);
 }
-
--- a line whose first word begins with c
-begins_with : (c : ℕ) (word : List ℕ) (rest : List (List ℕ)) (line : List ℕ) → words_in line ≡ (c ∷ word) ∷ rest → (tail : List ℕ) × (line ≡ c ∷ tail)
-begins_with c word rest line is = (_, sym (joined-words_in line) ∙ ap (λ (ws : List (List ℕ)). joined ws) is)
 
 -- a line that begins with c
 first_alone : (tail line : List ℕ) → line ≡ 100 ∷ tail → IsAlone line

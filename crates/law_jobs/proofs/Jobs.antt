@@ -33,7 +33,8 @@ pub record Jobs (C : List Commit) : Type 0 where
   pub begun_is : (j : ℕ) → begun j C ≡ true → (state_of j C ≡ Some BegunJob) ⊎ (state_of j C ≡ Some ClosedJob)
   pub piece_le : (d p : ℕ) → held_piece d p C ≡ true → p ≤ top d C
 
-unless-some : (i : ℕ) (w : Option ℕ) (j : ℕ) → unless_job i w ≡ Some j → (w ≡ Some j) × ((i == j) ≡ false)
+-- the job that stays open is another one
+pub unless-some : (i : ℕ) (w : Option ℕ) (j : ℕ) → unless_job i w ≡ Some j → (w ≡ Some j) × ((i == j) ≡ false)
 unless-some i None j h = cc
 unless-some i (Some k) j h = ⊎_elim
     (λ (t : (k == i) ≡ true). absurd (none (rw t at h)))

@@ -1,36 +1,23 @@
 -- In the order in which the host makes its commits a job of a device is open exactly where its state is Ordered.
-use Rattle.std.proofs.Common.{◌≡◌, ℕ, ◌≤◌, ◌+◌, true, false, List, [], ◌∷◌, Option, Some, None, ◌⊎◌, ⊎_elim, refl, sym, subst, ◌∙◌, arith}
-use Rattle.std.specs.Prelude.{◌==◌, ◌↔◌}
-use Rattle.std.proofs.lemmas.Bool.{eqb-true, eqb-false, cases_Bool, eq-eqb, ne_eqb}
+use Rattle.std.proofs.Common.{◌≡◌, ℕ, ◌≤◌, true, false, List, [], ◌∷◌, Option, Some, None, refl, sym, subst, ◌∙◌, arith}
+use Rattle.std.specs.Prelude.{◌==◌}
+use Rattle.std.proofs.lemmas.Bool.{eqb-true, eqb-false, eq-eqb, ne_eqb}
 use Rattle.std.proofs.lemmas.Option.{same_Some}
 use Rattle.bench_base.specs.declared.ledger.Commit.{Commit}
 use Rattle.bench_base.specs.declared.ledger.Commit.TheVariants.{Ordered, Held, Began, Closed}
 use Rattle.bench_base.specs.declared.words.JobState.{JobState}
 use Rattle.bench_base.specs.declared.words.JobState.TheVariants as state
-use Rattle.bench_base.specs.Rows.{first_of}
 use Rattle.bench_base.specs.Jobs.{Job, last_job, job_of, state_of, open_job, unless_job}
 use Rattle.bench_base.proofs.Facts.{either, kept_first, first_of-none}
 use Rattle.host_jobs.specs.Turns.{InTurn}
 use Rattle.law_open_jobs.specs.States.{IsOrderedFor, OpenByStates}
+use Rattle.law_jobs.proofs.Jobs.{unless-some}
 
 -- jobs are numbered from 1 up to the last, and what is open is what is ordered
 record AreOpen (C : List Commit) : Type 0 where
   job_le : (j : ℕ) (b : Job) → job_of j C ≡ Some b → j ≤ last_job C
   open_is : (d j : ℕ) → open_job d C ≡ Some j → IsOrderedFor d j C
   is_open : (d j : ℕ) → IsOrderedFor d j C → open_job d C ≡ Some j
-
--- the job that stays open is another one
-stays : (i : ℕ) (w : Option ℕ) (j : ℕ) → unless_job i w ≡ Some j → (w ≡ Some j) × ((i == j) ≡ false)
-stays i None j h = cc
-stays i (Some k) j h = ⊎_elim
-    (λ (t : (k == i) ≡ true). absurd (none (rw t at h)))
-    (λ (t : (k == i) ≡ false).
-    let is : k ≡ j = same_Some _ _ (rw t at h) in
-    (rw t at h, ne_eqb i j (λ e. eqb-false k i t (is ∙ sym e))))
-    (cases_Bool (k == i))
-  where
-    none : None ≡ Some j → ⊥
-    none e = cc
 
 -- another job stays open
 left_open : (i : ℕ) (w : Option ℕ) (j : ℕ) → w ≡ Some j → (i == j) ≡ false → unless_job i w ≡ Some j
@@ -56,7 +43,7 @@ module _ (i : ℕ) (s : JobState) (other : s ≡ state.Ordered → ⊥) (c : Com
   closing : ((d : ℕ) → open_job d (c ∷ C) ≡ unless_job i (open_job d C)) → AreOpen (c ∷ C)
   closing at = record {
     job_le = le;
-    open_is = λ d j o. let kept = stays i (open_job d C) j (sym (at d) ∙ o) in is d j kept.1 (h.open_is d j kept.0);
+    open_is = λ d j o. let kept = unless-some i (open_job d C) j (sym (at d) ∙ o) in is d j kept.1 (h.open_is d j kept.0);
     is_open = λ d j o. let kept = was d j o in at d ∙ left_open i (open_job d C) j (h.is_open d j kept.1) kept.0;
   }
 

@@ -1,9 +1,9 @@
 -- Only a Release has 64 bytes from its third byte on.
-use Rattle.std.proofs.Common.{if◌then◌else◌, ◌≡◌, ℕ, Bool, true, false, List, length, drop, get_or, Option, Some, None, Result, Ok, Err, cond, refl, sym, ap, ◌∙◌, true≢false, length-drop, arith}
+use Rattle.std.proofs.Common.{if◌then◌else◌, ◌≡◌, ℕ, Bool, true, false, List, length, drop, get_or, Option, Some, None, Result, Ok, Err, cond, refl, sym, ap, ◌∙◌, length-drop, arith}
 use Rattle.std.specs.Prelude.{◌==◌}
 use Rattle.std.proofs.lemmas.Bool.{eqb-true}
 use Rattle.std.proofs.lemmas.Option.{same_Some}
-use Rattle.bench_base.proofs.Facts.{ok-same}
+use Rattle.bench_base.proofs.Facts.{ok-same, unlike}
 use Rattle.indicium.specs.Marks.{read_mark}
 use Rattle.indicium.proofs.Readings.{let_through}
 use Rattle.psd_wire.specs.declared.message.Message.{Message}
@@ -15,12 +15,6 @@ use Rattle.psd_wire.proofs.Readings.{held_back, there}
 other : {A : Type 0} (b : Bool) (x y : A) (rest : Option A) → (x ≡ y → ⊥) → cond b (Some x) rest ≡ Some y → (b ≡ false) × (rest ≡ Some y)
 other true x y rest apart h = absurd (apart (same_Some _ _ h))
 other false x y rest apart h = (refl, h)
-
-apart : (a b : ℕ) → (a == b) ≡ false → a ≡ b → ⊥
-apart a b h e = true≢false (sym (ap (λ x. x == b) e ∙ same b) ∙ h)
-  where
-    same : (n : ℕ) → (n == n) ≡ true
-    same n = Rattle.std.proofs.lemmas.Bool.eq-eqb n n refl
 
 release-tag : (v t : ℕ) (bytes : List ℕ) → size_of v t ≡ Some 66 → by_tag t bytes ≡ release_at bytes
 unfolding size_of
@@ -34,14 +28,14 @@ release-tag v t bytes h = go (v == 1) h
 
     go : (b : Bool) → (if b then first else second) ≡ Some 66 → by_tag t bytes ≡ release_at bytes
     go true h =
-        let a = other (t == 1) 71 66 _ (apart 71 66 refl) h in
-        let b = other (t == 2) 56 66 _ (apart 56 66 refl) a.1 in
-        let c = other (t == 3) 42 66 _ (apart 42 66 refl) b.1 in
-        let d = other (t == 16) 16 66 _ (apart 16 66 refl) c.1 in
+        let a = other (t == 1) 71 66 _ (unlike 71 66 refl) h in
+        let b = other (t == 2) 56 66 _ (unlike 56 66 refl) a.1 in
+        let c = other (t == 3) 42 66 _ (unlike 42 66 refl) b.1 in
+        let d = other (t == 16) 16 66 _ (unlike 16 66 refl) c.1 in
         rw (a.0, b.0, c.0, d.0) refl
     go false h =
-        let a = other (t == 1) 87 66 _ (apart 87 66 refl) h in
-        let b = other (t == 2) 60 66 _ (apart 60 66 refl) a.1 in
+        let a = other (t == 1) 87 66 _ (unlike 87 66 refl) h in
+        let b = other (t == 2) 60 66 _ (unlike 60 66 refl) a.1 in
         absurd (cc)
 
 marked : {A F : Type 0} (o : Result A F) (bytes : List ℕ) (x : Message) → if_mark o bytes ≡ Ok x → x ≡ m.Release bytes

@@ -6,10 +6,8 @@ use Rattle.bench_base.specs.declared.events.Event.{Event}
 use Rattle.bench_base.specs.declared.events.Reply.{Reply}
 use Rattle.node_turns.specs.declared.turn.Turn.{Turn}
 use Rattle.line_runs.specs.declared.status.Status.TheVariants as status
-use Rattle.line_runs.specs.declared.status.SideStatus.{SideStatus}
-use Rattle.line_runs.specs.declared.status.SideStatus.TheVariants.{Run, Stopped}
 use Rattle.desk_runs.specs.Deeds.{Done, Skipped, Did}
-use Rattle.desk_runs.specs.Desks.{World, world, Asks, Does, SideLeaves}
+use Rattle.desk_runs.specs.Desks.{World, world, Asks, Does}
 use Rattle.desk_runs.specs.SideDeeds.{SideDeed, Plain, Own, Broken}
 use Rattle.desk_runs.specs.declared.desk.Next.{Next}
 use Rattle.desk_runs.specs.declared.desk.Next.TheVariants.{Step, Say, Stop}
@@ -28,13 +26,9 @@ use Rattle.mail_manifest.specs.declared.opening.ManifestLine.TheVariants.{Open, 
 use Rattle.mail_manifest.specs.declared.said.Said.{Said}
 use Rattle.mail_manifest.specs.declared.said.Said.TheVariants as said
 use Rattle.mail_manifest.proofs.Judging.{either_by, either_any, yes_is_good}
+use Rattle.desk_runs.proofs.Wanting.{IsSay, step_event, ends_at}
 
 -- what is wanted, by its kind
-abbrev IsSay : Next → Type 0
-IsSay (Step e) = ⊥
-IsSay Say = Unit {0}
-IsSay Stop = ⊥
-
 abbrev IsStop : Next → Type 0
 IsStop (Step e) = ⊥
 IsStop Say = ⊥
@@ -46,17 +40,11 @@ no_step n e is say = subst (λ (x : Next). IsSay x) is say
 no_stop : (n : Next) (e : Event) → n ≡ Step e → IsStop n → ⊥
 no_stop n e is stop = subst (λ (x : Next). IsStop x) is stop
 
-abbrev step_event : Event → Next → Event
-step_event z (Step e) = e
-step_event z Say = z
-step_event z Stop = z
-
 module _ {B : Type 0} (Steps : B → B → Done → Turn → Type 0) (told : (s t : B) (d : Done) (turn : Turn) → Steps s t d turn → d.reply ≡ turn.reply) where
   -- what the checker says first it says last
   says_end : (old new : World B Checker) (next : Next) (steps : List Done) (last : Next) → Asks checker_desk Steps old new next steps last → next ≡ Say
       → (steps ≡ []) × (last ≡ Say) × (new ≡ old)
-  says_end old new next [] last asks say = (refl, asks.0 ∙ say, asks.1)
-  says_end old new next (d ∷ rest) last asks say = absurd (no_step next d.event asks.2.asks (subst (λ (x : Next). IsSay x) (sym say) tt))
+  says_end old new next steps last asks say = let end = ends_at checker_desk Steps old new next steps last asks (inl say) in (end.0, end.1 ∙ say, end.2)
 
   module _ (answer : Said) (left : Option Listing) (old new : World B Checker) (next : Next) (steps : List Done) (says : Answers answer left next old.desk) where
     -- the texts are those of its answer
@@ -190,14 +178,3 @@ module _ {B : Type 0} (Steps : B → B → Done → Turn → Type 0) (told : (s 
     all_answered did.0 new rest did.2,
   )
   all_answered old new (Broken line own steps ∷ rest) did = own_whole old.scene did.1.desk did.0 did.1.first steps did.1.asks (listing_of old.desk) own did.1.begins
-
--- the end of a run leaves the checker as the deeds left it
-pub desk_left : {B K : Type 0} (Wants : B → B → Type 0) (s : SideStatus) (behind now : World B K) → SideLeaves Wants s behind now → now.desk ≡ behind.desk
-desk_left Wants (Run status.Done) behind now is = ap (λ w. w.desk) is
-desk_left Wants (Run status.Words) behind now is = ap (λ w. w.desk) is
-desk_left Wants (Run (status.Script line)) behind now is = ap (λ w. w.desk) is
-desk_left Wants (Run status.ReadFault) behind now is = ap (λ w. w.desk) is
-desk_left Wants (Run status.WriteFault) behind now is = ap (λ w. w.desk) is
-desk_left Wants (Run status.Memory) behind now is = is.0
-desk_left Wants (Run status.TooLong) behind now is = ap (λ w. w.desk) is
-desk_left Wants Stopped behind now is = ap (λ w. w.desk) is

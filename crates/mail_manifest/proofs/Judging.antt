@@ -1,10 +1,9 @@
 -- A manifest is good exactly where no cause comes before its scans and all of them were accepted.
 use Rattle.std.proofs.Common.{◌≡◌, inl, inr, ℕ, ◌+◌, List, [], ◌∷◌, length, get_or, Option, Some, None, Bool, true, false, ◌==◌, refl, sym, ap, ◌∙◌, subst, arith, true≢false}
 use Rattle.std.specs.Prelude.{codes, ◌↔◌}
-use Rattle.std.proofs.lemmas.Bool.Decides.{nat_tests}
 use Rattle.std.proofs.lemmas.Option.{same_Some}
 use Rattle.bench_base.specs.declared.events.Reply.{Reply}
-use Rattle.bench_base.proofs.Facts.{some-none}
+use Rattle.bench_base.proofs.Facts.{some-none, unlike}
 use Rattle.desk_runs.specs.Deeds.{Done}
 use Rattle.mail_manifest.specs.Answers.{AreScanned, IsJudged, AreAccepted, IsGood}
 use Rattle.mail_manifest.specs.Causes.{Either, Finds}
@@ -13,6 +12,7 @@ use Rattle.mail_manifest.specs.Listings.{Listing, code_of, postage_in_all, AllRe
 use Rattle.mail_manifest.specs.Texts.{said_texts, yes_text, no_count_text, unread_text, no_total_text, no_piece_text}
 use Rattle.mail_manifest.specs.declared.said.Said.{Said}
 use Rattle.mail_manifest.specs.declared.said.Said.TheVariants as said
+use Rattle.std.proofs.lemmas.Bool.{eqb-true}
 
 -- == the one or the other ==
 
@@ -23,12 +23,6 @@ either_by false f h either = h either
 pub either_any : {P Q X : Type 0} (b : Bool) → (b ≡ true → P → X) → (b ≡ false → Q → X) → Either b P Q → X
 either_any true f h either = f refl either
 either_any false f h either = h refl either
-
-same_by : (a b : ℕ) → (a == b) ≡ true → a ≡ b
-same_by a b is = grind (arith, nat_tests)
-
-differ_by : (a b : ℕ) → (a == b) ≡ false → a ≡ b → ⊥
-differ_by a b is same = grind (arith, nat_tests)
 
 -- == no other answer reads as yes ==
 
@@ -85,7 +79,7 @@ module _ (m : Listing) where
   yes_accepted number [] texts scanned is = absurd scanned
   yes_accepted number (d ∷ rest) texts scanned is = elim scanned.1 [
     | inl did ↦ either_any (number == length m.marks)
-        (λ last end. (scanned.0, did.0, subst (λ (l : List Done). AreAccepted m (number + 1) l) (sym end.0) (ap (λ (k : ℕ). k + 1) (same_by number (length m.marks) last))))
+        (λ last end. (scanned.0, did.0, subst (λ (l : List Done). AreAccepted m (number + 1) l) (sym end.0) (ap (λ (k : ℕ). k + 1) (eqb-true number (length m.marks) last))))
         (λ more on. (scanned.0, did.0, yes_accepted (number + 1) rest texts on is)) did.1
     | inr other ↦ absurd (other_text m.opening.count m.opening.total (no_piece_text number d.reply) (piece_tenth number d.reply) (sym other.2 ∙ is))
   ]
@@ -138,7 +132,7 @@ module _ (m : Listing) where
       (λ complete coded. elim coded [
         | inl right ↦ elim right.1 [
           | inl read ↦ either_any (postage_in_all m == m.opening.total)
-              (λ total none. record { complete = same_by _ _ complete; coded = right.0; read = read.0; total = same_by _ _ total }) (λ other is. absurd (some-none (sym is))) read.1
+              (λ total none. record { complete = eqb-true _ _ complete; coded = right.0; read = read.0; total = eqb-true _ _ total }) (λ other is. absurd (some-none (sym is))) read.1
           | inr unread ↦ absurd (some-none (sym unread.2))
         ]
         | inr wrong ↦ absurd (some-none (sym wrong.1))
@@ -150,12 +144,12 @@ module _ (m : Listing) where
       either_any (length m.marks == m.opening.count)
       (λ complete coded. elim coded [
         | inl right ↦ elim right.1 [
-          | inl read ↦ either_any (postage_in_all m == m.opening.total) (λ total none. none) (λ other is. absurd (differ_by _ _ other sound.total)) read.1
+          | inl read ↦ either_any (postage_in_all m == m.opening.total) (λ total none. none) (λ other is. absurd (unlike _ _ other sound.total)) read.1
           | inr unread ↦ absurd (true≢false (sym (sound.read unread.1.at unread.1.inside) ∙ unread.1.unread))
         ]
         | inr wrong ↦ absurd (wrong.0 sound.coded)
       ])
-      (λ other is. absurd (differ_by _ _ other sound.complete)) finds
+      (λ other is. absurd (unlike _ _ other sound.complete)) finds
 
   -- == the answer ==
 

@@ -1,10 +1,10 @@
 -- The lines about the manifest, and the words that they are read from.
-use Rattle.std.proofs.Common.{◌≡◌, ℕ, ◌<◌, ◌^◌, List, [], ◌∷◌, length, refl, sym, subst, ◌∙◌, ap, arith}
+use Rattle.std.proofs.Common.{◌≡◌, ℕ, ◌<◌, ◌^◌, List, [], ◌∷◌, length, sym, subst, ◌∙◌, ap}
 use Rattle.std.specs.Prelude.{codes, decimal}
 use Rattle.bench_base.specs.Table.{IsBytes}
 use Rattle.script_words.specs.Words.{words_in, hex_word, given_word}
 use Rattle.script_words.proofs.Splits.{HasFirst, words_in-some}
-use Rattle.script_text.proofs.ReadBack.{number_in, number_again, given_in, given_again}
+use Rattle.script_text.proofs.ReadBack.{number_in, number_again, given_in, given_again, given_is}
 use Rattle.mail_manifest.specs.ManifestLines.{IsInRange, line_words}
 use Rattle.mail_manifest.specs.declared.opening.ManifestLine.{ManifestLine}
 use Rattle.mail_manifest.specs.declared.opening.ManifestLine.TheVariants.{Open, Piece, Code, Check}
@@ -12,10 +12,6 @@ use Rattle.mail_manifest.specs.declared.opening.ManifestLine.TheVariants.{Open, 
 -- a word is one number
 pub one_number : (c d : ℕ) → c < 2 ^ 64 → d < 2 ^ 64 → decimal c ≡ decimal d → c ≡ d
 one_number c d small small' same = sym (number_again c small) ∙ ap (λ (w : List ℕ). number_in w) same ∙ number_again d small'
-
-given_is : (mark : List ℕ) → length mark ≡ 64 → given_word mark ≡ hex_word mark
-given_is [] long = absurd (omega (arith, long))
-given_is (b ∷ bytes) long = refl
 
 -- and one mark
 pub one_mark : (ws : List (List ℕ)) (g mark : List ℕ) → IsBytes g → IsBytes mark → length mark ≡ 64 → ws ≡ given_word g ∷ [] → ws ≡ hex_word mark ∷ [] → g ≡ mark

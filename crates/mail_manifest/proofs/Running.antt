@@ -25,8 +25,9 @@ use Rattle.mail_manifest.specs.Ran.{DidManifest}
 use Rattle.mail_manifest.specs.View.{listing_of}
 use Rattle.mail_manifest.specs.declared.checker.Checker.{Checker}
 use Rattle.mail_manifest.specs.declared.opening.ManifestLine.{ManifestLine}
-use Rattle.mail_manifest.proofs.Answering.{all_answered, desk_left}
+use Rattle.mail_manifest.proofs.Answering.{all_answered}
 use Rattle.mail_manifest.proofs.Holding.{yes_holds}
+use Rattle.desk_runs.proofs.Wanting.{desk_left, no_words}
 
 module _ (n : Nodes) (today : Editions editions) (old new : SceneOf n) (before after : Checker) (outcome : SideStatus) (none : listing_of before ≡ None) where
   pub did_manifest : (deeds : List (SideDeed ManifestLine)) → DidSide n checker_desk (world old before) (world new after) outcome deeds → DidManifest n old new outcome deeds
@@ -55,9 +56,6 @@ none_broken m (Plain (Skipped line) ∷ a) x after answered broken = none_broken
 none_broken m (Plain (Did line d) ∷ a) x after answered broken = none_broken m a x after answered.1 broken
 none_broken m (Own line own steps texts ∷ a) x after answered broken = none_broken answered.0 a x after answered.2 broken
 none_broken m (Broken line own steps ∷ a) x after answered broken = answered
-
-no_words : Run status.Words ≡ Stopped → ⊥
-no_words is = cc
 
 -- so no run is
 module _ (n : Nodes) (old new : SceneOf n) (outcome : SideStatus) (stopped : outcome ≡ Stopped) where

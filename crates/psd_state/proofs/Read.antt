@@ -17,7 +17,7 @@ use Rattle.psd_state.specs.State.{State, is_stored, kept_code}
 use Rattle.psd_state.specs.declared.parts.Fields.{Fields}
 use Rattle.psd_state.specs.Payload.{flag_of, filled, coded_part, pending_room, pending_part, mark_part, end_part, spelled, Ranges, IsOld, fields_at, fields_of, pending_place, mark_place, Parts, PendingWhole, MarkWhole, IsKeptAt, sums_of}
 use Rattle.psd_state.proofs.Parted.{Spells, parts-of, pending-whole, mark-whole, kept-at, same-pending, same-mark, stored-code}
-use Rattle.psd_state.proofs.Under.{not_so}
+use Rattle.bench_base.proofs.Facts.{not_so}
 
 pub some-by : {A : Type 0} (o : Option A) (P Q : A → Type 0) → ((a : A) → P a → Q a) → IfSome o P → IfSome o Q
 some-by None P Q f h = tt

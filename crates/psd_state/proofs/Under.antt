@@ -1,5 +1,5 @@
 -- What is read under a key, and what the parts of a payload spell.
-use Rattle.std.proofs.Common.{◌≡◌, ℕ, ◌-◌, ◌≤◌, ◌==◌, if◌then◌else◌, ◌++◌, List, length, take, drop, get_or, ap₂, Err, sym, ap, ◌∙◌, refl, Option, Some, None, Bool, true, false, IsTrue, IfSome, IfNone, ◌↔◌, true≢false, ◌≢◌, subst, arith, replicate}
+use Rattle.std.proofs.Common.{◌≡◌, ℕ, ◌-◌, ◌≤◌, ◌==◌, if◌then◌else◌, ◌++◌, List, length, take, drop, get_or, ap₂, Err, sym, ap, ◌∙◌, refl, Option, Some, None, Bool, true, false, IfSome, IfNone, true≢false, ◌≢◌, subst, arith, replicate}
 use Rattle.indicium.specs.declared.Mark.{Mark}
 use Rattle.indicium.specs.Marks as marks
 use Rattle.indicium.proofs.Readings as mark_laws
@@ -23,12 +23,6 @@ not_request h = cc
 
 not_done : {q : Request} {r : DoneMsg} → m.Request q ≡ m.Done r → ⊥
 not_done h = cc
-
-pub not_so : (b : Bool) (P : Type 0) → (IsTrue b ↔ P) → b ≡ false → P → ⊥
-not_so b P h e p = true≢false (sym (h.1 p) ∙ e)
-
-pub is_so : (b : Bool) (P : Type 0) → (IsTrue b ↔ P) → b ≡ true → P
-is_so b P h e = h.0 e
 
 -- of the messages under a key, the Request
 pub under-request : (o : Option Message) (key bytes : List ℕ) → IfSome o (λ x. grammar.IsCoded x × grammar.IsWhole x × (grammar.spell x key ≡ bytes))

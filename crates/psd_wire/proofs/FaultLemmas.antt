@@ -6,7 +6,7 @@ use Rattle.bench_base.specs.Table.{One, Four, Eight, bytes_in, number}
 use Rattle.bench_base.specs.declared.refusals.Unread.{Unread}
 use Rattle.bench_base.specs.declared.refusals.Unread.TheVariants as unread
 use Rattle.bench_base.specs.Rules.{is_version}
-use Rattle.bench_base.proofs.Facts.{known, known_is, is-some}
+use Rattle.bench_base.proofs.Facts.{known, known_is, is-some, unlike}
 use Rattle.indicium.specs.Marks.{read_mark}
 use Rattle.psd_wire.specs.declared.message.Message.{Message}
 use Rattle.psd_wire.specs.Grammar.{kind_of, verdict_of, day_of, sum_size, size_of, given, request_at, reply_at, release_at, if_mark, by_tag, read}
@@ -78,9 +78,6 @@ unfolding release_at
 release_fault bytes e framed h =
     let is = unmarked (read_mark (drop 2 bytes)) (drop 2 bytes) e h in
     subst (λ x. HasFault x bytes) is.1 (framed, is.0)
-
-unlike : (a b : ℕ) → (a == b) ≡ false → a ≢ b
-unlike a b h = grind arith
 
 by_tag_fault : (bytes : List ℕ) (t : ℕ) (e : Unread) → IsFramed bytes t → by_tag t bytes ≡ Err e → HasFault e bytes
 by_tag_fault bytes t e framed h =

@@ -22,9 +22,8 @@ use Rattle.bench.specs.Costs.{Balanced, armed, one_if}
 use Rattle.bench.specs.Places.{Begun, IsStopped}
 use Rattle.bench.proofs.Making.{pairs_at}
 use Rattle.script_replay.specs.Chains.{Scene, scene, DidEvent, DidEvents, SceneOf}
-use Rattle.script_replay.specs.Counts.{BalancedAt, AreBalanced}
+use Rattle.script_replay.specs.Counts.{BalancedAt, AreBalanced, FaultsTold}
 use Rattle.desk_runs.specs.Deeds.{Done}
-use Rattle.script_replay.specs.Faults.{FaultsTold}
 use Rattle.script_replay.specs.Run.{Leaves}
 use Rattle.line_runs.specs.declared.status.Status.TheVariants as status
 use Rattle.line_runs.specs.declared.status.SideStatus.{SideStatus}

@@ -20,7 +20,7 @@ use Rattle.node_turns.specs.Printing.{Printer, PrinterDid}
 use Rattle.bench_views.specs.Taken.{as_given, as_given_by, as_scanned_by}
 use Rattle.bench.specs.Costs.{one_if}
 use Rattle.bench.specs.Outside.{Feed, rates_turn, ReadsText, ReadsNothing, ReadsRates}
-use Rattle.script_replay.specs.Faults.{FaultsTold}
+use Rattle.script_replay.specs.Counts.{FaultsTold}
 use Rattle.script_replay.specs.Marks.{IsPrinted}
 use Rattle.desk_runs.proofs.Texts.{cut_off}
 

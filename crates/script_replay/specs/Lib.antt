@@ -9,7 +9,6 @@ pub mod Streams
 pub mod Throughout
 -- Promised: those rest on these.
 pub mod Counts
-pub mod Faults
 pub mod Generated
 pub mod Marks
 pub mod Undisturbed

@@ -1,5 +1,5 @@
 -- Words are read back: what each kind of word is the word of.
-use Rattle.std.proofs.Common.{◌≡◌, ◌≢◌, ℕ, suc, ℤ, pos, negsuc, ◌-◌, ◌^◌, ◌≤◌, ◌<◌, List, [], ◌∷◌, get_or, drop, take, Bool, true, false, eqb, cond, refl, sym, ap, ◌∙◌, arith, inl, inr, decimal, codes}
+use Rattle.std.proofs.Common.{◌≡◌, ◌≢◌, length, ℕ, suc, ℤ, pos, negsuc, ◌-◌, ◌^◌, ◌≤◌, ◌<◌, List, [], ◌∷◌, get_or, drop, take, Bool, true, false, eqb, cond, refl, sym, ap, ◌∙◌, arith, inl, inr, decimal, codes}
 use Rattle.std.specs.Fmt.{signed_decimal}
 use Rattle.std.specs.Result.{result_unwrap_or}
 use Rattle.std.proofs.lemmas.Bool.{ne_eqb, cond-false}
@@ -20,6 +20,7 @@ use Rattle.script_text.proofs.EventWords.{one_byte}
 use Rattle.script_words.proofs.HexDigits.{AreLower-encode, AreLower}
 use Rattle.script_words.proofs.Numbers.{own}
 use Rattle.script_text.proofs.ByKeyword.{code}
+use Rattle.bench_base.specs.Ranges.{IsWord}
 
 -- two words are the same
 abbrev pub same : List ℕ → List ℕ → Bool
@@ -37,6 +38,10 @@ number_again n h = digits_value-decimal own n h
 
 pub word_again : (n : ℕ) → n < 2 ^ 32 → number_in (decimal n) ≡ n
 word_again n h = number_again n (omega (arith, h))
+
+-- words that begin with a number begin with one number
+pub one_number : (ws : List (List ℕ)) (c d : ℕ) (v w : List (List ℕ)) → IsWord c → IsWord d → ws ≡ decimal c ∷ v → ws ≡ decimal d ∷ w → c ≡ d
+one_number ws c d v w short short' is is' = let same : decimal c ≡ decimal d = cc in sym (word_again c short) ∙ ap (λ (x : List ℕ). number_in x) same ∙ word_again d short'
 
 pub class_again : (n : ℕ) → n < 2 ^ 16 → number_in (decimal n) ≡ n
 class_again n h = number_again n (omega (arith, h))
@@ -97,6 +102,11 @@ given_again (b ∷ bytes) h =
     let word = hex_word (b ∷ bytes) in
     let digit : first_byte word ≢ 45 = first_lower _ _ word (AreLower-encode (b ∷ bytes) h) refl in
     cond-false (eqb (first_byte word) 45) [] (hex_in word) (ne_eqb (first_byte word) 45 digit) ∙ hex_again (b ∷ bytes) h
+
+-- bytes that are some are given in hex
+pub given_is : (mark : List ℕ) → length mark ≡ 64 → given_word mark ≡ hex_word mark
+given_is [] long = absurd (omega (arith, long))
+given_is (b ∷ bytes) long = refl
 
 abbrev pub kind_in : List ℕ → Kind
 kind_in w = cond (same w (codes "enrol")) Enrol (cond (same w (codes "reset")) Reset (cond (same w (codes "audit")) Audit (cond (same w (codes "refund")) Refund Withdraw)))

@@ -113,6 +113,10 @@ joined-words_in (c ∷ line) =
           ap joined (at_byte c line x.1) ∙ joined-longer c (words_in line) (words_in-some line) ∙ ap (λ (l : List ℕ). c ∷ l) (joined-words_in line)
     ]
 
+-- a line whose first word begins with c begins with c
+pub begins_with : (c : ℕ) (word : List ℕ) (rest : List (List ℕ)) (line : List ℕ) → words_in line ≡ (c ∷ word) ∷ rest → (tail : List ℕ) × (line ≡ c ∷ tail)
+begins_with c word rest line is = (_, sym (joined-words_in line) ∙ ap (λ (ws : List (List ℕ)). joined ws) is)
+
 -- words without spaces, joined, have these words
 pub words_in-joined : (w : List ℕ) (ws : List (List ℕ)) → AreSolid (w ∷ ws) → words_in (joined (w ∷ ws)) ≡ w ∷ ws
 words_in-joined w [] h = ap words_in (append-nil w) ∙ words_in-solid w h.0

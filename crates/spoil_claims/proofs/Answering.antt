@@ -3,7 +3,6 @@ use Rattle.std.proofs.Common.{◌≡◌, ◌⊎◌, inl, inr, ℕ, ◌+◌, ◌-
 use Rattle.std.specs.Prelude.{codes}
 use Rattle.std.proofs.lemmas.Bool.{false_from_ne_true}
 use Rattle.std.proofs.lemmas.Option.{same_Some}
-use Rattle.bench_base.specs.declared.events.Event.{Event}
 use Rattle.bench_base.specs.declared.events.Event.TheVariants as ev
 use Rattle.bench_base.specs.declared.events.Reply.{Reply}
 use Rattle.bench_base.specs.declared.refusals.StoreFail.{StoreFail}
@@ -16,15 +15,12 @@ use Rattle.node_acts.specs.RowList.{is_worn, put}
 use Rattle.node_turns.specs.declared.turn.Turn.{Turn}
 use Rattle.script_text.specs.Texts.{text_of}
 use Rattle.line_runs.specs.declared.status.Status.TheVariants as status
-use Rattle.line_runs.specs.declared.status.SideStatus.{SideStatus}
-use Rattle.line_runs.specs.declared.status.SideStatus.TheVariants.{Run, Stopped}
 use Rattle.desk_runs.specs.Deeds.{Done, Skipped, Did}
-use Rattle.desk_runs.specs.Desks.{World, world, Asks, Does, SideLeaves}
+use Rattle.desk_runs.specs.Desks.{World, world, Asks, Does}
 use Rattle.desk_runs.specs.SideDeeds.{SideDeed, Plain, Own, Broken}
-use Rattle.desk_runs.specs.Wants.{IsStep}
 use Rattle.desk_runs.specs.declared.desk.Desk.{Ghosts}
 use Rattle.desk_runs.specs.declared.desk.Next.{Next}
-use Rattle.desk_runs.specs.declared.desk.Next.TheVariants.{Step, Say, Stop}
+use Rattle.desk_runs.specs.declared.desk.Next.TheVariants.{Say, Stop}
 use Rattle.row_store.specs.Commits.{CommitsRow}
 use Rattle.row_store.specs.Seen.{seen_in}
 use Rattle.spoil_claims.specs.Answers.{IsTold, IsCreditedNow, IsScanned, IsAgain, IsNewTold, IsClaimTold, IsAnswered, IsCutCredit, IsNewCut, IsClaimCut, IsCutShort, AreAnswered}
@@ -44,6 +40,7 @@ use Rattle.spoil_claims.specs.declared.desk.Desk.{Desk}
 use Rattle.spoil_claims.specs.declared.said.Said.{Said}
 use Rattle.spoil_claims.specs.declared.said.Said.TheVariants as said
 use Rattle.spoil_claims.proofs.Keeping.{rows_long, kept_inside, put_claim}
+use Rattle.desk_runs.proofs.Wanting.{no_step, no_say, step_event, ends_at}
 
 either_by : {P Q X Y : Type 0} (b : Bool) → (P → X) → (Q → Y) → Either b P Q → Either b X Y
 either_by true f h either = f either
@@ -54,29 +51,6 @@ data CameOut (x : ClaimRow) (meant : Said) (then : Next) (rows after : Claims) (
   Done_ : is_worn rows (x.claim - 1) ≡ false → now ≡ meant → next ≡ then → after ≡ put rows (x.claim - 1) x → CameOut x meant then rows after now next
   Worn_ : is_worn rows (x.claim - 1) ≡ true → now ≡ said.Worn → next ≡ Say → after ≡ rows → CameOut x meant then rows after now next
   Broke : next ≡ Stop → after ≡ rows → CameOut x meant then rows after now next
-
-pub no_step : (n : Next) → (n ≡ Say) ⊎ (n ≡ Stop) → IsStep n → ⊥
-no_step n (inl say) step = subst (λ (x : Next). IsStep x) say step
-no_step n (inr stop) step = subst (λ (x : Next). IsStep x) stop step
-
-abbrev IsSay : Next → Type 0
-IsSay (Step e) = ⊥
-IsSay Say = Unit {0}
-IsSay Stop = ⊥
-
-pub no_say : (n : Next) → n ≡ Stop → Say ≡ n → ⊥
-no_say n stop say = subst (λ (x : Next). IsSay x) (say ∙ stop) tt
-
-abbrev step_event : Event → Next → Event
-step_event z (Step e) = e
-step_event z Say = z
-step_event z Stop = z
-
--- what is wanted first is wanted last where it is no step
-pub ends_at : {B K T : Type 0} (k : Ghosts K T) (Steps : B → B → Done → Turn → Type 0) (old new : World B K) (next : Next) (steps : List Done) (last : Next) → Asks k Steps old new next steps last
-    → (next ≡ Say) ⊎ (next ≡ Stop) → (steps ≡ []) × (last ≡ next) × (new ≡ old)
-ends_at k Steps old new next [] last asks none = (refl, asks.0, asks.1)
-ends_at k Steps old new next (d ∷ rest) last asks none = absurd (no_step next none (subst (λ (x : Next). IsStep x) (sym asks.2.asks) tt))
 
 module _ {N : Type 0} {g : nv.Ghosts N} where
   pub rests_rows : (old new : Desk N g) → Rests old new → rows_of new ≡ rows_of old
@@ -313,14 +287,3 @@ module _ {N : Type 0} {g : nv.Ghosts N} where
     )
     all_answered old new (Broken line own steps ∷ rest) did =
         (rows_of did.0.desk, own_cut old did.0 did.1.first did.1.desk steps did.1.asks own did.1.begins, all_answered did.0 new rest did.2)
-
--- the end of a run leaves the desk as the deeds left it
-pub desk_left : {B K : Type 0} (Wants : B → B → Type 0) (s : SideStatus) (behind now : World B K) → SideLeaves Wants s behind now → now.desk ≡ behind.desk
-desk_left Wants (Run status.Done) behind now is = ap (λ w. w.desk) is
-desk_left Wants (Run status.Words) behind now is = ap (λ w. w.desk) is
-desk_left Wants (Run (status.Script line)) behind now is = ap (λ w. w.desk) is
-desk_left Wants (Run status.ReadFault) behind now is = ap (λ w. w.desk) is
-desk_left Wants (Run status.WriteFault) behind now is = ap (λ w. w.desk) is
-desk_left Wants (Run status.Memory) behind now is = is.0
-desk_left Wants (Run status.TooLong) behind now is = ap (λ w. w.desk) is
-desk_left Wants Stopped behind now is = ap (λ w. w.desk) is

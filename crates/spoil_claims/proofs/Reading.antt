@@ -2,7 +2,7 @@
 use Rattle.std.proofs.Common.{◌≡◌, inl, inr, ℕ, ◌<◌, List, [], ◌∷◌, length, get_or, Option, Some, None, refl, sym, subst, ◌∙◌, ap, arith}
 use Rattle.std.specs.Prelude.{codes, decimal, IfNone, IfSome, IsTrue, nat_lt}
 use Rattle.std.proofs.lemmas.Bool.Decides.{nat_tests}
-use Rattle.bench_base.specs.Ranges.{IsWord, IsCustomer, IsWholeEvent}
+use Rattle.bench_base.specs.Ranges.{IsCustomer, IsWholeEvent}
 use Rattle.bench_base.specs.Table.{IsBytes}
 use Rattle.bench_base.specs.declared.events.Event.{Event}
 use Rattle.bench_base.specs.declared.events.Event.TheVariants as ev
@@ -10,21 +10,13 @@ use Rattle.script_text.specs.Grammar.{Spells}
 use Rattle.script_words.specs.Words.{words_in, hex_word, given_word}
 use Rattle.script_text.proofs.EventWords.{words_spelled}
 use Rattle.script_text.proofs.EventsBack.{one_event_of}
-use Rattle.script_text.proofs.ReadBack.{number_in, given_in, word_again, given_again}
+use Rattle.script_text.proofs.ReadBack.{given_in, given_again, given_is}
 use Rattle.desk_runs.specs.Events.{IsLineOf}
 use Rattle.spoil_claims.specs.ClaimLines.{IsClaim, IsClaimLine, IsScan, IsScanEvent}
 use Rattle.spoil_claims.specs.declared.claim.ClaimLine.{ClaimLine}
 use Rattle.spoil_claims.specs.declared.claim.ClaimLine.TheVariants.{Claim, Credits, Reserved}
 
 -- == a claim's words ==
-
-given_is : (mark : List ℕ) → length mark ≡ 64 → given_word mark ≡ hex_word mark
-given_is [] long = absurd (omega (arith, long))
-given_is (b ∷ bytes) long = refl
-
--- the number is the one that was read
-pub one_number : (ws : List (List ℕ)) (c d : ℕ) (v w : List (List ℕ)) → IsWord c → IsWord d → ws ≡ decimal c ∷ v → ws ≡ decimal d ∷ w → c ≡ d
-one_number ws c d v w short short' is is' = let same : decimal c ≡ decimal d = cc in sym (word_again c short) ∙ ap (λ (x : List ℕ). number_in x) same ∙ word_again d short'
 
 -- and so is the mark
 pub one_mark : (ws : List (List ℕ)) (c d x y : List ℕ) (g mark : List ℕ) → IsBytes g → IsBytes mark → length mark ≡ 64

@@ -34,10 +34,11 @@ use Rattle.spoil_claims.specs.View.{has_failed, rows_of}
 use Rattle.spoil_claims.specs.declared.claim.ClaimLine.{ClaimLine}
 use Rattle.spoil_claims.specs.declared.claim.ClaimRow.{ClaimRow}
 use Rattle.spoil_claims.specs.declared.desk.Desk.{Desk}
-use Rattle.spoil_claims.proofs.Answering.{all_answered, desk_left}
+use Rattle.spoil_claims.proofs.Answering.{all_answered}
 use Rattle.spoil_claims.proofs.Backing.{backed_after, torn_backed}
 use Rattle.spoil_claims.proofs.Holding.{claims_hold}
 use Rattle.spoil_claims.proofs.Stopping.{shows_now, Goes, BreaksBy, IsCutAfter, Ends, all_end}
+use Rattle.desk_runs.proofs.Wanting.{desk_left}
 
 abbrev Read : {N : Type 0} → nv.Ghosts N → Lines (SideDeed ClaimLine)
 Read own = side_lines (claims_desk own)

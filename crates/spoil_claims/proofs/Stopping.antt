@@ -41,7 +41,8 @@ use Rattle.spoil_claims.specs.declared.claim.TheConstants.{CLAIM_CELLS}
 use Rattle.spoil_claims.specs.declared.desk.Desk.{Desk}
 use Rattle.spoil_claims.specs.declared.said.Said.{Said}
 use Rattle.spoil_claims.specs.declared.said.Said.TheVariants as said
-use Rattle.spoil_claims.proofs.Answering.{no_step, no_say, ends_at, rests_rows, open_kept, scan_cut}
+use Rattle.spoil_claims.proofs.Answering.{rests_rows, open_kept, scan_cut}
+use Rattle.desk_runs.proofs.Wanting.{no_step, no_say, ends_at}
 
 no_stop : (next : Next) → next ≡ Say → next ≡ Stop → ⊥
 no_stop next say stop = no_say next stop (sym say)

@@ -4,7 +4,7 @@ use Rattle.std.proofs.lemmas.Bool.Decides.{eqb_tells}
 use Rattle.std.proofs.lemmas.Bool.{ne_eqb, cond-false}
 use Rattle.line_runs.specs.Ends.{lines_of, with_byte}
 use Rattle.line_runs.specs.Lines.{IsOneLine, ended}
-use Rattle.line_runs.proofs.EndLaws.{lines_of-ended, line_first}
+use Rattle.line_runs.proofs.EndLaws.{lines_of-ended, line_first, lines_of-last}
 use Rattle.statement_check.specs.Lines.{IsInRange, line_text}
 use Rattle.statement_check.specs.Places.{balance, due, IsRight, AreRight, place_behind, place_after}
 use Rattle.statement_check.specs.Runs.{script_of, TakesLast, TakesUnended, Takes}
@@ -119,12 +119,6 @@ lines_of-script place (line ∷ lines) more each =
 byte_before : (c : ℕ) (bytes : List ℕ) → c ≢ 10 → lines_of (c ∷ bytes) ≡ with_byte c (lines_of bytes)
 byte_before c bytes other = cond-false (eqb c 10) ([] ∷ lines_of bytes) (with_byte c (lines_of bytes)) (ne_eqb c 10 other)
 
--- the bytes of one line, without its end
-unended_line : (line : List ℕ) → IsOneLine line → 0 < length line → lines_of line ≡ line ∷ []
-unended_line [] one some = absurd (omega (arith, some))
-unended_line (c ∷ []) one some = byte_before c [] one.0
-unended_line (c ∷ d ∷ line) one some = byte_before c (d ∷ line) one.0 ∙ ap (with_byte c) (unended_line (d ∷ line) one.1 (omega arith))
-
 -- where the first line of the bytes ends
 data FirstEnd (bytes : List ℕ) : Type 0 where
   none : IsOneLine bytes → FirstEnd bytes
@@ -202,7 +196,7 @@ module _ (right : List StatementLine) (rest left : List ℕ) (each : AreRight Fi
 
   alone : (line : StatementLine) → IsInRange line → rest ≡ line_text line → left ≡ [] → lines_of (rest ++ left) ≡ line_text line ∷ []
   alone line range text gone =
-      ap (λ (l : List ℕ). lines_of (rest ++ l)) gone ∙ ap lines_of (append-nil rest ∙ text) ∙ unended_line (line_text line) (line_one line range) (line_long line range)
+      ap (λ (l : List ℕ). lines_of (rest ++ l)) gone ∙ ap lines_of (append-nil rest ∙ text) ∙ lines_of-last (line_text line) (line_one line range) (line_long line range)
 
   unended_told : (v : Verdict) → TakesUnended v (length right) (place_after First right) rest (left ≡ []) → HasVerdict v (script_of right ++ (rest ++ left))
   unended_told v t = record {

@@ -1,7 +1,6 @@
 -- The cells of the centre and the books beside them, where a row is put.
-use Rattle.std.proofs.Common.{◌≡◌, inl, inr, ℕ, zero, suc, ◌+◌, ◌*◌, ◌<◌, ◌≤◌, ◌^◌, ◌==◌, [], ◌∷◌, length, get_or, set, replicate, Option, Some, None, false, refl, sym, ◌∙◌, ap, subst, arith}
+use Rattle.std.proofs.Common.{◌≡◌, inl, inr, ℕ, zero, suc, ◌+◌, ◌*◌, ◌<◌, ◌≤◌, ◌^◌, [], ◌∷◌, length, get_or, set, replicate, Option, Some, None, false, refl, sym, ◌∙◌, ap, subst, arith}
 use Rattle.std.proofs.lemmas.Bool.{cases_eq}
-use Rattle.std.proofs.lemmas.Bool.Decides.{nat_tests}
 use Rattle.std.proofs.lemmas.List.Sums.{sum_by-le}
 use Rattle.std.proofs.lemmas.List.Elements.{All-from_get_or}
 use Rattle.bench_base.specs.declared.sizes.TheConstants.{MOST_COMMITS}
@@ -13,14 +12,12 @@ use Rattle.bench_views.specs.Centre.{IsKnown, seen_in}
 use Rattle.centre_ledger.specs.Seen.{cell_of, books_in}
 use Rattle.centre_protocol.specs.Cells.{HasCell, cell_inside, cells_put}
 use Rattle.told_centre.specs.Records.{AreKept}
-
-room : (n : ℕ) → n ≤ MOST_COMMITS → (n == MOST_COMMITS) ≡ false → n + 1 ≤ MOST_COMMITS
-room n le not_full = grind (arith, nat_tests)
+use Rattle.bench_base.proofs.Facts.{room_left}
 
 module _ (s : RowList Row) (b : Books) (total : ℕ) (kept : AreKept s b total) where
   -- the count of a cell that is not worn has room for one more
   pub has_room : (cell : ℕ) → is_worn s cell ≡ false → commits_at (row_at s cell) + 1 ≤ MOST_COMMITS
-  has_room cell fresh = room (commits_at (row_at s cell)) (kept.few cell) fresh
+  has_room cell fresh = room_left (commits_at (row_at s cell)) (kept.few cell) fresh
 
   pub kept_put : (x : Row) → HasCell x → is_worn s (cell_of x) ≡ false → AreKept (put s (cell_of x) x) (put_row b x) (total + 1)
   kept_put x has fresh = record {
@@ -92,7 +89,7 @@ put_known s x known has fresh sound =
       long = put_long s (cell_of x) x ∙ known.long;
       few = λ k lt. elim (cases_eq k (cell_of x)) [
         | inl is ↦ subst (λ (o : Option (ℕ × Row)). commits_at o ≤ MOST_COMMITS) (sym (ap (row_at (put s (cell_of x) x)) is ∙ put_here s (cell_of x) x inside))
-            (room (commits_at (row_at s (cell_of x))) (known.few (cell_of x) (cell_inside x has)) fresh)
+            (room_left (commits_at (row_at s (cell_of x))) (known.few (cell_of x) (cell_inside x has)) fresh)
         | inr differs ↦ subst (λ (o : Option (ℕ × Row)). commits_at o ≤ MOST_COMMITS) (sym (put_other s (cell_of x) x k differs)) (known.few k lt)
       ];
       sound = subst AreSound (sym (cells_put s x known.long has)) sound;

@@ -1,7 +1,6 @@
 -- The cells of the host and the jobs beside them, where a job is put.
-use Rattle.std.proofs.Common.{◌≡◌, inl, inr, ℕ, zero, suc, ◌+◌, ◌*◌, ◌<◌, ◌≤◌, ◌^◌, ◌==◌, [], ◌∷◌, length, get_or, set, Option, Some, None, false, refl, sym, ◌∙◌, ap, subst, arith}
+use Rattle.std.proofs.Common.{◌≡◌, inl, inr, ℕ, zero, suc, ◌+◌, ◌*◌, ◌<◌, ◌≤◌, ◌^◌, [], ◌∷◌, length, get_or, set, Option, Some, None, false, refl, sym, ◌∙◌, ap, subst, arith}
 use Rattle.std.proofs.lemmas.Bool.{cases_eq}
-use Rattle.std.proofs.lemmas.Bool.Decides.{nat_tests}
 use Rattle.std.proofs.lemmas.List.Sums.{sum_by-le}
 use Rattle.std.proofs.lemmas.List.Elements.{All-from_get_or}
 use Rattle.bench_base.specs.declared.sizes.TheConstants.{MOST_COMMITS}
@@ -15,15 +14,13 @@ use Rattle.host_jobs.specs.Soundness.{AreSound, IsNext}
 use Rattle.host_node.specs.Cells.{cell_inside, rows_put}
 use Rattle.bench_views.specs.Host.{IsKnown}
 use Rattle.told_host.specs.Records.{AreJoined}
-
-room : (n : ℕ) → n ≤ MOST_COMMITS → (n == MOST_COMMITS) ≡ false → n + 1 ≤ MOST_COMMITS
-room n le not_full = grind (arith, nat_tests)
+use Rattle.bench_base.proofs.Facts.{room_left}
 
 few_put : (s : RowList JobRow) (x : JobRow) → length s ≡ HOST_CELLS → ((k : ℕ) → commits_at (row_at s k) ≤ MOST_COMMITS) → is_worn s (cell_of x) ≡ false → (k : ℕ) → commits_at (row_at (put s (cell_of x) x) k) ≤ MOST_COMMITS
 few_put s x long few fresh k =
     let inside : cell_of x < length s = omega (arith, cell_inside x, long) in
     elim (cases_eq k (cell_of x)) [
-      | inl is ↦ subst (λ (o : Option (ℕ × JobRow)). commits_at o ≤ MOST_COMMITS) (sym (ap (row_at (put s (cell_of x) x)) is ∙ put_here s (cell_of x) x inside)) (room (commits_at (row_at s (cell_of x))) (few (cell_of x)) fresh)
+      | inl is ↦ subst (λ (o : Option (ℕ × JobRow)). commits_at o ≤ MOST_COMMITS) (sym (ap (row_at (put s (cell_of x) x)) is ∙ put_here s (cell_of x) x inside)) (room_left (commits_at (row_at s (cell_of x))) (few (cell_of x)) fresh)
       | inr differs ↦ subst (λ (o : Option (ℕ × JobRow)). commits_at o ≤ MOST_COMMITS) (sym (put_other s (cell_of x) x k differs)) (few k)
     ]
 

@@ -1,8 +1,7 @@
 -- The cells of the verifier and the index beside them, where a change is put.
-use Rattle.std.proofs.Common.{◌≡◌, inl, inr, ℕ, ◌+◌, ◌*◌, ◌<◌, ◌≤◌, ◌^◌, ◌==◌, List, length, get_or, set, Option, Some, None, Bool, true, false, refl, sym, ◌∙◌, ap, subst, arith, true≢false}
+use Rattle.std.proofs.Common.{◌≡◌, inl, inr, ℕ, ◌+◌, ◌*◌, ◌<◌, ◌≤◌, ◌^◌, List, length, get_or, set, Option, Some, None, Bool, true, false, refl, sym, ◌∙◌, ap, subst, arith, true≢false}
 use Rattle.std.specs.Prelude.{is_some, not, IsSome}
 use Rattle.std.proofs.lemmas.Bool.{cases_eq}
-use Rattle.std.proofs.lemmas.Bool.Decides.{nat_tests}
 use Rattle.std.proofs.lemmas.List.{get_or-map, map-set}
 use Rattle.std.proofs.lemmas.List.Sums.{sum_by-le}
 use Rattle.std.proofs.lemmas.List.Elements.{All-from_get_or}
@@ -20,14 +19,12 @@ use Rattle.verifier_node.proofs.Indexing.{can-index, index-after}
 use Rattle.told_scans.specs.declared.held.Held.{Held}
 use Rattle.told_scans.specs.Helds.{row_held, seen_cell, seen_by}
 use Rattle.told_scans.specs.Records.{AreIndexed, row_by}
-
-room : (n : ℕ) → n ≤ MOST_COMMITS → (n == MOST_COMMITS) ≡ false → n + 1 ≤ MOST_COMMITS
-room n le not_full = grind (arith, nat_tests)
+use Rattle.bench_base.proofs.Facts.{room_left}
 
 pub few_put : (s : Seen) (x : Change) → cell_of x < length s → ((k : ℕ) → commits_at (row_at s k) ≤ MOST_COMMITS) → is_worn s (cell_of x) ≡ false → (k : ℕ) → commits_at (row_at (counting.after s x) k) ≤ MOST_COMMITS
 few_put s x inside few fresh k =
     elim (cases_eq k (cell_of x)) [
-      | inl is ↦ subst (λ (o : Option (ℕ × Row)). commits_at o ≤ MOST_COMMITS) (sym (ap (row_at (counting.after s x)) is ∙ put_here s (cell_of x) (row_with s x) inside)) (room (commits_at (row_at s (cell_of x))) (few (cell_of x)) fresh)
+      | inl is ↦ subst (λ (o : Option (ℕ × Row)). commits_at o ≤ MOST_COMMITS) (sym (ap (row_at (counting.after s x)) is ∙ put_here s (cell_of x) (row_with s x) inside)) (room_left (commits_at (row_at s (cell_of x))) (few (cell_of x)) fresh)
       | inr differs ↦ subst (λ (o : Option (ℕ × Row)). commits_at o ≤ MOST_COMMITS) (sym (put_other s (cell_of x) (row_with s x) k differs)) (few k)
     ]
 

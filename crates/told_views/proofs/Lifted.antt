@@ -35,21 +35,9 @@ use Rattle.told_nodes.specs.Giving.{IsOnlyRelease, ReleasesNone}
 use Rattle.told_nodes.proofs.Releasing.{IsUnreleasing, plan_releases, seen_unreleasing, on_unreleasing, off_unreleasing}
 use Rattle.told_nodes.proofs.Telling.{seen_due}
 use Rattle.told_views.specs.Verdicts.{plan_in, commit_in, listed, Adds, MovesSo, MovesNever, ByLedger}
+use Rattle.bench_views.proofs.Sent.{sends_none}
 
 -- == what was sent ==
-
-sends_none : (T : List Entry) → SendsNone T → sent_in T ≡ []
-sends_none [] none = refl
-sends_none (entry.Sent bytes ∷ T) none = absurd none
-sends_none (entry.Begin ∷ T) none = refl
-sends_none (entry.Commit c ∷ T) none = sends_none T none
-sends_none (entry.Torn m c ∷ T) none = sends_none T none
-sends_none (entry.Day t ∷ T) none = sends_none T none
-sends_none (entry.Rates text ∷ T) none = sends_none T none
-sends_none (entry.Released d piece x ∷ T) none = sends_none T none
-sends_none (entry.Printed j x ∷ T) none = sends_none T none
-sends_none (entry.Up m k ∷ T) none = sends_none T none
-sends_none (entry.Down m ∷ T) none = sends_none T none
 
 few_sent : (T : List Entry) → IsFew T → sent_in T ≡ listed (newest_sent T)
 few_sent [] few = refl

@@ -1,7 +1,8 @@
 use Rattle.std.proofs.Common.{ℕ, sym, subst, ◌∙◌, true≢false}
 use Rattle.host_departments.specs.Rows.{IsDepartment}
-use Rattle.host_departments.proofs.Reading.{one_number, few}
+use Rattle.host_departments.proofs.Reading.{few}
 use Rattle.host_departments.proofs.lines.read_one.Goals as goal
+use Rattle.script_text.proofs.ReadBack.{one_number}
 
 pub returns-clause-none : goal.returns-clause-none
 returns-clause-none c d department is =

@@ -1,10 +1,10 @@
 use Rattle.std.proofs.Common.{◌≡◌, ℕ, List, IfSome, IfNone, take, drop, replicate, get_or, ◌-◌, sym, subst, arith}
-use Rattle.bench_base.proofs.Facts.{none-by}
+use Rattle.bench_base.proofs.Facts.{none-by, not_so, is_so}
 use Rattle.psd_wire.specs.declared.message.Request.{Request}
 use Rattle.psd_wire.specs.declared.message.Message.TheVariants as m
 use Rattle.psd_wire.specs.Grammar as grammar
 use Rattle.psd_state.specs.Payload.{filled, body_room}
-use Rattle.psd_state.proofs.Under.{not_so, is_so, body-request, filled-front, front-filled, zeros-slice, slice-zeros}
+use Rattle.psd_state.proofs.Under.{body-request, filled-front, front-filled, zeros-slice, slice-zeros}
 use Rattle.psd_state.proofs.Read.{some-by}
 use Rattle.psd_state.proofs.parts.read_filled.Goals as goal
 

@@ -1,6 +1,7 @@
 use Rattle.std.proofs.Common.{sym}
-use Rattle.psd_state.proofs.Under.{not_so, is_so, zero-pending, some-first, not-zero-pending, not-some-first}
+use Rattle.psd_state.proofs.Under.{zero-pending, some-first, not-zero-pending, not-some-first}
 use Rattle.psd_state.proofs.parts.read_first_pending.Goals as goal
+use Rattle.bench_base.proofs.Facts.{not_so, is_so}
 
 pub returns-then-is_zero-clause-found : goal.returns-then-is_zero-clause-found
 returns-then-is_zero-clause-found c = (tt, sym c.in-0.is, zero-pending 1 _ _ c.requires (is_so _ _ c.is_zero.ensures c.if-is_zero.true))

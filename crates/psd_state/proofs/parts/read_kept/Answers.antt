@@ -1,6 +1,7 @@
 use Rattle.std.proofs.Common.{arith}
-use Rattle.psd_state.proofs.Under.{not_so, is_so, zero-mark, some-mark, not-zero-mark, not-some-mark}
+use Rattle.psd_state.proofs.Under.{zero-mark, some-mark, not-zero-mark, not-some-mark}
 use Rattle.psd_state.proofs.parts.read_kept.Goals as goal
+use Rattle.bench_base.proofs.Facts.{not_so, is_so}
 
 pub returns-then-is_zero-clause-found : goal.returns-then-is_zero-clause-found
 returns-then-is_zero-clause-found c = (tt, c.if-pieces-eq0.true, zero-mark _ _ c.requires (is_so _ _ c.is_zero.ensures c.if-is_zero.true))

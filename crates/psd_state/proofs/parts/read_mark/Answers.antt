@@ -1,6 +1,7 @@
 use Rattle.std.proofs.Common.{◌∙◌, sym}
-use Rattle.psd_state.proofs.Under.{genuine-found, genuine-read, not_so, is_so}
+use Rattle.psd_state.proofs.Under.{genuine-found, genuine-read}
 use Rattle.psd_state.proofs.parts.read_mark.Goals as goal
+use Rattle.bench_base.proofs.Facts.{not_so, is_so}
 
 pub returns-then-not-verify_mark-clause-none : goal.returns-then-not-verify_mark-clause-none
 returns-then-not-verify_mark-clause-none c = λ k w e. not_so _ _ c.verify_mark.ensures c.if-not-verify_mark.true (k, w, sym e)

@@ -1,6 +1,7 @@
 use Rattle.std.proofs.Common.{sym}
-use Rattle.psd_state.proofs.Under.{not_so, is_so, zero-pending, some-second, not-zero-pending, not-some-second}
+use Rattle.psd_state.proofs.Under.{zero-pending, some-second, not-zero-pending, not-some-second}
 use Rattle.psd_state.proofs.parts.read_second_pending.Goals as goal
+use Rattle.bench_base.proofs.Facts.{not_so, is_so}
 
 pub returns-then-is_zero-clause-found : goal.returns-then-is_zero-clause-found
 returns-then-is_zero-clause-found c = (tt, sym c.in-0.is, λ key. zero-pending 2 key _ c.requires (is_so _ _ c.is_zero.ensures c.if-is_zero.true))

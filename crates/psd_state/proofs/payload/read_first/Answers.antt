@@ -2,10 +2,9 @@ use Rattle.std.proofs.Common.{◌≡◌, ◌≤◌, sym, arith, drop, subst, IfS
 use Rattle.registers.specs.Sums.{total}
 use Rattle.psd_state.specs.declared.parts.Fields.{Fields}
 use Rattle.std.proofs.lemmas.List.{length-take, length-drop}
-use Rattle.bench_base.proofs.Facts.{none-by}
+use Rattle.bench_base.proofs.Facts.{none-by, is_so}
 use Rattle.psd_state.specs.Payload.{sums_of}
 use Rattle.psd_state.proofs.Parted.{assembled, spells-old}
-use Rattle.psd_state.proofs.Under.{is_so}
 use Rattle.psd_state.proofs.Read.{some-by, fields-are, no-pending, no-mark, pending-is, mark-is, not-old, parts-made, nothing-behind, first-alone}
 use Rattle.psd_state.proofs.payload.read_first.Goals as goal
 

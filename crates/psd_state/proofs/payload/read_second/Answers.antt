@@ -1,7 +1,6 @@
 use Rattle.std.proofs.Common.{arith}
-use Rattle.bench_base.proofs.Facts.{none-by}
+use Rattle.bench_base.proofs.Facts.{none-by, is_so, not_so}
 use Rattle.psd_state.proofs.Parted.{assembled, spells-new}
-use Rattle.psd_state.proofs.Under.{is_so, not_so}
 use Rattle.psd_state.proofs.Read.{some-by, fields-are, no-pending, no-mark, no-end, pending-is, mark-is, parts-made, zeros-behind, zeros-are}
 use Rattle.psd_state.proofs.payload.read_second.Goals as goal
 

@@ -1,8 +1,9 @@
 use Rattle.std.proofs.Common.{◌≡◌, ℕ, List, sym, subst, arith}
 use Rattle.std.specs.Prelude.{IsOk}
 use Rattle.indicium.specs.Marks.{read_mark}
-use Rattle.spoil_claims.proofs.Reading.{one_number, one_mark}
+use Rattle.spoil_claims.proofs.Reading.{one_mark}
 use Rattle.spoil_claims.proofs.lines.read_claim.Goals as goal
+use Rattle.script_text.proofs.ReadBack.{one_number}
 
 pub returns-then-read-eq0-clause-none : goal.returns-then-read-eq0-clause-none
 returns-then-read-eq0-clause-none c n w mark claim is =
