@@ -16,9 +16,9 @@ use Rattle.node_seat.specs.declared.node.Node.{Ghosts}
 use Rattle.node_seat.specs.Stands as node
 use Rattle.node_seat.specs.Stands.{StoreStands}
 use Rattle.psd_device.specs.declared.node.DeviceNode.{DeviceNode}
-use Rattle.centre_protocol.specs.declared.node.CentreNode.{CentreNode}
-use Rattle.host_node.specs.declared.node.HostNode.{HostNode}
-use Rattle.verifier_node.specs.declared.node.VerifierNode.{VerifierNode}
+use Rattle.centre_protocol.specs.NodeView.{CentreNode}
+use Rattle.host_node.specs.NodeView.{HostNode}
+use Rattle.verifier_node.specs.NodeView.{VerifierNode}
 use Rattle.host_rates.specs.Tables.{RateTable}
 use Rattle.host_rates.specs.Tariffs.{Keeps}
 use Rattle.ledger_moves.specs.Tariffs.{Tariff}

@@ -7,8 +7,8 @@ use Rattle.psd_state.specs.Seen as device
 use Rattle.psd_device.specs.declared.node.DeviceNode.{DeviceNode}
 use Rattle.psd_device.specs.NodeView as device_view
 use Rattle.centre_ledger.specs.Seen as centre
-use Rattle.centre_protocol.specs.declared.node.CentreNode.{CentreNode}
-use Rattle.centre_protocol.specs.NodeView as centre_view
+use Rattle.row_node.specs.NodeView as centre_view
+use Rattle.centre_protocol.specs.NodeView.{CentreNode}
 use Rattle.bench_views.specs.Comparing.{compare}
 
 -- a node as it runs, which has no open commit

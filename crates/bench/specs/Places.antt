@@ -8,12 +8,13 @@ use Rattle.node_seat.specs.declared.node.Node.{Ghosts}
 use Rattle.node_seat.specs.Stands.{Stands}
 use Rattle.psd_device.specs.declared.node.DeviceNode.{DeviceNode}
 use Rattle.psd_device.specs.NodeView as device
-use Rattle.centre_protocol.specs.declared.node.CentreNode.{CentreNode}
-use Rattle.centre_protocol.specs.NodeView as centre
-use Rattle.host_node.specs.declared.node.HostNode.{HostNode}
-use Rattle.host_node.specs.NodeView as host
-use Rattle.verifier_node.specs.declared.node.VerifierNode.{VerifierNode}
-use Rattle.verifier_node.specs.NodeView as verifier
+use Rattle.row_node.specs.declared.cells.Cells as cells
+use Rattle.row_node.specs.declared.rows.Rows as rows
+use Rattle.row_node.specs.declared.node.RowNode.{RowNode}
+use Rattle.row_node.specs.NodeView as row_node
+use Rattle.centre_protocol.specs.NodeView.{CentreNode}
+use Rattle.host_node.specs.NodeView.{HostNode}
+use Rattle.verifier_node.specs.NodeView.{VerifierNode}
 use Rattle.bench.specs.Benches.{Bench, Nodes, BenchOf}
 use Rattle.bench.specs.Benches as benches
 
@@ -32,27 +33,15 @@ pub record IsOver {N : Type 0} {h : nv.Ghosts N} (store : N) (is_on : Bool) (sto
 abbrev pub IsDeviceOver : {N : Type 0} {h : nv.Ghosts N} {g : nv.Ghosts (Fused N h)} → N → DeviceNode (Fused N h) g → Type 0
 IsDeviceOver store k = IsOver store (device.is_on k) (device.storage_in k)
 
-abbrev pub IsCentreOver : {N : Type 0} {h : nv.Ghosts N} {g : nv.Ghosts (Fused N h)} → N → CentreNode (Fused N h) g → Type 0
-IsCentreOver store k = IsOver store (centre.is_on k) (centre.storage_in k)
-
-abbrev pub IsHostOver : {N : Type 0} {h : nv.Ghosts N} {g : nv.Ghosts (Fused N h)} → N → HostNode (Fused N h) g → Type 0
-IsHostOver store k = IsOver store (host.is_on k) (host.storage_in k)
-
-abbrev pub IsVerifierOver : {N : Type 0} {h : nv.Ghosts N} {g : nv.Ghosts (Fused N h)} → N → VerifierNode (Fused N h) g → Type 0
-IsVerifierOver store k = IsOver store (verifier.is_on k) (verifier.storage_in k)
+abbrev pub IsRowsOver : {N R X M P : Type 0} {h : nv.Ghosts N} {g : nv.Ghosts (Fused N h)} {r : rows.Ghosts R X M P} {m : cells.Ghosts M P} → N → RowNode (Fused N h) R X M P g r m → Type 0
+IsRowsOver store k = IsOver store (row_node.is_on k) (row_node.storage_in k)
 
 -- the storage is the one inside the node's fuse
 abbrev pub IsInDevice : {N : Type 0} {h : nv.Ghosts N} {g : nv.Ghosts (Fused N h)} → DeviceNode (Fused N h) g → N → Type 0
 IsInDevice k store = store ≡ inside (device.storage_in k)
 
-abbrev pub IsInCentre : {N : Type 0} {h : nv.Ghosts N} {g : nv.Ghosts (Fused N h)} → CentreNode (Fused N h) g → N → Type 0
-IsInCentre k store = store ≡ inside (centre.storage_in k)
-
-abbrev pub IsInHost : {N : Type 0} {h : nv.Ghosts N} {g : nv.Ghosts (Fused N h)} → HostNode (Fused N h) g → N → Type 0
-IsInHost k store = store ≡ inside (host.storage_in k)
-
-abbrev pub IsInVerifier : {N : Type 0} {h : nv.Ghosts N} {g : nv.Ghosts (Fused N h)} → VerifierNode (Fused N h) g → N → Type 0
-IsInVerifier k store = store ≡ inside (verifier.storage_in k)
+abbrev pub IsInRows : {N R X M P : Type 0} {h : nv.Ghosts N} {g : nv.Ghosts (Fused N h)} {r : rows.Ghosts R X M P} {m : cells.Ghosts M P} → RowNode (Fused N h) R X M P g r m → N → Type 0
+IsInRows k store = store ≡ inside (row_node.storage_in k)
 
 -- the nodes of a bench over storages with fuses
 abbrev pub FusedBench : (N : Type 0) (h : nv.Ghosts N) → nv.Ghosts (Fused N h) → Type 0
@@ -61,15 +50,15 @@ FusedBench N h g = Bench (DeviceNode (Fused N h) g) (CentreNode (Fused N h) g) (
 -- each node of a bench is off, over the storage in its place; each storage is the one inside the fuse of the node in its place
 pub record AreOver {N : Type 0} {h : nv.Ghosts N} {g : nv.Ghosts (Fused N h)} (stores : benches.Places N) (bench : FusedBench N h g) : Type 0 where
   pub devices : Pairs (λ store k. IsDeviceOver store k) stores.devices bench.devices
-  pub centre : IsCentreOver stores.centre bench.centre
-  pub host : IsHostOver stores.host bench.host
-  pub verifier : IsVerifierOver stores.verifier bench.verifier
+  pub centre : IsRowsOver stores.centre bench.centre
+  pub host : IsRowsOver stores.host bench.host
+  pub verifier : IsRowsOver stores.verifier bench.verifier
 
 pub record AreInside {N : Type 0} {h : nv.Ghosts N} {g : nv.Ghosts (Fused N h)} (bench : FusedBench N h g) (stores : benches.Places N) : Type 0 where
   pub devices : Pairs (λ k store. IsInDevice k store) bench.devices stores.devices
-  pub centre : IsInCentre bench.centre stores.centre
-  pub host : IsInHost bench.host stores.host
-  pub verifier : IsInVerifier bench.verifier stores.verifier
+  pub centre : IsInRows bench.centre stores.centre
+  pub host : IsInRows bench.host stores.host
+  pub verifier : IsInRows bench.verifier stores.verifier
 
 module _ {K S N C R : Type 0} (n : Ghosts K S N C R) (g : nv.Ghosts S) where
   -- a node after a begin: it is off, over the storage as it was

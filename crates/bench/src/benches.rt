@@ -8,10 +8,7 @@ ghost use Rattle.bench_views.specs.Kinds.{bench_kinds};
 ghost use Rattle.bench.specs.declared.benches.TheConstants.{MOST_MESSAGES};
 ghost use Rattle.std.specs.Option.{option_copied};
 
-use crate::places::{
-    centre_over, centre_storage, device_over, device_storage, host_over, host_storage, stop_all,
-    verifier_over, verifier_storage,
-};
+use crate::places::{device_over, device_storage, rows_over, rows_storage, stop_all};
 use crate::stores::Stores;
 use bench_base::bytes::Note;
 use bench_base::numbers::DayNo;
@@ -190,9 +187,9 @@ impl<N: Nv + Drop> Bench<N> {
         devices.reverse();
         Ok(BenchOver {
             devices,
-            centre: centre_over(centre, rooms.centre),
-            host: host_over(host, rooms.host),
-            verifier: verifier_over(verifier, rooms.verifier),
+            centre: rows_over(centre, rooms.centre),
+            host: rows_over(host, rooms.host),
+            verifier: rows_over(verifier, rooms.verifier),
             day: None,
             rates: None,
             messages,
@@ -232,9 +229,9 @@ impl<N: Nv + Drop> Bench<N> {
         stores.reverse();
         Stores {
             devices: stores,
-            centre: centre_storage(centre),
-            host: host_storage(host),
-            verifier: verifier_storage(verifier),
+            centre: rows_storage(centre),
+            host: rows_storage(host),
+            verifier: rows_storage(verifier),
         }
     }
 }

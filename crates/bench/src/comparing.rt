@@ -8,6 +8,7 @@ use bench_base::words::Node as NodeNo;
 use bench_calls::compared;
 use centre_ledger::standing_act;
 use centre_protocol::CentreNode;
+use node_records::BooksOf;
 use node_seat::Node;
 use nv_model::Fuse;
 use psd_device::DeviceNode;
@@ -26,11 +27,7 @@ fn compare_place<M: Fuse + Drop>(
     if !centre.is_on() {
         return Reply::OffNode(NodeNo::Centre);
     }
-    compared(
-        device,
-        place.record(),
-        standing_act(device, centre.accounts()),
-    )
+    compared(device, place.record(), standing_act(device, centre.books()))
 }
 
 /// What the device holds beside what the centre says of it.

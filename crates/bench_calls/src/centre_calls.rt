@@ -19,7 +19,7 @@ use centre_ledger::{
     register_act, take_act,
 };
 use node_acts::Said;
-use node_calls::{Call, Callee};
+use node_calls::{Call, Callee, Holds};
 use node_records::BooksOf;
 
 /// The centre, where it is called.
@@ -42,7 +42,7 @@ impl Callee for CentreCallee {
     }
 }
 
-impl<R: BooksOf> Call<CentreCallee, R, Row> for RegisterCall {
+impl<R: Holds + BooksOf<R::By>> Call<CentreCallee, R, Row> for RegisterCall {
     type Answer = ();
 
     ghost IsAsked = { λ c. IsWord c.origin };
@@ -62,7 +62,7 @@ impl<R: BooksOf> Call<CentreCallee, R, Row> for RegisterCall {
     }
 }
 
-impl<R: BooksOf> Call<CentreCallee, R, Row> for OpenCall {
+impl<R: Holds + BooksOf<R::By>> Call<CentreCallee, R, Row> for OpenCall {
     type Answer = ();
 
     ghost IsAsked = { λ c. Unit {0} };
@@ -82,7 +82,7 @@ impl<R: BooksOf> Call<CentreCallee, R, Row> for OpenCall {
     }
 }
 
-impl<R: BooksOf> Call<CentreCallee, R, Row> for DepositCall {
+impl<R: Holds + BooksOf<R::By>> Call<CentreCallee, R, Row> for DepositCall {
     type Answer = Deposit;
 
     ghost IsAsked = { λ c. Unit {0} };
@@ -107,7 +107,7 @@ impl<R: BooksOf> Call<CentreCallee, R, Row> for DepositCall {
     }
 }
 
-impl<R: BooksOf> Call<CentreCallee, R, Row> for FlagCall {
+impl<R: Holds + BooksOf<R::By>> Call<CentreCallee, R, Row> for FlagCall {
     type Answer = ();
 
     ghost IsAsked = { λ c. Unit {0} };
@@ -130,7 +130,7 @@ impl<R: BooksOf> Call<CentreCallee, R, Row> for FlagCall {
     }
 }
 
-impl<R: BooksOf> Call<CentreCallee, R, Row> for BalanceCall {
+impl<R: Holds + BooksOf<R::By>> Call<CentreCallee, R, Row> for BalanceCall {
     type Answer = u64;
 
     ghost IsAsked = { λ c. Unit {0} };
@@ -153,7 +153,7 @@ impl<R: BooksOf> Call<CentreCallee, R, Row> for BalanceCall {
     }
 }
 
-impl<'a, R: BooksOf> Call<CentreCallee, R, Row> for TakeRequestCall<'a> {
+impl<'a, R: Holds + BooksOf<R::By>> Call<CentreCallee, R, Row> for TakeRequestCall<'a> {
     type Answer = CentreAnswer;
 
     ghost IsAsked = { λ c. IsBytes c.bytes };

@@ -16,7 +16,7 @@ use host_jobs::{
     HostAct, JobRow, Ordered, begin_print_act, close_act, debit_message_act, order_act, take_act,
 };
 use node_acts::{GivenOut, Printed, Said};
-use node_calls::{Call, Callee};
+use node_calls::{Call, Callee, Holds};
 use node_records::JobsOf;
 
 /// The host, where it is called.
@@ -39,7 +39,7 @@ impl Callee for HostCallee {
     }
 }
 
-impl<R: JobsOf> Call<HostCallee, R, JobRow> for OrderCall {
+impl<R: Holds + JobsOf<R::By>> Call<HostCallee, R, JobRow> for OrderCall {
     type Answer = Ordered;
 
     ghost IsAsked = { λ c. IsDevice c.device × IsPrice c.price };
@@ -69,7 +69,7 @@ impl<R: JobsOf> Call<HostCallee, R, JobRow> for OrderCall {
     }
 }
 
-impl<R: JobsOf> Call<HostCallee, R, JobRow> for SendCall {
+impl<R: Holds + JobsOf<R::By>> Call<HostCallee, R, JobRow> for SendCall {
     type Answer = Note;
 
     ghost IsAsked = { λ c. Unit {0} };
@@ -95,7 +95,7 @@ impl<R: JobsOf> Call<HostCallee, R, JobRow> for SendCall {
     }
 }
 
-impl<R: JobsOf> Call<HostCallee, R, JobRow> for PrintCall {
+impl<R: Holds + JobsOf<R::By>> Call<HostCallee, R, JobRow> for PrintCall {
     type Answer = [u8; 64];
 
     ghost IsAsked = { λ c. Unit {0} };
@@ -119,7 +119,7 @@ impl<R: JobsOf> Call<HostCallee, R, JobRow> for PrintCall {
     }
 }
 
-impl<R: JobsOf> Call<HostCallee, R, JobRow> for CloseCall {
+impl<R: Holds + JobsOf<R::By>> Call<HostCallee, R, JobRow> for CloseCall {
     type Answer = ();
 
     ghost IsAsked = { λ c. Unit {0} };
@@ -139,7 +139,7 @@ impl<R: JobsOf> Call<HostCallee, R, JobRow> for CloseCall {
     }
 }
 
-impl<'a, R: JobsOf> Call<HostCallee, R, JobRow> for TakeReleaseCall<'a> {
+impl<'a, R: Holds + JobsOf<R::By>> Call<HostCallee, R, JobRow> for TakeReleaseCall<'a> {
     type Answer = u32;
 
     ghost IsAsked = { λ c. Unit {0} };

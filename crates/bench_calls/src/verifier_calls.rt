@@ -13,7 +13,7 @@ use bench_base::refusals::ScanRefusal;
 use bench_base::words::Node as NodeNo;
 use bench_views::{ScanCall, TrustCall, VerifierCall};
 use node_acts::Said;
-use node_calls::{Call, Callee};
+use node_calls::{Call, Callee, Holds};
 use node_records::RowsOf;
 use verifier::{Accepted, Change, ScanAct};
 
@@ -39,7 +39,7 @@ impl Callee for VerifierCallee {
     }
 }
 
-impl<R: RowsOf> Call<VerifierCallee, R, Change> for TrustCall {
+impl<R: Holds + RowsOf<R::By>> Call<VerifierCallee, R, Change> for TrustCall {
     type Answer = ();
 
     ghost IsAsked = { λ c. IsDevice c.device × IsKey c.key };
@@ -59,7 +59,7 @@ impl<R: RowsOf> Call<VerifierCallee, R, Change> for TrustCall {
     }
 }
 
-impl<'a, R: RowsOf> Call<VerifierCallee, R, Change> for ScanCall<'a> {
+impl<'a, R: Holds + RowsOf<R::By>> Call<VerifierCallee, R, Change> for ScanCall<'a> {
     type Answer = Accepted;
 
     ghost IsAsked = { λ c. IsCount c.number × IsBytes c.bytes };

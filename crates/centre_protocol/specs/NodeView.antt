@@ -1,17 +1,14 @@
--- What contracts see of the centre in its storage.
-use Rattle.std.specs.Prelude.{Bool}
+-- The type of the centre in its storage: a node of its rows.
+use denote.Param.{number}
+use Rattle.std.specs.Prelude.{ℕ, List}
+use Rattle.bench_base.specs.declared.sizes.TheConstants.{ROW_BYTES}
 use Rattle.nv_model.specs.declared.nv.Nv.{Ghosts}
-use Rattle.centre_ledger.specs.Seen.{Seen}
-use Rattle.row_node.specs.NodeView as view
-use Rattle.centre_protocol.specs.declared.node.CentreNode.{CentreNode}
+use Rattle.nv_store.specs.declared.room.Room.{Room}
+use Rattle.centre_ledger.specs.declared.rows.Row.{Row}
+use Rattle.row_node.specs.declared.node.RowNode.{RowNode}
+use Rattle.row_node.specs.contracts.cells.RoomCells.TheImpl as cells
+use Rattle.centre_protocol.specs.declared.kept.CentreRows.{CentreRows}
+use Rattle.centre_protocol.specs.contracts.rows.CentreRowsRows.TheImpl as rows
 
--- its storage
-abbrev pub storage_in : {N : Type 0} {g : Ghosts N} → CentreNode N g → N
-storage_in k = view.storage_in k.node
-
--- its rows, with the commits of each
-abbrev pub seen_in : {N : Type 0} {g : Ghosts N} → CentreNode N g → Seen
-seen_in k = view.seen_in k.node
-
-abbrev pub is_on : {N : Type 0} {g : Ghosts N} → CentreNode N g → Bool
-is_on k = view.is_on k.node
+abbrev pub CentreNode : (N : Type 0) → Ghosts N → Type 0
+CentreNode N g = RowNode N CentreRows Row (Room ROW_BYTES) (List ℕ) g rows.ghosts (cells.ghosts (number ROW_BYTES))

@@ -3,14 +3,13 @@ use Rattle.std.specs.Prelude.{◌≡◌, ℕ, ◌+◌, ◌<◌, ◌≤◌, List,
 use Rattle.bench_base.specs.declared.sizes.TheConstants.{ROW_BYTES, CENTRE_CELLS}
 use Rattle.nv_model.specs.declared.nv.Nv.{Ghosts}
 use Rattle.nv_store.specs.Slot.{Held}
-use Rattle.nv_store.specs.Fills.{Fill}
-use Rattle.row_table.specs.Shows.{ShowsRows, IsDamagedTable, row_fill}
+use Rattle.row_table.specs.Shows.{IsDamagedTable}
 use Rattle.row_table.specs.Kept.{AreFilled}
 use Rattle.centre_ledger.specs.declared.rows.Row.{Row}
 use Rattle.centre_ledger.specs.declared.rows.Row.TheVariants as row
-use Rattle.centre_ledger.specs.Payload.{RowReadsAs, row_bytes}
+use Rattle.centre_ledger.specs.Payload.{RowReadsAs}
 use Rattle.centre_ledger.specs.Books.{AreSound}
-use Rattle.centre_ledger.specs.Seen.{Seen, cell_of, books_in}
+use Rattle.centre_ledger.specs.Seen.{books_in}
 
 -- the row is that of cell k: device d lies in cell d - 1, customer w in cell w + 7
 abbrev pub IsIn : ℕ → Row → Type 0
@@ -21,10 +20,6 @@ IsIn k (row.Customer r) = (r.customer + 7 ≡ k) × (8 ≤ k)
 abbrev pub IsPayloadOf : ℕ → Row → List ℕ → Type 0
 IsPayloadOf k x payload = IsIn k x × ∥ RowReadsAs x payload ∥₁
 
--- an image that shows these rows
-abbrev pub IsShown : Seen → List ℕ → Type 0
-IsShown s image = ShowsRows ROW_BYTES CENTRE_CELLS IsPayloadOf s image
-
 -- the cells hold these rows
 abbrev pub HoldRows : (ℕ → Option Row) → (ℕ → Option Held) → Type 0
 HoldRows rows held = AreFilled CENTRE_CELLS IsPayloadOf rows held
@@ -32,7 +27,3 @@ HoldRows rows held = AreFilled CENTRE_CELLS IsPayloadOf rows held
 -- why a boot answers Damaged: the size is another, or what the storage is sure to hold is mixed, no rows, or rows that do not agree
 abbrev pub IsDamaged : {N : Type 0} → Ghosts N → N → Type 0
 IsDamaged g nv = IsDamagedTable ROW_BYTES CENTRE_CELLS IsPayloadOf (λ s. AreSound (books_in s)) g nv
-
--- a commit of a row: to its cell, in the spelling of version 2
-abbrev pub fill_of : Seen → Row → Fill
-fill_of s x = row_fill ROW_BYTES s (cell_of x) (row_bytes x)

@@ -16,6 +16,7 @@ use bench_base::ledger::Commit;
 use bench_base::refusals::{BootFail, CentreFail};
 use bench_base::sizes::{CENTRE_CELLS, ROW_BYTES};
 use centre_ledger::{Accounts, Balances, CentreAct};
+use node_records::BooksOf;
 use nv_model::{Fused, Nv};
 use nv_store::Room;
 use row_node::{RowRoom, RunningRows};
@@ -67,7 +68,7 @@ impl<N: Nv> Centre<N> {
         ensures rows { result.now ≡ books_of self.now }
         ensures sound { AreSound result.now }
     {
-        self.rows.node().rows().accounts()
+        self.rows.node().books()
     }
 
     // Does what a call decided on: see `RunningRows::perform`.

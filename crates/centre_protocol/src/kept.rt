@@ -1,9 +1,8 @@
-//! The rows of the centre, as its node keeps them.
-ghost use Rattle.std.specs.Prelude.{◌≡◌};
-ghost use Rattle.centre_ledger.specs.Books.{AreSound, no_rows};
+//! The rows of the centre, as its node keeps them, and the node.
 ghost use Rattle.centre_protocol.specs.Places.{HasPlaces};
 
 use centre_ledger::Accounts;
+use row_node::{RowNode, RowRoom};
 
 /// The rows that the cells hold, with what each customer has left.
 #[derive(Drop)]
@@ -12,23 +11,18 @@ pub struct CentreRows {
     ghost places: { HasPlaces accounts },
 }
 
+/// Memory for the 72 cells of the centre, and for its rows.
+pub type CentreRoom = RowRoom<CentreRows>;
+
+/// The centre over storage of 28,368 bytes: a cell of two slots for each device and each customer, whose payload is its
+/// row. While it is off, what it knew of its storage counts for nothing.
+pub type CentreNode<N> = RowNode<N, CentreRows>;
+
 impl CentreRows {
     /// No rows.
-    pub(crate) fn none() -> CentreRows
-        ensures { result.accounts ≡ no_rows }
-    {
+    pub(crate) fn none() -> CentreRows {
         CentreRows {
             accounts: Accounts::empty(),
         }
-    }
-
-    /// The rows, with what each customer has left.
-    pub(crate) fn accounts(&self) -> &Accounts
-        ensures rows { result.now ≡ self.now.accounts }
-        ensures sound { AreSound result.now }
-    {
-        // Its answer is what says that the rows are sound.
-        let _first = self.accounts.device(1);
-        &self.accounts
     }
 }

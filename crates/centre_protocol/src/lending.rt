@@ -1,16 +1,19 @@
 //! What the centre lends to its calls.
-use crate::node::CentreNode;
+use crate::kept::{CentreNode, CentreRows};
 use centre_ledger::Accounts;
 use node_records::BooksOf;
 use nv_model::Nv;
 
-impl<N: Nv> BooksOf for CentreNode<N> {
+impl<N: Nv> BooksOf<CentreRows> for CentreNode<N> {
     ghost use Rattle.centre_ledger.specs.Seen.{books_in};
-    ghost use Rattle.centre_protocol.specs.NodeView.{seen_in};
+    ghost use Rattle.row_node.specs.NodeView.{seen_in};
 
     ghost books = { λ k. books_in (seen_in k) };
 
     fn books(&self) -> &Accounts {
-        self.accounts()
+        let accounts = &self.rows().accounts;
+        // Its answer is what says that the rows are sound.
+        let _first = accounts.device(1);
+        accounts
     }
 }

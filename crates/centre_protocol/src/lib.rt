@@ -5,14 +5,9 @@ mod boot;
 mod calls;
 mod centre;
 mod kept;
-mod kind;
 mod lending;
-mod node;
-mod room;
 mod rows;
 
 pub use centre::Centre;
 pub use centre_ledger::{CentreAnswer, Deposit, Standing};
-pub use kept::CentreRows;
-pub use node::CentreNode;
-pub use room::CentreRoom;
+pub use kept::{CentreNode, CentreRoom, CentreRows};

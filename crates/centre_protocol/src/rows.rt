@@ -6,10 +6,11 @@ ghost use Rattle.centre_protocol.specs.Cells.{HasCell, IsSoundRow};
 
 use crate::boot::{customers_in, devices_in};
 use crate::kept::CentreRows;
-use bench_base::sizes::ROW_BYTES;
+use bench_base::sizes::{CENTRE_CELLS, ROW_BYTES};
 use centre_ledger::{Accounts, Row};
 use nv_store::Room;
 use row_node::Rows;
+use std::alloc::{AllocError, Global};
 
 // The cell that the row lies in: device d in cell d - 1, and customer w in cell w + 7.
 fn cell_of(row: &Row) -> u32
@@ -44,6 +45,14 @@ impl Rows for CentreRows {
     ghost table = { centre_table };
 
     ghost laws = { centre_laws };
+
+    fn cells() -> u32 {
+        CENTRE_CELLS
+    }
+
+    fn new(_alloc: Global) -> Result<CentreRows, AllocError> {
+        Ok(CentreRows::none())
+    }
 
     fn clear(&mut self) {
         self.accounts = Accounts::empty();

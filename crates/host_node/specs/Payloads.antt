@@ -2,22 +2,17 @@
 use Rattle.std.specs.Prelude.{◌≡◌, ℕ, List, Option}
 use Rattle.nv_model.specs.declared.nv.Nv.{Ghosts}
 use Rattle.nv_store.specs.Slot.{Held}
-use Rattle.nv_store.specs.Fills.{Fill}
-use Rattle.row_table.specs.Shows.{ShowsRows, IsDamagedTable, row_fill}
+use Rattle.row_table.specs.Shows.{IsDamagedTable}
 use Rattle.row_table.specs.Kept.{AreFilled}
 use Rattle.host_jobs.specs.declared.rows.JobRow.{JobRow}
 use Rattle.host_jobs.specs.declared.sizes.TheConstants.{JOB_BYTES, HOST_CELLS}
-use Rattle.host_jobs.specs.Payload.{JobReadsAs, job_bytes}
-use Rattle.host_jobs.specs.Seen.{Seen, cell_of, rows_in}
+use Rattle.host_jobs.specs.Payload.{JobReadsAs}
+use Rattle.host_jobs.specs.Seen.{cell_of, rows_in}
 use Rattle.host_jobs.specs.Soundness.{AreSound}
 
 -- the payload of cell k reads as this job
 abbrev pub IsPayloadOf : ℕ → JobRow → List ℕ → Type 0
 IsPayloadOf k x payload = (cell_of x ≡ k) × ∥ JobReadsAs payload x ∥₁
-
--- an image that shows these jobs
-abbrev pub IsShown : Seen → List ℕ → Type 0
-IsShown s image = ShowsRows JOB_BYTES HOST_CELLS IsPayloadOf s image
 
 -- the cells hold these jobs
 abbrev pub HoldRows : (ℕ → Option JobRow) → (ℕ → Option Held) → Type 0
@@ -26,7 +21,3 @@ HoldRows rows held = AreFilled HOST_CELLS IsPayloadOf rows held
 -- why a boot answers Damaged: the size is another, or what the storage is sure to hold is mixed, no jobs, or jobs that do not agree
 abbrev pub IsDamaged : {N : Type 0} → Ghosts N → N → Type 0
 IsDamaged g nv = IsDamagedTable JOB_BYTES HOST_CELLS IsPayloadOf (λ s. AreSound (rows_in s)) g nv
-
--- a commit of a job: to its cell, in its one spelling
-abbrev pub fill_of : Seen → JobRow → Fill
-fill_of s x = row_fill JOB_BYTES s (cell_of x) (job_bytes x)

@@ -10,11 +10,11 @@ ghost use Rattle.host_node.specs.Payloads.{IsDamaged};
 ghost use Rattle.host_node.specs.Table.{host_table};
 ghost use Rattle.row_node.specs.Boots.{AllShowSound};
 
-use crate::kept::HostRows;
-use crate::room::HostRoom;
+use crate::kept::{HostRoom, HostRows};
 use bench_base::ledger::Commit;
 use bench_base::refusals::{BootFail, HostFail};
 use host_jobs::{HostAct, JobRows, Kept};
+use node_records::JobsOf;
 use nv_model::{Fused, Nv};
 use row_node::RunningRows;
 
@@ -47,9 +47,9 @@ impl<N: Nv> Host<N> {
         ensures sound { N.tells → N.size nv ≡ HOST_BYTES → AllShowSound host_table JOB_BYTES N.Nv nv → IfErr result (λ e. e.2 ≢ BootFail.Damaged) }
         ensures spent { MatchResult result (λ h. Spends N.Nv 1 nv (storage_of h) WithPower) (λ e. Spends N.Nv 1 nv e.0 (end_of_boot (Err e.2))) }
     {
-        match RunningRows::boot(nv, room.into_rows()) {
+        match RunningRows::boot(nv, room) {
             Ok(rows) => Ok(Host { rows }),
-            Err((nv, room, fail)) => Err((nv, HostRoom::of(room), fail)),
+            Err(fail) => Err(fail),
         }
     }
 
@@ -57,14 +57,14 @@ impl<N: Nv> Host<N> {
     pub(crate) fn jobs(&self) -> &JobRows
         ensures { result.now ≡ rows_of self.now }
     {
-        &self.rows.node().rows().jobs
+        self.rows.node().jobs()
     }
 
     /// What is kept of them.
     pub(crate) fn kept(&self) -> &Kept
         ensures { IsKept (rows_of self.now) result.now }
     {
-        &self.rows.node().rows().kept
+        self.rows.node().kept()
     }
 
     // Does what a call decided on: see `RunningRows::perform`.
@@ -94,8 +94,7 @@ impl<N: Nv> Host<N> {
         ensures { result.0 ≡ storage_of self }
     {
         let Host { rows } = self;
-        let (nv, room) = rows.shut();
-        (nv, HostRoom::of(room))
+        rows.shut()
     }
 }
 

@@ -1,10 +1,9 @@
-//! The jobs of the host, as its node keeps them.
+//! The jobs of the host, as its node keeps them, and the node.
 ghost use Rattle.std.specs.Prelude.{◌≡◌, length};
 ghost use Rattle.host_jobs.specs.declared.sizes.TheConstants.{HOST_CELLS};
-ghost use Rattle.host_jobs.specs.Rows.{no_jobs};
-ghost use Rattle.host_jobs.specs.Soundness.{IsKept};
 
 use host_jobs::{JobRows, Kept};
+use row_node::{RowNode, RowRoom};
 
 /// The jobs that the cells hold, and what is kept of them.
 #[derive(Drop)]
@@ -14,17 +13,9 @@ pub struct HostRows {
     ghost long: { length jobs ≡ HOST_CELLS },
 }
 
-impl HostRows {
-    /// No jobs, in this memory.
-    pub(crate) fn none_in(jobs: JobRows) -> HostRows
-        ensures jobs { result.jobs ≡ no_jobs }
-        ensures kept { IsKept result.jobs result.kept }
-    {
-        let mut jobs = jobs;
-        jobs.clear();
-        HostRows {
-            jobs,
-            kept: Kept::none(),
-        }
-    }
-}
+/// Memory for the 1,024 cells of the host, and for the rows of their jobs.
+pub type HostRoom = RowRoom<HostRows>;
+
+/// The host over storage of 245,760 bytes: 1,024 cells of two slots, whose payload is a job. While it is off, what it knew of
+/// its storage counts for nothing.
+pub type HostNode<N> = RowNode<N, HostRows>;

@@ -1,19 +1,20 @@
 //! What the host lends to its calls.
-use crate::node::HostNode;
+use crate::kept::{HostNode, HostRows};
 use host_jobs::{JobRows, Kept};
 use node_records::JobsOf;
 use nv_model::Nv;
 
-impl<N: Nv> JobsOf for HostNode<N> {
-    ghost use Rattle.host_node.specs.NodeView.{jobs_in};
+impl<N: Nv> JobsOf<HostRows> for HostNode<N> {
+    ghost use Rattle.host_jobs.specs.Seen.{rows_in};
+    ghost use Rattle.row_node.specs.NodeView.{seen_in};
 
-    ghost jobs = { λ k. jobs_in k };
+    ghost jobs = { λ k. rows_in (seen_in k) };
 
     fn jobs(&self) -> &JobRows {
-        &self.node.rows().jobs
+        &self.rows().jobs
     }
 
     fn kept(&self) -> &Kept {
-        &self.node.rows().kept
+        &self.rows().kept
     }
 }

@@ -5,14 +5,9 @@ mod boot;
 mod calls;
 mod host;
 mod kept;
-mod kind;
 mod lending;
-mod node;
-mod room;
 mod rows;
 
 pub use host::Host;
 pub use host_jobs::Ordered;
-pub use kept::HostRows;
-pub use node::HostNode;
-pub use room::HostRoom;
+pub use kept::{HostNode, HostRoom, HostRows};

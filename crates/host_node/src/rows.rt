@@ -1,9 +1,10 @@
 //! The jobs of the host as the rows of a node.
 use crate::boot::read_jobs;
 use crate::kept::HostRows;
-use host_jobs::{JOB_BYTES, JobRow, Kept, cell_of, put};
+use host_jobs::{HOST_CELLS, JOB_BYTES, JobRow, JobRows, Kept, cell_of, put};
 use nv_store::Room;
 use row_node::Rows;
+use std::alloc::{AllocError, Global};
 
 impl Rows for HostRows {
     ghost use Rattle.host_node.specs.Table.{host_table, host_laws};
@@ -15,6 +16,18 @@ impl Rows for HostRows {
     ghost table = { host_table };
 
     ghost laws = { host_laws };
+
+    fn cells() -> u32 {
+        HOST_CELLS
+    }
+
+    fn new(alloc: Global) -> Result<HostRows, AllocError> {
+        let jobs = JobRows::new(alloc)?;
+        Ok(HostRows {
+            jobs,
+            kept: Kept::none(),
+        })
+    }
 
     fn clear(&mut self) {
         self.jobs.clear();

@@ -1,5 +1,5 @@
-pub mod Laws
 pub mod Sound
+pub mod Tariffs
 pub mod Texts
 pub mod Views
 pub mod Written

@@ -2,5 +2,7 @@
 #![tactic(auto)]
 
 mod call;
+mod holds;
 
 pub use call::{Call, Callee};
+pub use holds::Holds;

@@ -35,8 +35,8 @@ impl StateOf for DeviceState {
     }
 }
 
-/// What has the rows of the centre.
-pub trait BooksOf {
+/// What has the rows of the centre, as B lays them out.
+pub trait BooksOf<B> {
     ghost use Rattle.centre_ledger.specs.Books.{Books};
 
     ghost books: { Self → Books };
@@ -47,18 +47,8 @@ pub trait BooksOf {
         ensures sound { AreSoundBooks result.now };
 }
 
-impl BooksOf for Accounts {
-    ghost books = { λ b. b };
-
-    fn books(&self) -> &Accounts {
-        // Its answer is what says that the rows are sound.
-        let _first = self.device(1);
-        self
-    }
-}
-
-/// What has the jobs of the host.
-pub trait JobsOf {
+/// What has the jobs of the host, as B lays them out.
+pub trait JobsOf<B> {
     ghost use Rattle.host_jobs.specs.Rows.{Jobs};
 
     ghost jobs: { Self → Jobs };
@@ -72,8 +62,8 @@ pub trait JobsOf {
         ensures { IsKept (jobs self.now) result.now };
 }
 
-/// What has the rows of the verifier, and looks them up.
-pub trait RowsOf {
+/// What has the rows of the verifier, as B lays them out, and looks them up.
+pub trait RowsOf<B> {
     ghost use Rattle.verifier.specs.Seen.{Seen};
 
     ghost rows: { Self → Seen };

@@ -1,5 +1,5 @@
 //! The memory of a table's cells, whatever the size of a payload.
-ghost use Rattle.std.specs.Prelude.{◌≡◌, ◌≤◌, ◌<◌, None, IsSome, MatchBool, true, false};
+ghost use Rattle.std.specs.Prelude.{◌≡◌, ◌≤◌, ◌<◌, None, IfOk, IsSome, MatchBool, true, false};
 ghost use Rattle.bench_base.specs.declared.sizes.TheConstants.{MOST_COMMITS};
 ghost use Rattle.nv_store.specs.declared.TheConstants.{MOST_BYTES};
 ghost use Rattle.nv_store.specs.RoomView.{cells_of, kept_in};
@@ -11,9 +11,10 @@ use nv_model::Nv;
 use nv_store::{
     MountCause, Room, clear_room, commit_room, count_room, get_room, is_room_worn, mount_room,
 };
+use std::alloc::{AllocError, Global};
 
 /// Memory for the cells of a table, side by side with its storage: see `nv_store::Room`.
-pub trait Cells: Drop {
+pub trait Cells: Drop + Sized {
     ghost use Rattle.std.specs.Prelude.{ℕ, List};
     ghost use Rattle.nv_store.specs.declared.room.Room.{Room};
 
@@ -26,6 +27,10 @@ pub trait Cells: Drop {
     ghost bytes: { Self.Payload → List ℕ };
 
     ghost room: { Self → Room size };
+
+    /// Takes the memory for so many cells. AllocError is want of memory.
+    fn new(alloc: Global, cells: u32) -> Result<Self, AllocError>
+        ensures { IfOk result (λ k. cells_of (room k) ≡ cells) };
 
     /// Makes each cell blank.
     fn clear(&mut self)
@@ -74,6 +79,10 @@ impl<const L: usize> Cells for Room<L> {
     ghost bytes = { λ payload. payload };
 
     ghost room = { λ k. k };
+
+    fn new(alloc: Global, cells: u32) -> Result<Room<L>, AllocError> {
+        Room::new(alloc, cells)
+    }
 
     fn clear(&mut self) {
         clear_room(self);

@@ -4,9 +4,11 @@ ghost use Rattle.row_node.specs.NodeView as node_view;
 ghost use Rattle.row_node.specs.Knows as known;
 ghost use Rattle.row_node.specs.NodeLaws as laws;
 
-use crate::node::{RowNode, RowRoom};
+use crate::node::RowNode;
+use crate::room::RowRoom;
 use crate::rows::Rows;
 use bench_base::refusals::{BootFail, StoreFail};
+use node_calls::Holds;
 use node_seat::{Arms, Node};
 use nv_model::{Fuse, Nv, NvFail};
 
@@ -96,6 +98,10 @@ impl<N: Nv, R: Rows> Node for RowNode<N, R> {
     fn into_parts(self) -> (N, RowRoom<R>) {
         self.into_storage()
     }
+}
+
+impl<N: Nv, R: Rows> Holds for RowNode<N, R> {
+    type By = R;
 }
 
 impl<N: Fuse, R: Rows> Arms for RowNode<N, R> {

@@ -5,10 +5,12 @@ mod boot;
 mod cells;
 mod kind;
 mod node;
+mod room;
 mod rows;
 mod running;
 
 pub use cells::Cells;
-pub use node::{RowNode, RowRoom};
+pub use node::RowNode;
+pub use room::RowRoom;
 pub use rows::Rows;
 pub use running::RunningRows;

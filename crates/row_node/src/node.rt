@@ -9,17 +9,10 @@ ghost use Rattle.row_node.specs.Tables.{Filled, bytes_of, counting};
 ghost use Rattle.row_node.specs.Unique.{filled_one};
 
 use crate::cells::Cells;
+use crate::room::RowRoom;
 use crate::rows::Rows;
 use bench_base::refusals::StoreFail;
 use nv_model::{Nv, NvFail};
-
-/// The memory that a node of rows runs in.
-#[derive(Drop)]
-pub struct RowRoom<R: Rows> {
-    pub cells: R::Memory,
-    pub rows: R,
-    ghost many: { cells_of (R.Memory.room cells) ≡ R.table.cells },
-}
 
 /// A node of rows over its storage: a cell of two slots for each row. While it is off, what it knew of its storage counts
 /// for nothing.

@@ -8,9 +8,10 @@ ghost use Rattle.row_node.specs.Laws.{IsCommitted, Takes};
 ghost use Rattle.row_node.specs.Boots.{Found, HoldNone, IsNone};
 
 use crate::cells::Cells;
+use std::alloc::{AllocError, Global};
 
 /// What a node keeps of the rows of its cells, and how it lays them out.
-pub trait Rows: Drop {
+pub trait Rows: Drop + Sized {
     ghost use Rattle.row_node.specs.Tables.{Table};
     ghost use Rattle.row_node.specs.Laws.{Laws};
 
@@ -21,6 +22,13 @@ pub trait Rows: Drop {
 
     /// How the cells read as rows, which rows are sound, and what is kept of them.
     ghost table: { Table Self Self.Change };
+
+    /// How many cells there are.
+    fn cells() -> u32
+        ensures { result ≡ table.cells };
+
+    /// The memory of what is kept. AllocError is want of memory.
+    fn new(alloc: Global) -> Result<Self, AllocError>;
 
     /// Keeps no row.
     fn clear(&mut self)

@@ -7,7 +7,8 @@ ghost use Rattle.row_node.specs.Tables.{IsDamaged, bytes_of, counting};
 ghost use Rattle.row_node.specs.NodeView.{storage_in, is_on};
 ghost use Rattle.row_node.specs.Boots.{AllShowSound};
 
-use crate::node::{RowNode, RowRoom};
+use crate::node::RowNode;
+use crate::room::RowRoom;
 use crate::rows::Rows;
 use bench_base::ledger::Commit;
 use bench_base::refusals::{BootFail, Fail};

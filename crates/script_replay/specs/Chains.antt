@@ -4,9 +4,9 @@ use Rattle.std.specs.Io.KnownBytes.{Consumes, Appends}
 use Rattle.nv_model.specs.declared.nv.Nv as nv
 use Rattle.node_turns.specs.declared.turn.Turn.{Turn}
 use Rattle.psd_device.specs.declared.node.DeviceNode.{DeviceNode}
-use Rattle.centre_protocol.specs.declared.node.CentreNode.{CentreNode}
-use Rattle.host_node.specs.declared.node.HostNode.{HostNode}
-use Rattle.verifier_node.specs.declared.node.VerifierNode.{VerifierNode}
+use Rattle.centre_protocol.specs.NodeView.{CentreNode}
+use Rattle.host_node.specs.NodeView.{HostNode}
+use Rattle.verifier_node.specs.NodeView.{VerifierNode}
 use Rattle.bench_base.specs.declared.stream.Source as source
 use Rattle.bench_base.specs.declared.stream.Sink as sink
 use Rattle.bench.specs.declared.benches.BenchOver.{BenchOver}

@@ -95,7 +95,7 @@ impl Auditor {
         told_centre::is_known(&self.centre.record);
         done(&centre_act(
             &CentreCall::Balance(BalanceCall { customer }),
-            self.centre.record.accounts(),
+            &self.centre.record,
         ))
     }
 

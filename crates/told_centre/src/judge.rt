@@ -15,15 +15,15 @@ use bench_views::CentreCall;
 use bench_views::laws::nodes_follow;
 use centre_ledger::{Row, acts_follow_the_commits};
 use node_acts::Asked;
+use node_records::BooksOf;
 use told_nodes::{Seat, judge_call, judge_cut, judge_off, judge_on};
 
 /// A record is one that storage can show.
 pub fn is_known(kept: &CentreRecord)
     ensures { IsKnown (cells_of kept.now) }
 {
-    let accounts = kept.accounts();
-    // Its answer is what says that the rows are sound.
-    let _first = accounts.device(1);
+    // What is lent says that the rows are sound.
+    let _books = kept.books();
 }
 
 // By what is seen of the centre; and its record, and that after a commit, are ones that storage can show.
@@ -48,7 +48,7 @@ fn judge_view(
         Asked::Off => judge_off(seat, &name, line),
         Asked::Cut(_, _, _) => judge_cut(seat, &name, line),
         Asked::Call(call) => {
-            let act = centre_act(call, seat.record.accounts());
+            let act = centre_act(call, &seat.record);
             places_act(&act);
             judge_call(seat, &name, &act, line)
         }

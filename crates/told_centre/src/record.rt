@@ -8,6 +8,8 @@ ghost use Rattle.told_centre.specs.Records.{AreKept, IsFit};
 
 use bench_base::sizes::MOST_COMMITS;
 use centre_ledger::{Accounts, Row};
+use node_calls::Holds;
+use node_records::BooksOf;
 use told_nodes::Record;
 
 /// How many cells the centre has.
@@ -81,6 +83,22 @@ impl CentreRecord {
     pub fn accounts(&self) -> &Accounts
         ensures rows { result.now ≡ centre.books_in (cells_of self.now) }
     {
+        &self.accounts
+    }
+}
+
+impl Holds for CentreRecord {
+    type By = CentreRecord;
+}
+
+impl BooksOf<CentreRecord> for CentreRecord {
+    ghost use Rattle.told_centre.specs.Cells.{cells_of};
+
+    ghost books = { λ r. centre.books_in (cells_of r) };
+
+    fn books(&self) -> &Accounts {
+        // Its answer is what says that the rows are sound.
+        let _first = self.accounts.device(1);
         &self.accounts
     }
 }

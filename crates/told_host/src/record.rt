@@ -9,6 +9,7 @@ ghost use Rattle.told_host.specs.Records.{AreJoined, IsFit};
 
 use bench_base::sizes::MOST_COMMITS;
 use host_jobs::{HOST_CELLS, JobRow, JobRows, Kept};
+use node_calls::Holds;
 use node_records::JobsOf;
 use std::alloc::{AllocError, Global};
 use told_nodes::Record;
@@ -93,7 +94,11 @@ impl HostRecord {
     }
 }
 
-impl JobsOf for HostRecord {
+impl Holds for HostRecord {
+    type By = HostRecord;
+}
+
+impl JobsOf<HostRecord> for HostRecord {
     ghost use Rattle.told_host.specs.Cells.{cells_of};
 
     ghost jobs = { λ r. host.rows_in (cells_of r) };

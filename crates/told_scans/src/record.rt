@@ -18,6 +18,7 @@ use bench_base::words::Key;
 use hmac_core::ReadyKey;
 use indicium::read_indicium;
 use node_acts::Act;
+use node_calls::Holds;
 use node_records::RowsOf;
 use std::alloc::{AllocError, Global};
 use told_nodes::Record;
@@ -157,7 +158,11 @@ impl ScanRecord {
     }
 }
 
-impl RowsOf for ScanRecord {
+impl Holds for ScanRecord {
+    type By = ScanRecord;
+}
+
+impl RowsOf<ScanRecord> for ScanRecord {
     ghost use Rattle.told_scans.specs.Cells.{cells_of};
 
     ghost rows = { λ r. cells_of r };

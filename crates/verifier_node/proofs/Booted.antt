@@ -78,7 +78,7 @@ start-indexed held filled es empty = none-indexed (seen_held held) (held-each he
 
 pub found : (m : VerifierRows) (held : ℕ → Option Held) → HoldSound held m.index → Found verifier_table m held
 found m held holds = record {
-  keeps = record { filled = read-rows held holds.read; follows = record { together = holds.joined.together; indexed = holds.joined.indexed } };
+  keeps = record { filled = read-rows held holds.read; follows = holds.joined };
   agree = holds.joined.together;
   few = λ k lt. (holds.read k lt).few;
 }

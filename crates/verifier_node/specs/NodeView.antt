@@ -1,17 +1,14 @@
--- What contracts see of the verifier in its storage.
-use Rattle.std.specs.Prelude.{Bool}
+-- The type of the verifier in its storage: a node of its rows.
+use denote.Param.{number}
+use Rattle.std.specs.Prelude.{ℕ, List}
+use Rattle.bench_base.specs.declared.sizes.TheConstants.{BLOCK_BYTES}
 use Rattle.nv_model.specs.declared.nv.Nv.{Ghosts}
-use Rattle.verifier.specs.Seen.{Seen}
-use Rattle.row_node.specs.NodeView as view
-use Rattle.verifier_node.specs.declared.node.VerifierNode.{VerifierNode}
+use Rattle.nv_store.specs.declared.room.Room.{Room}
+use Rattle.verifier.specs.declared.acts.Change.{Change}
+use Rattle.row_node.specs.declared.node.RowNode.{RowNode}
+use Rattle.row_node.specs.contracts.cells.RoomCells.TheImpl as cells
+use Rattle.verifier_node.specs.declared.kept.VerifierRows.{VerifierRows}
+use Rattle.verifier_node.specs.contracts.rows.VerifierRowsRows.TheImpl as rows
 
--- its storage
-abbrev pub storage_in : {N : Type 0} {g : Ghosts N} → VerifierNode N g → N
-storage_in k = view.storage_in k.node
-
--- its rows, with the commits of each
-abbrev pub seen_in : {N : Type 0} {g : Ghosts N} → VerifierNode N g → Seen
-seen_in k = view.seen_in k.node
-
-abbrev pub is_on : {N : Type 0} {g : Ghosts N} → VerifierNode N g → Bool
-is_on k = view.is_on k.node
+abbrev pub VerifierNode : (N : Type 0) → Ghosts N → Type 0
+VerifierNode N g = RowNode N VerifierRows Change (Room BLOCK_BYTES) (List ℕ) g rows.ghosts (cells.ghosts (number BLOCK_BYTES))

@@ -10,12 +10,13 @@ use Rattle.row_node.specs.Counts.{few_found, few_after}
 use Rattle.row_node.specs.Laws.{Laws}
 use Rattle.verifier.specs.declared.acts.Change.{Change}
 use Rattle.verifier.specs.ActLaws.{IsFit}
-use Rattle.verifier.specs.Index.{IsIndexOf}
+use Rattle.verifier.specs.declared.index.Entry.{Entry}
 use Rattle.verifier.specs.Payload.{IsPayloadOf, row_bytes}
 use Rattle.verifier.specs.Rows.{Row, TrustRow, BlockRow}
 use Rattle.verifier.specs.Seen.{Seen, AreTogether, cell_of, row_with, counting}
 use Rattle.verifier.proofs.Laid.{payload-laws}
 use Rattle.verifier_node.specs.Payloads.{rows_held, seen_held}
+use Rattle.verifier_node.specs.Boots.{AreJoined}
 use Rattle.verifier_node.specs.Held.{held-sound}
 use Rattle.verifier_node.specs.Sound.{IsSound, HasCell}
 use Rattle.verifier_node.specs.declared.kept.VerifierRows.{VerifierRows}
@@ -24,13 +25,8 @@ pub payload_prop : (k : ℕ) (x : Row) (p : List ℕ) → IsProp (IsPayloadOf k 
 payload_prop k (TrustRow d key) p = hlevel props
 payload_prop k (BlockRow d b scans) p = hlevel props
 
--- what is kept of the rows that cells hold: they agree, and the index is theirs
-pub record KeepsIndex (m : VerifierRows) (held : ℕ → Option Held) : Type 0 where
-  pub together : AreTogether (seen_held held)
-  pub indexed : IsIndexOf m.index (seen_held held)
-
-pub keeps_prop : (m : VerifierRows) (held : ℕ → Option Held) → IsProp (KeepsIndex m held)
-keeps_prop m held = hlevel props
+pub joined_prop : (held : ℕ → Option Held) (es : List Entry) → IsProp (AreJoined held es)
+joined_prop held es = hlevel props
 
 abbrev pub verifier_table : Table VerifierRows Change
 verifier_table = record {
@@ -46,8 +42,8 @@ verifier_table = record {
   Agree = AreTogether;
   IsSound = IsSound;
   kept = λ m held k. rows_held held k;
-  Follows = KeepsIndex;
-  one_follows = keeps_prop;
+  Follows = λ m held. AreJoined held m.index;
+  one_follows = λ m held. joined_prop held m.index;
 }
 
 -- the payload of a cell reads as one row

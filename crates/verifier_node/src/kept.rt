@@ -1,6 +1,5 @@
-//! What the verifier keeps of its rows beside the memory of its cells.
-ghost use Rattle.std.specs.Prelude.{◌≡◌, []};
-
+//! What the verifier keeps of its rows beside the memory of its cells, and its node.
+use row_node::{RowNode, RowRoom};
 use verifier::{BlockIndex, ReadyKeys};
 
 /// The index of the blocks that the cells hold, and the keys of the devices that they trust, made ready.
@@ -10,11 +9,16 @@ pub struct VerifierRows {
     pub(crate) keys: ReadyKeys,
 }
 
+/// Memory for the 1,032 cells of the verifier, and for what it keeps of them.
+pub type VerifierRoom = RowRoom<VerifierRows>;
+
+/// The verifier over storage of 4,253,904 bytes: a cell of two slots for each device and each block, whose payload is its
+/// row. While it is off, what it knew of its storage counts for nothing.
+pub type VerifierNode<N> = RowNode<N, VerifierRows>;
+
 impl VerifierRows {
     /// No rows.
-    pub(crate) fn none() -> VerifierRows
-        ensures { result.index ≡ [] }
-    {
+    pub(crate) fn none() -> VerifierRows {
         VerifierRows {
             index: BlockIndex::new(),
             keys: ReadyKeys::none(),

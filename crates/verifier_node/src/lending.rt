@@ -1,22 +1,22 @@
 //! What the verifier lends to its calls.
+use crate::kept::{VerifierNode, VerifierRows};
 use crate::lookups::{scanning, trusting};
-use crate::node::VerifierNode;
 use bench_base::numbers::{DayNo, DevNo};
 use bench_base::words::Key;
 use node_records::RowsOf;
 use nv_model::Nv;
 use verifier::{Accepted, ScanAct};
 
-impl<N: Nv> RowsOf for VerifierNode<N> {
-    ghost use Rattle.verifier_node.specs.NodeView.{seen_in};
+impl<N: Nv> RowsOf<VerifierRows> for VerifierNode<N> {
+    ghost use Rattle.row_node.specs.NodeView.{seen_in};
 
     ghost rows = { λ k. seen_in k };
 
     fn trusting(&self, device: DevNo, key: &Key) -> ScanAct<()> {
-        trusting(&self.node, device, key)
+        trusting(self, device, key)
     }
 
     fn scanning(&self, number: u32, bytes: &[u8], today: DayNo) -> ScanAct<Accepted> {
-        scanning(&self.node, number, bytes, today)
+        scanning(self, number, bytes, today)
     }
 }

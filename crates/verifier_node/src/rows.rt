@@ -4,9 +4,10 @@ ghost use Rattle.verifier_node.specs.Indexes.{CanIndex, Indexes};
 use crate::boot::{index_rows, ready_keys};
 use crate::cells::{cell_of, payload_with};
 use crate::kept::VerifierRows;
-use bench_base::sizes::BLOCK_BYTES;
+use bench_base::sizes::{BLOCK_BYTES, VERIFIER_CELLS};
 use nv_store::Room;
 use row_node::Rows;
+use std::alloc::{AllocError, Global};
 use verifier::{BlockIndex, Change, ReadyKeys};
 
 // Adds the block of a change whose cell was blank.
@@ -47,6 +48,14 @@ impl Rows for VerifierRows {
     ghost table = { verifier_table };
 
     ghost laws = { verifier_laws };
+
+    fn cells() -> u32 {
+        VERIFIER_CELLS
+    }
+
+    fn new(_alloc: Global) -> Result<VerifierRows, AllocError> {
+        Ok(VerifierRows::none())
+    }
 
     fn clear(&mut self) {
         self.index.clear();

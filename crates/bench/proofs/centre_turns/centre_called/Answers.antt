@@ -12,19 +12,22 @@ use Rattle.node_turns.specs.Turns.{call_turn}
 use Rattle.node_turns.proofs.Calls.{turn_call}
 use Rattle.centre_ledger.specs.declared.rows.Row.{Row}
 use Rattle.centre_ledger.specs.Seen.{books_in}
-use Rattle.centre_protocol.specs.declared.node.CentreNode.{CentreNode}
-use Rattle.centre_protocol.specs.declared.room.CentreRoom.{CentreRoom}
-use Rattle.centre_protocol.specs.contracts.kind.CentreNodeNode.TheImpl.{ghosts}
+use Rattle.centre_protocol.specs.NodeView.{CentreNode}
 use Rattle.bench_views.specs.declared.calls.CentreCall.{CentreCall}
 use Rattle.bench_views.specs.declared.calls.CentreCall.TheVariants.{Register, Open, Deposit, Flag, Balance, Take}
 use Rattle.bench_views.specs.Centre.{centre_kind, centre_act, IsBytesCall}
+use Rattle.bench.specs.Benches.{Nodes}
 use Rattle.bench.specs.Calls.{centre_event, IsRangedCall}
+use Rattle.bench.specs.contracts.benches.BenchOverHasNodes.TheImpl.{ghosts}
 use Rattle.bench.proofs.CentreActs as acts
 use Rattle.bench.proofs.centre_turns.centre_called.Given.{Over}
 use Rattle.bench.proofs.centre_turns.centre_called.Goals as goal
 
-abbrev node_of : (g : Over) → Ghosts (CentreNode g.row.M.Denot g.M.Nv) g.row.M.Denot (Unit {0}) Row CentreRoom
-node_of g = ghosts g.row.M g.M.Nv g.M.Nv-dict
+abbrev nodes_in : Over → Nodes
+nodes_in g = (ghosts g.row.M g.row.M g.M.Fuse g.M.Fuse-dict g.M.Nv g.M.Nv-dict g.M.Nv g.M.Nv-dict g.M.Destruct-dict).nodes
+
+abbrev node_of : (g : Over) → Ghosts (CentreNode g.row.M.Denot g.M.Nv) g.row.M.Denot (Unit {0}) Row (nodes_in g).CentreSpare
+node_of g = (nodes_in g).centre
 
 -- by what the centre did
 by_call : (g : Over) (today : ℤ) (call : CentreCall) → IsRangedCall call → IsBytesCall call → (s t : CentreNode g.row.M.Denot g.M.Nv) (x : Outcome Reply Said) → Called (node_of g) g.M.Nv (λ k. centre_act call (books_in k)) s t x

@@ -8,18 +8,21 @@ use Rattle.node_turns.specs.Turns.{start_turn, stop_turn, turn_of}
 use Rattle.node_turns.specs.declared.turn.Turn.{Turn}
 use Rattle.node_turns.proofs.Switched.{turn_on, turn_off, turn_cut}
 use Rattle.centre_ledger.specs.declared.rows.Row.{Row}
-use Rattle.centre_protocol.specs.declared.node.CentreNode.{CentreNode}
-use Rattle.centre_protocol.specs.declared.room.CentreRoom.{CentreRoom}
-use Rattle.centre_protocol.specs.contracts.kind.CentreNodeNode.TheImpl.{ghosts}
+use Rattle.centre_protocol.specs.NodeView.{CentreNode}
 use Rattle.bench_views.specs.declared.calls.CentreCall.{CentreCall}
 use Rattle.bench_views.specs.Centre.{centre_kind}
 use Rattle.bench_views.specs.Centre.{AreBytes}
+use Rattle.bench.specs.Benches.{Nodes}
 use Rattle.bench.specs.Calls.{centre_event, IsRanged}
+use Rattle.bench.specs.contracts.benches.BenchOverHasNodes.TheImpl.{ghosts}
 use Rattle.bench.proofs.centre_turns.centre_turn.Given.{Over}
 use Rattle.bench.proofs.centre_turns.centre_turn.Goals as goal
 
-abbrev node_of : (g : Over) → Ghosts (CentreNode g.row.M.Denot g.M.Nv) g.row.M.Denot (Unit {0}) Row CentreRoom
-node_of g = ghosts g.row.M g.M.Nv g.M.Nv-dict
+abbrev nodes_in : Over → Nodes
+nodes_in g = (ghosts g.row.M g.row.M g.M.Fuse g.M.Fuse-dict g.M.Nv g.M.Nv-dict g.M.Nv g.M.Nv-dict g.M.Destruct-dict).nodes
+
+abbrev node_of : (g : Over) → Ghosts (CentreNode g.row.M.Denot g.M.Nv) g.row.M.Denot (Unit {0}) Row (nodes_in g).CentreSpare
+node_of g = (nodes_in g).centre
 
 abbrev Comes : (g : Over) (asked : Asked CentreCall) (today : ℤ) (s t : CentreNode g.row.M.Denot g.M.Nv) → Turn → Type 0
 Comes g asked today s t turn = NodeTurn (node_of g) g.M.Nv g.M.Fuse centre_kind Centre tt today (centre_event asked) asked s t turn

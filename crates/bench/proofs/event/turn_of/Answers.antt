@@ -17,7 +17,7 @@ use Rattle.psd_state.specs.State.{State, Holds}
 use Rattle.psd_device.specs.Boots.{IsOwn}
 use Rattle.psd_device.specs.declared.node.DeviceNode.{DeviceNode}
 use Rattle.psd_device.specs.NodeView as device_view
-use Rattle.centre_protocol.specs.NodeView as centre_view
+use Rattle.row_node.specs.NodeView as centre_view
 use Rattle.bench_views.specs.declared.taken.Taken.{Taken}
 use Rattle.bench_views.specs.declared.taken.Taken.TheVariants as take
 use Rattle.bench_views.specs.Devices as device_kinds

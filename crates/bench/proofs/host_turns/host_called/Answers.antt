@@ -12,19 +12,22 @@ use Rattle.node_turns.specs.Printing.{Printer, PrintsCall, NodePrints, printer_o
 use Rattle.node_turns.proofs.Printed.{TurnPrinted, turn_printed}
 use Rattle.host_jobs.specs.declared.rows.JobRow.{JobRow}
 use Rattle.host_jobs.specs.Seen.{rows_in}
-use Rattle.host_node.specs.declared.node.HostNode.{HostNode}
-use Rattle.host_node.specs.declared.room.HostRoom.{HostRoom}
-use Rattle.host_node.specs.contracts.kind.HostNodeNode.TheImpl.{ghosts}
+use Rattle.host_node.specs.NodeView.{HostNode}
 use Rattle.bench_views.specs.declared.calls.HostCall.{HostCall}
 use Rattle.bench_views.specs.declared.calls.HostCall.TheVariants.{Order, Send, Print, Close, Take}
 use Rattle.bench_views.specs.Host.{host_kind, host_act}
+use Rattle.bench.specs.Benches.{Nodes}
 use Rattle.bench.specs.Calls.{host_event, IsRangedJob}
+use Rattle.bench.specs.contracts.benches.BenchOverHasNodes.TheImpl.{ghosts}
 use Rattle.bench.proofs.HostActs as acts
 use Rattle.bench.proofs.host_turns.host_called.Given.{Over}
 use Rattle.bench.proofs.host_turns.host_called.Goals as goal
 
-abbrev node_of : (g : Over) → Ghosts (HostNode g.row.M.Denot g.M.Nv) g.row.M.Denot (Unit {0}) JobRow HostRoom
-node_of g = ghosts g.row.M g.M.Nv g.M.Nv-dict
+abbrev nodes_in : Over → Nodes
+nodes_in g = (ghosts g.row.M g.row.M g.M.Fuse g.M.Fuse-dict g.M.Nv g.M.Nv-dict g.M.Nv g.M.Nv-dict g.M.Destruct-dict).nodes
+
+abbrev node_of : (g : Over) → Ghosts (HostNode g.row.M.Denot g.M.Nv) g.row.M.Denot (Unit {0}) JobRow (nodes_in g).HostSpare
+node_of g = (nodes_in g).host
 
 -- by what the host did and the printer took
 by_call : (g : Over) (today : ℤ) (call : HostCall) (ranged : IsRangedJob call) (s t : HostNode g.row.M.Denot g.M.Nv) (x : Outcome Reply Said) → Called (node_of g) g.M.Nv (λ k. host_act call (rows_in k)) s t x

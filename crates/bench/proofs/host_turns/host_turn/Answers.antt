@@ -10,18 +10,21 @@ use Rattle.node_turns.specs.Printing.{Printer, NodePrints, printer_of}
 use Rattle.node_turns.specs.Turns.{start_turn, stop_turn, turn_of}
 use Rattle.node_turns.proofs.Switched.{turn_on, turn_off, turn_cut}
 use Rattle.host_jobs.specs.declared.rows.JobRow.{JobRow}
-use Rattle.host_node.specs.declared.node.HostNode.{HostNode}
-use Rattle.host_node.specs.declared.room.HostRoom.{HostRoom}
-use Rattle.host_node.specs.contracts.kind.HostNodeNode.TheImpl.{ghosts}
+use Rattle.host_node.specs.NodeView.{HostNode}
 use Rattle.bench_views.specs.declared.calls.HostCall.{HostCall}
 use Rattle.bench_views.specs.Host.{host_kind}
+use Rattle.bench.specs.Benches.{Nodes}
 use Rattle.bench.specs.Calls.{host_event}
+use Rattle.bench.specs.contracts.benches.BenchOverHasNodes.TheImpl.{ghosts}
 use Rattle.bench.proofs.HostActs.{start_quiet, stop_quiet, none_printed}
 use Rattle.bench.proofs.host_turns.host_turn.Given.{Over}
 use Rattle.bench.proofs.host_turns.host_turn.Goals as goal
 
-abbrev node_of : (g : Over) → Ghosts (HostNode g.row.M.Denot g.M.Nv) g.row.M.Denot (Unit {0}) JobRow HostRoom
-node_of g = ghosts g.row.M g.M.Nv g.M.Nv-dict
+abbrev nodes_in : Over → Nodes
+nodes_in g = (ghosts g.row.M g.row.M g.M.Fuse g.M.Fuse-dict g.M.Nv g.M.Nv-dict g.M.Nv g.M.Nv-dict g.M.Destruct-dict).nodes
+
+abbrev node_of : (g : Over) → Ghosts (HostNode g.row.M.Denot g.M.Nv) g.row.M.Denot (Unit {0}) JobRow (nodes_in g).HostSpare
+node_of g = (nodes_in g).host
 
 -- what the event came to, and what the printer took
 abbrev Comes : (g : Over) (asked : Asked HostCall) (today : ℤ) (s t : HostNode g.row.M.Denot g.M.Nv) → Turn → Printer → Printer → Type 0

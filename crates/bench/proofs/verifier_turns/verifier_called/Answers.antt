@@ -11,19 +11,22 @@ use Rattle.node_turns.specs.NodeTurns.{NodeTurn}
 use Rattle.node_turns.specs.Turns.{call_turn}
 use Rattle.node_turns.proofs.Calls.{turn_call}
 use Rattle.verifier.specs.declared.acts.Change.{Change}
-use Rattle.verifier_node.specs.declared.node.VerifierNode.{VerifierNode}
-use Rattle.verifier_node.specs.declared.room.VerifierRoom.{VerifierRoom}
-use Rattle.verifier_node.specs.contracts.kind.VerifierNodeNode.TheImpl.{ghosts}
+use Rattle.verifier_node.specs.NodeView.{VerifierNode}
 use Rattle.bench_views.specs.declared.calls.VerifierCall.{VerifierCall}
 use Rattle.bench_views.specs.declared.calls.VerifierCall.TheVariants.{Trust, Scan}
 use Rattle.bench_views.specs.Verifier.{verifier_kind, verifier_act, IsBytesCall}
+use Rattle.bench.specs.Benches.{Nodes}
 use Rattle.bench.specs.Calls.{verifier_event, IsRangedScan}
+use Rattle.bench.specs.contracts.benches.BenchOverHasNodes.TheImpl.{ghosts}
 use Rattle.bench.proofs.VerifierActs as acts
 use Rattle.bench.proofs.verifier_turns.verifier_called.Given.{Over}
 use Rattle.bench.proofs.verifier_turns.verifier_called.Goals as goal
 
-abbrev node_of : (g : Over) → Ghosts (VerifierNode g.row.M.Denot g.M.Nv) g.row.M.Denot (Unit {0}) Change VerifierRoom
-node_of g = ghosts g.row.M g.M.Nv g.M.Nv-dict
+abbrev nodes_in : Over → Nodes
+nodes_in g = (ghosts g.row.M g.row.M g.M.Fuse g.M.Fuse-dict g.M.Nv g.M.Nv-dict g.M.Nv g.M.Nv-dict g.M.Destruct-dict).nodes
+
+abbrev node_of : (g : Over) → Ghosts (VerifierNode g.row.M.Denot g.M.Nv) g.row.M.Denot (Unit {0}) Change (nodes_in g).VerifierSpare
+node_of g = (nodes_in g).verifier
 
 -- by what the verifier did
 by_call : (g : Over) (today : ℤ) (call : VerifierCall) → IsRangedScan call → IsBytesCall call → (s t : VerifierNode g.row.M.Denot g.M.Nv) (x : Outcome Reply Said)

@@ -8,17 +8,20 @@ use Rattle.node_turns.specs.Turns.{start_turn, stop_turn, turn_of}
 use Rattle.node_turns.specs.declared.turn.Turn.{Turn}
 use Rattle.node_turns.proofs.Switched.{turn_on, turn_off, turn_cut}
 use Rattle.verifier.specs.declared.acts.Change.{Change}
-use Rattle.verifier_node.specs.declared.node.VerifierNode.{VerifierNode}
-use Rattle.verifier_node.specs.declared.room.VerifierRoom.{VerifierRoom}
-use Rattle.verifier_node.specs.contracts.kind.VerifierNodeNode.TheImpl.{ghosts}
+use Rattle.verifier_node.specs.NodeView.{VerifierNode}
 use Rattle.bench_views.specs.declared.calls.VerifierCall.{VerifierCall}
 use Rattle.bench_views.specs.Verifier.{verifier_kind, AreBytes}
+use Rattle.bench.specs.Benches.{Nodes}
 use Rattle.bench.specs.Calls.{verifier_event, IsRangedOfVerifier}
+use Rattle.bench.specs.contracts.benches.BenchOverHasNodes.TheImpl.{ghosts}
 use Rattle.bench.proofs.verifier_turns.verifier_turn.Given.{Over}
 use Rattle.bench.proofs.verifier_turns.verifier_turn.Goals as goal
 
-abbrev node_of : (g : Over) → Ghosts (VerifierNode g.row.M.Denot g.M.Nv) g.row.M.Denot (Unit {0}) Change VerifierRoom
-node_of g = ghosts g.row.M g.M.Nv g.M.Nv-dict
+abbrev nodes_in : Over → Nodes
+nodes_in g = (ghosts g.row.M g.row.M g.M.Fuse g.M.Fuse-dict g.M.Nv g.M.Nv-dict g.M.Nv g.M.Nv-dict g.M.Destruct-dict).nodes
+
+abbrev node_of : (g : Over) → Ghosts (VerifierNode g.row.M.Denot g.M.Nv) g.row.M.Denot (Unit {0}) Change (nodes_in g).VerifierSpare
+node_of g = (nodes_in g).verifier
 
 abbrev Comes : (g : Over) (asked : Asked VerifierCall) (today : ℤ) (s t : VerifierNode g.row.M.Denot g.M.Nv) → Turn → Type 0
 Comes g asked today s t turn = NodeTurn (node_of g) g.M.Nv g.M.Fuse verifier_kind Verifier tt today (verifier_event asked) asked s t turn

@@ -1,5 +1,5 @@
 use Rattle.host_rates.specs.declared.reading.RatesFail.TheVariants as fail
-use Rattle.host_rates.proofs.Laws.{price-rates, reading-some}
+use Rattle.host_rates.proofs.Tariffs.{price-rates, reading-some}
 use Rattle.host_rates.proofs.Sound.{price-bounds}
 use Rattle.host_rates.proofs.laws.prices_by_text.Goals as goal
 

@@ -31,9 +31,9 @@ loop-preserved g c = record {
 pub returns-clause-inside : goal.returns-clause-inside
 returns-clause-inside g c = record {
   devices = moved_done (λ s nv. IsInDevice {h = g.N.Nv} {g = ghosts g.row.N g.N.Nv g.N.Nv-dict} s nv) c.loop.counter c.args.self.devices.items c.loop.devices.items c.loop.stores.items c.reverse.new.self.items c.loop.invariant.moved (omega (arith, c.loop-test.false, c.loop.invariant.few, c.requires.ready.eight)) c.reverse.ensures.items;
-  centre = c.centre_storage.ensures.inside;
-  host = c.host_storage.ensures.inside;
-  verifier = c.verifier_storage.ensures.inside;
+  centre = c.rows_storage.ensures.inside;
+  host = c.rows_storage-2.ensures.inside;
+  verifier = c.rows_storage-3.ensures.inside;
 }
 
 pub returns-clause-stands : goal.returns-clause-stands

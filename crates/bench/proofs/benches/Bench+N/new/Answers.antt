@@ -34,14 +34,14 @@ device_over-requires g c = record {
   fresh = c.requires.fresh (Device (suc (length c.pop.new.self.items))) c.in-Some.nv (moved_from (λ nv s. IsDeviceOver {h = g.N.Nv} {g = ghosts g.row.N g.N.Nv g.N.Nv-dict} nv s) c.loop.counter c.args.stores.devices.items c.loop.spare.items c.pop.new.self.items c.loop.devices.items c.in-Some.nv c.loop.invariant.moved c.in-Some.ensures.items);
 }
 
-pub centre_over-requires : goal.centre_over-requires
-centre_over-requires g c = record { fresh = c.requires.fresh Centre c.args.stores.centre refl }
+pub rows_over-requires : goal.rows_over-requires
+rows_over-requires g c = record { fresh = c.requires.fresh Centre c.args.stores.centre refl }
 
-pub host_over-requires : goal.host_over-requires
-host_over-requires g c = record { fresh = c.requires.fresh Host c.args.stores.host refl }
+pub rows_over-requires-2 : goal.rows_over-requires-2
+rows_over-requires-2 g c = record { fresh = c.requires.fresh Host c.args.stores.host refl }
 
-pub verifier_over-requires : goal.verifier_over-requires
-verifier_over-requires g c = record { fresh = c.requires.fresh Verifier c.args.stores.verifier refl }
+pub rows_over-requires-3 : goal.rows_over-requires-3
+rows_over-requires-3 g c = record { fresh = c.requires.fresh Verifier c.args.stores.verifier refl }
 
 pub unreachable-requires-in-None : goal.unreachable-requires-in-None
 unreachable-requires-in-None g c =
@@ -67,9 +67,9 @@ invariant_of-result g c = record {
 pub returns-clause-over : goal.returns-clause-over
 returns-clause-over g c = record {
   devices = moved_done (λ nv s. IsDeviceOver {h = g.N.Nv} {g = ghosts g.row.N g.N.Nv g.N.Nv-dict} nv s) c.loop.counter c.args.stores.devices.items c.loop.spare.items c.loop.devices.items c.reverse.new.self.items c.loop.invariant.moved (omega (arith, c.loop-test.false, c.loop.invariant.few, c.requires.eight)) c.reverse.ensures.items;
-  centre = c.centre_over.ensures.over;
-  host = c.host_over.ensures.over;
-  verifier = c.verifier_over.ensures.over;
+  centre = c.rows_over.ensures.over;
+  host = c.rows_over-2.ensures.over;
+  verifier = c.rows_over-3.ensures.over;
 }
 
 pub returns-clause-ready : goal.returns-clause-ready

@@ -1,9 +1,0 @@
-use Rattle.std.proofs.Common.{◌∙◌, ap}
-use Rattle.row_node.specs.NodeView.{held_in}
-use Rattle.centre_protocol.proofs.Seen.{books_lent}
-use Rattle.centre_protocol.proofs.centre.Centre.accounts.Goals as goal
-
-pub returns-clause-rows : goal.returns-clause-rows
-returns-clause-rows g c =
-    let k = c.args.self.now.rows.running.node in
-    books_lent c.rows.result.now k.rows (held_in k) c.accounts.result.now c.accounts.ensures.rows (c.rows.ensures ∙ ap (λ n. n.rows) c.node.ensures) k.filled

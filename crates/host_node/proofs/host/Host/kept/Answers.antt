@@ -1,8 +1,0 @@
-use Rattle.std.proofs.Common.{◌∙◌, ap}
-use Rattle.row_node.specs.Knows.{keeps}
-use Rattle.row_node.specs.NodeView.{held_in}
-use Rattle.host_node.proofs.Seen.{kept_lent}
-use Rattle.host_node.proofs.host.Host.kept.Goals as goal
-
-pub returns : goal.returns
-returns g c = let k = c.args.self.now.rows.running.node in kept_lent k.rows (held_in k) c.rows.result.now (c.rows.ensures ∙ ap (λ n. n.rows) c.node.ensures) (keeps k)
