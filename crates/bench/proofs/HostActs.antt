@@ -1,11 +1,8 @@
 -- The acts of the host's calls: what they change, how they are told, and what is printed of them.
-use Rattle.std.proofs.Common.{◌≢◌, ℕ, ℤ, List, Bool, true, false, Option, Some, None, Result, Ok, Err, refl, inr, ap, subst, arith}
+use Rattle.std.proofs.Common.{◌≢◌, ℕ, ℤ, List, Bool, true, false, Option, Some, None, refl, inr, ap, subst, arith}
 use Rattle.bench_base.specs.declared.words.Node.{Node}
 use Rattle.bench_base.specs.declared.words.Node.TheVariants.{Host}
 use Rattle.bench_base.specs.declared.refusals.HostRefusal.{HostRefusal}
-use Rattle.bench_base.specs.declared.refusals.MarkFault.{MarkFault}
-use Rattle.bench_base.specs.declared.refusals.RateRefusal.{RateRefusal}
-use Rattle.bench_base.specs.declared.refusals.Unread.{Unread}
 use Rattle.bench_base.specs.declared.events.Event.TheVariants as ev
 use Rattle.bench_base.specs.declared.events.Reply.{Reply}
 use Rattle.bench_base.specs.declared.events.Reply.TheVariants as r
@@ -18,30 +15,26 @@ use Rattle.node_acts.specs.declared.said.Said.{Said}
 use Rattle.node_acts.specs.declared.said.Printed.{Printed as Print}
 use Rattle.node_acts.specs.Acts.{TellsOf}
 use Rattle.node_acts.specs.Kinds.{Kind}
-use Rattle.node_acts.specs.Plans.{IsOfNode}
 use Rattle.node_seat.specs.declared.node.Node.{Ghosts}
 use Rattle.node_seat.specs.Shown.{IsFitting}
 use Rattle.node_turns.specs.Printing.{Printer, NodePrints}
 use Rattle.node_turns.specs.Turns.{start_turn, stop_turn}
 use Rattle.node_turns.proofs.Calls.{IsCallOf, IsToldBy, MayRefuse}
 use Rattle.node_turns.proofs.Printed.{PrintsSo}
-use Rattle.indicium.specs.declared.Mark.{Mark}
-use Rattle.indicium.specs.Marks.{read_mark}
-use Rattle.psd_wire.specs.declared.message.Message.{Message}
-use Rattle.psd_wire.specs.declared.message.Message.TheVariants as m
 use Rattle.psd_wire.specs.Grammar.{read}
 use Rattle.host_jobs.specs.declared.rows.JobRow.{JobRow}
 use Rattle.host_jobs.specs.Acts as acts
-use Rattle.host_jobs.specs.Acts.{HostAct, shelf_in}
+use Rattle.host_jobs.specs.Acts.{HostAct, in_rows}
+use Rattle.host_jobs.specs.Plans.{says, told_ordered, told_sent, told_printed, told_closed, told_held}
 use Rattle.host_jobs.specs.ActLaws.{LeavesSound, SoundActs}
-use Rattle.host_jobs.specs.Answers.{order_answer, send_answer, print_answer, close_answer, hold_answer}
-use Rattle.host_jobs.specs.Rows.{Jobs, job_row, open_in}
+use Rattle.host_jobs.specs.Answers.{send_answer}
+use Rattle.host_jobs.specs.Rows.{Jobs, job_row, tops_in}
 use Rattle.host_jobs.specs.Soundness.{AreSound, IsNext}
+use Rattle.host_jobs.proofs.Own.{order_own, print_own, close_own, take_own}
 use Rattle.host_jobs.proofs.SoundActs.{leaves}
 use Rattle.bench_views.specs.declared.calls.HostCall.{HostCall}
 use Rattle.bench_views.specs.declared.calls.HostCall.TheVariants as call
-use Rattle.bench_views.specs.Host as views
-use Rattle.bench_views.specs.Host.{says, host_act}
+use Rattle.bench_views.specs.Host.{host_act}
 use Rattle.bench_views.proofs.Calling.{own_says}
 use Rattle.bench_views.proofs.Events.{some-same}
 use Rattle.bench.specs.Calls.{host_call_event, IsRangedJob}
@@ -66,53 +59,6 @@ module _ {K S R : Type 0} (n : Ghosts K S (Unit {0}) JobRow R) (rows : Jobs) (so
   call_fits (call.Print c) ranged = fits_says n tt s _ _ (acts.begin_print_act c.job rows) (by (acts.begin_print_act c.job rows) (sound_acts.begun c.job))
   call_fits (call.Close c) ranged = fits_says n tt s _ _ (acts.close_act c.job rows) (by (acts.close_act c.job rows) (sound_acts.closed c.job))
   call_fits (call.Take c) ranged = fits_says n tt s _ _ (acts.take_act c.bytes rows) (by (acts.take_act c.bytes rows) (sound_acts.taken c.bytes))
-
--- == whose the commit is ==
-
-unless_own : {A : Type 0} (o : Option HostRefusal) (act : HostAct A) → IsOfNode Host act → IsOfNode Host (acts.unless o act)
-unless_own None act own = own
-unless_own (Some x) act own = tt
-
-ordered_own : (d piece class postage : ℕ) (rows : Jobs) (result : Result ℕ HostRefusal) → IsOfNode Host (acts.ordered_act d piece class postage rows result)
-ordered_own d piece class postage rows (Err x) = tt
-ordered_own d piece class postage rows (Ok j) = refl
-
-order_own : (d piece class : ℕ) (price : Option (Result ℕ RateRefusal)) (rows : Jobs) → IsOfNode Host (acts.order_act d piece class price rows)
-order_own d piece class None rows = tt
-order_own d piece class (Some (Err x)) rows = tt
-order_own d piece class (Some (Ok postage)) rows = ordered_own d piece class postage rows (order_answer piece (shelf_in d rows) (open_in d rows))
-
-begun_own : (x : JobRow) (mark : Option (List ℕ)) (rows : Jobs) → IsOfNode Host (acts.begun_act x mark rows)
-begun_own x None rows = tt
-begun_own x (Some mark) rows = refl
-
-print_own : (o : Option JobRow) (rows : Jobs) → IsOfNode Host (acts.printed_act o rows)
-print_own None rows = tt
-print_own (Some x) rows = unless_own (print_answer (Some x.state)) (acts.begun_act x x.indicium rows) (begun_own x x.indicium rows)
-
-close_own : (o : Option JobRow) (rows : Jobs) → IsOfNode Host (acts.closed_act o rows)
-close_own None rows = tt
-close_own (Some x) rows = unless_own (close_answer (Some x.state)) _ refl
-
-held_own : (bytes : List ℕ) (mark : Mark) (o : Option JobRow) (rows : Jobs) → IsOfNode Host (acts.held_act bytes mark o rows)
-held_own bytes mark None rows = tt
-held_own bytes mark (Some x) rows = unless_own (hold_answer mark x.piece x.postage x.class) _ refl
-
-open_own : (bytes : List ℕ) (mark : Mark) (o : Option ℕ) (rows : Jobs) → IsOfNode Host (acts.open_act bytes mark o rows)
-open_own bytes mark None rows = tt
-open_own bytes mark (Some j) rows = held_own bytes mark (job_row rows j) rows
-
-mark_own : (bytes : List ℕ) (result : Result (Mark × List ℕ) MarkFault) (rows : Jobs) → IsOfNode Host (acts.mark_act bytes result rows)
-mark_own bytes (Err fault) rows = tt
-mark_own bytes (Ok mark) rows = open_own bytes mark.0 (open_in mark.0.device rows) rows
-
-take_own : (x : Result Message Unread) (rows : Jobs) → IsOfNode Host (acts.message_act x rows)
-take_own (Ok (m.Release bytes)) rows = mark_own bytes (read_mark bytes) rows
-take_own (Ok (m.Request q)) rows = tt
-take_own (Ok (m.Reply p)) rows = tt
-take_own (Ok (m.Done q)) rows = tt
-take_own (Ok (m.Debit q)) rows = tt
-take_own (Err x) rows = tt
 
 -- == how they are told ==
 
@@ -148,17 +94,17 @@ send_free None = tt
 send_free (Some x) = unless_none (send_answer (Some x.state)) (Tell (acts.debit_note x)) tt
 
 pub call_told : (c : HostCall) (rows : Jobs) → IsToldBy Host (host_call_event c) (host_act c rows)
-call_told (call.Order c) rows = told_made Host _ refl (omega arith) _ (own_says Host _ _ (acts.order_act c.device c.piece c.class c.price rows) (order_own c.device c.piece c.class c.price rows))
-    (polite_says Host (ev.Order c.device c.piece c.class c.grams c.zone) r.HostRefused views.ordered (refused (call.Order c)) (λ a. record { told = refl; gets = (c.device, c.piece, c.class, c.grams, c.zone, refl); adds = λ made none. (made, none, refl) })
+call_told (call.Order c) rows = told_made Host _ refl (omega arith) _ (own_says Host _ _ (acts.order_act c.device c.piece c.class c.price rows) (order_own c.device c.piece c.class c.price (in_rows rows)))
+    (polite_says Host (ev.Order c.device c.piece c.class c.grams c.zone) r.HostRefused told_ordered (refused (call.Order c)) (λ a. record { told = refl; gets = (c.device, c.piece, c.class, c.grams, c.zone, refl); adds = λ made none. (made, none, refl) })
     (acts.order_act c.device c.piece c.class c.price rows))
 call_told (call.Send c) rows = told_none Host _ _ (none_says _ _ (acts.debit_message_act c.job rows) (send_free (job_row rows c.job)))
-    (polite_says Host (ev.Send c.job) r.HostRefused (views.sent c.job c.message) (refused (call.Send c)) (λ note. record { told = refl; gets = refl; adds = λ made none. (note, (made, none, refl)) }) (acts.debit_message_act c.job rows))
-call_told (call.Print c) rows = told_made Host _ refl (omega arith) _ (own_says Host _ _ (acts.begin_print_act c.job rows) (print_own (job_row rows c.job) rows))
-    (polite_says Host (ev.Print c.job) r.HostRefused (views.printed c.job) (refused (call.Print c)) (λ mark. record { told = refl; gets = refl; adds = λ made none. (mark, (made, none, refl)) }) (acts.begin_print_act c.job rows))
-call_told (call.Close c) rows = told_made Host _ refl (omega arith) _ (own_says Host _ _ (acts.close_act c.job rows) (close_own (job_row rows c.job) rows))
-    (polite_says Host (ev.Close c.job) r.HostRefused (views.done (r.Closed c.job)) (refused (call.Close c)) (λ u. record { told = refl; gets = refl; adds = λ made none. (made, none, refl) }) (acts.close_act c.job rows))
-call_told (call.Take c) rows = told_made Host _ refl (omega arith) _ (own_says Host _ _ (acts.take_act c.bytes rows) (take_own (read c.bytes) rows))
-    (polite_says Host (ev.Give Host c.bytes) r.HostRefused views.held (refused (call.Take c)) (λ j. record { told = refl; gets = inr (c.bytes, refl); adds = λ made none. (made, none, refl) }) (acts.take_act c.bytes rows))
+    (polite_says Host (ev.Send c.job) r.HostRefused (told_sent c.job c.message) (refused (call.Send c)) (λ note. record { told = refl; gets = refl; adds = λ made none. (note, (made, none, refl)) }) (acts.debit_message_act c.job rows))
+call_told (call.Print c) rows = told_made Host _ refl (omega arith) _ (own_says Host _ _ (acts.begin_print_act c.job rows) (print_own (job_row rows c.job) (tops_in rows)))
+    (polite_says Host (ev.Print c.job) r.HostRefused (told_printed c.job) (refused (call.Print c)) (λ mark. record { told = refl; gets = refl; adds = λ made none. (mark, (made, none, refl)) }) (acts.begin_print_act c.job rows))
+call_told (call.Close c) rows = told_made Host _ refl (omega arith) _ (own_says Host _ _ (acts.close_act c.job rows) (close_own (job_row rows c.job) (tops_in rows)))
+    (polite_says Host (ev.Close c.job) r.HostRefused (told_closed c.job) (refused (call.Close c)) (λ u. record { told = refl; gets = refl; adds = λ made none. (made, none, refl) }) (acts.close_act c.job rows))
+call_told (call.Take c) rows = told_made Host _ refl (omega arith) _ (own_says Host _ _ (acts.take_act c.bytes rows) (take_own (read c.bytes) (in_rows rows)))
+    (polite_says Host (ev.Give Host c.bytes) r.HostRefused told_held (refused (call.Take c)) (λ j. record { told = refl; gets = inr (c.bytes, refl); adds = λ made none. (made, none, refl) }) (acts.take_act c.bytes rows))
 
 -- == what is printed of them ==
 
@@ -167,16 +113,16 @@ so_says say so (Refuse x) a of = absurd of
 so_says say so (Tell b) a of = subst PrintsSo of (so b)
 so_says say so (Commits c x b) a of = subst PrintsSo of (so b)
 
-printed_so : (j : ℕ) (mark : List ℕ) → PrintsSo (views.printed j mark)
+printed_so : (j : ℕ) (mark : List ℕ) → PrintsSo (told_printed j mark)
 printed_so j mark = record { given = λ p is. ap (λ (q : Print). r.Printed q.job) (some-same is); says = λ job is. (record { job = j; mark = mark }, refl) }
 
 -- a job is said to be printed where its mark is given to the printer
 pub call_prints : (c : HostCall) (rows : Jobs) (a : Said) → TellsOf a (host_act c rows) → PrintsSo a
-call_prints (call.Order c) rows = so_says views.ordered (λ x. record { given = λ p is. cc; says = λ job is. cc }) (acts.order_act c.device c.piece c.class c.price rows)
-call_prints (call.Send c) rows = so_says (views.sent c.job c.message) (λ note. record { given = λ p is. cc; says = λ job is. cc }) (acts.debit_message_act c.job rows)
-call_prints (call.Print c) rows = so_says (views.printed c.job) (printed_so c.job) (acts.begin_print_act c.job rows)
-call_prints (call.Close c) rows = so_says (views.done (r.Closed c.job)) (λ u. record { given = λ p is. cc; says = λ job is. cc }) (acts.close_act c.job rows)
-call_prints (call.Take c) rows = so_says views.held (λ j. record { given = λ p is. cc; says = λ job is. cc }) (acts.take_act c.bytes rows)
+call_prints (call.Order c) rows = so_says told_ordered (λ x. record { given = λ p is. cc; says = λ job is. cc }) (acts.order_act c.device c.piece c.class c.price rows)
+call_prints (call.Send c) rows = so_says (told_sent c.job c.message) (λ note. record { given = λ p is. cc; says = λ job is. cc }) (acts.debit_message_act c.job rows)
+call_prints (call.Print c) rows = so_says (told_printed c.job) (printed_so c.job) (acts.begin_print_act c.job rows)
+call_prints (call.Close c) rows = so_says (told_closed c.job) (λ u. record { given = λ p is. cc; says = λ job is. cc }) (acts.close_act c.job rows)
+call_prints (call.Take c) rows = so_says told_held (λ j. record { given = λ p is. cc; says = λ job is. cc }) (acts.take_act c.bytes rows)
 
 -- == what is printed where the host is switched ==
 

@@ -21,10 +21,10 @@ use Rattle.verifier.specs.Acts as acts
 use Rattle.verifier.specs.Acts.{ScanAct}
 use Rattle.verifier.specs.ActLaws.{IsFit, LeavesSound, SoundActs}
 use Rattle.verifier.specs.Seen.{Seen, AreSound, key_at, spot_in}
+use Rattle.verifier.specs.Plans.{told_trusted, told_accepted}
 use Rattle.verifier.proofs.LawActs.{leaves}
 use Rattle.bench_views.specs.declared.calls.VerifierCall.{VerifierCall}
 use Rattle.bench_views.specs.declared.calls.VerifierCall.TheVariants as call
-use Rattle.bench_views.specs.Verifier as views
 use Rattle.bench_views.specs.Verifier.{verifier_act, IsBytesCall}
 use Rattle.bench_views.proofs.Calling.{own_says}
 use Rattle.bench.specs.Calls.{verifier_call_event, IsRangedScan}
@@ -60,7 +60,7 @@ marked_own : (n : ℕ) (bytes : List ℕ) (k : Mark) (today : ℤ) (key : Option
 marked_own n bytes k today None spot = tt
 marked_own n bytes k today (Some key) spot = chosen (λ (a : ScanAct Accepted). IsOfNode Verifier a) (has_code key bytes) _ _ (λ _. answer_own n k spot.cell _) (λ _. tt)
 
-read_own : (n : ℕ) (bytes : List ℕ) (today : ℤ) (s : Seen) (result : Result (Mark × List ℕ) MarkFault) → IsOfNode Verifier (acts.read_act n bytes today s result)
+read_own : (n : ℕ) (bytes : List ℕ) (today : ℤ) (s : Seen) (result : Result (Mark × List ℕ) MarkFault) → IsOfNode Verifier (acts.read_act n bytes today (acts.in_rows s) result)
 read_own n bytes today s (Err fault) = tt
 read_own n bytes today s (Ok k) = marked_own n bytes k.0 today (key_at s k.0.device) (spot_in s k.0.device k.0.piece)
 
@@ -84,6 +84,6 @@ refused c x = record {
 
 pub call_told : (today : ℤ) (c : VerifierCall) (s : Seen) → IsToldBy Verifier (verifier_call_event c) (verifier_act today c s)
 call_told today (call.Trust c) s = told_made Verifier _ refl (omega arith) _ (own_says Verifier _ _ (acts.trust_act c.device c.key s) (trust_own c.device c.key (is_some (key_at s c.device))))
-    (polite_says Verifier (ev.Trust c.device c.key) r.ScanRefused (views.done (r.Trusted c.device)) (refused (call.Trust c)) (λ u. record { told = refl; gets = (c.key, refl); adds = λ made none. (made, none, refl) }) (acts.trust_act c.device c.key s))
+    (polite_says Verifier (ev.Trust c.device c.key) r.ScanRefused (told_trusted c.device) (refused (call.Trust c)) (λ u. record { told = refl; gets = (c.key, refl); adds = λ made none. (made, none, refl) }) (acts.trust_act c.device c.key s))
 call_told today (call.Scan c) s = told_made Verifier _ refl (omega arith) _ (own_says Verifier _ _ (acts.scan_act c.number c.bytes today s) (read_own c.number c.bytes today s (read_mark c.bytes)))
-    (polite_says Verifier (ev.ScanHex c.number c.bytes) r.ScanRefused (views.accepted c.number) (refused (call.Scan c)) (λ a. record { told = refl; gets = inr (c.bytes, refl); adds = λ made none. (made, none, refl) }) (acts.scan_act c.number c.bytes today s))
+    (polite_says Verifier (ev.ScanHex c.number c.bytes) r.ScanRefused (told_accepted c.number) (refused (call.Scan c)) (λ a. record { told = refl; gets = inr (c.bytes, refl); adds = λ made none. (made, none, refl) }) (acts.scan_act c.number c.bytes today s))

@@ -5,7 +5,7 @@ ghost use Rattle.bench_base.specs.Ranges.{IsDevice};
 ghost use Rattle.host_jobs.specs.ActLaws.{IsPrice};
 ghost use Rattle.host_jobs.specs.Acts as acts;
 ghost use Rattle.host_jobs.specs.Soundness.{IsNext};
-ghost use Rattle.bench_views.specs.Host as views;
+ghost use Rattle.host_jobs.specs.Plans as told;
 
 use bench_base::bytes::Note;
 use bench_base::events::Reply;
@@ -46,7 +46,7 @@ impl<R: Holds + JobsOf<R::By>> Call<HostCallee, R, JobRow> for OrderCall {
 
     ghost does = { λ c e s. acts.order_act c.device c.piece c.class c.price (R.jobs s) };
 
-    ghost says = { λ c e a. views.ordered a };
+    ghost says = { λ c e a. told.told_ordered a };
 
     ghost Makes = { λ s x. IsNext (R.jobs s) x };
 
@@ -76,7 +76,7 @@ impl<R: Holds + JobsOf<R::By>> Call<HostCallee, R, JobRow> for SendCall {
 
     ghost does = { λ c e s. acts.debit_message_act c.job (R.jobs s) };
 
-    ghost says = { λ c e note. views.sent c.job c.message note };
+    ghost says = { λ c e note. told.told_sent c.job c.message note };
 
     ghost Makes = { λ s x. IsNext (R.jobs s) x };
 
@@ -102,7 +102,7 @@ impl<R: Holds + JobsOf<R::By>> Call<HostCallee, R, JobRow> for PrintCall {
 
     ghost does = { λ c e s. acts.begin_print_act c.job (R.jobs s) };
 
-    ghost says = { λ c e mark. views.printed c.job mark };
+    ghost says = { λ c e mark. told.told_printed c.job mark };
 
     ghost Makes = { λ s x. IsNext (R.jobs s) x };
 
@@ -126,7 +126,7 @@ impl<R: Holds + JobsOf<R::By>> Call<HostCallee, R, JobRow> for CloseCall {
 
     ghost does = { λ c e s. acts.close_act c.job (R.jobs s) };
 
-    ghost says = { λ c e u. views.done (r.Closed c.job) u };
+    ghost says = { λ c e u. told.told_closed c.job u };
 
     ghost Makes = { λ s x. IsNext (R.jobs s) x };
 
@@ -146,7 +146,7 @@ impl<'a, R: Holds + JobsOf<R::By>> Call<HostCallee, R, JobRow> for TakeReleaseCa
 
     ghost does = { λ c e s. acts.take_act c.bytes (R.jobs s) };
 
-    ghost says = { λ c e j. views.held j };
+    ghost says = { λ c e j. told.told_held j };
 
     ghost Makes = { λ s x. IsNext (R.jobs s) x };
 

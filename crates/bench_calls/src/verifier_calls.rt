@@ -5,6 +5,7 @@ ghost use Rattle.bench_base.specs.Ranges.{IsCount, IsDevice, IsKey};
 ghost use Rattle.bench_base.specs.Table.{IsBytes};
 ghost use Rattle.verifier.specs.Acts as acts;
 ghost use Rattle.verifier.specs.ActLaws.{IsFit};
+ghost use Rattle.verifier.specs.Plans as told;
 ghost use Rattle.bench_views.specs.Verifier as views;
 
 use bench_base::events::Reply;
@@ -46,7 +47,7 @@ impl<R: Holds + RowsOf<R::By>> Call<VerifierCallee, R, Change> for TrustCall {
 
     ghost does = { λ c e s. acts.trust_act c.device c.key (R.rows s) };
 
-    ghost says = { λ c e u. views.done (r.Trusted c.device) u };
+    ghost says = { λ c e u. told.told_trusted c.device u };
 
     ghost Makes = { λ s x. IsFit (R.rows s) x };
 
@@ -66,7 +67,7 @@ impl<'a, R: Holds + RowsOf<R::By>> Call<VerifierCallee, R, Change> for ScanCall<
 
     ghost does = { λ c e s. acts.scan_act c.number c.bytes e.day (R.rows s) };
 
-    ghost says = { λ c e a. views.accepted c.number a };
+    ghost says = { λ c e a. told.told_accepted c.number a };
 
     ghost Makes = { λ s x. IsFit (R.rows s) x };
 

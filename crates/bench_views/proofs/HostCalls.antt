@@ -13,7 +13,6 @@ use Rattle.bench_base.specs.Nodes.{node_of}
 use Rattle.bench_base.specs.Plans.{Plan}
 use Rattle.bench_base.specs.Ranges.{IsWholeEvent, IsDevice}
 use Rattle.bench_base.specs.Cells.{OfJob, place_of}
-use Rattle.bench_base.specs.Jobs.{job_of}
 use Rattle.bench_base.specs.Ledger.{Ledger, day_in, count_of, counted, message}
 use Rattle.node_acts.specs.declared.act.Act.TheVariants.{Refuse, Tell, Commits}
 use Rattle.node_acts.specs.declared.asked.Asked.{Asked}
@@ -29,13 +28,15 @@ use Rattle.psd_wire.specs.Grammar.{read}
 use Rattle.ledger_moves.specs.Tariffs.{Tariff}
 use Rattle.ledger_moves.specs.Moves.{plan, at_node, host_plan, deliver_to, deliver_plan}
 use Rattle.host_jobs.specs.declared.rows.JobRow.{JobRow}
-use Rattle.host_jobs.specs.Answers.{order_answer, send_answer, shown_state, send_plan, host_take}
+use Rattle.host_jobs.specs.Answers.{order_answer, send_answer}
 use Rattle.host_jobs.specs.Acts.{HostAct, shelf_in, ordered_act, unless, debit_note, sent_act}
 use Rattle.host_jobs.specs.Acts as acts
+use Rattle.host_jobs.specs.Plans as told
+use Rattle.host_jobs.specs.Plans.{says}
 use Rattle.host_jobs.specs.ActLaws.{LeavesSound, ActsLeaveSound, AreRowsOf, FollowsCommits, ActsFollow, ActsArePlanned}
 use Rattle.host_jobs.specs.ActLaws as law
 use Rattle.host_jobs.specs.Records.{seen_after}
-use Rattle.host_jobs.specs.Rows.{Jobs, open_in, job_row}
+use Rattle.host_jobs.specs.Rows.{Jobs, open_in, job_row, tops_in}
 use Rattle.host_jobs.specs.Seen.{counting, cell_of, rows_in}
 use Rattle.host_jobs.specs.SeenLaws.{SeenLaws}
 use Rattle.host_jobs.specs.Turns.{InTurn}
@@ -45,10 +46,9 @@ use Rattle.bench_views.specs.declared.taken.Taken.TheVariants as take
 use Rattle.bench_views.specs.Taken as takes
 use Rattle.bench_views.specs.Taken.{taken}
 use Rattle.bench_views.specs.Tariff.{Quote, quote_in}
-use Rattle.bench_views.specs.Host as views
-use Rattle.bench_views.specs.Host.{IsKnown, view_of, says, host_act, host_kind}
+use Rattle.bench_views.specs.Host.{IsKnown, view_of, host_act, host_kind}
 use Rattle.bench_views.specs.Messages.{sent_in}
-use Rattle.bench_views.proofs.Calling.{plan_says, own_says, worn_says, at_seen, IsWornAlike}
+use Rattle.bench_views.proofs.Calling.{own_says, worn_says, at_seen, IsWornAlike}
 use Rattle.bench_views.proofs.Events.{each_of_host}
 use Rattle.bench_views.proofs.HostCommits.{worn}
 use Rattle.bench_views.proofs.Sent.{sent_many, sent_at}
@@ -73,7 +73,7 @@ order_placed d piece class None rows = tt
 order_placed d piece class (Some (Err x)) rows = tt
 order_placed d piece class (Some (Ok postage)) rows = by (order_answer piece (shelf_in d rows) (open_in d rows))
   where
-    by : (o : Result ℕ HostRefusal) → IsPlacedAct (ordered_act d piece class postage rows o)
+    by : (o : Result ℕ HostRefusal) → IsPlacedAct (ordered_act d piece class postage (tops_in rows) o)
     by (Err x) = tt
     by (Ok j) = (refl, refl)
 
@@ -83,11 +83,11 @@ refused_quiet : (y : HostRefusal) → IsQuiet (r.HostRefused y)
 refused_quiet y = tt
 
 pub call_quiet : (c : HostCall) (rows : Jobs) → IsQuietAct (host_act c rows)
-call_quiet (call.Order c) rows = quiet_says r.HostRefused views.ordered refused_quiet (λ a. refl) (acts.order_act c.device c.piece c.class c.price rows)
-call_quiet (call.Send c) rows = quiet_says r.HostRefused (views.sent c.job c.message) refused_quiet (λ note. refl) (acts.debit_message_act c.job rows)
-call_quiet (call.Print c) rows = quiet_says r.HostRefused (views.printed c.job) refused_quiet (λ mark. refl) (acts.begin_print_act c.job rows)
+call_quiet (call.Order c) rows = quiet_says r.HostRefused told.told_ordered refused_quiet (λ a. refl) (acts.order_act c.device c.piece c.class c.price rows)
+call_quiet (call.Send c) rows = quiet_says r.HostRefused (told.told_sent c.job c.message) refused_quiet (λ note. refl) (acts.debit_message_act c.job rows)
+call_quiet (call.Print c) rows = quiet_says r.HostRefused (told.told_printed c.job) refused_quiet (λ mark. refl) (acts.begin_print_act c.job rows)
 call_quiet (call.Close c) rows = quiet_says r.HostRefused _ refused_quiet (λ u. refl) (acts.close_act c.job rows)
-call_quiet (call.Take c) rows = quiet_says r.HostRefused views.held refused_quiet (λ j. refl) (acts.take_act c.bytes rows)
+call_quiet (call.Take c) rows = quiet_says r.HostRefused told.told_held refused_quiet (λ j. refl) (acts.take_act c.bytes rows)
 
 -- == what it is handed ==
 
@@ -196,21 +196,17 @@ module _ (H : Ledger) (known : IsKnown (seen_after (counted H))) (turn : InTurn 
   -- == its plan ==
 
   -- at the host, the plan of an act is what is seen, by how it says what it answers
-  at : {A : Type 0} (p : Plan) (say : A → Said) (act : HostAct A) → IsGood act → p ≡ said_plan (says say act) → at_node Host H p ≡ seen_plan counting Host (view_of H) (says say act)
-  at p say act good is =
-      ap (at_node Host H) is
+  at : {A : Type 0} (say : A → Said) (act : HostAct A) → IsGood act → (planned_as : HostAct A) → act ≡ planned_as → at_node Host H (said_plan (says say planned_as)) ≡ seen_plan counting Host (view_of H) (says say act)
+  at {A} say act good planned_as is =
+      ap (λ (x : HostAct A). at_node Host H (said_plan (says say x))) (sym is)
       ∙ at_seen counting Host seen_after H (says say act) (own_says Host r.HostRefused say act (own act good)) (worn_says counting Host seen_after H r.HostRefused say act (worn_alike act good))
 
   -- by the next message
-  sends : (j : ℕ) → at_node Host H (send_plan (length (sent_in H)) j (shown_state j C) (job_of j C)) ≡ seen_plan counting Host (view_of H) (host_act (call.Send (record { job = j; message = length (sent_in H) })) rows)
-  sends j =
-      at _ (views.sent j (length (sent_in H))) (acts.debit_message_act j rows) (send_good j)
-      (sym (plans.sent (length (sent_in H)) j) ∙ plan_says _ _ _ _ (λ note. refl) (λ note. refl) (acts.debit_message_act j rows))
+  sends : (j : ℕ) → at_node Host H (told.send_plan (length (sent_in H)) j C) ≡ seen_plan counting Host (view_of H) (host_act (call.Send (record { job = j; message = length (sent_in H) })) rows)
+  sends j = at (told.told_sent j (length (sent_in H))) (acts.debit_message_act j rows) (send_good j) (acts.debit_message_by j (told.in_commits C)) (plans.sent j)
 
   handed : (bytes : List ℕ) → host_plan bytes H ≡ seen_plan counting Host (view_of H) (host_act (call.Take (record { bytes = bytes })) rows)
-  handed bytes =
-      at (host_take (read bytes) C) views.held (acts.take_act bytes rows) (take_good bytes)
-      (sym (plans.taken bytes) ∙ plan_says _ _ _ _ (λ j. refl) (λ j. refl) (acts.take_act bytes rows))
+  handed bytes = at told.told_held (acts.take_act bytes rows) (take_good bytes) (acts.take_by bytes (told.in_commits C)) (plans.taken bytes)
 
   -- a message that is delivered to the host
   delivered : (today : ℤ) (bytes : List ℕ) (k : ℕ) (asked : Asked HostCall) (x : Result Message Unread) → takes.delivered_as bytes k x ≡ take.Host asked → deliver_to todays_rules today bytes x H ≡ host_plan bytes H
@@ -238,10 +234,10 @@ module _ (H : Ledger) (known : IsKnown (seen_after (counted H))) (turn : InTurn 
     cut = λ calls keep byte whole. rw day refl;
     order = λ d piece class grams zone whole. rw day (
         let price = quote_in τ H class grams zone in
-        at _ _ (acts.order_act d piece class price rows) (order_good d piece class price whole.0) (sym (plans.ordered d piece class price whole.0) ∙ plan_says _ _ _ _ (λ a. refl) (λ a. refl) (acts.order_act d piece class price rows)));
+        at told.told_ordered (acts.order_act d piece class price rows) (order_good d piece class price whole.0) (acts.order_by d piece class price (told.in_commits C)) (plans.ordered d piece class price whole.0));
     send = λ j whole. rw (day, sym (sent_many H)) (sends j);
-    print = λ j whole. rw day (at _ _ (acts.begin_print_act j rows) (print_good j) (sym (plans.begun j) ∙ plan_says _ _ _ _ (λ mark. refl) (λ mark. refl) (acts.begin_print_act j rows)));
-    close = λ j whole. rw day (at _ _ (acts.close_act j rows) (close_good j) (sym (plans.closed j) ∙ plan_says _ _ _ _ (λ u. refl) (λ u. refl) (acts.close_act j rows)));
+    print = λ j whole. rw day (at (told.told_printed j) (acts.begin_print_act j rows) (print_good j) (acts.begin_print_by j (told.in_commits C)) (plans.begun j));
+    close = λ j whole. rw day (at (told.told_closed j) (acts.close_act j rows) (close_good j) (acts.close_by j (told.in_commits C)) (plans.closed j));
     give = λ bytes whole. rw day (handed bytes);
     deliver = λ k asked is whole. rw day (delivered_plan today k asked (message k H) (subst (λ (o : Option (List ℕ)). takes.message_taken k (length (sent_in H)) o ≡ take.Host asked) (sent_at H k) is));
   })

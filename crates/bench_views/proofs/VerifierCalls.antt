@@ -25,7 +25,8 @@ use Rattle.node_acts.specs.Said.{said_plan, seen_plan}
 use Rattle.ledger_moves.specs.Tariffs.{Tariff}
 use Rattle.ledger_moves.specs.Moves.{plan, at_node, scan_plan, scan_sent}
 use Rattle.verifier.specs.declared.acts.Change.{Change}
-use Rattle.verifier.specs.Acts.{ScanAct, trust_act, scan_act}
+use Rattle.verifier.specs.Acts.{ScanAct, trust_by, trust_act, scan_by, scan_act}
+use Rattle.verifier.specs.Plans.{says, told_trusted, told_accepted, in_commits}
 use Rattle.verifier.specs.ActLaws.{LeavesSound, SoundActs, ActsLeaveSound, IsNext, FollowsCommits, FollowingActs, ActsFollow, PlannedActs, ActsArePlanned}
 use Rattle.verifier.specs.Records.{seen_after, IsRecorded}
 use Rattle.verifier.specs.Seen.{Seen, cell_of, counting}
@@ -34,9 +35,9 @@ use Rattle.bench_views.specs.declared.calls.VerifierCall.TheVariants as call
 use Rattle.bench_views.specs.declared.taken.Taken.TheVariants as take
 use Rattle.bench_views.specs.Taken.{taken}
 use Rattle.bench_views.specs.Tariff.{Quote}
-use Rattle.bench_views.specs.Verifier.{view_of, accepted, says, verifier_act, verifier_kind, IsKnown, AreBytes}
+use Rattle.bench_views.specs.Verifier.{view_of, verifier_act, verifier_kind, IsKnown, AreBytes}
 use Rattle.bench_views.specs.Messages.{sent_in}
-use Rattle.bench_views.proofs.Calling.{plan_says, own_says, worn_says, at_seen, IsWornAlike}
+use Rattle.bench_views.proofs.Calling.{own_says, worn_says, at_seen, IsWornAlike}
 use Rattle.bench_views.proofs.Counts.{top-is}
 use Rattle.bench_views.proofs.Events.{each_of_verifier}
 use Rattle.bench_views.proofs.Sent.{sent_at}
@@ -54,7 +55,7 @@ refused_quiet y = tt
 
 pub call_quiet : (today : ℤ) (c : VerifierCall) (s : Seen) → IsQuietAct (verifier_act today c s)
 call_quiet today (call.Trust c) s = quiet_says r.ScanRefused _ refused_quiet (λ u. refl) (trust_act c.device c.key s)
-call_quiet today (call.Scan c) s = quiet_says r.ScanRefused (accepted c.number) refused_quiet (λ a. refl) (scan_act c.number c.bytes today s)
+call_quiet today (call.Scan c) s = quiet_says r.ScanRefused (told_accepted c.number) refused_quiet (λ a. refl) (scan_act c.number c.bytes today s)
 
 -- == at a ledger ==
 
@@ -117,15 +118,14 @@ module _ (H : Ledger) (recorded : IsRecorded (counted H)) (known : IsKnown (seen
   -- == its plan ==
 
   -- at the verifier, the plan of an act is what is seen, by how it says what it answers
-  at : {A : Type 0} (p : Plan) (say : A → Said) (act : ScanAct A) → IsGood act → p ≡ said_plan (says say act) → at_node Verifier H p ≡ seen_plan counting Verifier (view_of H) (says say act)
-  at p say act good is =
-      ap (at_node Verifier H) is
+  at : {A : Type 0} (say : A → Said) (act : ScanAct A) → IsGood act → (planned_as : ScanAct A) → act ≡ planned_as → at_node Verifier H (said_plan (says say planned_as)) ≡ seen_plan counting Verifier (view_of H) (says say act)
+  at {A} say act good planned_as is =
+      ap (λ (x : ScanAct A). at_node Verifier H (said_plan (says say x))) (sym is)
       ∙ at_seen counting Verifier seen_after H (says say act) (own_says Verifier r.ScanRefused say act (own act good)) (worn_says counting Verifier seen_after H r.ScanRefused say act (worn_alike act good))
 
   -- bytes that are scanned
   scans : (today : ℤ) (n : ℕ) (bytes : List ℕ) → IsCount n → IsBytes bytes → scan_plan n today bytes H ≡ seen_plan counting Verifier (view_of H) (verifier_act today (call.Scan (record { number = n; bytes = bytes })) s)
-  scans today n bytes count are = at _ (accepted n) (scan_act n bytes today s) (scan_good n bytes today count are)
-      (sym (plans.scanned n bytes today are) ∙ plan_says _ _ _ _ (λ a. refl) (λ a. refl) (scan_act n bytes today s))
+  scans today n bytes count are = at (told_accepted n) (scan_act n bytes today s) (scan_good n bytes today count are) (scan_by n bytes today (in_commits C)) (plans.scanned n bytes today)
 
   abbrev ByView : ℤ → Asked VerifierCall → Plan
   ByView today asked = node_plan counting Verifier (verifier_kind.plan tt today (view_of H)) (view_of H) asked
@@ -137,7 +137,7 @@ module _ (H : Ledger) (recorded : IsRecorded (counted H)) (known : IsKnown (seen
     on = λ whole bytes. rw (day, sym counts) refl;
     off = λ whole bytes. rw day refl;
     cut = λ calls keep byte whole bytes. rw day refl;
-    trust = λ d key whole bytes. rw day (at _ _ (trust_act d key s) (trust_good d key whole.0 whole.1) (sym (plans.trusted d key whole.0) ∙ plan_says _ _ _ _ (λ u. refl) (λ u. refl) (trust_act d key s)));
+    trust = λ d key whole bytes. rw day (at (told_trusted d) (trust_act d key s) (trust_good d key whole.0 whole.1) (trust_by d key (in_commits C)) (plans.trusted d key));
     scan = λ n bytes whole are. rw day (scans today n bytes (whole.0, whole.1) are);
     message = λ n k bytes there whole are. rw day (ap (λ (o : Option (List ℕ)). scan_sent n today k o H) (sym (sent_at H k) ∙ there) ∙ scans today n (drop 2 bytes) (whole.0, whole.1) are);
   })

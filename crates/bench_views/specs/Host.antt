@@ -1,26 +1,23 @@
 -- The host, as the ledger shows it to the bench, and what a call of it does by that alone. Postage is in mills.
-use Rattle.std.specs.Prelude.{◌≡◌, ℕ, ◌≤◌, List, length}
+use Rattle.std.specs.Prelude.{◌≡◌, ℕ, ◌≤◌, length}
 use Rattle.bench_base.specs.declared.words.Node.TheVariants.{Host}
 use Rattle.bench_base.specs.declared.sizes.TheConstants.{MOST_COMMITS}
 use Rattle.bench_base.specs.declared.events.Reply.{Reply}
-use Rattle.bench_base.specs.declared.events.Reply.TheVariants as r
 use Rattle.bench_base.specs.Ledger.{Ledger}
 use Rattle.node_acts.specs.declared.act.Act.{Act}
 use Rattle.node_acts.specs.declared.said.Said.{Said}
-use Rattle.node_acts.specs.declared.said.GivenOut.TheVariants.{Printed}
-use Rattle.node_acts.specs.Said.{replies, gives, sends, saying, kind_by}
+use Rattle.node_acts.specs.Said.{kind_by}
 use Rattle.node_acts.specs.Views.{View}
 use Rattle.node_acts.specs.Kinds.{Kind, view_in}
 use Rattle.node_acts.specs.RowList.{row_at, commits_at}
 use Rattle.host_jobs.specs.declared.rows.JobRow.{JobRow}
-use Rattle.host_jobs.specs.declared.acts.Ordered.{Ordered}
 use Rattle.host_jobs.specs.declared.sizes.TheConstants.{HOST_CELLS}
 use Rattle.host_jobs.specs.Rows.{Jobs}
 use Rattle.host_jobs.specs.Records.{seen_after}
 use Rattle.host_jobs.specs.Seen.{Seen, counting, rows_in}
 use Rattle.host_jobs.specs.Soundness.{AreSound}
-use Rattle.host_jobs.specs.Acts.{HostAct}
 use Rattle.host_jobs.specs.Acts as acts
+use Rattle.host_jobs.specs.Plans.{says, told_ordered, told_sent, told_printed, told_closed, told_held}
 use Rattle.bench_views.specs.declared.calls.HostCall.{HostCall}
 use Rattle.bench_views.specs.declared.calls.HostCall.TheVariants as call
 
@@ -38,32 +35,12 @@ view_of H = view_in Host seen_after H
 
 -- == its calls ==
 
-abbrev pub done : Reply → Unit {0} → Said
-done reply u = replies reply
-
-abbrev pub ordered : Ordered → Said
-ordered a = replies (r.Ordered a.job a.postage)
-
--- the message that asks for the mark of a job is message k
-abbrev pub sent : ℕ → ℕ → List ℕ → Said
-sent j k note = sends (r.SentDebit j k) note
-
-abbrev pub printed : ℕ → List ℕ → Said
-printed j mark = gives (r.Printed j) (Printed (record { job = j; mark = mark }))
-
-abbrev pub held : ℕ → Said
-held j = replies (r.Held j)
-
--- its act, by how it says what it answers
-abbrev pub says : {A : Type 0} → (A → Said) → HostAct A → Act JobRow Reply Said
-says say act = saying r.HostRefused say act
-
 abbrev pub host_act : HostCall → Jobs → Act JobRow Reply Said
-host_act (call.Order c) rows = says ordered (acts.order_act c.device c.piece c.class c.price rows)
-host_act (call.Send c) rows = says (sent c.job c.message) (acts.debit_message_act c.job rows)
-host_act (call.Print c) rows = says (printed c.job) (acts.begin_print_act c.job rows)
-host_act (call.Close c) rows = says (done (r.Closed c.job)) (acts.close_act c.job rows)
-host_act (call.Take c) rows = says held (acts.take_act c.bytes rows)
+host_act (call.Order c) rows = says told_ordered (acts.order_act c.device c.piece c.class c.price rows)
+host_act (call.Send c) rows = says (told_sent c.job c.message) (acts.debit_message_act c.job rows)
+host_act (call.Print c) rows = says (told_printed c.job) (acts.begin_print_act c.job rows)
+host_act (call.Close c) rows = says (told_closed c.job) (acts.close_act c.job rows)
+host_act (call.Take c) rows = says told_held (acts.take_act c.bytes rows)
 
 abbrev pub host_kind : Kind (Unit {0}) Seen HostCall
 host_kind = kind_by counting (λ u. Host) (λ u. seen_after) (λ u today c s. host_act c (rows_in s))

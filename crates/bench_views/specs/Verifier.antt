@@ -3,23 +3,21 @@ use Rattle.std.specs.Prelude.{ℕ, ℤ, ◌≤◌}
 use Rattle.bench_base.specs.declared.words.Node.TheVariants.{Verifier}
 use Rattle.bench_base.specs.declared.sizes.TheConstants.{MOST_COMMITS}
 use Rattle.bench_base.specs.declared.events.Reply.{Reply}
-use Rattle.bench_base.specs.declared.events.Reply.TheVariants as r
 use Rattle.bench_base.specs.Ledger.{Ledger}
 use Rattle.bench_base.specs.Table.{IsBytes}
 use Rattle.node_acts.specs.declared.act.Act.{Act}
 use Rattle.node_acts.specs.declared.asked.Asked.{Asked}
 use Rattle.node_acts.specs.declared.asked.Asked.TheVariants.{On, Off, Cut, Call}
 use Rattle.node_acts.specs.declared.said.Said.{Said}
-use Rattle.node_acts.specs.Said.{replies, saying, kind_by}
+use Rattle.node_acts.specs.Said.{kind_by}
 use Rattle.node_acts.specs.Views.{View}
 use Rattle.node_acts.specs.Kinds.{Kind, view_in}
 use Rattle.node_acts.specs.RowList.{row_at, commits_at}
-use Rattle.verifier.specs.declared.acts.Accepted.{Accepted}
 use Rattle.verifier.specs.declared.acts.Change.{Change}
 use Rattle.verifier.specs.Records.{seen_after}
 use Rattle.verifier.specs.Seen.{Seen, AreSound, counting}
-use Rattle.verifier.specs.Acts.{ScanAct, trust_act, scan_act}
-use Rattle.verifier.specs.ActLaws.{accepted_reply}
+use Rattle.verifier.specs.Acts.{trust_act, scan_act}
+use Rattle.verifier.specs.Plans.{says, told_trusted, told_accepted}
 use Rattle.bench_views.specs.declared.calls.VerifierCall.{VerifierCall}
 use Rattle.bench_views.specs.declared.calls.VerifierCall.TheVariants as call
 
@@ -36,20 +34,9 @@ view_of H = view_in Verifier seen_after H
 
 -- == its calls ==
 
-abbrev pub done : Reply → Unit {0} → Said
-done reply u = replies reply
-
--- of a piece that was scanned under number n
-abbrev pub accepted : ℕ → Accepted → Said
-accepted n a = replies (accepted_reply n a)
-
--- its act, by how it says what it answers
-abbrev pub says : {A : Type 0} → (A → Said) → ScanAct A → Act Change Reply Said
-says say act = saying r.ScanRefused say act
-
 abbrev pub verifier_act : ℤ → VerifierCall → Seen → Act Change Reply Said
-verifier_act today (call.Trust c) s = says (done (r.Trusted c.device)) (trust_act c.device c.key s)
-verifier_act today (call.Scan c) s = says (accepted c.number) (scan_act c.number c.bytes today s)
+verifier_act today (call.Trust c) s = says (told_trusted c.device) (trust_act c.device c.key s)
+verifier_act today (call.Scan c) s = says (told_accepted c.number) (scan_act c.number c.bytes today s)
 
 abbrev pub verifier_kind : Kind (Unit {0}) Seen VerifierCall
 verifier_kind = kind_by counting (λ u. Verifier) (λ u. seen_after) (λ u today c s. verifier_act today c s)

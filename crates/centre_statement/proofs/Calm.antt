@@ -5,11 +5,7 @@ use Rattle.bench_base.specs.declared.words.Node.{Node}
 use Rattle.bench_base.specs.declared.words.Node.TheVariants.{Device, Centre, Host, Verifier}
 use Rattle.bench_base.specs.declared.words.Verdict.{Verdict}
 use Rattle.bench_base.specs.declared.refusals.Unread.{Unread}
-use Rattle.bench_base.specs.declared.refusals.MarkFault.{MarkFault}
-use Rattle.bench_base.specs.declared.refusals.RateRefusal.{RateRefusal}
 use Rattle.bench_base.specs.declared.refusals.CentreRefusal.{CentreRefusal}
-use Rattle.bench_base.specs.declared.refusals.HostRefusal.{HostRefusal}
-use Rattle.bench_base.specs.declared.refusals.ScanRefusal.{ScanRefusal}
 use Rattle.bench_base.specs.declared.ledger.Commit.{Commit}
 use Rattle.bench_base.specs.declared.ledger.Entry.{Entry}
 use Rattle.bench_base.specs.declared.ledger.Entry.TheVariants as e
@@ -24,11 +20,10 @@ use Rattle.bench_base.specs.Events.{needs_day}
 use Rattle.bench_base.specs.Cells.{is_worn}
 use Rattle.bench_base.specs.Replies.{Told, Did, Refused, Armed, CameOn, WentOff, LostPower, Faulted, WasDamaged, PrinterFailed, RatesFailed, told_by}
 use Rattle.bench_base.specs.Ledger.{Ledger, day_in, rates_in, messages, message, is_on, count_of, counted}
-use Rattle.bench_base.specs.Jobs.{Job, job_of, held_of, open_job}
-use Rattle.bench_base.specs.Scans.{trusted}
+use Rattle.node_acts.specs.declared.act.Act.{Act}
+use Rattle.node_acts.specs.declared.said.Said.{Said}
+use Rattle.node_acts.specs.Said.{tells, saying, said_plan}
 use Rattle.node_acts.specs.declared.act.Act.TheVariants.{Refuse, Tell, Commits}
-use Rattle.indicium.specs.declared.Mark.{Mark}
-use Rattle.indicium.specs.Marks.{read_mark}
 use Rattle.psd_wire.specs.declared.message.Message.{Message}
 use Rattle.psd_wire.specs.declared.message.Message.TheVariants as m
 use Rattle.psd_wire.specs.declared.message.Request.{Request}
@@ -44,8 +39,10 @@ use Rattle.psd_state.specs.Acts.{DeviceAct}
 use Rattle.psd_state.specs.declared.acts.Taken.{Taken}
 use Rattle.psd_state.specs.declared.acts.Taken.TheVariants as taken
 use Rattle.centre_ledger.specs.Answers as centre
-use Rattle.host_jobs.specs.Answers as host
-use Rattle.verifier.specs.Answers as scans
+use Rattle.host_jobs.specs.Acts.{order_by, debit_message_by, begin_print_by, close_by, take_by}
+use Rattle.host_jobs.specs.Plans as host
+use Rattle.verifier.specs.Acts.{trust_by, scan_by}
+use Rattle.verifier.specs.Plans as scans
 use Rattle.ledger_moves.specs.Devices as device
 use Rattle.ledger_moves.specs.Moves as moves
 use Rattle.ledger_moves.specs.Moves.{plan, at_node, unless_worn}
@@ -110,6 +107,13 @@ module _ (H : Ledger) where
   acts_ok d reply tell (Refuse x) tells = sure tt
   acts_ok d reply tell (Tell a) tells = sure (tells a)
   acts_ok d reply tell (Commits c x a) tells = sure (tells a)
+
+  -- an act whose answers are said
+  said_ok : {X F A : Type 0} (refusal : F → Reply) (say : A → Said) (act : Act X F A) → ((x : F) → ByTold ShowsItsCount (told_by (refusal x)) []) → ((a : A) → ByTold ShowsItsCount (told_by (say a).reply) (tells (say a)))
+      → Clean (said_plan (saying refusal say act))
+  said_ok refusal say (Refuse x) refused done = sure (refused x)
+  said_ok refusal say (Tell a) refused done = sure (done a)
+  said_ok refusal say (Commits c x a) refused done = sure (done a)
 
   resend_ok : (d k : ℕ) (key : Option (List ℕ)) (w : Option (ℕ × List ℕ)) → Clean (device.resend_plan d k key w)
   resend_ok d k None w = sure tt
@@ -196,55 +200,11 @@ module _ (H : Ledger) where
 
   -- == the host ==
 
-  ordered_ok : (d piece class postage : ℕ) (x : Result ℕ HostRefusal) → Clean (host.order_answered d piece class postage x)
-  ordered_ok d piece class postage (Err x) = sure tt
-  ordered_ok d piece class postage (Ok j) = sure tt
-
-  order_ok : (d piece class : ℕ) (price : Option (Result ℕ RateRefusal)) → Clean (host.order_plan d piece class (host.shelf_of d (counted H)) price)
-  order_ok d piece class None = sure tt
-  order_ok d piece class (Some (Err x)) = sure tt
-  order_ok d piece class (Some (Ok postage)) = ordered_ok d piece class postage _
-
-  send_ok : (k j : ℕ) (b : Option Job) (o : Option HostRefusal) → Clean (host.send_answered k j b o)
-  send_ok k j b (Some x) = sure tt
-  send_ok k j None None = sure tt
-  send_ok k j (Some b) None = sure tt
-
-  print_ok : (j : ℕ) (x : Option (List ℕ)) (o : Option HostRefusal) → Clean (host.print_answered j x o)
-  print_ok j x (Some no_x) = sure tt
-  print_ok j None None = sure tt
-  print_ok j (Some x) None = sure tt
-
-  close_ok : (j : ℕ) (o : Option HostRefusal) → Clean (host.close_answered j o)
-  close_ok j (Some x) = sure tt
-  close_ok j None = sure tt
-
-  held_ok : (x : List ℕ) (j : ℕ) (o : Option HostRefusal) → Clean (host.hold_answered x j o)
-  held_ok x j (Some no_x) = sure tt
-  held_ok x j None = sure tt
-
-  job_ok : (x : List ℕ) (k : Mark) (j : ℕ) (b : Option Job) → Clean (host.hold_job x k j b)
-  job_ok x k j None = sure tt
-  job_ok x k j (Some b) = held_ok x j _
-
-  open_job_ok : (x : List ℕ) (k : Mark) (o : Option ℕ) → Clean (host.hold_open x k o (counted H))
-  open_job_ok x k None = sure tt
-  open_job_ok x k (Some j) = job_ok x k j (job_of j (counted H))
-
-  hold_ok : (x : List ℕ) (k : Result (Mark × List ℕ) MarkFault) → Clean (host.hold_plan x k (counted H))
-  hold_ok x (Err fault) = sure tt
-  hold_ok x (Ok k) = open_job_ok x k.0 (open_job k.0.device (counted H))
-
-  host_take_ok : (x : Result Message Unread) → Clean (host.host_take x (counted H))
-  host_take_ok (Ok (m.Release x)) = hold_ok x (read_mark x)
-  host_take_ok (Ok (m.Request q)) = sure tt
-  host_take_ok (Ok (m.Done q)) = sure tt
-  host_take_ok (Ok (m.Reply p)) = sure tt
-  host_take_ok (Ok (m.Debit q)) = sure tt
-  host_take_ok (Err x) = sure tt
+  host_take_ok : (bytes : List ℕ) → Clean (host.take_plan bytes (counted H))
+  host_take_ok bytes = said_ok r.HostRefused host.told_held (take_by bytes (host.in_commits (counted H))) (λ x. tt) (λ j. tt)
 
   host_ok : (bytes : List ℕ) → Clean (moves.host_plan bytes H)
-  host_ok bytes = at Host _ (host_take_ok (read bytes))
+  host_ok bytes = at Host _ (host_take_ok bytes)
 
   -- == bytes that are handed to a node ==
 
@@ -268,25 +228,8 @@ module _ (H : Ledger) where
 
   -- == the verifier ==
 
-  trust_ok : (d : ℕ) (key : List ℕ) (o : Option (List ℕ)) → Clean (scans.trust_plan d key o)
-  trust_ok d key None = sure tt
-  trust_ok d key (Some k) = sure tt
-
-  scanned_ok : (n : ℕ) (k : Mark) (x : Result Bool ScanRefusal) → Clean (scans.scan_answered n k x)
-  scanned_ok n k (Err x) = sure tt
-  scanned_ok n k (Ok true) = sure tt
-  scanned_ok n k (Ok false) = sure tt
-
-  keyed_ok : (n : ℕ) (bytes : List ℕ) (k : Mark) (today : ℤ) (key : Option (List ℕ)) → Clean (scans.scan_key n bytes k today key (counted H))
-  keyed_ok n bytes k today None = sure tt
-  keyed_ok n bytes k today (Some key) = chosen Clean (has_code key bytes) _ _ (λ good. scanned_ok n k _) (λ bad. sure tt)
-
-  read_ok : (n : ℕ) (bytes : List ℕ) (today : ℤ) (x : Result (Mark × List ℕ) MarkFault) → Clean (scans.scan_plan n bytes today x (counted H))
-  read_ok n bytes today (Err fault) = sure tt
-  read_ok n bytes today (Ok k) = keyed_ok n bytes k.0 today (trusted k.0.device (counted H))
-
   scan_ok : (n : ℕ) (today : ℤ) (bytes : List ℕ) → Clean (moves.scan_plan n today bytes H)
-  scan_ok n today bytes = at Verifier _ (read_ok n bytes today (read_mark bytes))
+  scan_ok n today bytes = at Verifier _ (said_ok r.ScanRefused (scans.told_accepted n) (scan_by n bytes today (scans.in_commits (counted H))) (λ x. tt) (λ a. tt))
 
   scan_sent_ok : (n : ℕ) (today : ℤ) (k : ℕ) (o : Option (List ℕ)) → Clean (moves.scan_sent n today k o H)
   scan_sent_ok n today k None = sure tt
@@ -333,11 +276,12 @@ module _ (H : Ledger) where
     event_ok (ev.Balance w) text today = at Centre _ (balance_ok w (balance w C) (opened w C))
     event_ok (ev.Deliver k) text today = deliver_ok today k (message k H)
     event_ok (ev.Give n bytes) text today = give_ok today n bytes
-    event_ok (ev.Order d piece class grams zone) text today = at Host _ (order_ok d piece class (moves.price_by τ class grams zone (rates_in H)))
-    event_ok (ev.Send j) text today = at Host _ (send_ok (messages H) j (job_of j C) (host.send_answer (host.shown_state j C)))
-    event_ok (ev.Print j) text today = at Host _ (print_ok j (held_of j C) (host.print_answer (host.shown_state j C)))
-    event_ok (ev.Close j) text today = at Host _ (close_ok j (host.close_answer (host.shown_state j C)))
-    event_ok (ev.Trust d key) text today = at Verifier _ (trust_ok d key (trusted d C))
+    event_ok (ev.Order d piece class grams zone) text today =
+        at Host _ (said_ok r.HostRefused host.told_ordered (order_by d piece class (moves.price_by τ class grams zone (rates_in H)) (host.in_commits C)) (λ x. tt) (λ a. tt))
+    event_ok (ev.Send j) text today = at Host _ (said_ok r.HostRefused (host.told_sent j (messages H)) (debit_message_by j (host.in_commits C)) (λ x. tt) (λ note. tt))
+    event_ok (ev.Print j) text today = at Host _ (said_ok r.HostRefused (host.told_printed j) (begin_print_by j (host.in_commits C)) (λ x. tt) (λ mark. tt))
+    event_ok (ev.Close j) text today = at Host _ (said_ok r.HostRefused (host.told_closed j) (close_by j (host.in_commits C)) (λ x. tt) (λ u. tt))
+    event_ok (ev.Trust d key) text today = at Verifier _ (said_ok r.ScanRefused (scans.told_trusted d) (trust_by d key (scans.in_commits C)) (λ x. tt) (λ u. tt))
     event_ok (ev.ScanMsg n k) text today = scan_sent_ok n today k (message k H)
     event_ok (ev.ScanHex n bytes) text today = scan_ok n today bytes
     event_ok (ev.Reconcile d) text today = at (Device d) _ (at Centre _ (reconcile_ok d (key_of d C)))

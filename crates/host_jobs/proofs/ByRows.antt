@@ -6,15 +6,15 @@ use Rattle.std.proofs.lemmas.Option.{same_Some, none-some}
 use Rattle.bench_base.specs.declared.words.JobState.{JobState}
 use Rattle.bench_base.specs.declared.words.JobState.TheVariants as state
 use Rattle.bench_base.specs.declared.ledger.Commit.{Commit}
-use Rattle.bench_base.specs.Jobs.{Job, cell_of, last_job, state_of, open_job, top, in_cells}
+use Rattle.bench_base.specs.Jobs.{Job, cell_of, last_job, job_of, state_of, open_job, top, in_cells}
 use Rattle.bench_base.specs.Ranges.{IsDevice}
 use Rattle.bench_base.proofs.Facts.{is-some}
 use Rattle.node_acts.specs.RowLaws.{listed_at, listed_same}
 use Rattle.host_jobs.specs.declared.rows.JobRow.{JobRow}
 use Rattle.host_jobs.specs.declared.sizes.TheConstants.{HOST_CELLS}
-use Rattle.host_jobs.specs.Answers.{shown_state}
+use Rattle.host_jobs.specs.Plans.{shown_job}
 use Rattle.host_jobs.specs.Rows.{Jobs, job_in, state_in, number_in, top_at, is_ordered, waiting, row_in, job_row, last_in, top_in, open_in, oldest_in, tops_in}
-use Rattle.host_jobs.specs.Records.{tops_after, cell_row}
+use Rattle.host_jobs.specs.Records.{tops_after, record_by, record_of, cell_row}
 use Rattle.host_jobs.specs.Soundness.{AreSound}
 use Rattle.host_jobs.specs.ActLaws.{AreRowsOf}
 use Rattle.host_jobs.proofs.Lists.{greatest-le, greatest-least}
@@ -150,8 +150,21 @@ module _ (rows : Jobs) (C : List Commit) (sound : AreSound rows) (are : AreRowsO
       let cell : last_in rows % 1024 ≡ cell_of (last_job C - 1023) = ap (λ (n : ℕ). n % 1024) last-is ∙ sym (cell-oldest (last_job C) le) in
       ap (λ (k : ℕ). state_in (row_in rows k)) cell ∙ ap state_in (row-is (cell_of (last_job C - 1023)) (cell-lt (last_job C - 1023)) ∙ it.at) ∙ sym it.is.state
 
-pub shown-in : (j : ℕ) (C : List Commit) → in_cells j C ≡ true → shown_state j C ≡ state_of j C
-shown-in j C is = ap (λ (t : Bool). if t then state_of j C else None) is
+-- == the row of a job by the commits ==
 
-pub shown-out : (j : ℕ) (C : List Commit) → in_cells j C ≡ false → shown_state j C ≡ None
-shown-out j C is = ap (λ (t : Bool). if t then state_of j C else None) is
+pub shown-in : (j : ℕ) (C : List Commit) (r : JobRow) → in_cells j C ≡ true → IsRowOf r j C → shown_job j C ≡ Some (record r { tops = tops_after C })
+shown-in j C r there is =
+    ap (λ (t : Bool). if t then record_of j C else None) there ∙ (λ i. record_by j C (is.job i) (is.state i))
+    ∙ (λ i. Some (record { job = sym is.number i; device = r.device; piece = r.piece; postage = r.postage; class = r.class; state = r.state; tops = tops_after C; indicium = is.held i }))
+
+pub shown-out : (j : ℕ) (C : List Commit) → in_cells j C ≡ false → shown_job j C ≡ None
+shown-out j C is = ap (λ (t : Bool). if t then record_of j C else None) is
+
+pub shown-is : (j : ℕ) (C : List Commit) (r : JobRow) → shown_job j C ≡ Some r → IsRowOf r j C
+shown-is j C r is = by (in_cells j C) (job_of j C) (state_of j C) refl refl is
+  where
+    by : (t : Bool) (b : Option Job) (s : Option JobState) → job_of j C ≡ b → state_of j C ≡ s → (if t then record_by j C b s else None) ≡ Some r → IsRowOf r j C
+    by false b s job at h = absurd (none-some _ h)
+    by true None s job at h = absurd (none-some _ h)
+    by true (Some b) None job at h = absurd (none-some _ h)
+    by true (Some b) (Some s) job at h = subst (λ (x : JobRow). IsRowOf x j C) (same_Some _ _ h) (record { number = refl; job = job; state = at; held = refl })

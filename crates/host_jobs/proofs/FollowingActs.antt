@@ -30,7 +30,7 @@ use Rattle.host_jobs.specs.Answers.{is_open, order_rows, order_answer, print_ans
 use Rattle.host_jobs.specs.Rows.{Jobs, job_in, row_in, put_row, job_row, last_in, top_in, open_in, oldest_in, tops_in}
 use Rattle.host_jobs.specs.Soundness.{AreSound}
 use Rattle.host_jobs.specs.Records.{tops_after, record_by, record_of, job_no, cell_row, rows_after}
-use Rattle.host_jobs.specs.Acts.{HostAct, shelf_in, ordered_row, ordered_act, order_act, moved, unless, begun_act, printed_act, closed_act, raised, held_row, held_act, open_act, mark_act, message_act}
+use Rattle.host_jobs.specs.Acts.{HostAct, in_rows, shelf_in, ordered_row, ordered_act, order_act, moved, unless, begun_act, printed_act, closed_act, raised, held_row, held_act, open_act, mark_act, message_act}
 use Rattle.host_jobs.specs.ActLaws.{AreRowsOf, FollowsCommits, ActsFollow}
 use Rattle.host_jobs.proofs.Found.{found-row, opened, Waits, tops-at}
 use Rattle.host_jobs.proofs.Answered.{OrderOk, order-ok, HoldOk, hold-ok, is-closed, no-room}
@@ -79,13 +79,13 @@ module _ (rows : Jobs) (C : List Commit) (sound : AreSound rows) (are : AreRowsO
     abbrev with_tops : List ℕ → Option (List ℕ) → Option JobRow
     with_tops tops mark = Some (record { job = j; device = d; piece = piece; postage = postage; class = class; state = state.Ordered; tops = tops; indicium = mark })
 
-    new-record : record_of j D ≡ Some (ordered_row j d piece class postage rows)
+    new-record : record_of j D ≡ Some (ordered_row j d piece class postage (tops_in rows))
     new-record =
         let stands : state_of j D ≡ Some state.Ordered = rw (eq-eqb j j refl) refl in
         ap (λ (o : Option Job). record_by j D o (state_of j D)) new-job ∙ ap (λ (o : Option JobState). record_by j D (Some what) o) stands
         ∙ ap (λ (o : Option (List ℕ)). with_tops (tops_after C) o) new-held ∙ ap (λ (l : List ℕ). with_tops l None) (sym (tops-are rows C sound are))
 
-    order-follows : AreRowsOf (put_row rows (ordered_row j d piece class postage rows)) D
+    order-follows : AreRowsOf (put_row rows (ordered_row j d piece class postage (tops_in rows))) D
     order-follows = record {
       order = (
         record {
@@ -100,15 +100,15 @@ module _ (rows : Jobs) (C : List Commit) (sound : AreSound rows) (are : AreRowsO
         },
         are.order,
       );
-      are = put-after (c.Ordered j d piece postage class) (ordered_row j d piece class postage rows) refl new-record;
+      are = put-after (c.Ordered j d piece postage class) (ordered_row j d piece class postage (tops_in rows)) refl new-record;
     }
 
   ordered-follows : (d piece class postage : ℕ) → IsDevice d → open_in d rows ≡ None → (o : Result ℕ HostRefusal) → first_holding (order_rows piece (shelf_in d rows)) (Ok (last_in rows + 1)) ≡ o
-      → FollowsCommits rows C (ordered_act d piece class postage rows o)
+      → FollowsCommits rows C (ordered_act d piece class postage (tops_in rows) o)
   ordered-follows d piece class postage device idle (Err x) at = tt
   ordered-follows d piece class postage device idle (Ok j) at = order-follows d piece class postage device idle j (order-ok piece (shelf_in d rows) j at)
 
-  answered-follows : (d piece class postage : ℕ) → IsDevice d → (o : Option ℕ) → open_in d rows ≡ o → FollowsCommits rows C (ordered_act d piece class postage rows (order_answer piece (shelf_in d rows) o))
+  answered-follows : (d piece class postage : ℕ) → IsDevice d → (o : Option ℕ) → open_in d rows ≡ o → FollowsCommits rows C (ordered_act d piece class postage (tops_in rows) (order_answer piece (shelf_in d rows) o))
   answered-follows d piece class postage device (Some j) at = tt
   answered-follows d piece class postage device None at = ordered-follows d piece class postage device at (first_holding (order_rows piece (shelf_in d rows)) (Ok (last_in rows + 1))) refl
 
@@ -132,34 +132,34 @@ module _ (rows : Jobs) (C : List Commit) (sound : AreSound rows) (are : AreRowsO
     record-after d s job stands =
         ap (λ (o : Option Job). record_by r.job (d ∷ C) o (state_of r.job (d ∷ C))) job ∙ ap (λ (o : Option JobState). record_by r.job (d ∷ C) (Some (job_in r)) o) stands
 
-    begun-follows : r.state ≡ state.Held → AreRowsOf (put_row rows (moved r state.Begun rows)) (c.Began r.job ∷ C)
+    begun-follows : r.state ≡ state.Held → AreRowsOf (put_row rows (moved r state.Begun (tops_in rows))) (c.Began r.job ∷ C)
     begun-follows at = record {
       order = (it.state ∙ ap (λ (s : JobState). Some s) at, are.order);
-      are = put-after (c.Began r.job) (moved r state.Begun rows) refl
+      are = put-after (c.Began r.job) (moved r state.Begun (tops_in rows)) refl
           (record-after (c.Began r.job) state.Begun it.job (rw (eq-eqb r.job r.job refl) refl)
           ∙ ap (λ (o : Option (List ℕ)). with_both state.Begun (tops_after C) o) it.held ∙ ap (λ (l : List ℕ). with_both state.Begun l r.indicium) (sym (tops-are rows C sound are)));
     }
 
-    prints : (s : JobState) → r.state ≡ s → FollowsCommits rows C (unless (print_answer (Some s)) (begun_act r r.indicium rows))
+    prints : (s : JobState) → r.state ≡ s → FollowsCommits rows C (unless (print_answer (Some s)) (begun_act r r.indicium (tops_in rows)))
     prints state.Ordered at = tt
     prints state.Begun at = tt
     prints state.Closed at = tt
     prints state.Held at = by r.indicium (begun-follows at)
       where
-        by : (o : Option (List ℕ)) → AreRowsOf (put_row rows (moved r state.Begun rows)) (c.Began r.job ∷ C) → FollowsCommits rows C (begun_act r o rows)
+        by : (o : Option (List ℕ)) → AreRowsOf (put_row rows (moved r state.Begun (tops_in rows))) (c.Began r.job ∷ C) → FollowsCommits rows C (begun_act r o (tops_in rows))
         by None follows = tt
         by (Some x) follows = follows
 
-    closed-follows : is_open (Some r.state) ≡ true → AreRowsOf (put_row rows (moved r state.Closed rows)) (c.Closed r.job ∷ C)
+    closed-follows : is_open (Some r.state) ≡ true → AreRowsOf (put_row rows (moved r state.Closed (tops_in rows))) (c.Closed r.job ∷ C)
     closed-follows live = record {
       order = (ap is_open it.state ∙ live, are.order);
-      are = put-after (c.Closed r.job) (moved r state.Closed rows) refl
+      are = put-after (c.Closed r.job) (moved r state.Closed (tops_in rows)) refl
           (record-after (c.Closed r.job) state.Closed it.job (rw (eq-eqb r.job r.job refl) refl)
           ∙ ap (λ (o : Option (List ℕ)). with_both state.Closed (tops_after C) o) it.held ∙ ap (λ (l : List ℕ). with_both state.Closed l r.indicium) (sym (tops-are rows C sound are)));
     }
 
     abbrev closing : HostAct (Unit {0})
-    closing = Commits (c.Closed r.job) (moved r state.Closed rows) tt
+    closing = Commits (c.Closed r.job) (moved r state.Closed (tops_in rows)) tt
 
     closes : (s : JobState) → r.state ≡ s → FollowsCommits rows C (unless (close_answer (Some s)) closing)
     closes state.Ordered at = closed-follows (ap (λ (s : JobState). is_open (Some s)) at)
@@ -202,43 +202,43 @@ module _ (rows : Jobs) (C : List Commit) (sound : AreSound rows) (are : AreRowsO
       raised-are = listed_is 8 (λ i. max (piece_at (i + 1) (job_of r.job C)) (top (i + 1) C)) 0 (raised r.device r.piece (tops_in rows))
           (length-set (tops_in rows) (r.device - 1) (max r.piece (get_or (tops_in rows) (r.device - 1) 0)) ∙ listed_long 8 (λ n. top_in (n + 1) rows)) raised-at
 
-      held-follows : AreRowsOf (put_row rows (held_row r x rows)) (c.Held r.job x ∷ C)
+      held-follows : AreRowsOf (put_row rows (held_row r x (tops_in rows))) (c.Held r.job x ∷ C)
       held-follows = record {
         order = (record { at = job_in r; job_is = it.job; open_is = open-now; mark = held-mark rows sound j r is x k reads waits ok }, are.order);
-        are = put-after (c.Held r.job x) (held_row r x rows) refl
+        are = put-after (c.Held r.job x) (held_row r x (tops_in rows)) refl
             (record-after (c.Held r.job x) state.Held it.job (rw (eq-eqb r.job r.job refl) refl)
             ∙ ap (λ (o : Option (List ℕ)). with_both state.Held (tops_after (c.Held r.job x ∷ C)) o) held-now ∙ ap (λ (l : List ℕ). with_both state.Held l (Some x)) raised-are);
       }
 
     holds : (x : List ℕ) (k : Mark × List ℕ) → read_mark x ≡ Ok k → open_in k.0.device rows ≡ Some j → Waits k.0.device r j → (o : Option HostRefusal) → hold_answer k.0 r.piece r.postage r.class ≡ o
-        → FollowsCommits rows C (unless o (Commits (c.Held r.job x) (held_row r x rows) r.job))
+        → FollowsCommits rows C (unless o (Commits (c.Held r.job x) (held_row r x (tops_in rows)) r.job))
     holds x k reads has waits None at = held-follows x k reads has waits (hold-ok k.0 r.piece r.postage r.class at)
     holds x k reads has waits (Some y) at = tt
 
-  print-follows : (j : ℕ) (o : Option JobRow) → job_row rows j ≡ o → FollowsCommits rows C (printed_act o rows)
+  print-follows : (j : ℕ) (o : Option JobRow) → job_row rows j ≡ o → FollowsCommits rows C (printed_act o (tops_in rows))
   print-follows j None at = tt
   print-follows j (Some r) at = prints j r at r.state refl
 
-  close-follows : (j : ℕ) (o : Option JobRow) → job_row rows j ≡ o → FollowsCommits rows C (closed_act o rows)
+  close-follows : (j : ℕ) (o : Option JobRow) → job_row rows j ≡ o → FollowsCommits rows C (closed_act o (tops_in rows))
   close-follows j None at = tt
   close-follows j (Some r) at = closes j r at r.state refl
 
-  hold-follows : (x : List ℕ) (k : Mark × List ℕ) → read_mark x ≡ Ok k → (j : ℕ) → open_in k.0.device rows ≡ Some j → (o : Option JobRow) → job_row rows j ≡ o → FollowsCommits rows C (held_act x k.0 o rows)
+  hold-follows : (x : List ℕ) (k : Mark × List ℕ) → read_mark x ≡ Ok k → (j : ℕ) → open_in k.0.device rows ≡ Some j → (o : Option JobRow) → job_row rows j ≡ o → FollowsCommits rows C (held_act x k.0 o (tops_in rows))
   hold-follows x k reads j has None at = tt
   hold-follows x k reads j has (Some r) at =
       let row = opened rows sound.placed k.0.device j has in
       let same : row.row ≡ r = same_Some _ _ (sym row.is ∙ (found-row rows j r at).0) in
       holds j r at x k reads has (subst (λ (y : JobRow). Waits k.0.device y j) same row.waits) (hold_answer k.0 r.piece r.postage r.class) refl
 
-  open-follows : (x : List ℕ) (k : Mark × List ℕ) → read_mark x ≡ Ok k → (o : Option ℕ) → open_in k.0.device rows ≡ o → FollowsCommits rows C (open_act x k.0 o rows)
+  open-follows : (x : List ℕ) (k : Mark × List ℕ) → read_mark x ≡ Ok k → (o : Option ℕ) → open_in k.0.device rows ≡ o → FollowsCommits rows C (open_act x k.0 o (in_rows rows))
   open-follows x k reads None at = tt
   open-follows x k reads (Some j) at = hold-follows x k reads j at (job_row rows j) refl
 
-  mark-follows : (x : List ℕ) (o : Result (Mark × List ℕ) MarkFault) → read_mark x ≡ o → FollowsCommits rows C (mark_act x o rows)
+  mark-follows : (x : List ℕ) (o : Result (Mark × List ℕ) MarkFault) → read_mark x ≡ o → FollowsCommits rows C (mark_act x o (in_rows rows))
   mark-follows x (Err fault) reads = tt
   mark-follows x (Ok k) reads = open-follows x k reads (open_in k.0.device rows) refl
 
-  message-follows : (o : Result Message Unread) → FollowsCommits rows C (message_act o rows)
+  message-follows : (o : Result Message Unread) → FollowsCommits rows C (message_act o (in_rows rows))
   message-follows (Ok (m.Release x)) = mark-follows x (read_mark x) refl
   message-follows (Ok (m.Request q)) = tt
   message-follows (Ok (m.Reply q)) = tt

@@ -8,6 +8,7 @@ pub mod JobFacts
 pub mod CellFacts
 pub mod ByRows
 pub mod PlannedActs
+pub mod Own
 pub mod FollowingActs
 pub mod Walks
 pub mod Keeping

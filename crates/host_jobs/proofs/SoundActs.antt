@@ -26,7 +26,7 @@ use Rattle.host_jobs.specs.Answers.{is_open, order_rows, order_answer, send_answ
 use Rattle.host_jobs.specs.Order.{IsMarkOf}
 use Rattle.host_jobs.specs.Rows.{Jobs, job_in, is_ordered, top_at, row_in, state_in, job_row, last_in, top_in, open_in, oldest_in, tops_in}
 use Rattle.host_jobs.specs.Soundness.{IsMarked, Holds, IsSoundJob, AreSound, IsNext}
-use Rattle.host_jobs.specs.Acts.{HostAct, shelf_in, ordered_row, ordered_act, order_act, moved, unless, sent_act, begun_act, printed_act, closed_act, raised, held_row, held_act, open_act, mark_act, message_act}
+use Rattle.host_jobs.specs.Acts.{HostAct, in_rows, shelf_in, ordered_row, ordered_act, order_act, moved, unless, sent_act, begun_act, printed_act, closed_act, raised, held_row, held_act, open_act, mark_act, message_act}
 use Rattle.host_jobs.specs.ActLaws.{LeavesSound, IsPrice, ActsLeaveSound}
 use Rattle.host_jobs.proofs.Cells.{cell-next}
 use Rattle.host_jobs.proofs.Found.{Waits, found-row, row-at, row-top, opened, tops-at}
@@ -47,7 +47,7 @@ module _ (rows : Jobs) (sound : AreSound rows) where
     own-top : get_or r.tops (r.device - 1) 0 ≤ top_in r.device rows
     own-top = omega (arith, row-top rows sound.placed r.device (cell_of r.job), ap (top_at r.device) here)
 
-    moved-sound : (s : JobState) → IsMarked s r.indicium → IsSoundJob (moved r s rows)
+    moved-sound : (s : JobState) → IsMarked s r.indicium → IsSoundJob (moved r s (tops_in rows))
     moved-sound s marked = record {
       job = sound-row.job;
       device = sound-row.device;
@@ -58,12 +58,12 @@ module _ (rows : Jobs) (sound : AreSound rows) where
       holds = holds r.indicium sound-row.holds;
     }
       where
-        holds : (o : Option (List ℕ)) → IfSome o (Holds r) → IfSome o (Holds (moved r s rows))
+        holds : (o : Option (List ℕ)) → IfSome o (Holds r) → IfSome o (Holds (moved r s (tops_in rows)))
         holds None h = tt
         holds (Some x) h = record { mark = h.mark; top = omega (arith, h.top, own-top, tops-at rows r.device sound-row.device) }
 
-    moved-next : (s : JobState) → IsMarked s r.indicium → is_ordered s ≡ false → IsNext rows (moved r s rows)
-    moved-next s marked ordered = on-next rows sound r (moved r s rows) here (record {
+    moved-next : (s : JobState) → IsMarked s r.indicium → is_ordered s ≡ false → IsNext rows (moved r s (tops_in rows))
+    moved-next s marked ordered = on-next rows sound r (moved r s (tops_in rows)) here (record {
       sound = moved-sound s marked;
       job = refl;
       device = refl;
@@ -75,18 +75,18 @@ module _ (rows : Jobs) (sound : AreSound rows) where
     begun-marked None h = h
     begun-marked (Some x) h = h
 
-    pub prints : (s : JobState) → r.state ≡ s → LeavesSound rows (unless (print_answer (Some s)) (begun_act r r.indicium rows))
+    pub prints : (s : JobState) → r.state ≡ s → LeavesSound rows (unless (print_answer (Some s)) (begun_act r r.indicium (tops_in rows)))
     prints state.Ordered at = tt
     prints state.Begun at = tt
     prints state.Closed at = tt
     prints state.Held at = by r.indicium (moved-next state.Begun (begun-marked r.indicium (subst (λ (s : JobState). IsMarked s r.indicium) at sound-row.marked)) refl)
       where
-        by : (o : Option (List ℕ)) → IsNext rows (moved r state.Begun rows) → LeavesSound rows (begun_act r o rows)
+        by : (o : Option (List ℕ)) → IsNext rows (moved r state.Begun (tops_in rows)) → LeavesSound rows (begun_act r o (tops_in rows))
         by None next = tt
         by (Some x) next = (next, refl, refl)
 
     abbrev closing : HostAct (Unit {0})
-    closing = Commits (c.Closed r.job) (moved r state.Closed rows) tt
+    closing = Commits (c.Closed r.job) (moved r state.Closed (tops_in rows)) tt
 
     pub closes : (o : Option HostRefusal) → LeavesSound rows (unless o closing)
     closes None = (moved-next state.Closed tt refl, refl, refl)
@@ -115,8 +115,8 @@ module _ (rows : Jobs) (sound : AreSound rows) where
           get_or-set_other (tops_in rows) (r.device - 1) (d - 1) (max r.piece (get_or (tops_in rows) (r.device - 1) 0)) 0 (λ same. differs (omega (arith, same, device, sound-row.device)))
           ∙ tops-at rows d device
 
-      pub held-next : HoldOk k.0 r.piece r.postage r.class → IsNext rows (held_row r x rows)
-      held-next ok = on-next rows sound r (held_row r x rows) here (record {
+      pub held-next : HoldOk k.0 r.piece r.postage r.class → IsNext rows (held_row r x (tops_in rows))
+      held-next ok = on-next rows sound r (held_row r x (tops_in rows)) here (record {
         sound = record {
           job = sound-row.job;
           device = sound-row.device;
@@ -136,14 +136,14 @@ module _ (rows : Jobs) (sound : AreSound rows) where
       })
 
       pub holds : (o : Option HostRefusal) → hold_answer k.0 r.piece r.postage r.class ≡ o
-          → LeavesSound rows (unless o (Commits (c.Held r.job x) (held_row r x rows) r.job))
+          → LeavesSound rows (unless o (Commits (c.Held r.job x) (held_row r x (tops_in rows)) r.job))
       holds None at = (held-next (hold-ok k.0 r.piece r.postage r.class at), refl, refl)
       holds (Some y) at = tt
 
   -- == order ==
 
   module _ (d piece class postage : ℕ) (device : IsDevice d) (fits : IsPostage postage) (idle : open_in d rows ≡ None) where
-    pub begins : (j : ℕ) → OrderOk piece (shelf_in d rows) j → Begins rows (ordered_row j d piece class postage rows)
+    pub begins : (j : ℕ) → OrderOk piece (shelf_in d rows) j → Begins rows (ordered_row j d piece class postage (tops_in rows))
     begins j ok = record {
       sound = record {
         job = omega (arith, ok.next);
@@ -166,11 +166,11 @@ module _ (rows : Jobs) (sound : AreSound rows) where
           ∙ no-room (last_in rows) (oldest_in rows) ok.room (oldest-closed rows r sound at));
     }
 
-    pub orders : (o : Result ℕ HostRefusal) → first_holding (order_rows piece (shelf_in d rows)) (Ok (last_in rows + 1)) ≡ o → LeavesSound rows (ordered_act d piece class postage rows o)
+    pub orders : (o : Result ℕ HostRefusal) → first_holding (order_rows piece (shelf_in d rows)) (Ok (last_in rows + 1)) ≡ o → LeavesSound rows (ordered_act d piece class postage (tops_in rows) o)
     orders (Err x) at = tt
-    orders (Ok j) at = (new-next rows sound (ordered_row j d piece class postage rows) (begins j (order-ok piece (shelf_in d rows) j at)), refl, refl)
+    orders (Ok j) at = (new-next rows sound (ordered_row j d piece class postage (tops_in rows)) (begins j (order-ok piece (shelf_in d rows) j at)), refl, refl)
 
-  order-any : (d piece class postage : ℕ) → IsDevice d → IsPostage postage → (o : Option ℕ) → open_in d rows ≡ o → LeavesSound rows (ordered_act d piece class postage rows (order_answer piece (shelf_in d rows) o))
+  order-any : (d piece class postage : ℕ) → IsDevice d → IsPostage postage → (o : Option ℕ) → open_in d rows ≡ o → LeavesSound rows (ordered_act d piece class postage (tops_in rows) (order_answer piece (shelf_in d rows) o))
   order-any d piece class postage device fits (Some j) at = tt
   order-any d piece class postage device fits None at =
       orders d piece class postage device fits at (first_holding (order_rows piece (shelf_in d rows)) (Ok (last_in rows + 1))) refl
@@ -192,32 +192,32 @@ module _ (rows : Jobs) (sound : AreSound rows) where
       by state.Begun = tt
       by state.Closed = tt
 
-  print-leaves : (j : ℕ) (o : Option JobRow) → job_row rows j ≡ o → LeavesSound rows (printed_act o rows)
+  print-leaves : (j : ℕ) (o : Option JobRow) → job_row rows j ≡ o → LeavesSound rows (printed_act o (tops_in rows))
   print-leaves j None at = tt
   print-leaves j (Some r) at = prints j r at r.state refl
 
-  close-leaves : (j : ℕ) (o : Option JobRow) → job_row rows j ≡ o → LeavesSound rows (closed_act o rows)
+  close-leaves : (j : ℕ) (o : Option JobRow) → job_row rows j ≡ o → LeavesSound rows (closed_act o (tops_in rows))
   close-leaves j None at = tt
   close-leaves j (Some r) at = closes j r at (close_answer (Some r.state))
 
   -- == a Release ==
 
-  held-leaves : (x : List ℕ) (k : Mark × List ℕ) → read_mark x ≡ Ok k → (j : ℕ) → open_in k.0.device rows ≡ Some j → (o : Option JobRow) → job_row rows j ≡ o → LeavesSound rows (held_act x k.0 o rows)
+  held-leaves : (x : List ℕ) (k : Mark × List ℕ) → read_mark x ≡ Ok k → (j : ℕ) → open_in k.0.device rows ≡ Some j → (o : Option JobRow) → job_row rows j ≡ o → LeavesSound rows (held_act x k.0 o (tops_in rows))
   held-leaves x k reads j open_is None at = tt
   held-leaves x k reads j open_is (Some r) at =
       let it = opened rows sound.placed k.0.device j open_is in
       let same : it.row ≡ r = same_Some _ _ (sym it.is ∙ (found-row rows j r at).0) in
       holds j r at x k reads (subst (λ (y : JobRow). Waits k.0.device y j) same it.waits) (hold_answer k.0 r.piece r.postage r.class) refl
 
-  open-leaves : (x : List ℕ) (k : Mark × List ℕ) → read_mark x ≡ Ok k → (o : Option ℕ) → open_in k.0.device rows ≡ o → LeavesSound rows (open_act x k.0 o rows)
+  open-leaves : (x : List ℕ) (k : Mark × List ℕ) → read_mark x ≡ Ok k → (o : Option ℕ) → open_in k.0.device rows ≡ o → LeavesSound rows (open_act x k.0 o (in_rows rows))
   open-leaves x k reads None at = tt
   open-leaves x k reads (Some j) at = held-leaves x k reads j at (job_row rows j) refl
 
-  mark-leaves : (x : List ℕ) (o : Result (Mark × List ℕ) MarkFault) → read_mark x ≡ o → LeavesSound rows (mark_act x o rows)
+  mark-leaves : (x : List ℕ) (o : Result (Mark × List ℕ) MarkFault) → read_mark x ≡ o → LeavesSound rows (mark_act x o (in_rows rows))
   mark-leaves x (Err fault) reads = tt
   mark-leaves x (Ok k) reads = open-leaves x k reads (open_in k.0.device rows) refl
 
-  message-leaves : (o : Result Message Unread) → LeavesSound rows (message_act o rows)
+  message-leaves : (o : Result Message Unread) → LeavesSound rows (message_act o (in_rows rows))
   message-leaves (Ok (m.Release x)) = mark-leaves x (read_mark x) refl
   message-leaves (Ok (m.Request q)) = tt
   message-leaves (Ok (m.Reply q)) = tt

@@ -1,22 +1,15 @@
--- What holds of the acts of all rows: they leave sound rows, and do what the ledger plans over the commits whose rows these are.
+-- What holds of the acts of all rows: they leave sound rows, and are by the rows of some commits what they are by these.
 use Rattle.std.specs.Prelude.{◌≡◌, ℕ, List, [], ◌∷◌, Option, Result, IfSome, IfOk}
 use Rattle.bench_base.specs.Nodes.{node_of}
-use Rattle.bench_base.specs.Plans.{Plan}
 use Rattle.bench_base.specs.Ranges.{IsDevice, IsPostage}
 use Rattle.bench_base.specs.Cells.{OfJob, place_of}
-use Rattle.bench_base.specs.Jobs.{cell_of, job_of, held_of}
+use Rattle.bench_base.specs.Jobs.{cell_of}
 use Rattle.bench_base.specs.declared.words.Node.TheVariants.{Host}
 use Rattle.bench_base.specs.declared.refusals.RateRefusal.{RateRefusal}
-use Rattle.bench_base.specs.declared.events.Reply.{Reply}
-use Rattle.bench_base.specs.declared.events.Reply.TheVariants as r
 use Rattle.bench_base.specs.declared.ledger.Commit.{Commit}
-use Rattle.bench_base.specs.declared.ledger.Entry.{Entry}
-use Rattle.bench_base.specs.declared.ledger.Entry.TheVariants as e
-use Rattle.node_acts.specs.Plans.{plan_of}
 use Rattle.node_acts.specs.declared.act.Act.TheVariants.{Refuse, Tell, Commits}
-use Rattle.psd_wire.specs.Grammar.{read}
-use Rattle.host_jobs.specs.Answers.{order_plan, shelf_of, send_plan, print_plan, close_plan, host_take, shown_state}
-use Rattle.host_jobs.specs.Acts.{HostAct, order_act, debit_message_act, take_act, begin_print_act, close_act}
+use Rattle.host_jobs.specs.Acts.{HostAct, order_by, order_act, debit_message_by, debit_message_act, take_by, take_act, begin_print_by, begin_print_act, close_by, close_act}
+use Rattle.host_jobs.specs.Plans.{in_commits}
 use Rattle.host_jobs.specs.Records.{rows_after}
 use Rattle.host_jobs.specs.Rows.{Jobs, no_jobs, put_row}
 use Rattle.host_jobs.specs.Soundness.{AreSound, IsNext}
@@ -68,19 +61,15 @@ pub record ActsFollow : Type 0 where
   pub none : AreRowsOf no_jobs []
   pub each : (rows : Jobs) (C : List Commit) → AreSound rows → AreRowsOf rows C → FollowingActs rows C
 
--- == the plans ==
+-- == what is looked up ==
 
-abbrev pub act_plan : {A : Type 0} → (A → Reply) → (A → List Entry) → HostAct A → Plan
-act_plan reply tell act = plan_of r.HostRefused reply tell act
-
--- each act's plan is the ledger's
+-- each act by the rows of the commits is the one by the commits, off which the ledger's plan is read
 pub record PlannedActs (rows : Jobs) (C : List Commit) : Type 0 where
-  pub ordered : (d piece class : ℕ) (price : Option (Result ℕ RateRefusal)) → IsDevice d
-      → act_plan (λ a. r.Ordered a.job a.postage) (λ a. []) (order_act d piece class price rows) ≡ order_plan d piece class (shelf_of d C) price
-  pub sent : (k j : ℕ) → act_plan (λ note. r.SentDebit j k) (λ note. e.Sent note ∷ []) (debit_message_act j rows) ≡ send_plan k j (shown_state j C) (job_of j C)
-  pub taken : (bytes : List ℕ) → act_plan (λ j. r.Held j) (λ j. []) (take_act bytes rows) ≡ host_take (read bytes) C
-  pub begun : (j : ℕ) → act_plan (λ x. r.Printed j) (λ x. e.Printed j x ∷ []) (begin_print_act j rows) ≡ print_plan j (shown_state j C) (held_of j C)
-  pub closed : (j : ℕ) → act_plan (λ a. r.Closed j) (λ a. []) (close_act j rows) ≡ close_plan j (shown_state j C)
+  pub ordered : (d piece class : ℕ) (price : Option (Result ℕ RateRefusal)) → IsDevice d → order_act d piece class price rows ≡ order_by d piece class price (in_commits C)
+  pub sent : (j : ℕ) → debit_message_act j rows ≡ debit_message_by j (in_commits C)
+  pub taken : (bytes : List ℕ) → take_act bytes rows ≡ take_by bytes (in_commits C)
+  pub begun : (j : ℕ) → begin_print_act j rows ≡ begin_print_by j (in_commits C)
+  pub closed : (j : ℕ) → close_act j rows ≡ close_by j (in_commits C)
 
 abbrev pub ActsArePlanned : Type 0
 ActsArePlanned = (rows : Jobs) (C : List Commit) → AreSound rows → AreRowsOf rows C → PlannedActs rows C

@@ -1,4 +1,4 @@
--- What each call of the host does, by its rows. Postage is in mills.
+-- What each call of the host does, by what it looks up: in its rows, or in a list of commits. Postage is in mills.
 use Rattle.std.specs.Prelude.{ℕ, ◌-◌, List, [], get_or, set, max, Option, Some, None, Result, Ok, Err}
 use Rattle.bench_base.specs.declared.words.JobState.{JobState}
 use Rattle.bench_base.specs.declared.words.JobState.TheVariants as state
@@ -25,32 +25,43 @@ use Rattle.host_jobs.specs.Rows.{Jobs, job_in, job_row, last_in, top_in, open_in
 abbrev pub HostAct : Type 0 → Type 0
 HostAct A = Act JobRow HostRefusal A
 
--- == order ==
+-- what is told when a piece of a device is ordered, the row of a job that a cell holds, and the tops of devices 1 to 8
+pub record LookUps : Type 0 where
+  pub shelf : ℕ → Shelf
+  pub job : ℕ → Option JobRow
+  pub tops : List ℕ
 
--- what the rows tell when a piece of device d is ordered
 abbrev pub shelf_in : ℕ → Jobs → Shelf
 shelf_in d rows = record { last = last_in rows; open_job = open_in d rows; top = top_in d rows; oldest = oldest_in rows }
 
-abbrev pub ordered_row : ℕ → ℕ → ℕ → ℕ → ℕ → Jobs → JobRow
-ordered_row j d piece class postage rows =
-    record { job = j; device = d; piece = piece; postage = postage; class = class; state = state.Ordered; tops = tops_in rows; indicium = None }
+abbrev pub in_rows : Jobs → LookUps
+in_rows rows = record { shelf = λ d. shelf_in d rows; job = λ j. job_row rows j; tops = tops_in rows }
 
-abbrev pub ordered_act : ℕ → ℕ → ℕ → ℕ → Jobs → Result ℕ HostRefusal → HostAct Ordered
-ordered_act d piece class postage rows (Err x) = Refuse x
-ordered_act d piece class postage rows (Ok j) =
-    Commits (c.Ordered j d piece postage class) (ordered_row j d piece class postage rows) (record { job = j; postage = postage })
+-- == order ==
+
+abbrev pub ordered_row : ℕ → ℕ → ℕ → ℕ → ℕ → List ℕ → JobRow
+ordered_row j d piece class postage tops =
+    record { job = j; device = d; piece = piece; postage = postage; class = class; state = state.Ordered; tops = tops; indicium = None }
+
+abbrev pub ordered_act : ℕ → ℕ → ℕ → ℕ → List ℕ → Result ℕ HostRefusal → HostAct Ordered
+ordered_act d piece class postage tops (Err x) = Refuse x
+ordered_act d piece class postage tops (Ok j) =
+    Commits (c.Ordered j d piece postage class) (ordered_row j d piece class postage tops) (record { job = j; postage = postage })
 
 -- the price comes first: there are no rates, or they refuse, or they say the postage
+abbrev pub order_by : ℕ → ℕ → ℕ → Option (Result ℕ RateRefusal) → LookUps → HostAct Ordered
+order_by d piece class None at = Refuse no.NoRates
+order_by d piece class (Some (Err x)) at = Refuse (no.Rate x)
+order_by d piece class (Some (Ok postage)) at = ordered_act d piece class postage at.tops (order_answer piece (at.shelf d) (at.shelf d).open_job)
+
 abbrev pub order_act : ℕ → ℕ → ℕ → Option (Result ℕ RateRefusal) → Jobs → HostAct Ordered
-order_act d piece class None rows = Refuse no.NoRates
-order_act d piece class (Some (Err x)) rows = Refuse (no.Rate x)
-order_act d piece class (Some (Ok postage)) rows = ordered_act d piece class postage rows (order_answer piece (shelf_in d rows) (open_in d rows))
+order_act d piece class price rows = order_by d piece class price (in_rows rows)
 
 -- == a job in its cell ==
 
 -- the row in this state, with the present tops
-abbrev pub moved : JobRow → JobState → Jobs → JobRow
-moved r s rows = record r { state = s; tops = tops_in rows }
+abbrev pub moved : JobRow → JobState → List ℕ → JobRow
+moved r s tops = record r { state = s; tops = tops }
 
 abbrev pub unless : {A : Type 0} → Option HostRefusal → HostAct A → HostAct A
 unless None act = act
@@ -64,27 +75,36 @@ abbrev pub sent_act : Option JobRow → HostAct (List ℕ)
 sent_act None = Refuse no.NoJob
 sent_act (Some r) = unless (send_answer (Some r.state)) (Tell (debit_note r))
 
+abbrev pub debit_message_by : ℕ → LookUps → HostAct (List ℕ)
+debit_message_by j at = sent_act (at.job j)
+
 abbrev pub debit_message_act : ℕ → Jobs → HostAct (List ℕ)
-debit_message_act j rows = sent_act (job_row rows j)
+debit_message_act j rows = debit_message_by j (in_rows rows)
 
 -- the mark is told, which is to be printed
-abbrev pub begun_act : JobRow → Option (List ℕ) → Jobs → HostAct (List ℕ)
-begun_act r None rows = Refuse no.NoJob
-begun_act r (Some x) rows = Commits (c.Began r.job) (moved r state.Begun rows) x
+abbrev pub begun_act : JobRow → Option (List ℕ) → List ℕ → HostAct (List ℕ)
+begun_act r None tops = Refuse no.NoJob
+begun_act r (Some x) tops = Commits (c.Began r.job) (moved r state.Begun tops) x
 
-abbrev pub printed_act : Option JobRow → Jobs → HostAct (List ℕ)
-printed_act None rows = Refuse no.NoJob
-printed_act (Some r) rows = unless (print_answer (Some r.state)) (begun_act r r.indicium rows)
+abbrev pub printed_act : Option JobRow → List ℕ → HostAct (List ℕ)
+printed_act None tops = Refuse no.NoJob
+printed_act (Some r) tops = unless (print_answer (Some r.state)) (begun_act r r.indicium tops)
+
+abbrev pub begin_print_by : ℕ → LookUps → HostAct (List ℕ)
+begin_print_by j at = printed_act (at.job j) at.tops
 
 abbrev pub begin_print_act : ℕ → Jobs → HostAct (List ℕ)
-begin_print_act j rows = printed_act (job_row rows j) rows
+begin_print_act j rows = begin_print_by j (in_rows rows)
 
-abbrev pub closed_act : Option JobRow → Jobs → HostAct (Unit {0})
-closed_act None rows = Refuse no.NoJob
-closed_act (Some r) rows = unless (close_answer (Some r.state)) (Commits (c.Closed r.job) (moved r state.Closed rows) tt)
+abbrev pub closed_act : Option JobRow → List ℕ → HostAct (Unit {0})
+closed_act None tops = Refuse no.NoJob
+closed_act (Some r) tops = unless (close_answer (Some r.state)) (Commits (c.Closed r.job) (moved r state.Closed tops) tt)
+
+abbrev pub close_by : ℕ → LookUps → HostAct (Unit {0})
+close_by j at = closed_act (at.job j) at.tops
 
 abbrev pub close_act : ℕ → Jobs → HostAct (Unit {0})
-close_act j rows = closed_act (job_row rows j) rows
+close_act j rows = close_by j (in_rows rows)
 
 -- == a Release ==
 
@@ -92,27 +112,30 @@ close_act j rows = closed_act (job_row rows j) rows
 abbrev pub raised : ℕ → ℕ → List ℕ → List ℕ
 raised d piece tops = set tops (d - 1) (max piece (get_or tops (d - 1) 0))
 
-abbrev pub held_row : JobRow → List ℕ → Jobs → JobRow
-held_row r x rows = record r { state = state.Held; tops = raised r.device r.piece (tops_in rows); indicium = Some x }
+abbrev pub held_row : JobRow → List ℕ → List ℕ → JobRow
+held_row r x tops = record r { state = state.Held; tops = raised r.device r.piece tops; indicium = Some x }
 
 -- the number of the job that takes the mark is told
-abbrev pub held_act : List ℕ → Mark → Option JobRow → Jobs → HostAct ℕ
-held_act x k None rows = Refuse no.NoJob
-held_act x k (Some r) rows = unless (hold_answer k r.piece r.postage r.class) (Commits (c.Held r.job x) (held_row r x rows) r.job)
+abbrev pub held_act : List ℕ → Mark → Option JobRow → List ℕ → HostAct ℕ
+held_act x k None tops = Refuse no.NoJob
+held_act x k (Some r) tops = unless (hold_answer k r.piece r.postage r.class) (Commits (c.Held r.job x) (held_row r x tops) r.job)
 
-abbrev pub open_act : List ℕ → Mark → Option ℕ → Jobs → HostAct ℕ
-open_act x k None rows = Refuse no.NoJob
-open_act x k (Some j) rows = held_act x k (job_row rows j) rows
+abbrev pub open_act : List ℕ → Mark → Option ℕ → LookUps → HostAct ℕ
+open_act x k None at = Refuse no.NoJob
+open_act x k (Some j) at = held_act x k (at.job j) at.tops
 
-abbrev pub mark_act : List ℕ → Result (Mark × List ℕ) MarkFault → Jobs → HostAct ℕ
-mark_act x (Err fault) rows = Refuse (no.Unread unread.Mark)
-mark_act x (Ok k) rows = open_act x k.0 (open_in k.0.device rows) rows
+abbrev pub mark_act : List ℕ → Result (Mark × List ℕ) MarkFault → LookUps → HostAct ℕ
+mark_act x (Err fault) at = Refuse (no.Unread unread.Mark)
+mark_act x (Ok k) at = open_act x k.0 (at.shelf k.0.device).open_job at
 
 -- what is done with the message that the bytes read as
-abbrev pub message_act : Result Message Unread → Jobs → HostAct ℕ
-message_act (Ok (m.Release x)) rows = mark_act x (read_mark x) rows
-message_act (Ok _) rows = Refuse (no.Unread unread.Tag)
-message_act (Err x) rows = Refuse (no.Unread x)
+abbrev pub message_act : Result Message Unread → LookUps → HostAct ℕ
+message_act (Ok (m.Release x)) at = mark_act x (read_mark x) at
+message_act (Ok _) at = Refuse (no.Unread unread.Tag)
+message_act (Err x) at = Refuse (no.Unread x)
+
+abbrev pub take_by : List ℕ → LookUps → HostAct ℕ
+take_by bytes at = message_act (read bytes) at
 
 abbrev pub take_act : List ℕ → Jobs → HostAct ℕ
-take_act bytes rows = message_act (read bytes) rows
+take_act bytes rows = take_by bytes (in_rows rows)

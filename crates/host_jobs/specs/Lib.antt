@@ -4,6 +4,7 @@ pub mod Acts
 pub mod Answers
 pub mod Payload
 pub mod PayloadLaws
+pub mod Plans
 pub mod Rows
 pub mod Seen
 pub mod SeenLaws

@@ -149,7 +149,7 @@ fn debit_note(row: &JobRow) -> Note
 // The row in this state, with the present tops.
 fn moved(row: &JobRow, state: JobState, rows: &JobRows, kept: &Kept) -> JobRow
     requires { IsKept rows.now kept.now }
-    ensures { result ≡ act_of.moved row.now state rows.now }
+    ensures { result ≡ act_of.moved row.now state (told.tops_in rows.now) }
 {
     JobRow {
         state,
@@ -202,7 +202,7 @@ pub fn close_act(job: u32, rows: &JobRows, kept: &Kept) -> HostAct<()>
 // The row with the mark, and its piece among the tops.
 fn held_row(row: &JobRow, mark: &[u8; 64], rows: &JobRows, kept: &Kept) -> JobRow
     requires { IsKept rows.now kept.now }
-    ensures { result ≡ act_of.held_row row.now mark.now rows.now }
+    ensures { result ≡ act_of.held_row row.now mark.now (told.tops_in rows.now) }
 {
     let place = row.device.get() as usize - 1;
     let mut tops = kept.tops;
@@ -230,7 +230,7 @@ fn open_job(device: u32, rows: &JobRows, kept: &Kept) -> Option<u32>
 
 fn held_act(bytes: &[u8; 64], mark: &Mark, job: u32, rows: &JobRows, kept: &Kept) -> HostAct<u32>
     requires { IsKept rows.now kept.now }
-    ensures { result ≡ act_of.held_act bytes.now mark.now (told.job_row rows.now job) rows.now }
+    ensures { result ≡ act_of.held_act bytes.now mark.now (told.job_row rows.now job) (told.tops_in rows.now) }
 {
     let Some(row) = rows.job(job) else {
         return Act::Refuse(HostRefusal::NoJob);
@@ -250,7 +250,7 @@ fn held_act(bytes: &[u8; 64], mark: &Mark, job: u32, rows: &JobRows, kept: &Kept
 
 fn mark_act(bytes: &[u8; 64], rows: &JobRows, kept: &Kept) -> HostAct<u32>
     requires { IsKept rows.now kept.now }
-    ensures { result ≡ act_of.mark_act bytes.now (read_mark bytes.now) rows.now }
+    ensures { result ≡ act_of.mark_act bytes.now (read_mark bytes.now) (act_of.in_rows rows.now) }
 {
     let Ok((mark, _)) = read_indicium(bytes) else {
         return Act::Refuse(HostRefusal::Unread(Unread::Mark));

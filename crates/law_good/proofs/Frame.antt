@@ -10,14 +10,13 @@ use Rattle.bench_base.specs.Rules.{Rules}
 use Rattle.psd_wire.specs.declared.message.Request.{Request}
 use Rattle.ledger_terms.specs.Requests.{request_in}
 use Rattle.ledger_terms.specs.Centres.{ruled, done}
-use Rattle.law_good.proofs.Good.{Fits}
+use Rattle.law_good.proofs.Good.{Fits, is_full}
 use Rattle.bench_base.specs.declared.words.Node.TheVariants.{Centre, Host, Verifier}
 use Rattle.bench_base.specs.Nodes.{same_node, node_of}
 use Rattle.bench_base.specs.Jobs.{last_job, job_of, state_of, open_job, top}
 use Rattle.bench_base.specs.Scans.{trusted, accepted, blocks}
 use Rattle.bench_base.specs.declared.words.JobState.{JobState}
 use Rattle.host_jobs.specs.Answers.{is_open}
-use Rattle.verifier.specs.Answers.{is_full}
 use Rattle.std.specs.Prelude.{nat_le}
 use Rattle.psd_wire.specs.declared.message.ReplyMsg.{ReplyMsg}
 use Rattle.psd_wire.specs.declared.message.Message.TheVariants as m

@@ -3,8 +3,8 @@
 -- facts stand here: facts about the node's own commits, and, about other nodes, look-ups by number that stay once they are
 -- found. So a commit of one node can't spoil what another node's commit rests on. The records speak of values and not of the
 -- list, so that a commit that changes none of them leaves them as they are.
-use Rattle.std.proofs.Common.{◌≡◌, ℕ, ℤ, pos, ◌+◌, ◌-◌, ◌<◌, ◌≤◌, ◌+ℤ◌, Bool, true, false, List, [], ◌∷◌, Option, Some, None, Ok}
-use Rattle.std.specs.Prelude.{◌||◌, ◌&&◌, nat_le, ◌≤ℤ◌, ◌<ℤ◌}
+use Rattle.std.proofs.Common.{◌≡◌, ℕ, ℤ, pos, ◌+◌, ◌-◌, ◌<◌, ◌≤◌, ◌+ℤ◌, Bool, true, false, List, [], ◌∷◌, length, Option, Some, None, Ok}
+use Rattle.std.specs.Prelude.{◌||◌, ◌&&◌, is_none, nat_le, ◌≤ℤ◌, ◌<ℤ◌}
 use Rattle.bench_base.specs.declared.words.Verdict.{Verdict}
 use Rattle.bench_base.specs.declared.words.Verdict.TheVariants.{Granted}
 use Rattle.bench_base.specs.declared.words.Kind.TheVariants.{Enrol, Reset, Audit}
@@ -18,10 +18,9 @@ use Rattle.bench_base.specs.Rules.{Rules}
 use Rattle.bench_base.specs.Ranges.{InRange}
 use Rattle.bench_base.specs.Kinds.{same_kind, empties, is_allowed}
 use Rattle.bench_base.specs.Jobs.{Job, last_job, job_of, state_of, open_job, top}
-use Rattle.bench_base.specs.Scans.{trusted, accepted, blocks}
+use Rattle.bench_base.specs.Scans.{trusted, accepted, block_of, block_place, blocks}
 use Rattle.host_jobs.specs.Answers.{is_open}
 use Rattle.host_jobs.specs.Order.{IsMarkOf}
-use Rattle.verifier.specs.Answers.{is_full}
 use Rattle.psd_wire.specs.declared.message.Message.TheVariants as m
 use Rattle.psd_wire.specs.declared.message.ReplyMsg.{ReplyMsg}
 use Rattle.psd_wire.specs.Grammar.{read, spell, IsWhole}
@@ -109,6 +108,10 @@ pub record FitsHeld (j : ℕ) (bytes : List ℕ) (C : List Commit) (job : Option
   pub job_is : job ≡ Some at
   pub open_is : open_job at.device C ≡ Some j
   pub mark : IsMarkOf at bytes
+
+-- all blocks are in use, and none holds the piece
+abbrev pub is_full : ℕ → ℕ → List (ℕ × ℕ) → Bool
+is_full d p xs = nat_le 1024 (length xs) && is_none (block_place d (block_of p) xs)
 
 pub record FitsAccepted (d p : ℕ) (before : Option ℕ) (key : Option (List ℕ)) (blocks : List (ℕ × ℕ)) : Type 0 where
   pub new : before ≡ None

@@ -1,9 +1,11 @@
 -- The host's and the verifier's parts of a plan are right: a mark that is held or accepted was released, a job is begun once,
 -- and what the host sends fits its fields.
-use Rattle.std.proofs.Common.{◌≡◌, ℕ, ℤ, ◌+◌, ◌-◌, ◌<◌, ◌^◌, Bool, true, false, List, [], ◌∷◌, Option, Some, None, Result, Ok, Err, cond, refl, sym, ap, subst, ◌∙◌, inl, inr, ⊎_elim, arith}
-use Rattle.std.specs.Prelude.{◌==◌}
-use Rattle.std.proofs.lemmas.Bool.{eqb-true, leb-false, eq-eqb, not-false}
+use Rattle.std.proofs.Common.{◌≡◌, ℕ, ℤ, ◌+◌, ◌-◌, ◌<◌, ◌^◌, Bool, true, false, List, [], ◌∷◌, Option, Some, None, Result, Ok, Err, cond, refl, sym, ap, subst, ◌∙◌, inl, inr, ⊎_elim, true≢false, arith}
+use Rattle.std.specs.Prelude.{◌==◌, ◌&&◌, length, unwrap_or, is_some, is_none, nat_le}
+use Rattle.std.proofs.lemmas.Bool.{eqb-true, leb-true, leb-false, le-leb, eq-eqb, not-false}
+use Rattle.std.proofs.Math.Bool.{and-false}
 use Rattle.std.proofs.lemmas.Option.{same_Some, none-some}
+use Rattle.bench_base.specs.declared.sizes.TheConstants.{VERIFIER_CELLS, FIRST_BLOCK}
 use Rattle.bench_base.specs.declared.words.Node.{Node}
 use Rattle.bench_base.specs.declared.words.Node.TheVariants.{Host, Verifier}
 use Rattle.bench_base.specs.declared.words.JobState.{JobState}
@@ -22,12 +24,15 @@ use Rattle.bench_base.specs.declared.ledger.Entry.{Entry}
 use Rattle.bench_base.specs.declared.ledger.Entry.TheVariants as e
 use Rattle.bench_base.specs.declared.events.Reply.TheVariants as r
 use Rattle.bench_base.specs.Rules.{Rules}
-use Rattle.bench_base.specs.Plans.{made, told}
+use Rattle.bench_base.specs.Plans.{refuse, made, told}
 use Rattle.bench_base.specs.Ranges.{IsDevice, IsWord, IsCount, IsPostage, IsKey}
 use Rattle.bench_base.specs.Ledger.{Ledger, counted, is_on, torn_of, at_up, count_of, IsReleased, IsReleasedAs}
-use Rattle.bench_base.specs.Jobs.{Job, last_job, job_of, state_of, held_of, open_job, top, begun, in_cells}
-use Rattle.bench_base.specs.Scans.{trusted, accepted, blocks}
+use Rattle.bench_base.specs.Jobs.{Job, last_job, job_of, state_of, open_job, top, begun}
+use Rattle.bench_base.specs.Scans.{trusted, accepted, block_of, block_place, blocks}
 use Rattle.bench_base.proofs.Facts.{ok-same, either, found}
+use Rattle.node_acts.specs.declared.act.Act.TheVariants.{Tell, Commits}
+use Rattle.node_acts.specs.declared.said.Said.{Said}
+use Rattle.node_acts.specs.Said.{said_plan}
 use Rattle.indicium.specs.declared.Mark.{Mark}
 use Rattle.indicium.specs.Marks.{read_mark}
 use Rattle.psd_wire.specs.declared.message.Message.{Message}
@@ -36,13 +41,24 @@ use Rattle.psd_wire.specs.Grammar.{spell}
 use Rattle.psd_wire.proofs.Readings.{read-spell, mark_long}
 use Rattle.psd_wire.specs.Codes.{has_code}
 use Rattle.ledger_lawful.specs.Lawful.{Always}
-use Rattle.host_jobs.specs.Answers as host
-use Rattle.verifier.specs.Answers as scans
+use Rattle.host_jobs.specs.declared.rows.JobRow.{JobRow}
+use Rattle.host_jobs.specs.Answers.{is_open, order_rows, order_answer, send_answer, print_answer, close_answer, hold_rows, debit_of}
+use Rattle.host_jobs.specs.Acts.{HostAct, unless, ordered_act, moved, debit_note, sent_act, begun_act, printed_act, closed_act, held_row, held_act, open_act, mark_act, message_act}
+use Rattle.host_jobs.specs.Plans as host
+use Rattle.host_jobs.specs.Records.{tops_after}
+use Rattle.host_jobs.specs.Rows.{job_in}
+use Rattle.host_jobs.proofs.ByRows.{shown-is}
+use Rattle.host_jobs.proofs.CellFacts.{IsRowOf}
+use Rattle.verifier.specs.declared.acts.Accepted.{Accepted}
+use Rattle.verifier.specs.declared.acts.Spot.{Spot}
+use Rattle.verifier.specs.Answers.{scan_rows, scan_answer}
+use Rattle.verifier.specs.Acts.{ScanAct, trusted_act, answered_act, marked_act, read_act}
+use Rattle.verifier.specs.Plans as scans
 use Rattle.ledger_lawful.specs.Editions.{IsCarried}
 use Rattle.ledger_moves.specs.Histories.{IsKnown, IsKnownMark}
 use Rattle.bench_base.proofs.Rows.{chosen, first}
 use Rattle.law_plans.proofs.Whole.{whole-debit}
-use Rattle.law_good.proofs.Good.{Good}
+use Rattle.law_good.proofs.Good.{Good, is_full}
 use Rattle.law_plans.proofs.Franked.{marked-reads, MarkOf, device-word}
 use Rattle.law_jobs.proofs.Jobs.{jobs}
 use Rattle.law_good.proofs.Grown.{Inv, Told, inv-sent, inv-printed}
@@ -109,21 +125,22 @@ released-as ρ carried x k (e.Up n count ∷ I) g told h reads = released-as ρ 
 released-as ρ carried x k (_ ∷ I) g told h reads = released-as ρ carried x k I g told.1 h reads
 
 module _ (ρ : Rules) (carried : IsCarried ρ) (H : Ledger) (i : Inv ρ H) where
-  no-host : (x : HostRefusal) → PlanOk ρ H (host.no_host x)
+  no-host : (x : HostRefusal) → PlanOk ρ H (refuse (r.HostRefused x))
   no-host x = ok-refuse ρ H (r.HostRefused x) refl tt
-
-  no-scan : (x : ScanRefusal) → PlanOk ρ H (scans.no_scan x)
-  no-scan x = ok-refuse ρ H (r.ScanRefused x) refl tt
 
   -- == the host ==
 
-  priced-ok : (d p a k : ℕ) → is_on Host H ≡ true → IsDevice d → IsWord p → IsPostage a → (k < 2 ^ 16) → (w : Option ℕ) → open_job d (counted H) ≡ w
-      → PlanOk ρ H (host.order_answered d p k a (host.order_answer p (host.shelf_of d (counted H)) w))
-  priced-ok d p a k on device piece postage class (Some j) has = no-host (no.OpenJob j)
-  priced-ok d p a k on device piece postage class None has =
+  -- the plan of an act of the host that is told so
+  abbrev OkTold : {A : Type 0} → (A → Said) → HostAct A → Type 0
+  OkTold say act = PlanOk ρ H (said_plan (host.says say act))
+
+  priced-ok : (d p a k : ℕ) (tops : List ℕ) → is_on Host H ≡ true → IsDevice d → IsWord p → IsPostage a → (k < 2 ^ 16) → (w : Option ℕ) → open_job d (counted H) ≡ w
+      → OkTold host.told_ordered (ordered_act d p k a tops (order_answer p (host.shelf_of d (counted H)) w))
+  priced-ok d p a k tops on device piece postage class (Some j) has = no-host (no.OpenJob j)
+  priced-ok d p a k tops on device piece postage class None has =
       let C = counted H in
       let h = host.shelf_of d C in
-      first (λ (z : Result ℕ HostRefusal). PlanOk ρ H (host.order_answered d p k a z)) (host.order_rows p h) (Ok (last_job C + 1))
+      first (λ (z : Result ℕ HostRefusal). OkTold host.told_ordered (ordered_act d p k a tops z)) (order_rows p h) (Ok (last_job C + 1))
       (no-host (no.Used (top d C)), (no-host no.NumberFull, (no-host (no.JobsFull (last_job C - 1023)), tt)))
       (λ rows.
       let below : last_job C < 4294967295 = leb-false 4294967295 (last_job C) rows.1.0 in
@@ -134,15 +151,17 @@ module _ (ρ : Rules) (carried : IsCarried ρ) (H : Ledger) (i : Inv ρ H) where
         sure = tt;
       }))
 
-  pub order-ok : (d p k : ℕ) → is_on Host H ≡ true → IsDevice d → IsWord p → (k < 2 ^ 16) → (o : Option (Result ℕ RateRefusal)) → ((a : ℕ) → o ≡ Some (Ok a) → IsPostage a) → PlanOk ρ H (host.order_plan d p k (host.shelf_of d (counted H)) o)
+  pub order-ok : (d p k : ℕ) → is_on Host H ≡ true → IsDevice d → IsWord p → (k < 2 ^ 16) → (o : Option (Result ℕ RateRefusal)) → ((a : ℕ) → o ≡ Some (Ok a) → IsPostage a) → PlanOk ρ H (host.order_plan d p k o (counted H))
   order-ok d p k on device piece class None price = no-host no.NoRates
   order-ok d p k on device piece class (Some (Err x)) price = no-host (no.Rate x)
-  order-ok d p k on device piece class (Some (Ok a)) price = priced-ok d p a k on device piece (price a refl) class (open_job d (counted H)) refl
+  order-ok d p k on device piece class (Some (Ok a)) price = priced-ok d p a k (tops_after (counted H)) on device piece (price a refl) class (open_job d (counted H)) refl
 
-  pub send-ok : (l j : ℕ) (s : Option JobState) (b : Option Job) → job_of j (counted H) ≡ b → PlanOk ρ H (host.send_plan l j s b)
-  send-ok l j (Some state.Ordered) (Some b) at =
+  -- the message for a job keeps what is told true
+  sends : (l j : ℕ) (x : JobRow) → job_of j (counted H) ≡ Some (job_in x) → OkTold (host.told_sent j l) (Tell (debit_note x))
+  sends l j x at =
+      let b = job_in x in
       let it = job-range ρ j b (counted H) i.good at in
-      let q = host.debit_of b in
+      let q = debit_of b in
       record {
         sane = tt;
         plain = refl;
@@ -154,28 +173,39 @@ module _ (ρ : Rules) (carried : IsCarried ρ) (H : Ledger) (i : Inv ρ H) where
           vouched = (it.device, (it.piece.1, it.class));
         }) k;
       }
-  send-ok l j (Some state.Ordered) None at = no-host no.NoJob
-  send-ok l j (Some state.Held) b at = no-host (no.State state.Held)
-  send-ok l j (Some state.Begun) b at = no-host (no.State state.Begun)
-  send-ok l j (Some state.Closed) b at = no-host (no.State state.Closed)
-  send-ok l j None b at = no-host no.NoJob
 
-  hold-ok : (x : List ℕ) (k : Mark × List ℕ) → read_mark x ≡ Ok k → is_on Host H ≡ true → IsReleased x H → (w : Option ℕ) → open_job k.0.device (counted H) ≡ w → PlanOk ρ H (host.hold_open x k.0 w (counted H))
-  hold-ok x k reads on sure None has = no-host no.NoJob
-  hold-ok x k reads on sure (Some j) has = job (job_of j (counted H)) refl
+  pub send-ok : (l j : ℕ) → PlanOk ρ H (host.send_plan l j (counted H))
+  send-ok l j = by (host.shown_job j (counted H)) refl
     where
-      job : (o : Option Job) → job_of j (counted H) ≡ o → PlanOk ρ H (host.hold_job x k.0 j o)
+      by : (o : Option JobRow) → host.shown_job j (counted H) ≡ o → OkTold (host.told_sent j l) (sent_act o)
+      by None at = no-host no.NoJob
+      by (Some x) at = state_by x.state
+        where
+          state_by : (s : JobState) → OkTold (host.told_sent j l) (unless (send_answer (Some s)) (Tell (debit_note x)))
+          state_by state.Ordered = sends l j x (shown-is j (counted H) x at).job
+          state_by state.Held = no-host (no.State state.Held)
+          state_by state.Begun = no-host (no.State state.Begun)
+          state_by state.Closed = no-host (no.State state.Closed)
+
+  -- the open job of a device takes a mark of its own
+  hold-ok : (x : List ℕ) (k : Mark × List ℕ) → read_mark x ≡ Ok k → is_on Host H ≡ true → IsReleased x H → (w : Option ℕ) → open_job k.0.device (counted H) ≡ w → OkTold host.told_held (open_act x k.0 w (host.in_commits (counted H)))
+  hold-ok x k reads on sure None has = no-host no.NoJob
+  hold-ok x k reads on sure (Some j) has = job (host.shown_job j (counted H)) refl
+    where
+      job : (o : Option JobRow) → host.shown_job j (counted H) ≡ o → OkTold host.told_held (held_act x k.0 o (tops_after (counted H)))
       job None at = no-host no.NoJob
-      job (Some b) at =
+      job (Some y) at =
+          let is = shown-is j (counted H) y at in
+          let b = job_in y in
           let it = (jobs ρ (counted H) i.good).open_is k.0.device j has in
-          let same : it.at ≡ b = same_Some _ _ (sym it.job_is ∙ at) in
+          let same : it.at ≡ b = same_Some _ _ (sym it.job_is ∙ is.job) in
           let device : k.0.device ≡ b.device = sym it.device ∙ ap (λ (z : Job). z.device) same in
-          first (λ (z : Option HostRefusal). PlanOk ρ H (host.hold_answered x j z)) (host.hold_rows k.0 b.piece b.postage b.class) None
-          (no-host (no.OtherPiece b.piece), (no-host (no.OtherPostage b.postage), (no-host (no.OtherClass b.class), tt)))
-          (λ rows. ok-made ρ H (r.Held j) (c.Held j x) refl tt (λ n l h. absurd (cc)) (record {
+          first (λ (z : Option HostRefusal). OkTold host.told_held (unless z (Commits (c.Held y.job x) (held_row y x (tops_after (counted H))) y.job))) (hold_rows k.0 y.piece y.postage y.class) None
+          (no-host (no.OtherPiece y.piece), (no-host (no.OtherPostage y.postage), (no-host (no.OtherClass y.class), tt)))
+          (λ rows. subst (λ (n : ℕ). PlanOk ρ H (made (r.Held n) (c.Held n x) [])) (sym is.number) (ok-made ρ H (r.Held j) (c.Held j x) refl tt (λ n l h. absurd (cc)) (record {
             fits = record {
               at = b;
-              job_is = at;
+              job_is = is.job;
               open_is = subst (λ z. open_job z (counted H) ≡ Some j) device has;
               mark = record {
                 mark = k.0;
@@ -188,15 +218,15 @@ module _ (ρ : Rules) (carried : IsCarried ρ) (H : Ledger) (i : Inv ρ H) where
               };
             };
             on = on;
-            range = (job-word ρ j b (counted H) i.good at, mark_long x k reads);
+            range = (job-word ρ j b (counted H) i.good is.job, mark_long x k reads);
             sure = sure;
-          }))
+          })))
 
-  release-ok : (x : List ℕ) → is_on Host H ≡ true → IsReleased x H → (o : Result (Mark × List ℕ) MarkFault) → read_mark x ≡ o → PlanOk ρ H (host.hold_plan x o (counted H))
+  release-ok : (x : List ℕ) → is_on Host H ≡ true → IsReleased x H → (o : Result (Mark × List ℕ) MarkFault) → read_mark x ≡ o → OkTold host.told_held (mark_act x o (host.in_commits (counted H)))
   release-ok x on sure (Err fault) reads = no-host (no.Unread unread.Mark)
   release-ok x on sure (Ok k) reads = hold-ok x k reads on sure (open_job k.0.device (counted H)) refl
 
-  pub host-ok : (bytes : List ℕ) (x : Result Message Unread) → is_on Host H ≡ true → IsKnown bytes x Host H → PlanOk ρ H (host.host_take x (counted H))
+  pub host-ok : (bytes : List ℕ) (x : Result Message Unread) → is_on Host H ≡ true → IsKnown bytes x Host H → OkTold host.told_held (message_act x (host.in_commits (counted H)))
   host-ok bytes (Ok (m.Release x)) on known = release-ok x on known (read_mark x) refl
   host-ok bytes (Ok (m.Request q)) on known = no-host (no.Unread unread.Tag)
   host-ok bytes (Ok (m.Reply q)) on known = no-host (no.Unread unread.Tag)
@@ -204,24 +234,19 @@ module _ (ρ : Rules) (carried : IsCarried ρ) (H : Ledger) (i : Inv ρ H) where
   host-ok bytes (Ok (m.Debit q)) on known = no-host (no.Unread unread.Tag)
   host-ok bytes (Err x) on known = no-host (no.Unread x)
 
-  -- the state that is shown of a job is its state
-  shown-is : (j : ℕ) (s : JobState) → host.shown_state j (counted H) ≡ Some s → state_of j (counted H) ≡ Some s
-  shown-is j s h = go (in_cells j (counted H)) h
-    where
-      go : (t : Bool) → cond t (state_of j (counted H)) None ≡ Some s → state_of j (counted H) ≡ Some s
-      go true h = h
-      go false h = absurd (none-some _ h)
-
-  print-mark-ok : (j : ℕ) → is_on Host H ≡ true → IsWord j → state_of j (counted H) ≡ Some state.Held → (x : Option (List ℕ)) → held_of j (counted H) ≡ x → PlanOk ρ H (host.print_answered j x None)
-  print-mark-ok j on word at None has = no-host no.NoJob
-  print-mark-ok j on word at (Some x) has = record {
+  print-mark-ok : (j : ℕ) (y : JobRow) → is_on Host H ≡ true → IsWord j → IsRowOf y j (counted H) → y.state ≡ state.Held → (x : Option (List ℕ)) → y.indicium ≡ x → OkTold (host.told_printed j) (begun_act y x (tops_after (counted H)))
+  print-mark-ok j y on word is held None has = no-host no.NoJob
+  print-mark-ok j y on word is held (Some x) has = subst (λ (n : ℕ). PlanOk ρ H (made (r.Printed j) (c.Began n) (e.Printed j x ∷ []))) (sym is.number) (record {
     sane = tt;
     plain = refl;
     no_up = λ n k h. absurd (cc);
-    fit = λ y h. subst (IsFit ρ H) (same_Some _ _ h) (record { fits = at; on = on; range = word; sure = tt });
-    keeps = λ k. inv-printed ρ (e.Commit (c.Began j) ∷ H) j x has (rw (eq-eqb j j refl) refl) (λ p. never (i.printed j p)) k;
-  }
+    fit = λ z h. subst (IsFit ρ H) (same_Some _ _ h) (record { fits = at; on = on; range = word; sure = tt });
+    keeps = λ k. inv-printed ρ (e.Commit (c.Began j) ∷ H) j x (is.held ∙ has) (rw (eq-eqb j j refl) refl) (λ p. never (i.printed j p)) k;
+  })
     where
+      at : state_of j (counted H) ≡ Some state.Held
+      at = is.state ∙ ap (λ (s : JobState). Some s) held
+
       held-begun : state.Held ≡ state.Begun → ⊥
       held-begun h = cc
 
@@ -234,46 +259,92 @@ module _ (ρ : Rules) (carried : IsCarried ρ) (H : Ledger) (i : Inv ρ H) where
           (λ (s : state_of j (counted H) ≡ Some state.Closed). held-closed (same_Some _ _ (sym at ∙ s)))
           ((jobs ρ (counted H) i.good).begun_is j b)
 
-  pub print-ok : (j : ℕ) → is_on Host H ≡ true → IsWord j → (s : Option JobState) → host.shown_state j (counted H) ≡ s → PlanOk ρ H (host.print_plan j s (held_of j (counted H)))
-  print-ok j on word (Some state.Held) at = print-mark-ok j on word (shown-is j state.Held at) (held_of j (counted H)) refl
-  print-ok j on word (Some state.Ordered) at = no-host (no.State state.Ordered)
-  print-ok j on word (Some state.Begun) at = no-host (no.State state.Begun)
-  print-ok j on word (Some state.Closed) at = no-host (no.State state.Closed)
-  print-ok j on word None at = no-host no.NoJob
+  pub print-ok : (j : ℕ) → is_on Host H ≡ true → IsWord j → PlanOk ρ H (host.print_plan j (counted H))
+  print-ok j on word = by (host.shown_job j (counted H)) refl
+    where
+      by : (o : Option JobRow) → host.shown_job j (counted H) ≡ o → OkTold (host.told_printed j) (printed_act o (tops_after (counted H)))
+      by None at = no-host no.NoJob
+      by (Some y) at = state_by y.state refl
+        where
+          state_by : (s : JobState) → y.state ≡ s → OkTold (host.told_printed j) (unless (print_answer (Some s)) (begun_act y y.indicium (tops_after (counted H))))
+          state_by state.Held held = print-mark-ok j y on word (shown-is j (counted H) y at) held y.indicium refl
+          state_by state.Ordered other = no-host (no.State state.Ordered)
+          state_by state.Begun other = no-host (no.State state.Begun)
+          state_by state.Closed other = no-host (no.State state.Closed)
 
-  closes : (j : ℕ) (s : JobState) → is_on Host H ≡ true → IsWord j → state_of j (counted H) ≡ Some s → host.is_open (Some s) ≡ true → PlanOk ρ H (made (r.Closed j) (c.Closed j) [])
+  closes : (j : ℕ) (s : JobState) → is_on Host H ≡ true → IsWord j → state_of j (counted H) ≡ Some s → is_open (Some s) ≡ true → PlanOk ρ H (made (r.Closed j) (c.Closed j) [])
   closes j s on word at live = ok-made ρ H (r.Closed j) (c.Closed j) refl tt (λ n l h. absurd (cc)) (record { fits = (s, at, live); on = on; range = word; sure = tt })
 
-  pub close-ok : (j : ℕ) → is_on Host H ≡ true → IsWord j → (s : Option JobState) → host.shown_state j (counted H) ≡ s → PlanOk ρ H (host.close_plan j s)
-  close-ok j on word None at = no-host no.NoJob
-  close-ok j on word (Some state.Closed) at = no-host (no.State state.Closed)
-  close-ok j on word (Some state.Ordered) at = closes j state.Ordered on word (shown-is j state.Ordered at) refl
-  close-ok j on word (Some state.Held) at = closes j state.Held on word (shown-is j state.Held at) refl
-  close-ok j on word (Some state.Begun) at = closes j state.Begun on word (shown-is j state.Begun at) refl
+  pub close-ok : (j : ℕ) → is_on Host H ≡ true → IsWord j → PlanOk ρ H (host.close_plan j (counted H))
+  close-ok j on word = by (host.shown_job j (counted H)) refl
+    where
+      by : (o : Option JobRow) → host.shown_job j (counted H) ≡ o → OkTold (host.told_closed j) (closed_act o (tops_after (counted H)))
+      by None at = no-host no.NoJob
+      by (Some y) at = state_by y.state refl
+        where
+          is : IsRowOf y j (counted H)
+          is = shown-is j (counted H) y at
+
+          closing : (s : JobState) → y.state ≡ s → is_open (Some s) ≡ true → PlanOk ρ H (made (r.Closed j) (c.Closed y.job) [])
+          closing s same live = subst (λ (n : ℕ). PlanOk ρ H (made (r.Closed j) (c.Closed n) [])) (sym is.number) (closes j s on word (is.state ∙ ap (λ (z : JobState). Some z) same) live)
+
+          state_by : (s : JobState) → y.state ≡ s → OkTold (host.told_closed j) (unless (close_answer (Some s)) (Commits (c.Closed y.job) (moved y state.Closed (tops_after (counted H))) tt))
+          state_by state.Closed same = no-host (no.State state.Closed)
+          state_by state.Ordered same = closing state.Ordered same refl
+          state_by state.Held same = closing state.Held same refl
+          state_by state.Begun same = closing state.Begun same refl
 
   -- == the verifier ==
 
-  pub trust-ok : (d : ℕ) (key : List ℕ) → is_on Verifier H ≡ true → IsDevice d → IsKey key → (w : Option (List ℕ)) → trusted d (counted H) ≡ w → PlanOk ρ H (scans.trust_plan d key w)
+  -- what the plan of a scan is, by its act
+  abbrev Scanned : ℕ → ScanAct Accepted → Type 0
+  Scanned n act = PlanOk ρ H (said_plan (scans.says (scans.told_accepted n) act))
+
+  no-scan : (x : ScanRefusal) → PlanOk ρ H (refuse (r.ScanRefused x))
+  no-scan x = ok-refuse ρ H (r.ScanRefused x) refl tt
+
+  pub trust-ok : (d : ℕ) (key : List ℕ) → is_on Verifier H ≡ true → IsDevice d → IsKey key → (w : Option (List ℕ)) → trusted d (counted H) ≡ w
+      → PlanOk ρ H (said_plan (scans.says (scans.told_trusted d) (trusted_act d key (is_some w))))
   trust-ok d key on device fits (Some k) has = no-scan not_v.Known
   trust-ok d key on device fits None has = ok-made ρ H (r.Trusted d) (c.Trusted d key) refl tt (λ n l h. absurd (cc)) (record { fits = has; on = on; range = (device, fits); sure = tt })
 
-  accept-ok : (n : ℕ) (k : Mark) (today : ℤ) → is_on Verifier H ≡ true → IsDevice k.device → IsWord k.piece → IsCount n → IsReleasedAs k.device k.piece H → (key : List ℕ) → trusted k.device (counted H) ≡ Some key → (w : Option ℕ) → accepted k.device k.piece (counted H) ≡ w
-      → PlanOk ρ H (scans.scan_answered n k (scans.scan_answer n k.day today (scans.is_full k.device k.piece (blocks (counted H))) w))
-  accept-ok n k today on device piece scan sure key trust (Some s) has = chosen (λ (z : Result Bool ScanRefusal). PlanOk ρ H (scans.scan_answered n k z)) (s == n) _ _
+  -- there is a cell for the block of the piece
+  has-room : (d p : ℕ) (xs : List (ℕ × ℕ)) (place : Option ℕ) → nat_le VERIFIER_CELLS (FIRST_BLOCK + unwrap_or place (length xs)) ≡ false → (nat_le 1024 (length xs) && is_none place) ≡ false
+  has-room d p xs (Some i) room = and-false (nat_le 1024 (length xs))
+  has-room d p xs None room = ap (λ (t : Bool). t && true) (few (nat_le 1024 (length xs)) refl)
+    where
+      few : (t : Bool) → nat_le 1024 (length xs) ≡ t → nat_le 1024 (length xs) ≡ false
+      few false is = is
+      few true is = absurd (true≢false (sym (le-leb VERIFIER_CELLS (FIRST_BLOCK + length xs) (omega (arith, leb-true 1024 (length xs) is))) ∙ room))
+
+  accept-ok : (n : ℕ) (k : Mark) (today : ℤ) → is_on Verifier H ≡ true → IsDevice k.device → IsWord k.piece → IsCount n → IsReleasedAs k.device k.piece H → (key : List ℕ) → trusted k.device (counted H) ≡ Some key
+      → (w : Option ℕ) → accepted k.device k.piece (counted H) ≡ w → (cell : ℕ) → (nat_le VERIFIER_CELLS cell ≡ false → is_full k.device k.piece (blocks (counted H)) ≡ false)
+      → Scanned n (answered_act n k cell (scan_answer n k.day today (nat_le VERIFIER_CELLS cell) w))
+  accept-ok n k today on device piece scan sure key trust (Some s) has cell room = chosen (λ (z : Result Bool ScanRefusal). Scanned n (answered_act n k cell z)) (s == n) _ _
       (λ _. record { sane = tt; plain = refl; no_up = λ l j h. refl; fit = λ y h. absurd (none-some _ h); keeps = λ j. j })
       (λ _. no-scan (not_v.Duplicate s))
-  accept-ok n k today on device piece scan sure key trust None has = first (λ (z : Result Bool ScanRefusal). PlanOk ρ H (scans.scan_answered n k z)) (scans.scan_rows k.day today (scans.is_full k.device k.piece (blocks (counted H)))) (Ok false)
+  accept-ok n k today on device piece scan sure key trust None has cell room = first (λ (z : Result Bool ScanRefusal). Scanned n (answered_act n k cell z)) (scan_rows k.day today (nat_le VERIFIER_CELLS cell)) (Ok false)
       (no-scan (not_v.Future k.day), (no-scan (not_v.TooOld k.day), (no-scan not_v.BlocksFull, tt)))
-      (λ rows. ok-made ρ H (r.Accepted k.device k.piece n false) (c.Accepted k.device k.piece n) refl tt (λ l j h. absurd (cc)) (record { fits = record { new = has; known = (key, trust); room = rows.1.1.0 }; on = on; range = (device, piece, scan); sure = sure }))
+      (λ rows. ok-made ρ H (r.Accepted k.device k.piece n false) (c.Accepted k.device k.piece n) refl tt (λ l j h. absurd (cc))
+      (record { fits = record { new = has; known = (key, trust); room = room rows.1.1.0 }; on = on; range = (device, piece, scan); sure = sure }))
 
-  pub scan-ok : (n : ℕ) (bytes : List ℕ) (today : ℤ) → is_on Verifier H ≡ true → IsCount n → (o : Result (Mark × List ℕ) MarkFault) → read_mark bytes ≡ o → IsKnownMark bytes o H → PlanOk ρ H (scans.scan_plan n bytes today o (counted H))
+  pub scan-ok : (n : ℕ) (bytes : List ℕ) (today : ℤ) → is_on Verifier H ≡ true → IsCount n → (o : Result (Mark × List ℕ) MarkFault) → read_mark bytes ≡ o → IsKnownMark bytes o H
+      → Scanned n (read_act n bytes today (scans.in_commits (counted H)) o)
   scan-ok n bytes today on scan (Err fault) reads known = no-scan (not_v.Unread fault)
   scan-ok n bytes today on scan (Ok k) reads known = keyed (trusted k.0.device (counted H)) refl
     where
-      keyed : (w : Option (List ℕ)) → trusted k.0.device (counted H) ≡ w → PlanOk ρ H (scans.scan_key n bytes k.0 today w (counted H))
+      xs : List (ℕ × ℕ)
+      xs = blocks (counted H)
+
+      spot : Spot
+      spot = scans.spot_after (blocks (counted H)) (block_place k.0.device (block_of k.0.piece) (blocks (counted H))) (accepted k.0.device k.0.piece (counted H))
+
+      keyed : (w : Option (List ℕ)) → trusted k.0.device (counted H) ≡ w
+          → Scanned n (marked_act n bytes k.0 today w (scans.spot_after (blocks (counted H)) (block_place k.0.device (block_of k.0.piece) (blocks (counted H))) (accepted k.0.device k.0.piece (counted H))))
       keyed None has = no-scan (not_v.Unknown k.0.device)
-      keyed (Some key) has = chosen (PlanOk ρ H) (has_code key bytes) _ _
+      keyed (Some key) has = chosen (λ (z : ScanAct Accepted). Scanned n z) (has_code key bytes) _ _
           (λ t.
           let it = released-as ρ carried bytes k H i.good i.told (known key has t) reads in
-          accept-ok n k.0 today on (trusted-device ρ k.0.device key (counted H) i.good has) it.1 scan it.0 key has (accepted k.0.device k.0.piece (counted H)) refl)
+          accept-ok n k.0 today on (trusted-device ρ k.0.device key (counted H) i.good has) it.1 scan it.0 key has (accepted k.0.device k.0.piece (counted H)) refl spot.cell
+          (has-room k.0.device k.0.piece xs (block_place k.0.device (block_of k.0.piece) xs)))
           (λ _. no-scan not_v.BadCode)

@@ -17,10 +17,14 @@ use Rattle.bench_base.specs.Cells.{is_worn}
 use Rattle.bench_base.specs.Ledger.{Ledger, IsReleased, day_in, is_on, counted}
 use Rattle.bench_base.specs.Scans.{trusted, accepted}
 use Rattle.node_acts.specs.Plans.{after, Fails}
+use Rattle.node_acts.specs.Said.{said_plan}
 use Rattle.indicium.specs.declared.Mark.{Mark}
 use Rattle.indicium.specs.Marks.{read_mark}
 use Rattle.psd_wire.specs.Codes.{has_code}
-use Rattle.verifier.specs.Answers as scans
+use Rattle.verifier.specs.declared.acts.Accepted.{Accepted}
+use Rattle.verifier.specs.Answers.{scan_rows, scan_answer}
+use Rattle.verifier.specs.Acts.{ScanAct, answered_act, marked_act, read_act}
+use Rattle.verifier.specs.Plans as scans
 use Rattle.ledger_moves.specs.Histories.{IsKnownMark}
 use Rattle.ledger_moves.specs.Moves as moves
 use Rattle.ledger_moves.specs.Moves.{Moves, plan, entries, at_node, unless_worn, OtherUp, FailsToRead}
@@ -36,7 +40,7 @@ module _ (n : ℕ) (bytes : List ℕ) (H : Ledger) where
   refuses : (x : Reply) → ((d p m : ℕ) (again : Bool) → x ≡ r.Accepted d p m again → ⊥) → Tells (refuse x)
   refuses x other d p m again is = absurd (other d p m again is)
 
-  no_scan : (x : ScanRefusal) → Tells (scans.no_scan x)
+  no_scan : (x : ScanRefusal) → Tells (refuse (r.ScanRefused x))
   no_scan x = refuses (r.ScanRefused x) (λ d p m again is. cc)
 
   at : (q : Plan) → Tells q → Tells (at_node Verifier H q)
@@ -46,28 +50,33 @@ module _ (n : ℕ) (bytes : List ℕ) (H : Ledger) where
       go None = tells
       go (Some c) = chosen Tells (is_worn c (counted H)) (refuse (r.Worn (node_of c))) q (λ worn. refuses (r.Worn (node_of c)) (λ d p m again is. cc)) (λ fresh. tells)
 
-  module _ (k : Mark) (code : List ℕ) (reads : read_mark bytes ≡ Ok (k, code)) (known : IsKnownMark bytes (read_mark bytes) H → IsReleased bytes H) where
-    told_again : accepted k.device k.piece (counted H) ≡ Some n → Tells (scans.scan_answered n k (Ok true))
+  -- the plan of the scan, by its act
+  abbrev TellsBy : ScanAct Accepted → Type 0
+  TellsBy act = Tells (said_plan (scans.says (scans.told_accepted n) act))
+
+  module _ (k : Mark) (code : List ℕ) (reads : read_mark bytes ≡ Ok (k, code)) (known : IsKnownMark bytes (read_mark bytes) H → IsReleased bytes H) (cell : ℕ) where
+    told_again : accepted k.device k.piece (counted H) ≡ Some n → TellsBy (answered_act n k cell (Ok true))
     told_again was d p m again is = record { mark = k; code = code; reads = reads; device = cc; piece = cc; number = cc; released = known; now = was }
 
-    committed : accepted k.device k.piece (counted H) ≡ None → Tells (scans.scan_answered n k (Ok false))
+    committed : accepted k.device k.piece (counted H) ≡ None → TellsBy (answered_act n k cell (Ok false))
     committed none d p m again is = record { mark = k; code = code; reads = reads; device = cc; piece = cc; number = cc; released = known; now = rw (eq-eqb k.device k.device refl, eq-eqb k.piece k.piece refl, none) refl }
 
-    by_first : (today : ℤ) (full : Bool) (o : Option ℕ) → accepted k.device k.piece (counted H) ≡ o → Tells (scans.scan_answered n k (scans.scan_answer n k.day today full o))
-    by_first today full (Some s) was = chosen (λ (z : Result Bool ScanRefusal). Tells (scans.scan_answered n k z)) (s == n) (Ok true) _
+    by_first : (today : ℤ) (full : Bool) (o : Option ℕ) → accepted k.device k.piece (counted H) ≡ o → TellsBy (answered_act n k cell (scan_answer n k.day today full o))
+    by_first today full (Some s) was = chosen (λ (z : Result Bool ScanRefusal). TellsBy (answered_act n k cell z)) (s == n) (Ok true) _
         (λ same. told_again (subst (λ (j : ℕ). accepted k.device k.piece (counted H) ≡ Some j) (eqb-true s n same) was))
         (λ other. no_scan _)
-    by_first today full None was = first (λ (z : Result Bool ScanRefusal). Tells (scans.scan_answered n k z)) (scans.scan_rows k.day today full) (Ok false) (no_scan _, (no_scan _, (no_scan _, tt))) (λ rows. committed was)
+    by_first today full None was = first (λ (z : Result Bool ScanRefusal). TellsBy (answered_act n k cell z)) (scan_rows k.day today full) (Ok false) (no_scan _, (no_scan _, (no_scan _, tt))) (λ rows. committed was)
 
-  keyed : (today : ℤ) (k : Mark) (code : List ℕ) → read_mark bytes ≡ Ok (k, code) → (o : Option (List ℕ)) → trusted k.device (counted H) ≡ o → Tells (scans.scan_key n bytes k today o (counted H))
-  keyed today k code reads None has = no_scan _
-  keyed today k code reads (Some key) has = chosen Tells (has_code key bytes) _ _
-      (λ good. by_first k code reads (λ known. let of : IsKnownMark bytes (Ok (k, code)) H = subst (λ (x : Result (Mark × List ℕ) MarkFault). IsKnownMark bytes x H) reads known in of key has good) today _ (accepted k.device k.piece (counted H)) refl)
+  keyed : (today : ℤ) (k : Mark) (code : List ℕ) → read_mark bytes ≡ Ok (k, code) → (o : Option (List ℕ)) → trusted k.device (counted H) ≡ o → (cell : ℕ)
+      → TellsBy (marked_act n bytes k today o (record { cell = cell; accepted = accepted k.device k.piece (counted H) }))
+  keyed today k code reads None has cell = no_scan _
+  keyed today k code reads (Some key) has cell = chosen TellsBy (has_code key bytes) _ _
+      (λ good. by_first k code reads (λ known. let of : IsKnownMark bytes (Ok (k, code)) H = subst (λ (x : Result (Mark × List ℕ) MarkFault). IsKnownMark bytes x H) reads known in of key has good) cell today _ (accepted k.device k.piece (counted H)) refl)
       (λ bad. no_scan _)
 
-  read_so : (today : ℤ) (x : Result (Mark × List ℕ) MarkFault) → read_mark bytes ≡ x → Tells (scans.scan_plan n bytes today x (counted H))
+  read_so : (today : ℤ) (x : Result (Mark × List ℕ) MarkFault) → read_mark bytes ≡ x → TellsBy (read_act n bytes today (scans.in_commits (counted H)) x)
   read_so today (Err fault) reads = no_scan _
-  read_so today (Ok k) reads = keyed today k.0 k.1 reads (trusted k.0.device (counted H)) refl
+  read_so today (Ok k) reads = keyed today k.0 k.1 reads (trusted k.0.device (counted H)) refl _
 
   dated : (τ : Tariff) (text : List ℕ) (day : Option ℤ) → Tells (moves.on_day (moves.plan_on τ todays_rules H (ev.ScanHex n bytes) text) day)
   dated τ text None = refuses r.NoDay (λ d p m again is. cc)

@@ -1,13 +1,12 @@
 -- Which plans accept a piece: those of scans, under the number of the scan.
 use Rattle.std.proofs.Common.{◌≡◌, ℕ, ℤ, pos, Bool, true, false, List, [], ◌∷◌, Option, Some, None, Result, Ok, Err, inl, inr, refl, length, drop}
-use Rattle.std.specs.Prelude.{nat_lt}
+use Rattle.std.specs.Prelude.{is_some, nat_lt}
 use Rattle.bench_base.specs.declared.words.Node.{Node}
 use Rattle.bench_base.specs.declared.words.Node.TheVariants.{Device, Centre, Host, Verifier}
 use Rattle.bench_base.specs.declared.refusals.Unread.{Unread}
 use Rattle.bench_base.specs.declared.refusals.MarkFault.{MarkFault}
 use Rattle.bench_base.specs.declared.refusals.RateRefusal.{RateRefusal}
 use Rattle.bench_base.specs.declared.refusals.CentreRefusal.{CentreRefusal}
-use Rattle.bench_base.specs.declared.refusals.HostRefusal.{HostRefusal}
 use Rattle.bench_base.specs.declared.refusals.ScanRefusal.{ScanRefusal}
 use Rattle.bench_base.specs.declared.words.Verdict.{Verdict}
 use Rattle.bench_base.specs.declared.ledger.Commit.{Commit}
@@ -24,13 +23,12 @@ use Rattle.bench_base.specs.Plans.{Plan, refuse, told}
 use Rattle.bench_base.specs.Events.{needs_day}
 use Rattle.bench_base.specs.Cells.{is_worn}
 use Rattle.bench_base.specs.Ledger.{Ledger, day_in, rates_in, messages, message, is_on, counted}
-use Rattle.bench_base.specs.Jobs.{Job, job_of, held_of, open_job}
 use Rattle.bench_base.specs.Scans.{trusted}
 use Rattle.node_acts.specs.declared.act.Act.{Act}
 use Rattle.node_acts.specs.declared.act.Act.TheVariants.{Refuse, Tell, Commits}
 use Rattle.node_acts.specs.declared.said.Said.{Said}
 use Rattle.node_acts.specs.Plans.{IsOfNode}
-use Rattle.node_acts.specs.Said.{saying}
+use Rattle.node_acts.specs.Said.{tells, saying, said_plan}
 use Rattle.indicium.specs.declared.Mark.{Mark}
 use Rattle.indicium.specs.Marks.{read_mark}
 use Rattle.psd_wire.specs.declared.message.Message.{Message}
@@ -48,8 +46,13 @@ use Rattle.psd_state.specs.Acts.{DeviceAct}
 use Rattle.psd_state.specs.declared.acts.Taken.{Taken}
 use Rattle.psd_state.specs.declared.acts.Taken.TheVariants as taken
 use Rattle.centre_ledger.specs.Answers as centre
-use Rattle.host_jobs.specs.Answers as host
-use Rattle.verifier.specs.Answers as scans
+use Rattle.host_jobs.specs.Acts.{LookUps, order_by, debit_message_by, begin_print_by, close_by, take_by}
+use Rattle.host_jobs.specs.Plans as host
+use Rattle.host_jobs.proofs.Own.{order_own, send_own, print_own, close_own, take_own}
+use Rattle.verifier.specs.declared.acts.Accepted.{Accepted as ScannedPiece}
+use Rattle.verifier.specs.declared.acts.Spot.{Spot}
+use Rattle.verifier.specs.Acts.{ScanAct, trusted_act, answered_act, marked_act, read_act}
+use Rattle.verifier.specs.Plans as scans
 use Rattle.ledger_moves.specs.Devices as device
 use Rattle.ledger_moves.specs.Moves as moves
 use Rattle.ledger_moves.specs.Moves.{plan, at_node, unless_worn}
@@ -65,6 +68,10 @@ of_device : (P : ℕ → ℕ → ℕ → Type 0) (d : ℕ) (c : Commit) → node
 of_device P d (Accepted e p n) own = absurd (cc)
 of_device P d _ own = tt
 
+of_host : (P : ℕ → ℕ → ℕ → Type 0) (c : Commit) → node_of c ≡ Host → Is P c
+of_host P (Accepted e p n) own = absurd (cc)
+of_host P _ own = tt
+
 -- what says its answers commits what it says them of
 unsaid : {X F A : Type 0} (m : Node) (refusal : F → Reply) (say : A → Said) (act : Act X F A) → IsOfNode m (saying refusal say act) → IsOfNode m act
 unsaid m refusal say (Refuse x) own = tt
@@ -75,6 +82,12 @@ module _ (P : ℕ → ℕ → ℕ → Type 0) (H : Ledger) where
   -- it brings nothing of which P is not known
   abbrev Clean : Plan → Type 0
   Clean p = PlanBrings P p
+
+  -- an act of another node than the verifier, whose answers are said
+  said_ok : {X F A : Type 0} (m : Node) (refusal : F → Reply) (say : A → Said) (act : Act X F A) → ((c : Commit) → node_of c ≡ m → Is P c) → IsOfNode m act → ((a : A) → AllBring P (tells (say a))) → Clean (said_plan (saying refusal say act))
+  said_ok m refusal say (Refuse x) brings own quiet = (tt, tt)
+  said_ok m refusal say (Tell a) brings own quiet = (tt, quiet a)
+  said_ok m refusal say (Commits c x a) brings own quiet = (brings c own, quiet a)
 
   -- where the node is on and no cell worn
   pub at : (n : Node) (p : Plan) → Clean p → Clean (at_node n H p)
@@ -176,55 +189,26 @@ module _ (P : ℕ → ℕ → ℕ → Type 0) (H : Ledger) where
 
   -- == the host ==
 
-  ordered_ok : (d piece class postage : ℕ) (x : Result ℕ HostRefusal) → Clean (host.order_answered d piece class postage x)
-  ordered_ok d piece class postage (Err x) = (tt, tt)
-  ordered_ok d piece class postage (Ok j) = (tt, tt)
+  abbrev looked : LookUps
+  looked = host.in_commits (counted H)
 
-  order_ok : (d piece class : ℕ) (price : Option (Result ℕ RateRefusal)) → Clean (host.order_plan d piece class (host.shelf_of d (counted H)) price)
-  order_ok d piece class None = (tt, tt)
-  order_ok d piece class (Some (Err x)) = (tt, tt)
-  order_ok d piece class (Some (Ok postage)) = ordered_ok d piece class postage _
+  order_ok : (d piece class : ℕ) (price : Option (Result ℕ RateRefusal)) → Clean (host.order_plan d piece class price (counted H))
+  order_ok d piece class price = said_ok Host r.HostRefused host.told_ordered (order_by d piece class price looked) (of_host P) (order_own d piece class price looked) (λ a. tt)
 
-  send_ok : (k j : ℕ) (b : Option Job) (o : Option HostRefusal) → Clean (host.send_answered k j b o)
-  send_ok k j b (Some x) = (tt, tt)
-  send_ok k j None None = (tt, tt)
-  send_ok k j (Some b) None = (tt, (tt, tt))
+  send_ok : (k j : ℕ) → Clean (host.send_plan k j (counted H))
+  send_ok k j = said_ok Host r.HostRefused (host.told_sent j k) (debit_message_by j looked) (of_host P) (send_own (looked.job j)) (λ note. (tt, tt))
 
-  print_ok : (j : ℕ) (x : Option (List ℕ)) (o : Option HostRefusal) → Clean (host.print_answered j x o)
-  print_ok j x (Some no_x) = (tt, tt)
-  print_ok j None None = (tt, tt)
-  print_ok j (Some x) None = (tt, (tt, tt))
+  print_ok : (j : ℕ) → Clean (host.print_plan j (counted H))
+  print_ok j = said_ok Host r.HostRefused (host.told_printed j) (begin_print_by j looked) (of_host P) (print_own (looked.job j) looked.tops) (λ mark. (tt, tt))
 
-  close_ok : (j : ℕ) (o : Option HostRefusal) → Clean (host.close_answered j o)
-  close_ok j (Some x) = (tt, tt)
-  close_ok j None = (tt, tt)
+  close_ok : (j : ℕ) → Clean (host.close_plan j (counted H))
+  close_ok j = said_ok Host r.HostRefused (host.told_closed j) (close_by j looked) (of_host P) (close_own (looked.job j) looked.tops) (λ u. tt)
 
-  held_ok : (x : List ℕ) (j : ℕ) (o : Option HostRefusal) → Clean (host.hold_answered x j o)
-  held_ok x j (Some no_x) = (tt, tt)
-  held_ok x j None = (tt, tt)
-
-  job_ok : (x : List ℕ) (k : Mark) (j : ℕ) (b : Option Job) → Clean (host.hold_job x k j b)
-  job_ok x k j None = (tt, tt)
-  job_ok x k j (Some b) = held_ok x j _
-
-  open_job_ok : (x : List ℕ) (k : Mark) (o : Option ℕ) → Clean (host.hold_open x k o (counted H))
-  open_job_ok x k None = (tt, tt)
-  open_job_ok x k (Some j) = job_ok x k j (job_of j (counted H))
-
-  hold_ok : (x : List ℕ) (k : Result (Mark × List ℕ) MarkFault) → Clean (host.hold_plan x k (counted H))
-  hold_ok x (Err fault) = (tt, tt)
-  hold_ok x (Ok k) = open_job_ok x k.0 (open_job k.0.device (counted H))
-
-  host_take_ok : (x : Result Message Unread) → Clean (host.host_take x (counted H))
-  host_take_ok (Ok (m.Release x)) = hold_ok x (read_mark x)
-  host_take_ok (Ok (m.Request q)) = (tt, tt)
-  host_take_ok (Ok (m.Done q)) = (tt, tt)
-  host_take_ok (Ok (m.Reply p)) = (tt, tt)
-  host_take_ok (Ok (m.Debit q)) = (tt, tt)
-  host_take_ok (Err x) = (tt, tt)
+  host_take_ok : (bytes : List ℕ) → Clean (host.take_plan bytes (counted H))
+  host_take_ok bytes = said_ok Host r.HostRefused host.told_held (take_by bytes looked) (of_host P) (take_own (read bytes) looked) (λ j. tt)
 
   host_ok : (bytes : List ℕ) → Clean (moves.host_plan bytes H)
-  host_ok bytes = at Host _ (host_take_ok (read bytes))
+  host_ok bytes = at Host _ (host_take_ok bytes)
 
   -- == bytes that are handed to a node ==
 
@@ -248,24 +232,29 @@ module _ (P : ℕ → ℕ → ℕ → Type 0) (H : Ledger) where
 
   -- == the verifier ==
 
-  trust_ok : (d : ℕ) (key : List ℕ) (o : Option (List ℕ)) → Clean (scans.trust_plan d key o)
-  trust_ok d key None = (tt, tt)
-  trust_ok d key (Some k) = (tt, tt)
+  trust_ok : (d : ℕ) (key : List ℕ) (known : Bool) → Clean (said_plan (scans.says (scans.told_trusted d) (trusted_act d key known)))
+  trust_ok d key true = (tt, tt)
+  trust_ok d key false = (tt, tt)
 
   module _ (n : ℕ) where
-    scanned_ok : (k : Mark) → P k.device k.piece n → (x : Result Bool ScanRefusal) → Clean (scans.scan_answered n k x)
-    scanned_ok k may (Err x) = (tt, tt)
-    scanned_ok k may (Ok true) = (tt, tt)
-    scanned_ok k may (Ok false) = (may, tt)
+    -- the plan of a scan, by its act
+    abbrev CleanScan : ScanAct ScannedPiece → Type 0
+    CleanScan act = Clean (said_plan (scans.says (scans.told_accepted n) act))
 
-    keyed_ok : (bytes : List ℕ) (k : Mark) → P k.device k.piece n → (today : ℤ) (key : Option (List ℕ)) → Clean (scans.scan_key n bytes k today key (counted H))
-    keyed_ok bytes k may today None = (tt, tt)
-    keyed_ok bytes k may today (Some key) = chosen Clean (has_code key bytes) _ _ (λ good. scanned_ok k may _) (λ bad. (tt, tt))
+    scanned_ok : (k : Mark) → P k.device k.piece n → (cell : ℕ) (x : Result Bool ScanRefusal) → CleanScan (answered_act n k cell x)
+    scanned_ok k may cell (Err x) = (tt, tt)
+    scanned_ok k may cell (Ok true) = (tt, tt)
+    scanned_ok k may cell (Ok false) = (may, tt)
 
-    read_ok : (bytes : List ℕ) → ((d p : ℕ) → IsOfPiece d p bytes → P d p n) → (today : ℤ) (x : Result (Mark × List ℕ) MarkFault) → read_mark bytes ≡ x → Clean (scans.scan_plan n bytes today x (counted H))
+    keyed_ok : (bytes : List ℕ) (k : Mark) → P k.device k.piece n → (today : ℤ) (key : Option (List ℕ)) (spot : Spot) → CleanScan (marked_act n bytes k today key spot)
+    keyed_ok bytes k may today None spot = (tt, tt)
+    keyed_ok bytes k may today (Some key) spot = chosen CleanScan (has_code key bytes) _ _ (λ good. scanned_ok k may spot.cell _) (λ bad. (tt, tt))
+
+    read_ok : (bytes : List ℕ) → ((d p : ℕ) → IsOfPiece d p bytes → P d p n) → (today : ℤ) (x : Result (Mark × List ℕ) MarkFault) → read_mark bytes ≡ x → CleanScan (read_act n bytes today (scans.in_commits (counted H)) x)
     read_ok bytes may today (Err fault) reads = (tt, tt)
     read_ok bytes may today (Ok k) reads =
-        keyed_ok bytes k.0 (may k.0.device k.0.piece (record { mark = k.0; code = k.1; reads = reads; device = refl; piece = refl })) today (trusted k.0.device (counted H))
+        let at = scans.in_commits (counted H) in
+        keyed_ok bytes k.0 (may k.0.device k.0.piece (record { mark = k.0; code = k.1; reads = reads; device = refl; piece = refl })) today (at.key k.0.device) (at.spot k.0.device k.0.piece)
 
     scan_ok : (today : ℤ) (bytes : List ℕ) → ((d p : ℕ) → IsOfPiece d p bytes → P d p n) → Clean (moves.scan_plan n today bytes H)
     scan_ok today bytes may = at Verifier _ (read_ok bytes may today (read_mark bytes) refl)
@@ -317,10 +306,10 @@ module _ (P : ℕ → ℕ → ℕ → Type 0) (H : Ledger) where
     event_ok (ev.Deliver k) text today may = deliver_ok today k (message k H)
     event_ok (ev.Give n bytes) text today may = give_ok today n bytes
     event_ok (ev.Order d piece class grams zone) text today may = at Host _ (order_ok d piece class (moves.price_by τ class grams zone (rates_in H)))
-    event_ok (ev.Send j) text today may = at Host _ (send_ok (messages H) j (job_of j C) (host.send_answer (host.shown_state j C)))
-    event_ok (ev.Print j) text today may = at Host _ (print_ok j (held_of j C) (host.print_answer (host.shown_state j C)))
-    event_ok (ev.Close j) text today may = at Host _ (close_ok j (host.close_answer (host.shown_state j C)))
-    event_ok (ev.Trust d key) text today may = at Verifier _ (trust_ok d key (trusted d C))
+    event_ok (ev.Send j) text today may = at Host _ (send_ok (messages H) j)
+    event_ok (ev.Print j) text today may = at Host _ (print_ok j)
+    event_ok (ev.Close j) text today may = at Host _ (close_ok j)
+    event_ok (ev.Trust d key) text today may = at Verifier _ (trust_ok d key (is_some (trusted d C)))
     event_ok (ev.ScanMsg n k) text today may = scan_sent_ok n (λ d p. may d p n (inl (k, refl))) today k (message k H)
     event_ok (ev.ScanHex n bytes) text today may = scan_ok n today bytes (λ d p of. may d p n (inr (bytes, refl, of)))
     event_ok (ev.Reconcile d) text today may = at (Device d) _ (at Centre _ (reconcile_ok d (key_of d C)))

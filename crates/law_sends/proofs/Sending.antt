@@ -14,11 +14,18 @@ use Rattle.bench_base.specs.Nodes.{node_of}
 use Rattle.bench_base.specs.Plans.{Plan, refuse}
 use Rattle.bench_base.specs.Cells.{is_worn}
 use Rattle.bench_base.specs.Rules.{Rules}
+use Rattle.node_acts.specs.declared.act.Act.TheVariants.{Tell}
 use Rattle.node_acts.specs.Plans.{after, Fails}
+use Rattle.node_acts.specs.Said.{said_plan}
 use Rattle.psd_wire.specs.declared.message.Message.TheVariants as m
 use Rattle.psd_wire.specs.Grammar.{spell}
 use Rattle.psd_wire.proofs.Readings.{read-spell}
-use Rattle.host_jobs.specs.Answers as host
+use Rattle.host_jobs.specs.declared.rows.JobRow.{JobRow}
+use Rattle.host_jobs.specs.Answers.{send_answer, debit_of}
+use Rattle.host_jobs.specs.Acts.{HostAct, unless, debit_note, sent_act}
+use Rattle.host_jobs.specs.Plans as host
+use Rattle.host_jobs.specs.Rows.{job_in}
+use Rattle.host_jobs.proofs.ByRows.{shown-is}
 use Rattle.ledger_lawful.specs.Editions.{Editions}
 use Rattle.ledger_moves.specs.Histories.{History}
 use Rattle.ledger_moves.specs.Moves as moves
@@ -42,7 +49,7 @@ module _ (ρ : Rules) (H : Ledger) (good : Good ρ (counted H)) (j : ℕ) where
   refuses : (x : Reply) → ((i k : ℕ) → x ≡ r.SentDebit i k → ⊥) → Tells (refuse x)
   refuses x other i k is = absurd (other i k is)
 
-  no_host : (x : HostRefusal) → Tells (host.no_host x)
+  no_host : (x : HostRefusal) → Tells (refuse (r.HostRefused x))
   no_host x = refuses (r.HostRefused x) (λ i k is. cc)
 
   at : (q : Plan) → Tells q → Tells (at_node Host H q)
@@ -52,23 +59,32 @@ module _ (ρ : Rules) (H : Ledger) (good : Good ρ (counted H)) (j : ℕ) where
       go None = tells
       go (Some c) = chosen Tells (is_worn c (counted H)) (refuse (r.Worn (node_of c))) q (λ worn. refuses (r.Worn (node_of c)) (λ i k is. cc)) (λ fresh. tells)
 
-  sent : (l : ℕ) (b : Option Job) → job_of j (counted H) ≡ b → (x : Option HostRefusal) → Tells (host.send_answered l j b x)
-  sent l b is (Some x) = no_host x
-  sent l None is None = no_host _
-  sent l (Some b) is None = λ i k same.
-      let it = job-range ρ j b (counted H) good is in
-      let q = host.debit_of b in
-      record {
-        bytes = spell (m.Debit q) [];
-        debit = q;
-        only = refl;
-        reads = read-spell (m.Debit q) [] (whole-debit q (device-word b.device it.device) it.piece.1 (omega (arith, it.postage.1)) it.class);
-        postage = ap (λ (o : Option Job). postage_in o) is;
-      }
+  -- the plan of an act that says a message is sent
+  abbrev TellsBy : ℕ → HostAct (List ℕ) → Type 0
+  TellsBy l act = Tells (said_plan (host.says (host.told_sent j l) act))
+
+  sent : (l : ℕ) (o : Option JobRow) → host.shown_job j (counted H) ≡ o → TellsBy l (sent_act o)
+  sent l None at = no_host _
+  sent l (Some x) at = by (send_answer (Some x.state))
+    where
+      by : (o : Option HostRefusal) → TellsBy l (unless o (Tell (debit_note x)))
+      by (Some y) = no_host y
+      by None = λ i k same.
+          let is : job_of j (counted H) ≡ Some (job_in x) = (shown-is j (counted H) x at).job in
+          let b = job_in x in
+          let it = job-range ρ j b (counted H) good is in
+          let q = debit_of b in
+          record {
+            bytes = spell (m.Debit q) [];
+            debit = q;
+            only = refl;
+            reads = read-spell (m.Debit q) [] (whole-debit q (device-word b.device it.device) it.piece.1 (omega (arith, it.postage.1)) it.class);
+            postage = ap (λ (o : Option Job). postage_in o) is;
+          }
 
   dated : (τ : Tariff) (text : List ℕ) (day : Option ℤ) → Tells (moves.on_day (moves.plan_on τ ρ H (ev.Send j) text) day)
   dated τ text None = refuses r.NoDay (λ i k is. cc)
-  dated τ text (Some today) = at _ (sent (messages H) (job_of j (counted H)) refl (host.send_answer (host.shown_state j (counted H))))
+  dated τ text (Some today) = at _ (sent (messages H) (host.shown_job j (counted H)) refl)
 
   tells : (τ : Tariff) (text : List ℕ) → Tells (plan τ ρ H (ev.Send j) text)
   unfolding plan

@@ -20,7 +20,6 @@ use Rattle.bench_base.specs.Plans.{Plan, told}
 use Rattle.bench_base.specs.Ranges.{IsDevice, IsDay, IsCount, IsPostage, IsWholeEvent, TakesBytes, IsGiven}
 use Rattle.bench_base.specs.Table.{IsBytes}
 use Rattle.bench_base.specs.Ledger.{Ledger, day_in, rates_in, messages, message, IsSent, is_on, count_of, counted}
-use Rattle.bench_base.specs.Jobs.{job_of}
 use Rattle.bench_base.specs.Scans.{trusted}
 use Rattle.indicium.specs.declared.Mark.{Mark}
 use Rattle.indicium.specs.Marks.{read_mark}
@@ -32,7 +31,9 @@ use Rattle.psd_wire.proofs.Readings.{read-found, mark_long}
 use Rattle.ledger_terms.specs.Devices.{key_of, pending}
 use Rattle.ledger_terms.specs.Centres.{registered, opened, balance}
 use Rattle.ledger_moves.specs.Devices
-use Rattle.host_jobs.specs.Answers as host
+use Rattle.node_acts.specs.Said.{said_plan}
+use Rattle.host_jobs.specs.Acts.{message_act}
+use Rattle.host_jobs.specs.Plans as host
 use Rattle.ledger_moves.specs.Tariffs.{Tariff, TextFault, NoToml, NoForm}
 use Rattle.ledger_lawful.specs.Editions.{IsCarried, Allows, Follows, Editions}
 use Rattle.bench_base.specs.Events.{needs_day}
@@ -95,7 +96,7 @@ module _ (τ : Tariff) (ρ : Rules) (carried : IsCarried ρ) (H : Ledger) (i : I
       (device-ok ρ carried H i d (messages H) today bytes on device day (Ok x) reads known (λ q h. class q (ok-same h))))
 
   sent-host : (bytes : List ℕ) (x : Message) → read bytes ≡ Ok x → IsKnown bytes (Ok x) Host H → PlanOk ρ H (Moves.host_plan bytes H)
-  sent-host bytes x reads known = at-ok Host _ (λ on. subst (λ z. PlanOk ρ H (host.host_take z (counted H))) (sym reads) (host-ok ρ carried H i bytes (Ok x) on known))
+  sent-host bytes x reads known = at-ok Host _ (λ on. subst (λ z. PlanOk ρ H (said_plan (host.says host.told_held (message_act z (host.in_commits (counted H)))))) (sym reads) (host-ok ρ carried H i bytes (Ok x) on known))
 
   sent-centre : (bytes : List ℕ) (x : Message) → read bytes ≡ Ok x → IsKnown bytes (Ok x) Centre H → PlanOk ρ H (Moves.centre_plan bytes H)
   sent-centre bytes x reads known = at-ok Centre _ (λ on. centre-ok ρ H i on (messages H) bytes (read bytes) refl (subst (λ z. IsKnown bytes z Centre H) (sym reads) known))
@@ -196,9 +197,9 @@ module _ (τ : Tariff) (ρ : Rules) (carried : IsCarried ρ) (H : Ledger) (i : I
   day-ok (ev.Deliver k) text today day w u = deliver-ok k today day (message k H) refl
   day-ok (ev.Give n bytes) text today day w u = give-ok today n bytes day w.0 w.1 u
   day-ok (ev.Order d p k grams zone) text today day w u = at-ok Host _ (λ on. order-ok ρ carried H i d p k on w.0 w.1 w.2 (Moves.price_by τ k grams zone (rates_in H)) (λ a h. price-within k grams zone (rates_in H) a h))
-  day-ok (ev.Send j) text today day w u = at-ok Host _ (λ _. send-ok ρ carried H i (messages H) j (host.shown_state j (counted H)) (job_of j (counted H)) refl)
-  day-ok (ev.Print j) text today day w u = at-ok Host _ (λ on. print-ok ρ carried H i j on w (host.shown_state j (counted H)) refl)
-  day-ok (ev.Close j) text today day w u = at-ok Host _ (λ on. close-ok ρ carried H i j on w (host.shown_state j (counted H)) refl)
+  day-ok (ev.Send j) text today day w u = at-ok Host _ (λ _. send-ok ρ carried H i (messages H) j)
+  day-ok (ev.Print j) text today day w u = at-ok Host _ (λ on. print-ok ρ carried H i j on w)
+  day-ok (ev.Close j) text today day w u = at-ok Host _ (λ on. close-ok ρ carried H i j on w)
   day-ok (ev.Trust d key) text today day w u = at-ok Verifier _ (λ on. trust-ok ρ carried H i d key on w.0 w.1 (trusted d (counted H)) refl)
   day-ok (ev.ScanMsg n k) text today day w u = scan-sent-ok n k today (w.0, w.1) (message k H) refl
   day-ok (ev.ScanHex n bytes) text today day w u = scan-bytes n today bytes (w.0, w.1) u

@@ -18,10 +18,7 @@ use Rattle.bench_base.specs.Events.{needs_day}
 use Rattle.bench_base.specs.Ranges.{IsWholeEvent}
 use Rattle.bench_base.specs.Cells.{is_worn}
 use Rattle.bench_base.specs.Ledger.{Ledger, day_in, rates_in, messages, message, is_on, count_of, torn_of, counted}
-use Rattle.bench_base.specs.Jobs.{job_of, held_of}
-use Rattle.bench_base.specs.Scans.{trusted}
 use Rattle.node_acts.specs.Plans.{after, Fails}
-use Rattle.indicium.specs.Marks.{read_mark}
 use Rattle.psd_wire.specs.declared.message.Message.{Message}
 use Rattle.psd_wire.specs.declared.message.Message.TheVariants as m
 use Rattle.psd_wire.specs.Grammar.{read}
@@ -30,8 +27,8 @@ use Rattle.ledger_terms.specs.Devices.{key_of, pending}
 use Rattle.ledger_terms.specs.Centres.{registered, opened, receipt, deposits, balance}
 use Rattle.psd_wire.specs.declared.message.DebitMsg.{DebitMsg}
 use Rattle.centre_ledger.specs.Answers as centre
-use Rattle.host_jobs.specs.Answers as host
-use Rattle.verifier.specs.Answers as scans
+use Rattle.host_jobs.specs.Plans as host
+use Rattle.verifier.specs.Plans as scans
 use Rattle.ledger_moves.specs.Devices as device
 use Rattle.ledger_moves.specs.Tariffs.{Tariff, TextFault, NoToml, NoForm}
 
@@ -70,7 +67,7 @@ abbrev pub centre_plan : List ℕ → Ledger → Plan
 centre_plan bytes H = at_node Centre H (centre.centre_take (messages H) bytes (read bytes) (counted H))
 
 abbrev pub host_plan : List ℕ → Ledger → Plan
-host_plan bytes H = at_node Host H (host.host_take (read bytes) (counted H))
+host_plan bytes H = at_node Host H (host.take_plan bytes (counted H))
 
 -- a message goes to the node of its tag
 abbrev pub deliver_to : Rules → ℤ → List ℕ → Result Message Unread → Ledger → Plan
@@ -90,7 +87,7 @@ give_plan ρ today Host bytes H = host_plan bytes H
 give_plan ρ today Verifier bytes H = refuse (r.OffNode Verifier)
 
 abbrev pub scan_plan : ℕ → ℤ → List ℕ → Ledger → Plan
-scan_plan n today bytes H = at_node Verifier H (scans.scan_plan n bytes today (read_mark bytes) (counted H))
+scan_plan n today bytes H = at_node Verifier H (scans.scan_plan n bytes today (counted H))
 
 -- a message is scanned from its third byte on
 abbrev pub scan_sent : ℕ → ℤ → ℕ → Option (List ℕ) → Ledger → Plan
@@ -133,11 +130,11 @@ plan_on τ ρ H (ev.Balance w) text today = at_node Centre H (centre.balance_pla
 plan_on τ ρ H (ev.Deliver k) text today = deliver_plan ρ today k (message k H) H
 plan_on τ ρ H (ev.Give n bytes) text today = give_plan ρ today n bytes H
 plan_on τ ρ H (ev.Order d piece class grams zone) text today =
-    at_node Host H (host.order_plan d piece class (host.shelf_of d (counted H)) (price_by τ class grams zone (rates_in H)))
-plan_on τ ρ H (ev.Send j) text today = at_node Host H (host.send_plan (messages H) j (host.shown_state j (counted H)) (job_of j (counted H)))
-plan_on τ ρ H (ev.Print j) text today = at_node Host H (host.print_plan j (host.shown_state j (counted H)) (held_of j (counted H)))
-plan_on τ ρ H (ev.Close j) text today = at_node Host H (host.close_plan j (host.shown_state j (counted H)))
-plan_on τ ρ H (ev.Trust d key) text today = at_node Verifier H (scans.trust_plan d key (trusted d (counted H)))
+    at_node Host H (host.order_plan d piece class (price_by τ class grams zone (rates_in H)) (counted H))
+plan_on τ ρ H (ev.Send j) text today = at_node Host H (host.send_plan (messages H) j (counted H))
+plan_on τ ρ H (ev.Print j) text today = at_node Host H (host.print_plan j (counted H))
+plan_on τ ρ H (ev.Close j) text today = at_node Host H (host.close_plan j (counted H))
+plan_on τ ρ H (ev.Trust d key) text today = at_node Verifier H (scans.trust_plan d key (counted H))
 plan_on τ ρ H (ev.ScanMsg n k) text today = scan_sent n today k (message k H) H
 plan_on τ ρ H (ev.ScanHex n bytes) text today = scan_plan n today bytes H
 plan_on τ ρ H (ev.Reconcile d) text today = at_node (Device d) H (at_node Centre H (reconcile_plan d (key_of d (counted H)) (counted H)))

@@ -3,10 +3,7 @@ use Rattle.std.proofs.Common.{◌≡◌, ℕ, ℤ, pos, ◌+◌, List, [], ◌�
 use Rattle.bench_base.specs.declared.words.Node.{Node}
 use Rattle.bench_base.specs.declared.words.Node.TheVariants.{Device, Centre, Host, Verifier}
 use Rattle.bench_base.specs.declared.refusals.Unread.{Unread}
-use Rattle.bench_base.specs.declared.refusals.HostRefusal.{HostRefusal}
-use Rattle.bench_base.specs.declared.refusals.RateRefusal.{RateRefusal}
 use Rattle.bench_base.specs.declared.refusals.CentreRefusal.{CentreRefusal}
-use Rattle.bench_base.specs.declared.refusals.ScanRefusal.{ScanRefusal}
 use Rattle.bench_base.specs.declared.ledger.Commit.{Commit}
 use Rattle.bench_base.specs.declared.ledger.Entry.{Entry}
 use Rattle.bench_base.specs.declared.ledger.Entry.TheVariants as entry
@@ -21,7 +18,10 @@ use Rattle.bench_base.specs.Nodes.{node_of}
 use Rattle.bench_base.specs.Events.{needs_day}
 use Rattle.bench_base.specs.Cells.{is_worn}
 use Rattle.bench_base.specs.Ledger.{Ledger, day_in, counted, is_on, messages, message, count_of, rates_in}
+use Rattle.node_acts.specs.declared.act.Act.{Act}
 use Rattle.node_acts.specs.declared.act.Act.TheVariants.{Refuse, Tell, Commits}
+use Rattle.node_acts.specs.declared.said.Said.{Said}
+use Rattle.node_acts.specs.Said.{saying, said_plan}
 use Rattle.psd_wire.specs.declared.message.DebitMsg.{DebitMsg}
 use Rattle.psd_wire.specs.declared.message.Message.{Message}
 use Rattle.psd_wire.specs.declared.message.Message.TheVariants as m
@@ -32,13 +32,7 @@ use Rattle.psd_state.specs.declared.acts.Franked.{Franked}
 use Rattle.psd_state.specs.Acts as acts
 use Rattle.psd_state.specs.Acts.{DeviceAct}
 use Rattle.bench_base.specs.declared.words.Verdict.{Verdict}
-use Rattle.bench_base.specs.declared.refusals.MarkFault.{MarkFault}
 use Rattle.bench_base.specs.declared.refusals.CentreRefusal.TheVariants as no
-use Rattle.bench_base.specs.declared.refusals.ScanRefusal.TheVariants as no_scans
-use Rattle.bench_base.specs.Jobs.{Job, job_of, open_job}
-use Rattle.bench_base.specs.Scans.{trusted, accepted, blocks}
-use Rattle.indicium.specs.declared.Mark.{Mark}
-use Rattle.indicium.specs.Marks.{read_mark}
 use Rattle.psd_wire.specs.declared.message.Request.{Request}
 use Rattle.psd_wire.specs.declared.message.DoneMsg.{DoneMsg}
 use Rattle.psd_wire.specs.Codes.{has_code}
@@ -46,10 +40,11 @@ use Rattle.ledger_terms.specs.Sums.{ascending, descending}
 use Rattle.ledger_terms.specs.Centres.{registered, ruled, settled}
 use Rattle.ledger_terms.specs.Rulings.{stored_reply}
 use Rattle.ledger_terms.specs.Devices.{key_of, number}
-use Rattle.host_jobs.specs.declared.orders.Shelf.{Shelf}
 use Rattle.centre_ledger.specs.Answers as centre
-use Rattle.host_jobs.specs.Answers as host
-use Rattle.verifier.specs.Answers as scans
+use Rattle.host_jobs.specs.Acts.{HostAct, order_by, debit_message_by, begin_print_by, close_by, take_by}
+use Rattle.host_jobs.specs.Plans as host
+use Rattle.verifier.specs.Acts.{trust_by, scan_by}
+use Rattle.verifier.specs.Plans as scans
 use Rattle.node_turns.specs.Printing.{print_of}
 use Rattle.ledger_moves.specs.Tariffs.{Tariff, TextFault, NoToml, NoForm}
 use Rattle.ledger_moves.specs.Devices as device
@@ -100,6 +95,12 @@ planned : {A : Type 0} (d : ℕ) (reply : A → Reply) (tell : A → List Entry)
 planned d reply tell (Refuse x) none = record { is = refl }
 planned d reply tell (Tell a) none = record { is = none a }
 planned d reply tell (Commits c x a) none = record { is = none a }
+
+-- an act whose answers are said
+says : {X F A : Type 0} (refusal : F → Reply) (say : A → Said) (act : Act X F A) → ((x : F) → prints_or_fails (refusal x) ≡ false) → ((a : A) → prints_or_fails (say a).reply ≡ false) → NoPrint (said_plan (saying refusal say act))
+says refusal say (Refuse x) refused none = record { is = refused x }
+says refusal say (Tell a) refused none = record { is = none a }
+says refusal say (Commits c x a) refused none = record { is = none a }
 
 makes : (d : ℕ) (key : List ℕ) (C : List Commit) (k : Option (List ℕ)) → NoPrint (device.make_plan d key C k)
 makes d key C k = planned d (λ u. r.Made d) (λ u. []) (acts.make_act d key (device.record_with d C k)) (λ u. refl)
@@ -193,66 +194,11 @@ reconciles d (Some key) C = compares d (ascending d C + descending d C) (registe
 
 -- == of the host and the verifier ==
 
-order_act : (d piece class postage : ℕ) (x : Result ℕ HostRefusal) → NoPrint (host.order_answered d piece class postage x)
-order_act d piece class postage (Err x) = record { is = refl }
-order_act d piece class postage (Ok i) = record { is = refl }
+host_takes : (bytes : List ℕ) (C : List Commit) → NoPrint (host.take_plan bytes C)
+host_takes bytes C = says r.HostRefused host.told_held (take_by bytes (host.in_commits C)) (λ x. refl) (λ j. refl)
 
-orders : (d piece class : ℕ) (h : Shelf) (price : Option (Result ℕ RateRefusal)) → NoPrint (host.order_plan d piece class h price)
-orders d piece class h None = record { is = refl }
-orders d piece class h (Some (Err x)) = record { is = refl }
-orders d piece class h (Some (Ok postage)) = order_act d piece class postage (host.order_answer piece h h.open_job)
-
-sends_job : (k i : ℕ) (b : Option Job) (x : Option HostRefusal) → NoPrint (host.send_answered k i b x)
-sends_job k i b (Some x) = record { is = refl }
-sends_job k i None None = record { is = refl }
-sends_job k i (Some b) None = record { is = refl }
-
-closes : (i : ℕ) (x : Option HostRefusal) → NoPrint (host.close_answered i x)
-closes i (Some x) = record { is = refl }
-closes i None = record { is = refl }
-
-holds : (x : List ℕ) (i : ℕ) (o : Option HostRefusal) → NoPrint (host.hold_answered x i o)
-holds x i (Some o) = record { is = refl }
-holds x i None = record { is = refl }
-
-hold_job : (x : List ℕ) (k : Mark) (i : ℕ) (b : Option Job) → NoPrint (host.hold_job x k i b)
-hold_job x k i None = record { is = refl }
-hold_job x k i (Some b) = holds x i (host.hold_answer k b.piece b.postage b.class)
-
-hold_open : (x : List ℕ) (k : Mark) (i : Option ℕ) (C : List Commit) → NoPrint (host.hold_open x k i C)
-hold_open x k None C = record { is = refl }
-hold_open x k (Some i) C = hold_job x k i (job_of i C)
-
-hold_plan : (x : List ℕ) (read : Result (Mark × List ℕ) MarkFault) (C : List Commit) → NoPrint (host.hold_plan x read C)
-hold_plan x (Err fault) C = record { is = refl }
-hold_plan x (Ok k) C = hold_open x k.0 (open_job k.0.device C) C
-
-host_takes : (read : Result Message Unread) (C : List Commit) → NoPrint (host.host_take read C)
-host_takes (Ok (m.Release x)) C = hold_plan x (read_mark x) C
-host_takes (Ok (m.Request q)) C = record { is = refl }
-host_takes (Ok (m.Done q)) C = record { is = refl }
-host_takes (Ok (m.Reply q)) C = record { is = refl }
-host_takes (Ok (m.Debit q)) C = record { is = refl }
-host_takes (Err x) C = record { is = refl }
-
-trusts : (d : ℕ) (key : List ℕ) (known : Option (List ℕ)) → NoPrint (scans.trust_plan d key known)
-trusts d key None = record { is = refl }
-trusts d key (Some k) = record { is = refl }
-
-scan_act : (n : ℕ) (k : Mark) (x : Result Bool ScanRefusal) → NoPrint (scans.scan_answered n k x)
-scan_act n k (Err x) = record { is = refl }
-scan_act n k (Ok true) = record { is = refl }
-scan_act n k (Ok false) = record { is = refl }
-
-scan_key : (n : ℕ) (bytes : List ℕ) (k : Mark) (today : ℤ) (key : Option (List ℕ)) (C : List Commit) → NoPrint (scans.scan_key n bytes k today key C)
-scan_key n bytes k today None C = record { is = refl }
-scan_key n bytes k today (Some key) C =
-    either (has_code key bytes) (scans.scan_answered n k (scans.scan_answer n k.day today (scans.is_full k.device k.piece (blocks C)) (accepted k.device k.piece C))) (scans.no_scan no_scans.BadCode)
-    (scan_act n k (scans.scan_answer n k.day today (scans.is_full k.device k.piece (blocks C)) (accepted k.device k.piece C))) record { is = refl }
-
-scan_plan : (n : ℕ) (bytes : List ℕ) (today : ℤ) (read : Result (Mark × List ℕ) MarkFault) (C : List Commit) → NoPrint (scans.scan_plan n bytes today read C)
-scan_plan n bytes today (Err fault) C = record { is = refl }
-scan_plan n bytes today (Ok k) C = scan_key n bytes k.0 today (trusted k.0.device C) C
+scans_plan : (n : ℕ) (bytes : List ℕ) (today : ℤ) (C : List Commit) → NoPrint (scans.scan_plan n bytes today C)
+scans_plan n bytes today C = says r.ScanRefused (scans.told_accepted n) (scan_by n bytes today (scans.in_commits C)) (λ x. refl) (λ a. refl)
 
 -- == of bytes that are handed to a node ==
 
@@ -264,7 +210,7 @@ module _ (ρ : Rules) (today : ℤ) (bytes : List ℕ) (H : Ledger) where
   to_centre = at Centre H _ (centre_takes (messages H) bytes (read bytes) (counted H))
 
   to_host : NoPrint (moves.host_plan bytes H)
-  to_host = at Host H _ (host_takes (read bytes) (counted H))
+  to_host = at Host H _ (host_takes bytes (counted H))
 
   delivers_to : (x : Result Message Unread) → NoPrint (moves.deliver_to ρ today bytes x H)
   delivers_to (Ok (m.Reply p)) = to_device p.device
@@ -286,7 +232,7 @@ delivers ρ today k (Some bytes) H = delivers_to ρ today bytes H (read bytes)
 
 scans_sent : (n : ℕ) (today : ℤ) (k : ℕ) (o : Option (List ℕ)) (H : Ledger) → NoPrint (moves.scan_sent n today k o H)
 scans_sent n today k None H = record { is = refl }
-scans_sent n today k (Some bytes) H = at Verifier H _ (scan_plan n (drop 2 bytes) today (read_mark (drop 2 bytes)) (counted H))
+scans_sent n today k (Some bytes) H = at Verifier H _ (scans_plan n (drop 2 bytes) today (counted H))
 
 reads_text : (text : List ℕ) (x : Result (ℕ × ℕ) TextFault) → NoPrint (moves.reading_plan text x)
 reads_text text (Err NoToml) = record { is = refl }
@@ -306,10 +252,11 @@ none_prints e p none = record {
   unfailed = unfailing p.reply none.is;
 }
 
-print_act : (i : ℕ) (x : Option (List ℕ)) (o : Option HostRefusal) → Prints (ev.Print i) (host.print_answered i x o)
-print_act i x (Some o) = none_prints (ev.Print i) _ (record { is = refl })
-print_act i None None = none_prints (ev.Print i) _ (record { is = refl })
-print_act i (Some x) None = record { answered = λ j is. let same : i ≡ j = cc in (ap ev.Print same, (x, refl)); unfailed = refl }
+-- the answer to a print that is done is that its job was printed, with a mark
+prints_job : (i : ℕ) (act : HostAct (List ℕ)) → Prints (ev.Print i) (said_plan (host.says (host.told_printed i) act))
+prints_job i (Refuse x) = none_prints (ev.Print i) _ (record { is = refl })
+prints_job i (Tell mark) = record { answered = λ j is. let same : i ≡ j = cc in (ap ev.Print same, (mark, refl)); unfailed = refl }
+prints_job i (Commits c x mark) = record { answered = λ j is. let same : i ≡ j = cc in (ap ev.Print same, (mark, refl)); unfailed = refl }
 
 either_prints : (e : Event) (b : Bool) (p q : Plan) → Prints e p → Prints e q → Prints e (if b then p else q)
 either_prints e true p q one other = one
@@ -349,13 +296,14 @@ module _ (τ : Tariff) (ρ : Rules) (H : Ledger) (text : List ℕ) (today : ℤ)
   on_prints (ev.Balance w) = none_at (ev.Balance w) (at Centre H _ (balances w _ _))
   on_prints (ev.Deliver k) = none_at (ev.Deliver k) (delivers ρ today k (message k H) H)
   on_prints (ev.Give n bytes) = none_at (ev.Give n bytes) (gives_to ρ today bytes H n)
-  on_prints (ev.Order d piece class grams zone) = none_at (ev.Order d piece class grams zone) (at Host H (host.order_plan d piece class (host.shelf_of d (counted H)) (moves.price_by τ class grams zone (rates_in H))) (orders d piece class (host.shelf_of d (counted H)) (moves.price_by τ class grams zone (rates_in H))))
-  on_prints (ev.Send i) = none_at (ev.Send i) (at Host H _ (sends_job (messages H) i _ _))
-  on_prints (ev.Print i) = at_prints (ev.Print i) Host H _ (print_act i _ _)
-  on_prints (ev.Close i) = none_at (ev.Close i) (at Host H _ (closes i _))
-  on_prints (ev.Trust d key) = none_at (ev.Trust d key) (at Verifier H _ (trusts d key _))
+  on_prints (ev.Order d piece class grams zone) = none_at (ev.Order d piece class grams zone)
+      (at Host H _ (says r.HostRefused host.told_ordered (order_by d piece class (moves.price_by τ class grams zone (rates_in H)) (host.in_commits (counted H))) (λ x. refl) (λ a. refl)))
+  on_prints (ev.Send i) = none_at (ev.Send i) (at Host H _ (says r.HostRefused (host.told_sent i (messages H)) (debit_message_by i (host.in_commits (counted H))) (λ x. refl) (λ note. refl)))
+  on_prints (ev.Print i) = at_prints (ev.Print i) Host H _ (prints_job i (begin_print_by i (host.in_commits (counted H))))
+  on_prints (ev.Close i) = none_at (ev.Close i) (at Host H _ (says r.HostRefused (host.told_closed i) (close_by i (host.in_commits (counted H))) (λ x. refl) (λ u. refl)))
+  on_prints (ev.Trust d key) = none_at (ev.Trust d key) (at Verifier H _ (says r.ScanRefused (scans.told_trusted d) (trust_by d key (scans.in_commits (counted H))) (λ x. refl) (λ u. refl)))
   on_prints (ev.ScanMsg n k) = none_at (ev.ScanMsg n k) (scans_sent n today k (message k H) H)
-  on_prints (ev.ScanHex n bytes) = none_at (ev.ScanHex n bytes) (at Verifier H _ (scan_plan n bytes today (read_mark bytes) (counted H)))
+  on_prints (ev.ScanHex n bytes) = none_at (ev.ScanHex n bytes) (at Verifier H _ (scans_plan n bytes today (counted H)))
   on_prints (ev.Reconcile d) = none_at (ev.Reconcile d) (at (Device d) H _ (at Centre H _ (reconciles d _ (counted H))))
 
 dated_prints : (τ : Tariff) (ρ : Rules) (H : Ledger) (e : Event) (text : List ℕ) (day : Option ℤ) → Prints e (on_day (plan_on τ ρ H e text) day)

@@ -17,7 +17,7 @@ use Rattle.node_acts.specs.RowList.{row_at, row_of, put}
 use Rattle.node_acts.specs.RowList as list
 use Rattle.node_acts.specs.RowLaws.{listed_long, listed_at, put_listed}
 use Rattle.verifier.specs.declared.acts.Change.TheVariants as change
-use Rattle.verifier.specs.declared.acts.Spot.{Spot}
+use Rattle.verifier.specs.Plans.{spot_after}
 use Rattle.verifier.specs.Order.{IsRoomy}
 use Rattle.verifier.specs.Records.{block_at, scans_after, trust_after, block_after, cell_after, seen_after, IsRecorded}
 use Rattle.verifier.specs.Rows.{Row, TrustRow, BlockRow}
@@ -177,11 +177,6 @@ accepted-range d p (x ∷ C) n range is = accepted-range d p C n (All-tail InRan
 shown : (o : Option ℕ) → ((n : ℕ) → o ≡ Some n → 1 ≤ n) → scan_shown (unwrap_or o 0) ≡ o
 shown None low = refl
 shown (Some n) low = ap (λ t. if t then None else Some n) (ne_eqb n 0 (λ is. omega (arith, low n refl, is)))
-
--- the cell that a piece lies in after the commits, or would
-abbrev pub spot_after : List (ℕ × ℕ) → Option ℕ → Option ℕ → Spot
-spot_after xs None a = record { cell = FIRST_BLOCK + length xs; accepted = a }
-spot_after xs (Some i) a = record { cell = FIRST_BLOCK + i; accepted = a }
 
 pub spot-after : (C : List Commit) (d p : ℕ) → IsRecorded C → spot_in (seen_after C) d p ≡ spot_after (blocks C) (block_place d (block_of p) (blocks C)) (accepted d p C)
 spot-after C d p fits = by (block_place d (block_of p) (blocks C)) refl

@@ -1,18 +1,16 @@
--- The acts of the verifier leave sound rows, follow the commits, and are what the ledger plans.
+-- The acts of the verifier leave sound rows, follow the commits, and are by their rows what they are by them.
 use Rattle.std.proofs.Common.{◌≡◌, inl, inr, ℕ, ℤ, zero, suc, ◌+◌, ◌-◌, ◌%◌, ◌<◌, ◌≤◌, ◌^◌, List, [], ◌∷◌, length, drop, option_map, Option, Some, None, Bool, true, false, Ok, Err, refl, sym, ap, ap₂, subst, ◌∙◌, arith, true≢false}
-use Rattle.std.specs.Prelude.{Result, pos, ◌+ℤ◌, ◌==◌, ◌&&◌, is_some, is_none, IsSome, IfSome, All, nat_le, if◌then◌else◌}
-use Rattle.std.proofs.lemmas.Bool.{cases_Bool, cases_lt, le-leb}
+use Rattle.std.specs.Prelude.{Result, pos, ◌+ℤ◌, ◌==◌, is_some, IsSome, IfSome, All, nat_le, if◌then◌else◌}
+use Rattle.std.proofs.lemmas.Bool.{cases_lt}
 use Rattle.std.proofs.lemmas.Bool.Decides.{nat_tests}
 use Rattle.std.proofs.lemmas.List.{get_or_past}
 use Rattle.std.proofs.lemmas.List.Elements.{All-head, All-tail}
 use Rattle.std.proofs.lemmas.List.Sums.{sum_by-cons}
-use Rattle.std.proofs.Math.Bool.{and-false}
 use lib.Signed.{lt_z}
 use Rattle.bench_base.specs.declared.sizes.TheConstants.{VERIFIER_CELLS, FIRST_BLOCK, BLOCK_PIECES}
 use Rattle.bench_base.specs.declared.words.Node.TheVariants.{Verifier}
 use Rattle.bench_base.specs.declared.ledger.Commit.{Commit}
 use Rattle.bench_base.specs.declared.ledger.Commit.TheVariants as c
-use Rattle.bench_base.specs.declared.events.Reply.TheVariants as r
 use Rattle.bench_base.specs.declared.refusals.MarkFault.{MarkFault}
 use Rattle.bench_base.specs.declared.refusals.ScanRefusal.{ScanRefusal}
 use Rattle.bench_base.specs.declared.refusals.ScanRefusal.TheVariants as no
@@ -33,16 +31,16 @@ use Rattle.indicium.proofs.Readings.{read_mark-found}
 use Rattle.psd_wire.specs.Codes.{has_code}
 use Rattle.verifier.specs.declared.acts.Change.TheVariants as change
 use Rattle.verifier.specs.declared.acts.Spot.{Spot}
-use Rattle.verifier.specs.Answers.{no_scan, trust_plan, is_full, scan_answer, scan_key, scan_plan}
-use Rattle.verifier.specs.Answers as plan
+use Rattle.verifier.specs.Answers.{scan_answer}
 use Rattle.verifier.specs.Order.{IsRoomy}
-use Rattle.verifier.specs.Acts.{trusted_act, answered_act, spot_act, marked_act, read_act}
-use Rattle.verifier.specs.ActLaws.{IsFit, LeavesSound, ActsLeaveSound, IsNext, FollowsCommits, ActsFollow, act_plan, accepted_reply, ActsArePlanned}
+use Rattle.verifier.specs.Acts.{in_rows, trusted_act, answered_act, spot_act, marked_act, read_act}
+use Rattle.verifier.specs.ActLaws.{IsFit, LeavesSound, ActsLeaveSound, IsNext, FollowsCommits, ActsFollow, ActsArePlanned}
+use Rattle.verifier.specs.Plans.{spot_after, in_commits}
 use Rattle.verifier.specs.Records.{trust_after, block_after, cell_after, seen_after, IsRecorded}
 use Rattle.verifier.specs.Rows.{TrustRow}
 use Rattle.verifier.specs.Seen.{Seen, row_in, key_at, block_in, cell_of_block, used, spot_by, spot_in, counting, AreSound, IsRowAt}
 use Rattle.verifier.proofs.Basics.{no-pair}
-use Rattle.verifier.proofs.After.{after-long, after-at, trust-cell, block-cell, key-after, trusted-range, found-after, none-after, used-after, spot-after, spot_after, trusts-more, accepts-known, accepts-new}
+use Rattle.verifier.proofs.After.{after-long, after-at, trust-cell, block-cell, key-after, trusted-range, found-after, none-after, used-after, spot-after, trusts-more, accepts-known, accepts-new}
 use Rattle.verifier.proofs.Blocks.{place-at, blocks-kept, blocks-more, past-all, untrusted-blank, unused-blank, place-inside}
 use Rattle.verifier.proofs.Cells.{shown-some, shown-none}
 use Rattle.verifier.proofs.Fits.{CanAccept, trust-fits, accept-fits, block-accepts, next-accepts}
@@ -93,7 +91,7 @@ module _ (s : Seen) (sound : AreSound s) where
   can-accept d p (Some cell) has small is room = block-accepts s sound d (block_of p) has (omega (arith, small)) cell is
   can-accept d p None has small is room = next-accepts s sound d (block_of p) has (omega (arith, small)) is (is_most VERIFIER_CELLS (FIRST_BLOCK + used s) room)
 
-  leaves-scan : (n : ℕ) (bytes : List ℕ) (today : ℤ) → IsCount n → IsBytes bytes → (x : Result (Mark × List ℕ) MarkFault) → read_mark bytes ≡ x → LeavesSound s (read_act n bytes today s x)
+  leaves-scan : (n : ℕ) (bytes : List ℕ) (today : ℤ) → IsCount n → IsBytes bytes → (x : Result (Mark × List ℕ) MarkFault) → read_mark bytes ≡ x → LeavesSound s (read_act n bytes today (in_rows s) x)
   leaves-scan n bytes today count h (Err fault) is = tt
   leaves-scan n bytes today count h (Ok k) is = marked (key_at s k.0.device) refl
     where
@@ -290,7 +288,7 @@ module _ (C : List Commit) (rec : IsRecorded C) where
       blank_trust : (e : ℕ) → trusted d C ≡ None → trust_after (d - 1 + 1) C ≡ None
       blank_trust e none = ap (λ f. trust_after f C) (omega (arith, device)) ∙ ap (λ o. option_map (λ k. (cells.commits_at (OfTrust d) C, TrustRow d k)) o) none
 
-  follows-scan : (n : ℕ) (bytes : List ℕ) (today : ℤ) → IsCount n → IsBytes bytes → (x : Result (Mark × List ℕ) MarkFault) → read_mark bytes ≡ x → FollowsCommits C (read_act n bytes today (seen_after C) x)
+  follows-scan : (n : ℕ) (bytes : List ℕ) (today : ℤ) → IsCount n → IsBytes bytes → (x : Result (Mark × List ℕ) MarkFault) → read_mark bytes ≡ x → FollowsCommits C (read_act n bytes today (in_rows (seen_after C)) x)
   follows-scan n bytes today count h (Err fault) is = tt
   follows-scan n bytes today count h (Ok k) is = marked (key_at (seen_after C) k.0.device) refl
     where
@@ -323,11 +321,7 @@ module _ (C : List Commit) (rec : IsRecorded C) where
           let fresh = fresh-answer n k.0.day today (nat_le VERIFIER_CELLS spot.cell) spot.accepted a in
           let o = block_place k.0.device (block_of k.0.piece) (blocks C) in
           subst (λ (x : Spot). IsNext C (c.Accepted k.0.device k.0.piece n) (change.Accept x.cell k.0.device (block_of k.0.piece) (k.0.piece % BLOCK_PIECES) n)) (sym same)
-          (next has (sym (spot_accepted o) ∙ ap (λ (x : Spot). x.accepted) (sym same) ∙ fresh.0) o refl (ap (λ (x : Spot). nat_le VERIFIER_CELLS x.cell) (sym same) ∙ fresh.1))
-        where
-          spot_accepted : (o : Option ℕ) → (spot_after (blocks C) o (accepted k.0.device k.0.piece C)).accepted ≡ accepted k.0.device k.0.piece C
-          spot_accepted None = refl
-          spot_accepted (Some i) = refl
+          (next has (ap (λ (x : Spot). x.accepted) (sym same) ∙ fresh.0) o refl (ap (λ (x : Spot). nat_le VERIFIER_CELLS x.cell) (sym same) ∙ fresh.1))
 
       coded : IsSome (trusted k.0.device C) → (t : Bool) → FollowsCommits C (if t then spot_act n k.0 today (spot_in (seen_after C) k.0.device k.0.piece) else Refuse no.BadCode)
       coded has true = answered has (spot_in (seen_after C) k.0.device k.0.piece) (spot-after C k.0.device k.0.piece rec) (scan_answer n k.0.day today (nat_le VERIFIER_CELLS (spot_in (seen_after C) k.0.device k.0.piece).cell) (spot_in (seen_after C) k.0.device k.0.piece).accepted) refl
@@ -349,60 +343,14 @@ follows = record {
   };
 }
 
--- == the plans ==
+-- == what is looked up ==
 
-trust_planned : (d : ℕ) (key : List ℕ) (o : Option (List ℕ)) → act_plan (λ u. r.Trusted d) (trusted_act d key (is_some o)) ≡ trust_plan d key o
-trust_planned d key None = refl
-trust_planned d key (Some k) = refl
-
-answer_planned : (n : ℕ) (k : Mark) (cell : ℕ) (x : Result Bool ScanRefusal) → act_plan (accepted_reply n) (answered_act n k cell x) ≡ plan.scan_answered n k x
-answer_planned n k cell (Err y) = refl
-answer_planned n k cell (Ok true) = refl
-answer_planned n k cell (Ok false) = refl
-
-module _ (C : List Commit) (rec : IsRecorded C) where
-  -- whether there is room, by the cell and by the commits
-  no_room : (d p : ℕ) (o : Option ℕ) → block_place d (block_of p) (blocks C) ≡ o → nat_le VERIFIER_CELLS (spot_after (blocks C) o None).cell ≡ (nat_le 1024 (length (blocks C)) && is_none o)
-  no_room d p (Some i) is = is_under VERIFIER_CELLS (FIRST_BLOCK + i) (omega (arith, (place-at (blocks C) d (block_of p) i is).0, rec.roomy)) ∙ sym (and-false (nat_le 1024 (length (blocks C))))
-  no_room d p None is = elim (cases_Bool (nat_le 1024 (length (blocks C)))) [
-    | inl full ↦ le-leb VERIFIER_CELLS (FIRST_BLOCK + length (blocks C)) (most full) ∙ sym (ap (λ t. t && true) full)
-    | inr room ↦ is_under VERIFIER_CELLS (FIRST_BLOCK + length (blocks C)) (omega (arith, is_most 1024 (length (blocks C)) room)) ∙ sym (ap (λ t. t && true) room)
-  ]
-    where
-      most : nat_le 1024 (length (blocks C)) ≡ true → VERIFIER_CELLS ≤ FIRST_BLOCK + length (blocks C)
-      most full = grind (arith, nat_tests)
-
-  answers_same : (n : ℕ) (day today : ℤ) (d p : ℕ) (o : Option ℕ) → block_place d (block_of p) (blocks C) ≡ o → (a : Option ℕ)
-      → scan_answer n day today (nat_le VERIFIER_CELLS (spot_after (blocks C) o a).cell) (spot_after (blocks C) o a).accepted ≡ scan_answer n day today (nat_le 1024 (length (blocks C)) && is_none o) a
-  answers_same n day today d p (Some i) is (Some first) = refl
-  answers_same n day today d p None is (Some first) = refl
-  answers_same n day today d p (Some i) is None = ap (λ t. scan_answer n day today t None) (no_room d p (Some i) is)
-  answers_same n day today d p None is None = ap (λ t. scan_answer n day today t None) (no_room d p None is)
-
-  spot_planned : (n : ℕ) (k : Mark) (today : ℤ) (o : Option ℕ) → block_place k.device (block_of k.piece) (blocks C) ≡ o
-      → act_plan (accepted_reply n) (spot_act n k today (spot_after (blocks C) o (accepted k.device k.piece C))) ≡ plan.scan_answered n k (scan_answer n k.day today (nat_le 1024 (length (blocks C)) && is_none o) (accepted k.device k.piece C))
-  spot_planned n k today o is =
-      answer_planned n k (spot_after (blocks C) o (accepted k.device k.piece C)).cell _ ∙ ap (plan.scan_answered n k) (answers_same n k.day today k.device k.piece o is (accepted k.device k.piece C))
-
-  coded_planned : (n : ℕ) (k : Mark) (today : ℤ) (t : Bool)
-      → act_plan (accepted_reply n) (if t then spot_act n k today (spot_after (blocks C) (block_place k.device (block_of k.piece) (blocks C)) (accepted k.device k.piece C)) else Refuse no.BadCode)
-      ≡ (if t then plan.scan_answered n k (scan_answer n k.day today (is_full k.device k.piece (blocks C)) (accepted k.device k.piece C)) else no_scan no.BadCode)
-  coded_planned n k today true = spot_planned n k today (block_place k.device (block_of k.piece) (blocks C)) refl
-  coded_planned n k today false = refl
-
-  marked_planned : (n : ℕ) (bytes : List ℕ) (k : Mark) (today : ℤ) (o : Option (List ℕ))
-      → act_plan (accepted_reply n) (marked_act n bytes k today o (spot_after (blocks C) (block_place k.device (block_of k.piece) (blocks C)) (accepted k.device k.piece C))) ≡ scan_key n bytes k today o C
-  marked_planned n bytes k today None = refl
-  marked_planned n bytes k today (Some key) = coded_planned n k today (has_code key bytes)
-
-  read_planned : (n : ℕ) (bytes : List ℕ) (today : ℤ) (x : Result (Mark × List ℕ) MarkFault) → act_plan (accepted_reply n) (read_act n bytes today (seen_after C) x) ≡ scan_plan n bytes today x C
-  read_planned n bytes today (Err fault) = refl
-  read_planned n bytes today (Ok k) =
-      ap₂ (λ o spot. act_plan (accepted_reply n) (marked_act n bytes k.0 today o spot)) (key-after C k.0.device rec.range) (spot-after C k.0.device k.0.piece rec)
-      ∙ marked_planned n bytes k.0 today (trusted k.0.device C)
+read-alike : (C : List Commit) → IsRecorded C → (n : ℕ) (bytes : List ℕ) (today : ℤ) (x : Result (Mark × List ℕ) MarkFault) → read_act n bytes today (in_rows (seen_after C)) x ≡ read_act n bytes today (in_commits C) x
+read-alike C rec n bytes today (Err fault) = refl
+read-alike C rec n bytes today (Ok k) = ap₂ (λ o spot. marked_act n bytes k.0 today o spot) (key-after C k.0.device rec.range) (spot-after C k.0.device k.0.piece rec)
 
 pub planned : ActsArePlanned
 planned C rec = record {
-  trusted = λ d key device. ap (λ o. act_plan (λ u. r.Trusted d) (trusted_act d key (is_some o))) (key-after C d rec.range) ∙ trust_planned d key (trusted d C);
-  scanned = λ n bytes today h. read_planned C rec n bytes today (read_mark bytes);
+  trusted = λ d key. ap (λ o. trusted_act d key (is_some o)) (key-after C d rec.range);
+  scanned = λ n bytes today. read-alike C rec n bytes today (read_mark bytes);
 }

@@ -1,27 +1,20 @@
--- What holds of the acts of the verifier: they leave sound rows, and do what the ledger plans over the commits whose rows these are.
+-- What holds of the acts of the verifier: they leave sound rows, and are by the rows of some commits what they are by these.
 use Rattle.std.specs.Prelude.{◌≡◌, ℕ, ℤ, ◌<◌, false, List, [], ◌∷◌, Some, None}
 use Rattle.bench_base.specs.declared.sizes.TheConstants.{VERIFIER_CELLS, BLOCK_PIECES}
 use Rattle.bench_base.specs.declared.words.Node.TheVariants.{Verifier}
 use Rattle.bench_base.specs.declared.ledger.Commit.{Commit}
-use Rattle.bench_base.specs.declared.events.Reply.{Reply}
-use Rattle.bench_base.specs.declared.events.Reply.TheVariants as r
 use Rattle.bench_base.specs.Cells.{place_of}
 use Rattle.bench_base.specs.Cells as cells
 use Rattle.bench_base.specs.Ledger.{count_of}
 use Rattle.bench_base.specs.Nodes.{node_of, same_node}
-use Rattle.bench_base.specs.Plans.{Plan}
 use Rattle.bench_base.specs.Ranges.{IsDevice, IsKey, IsCount}
-use Rattle.bench_base.specs.Scans.{trusted}
 use Rattle.bench_base.specs.Table.{IsBytes}
-use Rattle.node_acts.specs.Plans.{plan_of}
 use Rattle.node_acts.specs.RowList.{row_at, commits_at, commits_in}
 use Rattle.node_acts.specs.declared.act.Act.TheVariants.{Refuse, Tell, Commits}
-use Rattle.indicium.specs.Marks.{read_mark}
-use Rattle.verifier.specs.declared.acts.Accepted.{Accepted}
 use Rattle.verifier.specs.declared.acts.Change.{Change}
 use Rattle.verifier.specs.declared.acts.Change.TheVariants as change
-use Rattle.verifier.specs.Acts.{ScanAct, trust_act, scan_act}
-use Rattle.verifier.specs.Answers.{trust_plan, scan_plan}
+use Rattle.verifier.specs.Acts.{ScanAct, trust_by, trust_act, scan_by, scan_act}
+use Rattle.verifier.specs.Plans.{in_commits}
 use Rattle.verifier.specs.Records.{seen_after, IsRecorded}
 use Rattle.verifier.specs.Seen.{Seen, AreSound, block_in, row_in, cell_of, counting}
 
@@ -77,20 +70,12 @@ pub record ActsFollow : Type 0 where
   pub others : (c : Commit) (C : List Commit) → same_node (node_of c) Verifier ≡ false → seen_after (c ∷ C) ≡ seen_after C
   pub each : (C : List Commit) → IsRecorded C → FollowingActs C
 
--- == the plans ==
+-- == what is looked up ==
 
--- the plan of an act whose answer is told by its reply alone
-abbrev pub act_plan : {A : Type 0} → (A → Reply) → ScanAct A → Plan
-act_plan reply act = plan_of r.ScanRefused reply (λ a. []) act
-
--- what a scan under this number is told as
-abbrev pub accepted_reply : ℕ → Accepted → Reply
-accepted_reply n a = r.Accepted a.device a.piece n a.again
-
--- each act's plan is the ledger's
+-- each act by the rows of the commits is the one by the commits, off which the ledger's plan is read
 pub record PlannedActs (C : List Commit) : Type 0 where
-  pub trusted : (d : ℕ) (key : List ℕ) → IsDevice d → act_plan (λ u. r.Trusted d) (trust_act d key (seen_after C)) ≡ trust_plan d key (trusted d C)
-  pub scanned : (n : ℕ) (bytes : List ℕ) (today : ℤ) → IsBytes bytes → act_plan (accepted_reply n) (scan_act n bytes today (seen_after C)) ≡ scan_plan n bytes today (read_mark bytes) C
+  pub trusted : (d : ℕ) (key : List ℕ) → trust_act d key (seen_after C) ≡ trust_by d key (in_commits C)
+  pub scanned : (n : ℕ) (bytes : List ℕ) (today : ℤ) → scan_act n bytes today (seen_after C) ≡ scan_by n bytes today (in_commits C)
 
 abbrev pub ActsArePlanned : Type 0
 ActsArePlanned = (C : List Commit) → IsRecorded C → PlannedActs C

@@ -1,4 +1,4 @@
--- What each call of the verifier does, by its rows. Days are since 1970-01-01.
+-- What each call of the verifier does, by what it looks up: in its rows, or in a list of commits. Days are since 1970-01-01.
 use Rattle.std.specs.Prelude.{ℕ, ℤ, ◌%◌, Bool, true, false, List, Option, Some, None, Result, Ok, Err, is_some, nat_le, if◌then◌else◌}
 use Rattle.bench_base.specs.declared.sizes.TheConstants.{VERIFIER_CELLS, BLOCK_PIECES}
 use Rattle.bench_base.specs.declared.refusals.MarkFault.{MarkFault}
@@ -21,6 +21,14 @@ use Rattle.verifier.specs.Seen.{Seen, key_at, spot_in}
 abbrev pub ScanAct : Type 0 → Type 0
 ScanAct A = Act Change ScanRefusal A
 
+-- the key under which marks of a device are trusted, and where a piece of it is looked up
+pub record LookUps : Type 0 where
+  pub key : ℕ → Option (List ℕ)
+  pub spot : ℕ → ℕ → Spot
+
+abbrev pub in_rows : Seen → LookUps
+in_rows s = record { key = λ d. key_at s d; spot = λ d piece. spot_in s d piece }
+
 -- == trust ==
 
 -- by whether the device is trusted
@@ -28,8 +36,11 @@ abbrev pub trusted_act : ℕ → List ℕ → Bool → ScanAct (Unit {0})
 trusted_act d key true = Refuse no.Known
 trusted_act d key false = Commits (c.Trusted d key) (change.Trust d key) tt
 
+abbrev pub trust_by : ℕ → List ℕ → LookUps → ScanAct (Unit {0})
+trust_by d key at = trusted_act d key (is_some (at.key d))
+
 abbrev pub trust_act : ℕ → List ℕ → Seen → ScanAct (Unit {0})
-trust_act d key s = trusted_act d key (is_some (key_at s d))
+trust_act d key s = trust_by d key (in_rows s)
 
 -- == a scan ==
 
@@ -51,10 +62,13 @@ abbrev pub marked_act : ℕ → List ℕ → Mark → ℤ → Option (List ℕ) 
 marked_act n bytes k today None spot = Refuse (no.Unknown k.device)
 marked_act n bytes k today (Some key) spot = if has_code key bytes then spot_act n k today spot else Refuse no.BadCode
 
-abbrev pub read_act : ℕ → List ℕ → ℤ → Seen → Result (Mark × List ℕ) MarkFault → ScanAct Accepted
-read_act n bytes today s (Err fault) = Refuse (no.Unread fault)
-read_act n bytes today s (Ok k) = marked_act n bytes k.0 today (key_at s k.0.device) (spot_in s k.0.device k.0.piece)
+abbrev pub read_act : ℕ → List ℕ → ℤ → LookUps → Result (Mark × List ℕ) MarkFault → ScanAct Accepted
+read_act n bytes today at (Err fault) = Refuse (no.Unread fault)
+read_act n bytes today at (Ok k) = marked_act n bytes k.0 today (at.key k.0.device) (at.spot k.0.device k.0.piece)
 
 -- bytes that are scanned under a number
+abbrev pub scan_by : ℕ → List ℕ → ℤ → LookUps → ScanAct Accepted
+scan_by n bytes today at = read_act n bytes today at (read_mark bytes)
+
 abbrev pub scan_act : ℕ → List ℕ → ℤ → Seen → ScanAct Accepted
-scan_act n bytes today s = read_act n bytes today s (read_mark bytes)
+scan_act n bytes today s = scan_by n bytes today (in_rows s)

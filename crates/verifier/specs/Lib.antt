@@ -5,6 +5,7 @@ pub mod Answers
 pub mod Index
 pub mod Payload
 pub mod PayloadLaws
+pub mod Plans
 pub mod Rows
 pub mod Seen
 -- Promised: those rest on these.
