@@ -16,13 +16,22 @@ use node_seat::{Arms, Node};
 fn started<T: Tell>(node: &NodeNo, started: Started) -> T
     ensures { T.IsOf result (turns.start_turn node.now started) }
 {
-    let node = *node;
     match started {
-        Started::Already => T::silent(Reply::OnAlready(node)),
-        Started::Up(commits) => T::one(Reply::Up { node, commits }, Entry::Up { node, commits }),
-        Started::Power => T::silent(Reply::Power(node)),
-        Started::Fault => T::silent(Reply::Fault(node)),
-        Started::Damaged => T::silent(Reply::Damaged(node)),
+        Started::Already => T::silent(Reply::OnAlready(*node)),
+        Started::Up(commits) => {
+            let up = Reply::Up {
+                node: *node,
+                commits,
+            };
+            let entry = Entry::Up {
+                node: *node,
+                commits,
+            };
+            T::one(up, entry)
+        }
+        Started::Power => T::silent(Reply::Power(*node)),
+        Started::Fault => T::silent(Reply::Fault(*node)),
+        Started::Damaged => T::silent(Reply::Damaged(*node)),
     }
 }
 

@@ -52,7 +52,7 @@ under b Q P q tells = tells_same b P (Q → P) (λ p _. p) (λ f. f q) tells
 
 -- == under a key ==
 
-module _ (bytes : List ℕ) (known : ByteSet) (P : Type 0) (same : Has bytes known ↔ P) where
+module _ (bytes : List ℕ) (known : ByteSet (List ℕ)) (P : Type 0) (same : Has bytes known ↔ P) where
   abbrev UnderKey : Option (List ℕ) → Type 0
   UnderKey own = (key : List ℕ) → own ≡ Some key → has_code key bytes ≡ true → P
 
@@ -80,7 +80,7 @@ key_kept : (d : ℕ) (C : List Commit) (k : Option (List ℕ)) → option_map (�
 key_kept d C None = refl
 key_kept d C (Some key) = refl
 
-reply_tells : (bytes : List ℕ) (known : ByteSet) (d : ℕ) (H : Ledger) → Has bytes known ↔ IsSent bytes H → (x : Result Message Unread)
+reply_tells : (bytes : List ℕ) (known : ByteSet (List ℕ)) (d : ℕ) (H : Ledger) → Has bytes known ↔ IsSent bytes H → (x : Result Message Unread)
     → TellsNot (forged_reply (record_in d (counted H)) d bytes known x) (IsKnown bytes x (Device d) H)
 reply_tells bytes known d H same (Ok (m.Reply p)) = by (p.device == d) refl
   where
@@ -136,7 +136,7 @@ row_key : (d : ℕ) (C : List Commit) (o : Option (ℕ × List ℕ)) → option_
 row_key d C None = refl
 row_key d C (Some x) = refl
 
-module _ (bytes : List ℕ) (known : ByteSet) (H : Ledger) (same : Has bytes known ↔ IsSent bytes H) (range : All InRange (counted H)) where
+module _ (bytes : List ℕ) (known : ByteSet (List ℕ)) (H : Ledger) (same : Has bytes known ↔ IsSent bytes H) (range : All InRange (counted H)) where
   abbrev rows : Books
   rows = centre.books_in (seen_in (counted H))
 
@@ -172,7 +172,7 @@ module _ (bytes : List ℕ) (known : ByteSet) (H : Ledger) (same : Has bytes kno
 
 -- == the host ==
 
-release_tells : (bytes : List ℕ) (known : ByteSet) (H : Ledger) → ((mark : List ℕ) → Has mark known ↔ IsReleased mark H) → (x : Result Message Unread) → TellsNot (forged_release known x) (IsKnown bytes x Host H)
+release_tells : (bytes : List ℕ) (known : ByteSet (List ℕ)) (H : Ledger) → ((mark : List ℕ) → Has mark known ↔ IsReleased mark H) → (x : Result Message Unread) → TellsNot (forged_release known x) (IsKnown bytes x Host H)
 release_tells bytes known H same (Ok (m.Release x)) = by (has x known) refl
   where
     by : (t : Bool) → has x known ≡ t → TellsNot (not t) (IsReleased x H)
@@ -194,7 +194,7 @@ verifier_tells bytes H (Err x) = tt
 
 -- == scanned bytes ==
 
-mark_tells : (bytes : List ℕ) (known : ByteSet) (s : verifier.Seen) (H : Ledger) → Has bytes known ↔ IsReleased bytes H → ((d : ℕ) → verifier.key_at s d ≡ trusted d (counted H)) → (x : Result (Mark × List ℕ) MarkFault)
+mark_tells : (bytes : List ℕ) (known : ByteSet (List ℕ)) (s : verifier.Seen) (H : Ledger) → Has bytes known ↔ IsReleased bytes H → ((d : ℕ) → verifier.key_at s d ≡ trusted d (counted H)) → (x : Result (Mark × List ℕ) MarkFault)
     → TellsNot (forged_mark s bytes known x) (IsKnownMark bytes x H)
 mark_tells bytes known s H same keys (Ok k) = keys_tell bytes known (IsReleased bytes H) same _ (trusted k.0.device (counted H)) (keys k.0.device)
 mark_tells bytes known s H same keys (Err fault) = tt

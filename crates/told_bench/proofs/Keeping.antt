@@ -4,7 +4,7 @@ use Rattle.bench_base.specs.declared.ledger.Entry.TheVariants.{Begin}
 use Rattle.bench_base.specs.Ledger.{Ledger, IsSent, IsReleased}
 use Rattle.told_views.specs.Verdicts.{Adds}
 use Rattle.told_bench.specs.declared.known.Known.{Known}
-use Rattle.told_bench.specs.Known.{IsBlank, Learns, Knows}
+use Rattle.told_bench.specs.Known.{IsBlank, Learns, KeepsSame, Knows}
 
 -- of what is the same in two ways
 joined : {P Q R S : Type 0} → P ↔ (R ⊎ S) → S ↔ Q → (L : Type 0) → L ↔ (R ⊎ Q) → P ↔ L
@@ -17,6 +17,12 @@ pub knows_more : (sent released : Option (List ℕ)) (old new : Known) (H L : Le
 knows_more sent released old new H L learns knows adds = record {
   sent = λ bytes. joined (learns.sends bytes) (knows.sent bytes) (IsSent bytes L) (adds.sends bytes);
   released = λ mark. joined (learns.releases mark) (knows.released mark) (IsReleased mark L) (adds.releases mark);
+}
+
+pub knows_same : (old new : Known) (H : Ledger) → KeepsSame old new → Knows old H → Knows new H
+knows_same old new H keeps knows = record {
+  sent = λ bytes. (λ has. (knows.sent bytes).0 ((keeps.sent bytes).0 has), λ is. (keeps.sent bytes).1 ((knows.sent bytes).1 is));
+  released = λ mark. (λ has. (knows.released mark).0 ((keeps.released mark).0 has), λ is. (keeps.released mark).1 ((knows.released mark).1 is));
 }
 
 pub knows_begun : (k : Known) (H : Ledger) → Knows k H → Knows k (Begin ∷ H)

@@ -9,6 +9,7 @@ mod OfRates
 pub mod OnlyPrint
 mod Printing
 mod Quiet
+pub mod Same
 mod Seen
 mod Sent
 mod Sets

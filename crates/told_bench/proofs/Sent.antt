@@ -15,7 +15,7 @@ use Rattle.told_bench.specs.Seeing.{Audit, Sees, SeesRun, sending}
 use Rattle.told_bench.proofs.Keeping.{knows_more}
 
 -- what is kept is no part of the run
-other_known : (a : Audit) (k : Known) (L : Ledger) → SeesRun a L → SeesRun (record a { known = k }) L
+pub other_known : (a : Audit) (k : Known) (L : Ledger) → SeesRun a L → SeesRun (record a { known = k }) L
 other_known a k L sees = record { day = sees.day; devices = sees.devices; centre = sees.centre; host = sees.host; verifier = sees.verifier }
 
 module _ (τ : Tariff) (H : Ledger) (e : Event) (left line : List ℕ) where

@@ -5,7 +5,7 @@ use Rattle.bench_base.specs.declared.words.Node.TheVariants.{Device, Centre, Hos
 use Rattle.bench_base.specs.declared.refusals.Unread.{Unread}
 use Rattle.bench_base.specs.declared.refusals.MarkFault.{MarkFault}
 use Rattle.bench_base.specs.declared.events.Event.{Event}
-use Rattle.bench_base.specs.declared.events.Event.TheVariants as ev
+use Rattle.bench_base.specs.Events.{Brought, Nothing, Handed, Scanned, brought_by}
 use Rattle.bench_base.specs.Ledger.{Ledger}
 use Rattle.bench_base.specs.Rules.{editions}
 use Rattle.indicium.specs.declared.Mark.{Mark}
@@ -24,18 +24,21 @@ use Rattle.ledger_moves.specs.Histories.{History, Unforged}
 use Rattle.told_device.specs.Records.{seen_of}
 use Rattle.told_centre.specs.Cells as centre_cells
 use Rattle.told_scans.specs.Cells as verifier_cells
+use Rattle.told_bench.specs.declared.forging.Brings.{Brings}
+use Rattle.told_bench.specs.declared.forging.Brings.TheVariants as brings
 use Rattle.told_bench.specs.declared.known.ByteSet.{ByteSet}
-use Rattle.told_bench.specs.Known.{has}
+use Rattle.told_bench.specs.declared.known.Known.{Known}
+use Rattle.told_bench.specs.Known.{has, IsAllFound, KeepsSame}
 use Rattle.told_bench.specs.Seeing.{Audit, Sees}
 use Rattle.told_bench.specs.Telling.{OfDevice}
 
 -- the bytes have the code of this key, and are not among those that are known
-abbrev pub is_unknown : List ℕ → Option (List ℕ) → ByteSet → Bool
+abbrev pub is_unknown : List ℕ → Option (List ℕ) → ByteSet (List ℕ) → Bool
 is_unknown bytes None known = false
 is_unknown bytes (Some key) known = has_code key bytes && not (has bytes known)
 
 -- a Reply to device d, under the key of its record
-abbrev pub forged_reply : Option State → ℕ → List ℕ → ByteSet → Result Message Unread → Bool
+abbrev pub forged_reply : Option State → ℕ → List ℕ → ByteSet (List ℕ) → Result Message Unread → Bool
 forged_reply state d bytes known (Ok (m.Reply p)) = (p.device == d) && is_unknown bytes (option_map (λ s. s.key) state) known
 forged_reply state d bytes known (Ok (m.Request q)) = false
 forged_reply state d bytes known (Ok (m.Done q)) = false
@@ -44,11 +47,11 @@ forged_reply state d bytes known (Ok (m.Debit q)) = false
 forged_reply state d bytes known (Err x) = false
 
 -- bytes that name device d, under the key of its row
-abbrev pub forged_by : Books → ℕ → List ℕ → ByteSet → Bool
+abbrev pub forged_by : Books → ℕ → List ℕ → ByteSet (List ℕ) → Bool
 forged_by b d bytes known = if nat_le 1 d && nat_le d 8 then is_unknown bytes (option_map (λ r. r.key) (device_at b d)) known else false
 
 -- a Request or a Done
-abbrev pub forged_message : Books → List ℕ → ByteSet → Result Message Unread → Bool
+abbrev pub forged_message : Books → List ℕ → ByteSet (List ℕ) → Result Message Unread → Bool
 forged_message b bytes known (Ok (m.Request q)) = forged_by b q.device bytes known
 forged_message b bytes known (Ok (m.Done q)) = forged_by b q.device bytes known
 forged_message b bytes known (Ok (m.Reply p)) = false
@@ -57,7 +60,7 @@ forged_message b bytes known (Ok (m.Debit q)) = false
 forged_message b bytes known (Err x) = false
 
 -- a Release, whatever its code
-abbrev pub forged_release : ByteSet → Result Message Unread → Bool
+abbrev pub forged_release : ByteSet (List ℕ) → Result Message Unread → Bool
 forged_release known (Ok (m.Release x)) = not (has x known)
 forged_release known (Ok (m.Request q)) = false
 forged_release known (Ok (m.Done q)) = false
@@ -66,9 +69,33 @@ forged_release known (Ok (m.Debit q)) = false
 forged_release known (Err x) = false
 
 -- a mark, under the key under which its device is trusted
-abbrev pub forged_mark : verifier.Seen → List ℕ → ByteSet → Result (Mark × List ℕ) MarkFault → Bool
+abbrev pub forged_mark : verifier.Seen → List ℕ → ByteSet (List ℕ) → Result (Mark × List ℕ) MarkFault → Bool
 forged_mark s bytes known (Ok k) = is_unknown bytes (key_at s k.0.device) known
 forged_mark s bytes known (Err fault) = false
+
+-- == what is brought ==
+
+-- what an event brings, as `brought` answers it
+abbrev pub brought_as : Brings → Brought
+brought_as brings.Nothing = Nothing
+brought_as (brings.Handed n bytes) = Handed n bytes
+brought_as (brings.Scanned bytes) = Scanned bytes
+
+-- == before it is asked ==
+
+-- the auditor has the same: the same is kept of all runs, and all else is as it was
+pub record IsSame (old new : Audit) : Type 0 where
+  pub others : new ≡ record old { known = new.known }
+  pub keeps : KeepsSame old.known new.known
+
+-- whatever is asked for of these bytes is found by its hash: messages and marks where they are handed to a node, marks where they are scanned
+abbrev pub AreFound : Brought → Known → Type 0
+AreFound Nothing k = Unit {0}
+AreFound (Handed n bytes) k = IsAllFound k.sent × IsAllFound k.released
+AreFound (Scanned bytes) k = IsAllFound k.released
+
+abbrev pub IsFoundFor : Event → Known → Type 0
+IsFoundFor e k = AreFound (brought_by e) k
 
 -- == by what the auditor has ==
 
@@ -79,35 +106,14 @@ GivesForged a Centre bytes b = b ≡ forged_message (books_in (centre_cells.cell
 GivesForged a Host bytes b = b ≡ forged_release a.known.released (read bytes)
 GivesForged a Verifier bytes b = b ≡ false
 
--- whether the event brings something forged, by the records of the auditor and what it keeps of all runs
+-- whether what is brought is forged, by the records of the auditor and what it keeps of all runs
+abbrev pub AreForged : Audit → Brought → Bool → Type 0
+AreForged a Nothing b = b ≡ false
+AreForged a (Handed n bytes) b = GivesForged a n bytes b
+AreForged a (Scanned bytes) b = b ≡ forged_mark (verifier_cells.cells_of a.verifier.record) bytes a.known.released (read_mark bytes)
+
 abbrev pub BringsForged : Audit → Event → Bool → Type 0
-BringsForged a (ev.Give n bytes) b = GivesForged a n bytes b
-BringsForged a (ev.ScanHex scan bytes) b = b ≡ forged_mark (verifier_cells.cells_of a.verifier.record) bytes a.known.released (read_mark bytes)
-BringsForged a (ev.Day t) b = b ≡ false
-BringsForged a ev.Rates b = b ≡ false
-BringsForged a (ev.Make d key) b = b ≡ false
-BringsForged a (ev.On n) b = b ≡ false
-BringsForged a (ev.Off n) b = b ≡ false
-BringsForged a (ev.Cut n calls keep byte) b = b ≡ false
-BringsForged a (ev.Debit d piece postage class) b = b ≡ false
-BringsForged a (ev.Ask d kind who amount) b = b ≡ false
-BringsForged a (ev.Resend d) b = b ≡ false
-BringsForged a (ev.Ack d) b = b ≡ false
-BringsForged a (ev.Status d) b = b ≡ false
-BringsForged a (ev.Register d origin key) b = b ≡ false
-BringsForged a (ev.OpenCustomer w) b = b ≡ false
-BringsForged a (ev.Deposit w receipt amount) b = b ≡ false
-BringsForged a (ev.Flag w suspended) b = b ≡ false
-BringsForged a (ev.Balance w) b = b ≡ false
-BringsForged a (ev.Deliver k) b = b ≡ false
-BringsForged a (ev.Order d piece class grams zone) b = b ≡ false
-BringsForged a (ev.Send j) b = b ≡ false
-BringsForged a (ev.Print j) b = b ≡ false
-BringsForged a (ev.Close j) b = b ≡ false
-BringsForged a (ev.Trust d key) b = b ≡ false
-BringsForged a (ev.ScanMsg scan k) b = b ≡ false
-BringsForged a (ev.Reconcile d) b = b ≡ false
-BringsForged a ev.End b = b ≡ false
+BringsForged a e b = AreForged a (brought_by e) b
 
 -- == by the ledger ==
 

@@ -1,5 +1,6 @@
-//! Whether an event brings forged bytes from outside.
-ghost use Rattle.std.specs.Prelude.{◌≡◌, Some, option_map};
+//! Whether an event brings forged bytes from outside, and what makes that quick.
+ghost use Rattle.std.specs.Prelude.{◌≡◌, Some, OnOk, option_map};
+ghost use Rattle.bench_base.specs.Events.{brought_by};
 ghost use Rattle.indicium.specs.Marks.{read_mark};
 ghost use Rattle.psd_wire.specs.Codes.{has_code};
 ghost use Rattle.psd_wire.specs.Grammar.{read};
@@ -7,22 +8,25 @@ ghost use Rattle.told_centre.specs.Cells.{cells_of};
 ghost use Rattle.told_device.specs.Records.{seen_of};
 ghost use Rattle.told_scans.specs.Cells as scans;
 ghost use Rattle.told_bench.specs.Forging as forging;
-ghost use Rattle.told_bench.specs.Forging.{GivesForged, BringsForged, TellsForged};
+ghost use Rattle.told_bench.specs.Forging.{GivesForged, BringsForged, TellsForged, IsFoundFor, IsSame, brought_as};
 ghost use Rattle.told_bench.specs.Seeing.{IsReady, audit_of};
 ghost use Rattle.told_bench.specs.Telling.{OfDevice};
 
 use crate::auditor::Auditor;
 use crate::known::ByteSet;
 use crate::telling::seat_of;
+use bench_base::bytes::Note;
 use bench_base::events::Event;
 use bench_base::numbers::DevNo;
 use bench_base::words::Node;
+use bench_views::Handed;
 use centre_ledger::Accounts;
 use hmac_core::ReadyKey;
 use indicium::read_indicium;
 use ledger_laws::laws::{counts, histories};
 use psd_state::ReadyRecord;
 use psd_wire::{Message, code_matches_by, read_message};
+use std::alloc::{AllocError, Global};
 use told_scans::ScanRecord;
 
 // Whether the last 32 bytes are the code, under the key, of all before them.
@@ -33,14 +37,14 @@ fn has_right_code(bytes: &[u8], key: &ReadyKey) -> bool
 }
 
 // Whether the bytes have the code of this key and are not known.
-fn is_unknown(bytes: &[u8], key: &ReadyKey, known: &ByteSet) -> bool
+fn is_unknown(bytes: &[u8], key: &ReadyKey, known: &ByteSet<Note>) -> bool
     ensures { result ≡ forging.is_unknown bytes.now (Some key.now) known.now }
 {
     has_right_code(bytes, key) && !known.has(bytes)
 }
 
 // Whether the bytes have the code of the device of this record and are not known.
-fn is_unknown_of(state: &Option<ReadyRecord>, bytes: &[u8], known: &ByteSet) -> bool
+fn is_unknown_of(state: &Option<ReadyRecord>, bytes: &[u8], known: &ByteSet<Note>) -> bool
     ensures { result ≡ forging.is_unknown bytes.now (option_map (λ s. s.key) state.now) known.now }
 {
     match state {
@@ -50,7 +54,7 @@ fn is_unknown_of(state: &Option<ReadyRecord>, bytes: &[u8], known: &ByteSet) -> 
 }
 
 // Whether bytes that name this device have the code of its row and are not known.
-fn is_forged_by(accounts: &Accounts, device: u32, bytes: &[u8], known: &ByteSet) -> bool
+fn is_forged_by(accounts: &Accounts, device: u32, bytes: &[u8], known: &ByteSet<Note>) -> bool
     ensures { result ≡ forging.forged_by accounts.now device bytes.now known.now }
 {
     let Some(device) = DevNo::new(device) else {
@@ -80,7 +84,7 @@ fn is_forged_reply(auditor: &Auditor, device: DevNo, bytes: &[u8]) -> bool
 }
 
 // Whether bytes that are given to the centre are a forged Request or a forged Done.
-fn is_forged_message(accounts: &Accounts, bytes: &[u8], known: &ByteSet) -> bool
+fn is_forged_message(accounts: &Accounts, bytes: &[u8], known: &ByteSet<Note>) -> bool
     ensures { result ≡ forging.forged_message accounts.now bytes.now known.now (read bytes.now) }
 {
     match &read_message(bytes) {
@@ -91,7 +95,7 @@ fn is_forged_message(accounts: &Accounts, bytes: &[u8], known: &ByteSet) -> bool
 }
 
 // Whether bytes that are given to the host are a forged Release: it has no key, so each that was not released is.
-fn is_forged_release(bytes: &[u8], known: &ByteSet) -> bool
+fn is_forged_release(bytes: &[u8], known: &ByteSet<[u8; 64]>) -> bool
     ensures { result ≡ forging.forged_release known.now (read bytes.now) }
 {
     match &read_message(bytes) {
@@ -105,12 +109,12 @@ fn is_forged_release(bytes: &[u8], known: &ByteSet) -> bool
 }
 
 // Whether scanned bytes are a forged mark.
-fn is_forged_mark(rows: &ScanRecord, bytes: &[u8], known: &ByteSet) -> bool
+fn is_forged_mark(rows: &ScanRecord, bytes: &[u8], known: &ByteSet<[u8; 64]>) -> bool
     ensures { result ≡ forging.forged_mark (scans.cells_of rows.now) bytes.now known.now (read_mark bytes.now) }
 {
     match &read_indicium(bytes) {
         Ok((mark, _)) => match rows.key(mark.device) {
-            Some(key) => is_unknown(bytes, key, known),
+            Some(key) => has_right_code(bytes, key) && !known.has(bytes),
             None => false,
         },
         Err(_) => false,
@@ -134,23 +138,20 @@ fn gives_forged(auditor: &Auditor, node: &Node, bytes: &[u8]) -> bool
     }
 }
 
-/// Whether the event brings something forged: bytes of a `give` or of a `scan hex` that have the right code of whoever they name and that
-/// no node sent, or released, in any run before; or a mark for the host, which has no key, that was not released.
-pub fn is_forged(auditor: &Auditor, event: &Event) -> bool
-    requires ready { IsReady (audit_of auditor.now) }
-    ensures by_record { BringsForged (audit_of auditor.now) event.now result }
-    ensures by_ledger { TellsForged (audit_of auditor.now) event.now result }
+// What an event brings from outside: bytes that are handed to a node, or that are scanned.
+#[derive(Drop)]
+enum Brings<'a> {
+    Nothing,
+    Handed(Node, Handed<'a>),
+    Scanned(Handed<'a>),
+}
+
+fn brought(event: &Event) -> Brings<'_>
+    ensures { brought_as result ≡ brought_by event.now }
 {
-    // The devices in a history are eight.
-    histories();
-    counts();
     match event {
-        Event::Give { node, bytes } => gives_forged(auditor, node, bytes.as_slice()),
-        Event::ScanHex { bytes, .. } => is_forged_mark(
-            &auditor.verifier.record,
-            bytes.as_slice(),
-            &auditor.known.released,
-        ),
+        Event::Give { node, bytes } => Brings::Handed(*node, Handed::new(bytes.as_slice())),
+        Event::ScanHex { bytes, .. } => Brings::Scanned(Handed::new(bytes.as_slice())),
         Event::Day(_)
         | Event::Rates
         | Event::Make { .. }
@@ -175,6 +176,45 @@ pub fn is_forged(auditor: &Auditor, event: &Event) -> bool
         | Event::Trust { .. }
         | Event::ScanMsg { .. }
         | Event::Reconcile(_)
-        | Event::End => false,
+        | Event::End => Brings::Nothing,
+    }
+}
+
+/// Puts what was sent and released since it was last asked for to where each is found by its hash, if `is_forged` asks for it of this event. What the auditor has stays
+/// the same, also where there is no memory; and so does what `is_forged` answers, which walks whatever was not put there.
+pub fn index(alloc: Global, auditor: &mut Auditor, event: &Event) -> Result<(), AllocError>
+    requires ready { IsReady (audit_of auditor.old) }
+    ensures ready { IsReady (audit_of auditor.new) }
+    ensures same { IsSame (audit_of auditor.old) (audit_of auditor.new) }
+    ensures found { OnOk result (IsFoundFor event.now (audit_of auditor.new).known) }
+{
+    match &brought(event) {
+        Brings::Handed(_, _) => {
+            auditor.known.sent.index(alloc)?;
+            auditor.known.released.index(alloc)
+        }
+        Brings::Scanned(_) => auditor.known.released.index(alloc),
+        Brings::Nothing => Ok(()),
+    }
+}
+
+/// Whether the event brings something forged: bytes of a `give` or of a `scan hex` that have the right code of whoever they name and that
+/// no node sent, or released, in any run before; or a mark for the host, which has no key, that was not released.
+pub fn is_forged(auditor: &Auditor, event: &Event) -> bool
+    requires ready { IsReady (audit_of auditor.now) }
+    ensures by_record { BringsForged (audit_of auditor.now) event.now result }
+    ensures by_ledger { TellsForged (audit_of auditor.now) event.now result }
+{
+    // The devices in a history are eight.
+    histories();
+    counts();
+    match &brought(event) {
+        Brings::Handed(node, bytes) => gives_forged(auditor, node, bytes.as_slice()),
+        Brings::Scanned(bytes) => is_forged_mark(
+            &auditor.verifier.record,
+            bytes.as_slice(),
+            &auditor.known.released,
+        ),
+        Brings::Nothing => false,
     }
 }

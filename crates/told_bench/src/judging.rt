@@ -253,17 +253,13 @@ pub(crate) fn hear(
 }
 
 // Sends the message that was heard of, if there is one, and keeps it, and the mark.
-pub(crate) fn send(alloc: Global, auditor: &mut Auditor, heard: Heard) -> Result<usize, Finding>
+pub(crate) fn send(auditor: &mut Auditor, heard: Heard) -> Result<usize, Finding>
     requires ready { IsReady (audit_of auditor.old) }
     ensures ready { IsReady (audit_of auditor.new) }
     ensures few { length (audit_of auditor.new).messages ≤ length (audit_of auditor.old).messages + 1 }
     ensures sent { SendsHeard heard (audit_of auditor.old) (audit_of auditor.new) result }
 {
-    if auditor
-        .known
-        .learn(alloc, &heard.sent, &heard.released)
-        .is_err()
-    {
+    if auditor.known.learn(&heard.sent, &heard.released).is_err() {
         return Err(Finding::Memory);
     }
     let Some(note) = heard.sent else {
@@ -293,7 +289,7 @@ pub fn judge(
     ensures judged { AtEach (audit_of auditor.old) event.now (λ τ H. IsJudged τ H event.now left.now line.now (audit_of auditor.new) result) }
 {
     match hear(alloc, auditor, event, left, line) {
-        Ok(heard) => send(alloc, auditor, heard),
+        Ok(heard) => send(auditor, heard),
         Err(finding) => Err(finding),
     }
 }

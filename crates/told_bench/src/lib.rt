@@ -12,7 +12,7 @@ pub mod stopping;
 mod telling;
 
 pub use auditor::Auditor;
-pub use forging::is_forged;
+pub use forging::{index, is_forged};
 pub use judging::{Finding, judge};
 pub use printed::mark_due;
 pub use stopping::stop;

@@ -130,7 +130,7 @@ fn lose_power_at(
     let mut line = Line::new();
     put_reply(&mut line, &Reply::Power(*node));
     match hear(alloc, auditor, event, left, line.as_slice()) {
-        Ok(heard) => match send(alloc, auditor, heard) {
+        Ok(heard) => match send(auditor, heard) {
             Ok(_) => Ok(true),
             Err(_) => Err(AllocError),
         },

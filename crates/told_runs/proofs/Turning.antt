@@ -1,5 +1,6 @@
 -- What becomes of one line.
-use Rattle.std.proofs.Common.{◌≡◌, ◌≢◌, ◌⊎◌, ℕ, ◌<◌, ◌≤◌, List, [], ◌∷◌, ◌++◌, length, drop, Bool, false, Option, None, Result, Ok, Err, append-nil, IfOk, IfErr, IsTrue, ◌↔◌, refl, sym, ◌∙◌, ap, subst}
+use Rattle.std.proofs.Common.{◌≡◌, ◌≢◌, ◌⊎◌, ℕ, ◌<◌, ◌≤◌, List, [], ◌∷◌, ◌++◌, length, drop, Bool, true, false, ◌==◌, Option, None, Result, Ok, Err, append-nil, IfOk, IfErr, IsTrue, ◌↔◌, refl, sym, ◌∙◌, ap, subst, arith}
+use Rattle.std.proofs.lemmas.Bool.Decides.{nat_tests}
 use Rattle.bench_base.specs.declared.events.Event.{Event}
 use Rattle.bench_base.specs.declared.events.Event.TheVariants as ev
 use Rattle.bench_base.specs.declared.events.Reply.{Reply}
@@ -27,9 +28,9 @@ use Rattle.told_bench.specs.Forging.{AtHistory}
 use Rattle.told_bench.specs.Judging.{AtEach, IsJudged, text_with}
 use Rattle.told_bench.specs.Seeing.{Audit, Sees}
 use Rattle.told_runs.specs.Imprints.{IsGiven, IsDueMark, GivesSo, imprint_at}
-use Rattle.told_runs.specs.Verdicts.{Skipped, Answered, IsEvent, HasLine, has_line, has_front, IsAnswered}
+use Rattle.told_runs.specs.Verdicts.{Skipped, Answered, IsEvent, HasLine, HasSome, has_line, has_front, IsAnswered}
 use Rattle.told_runs.specs.Stops.{StopsSo}
-use Rattle.told_runs.specs.Turns.{StandsAt, Turned, FellPut, BeginsWith, IsOver}
+use Rattle.told_runs.specs.Turns.{StandsAt, Turned, FellPut, TurnsSo, BeginsWith, IsOver}
 use Rattle.told_runs.specs.declared.audit.Step.{Step}
 use Rattle.told_runs.specs.declared.imprint.Given.{Given}
 use Rattle.told_runs.specs.declared.imprint.Imprint.{Imprint}
@@ -38,6 +39,34 @@ use Rattle.told_runs.specs.declared.verdict.Verdict.{Verdict}
 use Rattle.told_runs.specs.declared.verdict.Verdict.TheVariants.{Lawful, Stopped, Wrong, Forged, More, Memory}
 use Rattle.told_runs.proofs.Giving.{given_by}
 use Rattle.told_runs.proofs.Paired.{over_falls}
+
+-- == what holds of the auditor that has the same, and what a report has next ==
+
+-- of an auditor that sees whatever the one before did
+pub turned_before : (number : ℕ) (script report rates : List ℕ) (old mid new : Audit) (before after : List Imprint) → ((H : Ledger) → Sees old H → Sees mid H) → (r : Result Step Verdict)
+    → TurnsSo number script report rates mid new before after r → TurnsSo number script report rates old new before after r
+turned_before number script report rates old mid new before after sees (Ok step) t = record {
+  pair = t.pair;
+  is = t.is;
+  script_is = t.script_is;
+  report_is = t.report_is;
+  so = λ τ H texts history seen. t.so τ H texts history (sees H seen);
+  prints = t.prints;
+}
+turned_before number script report rates old mid new before after sees (Err v) fell = (record { falls = fell.0.falls; so = λ τ H texts history seen. fell.0.so τ H texts history (sees H seen) }, fell.1)
+
+-- with one byte more in front, that is no line end
+one_before : (c : ℕ) (told : List ℕ) → c ≢ 10 → HasSome told → HasSome (c ∷ told)
+one_before c told other (has_line answer behind has) = has_line (c ∷ answer) behind (record { one = (other, has.one); is = ap (λ (l : List ℕ). c ∷ l) has.is })
+one_before c told other (has_front one) = has_front (other, one)
+
+split_before : (c : ℕ) (told : List ℕ) (ends : Bool) → (c == 10) ≡ ends → HasSome told → HasSome (c ∷ told)
+split_before c told true is some = has_line [] told (record { one = tt; is = ap (λ (n : ℕ). n ∷ told) (grind (arith, nat_tests)) })
+split_before c told false is some = one_before c told (λ same. grind (arith, nat_tests)) some
+
+has_some : (told : List ℕ) → HasSome told
+has_some [] = has_front tt
+has_some (c ∷ told) = split_before c told (c == 10) refl (has_some told)
 
 -- == the line of an event, for which so much of the script is taken ==
 
@@ -76,6 +105,10 @@ module _ (number : ℕ) (inside : number ≤ 1000000) (script line : List ℕ) (
   stops (More n) before after one unforged stop = absurd stop
   stops (Forged n) before after one unforged stop = absurd stop
 
+  -- there was no memory
+  pub wants : (before : List Imprint) → FellPut number script report rates old new before before Memory
+  wants before = (record { falls = (e, is_event, has_some report); so = λ τ H texts history seen. tt }, sym (append-nil before))
+
   module _ (answer behind : List ℕ) (has : HasLine report answer behind) where
     pub wrong : (due : Reply) (before : List Imprint) → IsUnforgedThere → AtEach old e (λ τ H. IsJudged τ H e rates answer new (Err (found.Wrong due)))
         → FellPut number script report rates old new before before (Wrong number due)
@@ -86,9 +119,6 @@ module _ (number : ℕ) (inside : number ≤ 1000000) (script line : List ℕ) (
       },
       sym (append-nil before),
     )
-
-    pub wants : (before : List Imprint) → FellPut number script report rates old new before before Memory
-    wants before = (record { falls = (e, is_event, has_line answer behind has); so = λ τ H texts history seen. tt }, sym (append-nil before))
 
     module _ (used : ℕ) (unforged : IsUnforgedThere) (judged : AtEach old e (λ τ H. IsJudged τ H e rates answer new (Ok used))) (one : (x y : Reply) → IsWholeReply x → IsWholeReply y → text_of x ≡ text_of y → told x ≡ told y)
         (due : Option (List ℕ)) (is_due : IsDueMark old e due) (given : Option Given) (gives : GivesSo e due answer given) where

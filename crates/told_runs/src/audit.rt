@@ -15,7 +15,7 @@ use desk_runs::ended_by;
 use script_text::laws::one_reply;
 use script_text::{is_skipped, read_event};
 use std::alloc::Global;
-use told_bench::{Auditor, Finding, is_forged, judge};
+use told_bench::{Auditor, Finding, index, is_forged, judge};
 
 /// The most lines of a script that are looked at.
 const LINES: u32 = 1_000_000;
@@ -54,7 +54,7 @@ fn over(end: Ending, number: u32, report: &[u8]) -> Verdict
 }
 
 // Judges the line that the report has for the event of the line of this number, for which so much of the script is taken.
-fn hear(
+fn judge_line(
     alloc: Global,
     auditor: &mut Auditor,
     imprints: &mut Vec<Imprint>,
@@ -98,6 +98,34 @@ fn hear(
             },
         },
     }
+}
+
+// Judges it, once what the event asks for of all runs is found by its hash.
+fn hear(
+    alloc: Global,
+    auditor: &mut Auditor,
+    imprints: &mut Vec<Imprint>,
+    number: u32,
+    event: &Event,
+    taken: usize,
+    report: &[u8],
+    rates: &[u8],
+) -> Result<Step, Verdict>
+    requires whole { IsWholeEvent event.now }
+    requires inside { number ≤ 1000000 }
+    requires ready { IsReady (audit_of auditor.old) }
+    requires few { length (audit_of auditor.old).messages < MOST_MESSAGES }
+    ensures ready { IsReady (audit_of auditor.new) }
+    ensures few { length (audit_of auditor.new).messages ≤ length (audit_of auditor.old).messages + 1 }
+    ensures turns { (script line : List ℕ) → BeginsWith script line taken event.now
+        → TurnsSo number script report.now rates.now (audit_of auditor.old) (audit_of auditor.new) imprints.old.items imprints.new.items result }
+{
+    if index(alloc, auditor, event).is_err() {
+        return Err(Verdict::Memory);
+    }
+    judge_line(
+        alloc, auditor, imprints, number, event, taken, report, rates,
+    )
 }
 
 // Judges the line of this number.

@@ -2,6 +2,7 @@ use Rattle.std.proofs.Common.{rules, ◌≡◌, ap, subst, sym, ◌∙◌}
 use Rattle.bench_base.specs.declared.events.Reply.TheVariants as r
 use Rattle.bench_base.specs.declared.refusals.CentreRefusal.TheVariants as no
 use Rattle.bench_base.specs.Ranges.{IsCustomer}
+use Rattle.node_acts.specs.RowList.{listed}
 use Rattle.node_acts.specs.Views.{View}
 use Rattle.centre_ledger.specs.Seen.{Seen}
 use Rattle.bench_views.specs.Centre.{IsKnown}
@@ -11,6 +12,7 @@ use Rattle.told_bench.proofs.auditor.Auditor.balance_of.Goals as goal
 
 -- by the rows that the auditor has
 by_rows : (c : goal.After-done) → c.done.result ≡ balance_by c.args.customer c.args.self.now.centre.record.cells
+unfolding listed
 by_rows c = search rules
 
 pub returns-clause-by_ledger : goal.returns-clause-by_ledger
