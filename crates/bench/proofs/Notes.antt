@@ -18,7 +18,7 @@ use Rattle.node_turns.specs.Turns.{in_order}
 use Rattle.node_turns.specs.Turns as turns
 use Rattle.bench_views.specs.Messages.{sent_in, SendsNone, IsFew}
 use Rattle.bench.specs.Steps.{notes_of, notes_in}
-use Rattle.bench_views.proofs.Sent.{sends_none}
+use Rattle.bench_views.proofs.Sent.{sends_none as none_sent}
 
 -- an entry that sends nothing is passed over
 passed : (x : Entry) (T : List Entry) (rest : List (Option Entry)) → SendsNone (x ∷ T) → turns.sent_in (Some x ∷ rest) ≡ turns.sent_in rest
@@ -27,9 +27,9 @@ passed _ T rest none = refl
 
 -- of the newest entry, where none before it sends
 newest : (y : Entry) (T : List Entry) (rest : List (Option Entry)) → SendsNone T → turns.sent_in rest ≡ None → notes_of (turns.sent_in (Some y ∷ rest)) ≡ sent_in (y ∷ T)
-newest (entry.Sent note) T rest none empty = ap (λ (l : List (List ℕ)). l ++ note ∷ []) (sym (sends_none T none))
+newest (entry.Sent note) T rest none empty = ap (λ (l : List (List ℕ)). l ++ note ∷ []) (sym (none_sent T none))
 newest entry.Begin T rest none empty = ap notes_of empty
-newest _ T rest none empty = ap notes_of empty ∙ sym (sends_none T none)
+newest _ T rest none empty = ap notes_of empty ∙ sym (none_sent T none)
 
 tail_none : (x : Entry) (T : List Entry) → SendsNone (x ∷ T) → SendsNone T
 tail_none (entry.Sent note) T none = absurd none

@@ -12,7 +12,7 @@ use Rattle.bench_base.specs.declared.events.Reply.TheVariants as r
 use Rattle.bench_base.specs.Rules.{todays_rules, editions}
 use Rattle.bench_base.specs.Nodes.{node_of}
 use Rattle.bench_base.specs.Events.{node_for, needs_day, may_commit, day_after}
-use Rattle.bench_base.specs.Replies.{is_refusal, has_read, MayGet}
+use Rattle.bench_base.specs.Replies.{is_refusal, tells_failure, has_read, MayGet}
 use Rattle.bench_base.specs.Ledger.{Ledger, torn_of, counted}
 use Rattle.nv_model.specs.declared.nv.Nv as nv
 use Rattle.nv_model.specs.declared.fuse.Fuse as fuse
