@@ -6,6 +6,7 @@ ghost use Rattle.bench_base.specs.Ranges.{IsWord};
 ghost use Rattle.bench_base.specs.Table.{IsBytes};
 ghost use Rattle.centre_ledger.specs.Acts as acts;
 ghost use Rattle.centre_ledger.specs.Books.{AreSound, put_row};
+ghost use Rattle.centre_ledger.specs.Plans as told;
 ghost use Rattle.bench_views.specs.Centre as views;
 
 use bench_base::events::Reply;
@@ -49,7 +50,7 @@ impl<R: Holds + BooksOf<R::By>> Call<CentreCallee, R, Row> for RegisterCall {
 
     ghost does = { λ c e s. acts.register_act c.device c.origin c.key (R.books s) };
 
-    ghost says = { λ c e u. views.done (r.Registered c.device) u };
+    ghost says = { λ c e u. told.told_registered c.device u };
 
     ghost Makes = { λ s x. AreSound (put_row (R.books s) x) };
 
@@ -69,7 +70,7 @@ impl<R: Holds + BooksOf<R::By>> Call<CentreCallee, R, Row> for OpenCall {
 
     ghost does = { λ c e s. acts.open_act c.customer (R.books s) };
 
-    ghost says = { λ c e u. views.done (r.Opened c.customer) u };
+    ghost says = { λ c e u. told.told_opened c.customer u };
 
     ghost Makes = { λ s x. AreSound (put_row (R.books s) x) };
 
@@ -89,7 +90,7 @@ impl<R: Holds + BooksOf<R::By>> Call<CentreCallee, R, Row> for DepositCall {
 
     ghost does = { λ c e s. acts.deposit_act c.customer c.receipt c.amount (R.books s) };
 
-    ghost says = { λ c e d. views.deposited c.customer c.receipt d };
+    ghost says = { λ c e d. told.told_deposited c.customer c.receipt d };
 
     ghost Makes = { λ s x. AreSound (put_row (R.books s) x) };
 
@@ -114,7 +115,7 @@ impl<R: Holds + BooksOf<R::By>> Call<CentreCallee, R, Row> for FlagCall {
 
     ghost does = { λ c e s. acts.flag_act c.customer c.suspended (R.books s) };
 
-    ghost says = { λ c e u. views.done (r.Flagged c.customer c.suspended) u };
+    ghost says = { λ c e u. told.told_flagged c.customer c.suspended u };
 
     ghost Makes = { λ s x. AreSound (put_row (R.books s) x) };
 
@@ -137,7 +138,7 @@ impl<R: Holds + BooksOf<R::By>> Call<CentreCallee, R, Row> for BalanceCall {
 
     ghost does = { λ c e s. acts.balance_act c.customer (R.books s) };
 
-    ghost says = { λ c e n. views.left c.customer n };
+    ghost says = { λ c e n. told.told_balance c.customer n };
 
     ghost Makes = { λ s x. AreSound (put_row (R.books s) x) };
 
@@ -160,7 +161,7 @@ impl<'a, R: Holds + BooksOf<R::By>> Call<CentreCallee, R, Row> for TakeRequestCa
 
     ghost does = { λ c e s. acts.take_act c.bytes (R.books s) };
 
-    ghost says = { λ c e a. views.took c.message a };
+    ghost says = { λ c e a. told.told_taken c.message a };
 
     ghost Makes = { λ s x. AreSound (put_row (R.books s) x) };
 
@@ -175,7 +176,7 @@ impl<'a, R: Holds + BooksOf<R::By>> Call<CentreCallee, R, Row> for TakeRequestCa
 
 // What the centre says of a message that it took.
 fn took(message: u32, answer: &CentreAnswer) -> Said
-    ensures { result ≡ views.took message answer.now }
+    ensures { result ≡ told.told_taken message answer.now }
 {
     match answer {
         CentreAnswer::Ruled {

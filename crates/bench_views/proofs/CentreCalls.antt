@@ -22,7 +22,7 @@ use Rattle.node_acts.specs.declared.said.Said.{Said}
 use Rattle.node_acts.specs.Plans.{IsOfNode}
 use Rattle.node_acts.specs.Kinds.{node_plan}
 use Rattle.node_acts.specs.RowList.{commits_in}
-use Rattle.node_acts.specs.Said.{tells, said_plan, seen_plan}
+use Rattle.node_acts.specs.Said.{said_plan, seen_plan}
 use Rattle.psd_wire.specs.declared.message.Request.{Request}
 use Rattle.psd_wire.specs.declared.message.DoneMsg.{DoneMsg}
 use Rattle.psd_wire.specs.declared.message.Message.{Message}
@@ -38,14 +38,16 @@ use Rattle.centre_ledger.specs.declared.rows.CustomerRow.{CustomerRow}
 use Rattle.centre_ledger.specs.declared.taking.CentreAnswer.{CentreAnswer}
 use Rattle.centre_ledger.specs.declared.taking.CentreAnswer.TheVariants as answer
 use Rattle.centre_ledger.specs.Rows.{deposited_row, settled_row}
-use Rattle.centre_ledger.specs.Answers.{deposit_answer, turn_answer, settle_answer, centre_take}
+use Rattle.centre_ledger.specs.Answers.{deposit_answer, turn_answer, settle_answer}
 use Rattle.centre_ledger.specs.Books.{Books, AreSound, IsCustomerAt, device_at, customer_at}
 use Rattle.centre_ledger.specs.Books as books
 use Rattle.centre_ledger.specs.Standing.{ruling_in}
-use Rattle.centre_ledger.specs.Acts.{CentreAct, registered_act, opened_act, flagged_act, taken_act, deposited_act, left_act, settled_act, turn_act, repeated_act, request_act, done_act, message_act}
+use Rattle.centre_ledger.specs.Acts.{CentreAct, LookUps, in_books, registered_act, opened_act, flagged_act, taken_act, deposited_act, left_act, settled_act, turn_act, repeated_act, request_act, done_act, message_act}
 use Rattle.centre_ledger.specs.Acts as acts
 use Rattle.centre_ledger.specs.ActLaws as law
 use Rattle.centre_ledger.specs.ActLaws.{AreBooksOf, FollowsCommits, ActsFollow, ActsArePlanned}
+use Rattle.centre_ledger.specs.Plans as told
+use Rattle.centre_ledger.specs.Plans.{says, in_commits, take_plan}
 use Rattle.centre_ledger.specs.Seen.{counting, cell_of, books_in}
 use Rattle.centre_ledger.proofs.Payers.{found-device}
 use Rattle.node_acts.specs.declared.asked.Asked.{Asked}
@@ -56,9 +58,9 @@ use Rattle.bench_views.specs.declared.taken.Taken.TheVariants as take
 use Rattle.bench_views.specs.Taken as takes
 use Rattle.bench_views.specs.Taken.{taken}
 use Rattle.bench_views.specs.Tariff.{Quote}
-use Rattle.bench_views.specs.Centre.{seen_in, view_of, took, says, centre_act, centre_kind, place_in, IsKnown, AreBytes}
+use Rattle.bench_views.specs.Centre.{seen_in, view_of, centre_act, centre_kind, place_in, IsKnown, AreBytes}
 use Rattle.bench_views.specs.Messages.{sent_in}
-use Rattle.bench_views.proofs.Calling.{plan_says, own_says, worn_says, at_seen, IsWornAlike}
+use Rattle.bench_views.proofs.Calling.{own_says, worn_says, at_seen, IsWornAlike}
 use Rattle.bench_views.proofs.Events.{each_of_centre, one_of_eight}
 use Rattle.bench_views.proofs.CentreCommits.{HasCell, seen_put, worn}
 use Rattle.bench_views.proofs.Sent.{sent_many, sent_at}
@@ -109,14 +111,14 @@ settle_placed r n (Err x) is = tt
 settle_placed r n (Ok None) is = tt
 settle_placed r n (Ok (Some now)) is = (refl, is, sym (device_place r.device is))
 
-turn_placed : (b : Books) (bytes : List ℕ) (q : Request) (r : DeviceRow) (result : Result Bool CentreRefusal) → IsDevice r.device → IsPlacedAct (turn_act bytes q r b result)
-turn_placed b bytes q r (Err x) is = tt
-turn_placed b bytes q r (Ok true) is = again (ruling_in r)
+turn_placed : (at : LookUps) (bytes : List ℕ) (q : Request) (r : DeviceRow) (result : Result Bool CentreRefusal) → IsDevice r.device → IsPlacedAct (turn_act bytes q r at result)
+turn_placed at bytes q r (Err x) is = tt
+turn_placed at bytes q r (Ok true) is = again (ruling_in r)
   where
     again : (o : Option (Verdict × List ℕ)) → IsPlacedAct (repeated_act r o)
     again None = tt
     again (Some x) = tt
-turn_placed b bytes q r (Ok false) is = (refl, is, sym (device_place r.device is))
+turn_placed at bytes q r (Ok false) is = (refl, is, sym (device_place r.device is))
 
 checked : {A : Type 0} (P : A → Type 0) (t : Bool) (x y : A) → P x → P y → P (if t then x else y)
 checked P true x y p q = p
@@ -127,15 +129,15 @@ module _ (b : Books) (sound : AreSound b) (bytes : List ℕ) where
   own_device : (d : ℕ) (r : DeviceRow) → device_at b d ≡ Some r → IsDevice r.device
   own_device d r at = let found = found-device b d r sound at in subst IsDevice (sym found.0.device) found.1
 
-  request_placed : (q : Request) (o : Option DeviceRow) → device_at b q.device ≡ o → IsPlacedAct (request_act bytes q o b)
+  request_placed : (q : Request) (o : Option DeviceRow) → device_at b q.device ≡ o → IsPlacedAct (request_act bytes q o (in_books b))
   request_placed q None at = tt
-  request_placed q (Some r) at = checked (λ (act : CentreAct CentreAnswer). IsPlacedAct act) (has_code r.key bytes) _ _ (turn_placed b bytes q r (turn_answer r.ruled r.request q.number bytes) (own_device q.device r at)) tt
+  request_placed q (Some r) at = checked (λ (act : CentreAct CentreAnswer). IsPlacedAct act) (has_code r.key bytes) _ _ (turn_placed (in_books b) bytes q r (turn_answer r.ruled r.request q.number bytes) (own_device q.device r at)) tt
 
   done_placed : (q : DoneMsg) (o : Option DeviceRow) → device_at b q.device ≡ o → IsPlacedAct (done_act bytes q o)
   done_placed q None at = tt
   done_placed q (Some r) at = checked (λ (act : CentreAct CentreAnswer). IsPlacedAct act) (has_code r.key bytes) _ _ (settle_placed r q.number (settle_answer r.settled r.ruled q.number) (own_device q.device r at)) tt
 
-  take_placed : (x : Result Message Unread) → IsPlacedAct (message_act bytes b x)
+  take_placed : (x : Result Message Unread) → IsPlacedAct (message_act bytes (in_books b) x)
   take_placed (Ok (m.Request q)) = request_placed q (device_at b q.device) refl
   take_placed (Ok (m.Done q)) = done_placed q (device_at b q.device) refl
   take_placed (Ok (m.Reply p)) = tt
@@ -157,7 +159,7 @@ IsWholeCall (call.Take c) = IsBytes c.bytes
 refused_quiet : (y : CentreRefusal) → IsQuiet (r.CentreRefused y)
 refused_quiet y = tt
 
-took_said : (k : ℕ) (a : CentreAnswer) → IsSaid (took k a)
+took_said : (k : ℕ) (a : CentreAnswer) → IsSaid (told.told_taken k a)
 took_said k (answer.Ruled d n v note again) = refl
 took_said k (answer.Settled d n again) = refl
 
@@ -167,7 +169,7 @@ call_quiet (call.Open c) b = quiet_says r.CentreRefused _ refused_quiet (λ u. r
 call_quiet (call.Deposit c) b = quiet_says r.CentreRefused _ refused_quiet (λ done. refl) (acts.deposit_act c.customer c.receipt c.amount b)
 call_quiet (call.Flag c) b = quiet_says r.CentreRefused _ refused_quiet (λ u. refl) (acts.flag_act c.customer c.suspended b)
 call_quiet (call.Balance c) b = quiet_says r.CentreRefused _ refused_quiet (λ left. refl) (acts.balance_act c.customer b)
-call_quiet (call.Take c) b = quiet_says r.CentreRefused (took c.message) refused_quiet (took_said c.message) (acts.take_act c.bytes b)
+call_quiet (call.Take c) b = quiet_says r.CentreRefused (told.told_taken c.message) refused_quiet (took_said c.message) (acts.take_act c.bytes b)
 
 -- == what it is handed ==
 
@@ -203,7 +205,7 @@ module _ (H : Ledger) (known : IsKnown (seen_in (counted H))) (are : AreBooksOf 
   following : law.FollowingActs b C
   following = follow.each b C known.sound are
 
-  plans : law.PlannedActs b C
+  plans : in_books b ≡ in_commits C
   plans = planned b C known.sound are
 
   -- an act of these rows whose commit, if it makes one, is the centre's, and leads to the rows after it
@@ -268,25 +270,16 @@ module _ (H : Ledger) (known : IsKnown (seen_in (counted H))) (are : AreBooksOf 
   -- == its plan ==
 
   -- at the centre, the plan of an act is what is seen, by how it says what it answers
-  at : {A : Type 0} (p : Plan) (say : A → Said) (act : CentreAct A) → IsGood act → p ≡ said_plan (says say act) → at_node Centre H p ≡ seen_plan counting Centre (view_of H) (says say act)
-  at p say act good is =
-      ap (at_node Centre H) is
-      ∙ at_seen counting Centre seen_in H (says say act) (own_says Centre r.CentreRefused say act (own act good)) (worn_says counting Centre seen_in H r.CentreRefused say act (worn_alike act good))
-
-  took_reply : (k : ℕ) (a : CentreAnswer) → law.taken_reply k a ≡ (took k a).reply
-  took_reply k (answer.Ruled d n v note again) = refl
-  took_reply k (answer.Settled d n again) = refl
-
-  took_tells : (k : ℕ) (a : CentreAnswer) → law.taken_entries a ≡ tells (took k a)
-  took_tells k (answer.Ruled d n v note again) = refl
-  took_tells k (answer.Settled d n again) = refl
+  at : {A : Type 0} (say : A → Said) (act : LookUps → CentreAct A) → IsGood (act (in_books b)) → at_node Centre H (said_plan (says say (act (in_commits C)))) ≡ seen_plan counting Centre (view_of H) (says say (act (in_books b)))
+  at say act good =
+      let seen = act (in_books b) in
+      ap (λ (x : LookUps). at_node Centre H (said_plan (says say (act x)))) (sym plans)
+      ∙ at_seen counting Centre seen_in H (says say seen) (own_says Centre r.CentreRefused say seen (own seen good)) (worn_says counting Centre seen_in H r.CentreRefused say seen (worn_alike seen good))
 
   -- what it is handed, by the next message
   handed : (bytes : List ℕ) → IsBytes bytes → centre_plan bytes H ≡ seen_plan counting Centre (view_of H) (centre_act (call.Take (record { bytes = bytes; message = length (sent_in H) })) b)
   handed bytes is =
-      ap (λ (k : ℕ). at_node Centre H (centre_take k bytes (read bytes) C)) (sym (sent_many H))
-      ∙ at (centre_take (length (sent_in H)) bytes (read bytes) C) (took (length (sent_in H))) (acts.take_act bytes b) (take_good bytes is)
-      (sym (plans.taken (length (sent_in H)) bytes) ∙ plan_says _ _ _ _ (took_reply (length (sent_in H))) (took_tells (length (sent_in H))) (acts.take_act bytes b))
+      ap (λ (k : ℕ). at_node Centre H (take_plan k bytes C)) (sym (sent_many H)) ∙ at (told.told_taken (length (sent_in H))) (acts.take_by bytes) (take_good bytes is)
 
   -- a message that is delivered to the centre
   delivered : (today : ℤ) (bytes : List ℕ) (k : ℕ) (asked : Asked CentreCall) (x : Message) → IsAddressed x → takes.delivered_as bytes k (Ok x) ≡ take.Centre asked
@@ -317,11 +310,11 @@ module _ (H : Ledger) (known : IsKnown (seen_in (counted H))) (are : AreBooksOf 
     on = λ whole bytes. rw (day, sym counts) refl;
     off = λ whole bytes. rw day refl;
     cut = λ calls keep byte whole bytes. rw day refl;
-    register = λ d origin key whole bytes. rw day (at _ _ (acts.register_act d origin key b) (register_good d origin key whole.0) (sym (plans.registered d origin key) ∙ plan_says _ _ _ _ (λ u. refl) (λ u. refl) (acts.register_act d origin key b)));
-    opens = λ w whole bytes. rw day (at _ _ (acts.open_act w b) (open_good w whole) (sym (plans.opened w) ∙ plan_says _ _ _ _ (λ u. refl) (λ u. refl) (acts.open_act w b)));
-    deposit = λ w n a whole bytes. rw day (at _ _ (acts.deposit_act w n a b) (deposit_good w n a whole.0) (sym (plans.deposited w n a) ∙ plan_says _ _ _ _ (λ u. refl) (λ u. refl) (acts.deposit_act w n a b)));
-    flag = λ w flag whole bytes. rw day (at _ _ (acts.flag_act w flag b) (flag_good w flag whole) (sym (plans.flagged w flag) ∙ plan_says _ _ _ _ (λ u. refl) (λ u. refl) (acts.flag_act w flag b)));
-    balance = λ w whole bytes. rw day (at _ _ (acts.balance_act w b) (balance_good w) (sym (plans.balanced w) ∙ plan_says _ _ _ _ (λ u. refl) (λ u. refl) (acts.balance_act w b)));
+    register = λ d origin key whole bytes. rw day (at (told.told_registered d) (acts.register_by d origin key) (register_good d origin key whole.0));
+    opens = λ w whole bytes. rw day (at (told.told_opened w) (acts.open_by w) (open_good w whole));
+    deposit = λ w n a whole bytes. rw day (at (told.told_deposited w n) (acts.deposit_by w n a) (deposit_good w n a whole.0));
+    flag = λ w flag whole bytes. rw day (at (told.told_flagged w flag) (acts.flag_by w flag) (flag_good w flag whole));
+    balance = λ w whole bytes. rw day (at (told.told_balance w) (acts.balance_by w) (balance_good w));
     give = λ bytes whole are_bytes. rw day (handed bytes are_bytes);
     deliver = λ k asked is whole bytes. rw day (delivered_plan today k asked (message k H) refl (subst (λ (o : Option (List ℕ)). takes.message_taken k (length (sent_in H)) o ≡ take.Centre asked) (sent_at H k) is) bytes);
   })

@@ -21,8 +21,10 @@ use Rattle.centre_ledger.specs.Order.{InOrder}
 use Rattle.centre_ledger.specs.Seen.{cell_of}
 use Rattle.ledger_terms.specs.Centres.{registered, opened}
 use Rattle.std.proofs.lemmas.Bool.Decides.{nat_tests}
-use Rattle.bench_views.specs.Centre.{device_row, device_row_by, customer_row, place_in, row_in, cell_after, seen_in, IsKnown}
-use Rattle.bench_views.proofs.CentreRows.{one_device, one_customer, as_customer, seen_at, no_device_commits, no_customer_commits}
+use Rattle.centre_ledger.specs.Records.{device_row_with, device_row, customer_row_with, customer_row}
+use Rattle.centre_ledger.proofs.ByCommits.{one_device, one_customer}
+use Rattle.bench_views.specs.Centre.{place_in, row_in, cell_after, seen_in, IsKnown}
+use Rattle.bench_views.proofs.CentreRows.{seen_at, no_device_commits, no_customer_commits}
 use Rattle.bench_views.proofs.Counts.{top-is}
 
 -- the row has a cell
@@ -78,12 +80,12 @@ customer_put b r placed has = rw (ne_eqb r.customer 0 (λ is. omega (arith, has,
 pub counted_at : (k : ℕ) (C : List Commit) → InOrder C → commits_at (cell_after k C) ≡ cells.commits_at (place_in k) C
 counted_at k C order = by (nat_lt k 8) refl
   where
-    by_device : (o : Option (ℕ × List ℕ)) → registered (k + 1) C ≡ o → commits_at (option_map (λ x. (cells.commits_at (OfRow (k + 1)) C, x)) (option_map row.Device (device_row_by (k + 1) C o))) ≡ cells.commits_at (OfRow (k + 1)) C
+    by_device : (o : Option (ℕ × List ℕ)) → registered (k + 1) C ≡ o → commits_at (option_map (λ x. (cells.commits_at (OfRow (k + 1)) C, x)) (option_map row.Device (option_map (λ y. device_row_with (k + 1) C y) o))) ≡ cells.commits_at (OfRow (k + 1)) C
     by_device None is = sym (no_device_commits (k + 1) C order is)
     by_device (Some x) is = refl
 
     by_customer : (o : Bool) → opened (k - 7) C ≡ o
-        → commits_at (option_map (λ x. (cells.commits_at (OfCustomer (k - 7)) C, x)) (option_map row.Customer (if o then Some (as_customer (k - 7) C) else None))) ≡ cells.commits_at (OfCustomer (k - 7)) C
+        → commits_at (option_map (λ x. (cells.commits_at (OfCustomer (k - 7)) C, x)) (option_map row.Customer (if o then Some (customer_row_with (k - 7) C) else None))) ≡ cells.commits_at (OfCustomer (k - 7)) C
     by_customer false is = sym (no_customer_commits (k - 7) C order is)
     by_customer true is = refl
 

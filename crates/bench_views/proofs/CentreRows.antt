@@ -1,6 +1,6 @@
 -- The rows of the centre after some commits, by its cells: they are those of the commits, and what one commit of the centre does to them.
-use Rattle.std.proofs.Common.{◌≡◌, ◌⊎◌, inl, inr, ⊎_elim, ℕ, zero, suc, ◌+◌, ◌-◌, ◌<◌, ◌≤◌, List, [], ◌∷◌, length, Option, Some, None, Bool, true, false, option_map, refl, sym, ◌∙◌, ap, subst, true≢false, arith}
-use Rattle.std.specs.Prelude.{◌==◌, nat_le, IsSome, IfSome, All, if◌then◌else◌}
+use Rattle.std.proofs.Common.{◌≡◌, ◌⊎◌, inl, inr, ⊎_elim, ℕ, ◌+◌, ◌-◌, ◌<◌, ◌≤◌, List, [], ◌∷◌, length, Option, Some, None, Bool, true, false, option_map, refl, sym, ◌∙◌, ap, subst, true≢false, arith}
+use Rattle.std.specs.Prelude.{◌==◌, nat_le, IsSome, IfSome, All}
 use Rattle.std.proofs.lemmas.Bool.{cases_Bool, eqb-true, ne_eqb, lt-ltb, le-ltb}
 use Rattle.std.proofs.lemmas.Bool.Decides.{nat_tests}
 use Rattle.std.proofs.lemmas.List.{get_or_past}
@@ -15,10 +15,7 @@ use Rattle.bench_base.specs.Cells as cells
 use Rattle.bench_base.proofs.Facts.{not-none}
 use Rattle.node_acts.specs.RowList.{row_at}
 use Rattle.node_acts.specs.RowLaws.{listed_at}
-use Rattle.ledger_terms.specs.Sums.{bought, returned}
-use Rattle.ledger_terms.specs.Rulings.{own_customer, stored_reply}
-use Rattle.ledger_terms.specs.Centres.{registered, enrolled, withdrawn, ruled, settled, opened, suspended, deposits, receipt}
-use Rattle.centre_ledger.specs.Answers.{last_ruling, stored_note}
+use Rattle.ledger_terms.specs.Centres.{registered, enrolled, withdrawn, opened}
 use Rattle.centre_ledger.specs.declared.rows.DeviceRow.{DeviceRow}
 use Rattle.centre_ledger.specs.declared.rows.CustomerRow.{CustomerRow}
 use Rattle.centre_ledger.specs.declared.rows.Row.{Row}
@@ -28,10 +25,10 @@ use Rattle.centre_ledger.specs.Books as books
 use Rattle.centre_ledger.specs.Order.{InOrder, Follows}
 use Rattle.centre_ledger.specs.Laws.{IsSlotOf, IsCustomerSlotOf, touches_device, touches_customer}
 use Rattle.centre_ledger.specs.ActLaws.{AreBooksOf}
-use Rattle.centre_ledger.specs.Records.{IsRowOf, IsCustomerOf, note_or_none}
-use Rattle.centre_ledger.specs.Soundness.{IsSoundDevice}
+use Rattle.centre_ledger.specs.Records.{state_of, device_row_with, device_row, customer_row_with, customer_row, IsRowOf, IsCustomerOf}
 use Rattle.centre_ledger.specs.Seen.{books_in, device_in, customer_in}
-use Rattle.bench_views.specs.Centre.{state_of, device_row, device_row_by, customer_row, place_in, row_in, cell_after, seen_in}
+use Rattle.centre_ledger.proofs.ByCommits.{enrolled-is}
+use Rattle.bench_views.specs.Centre.{place_in, row_in, cell_after, seen_in}
 
 -- == where there is no row, no commit lies ==
 
@@ -76,69 +73,6 @@ no_customer_commits w (x ∷ C) order none = ⊎_elim
     (λ (t : touches_customer w x ≡ true). absurd (true≢false (sym (touched-customer w x C order.0 t) ∙ none)))
     (λ (t : touches_customer w x ≡ false). rw (customer-place w x, t) (no_customer_commits w C order.1 (sym (untouched-customer w x C t) ∙ none)))
     (cases_Bool (touches_customer w x))
-
--- == the row of the commits is the only one ==
-
-state_same : (state customer : ℕ) (w : Option ℕ) (gone : Bool) → w ≡ (if state == 1 then None else Some customer) → gone ≡ (state == 3) → 1 ≤ state → state ≤ 3 → state_of w gone ≡ state
-state_same zero customer w gone own left low high = absurd (omega arith)
-state_same (suc zero) customer w gone own left low high = rw own refl
-state_same (suc (suc zero)) customer w gone own left low high = rw (own, left) refl
-state_same (suc (suc (suc zero))) customer w gone own left low high = rw (own, left) refl
-state_same (suc (suc (suc (suc n)))) customer w gone own left low high = absurd (omega arith)
-
-customer_same : (state customer : ℕ) (w : Option ℕ) → w ≡ (if state == 1 then None else Some customer) → (state ≡ 1 → customer ≡ 0) → own_customer w ≡ customer
-customer_same state customer w own none = by (state == 1) refl
-  where
-    by : (t : Bool) → (state == 1) ≡ t → own_customer w ≡ customer
-    by true is = rw (own, is) (sym (none (eqb-true state 1 is)))
-    by false is = rw (own, is) refl
-
-pub one_device : (o : Option DeviceRow) (d : ℕ) (C : List Commit) → IsSlotOf o d C → device_row d C ≡ o
-one_device None d C is = ap (device_row_by d C) is
-one_device (Some r) d C is = ap (device_row_by d C) made ∙ row_is
-  where
-    from : IsRowOf r C
-    from = is.2
-
-    sound : IsSoundDevice r
-    sound = is.1
-
-    made : registered d C ≡ Some (r.origin, r.key)
-    made = ap (λ (k : ℕ). registered k C) (sym is.0) ∙ from.registered
-
-    row_is : device_row_by d C (Some (r.origin, r.key)) ≡ Some r
-    row_is = ap (λ (x : DeviceRow). Some x) (λ k. record {
-      device = sym is.0 k;
-      state = (ap (λ (e : ℕ). state_of (enrolled e C) (withdrawn e C)) (sym is.0) ∙ state_same r.state r.customer (enrolled r.device C) (withdrawn r.device C) from.enrolled from.withdrawn sound.state.0 sound.state.1) k;
-      customer = (ap (λ (e : ℕ). own_customer (enrolled e C)) (sym is.0) ∙ customer_same r.state r.customer (enrolled r.device C) from.enrolled (λ one. (sound.registered one).0)) k;
-      origin = r.origin;
-      key = r.key;
-      ruled = (ap (λ (e : ℕ). ruled e C) (sym is.0) ∙ from.ruled) k;
-      settled = (ap (λ (e : ℕ). settled e C) (sym is.0) ∙ from.settled) k;
-      buys = (ap (λ (e : ℕ). bought e C) (sym is.0) ∙ from.bought) k;
-      returns = (ap (λ (e : ℕ). returned e C) (sym is.0) ∙ from.returned) k;
-      request = (ap (λ (e : ℕ). stored_note (last_ruling e C)) (sym is.0) ∙ from.request) k;
-      reply = (ap (λ (e : ℕ). note_or_none (stored_reply e C)) (sym is.0) ∙ from.reply) k;
-    })
-
-abbrev pub as_customer : ℕ → List Commit → CustomerRow
-as_customer w C = record { customer = w; suspended = suspended w C; deposits = deposits w C; receipt = (receipt w C).0; amount = (receipt w C).1 }
-
-pub one_customer : (o : Option CustomerRow) (w : ℕ) (C : List Commit) → IsCustomerSlotOf o w C → customer_row w C ≡ o
-one_customer None w C is = rw is refl
-one_customer (Some r) w C is = opens ∙ ap (λ (x : CustomerRow). Some x) (λ k. record {
-  customer = sym is.0 k;
-  suspended = (ap (λ (e : ℕ). suspended e C) (sym is.0) ∙ from.suspended) k;
-  deposits = (ap (λ (e : ℕ). deposits e C) (sym is.0) ∙ from.deposits) k;
-  receipt = (ap (λ (e : ℕ). (receipt e C).0) (sym is.0) ∙ ap (λ (p : ℕ × ℕ). p.0) from.receipt) k;
-  amount = (ap (λ (e : ℕ). (receipt e C).1) (sym is.0) ∙ ap (λ (p : ℕ × ℕ). p.1) from.receipt) k;
-})
-  where
-    from : IsCustomerOf r C
-    from = is.2
-
-    opens : customer_row w C ≡ Some (as_customer w C)
-    opens = let open_is : opened w C ≡ true = ap (λ (e : ℕ). opened e C) (sym is.0) ∙ from.opened in rw open_is refl
 
 -- == the rows in their cells ==
 
@@ -204,11 +138,6 @@ no_customer w (x ∷ C) range none = ⊎_elim
     customer_in_range e (c.Flagged f flag) t fits = subst IsCustomer (eqb-true f e t) fits
     customer_in_range e _ t fits = absurd (true≢false (sym t))
 
-enrolled-is : (w : Option ℕ) (gone : Bool) → (if state_of w gone == 1 then None else Some (own_customer w)) ≡ w
-enrolled-is None gone = refl
-enrolled-is (Some w) true = refl
-enrolled-is (Some w) false = refl
-
 withdrawn-is : (w : Option ℕ) (gone : Bool) → (gone ≡ true → IsSome w) → (state_of w gone == 3) ≡ gone
 withdrawn-is None true some = absurd (true≢false (sym (some refl)))
 withdrawn-is None false some = refl
@@ -252,7 +181,7 @@ module _ (C : List Commit) (order : InOrder C) (range : All InRange C) (owned : 
   b = books_in (seen_in C)
 
   -- the row of a device that is registered, and of a customer that is open
-  row_of : (d : ℕ) (x : ℕ × List ℕ) (r : DeviceRow) → registered d C ≡ Some x → device_row_by d C (Some x) ≡ Some r → IsRowOf r C
+  row_of : (d : ℕ) (x : ℕ × List ℕ) (r : DeviceRow) → registered d C ≡ Some x → Some (device_row_with d C x) ≡ Some r → IsRowOf r C
   row_of d x r made is = subst (λ (y : DeviceRow). IsRowOf y C) (same_Some _ _ is) (record {
     registered = made;
     enrolled = sym (enrolled-is (enrolled d C) (withdrawn d C));
@@ -265,17 +194,20 @@ module _ (C : List Commit) (order : InOrder C) (range : All InRange C) (owned : 
     reply = refl;
   })
 
-  customer_of : (w : ℕ) (r : CustomerRow) → opened w C ≡ true → Some (as_customer w C) ≡ Some r → IsCustomerOf r C
+  customer_of : (w : ℕ) (r : CustomerRow) → opened w C ≡ true → Some (customer_row_with w C) ≡ Some r → IsCustomerOf r C
   customer_of w r open_is is = subst (λ (y : CustomerRow). IsCustomerOf y C) (same_Some _ _ is) (record { opened = open_is; suspended = refl; deposits = refl; receipt = refl })
 
   slot_of : (d : ℕ) (o : Option DeviceRow) → device_row d C ≡ o → IfSome o (IsDeviceOf d) → IsSlotOf o d C
   slot_of d o is placed = by (registered d C) refl o is placed
     where
+      there : (x : ℕ × List ℕ) → registered d C ≡ Some x → device_row d C ≡ Some (device_row_with d C x)
+      there x made = rw made refl
+
       by : (x : Option (ℕ × List ℕ)) → registered d C ≡ x → (q : Option DeviceRow) → device_row d C ≡ q → IfSome q (IsDeviceOf d) → IsSlotOf q d C
       by None made None at fits = made
-      by None made (Some r) at fits = let none : device_row d C ≡ None = ap (device_row_by d C) made in absurd (cc)
-      by (Some x) made None at fits = let some : device_row d C ≡ device_row_by d C (Some x) = ap (device_row_by d C) made in absurd (cc)
-      by (Some x) made (Some r) at fits = (fits.device, fits.sound, row_of d x r made (sym (ap (device_row_by d C) made) ∙ at))
+      by None made (Some r) at fits = let none : device_row d C ≡ None = rw made refl in absurd (cc)
+      by (Some x) made None at fits = let some = there x made in absurd (cc)
+      by (Some x) made (Some r) at fits = (fits.device, fits.sound, row_of d x r made (sym (there x made) ∙ at))
 
   customer_slot_of : (w : ℕ) (o : Option CustomerRow) → customer_row w C ≡ o → IfSome o (IsCustomerAt w) → IsCustomerSlotOf o w C
   customer_slot_of w o is placed = by (opened w C) refl o is placed
@@ -283,10 +215,10 @@ module _ (C : List Commit) (order : InOrder C) (range : All InRange C) (owned : 
       by : (x : Bool) → opened w C ≡ x → (q : Option CustomerRow) → customer_row w C ≡ q → IfSome q (IsCustomerAt w) → IsCustomerSlotOf q w C
       by false made None at fits = made
       by false made (Some r) at fits = let none : customer_row w C ≡ None = rw made refl in absurd (cc)
-      by true made None at fits = let some : customer_row w C ≡ Some (as_customer w C) = rw made refl in absurd (cc)
+      by true made None at fits = let some : customer_row w C ≡ Some (customer_row_with w C) = rw made refl in absurd (cc)
       by true made (Some r) at fits = (fits.customer, fits.sound, customer_of w r made (sym (the made) ∙ at))
         where
-          the : opened w C ≡ true → customer_row w C ≡ Some (as_customer w C)
+          the : opened w C ≡ true → customer_row w C ≡ Some (customer_row_with w C)
           the h = rw h refl
 
   pub books_of : AreBooksOf b C

@@ -11,14 +11,14 @@ use Rattle.bench_base.specs.declared.events.Reply.TheVariants as r
 use Rattle.bench_base.specs.Rules.{todays_rules}
 use Rattle.bench_base.specs.Plans.{Plan, refuse}
 use Rattle.bench_base.specs.Ledger.{Ledger, day_in, is_on, counted}
+use Rattle.node_acts.specs.Said.{said_plan}
 use Rattle.ledger_terms.specs.Sums.{ascending, descending}
 use Rattle.ledger_terms.specs.Devices.{key_of}
 use Rattle.ledger_moves.specs.Tariffs.{Tariff}
 use Rattle.ledger_moves.specs.Devices.{record_with}
 use Rattle.ledger_moves.specs.Moves.{plan, at_node, reconcile_plan}
-use Rattle.centre_ledger.specs.Books.{device_at}
-use Rattle.centre_ledger.specs.Acts.{CentreAct, stood_act, standing_act}
-use Rattle.centre_ledger.specs.ActLaws.{PlannedActs, act_plan}
+use Rattle.centre_ledger.specs.Acts.{CentreAct, LookUps, in_books, stood_act, stand_by, standing_act}
+use Rattle.centre_ledger.specs.Plans.{says, told_standing, in_commits}
 use Rattle.centre_ledger.specs.Seen.{books_in}
 use Rattle.centre_ledger.specs.declared.standing.Standing.{Standing}
 use Rattle.bench_views.specs.declared.taken.Taken.{Taken}
@@ -34,7 +34,7 @@ use Rattle.bench_views.specs.Messages.{sent_in}
 use Rattle.bench_views.proofs.Events.{each_quiet, IsOfNone, some-same}
 use Rattle.bench_views.proofs.Sent.{sent_at}
 
-module _ (H : Ledger) (planned : PlannedActs (books_in (centre_views.view_of H).state) (counted H)) where
+module _ (H : Ledger) (same : in_books (books_in (centre_views.view_of H).state) ≡ in_commits (counted H)) where
   abbrev C : List Commit
   C = counted H
 
@@ -47,13 +47,15 @@ module _ (H : Ledger) (planned : PlannedActs (books_in (centre_views.view_of H).
   stands d = standing_act d (books_in (centre_views.view_of H).state)
 
   -- to say how a device stands commits nothing
-  stood_refuses : (d held : ℕ) (o : Option _) → act_plan (λ a. r.Reconciled d held a.centre a.in_flight) (stood_act d o) ≡ refuse (stood d held (stood_act d o))
+  stood_refuses : (d held : ℕ) (o : Option Standing) → said_plan (says (told_standing d held) (stood_act d o)) ≡ refuse (stood d held (stood_act d o))
   stood_refuses d held None = refl
   stood_refuses d held (Some x) = refl
 
   compared_is : (d : ℕ) (o : Option (List ℕ)) → reconcile_plan d o C ≡ refuse (compared d (record_with d C o) (stands d))
   compared_is d None = refl
-  compared_is d (Some key) = sym (planned.stood d (ascending d C + descending d C)) ∙ stood_refuses d (ascending d C + descending d C) (device_at (books_in (centre_views.view_of H).state) d)
+  compared_is d (Some key) =
+      let total = ascending d C + descending d C in
+      ap (λ (at : LookUps). said_plan (says (told_standing d total) (stand_by d at))) (sym same) ∙ stood_refuses d total ((in_books (books_in (centre_views.view_of H).state)).standing d)
 
   -- a reply that commits nothing, at a node
   at_quiet : (m : Node) (x : Reply) → at_node m H (refuse x) ≡ refuse (if is_on m H then x else r.OffNode m)

@@ -21,11 +21,11 @@ use Rattle.ledger_terms.specs.Sums.{adds, takes, ruled_sum, bought, returned}
 use Rattle.ledger_terms.specs.Centres.{registered, origin_in, key_in, enrolled, withdrawn, ruled, done, settled, opened, suspended, deposits, receipt, is_some_at, device_numbers, sum_over, device_share, customer_sum}
 use Rattle.ledger_terms.specs.Rulings.{Account, account_of, verdict, verdict_by, stored_reply, has_left, is_enrolled, out_of_balance, reply_to, written_amount}
 use Rattle.centre_ledger.specs.declared.rows.DeviceRow.{DeviceRow}
-use Rattle.centre_ledger.specs.Answers.{last_ruling, stored_note, settle_answer, deposit_answer}
+use Rattle.centre_ledger.specs.Answers.{settle_answer, deposit_answer}
 use Rattle.centre_ledger.specs.Order.{InOrder}
 use Rattle.centre_ledger.specs.Soundness.{IsSoundDevice}
 use Rattle.centre_ledger.specs.Rows.{enrolled_in, account, amount_shown, reply_by, buys_in, returns_in}
-use Rattle.centre_ledger.specs.Records.{IsRowOf}
+use Rattle.centre_ledger.specs.Records.{last_ruling, stored_note, note_or_none, IsRowOf}
 use Rattle.centre_ledger.specs.Laws.{RegisteringStarts, SettlingKeeps, OtherDevicesKeep, OpeningStarts, DepositingKeeps, FlaggingKeeps, OtherCustomersKeep, RulingByRows, RulingKeeps, IsSlotOf, AreSlots, BalancingByRows}
 
 -- == devices ==
@@ -81,7 +81,7 @@ registering d origin key C o h =
       bought = n.bought;
       returned = n.returned;
       request = ap stored_note n.last;
-      reply = ap Rattle.centre_ledger.specs.Records.note_or_none n.reply;
+      reply = ap note_or_none n.reply;
     }
 
 -- what is settled now is the number that was ruled last
@@ -200,7 +200,7 @@ ruling r o left q C is device pays =
     ap (λ (x : Account). verdict_by x q) same
 
 -- the amount in the Reply follows from the verdict
-shown : (a : Account) (q : Request) → (verdict_by a q).1 ≡ amount_shown (verdict_by a q).0 q.amount a.bought a.balance
+pub shown : (a : Account) (q : Request) → (verdict_by a q).1 ≡ amount_shown (verdict_by a q).0 q.amount a.bought a.balance
 unfolding verdict_by
 shown a q = go (not (same_kind q.kind Enrol) && has_left a.enrolled a.withdrawn) (same_kind q.kind Enrol && is_enrolled a.enrolled) (out_of_balance q a.bought a.returned) (same_kind q.kind Enrol && not a.opened) ((same_kind q.kind Enrol || same_kind q.kind Reset) && a.suspended) (same_kind q.kind Reset && nat_lt a.balance q.amount)
   where

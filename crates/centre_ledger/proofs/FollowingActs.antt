@@ -29,7 +29,7 @@ use Rattle.centre_ledger.specs.Soundness.{IsSoundDevice, IsSoundCustomer, IsNext
 use Rattle.centre_ledger.specs.Standing.{ruling_in}
 use Rattle.centre_ledger.specs.Laws.{touches_device, touches_customer, IsSlotOf, IsCustomerSlotOf}
 use Rattle.centre_ledger.specs.Books.{Books, device_at, customer_at, put_row, AreSound}
-use Rattle.centre_ledger.specs.Acts.{opened_act, flagged_act, taken_act, deposited_act, registered_act, turn_act, repeated_act, request_act, settled_act, done_act, message_act, payer_in, own_left, verdict_in, ruled_in}
+use Rattle.centre_ledger.specs.Acts.{in_books, opened_act, flagged_act, taken_act, deposited_act, registered_act, turn_act, repeated_act, request_act, settled_act, done_act, message_act, payer_in, own_left, verdict_in, ruled_in}
 use Rattle.centre_ledger.specs.ActLaws.{AreBooksOf, FollowsCommits, ActsFollow}
 use Rattle.centre_ledger.proofs.Asked.{code-has, turn-next}
 use Rattle.centre_ledger.proofs.Following.{registering, settling, settled-number, opening, depositing, flagging, ruling-keeps}
@@ -133,21 +133,21 @@ settled-follows b C d bytes q s books (Some r) at = keyed (has_code r.key bytes)
 -- the ruling on bytes that read as a Request of the device
 pub ruled-follows : (b : Books) (C : List Commit) (r : DeviceRow) (bytes : List ℕ) → AreSound b → AreBooksOf b C → device_at b r.device ≡ Some r → IsBytes bytes → read bytes ≡ Ok (m.Request (request_in bytes)) → has_code r.key bytes ≡ true
     → (request_in bytes).device ≡ r.device → (request_in bytes).number ≡ r.ruled + 1
-    → AreBooksOf (put_row b (row.Device (ruled_in b r (request_in bytes) bytes))) (Ruled r.device (request_in bytes).number (verdict_in b r (request_in bytes)) bytes ∷ C)
+    → AreBooksOf (put_row b (row.Device (ruled_in (in_books b) r (request_in bytes) bytes))) (Ruled r.device (request_in bytes).number (verdict_in (in_books b) r (request_in bytes)) bytes ∷ C)
 ruled-follows b C r bytes s books at in_bytes reads own same next =
     let q = request_in bytes in
     let found = found-device b r.device r s at in
     let is = row-of b C r.device r books at in
     let paid = pays b C r q s books at same in
     let is_next : IsNext r bytes = record { reads = reads; code = code-has r.key bytes own; device = same; number = next } in
-    device-follows b (ruled_in b r q bytes) (Ruled r.device q.number (verdict_in b r q) bytes) C s books found.1
-    (in-order.ruled r (payer_in b r q) (own_left b r) bytes C (verdict_in b r q) books.order is is_next paid refl)
+    device-follows b (ruled_in (in_books b) r q bytes) (Ruled r.device q.number (verdict_in (in_books b) r q) bytes) C s books found.1
+    (in-order.ruled r (payer_in (in_books b) r q) (own_left (in_books b) r) bytes C (verdict_in (in_books b) r q) books.order is is_next paid refl)
     (λ e other. apart-from r.device e other) (λ w. refl)
     (ruled-sound-row b r q bytes s at same in_bytes reads own next)
-    (ruling-keeps r (payer_in b r q) (own_left b r) bytes C found.0.sound is same next paid (verdict_in b r q) refl)
+    (ruling-keeps r (payer_in (in_books b) r q) (own_left (in_books b) r) bytes C found.0.sound is same next paid (verdict_in (in_books b) r q) refl)
 
 requested-follows : (b : Books) (C : List Commit) (q : Request) (bytes : List ℕ) → AreSound b → AreBooksOf b C → IsBytes bytes → read bytes ≡ Ok (m.Request q) → request_in bytes ≡ q
-    → (o : Option DeviceRow) → device_at b q.device ≡ o → FollowsCommits b C (request_act bytes q o b)
+    → (o : Option DeviceRow) → device_at b q.device ≡ o → FollowsCommits b C (request_act bytes q o (in_books b))
 requested-follows b C q bytes s books in_bytes reads is None at = tt
 requested-follows b C q bytes s books in_bytes reads is (Some r) at = keyed (has_code r.key bytes) refl
   where
@@ -155,20 +155,20 @@ requested-follows b C q bytes s books in_bytes reads is (Some r) at = keyed (has
     again None = tt
     again (Some x) = tt
 
-    turn : has_code r.key bytes ≡ true → (a : Result Bool CentreRefusal) → turn_answer r.ruled r.request q.number bytes ≡ a → FollowsCommits b C (turn_act bytes q r b a)
+    turn : has_code r.key bytes ≡ true → (a : Result Bool CentreRefusal) → turn_answer r.ruled r.request q.number bytes ≡ a → FollowsCommits b C (turn_act bytes q r (in_books b) a)
     turn own (Err x) h = tt
     turn own (Ok true) h = again (ruling_in r)
     turn own (Ok false) h =
         let same : q.device ≡ r.device = sym (found-device b q.device r s at).0.device in
         let next = turn-next r.ruled r.request q.number bytes h in
-        subst (λ x. AreBooksOf (put_row b (row.Device (ruled_in b r x bytes))) (Ruled r.device x.number (verdict_in b r x) bytes ∷ C)) is
+        subst (λ x. AreBooksOf (put_row b (row.Device (ruled_in (in_books b) r x bytes))) (Ruled r.device x.number (verdict_in (in_books b) r x) bytes ∷ C)) is
         (ruled-follows b C r bytes s books (ap (device_at b) (sym same) ∙ at) in_bytes (reads ∙ ap (λ x. Ok (m.Request x)) (sym is)) own (ap (λ (x : Request). x.device) is ∙ same) (ap (λ (x : Request). x.number) is ∙ next))
 
-    keyed : (t : Bool) → has_code r.key bytes ≡ t → FollowsCommits b C (cond t (turn_act bytes q r b (turn_answer r.ruled r.request q.number bytes)) (Refuse no.BadCode))
+    keyed : (t : Bool) → has_code r.key bytes ≡ t → FollowsCommits b C (cond t (turn_act bytes q r (in_books b) (turn_answer r.ruled r.request q.number bytes)) (Refuse no.BadCode))
     keyed true own = turn own (turn_answer r.ruled r.request q.number bytes) refl
     keyed false own = tt
 
-taken-follows : (b : Books) (C : List Commit) (bytes : List ℕ) → AreSound b → AreBooksOf b C → IsBytes bytes → (x : Result Message Unread) → read bytes ≡ x → FollowsCommits b C (message_act bytes b x)
+taken-follows : (b : Books) (C : List Commit) (bytes : List ℕ) → AreSound b → AreBooksOf b C → IsBytes bytes → (x : Result Message Unread) → read bytes ≡ x → FollowsCommits b C (message_act bytes (in_books b) x)
 unfolding request_in
 taken-follows b C bytes s books in_bytes (Ok (m.Request q)) reads = requested-follows b C q bytes s books in_bytes reads (ap request_or_none reads) (device_at b q.device) refl
 taken-follows b C bytes s books in_bytes (Ok (m.Done q)) reads = settled-follows b C q.device bytes q s books (device_at b q.device) refl

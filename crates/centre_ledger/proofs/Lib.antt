@@ -1,4 +1,5 @@
 pub mod Asked
+pub mod ByCommits
 pub mod Checks
 pub mod CustomerBytes
 pub mod Fields
@@ -9,6 +10,7 @@ pub mod Keeping
 pub mod Kept
 pub mod Notes
 pub mod OneRow
+pub mod Own
 pub mod Parted
 pub mod Payers
 pub mod Paying

@@ -9,7 +9,7 @@ use Rattle.centre_ledger.specs.declared.rows.CustomerRow.{CustomerRow}
 use Rattle.centre_ledger.specs.Soundness.{IsPayer}
 use Rattle.centre_ledger.specs.Rows.{enrolled_in}
 use Rattle.centre_ledger.specs.Books.{Books, device_at, customer_at, IsDeviceOf, IsCustomerAt, IsOwned, AreSound}
-use Rattle.centre_ledger.specs.Acts.{payer_in}
+use Rattle.centre_ledger.specs.Acts.{in_books, payer_in}
 use Rattle.centre_ledger.proofs.Places.{in-place, some-within}
 
 pub found-device : (b : Books) (d : ℕ) (r : DeviceRow) → AreSound b → device_at b d ≡ Some r → IsDeviceOf d r × IsDevice d
@@ -28,10 +28,10 @@ found-customer b w r sound at =
     let count = sound.placed.customer_count in
     (subst (λ o. IfSome o (IsCustomerAt w)) at (sound.placed.customers w), (within.0, omega arith))
 
-pub payer-is : (b : Books) (r : DeviceRow) (q : Request) → AreSound b → IsPayer r q (payer_in b r q)
-payer-is b r q sound = go (payer_in b r q) refl
+pub payer-is : (b : Books) (r : DeviceRow) (q : Request) → AreSound b → IsPayer r q (payer_in (in_books b) r q)
+payer-is b r q sound = go (payer_in (in_books b) r q) refl
   where
-    go : (o : Option CustomerRow) → payer_in b r q ≡ o → IsPayer r q o
+    go : (o : Option CustomerRow) → payer_in (in_books b) r q ≡ o → IsPayer r q o
     go None at = tt
     go (Some c) at =
         let found = found-customer b (payer q (enrolled_in r)) c sound at in

@@ -13,7 +13,7 @@ use Rattle.centre_ledger.specs.declared.rows.DeviceRow.{DeviceRow}
 use Rattle.centre_ledger.specs.Rows.{account, enrolled_in, customer_after, buys_in, returns_in}
 use Rattle.centre_ledger.specs.Soundness.{IsSoundDevice}
 use Rattle.centre_ledger.specs.Books.{Books, device_at, customer_at, left_in, AreSound}
-use Rattle.centre_ledger.specs.Acts.{payer_in, own_left, verdict_in, ruled_in}
+use Rattle.centre_ledger.specs.Acts.{in_books, payer_in, own_left, verdict_in, ruled_in}
 use Rattle.centre_ledger.proofs.Keeping.{WasGranted, granted, funded, left-of, and-then}
 use Rattle.centre_ledger.proofs.Payers.{found-device, found-owned}
 use Rattle.centre_ledger.proofs.Puts.{CanPay}
@@ -31,13 +31,13 @@ owned-after has Reset true s own c from was left named h = was h
 owned-after has Audit true s own c from was left named h = was h
 owned-after has Refund true s own c from was left named h = was h
 
-was-granted : (b : Books) (r : DeviceRow) (q : Request) → is_granted (verdict_in b r q) ≡ true → WasGranted (account r (payer_in b r q) (own_left b r)) q
-was-granted b r q h = granted (account r (payer_in b r q) (own_left b r)) q h
+was-granted : (b : Books) (r : DeviceRow) (q : Request) → is_granted (verdict_in (in_books b) r q) ≡ true → WasGranted (account r (payer_in (in_books b) r q) (own_left (in_books b) r)) q
+was-granted b r q h = granted (account r (payer_in (in_books b) r q) (own_left (in_books b) r)) q h
 
 -- the customer that a granted enrolment names is open
-named-open : (b : Books) (r : DeviceRow) (q : Request) → is_granted (verdict_in b r q) ≡ true → same_kind q.kind Enrol ≡ true → IsSome (customer_at b q.customer)
+named-open : (b : Books) (r : DeviceRow) (q : Request) → is_granted (verdict_in (in_books b) r q) ≡ true → same_kind q.kind Enrol ≡ true → IsSome (customer_at b q.customer)
 named-open b r q g enrol =
-    let open_so : IsSome (payer_in b r q) = not-false _ (and-then (same_kind q.kind Enrol) (not (is_some (payer_in b r q))) enrol (was-granted b r q g).opened) in
+    let open_so : IsSome (payer_in (in_books b) r q) = not-false _ (and-then (same_kind q.kind Enrol) (not (is_some (payer_in (in_books b) r q))) enrol (was-granted b r q g).opened) in
     subst (λ w. IsSome (customer_at b w)) (ap (λ t. cond t q.customer (own_customer (enrolled_in r))) enrol) open_so
 
 -- a reset is no enrolment
@@ -50,24 +50,24 @@ no-enrol Refund h = refl
 no-enrol Withdraw h = refl
 
 -- what a granted reset adds is left to the device's own customer
-adds-most : (b : Books) (r : DeviceRow) (q : Request) → adds (verdict_in b r q) q ≤ left_in b r.customer
+adds-most : (b : Books) (r : DeviceRow) (q : Request) → adds (verdict_in (in_books b) r q) q ≤ left_in b r.customer
 unfolding adds
 adds-most b r q = ⊎_elim
-    (λ (t : (is_granted (verdict_in b r q) && same_kind q.kind Reset) ≡ true).
-    let parts = and_parts (is_granted (verdict_in b r q)) (same_kind q.kind Reset) t in
-    let enough = funded (account r (payer_in b r q) (own_left b r)) q parts.0 parts.1 in
+    (λ (t : (is_granted (verdict_in (in_books b) r q) && same_kind q.kind Reset) ≡ true).
+    let parts = and_parts (is_granted (verdict_in (in_books b) r q)) (same_kind q.kind Reset) t in
+    let enough = funded (account r (payer_in (in_books b) r q) (own_left (in_books b) r)) q parts.0 parts.1 in
     let here : has_left (enrolled_in r) (r.state == 3) ≡ false = and-then (not (same_kind q.kind Enrol)) (has_left (enrolled_in r) (r.state == 3)) (no-enrol q.kind parts.1) (was-granted b r q parts.0).left in
     let enrolled : (r.state == 1) ≡ false = ne_eqb r.state 1 (left-of r.state r.customer here) in
     rw t (subst (λ s. q.amount ≤ left_in b (own_customer (cond s None (Some r.customer)))) enrolled enough))
-    (λ (t : (is_granted (verdict_in b r q) && same_kind q.kind Reset) ≡ false). rw t (omega arith))
-    (cases_Bool (is_granted (verdict_in b r q) && same_kind q.kind Reset))
+    (λ (t : (is_granted (verdict_in (in_books b) r q) && same_kind q.kind Reset) ≡ false). rw t (omega arith))
+    (cases_Bool (is_granted (verdict_in (in_books b) r q) && same_kind q.kind Reset))
 
 -- a device bought nothing before its enrolment is granted, nor with it
 record Fresh (r : DeviceRow) (v : Verdict) (q : Request) : Type 0 where
   bought : r.buys + adds v q ≡ 0
   returned : r.returns ≡ 0
 
-fresh : (b : Books) (r : DeviceRow) (q : Request) → IsSoundDevice r → is_granted (verdict_in b r q) ≡ true → same_kind q.kind Enrol ≡ true → Fresh r (verdict_in b r q) q
+fresh : (b : Books) (r : DeviceRow) (q : Request) → IsSoundDevice r → is_granted (verdict_in (in_books b) r q) ≡ true → same_kind q.kind Enrol ≡ true → Fresh r (verdict_in (in_books b) r q) q
 unfolding adds
 fresh b r q sound g enrol = ⊎_elim
     (λ (one : r.state ≡ 1).
@@ -91,26 +91,26 @@ own-of : (t : Bool) (buys adds returns takes left : ℕ) → (t ≡ true → add
 own-of true buys adds returns takes left most = let m = most refl in omega arith
 own-of false buys adds returns takes left most = omega arith
 
-pub ruled-can-pay : (b : Books) (r : DeviceRow) (q : Request) (bytes : List ℕ) → AreSound b → device_at b r.device ≡ Some r → CanPay b (ruled_in b r q bytes)
+pub ruled-can-pay : (b : Books) (r : DeviceRow) (q : Request) (bytes : List ℕ) → AreSound b → device_at b r.device ≡ Some r → CanPay b (ruled_in (in_books b) r q bytes)
 ruled-can-pay b r q bytes sound at = record {
   owned = owned-after (λ w. IsSome (customer_at b w)) q.kind (is_granted v) r.state r.customer q.customer sound_r.state.0 (found-owned b r.device r sound at)
       (λ g. (was-granted b r q g).left) (named-open b r q);
-  paid = λ w c is. subst (λ (o : Option DeviceRow). buys_in w (Some (ruled_in b r q bytes)) + returns_in w o ≤ left_in b w + buys_in w o + returns_in w (Some (ruled_in b r q bytes))) (sym at) (paid w);
+  paid = λ w c is. subst (λ (o : Option DeviceRow). buys_in w (Some (ruled_in (in_books b) r q bytes)) + returns_in w o ≤ left_in b w + buys_in w o + returns_in w (Some (ruled_in (in_books b) r q bytes))) (sym at) (paid w);
 }
   where
     v : Verdict
-    v = verdict_in b r q
+    v = verdict_in (in_books b) r q
 
     sound_r : IsSoundDevice r
     sound_r = (found-device b r.device r sound at).0.sound
 
-    paid : (w : ℕ) → buys_in w (Some (ruled_in b r q bytes)) + returns_in w (Some r) ≤ left_in b w + buys_in w (Some r) + returns_in w (Some (ruled_in b r q bytes))
+    paid : (w : ℕ) → buys_in w (Some (ruled_in (in_books b) r q bytes)) + returns_in w (Some r) ≤ left_in b w + buys_in w (Some r) + returns_in w (Some (ruled_in (in_books b) r q bytes))
     paid w = ⊎_elim
-        (λ (t : (is_granted (verdict_in b r q) && same_kind q.kind Enrol) ≡ true).
-        let parts = and_parts (is_granted (verdict_in b r q)) (same_kind q.kind Enrol) t in
+        (λ (t : (is_granted (verdict_in (in_books b) r q) && same_kind q.kind Enrol) ≡ true).
+        let parts = and_parts (is_granted (verdict_in (in_books b) r q)) (same_kind q.kind Enrol) t in
         let none = fresh b r q sound_r parts.0 parts.1 in
-        none-of (customer_after r.customer (verdict_in b r q) q == w) (r.customer == w) (r.buys + adds (verdict_in b r q) q) r.returns (takes (verdict_in b r q) q) (left_in b w) (buys_in w (Some r)) none.bought none.returned)
-        (λ (t : (is_granted (verdict_in b r q) && same_kind q.kind Enrol) ≡ false).
-        rw t (own-of (r.customer == w) r.buys (adds (verdict_in b r q) q) r.returns (takes (verdict_in b r q) q) (left_in b w)
-        (λ e. subst (λ u. adds (verdict_in b r q) q ≤ left_in b u) (eqb-true r.customer w e) (adds-most b r q))))
-        (cases_Bool (is_granted (verdict_in b r q) && same_kind q.kind Enrol))
+        none-of (customer_after r.customer (verdict_in (in_books b) r q) q == w) (r.customer == w) (r.buys + adds (verdict_in (in_books b) r q) q) r.returns (takes (verdict_in (in_books b) r q) q) (left_in b w) (buys_in w (Some r)) none.bought none.returned)
+        (λ (t : (is_granted (verdict_in (in_books b) r q) && same_kind q.kind Enrol) ≡ false).
+        rw t (own-of (r.customer == w) r.buys (adds (verdict_in (in_books b) r q) q) r.returns (takes (verdict_in (in_books b) r q) q) (left_in b w)
+        (λ e. subst (λ u. adds (verdict_in (in_books b) r q) q ≤ left_in b u) (eqb-true r.customer w e) (adds-most b r q))))
+        (cases_Bool (is_granted (verdict_in (in_books b) r q) && same_kind q.kind Enrol))

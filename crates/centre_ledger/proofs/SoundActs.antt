@@ -17,13 +17,14 @@ use Rattle.psd_wire.specs.Grammar.{read}
 use Rattle.centre_ledger.specs.declared.rows.DeviceRow.{DeviceRow}
 use Rattle.centre_ledger.specs.declared.rows.CustomerRow.{CustomerRow}
 use Rattle.centre_ledger.specs.declared.rows.Row.TheVariants as row
+use Rattle.centre_ledger.specs.declared.standing.Standing.{Standing}
 use Rattle.centre_ledger.specs.Answers.{settle_answer, deposit_answer, turn_answer}
 use Rattle.centre_ledger.specs.Records.{registered_row, opened_row}
 use Rattle.centre_ledger.specs.Rows.{deposited_row, settled_row, buys_in, returns_in}
 use Rattle.centre_ledger.specs.Soundness.{IsSoundDevice}
 use Rattle.centre_ledger.specs.Standing.{ruling_in}
 use Rattle.centre_ledger.specs.Books.{Books, device_at, customer_at, put_row, left_in, deposits_in, AreSound}
-use Rattle.centre_ledger.specs.Acts.{opened_act, flagged_act, taken_act, deposited_act, left_act, registered_act, stood_act, turn_act, repeated_act, request_act, settled_act, done_act, message_act, payer_in, own_left, verdict_in, ruled_in}
+use Rattle.centre_ledger.specs.Acts.{in_books, opened_act, flagged_act, taken_act, deposited_act, left_act, registered_act, stood_act, turn_act, repeated_act, request_act, settled_act, done_act, message_act, payer_in, own_left, verdict_in, ruled_in}
 use Rattle.centre_ledger.specs.ActLaws.{LeavesSound, ActsLeaveSound}
 use Rattle.centre_ledger.proofs.Asked.{code-has, asked, turn-next}
 use Rattle.centre_ledger.proofs.Keeping.{ruled-sound}
@@ -84,9 +85,9 @@ registered-sound b d origin key s in_d word None at =
         nothing false = refl
 registered-sound b d origin key s in_d word (Some r) at = tt
 
-stood-sound : (b : Books) (d : ℕ) (o : Option DeviceRow) → LeavesSound b (stood_act d o)
+stood-sound : (b : Books) (d : ℕ) (o : Option Standing) → LeavesSound b (stood_act d o)
 stood-sound b d None = tt
-stood-sound b d (Some r) = tt
+stood-sound b d (Some a) = tt
 
 settled-sound : (b : Books) (d : ℕ) (bytes : List ℕ) (q : DoneMsg) → AreSound b → (o : Option DeviceRow) → device_at b d ≡ o → LeavesSound b (done_act bytes q o)
 settled-sound b d bytes q s None at = tt
@@ -111,18 +112,18 @@ settled-sound b d bytes q s (Some r) at = either (has_code r.key bytes)
 -- == what is taken ==
 
 pub ruled-sound-row : (b : Books) (r : DeviceRow) (q : Request) (bytes : List ℕ) → AreSound b → device_at b r.device ≡ Some r → q.device ≡ r.device → IsBytes bytes → read bytes ≡ Ok (m.Request q) → has_code r.key bytes ≡ true
-    → q.number ≡ r.ruled + 1 → IsSoundDevice (ruled_in b r q bytes)
+    → q.number ≡ r.ruled + 1 → IsSoundDevice (ruled_in (in_books b) r q bytes)
 ruled-sound-row b r q bytes s at same in_bytes reads own next =
     let found = found-device b r.device r s at in
     let is = asked q r.key bytes in_bytes reads (code-has r.key bytes own) in
-    ruled-sound r (verdict_in b r q) (own_left b r) q bytes found.0.sound found.0.origin is.0 is.1 same next (payer_in b r q, payer-is b r q s, refl)
+    ruled-sound r (verdict_in (in_books b) r q) (own_left (in_books b) r) q bytes found.0.sound found.0.origin is.0 is.1 same next (payer_in (in_books b) r q, payer-is b r q s, refl)
 
-ruled-leaves : (b : Books) (r : DeviceRow) (q : Request) (bytes : List ℕ) → AreSound b → device_at b r.device ≡ Some r → IsSoundDevice (ruled_in b r q bytes) → AreSound (put_row b (row.Device (ruled_in b r q bytes)))
+ruled-leaves : (b : Books) (r : DeviceRow) (q : Request) (bytes : List ℕ) → AreSound b → device_at b r.device ≡ Some r → IsSoundDevice (ruled_in (in_books b) r q bytes) → AreSound (put_row b (row.Device (ruled_in (in_books b) r q bytes)))
 ruled-leaves b r q bytes s at sound_next =
     let found = found-device b r.device r s at in
-    device-put b (ruled_in b r q bytes) s found.1 found.0.origin sound_next (ruled-can-pay b r q bytes s at)
+    device-put b (ruled_in (in_books b) r q bytes) s found.1 found.0.origin sound_next (ruled-can-pay b r q bytes s at)
 
-requested-sound : (b : Books) (q : Request) (bytes : List ℕ) → AreSound b → IsBytes bytes → read bytes ≡ Ok (m.Request q) → (o : Option DeviceRow) → device_at b q.device ≡ o → LeavesSound b (request_act bytes q o b)
+requested-sound : (b : Books) (q : Request) (bytes : List ℕ) → AreSound b → IsBytes bytes → read bytes ≡ Ok (m.Request q) → (o : Option DeviceRow) → device_at b q.device ≡ o → LeavesSound b (request_act bytes q o (in_books b))
 requested-sound b q bytes s in_bytes reads None at = tt
 requested-sound b q bytes s in_bytes reads (Some r) at = keyed (has_code r.key bytes) refl
   where
@@ -130,7 +131,7 @@ requested-sound b q bytes s in_bytes reads (Some r) at = keyed (has_code r.key b
     again None = tt
     again (Some x) = tt
 
-    turn : has_code r.key bytes ≡ true → (a : Result Bool CentreRefusal) → turn_answer r.ruled r.request q.number bytes ≡ a → LeavesSound b (turn_act bytes q r b a)
+    turn : has_code r.key bytes ≡ true → (a : Result Bool CentreRefusal) → turn_answer r.ruled r.request q.number bytes ≡ a → LeavesSound b (turn_act bytes q r (in_books b) a)
     turn own (Err x) h = tt
     turn own (Ok true) h = again (ruling_in r)
     turn own (Ok false) h =
@@ -138,11 +139,11 @@ requested-sound b q bytes s in_bytes reads (Some r) at = keyed (has_code r.key b
         let here = ap (device_at b) (sym same) ∙ at in
         (ruled-leaves b r q bytes s here (ruled-sound-row b r q bytes s here same in_bytes reads own (turn-next r.ruled r.request q.number bytes h)), refl)
 
-    keyed : (t : Bool) → has_code r.key bytes ≡ t → LeavesSound b (cond t (turn_act bytes q r b (turn_answer r.ruled r.request q.number bytes)) (Refuse no.BadCode))
+    keyed : (t : Bool) → has_code r.key bytes ≡ t → LeavesSound b (cond t (turn_act bytes q r (in_books b) (turn_answer r.ruled r.request q.number bytes)) (Refuse no.BadCode))
     keyed true own = turn own (turn_answer r.ruled r.request q.number bytes) refl
     keyed false own = tt
 
-taken-sound : (b : Books) (bytes : List ℕ) → AreSound b → IsBytes bytes → (x : Result Message Unread) → read bytes ≡ x → LeavesSound b (message_act bytes b x)
+taken-sound : (b : Books) (bytes : List ℕ) → AreSound b → IsBytes bytes → (x : Result Message Unread) → read bytes ≡ x → LeavesSound b (message_act bytes (in_books b) x)
 taken-sound b bytes s in_bytes (Ok (m.Request q)) reads = requested-sound b q bytes s in_bytes reads (device_at b q.device) refl
 taken-sound b bytes s in_bytes (Ok (m.Done q)) reads = settled-sound b q.device bytes q s (device_at b q.device) refl
 taken-sound b bytes s in_bytes (Ok (m.Reply q)) reads = tt
@@ -157,6 +158,6 @@ leaves b s = record {
   flagged = λ w flag. flagged-sound b w flag s (customer_at b w) refl;
   deposited = λ w receipt amount. deposited-sound b w receipt amount s (customer_at b w) refl;
   balanced = λ w. left-sound b w (left_in b w) (customer_at b w);
-  stood = λ d. stood-sound b d (device_at b d);
+  stood = λ d. stood-sound b d ((in_books b).standing d);
   taken = λ bytes in_bytes. taken-sound b bytes s in_bytes (read bytes) refl;
 }

@@ -10,10 +10,7 @@ use Rattle.bench_base.specs.declared.words.Verdict.TheVariants.{Granted, NotEnro
 use Rattle.bench_base.specs.Kinds.{same_kind, is_granted}
 use Rattle.bench_base.specs.declared.ledger.Commit.{Commit}
 use Rattle.bench_base.specs.declared.ledger.Commit.TheVariants.{Ruled}
-use Rattle.bench_base.specs.declared.ledger.Entry.TheVariants as e
-use Rattle.bench_base.specs.declared.events.Reply.TheVariants as answer
 use Rattle.bench_base.specs.Table.{Size, One, Two, Four, Five, Eight, IsNumber, bytes_in, number, row, spelled}
-use Rattle.bench_base.specs.Plans.{told}
 use Rattle.bench_base.proofs.Facts.{either}
 use Rattle.bench_base.proofs.Tables.{number-spelled}
 use Rattle.hmac_core.specs.Hmac.{hmac}
@@ -28,11 +25,10 @@ use Rattle.ledger_terms.specs.Centres.{registered, key_in, ruled, settled}
 use Rattle.ledger_terms.specs.InFlight.{ruling_of, ruled_sum_to, in_flight, acknowledged_resets, acknowledged_refunds}
 use Rattle.ledger_terms.specs.Rulings.{Account, account_of, has_left, is_enrolled, out_of_balance, verdict, verdict_by, written_amount, stored_reply, reply_to}
 use Rattle.centre_ledger.specs.declared.rows.DeviceRow.{DeviceRow}
-use Rattle.centre_ledger.specs.Answers.{last_ruling, stored_note, repeat_plan, flight_shown, reconcile_plan}
 use Rattle.centre_ledger.specs.Order.{InOrder}
 use Rattle.centre_ledger.specs.Soundness.{IsRuling, IsSoundDevice}
-use Rattle.centre_ledger.specs.Records.{IsRowOf, note_or_none}
-use Rattle.centre_ledger.specs.Standing.{ruling_in, ruling_read, granted_in, granted_read, flight_in, flight_told, by_ruling, told_of, resets_in, refunds_in}
+use Rattle.centre_ledger.specs.Records.{last_ruling, stored_note, IsRowOf, note_or_none}
+use Rattle.centre_ledger.specs.Standing.{ruling_in, ruling_read, granted_in, granted_read, flight_in, flight_told, flight_shown, by_ruling, told_of, resets_in, refunds_in}
 use Rattle.centre_ledger.specs.Laws.{StandingByRows}
 
 -- == the rulings of a device have rising numbers ==
@@ -312,19 +308,14 @@ sum-is f of sum r C o sound is all =
     omega (arith, lands, whole, all))
     (cases_Bool (nat_lt r.settled r.ruled))
 
-reconciled-is : (r : DeviceRow) (C : List Commit) (total : ℕ) → IsRowOf r C → flight_shown (in_flight r.device C) ≡ flight_told (flight_in r) → acknowledged_resets r.device C ≡ resets_in r → acknowledged_refunds r.device C ≡ refunds_in r
-    → reconcile_plan r.device total (registered r.device C) C ≡ told (answer.Reconciled r.device total (resets_in r - refunds_in r) (flight_told (flight_in r))) []
-reconciled-is r C total is flies resets refunds =
-    ap (λ o. reconcile_plan r.device total o C) is.registered ∙ (λ i. told (answer.Reconciled r.device total (resets i - refunds i) (flies i)) [])
-
-repeated-is : (r : DeviceRow) (C : List Commit) → InOrder C → IsRowOf r C → last_ruling r.device C ≡ ruling_in r → (k : ℕ) (p : ReplyMsg) → read r.reply ≡ Ok (m.Reply p)
-    → repeat_plan r.device r.ruled k (last_ruling r.device C) (stored_reply r.device C) ≡ told (answer.Ruled r.device r.ruled p.verdict true k) (e.Sent r.reply ∷ [])
+repeated-is : (r : DeviceRow) (C : List Commit) → InOrder C → IsRowOf r C → last_ruling r.device C ≡ ruling_in r → (p : ReplyMsg) → read r.reply ≡ Ok (m.Reply p)
+    → (last_ruling r.device C ≡ Some (p.verdict, r.request)) × (stored_reply r.device C ≡ Some r.reply)
 unfolding ruling_in
-repeated-is r C o is last k p reads =
+repeated-is r C o is last p reads =
     let here : last_ruling r.device C ≡ Some (p.verdict, r.request) = last ∙ ap (λ x. ruling_read x r.request) reads in
     let kept = keeps-reply r.device C (p.verdict, r.request) o here in
     let reply : spell (m.Reply (reply_to kept.before (request_in r.request))) kept.key ≡ r.reply = sym (ap note_or_none kept.stored) ∙ is.reply in
-    (λ i. repeat_plan r.device r.ruled k (here i) ((kept.stored ∙ ap Some reply) i))
+    (here, kept.stored ∙ ap (λ (x : List ℕ). Some x) reply)
 
 pub standing : StandingByRows
 standing r C o sound is =
@@ -337,6 +328,6 @@ standing r C o sound is =
       in_flight = flies;
       resets = resets;
       refunds = refunds;
-      reconciled = λ total. reconciled-is r C total is flies resets refunds;
+      standing = λ i. record { centre = resets i - refunds i; in_flight = flies i };
       repeated = repeated-is r C o is last;
     }

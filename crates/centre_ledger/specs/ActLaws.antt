@@ -1,26 +1,16 @@
--- What holds of the acts of all books: they leave sound books, and do what the ledger plans over the commits whose rows these are.
+-- What holds of the acts of all books: they leave sound books, and are by the books of some commits what they are by these.
 use Rattle.std.specs.Prelude.{◌≡◌, ℕ, Bool, List, [], ◌∷◌}
 use Rattle.bench_base.specs.Nodes.{node_of}
-use Rattle.bench_base.specs.Plans.{Plan}
 use Rattle.bench_base.specs.Ranges.{IsDevice, IsCustomer, IsWord}
 use Rattle.bench_base.specs.Table.{IsBytes}
 use Rattle.bench_base.specs.declared.words.Node.TheVariants.{Centre}
-use Rattle.bench_base.specs.declared.events.Reply.{Reply}
-use Rattle.bench_base.specs.declared.events.Reply.TheVariants as r
 use Rattle.bench_base.specs.declared.ledger.Commit.{Commit}
-use Rattle.bench_base.specs.declared.ledger.Entry.{Entry}
-use Rattle.bench_base.specs.declared.ledger.Entry.TheVariants as e
-use Rattle.node_acts.specs.Plans.{plan_of}
 use Rattle.node_acts.specs.declared.act.Act.TheVariants.{Refuse, Tell, Commits}
-use Rattle.psd_wire.specs.Grammar.{read}
-use Rattle.ledger_terms.specs.Centres as ledger
-use Rattle.centre_ledger.specs.declared.taking.CentreAnswer.{CentreAnswer}
-use Rattle.centre_ledger.specs.declared.taking.CentreAnswer.TheVariants as centre
-use Rattle.centre_ledger.specs.Acts.{CentreAct, open_act, flag_act, deposit_act, balance_act, register_act, standing_act, take_act}
-use Rattle.centre_ledger.specs.Answers.{open_plan, flag_plan, deposit_plan, balance_plan, register_plan, centre_take, reconcile_plan}
+use Rattle.centre_ledger.specs.Acts.{CentreAct, in_books, open_act, flag_act, deposit_act, balance_act, register_act, standing_act, take_act}
 use Rattle.centre_ledger.specs.Books.{Books, device_at, customer_at, no_rows, put_row, AreSound}
 use Rattle.centre_ledger.specs.Laws.{IsSlotOf, IsCustomerSlotOf}
 use Rattle.centre_ledger.specs.Order.{InOrder}
+use Rattle.centre_ledger.specs.Plans.{in_commits}
 
 -- == the rows stay sound ==
 
@@ -68,35 +58,8 @@ pub record ActsFollow : Type 0 where
   pub none : AreBooksOf no_rows []
   pub each : (b : Books) (C : List Commit) → AreSound b → AreBooksOf b C → FollowingActs b C
 
--- == the plans ==
+-- == what is looked up ==
 
--- the plan of an act whose answer is told by its reply alone
-abbrev pub act_plan : {A : Type 0} → (A → Reply) → CentreAct A → Plan
-act_plan reply act = plan_of r.CentreRefused reply (λ a. []) act
-
--- what was taken is told as this, and a Reply is sent as message k
-abbrev pub taken_reply : ℕ → CentreAnswer → Reply
-taken_reply k (centre.Ruled d n v note again) = r.Ruled d n v again k
-taken_reply k (centre.Settled d n again) = r.Settled d n again
-
-abbrev pub taken_entries : CentreAnswer → List Entry
-taken_entries (centre.Ruled d n v note again) = e.Sent note ∷ []
-taken_entries (centre.Settled d n again) = []
-
-abbrev pub taken_plan : ℕ → CentreAct CentreAnswer → Plan
-taken_plan k act = plan_of r.CentreRefused (taken_reply k) taken_entries act
-
--- each act's plan is the ledger's
-pub record PlannedActs (b : Books) (C : List Commit) : Type 0 where
-  pub registered : (d origin : ℕ) (key : List ℕ) → act_plan (λ a. r.Registered d) (register_act d origin key b) ≡ register_plan d origin key (ledger.registered d C)
-  pub opened : (w : ℕ) → act_plan (λ a. r.Opened w) (open_act w b) ≡ open_plan w (ledger.opened w C)
-  pub flagged : (w : ℕ) (flag : Bool) → act_plan (λ a. r.Flagged w flag) (flag_act w flag b) ≡ flag_plan w flag (ledger.opened w C)
-  pub deposited : (w receipt amount : ℕ) → act_plan (λ a. r.Deposited w receipt a.again a.total) (deposit_act w receipt amount b)
-      ≡ deposit_plan w receipt amount (ledger.receipt w C) (ledger.deposits w C) (ledger.opened w C)
-  pub balanced : (w : ℕ) → act_plan (λ left. r.Balance w left) (balance_act w b) ≡ balance_plan w (ledger.balance w C) (ledger.opened w C)
-  -- the device's own total is given
-  pub stood : (d total : ℕ) → act_plan (λ a. r.Reconciled d total a.centre a.in_flight) (standing_act d b) ≡ reconcile_plan d total (ledger.registered d C) C
-  pub taken : (k : ℕ) (bytes : List ℕ) → taken_plan k (take_act bytes b) ≡ centre_take k bytes (read bytes) C
-
+-- what these books tell is what the commits tell; so each act by these books is the one by the commits, off which the ledger's plan is read
 abbrev pub ActsArePlanned : Type 0
-ActsArePlanned = (b : Books) (C : List Commit) → AreSound b → AreBooksOf b C → PlannedActs b C
+ActsArePlanned = (b : Books) (C : List Commit) → AreSound b → AreBooksOf b C → in_books b ≡ in_commits C

@@ -1,13 +1,10 @@
 -- What one commit does to the rows of the centre, and what they tell. The lists of commits have the newest first.
-use Rattle.std.specs.Prelude.{◌≡◌, ℕ, ◌+◌, ◌-◌, Bool, true, false, List, [], ◌∷◌, Option, Some, None, Ok, ◌==◌, is_some, sum_by}
+use Rattle.std.specs.Prelude.{◌≡◌, ℕ, ◌+◌, Bool, false, List, [], ◌∷◌, Option, Some, None, Ok, ◌==◌, is_some, sum_by}
 use Rattle.bench_base.specs.declared.words.Verdict.{Verdict}
 use Rattle.bench_base.specs.declared.words.Node.TheVariants.{Centre}
 use Rattle.bench_base.specs.declared.ledger.Commit.{Commit}
 use Rattle.bench_base.specs.declared.ledger.Commit.TheVariants.{Registered, Opened, Deposited, Flagged, Ruled, Settled}
-use Rattle.bench_base.specs.declared.ledger.Entry.TheVariants as e
-use Rattle.bench_base.specs.declared.events.Reply.TheVariants as answer
 use Rattle.bench_base.specs.Nodes.{node_of, same_node}
-use Rattle.bench_base.specs.Plans.{told}
 use Rattle.bench_base.specs.Ranges.{IsWord, IsCustomer}
 use Rattle.bench_base.specs.Table.{IsBytes}
 use Rattle.psd_wire.specs.declared.message.Request.{Request}
@@ -17,15 +14,17 @@ use Rattle.psd_wire.specs.Grammar.{read}
 use Rattle.ledger_terms.specs.Requests.{request_in}
 use Rattle.ledger_terms.specs.Centres.{registered, opened, device_numbers, customer_bought, customer_returned, balance}
 use Rattle.ledger_terms.specs.InFlight.{in_flight, acknowledged_resets, acknowledged_refunds}
-use Rattle.ledger_terms.specs.Rulings.{verdict, verdict_by, payer, own_customer, stored_reply}
+use Rattle.ledger_terms.specs.Rulings.{verdict, verdict_by, payer, own_customer, stored_reply, reply_note}
 use Rattle.centre_ledger.specs.declared.rows.DeviceRow.{DeviceRow}
 use Rattle.centre_ledger.specs.declared.rows.CustomerRow.{CustomerRow}
-use Rattle.centre_ledger.specs.Answers.{settle_answer, deposit_answer, last_ruling, repeat_plan, flight_shown, reconcile_plan}
+use Rattle.centre_ledger.specs.Acts.{verdict_in, ruled_in, standing_of}
+use Rattle.centre_ledger.specs.Answers.{settle_answer, deposit_answer}
 use Rattle.centre_ledger.specs.Order.{InOrder}
 use Rattle.centre_ledger.specs.Soundness.{IsSoundDevice, IsSoundCustomer, IsNext, IsVerdict}
 use Rattle.centre_ledger.specs.Rows.{account, enrolled_in, ruled_row, buys_in, returns_in}
-use Rattle.centre_ledger.specs.Records.{IsRowOf, IsCustomerOf, registered_row, opened_row, PaysBy}
-use Rattle.centre_ledger.specs.Standing.{ruling_in, flight_in, flight_told, resets_in, refunds_in}
+use Rattle.centre_ledger.specs.Plans.{in_commits, standing_after}
+use Rattle.centre_ledger.specs.Records.{IsRowOf, IsCustomerOf, registered_row, opened_row, last_ruling, device_row_with, PaysBy}
+use Rattle.centre_ledger.specs.Standing.{ruling_in, flight_in, flight_told, flight_shown, resets_in, refunds_in}
 
 -- whether the commit is one of the centre about the device
 abbrev pub touches_device : ℕ → Commit → Bool
@@ -189,8 +188,15 @@ BalanceByRows = (os : List (Option DeviceRow)) (w : CustomerRow) (left : ℕ) (C
     → AreSlots os device_numbers C → IsCustomerOf w C
     → left + sum_by (buys_in w.customer) os ≡ w.deposits + sum_by (returns_in w.customer) os → left ≡ balance w.customer C
 
+-- so are the verdict and the Reply that the ledger plans, by the row of the commits
+abbrev pub RulingByCommits : Type 0
+RulingByCommits = (C : List Commit) (q : Request) (x : ℕ × List ℕ) (bytes : List ℕ) → InOrder C → registered q.device C ≡ Some x
+    → (verdict_in (in_commits C) (device_row_with q.device C x) q ≡ (verdict C q).0)
+    × ((ruled_in (in_commits C) (device_row_with q.device C x) q bytes).reply ≡ reply_note C q)
+
 pub record Rulings : Type 0 where
   pub ruled : RulingByRows
+  pub planned : RulingByCommits
   pub paid : PayingByRows
   pub balanced : BalancingByRows
   pub left : BalanceByRows
@@ -201,12 +207,10 @@ pub record Stands (r : DeviceRow) (C : List Commit) : Type 0 where
   pub in_flight : flight_shown (in_flight r.device C) ≡ flight_told (flight_in r)
   pub resets : acknowledged_resets r.device C ≡ resets_in r
   pub refunds : acknowledged_refunds r.device C ≡ refunds_in r
-  pub reconciled : (total : ℕ) → reconcile_plan r.device total (registered r.device C) C
-      ≡ told (answer.Reconciled r.device total (resets_in r - refunds_in r) (flight_told (flight_in r))) []
+  pub standing : standing_after r.device C ≡ standing_of r
   -- the verdict of a repeat is that of the Reply that is kept and sent again
-  pub repeated : (k : ℕ) (p : ReplyMsg) → read r.reply ≡ Ok (m.Reply p)
-      → repeat_plan r.device r.ruled k (last_ruling r.device C) (stored_reply r.device C)
-      ≡ told (answer.Ruled r.device r.ruled p.verdict true k) (e.Sent r.reply ∷ [])
+  pub repeated : (p : ReplyMsg) → read r.reply ≡ Ok (m.Reply p)
+      → (last_ruling r.device C ≡ Some (p.verdict, r.request)) × (stored_reply r.device C ≡ Some r.reply)
 
 abbrev pub StandingByRows : Type 0
 StandingByRows = (r : DeviceRow) (C : List Commit) → InOrder C → IsSoundDevice r → IsRowOf r C → Stands r C

@@ -7,6 +7,7 @@ pub mod Laws
 pub mod Parts
 pub mod Payload
 pub mod PayloadLaws
+pub mod Plans
 pub mod Rows
 pub mod Seen
 pub mod Soundness

@@ -1,18 +1,68 @@
 -- The rows of the centre after a list of commits, the newest first. Amounts are in mills.
-use Rattle.std.specs.Prelude.{◌≡◌, ℕ, true, false, List, [], Option, Some, None, ◌==◌, is_some}
+use Rattle.std.specs.Prelude.{◌≡◌, ℕ, Bool, true, false, List, [], ◌∷◌, Option, Some, None, option_map, ◌==◌, is_some, if◌then◌else◌}
+use Rattle.bench_base.specs.declared.words.Verdict.{Verdict}
 use Rattle.bench_base.specs.declared.ledger.Commit.{Commit}
+use Rattle.bench_base.specs.declared.ledger.Commit.TheVariants.{Ruled}
 use Rattle.psd_wire.specs.declared.message.Request.{Request}
 use Rattle.ledger_terms.specs.Sums.{bought, returned}
 use Rattle.ledger_terms.specs.Centres.{registered, enrolled, withdrawn, ruled, settled, opened, suspended, deposits, receipt, balance}
 use Rattle.ledger_terms.specs.Rulings.{stored_reply, payer, own_customer}
 use Rattle.centre_ledger.specs.declared.rows.DeviceRow.{DeviceRow}
 use Rattle.centre_ledger.specs.declared.rows.CustomerRow.{CustomerRow}
-use Rattle.centre_ledger.specs.Answers.{last_ruling, stored_note}
 use Rattle.centre_ledger.specs.Rows.{enrolled_in, is_suspended}
+
+-- == the last ruling ==
+
+-- verdict and Request of the last Ruled
+abbrev pub last_ruling : ℕ → List Commit → Option (Verdict × List ℕ)
+last_ruling d [] = None
+last_ruling d (Ruled e n v note ∷ C) = if e == d then Some (v, note) else last_ruling d C
+last_ruling d (_ ∷ C) = last_ruling d C
+
+-- the Request of the last Ruled, and no bytes where there is none
+abbrev pub stored_note : Option (Verdict × List ℕ) → List ℕ
+stored_note None = []
+stored_note (Some x) = x.1
 
 abbrev pub note_or_none : Option (List ℕ) → List ℕ
 note_or_none None = []
 note_or_none (Some note) = note
+
+-- == the rows ==
+
+-- 1 registered, 2 enrolled, 3 withdrawn
+abbrev pub state_of : Option ℕ → Bool → ℕ
+state_of None gone = 1
+state_of (Some w) false = 2
+state_of (Some w) true = 3
+
+-- the row of device d after these commits, which is registered with this origin and key
+abbrev pub device_row_with : ℕ → List Commit → ℕ × List ℕ → DeviceRow
+device_row_with d C x = record {
+  device = d;
+  state = state_of (enrolled d C) (withdrawn d C);
+  customer = own_customer (enrolled d C);
+  origin = x.0;
+  key = x.1;
+  ruled = ruled d C;
+  settled = settled d C;
+  buys = bought d C;
+  returns = returned d C;
+  request = stored_note (last_ruling d C);
+  reply = note_or_none (stored_reply d C);
+}
+
+-- there is none where it is not registered
+abbrev pub device_row : ℕ → List Commit → Option DeviceRow
+device_row d C = option_map (λ x. device_row_with d C x) (registered d C)
+
+-- the row of customer w after these commits, which is open
+abbrev pub customer_row_with : ℕ → List Commit → CustomerRow
+customer_row_with w C = record { customer = w; suspended = suspended w C; deposits = deposits w C; receipt = (receipt w C).0; amount = (receipt w C).1 }
+
+-- there is none where it is not open
+abbrev pub customer_row : ℕ → List Commit → Option CustomerRow
+customer_row w C = if opened w C then Some (customer_row_with w C) else None
 
 -- this is the row of its device after these commits
 pub record IsRowOf (r : DeviceRow) (C : List Commit) : Type 0 where

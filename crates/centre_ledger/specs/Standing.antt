@@ -54,3 +54,8 @@ resets_in r = r.buys - by_ruling 0 adds (flight_in r)
 -- the acknowledged refunds and withdrawals
 abbrev pub refunds_in : DeviceRow → ℕ
 refunds_in r = r.returns - by_ruling 0 takes (flight_in r)
+
+-- those of a ruling in flight by the commits
+abbrev pub flight_shown : Option (Verdict × List ℕ) → Option (Kind × ℕ)
+flight_shown None = None
+flight_shown (Some x) = told_of x.0 (request_in x.1)

@@ -9,7 +9,8 @@ ghost use Rattle.centre_ledger.specs.PayloadLaws.{PayloadLaws};
 /// - `slots`: there is a row of a device exactly where it is registered, and of a customer exactly where it is open;
 /// - `order`: the commit that a call's refusals leave comes in order;
 /// - `sound`: each new row meets the conditions of a row;
-/// - `rulings`: what the rows say of a verdict, of the customer who pays and of a balance is what follows from the commits;
+/// - `rulings`: what the rows say of a verdict, of its reply, of the customer who pays and of a balance is what follows from the
+///   commits;
 /// - `standing`: so is what they say of what is acknowledged and in flight, and of a reply that is sent again.
 pub fn rows_follow_the_commits()
     ensures devices { DeviceRows }
@@ -25,7 +26,8 @@ pub fn rows_follow_the_commits()
 ///
 /// - `sound`: where a call commits a row, it is a commit of the centre, and the rows with that one are sound, also together;
 /// - `follows`: where the rows are those of the commits before, they are then those of the commits and that one;
-/// - `planned`: what a call does by these rows is what the ledger plans for it over the commits.
+/// - `planned`: these rows tell what the commits tell; so what a call does by them is what it does by the commits, off which
+///   the ledger's plan is read.
 pub fn acts_follow_the_commits()
     ensures sound { ActsLeaveSound }
     ensures follows { ActsFollow }

@@ -104,7 +104,7 @@ fn ruled_act(
     requires whole { IsWhole (m.Request request.now) }
     requires spelled { spell (m.Request request.now) row.now.key ≡ note.now }
     requires number { request.now.number ≡ row.now.ruled + 1 }
-    ensures { result ≡ act_of.turn_act note.now request.now row.now accounts.now (Ok false) }
+    ensures { result ≡ act_of.turn_act note.now request.now row.now (act_of.in_books accounts.now) (Ok false) }
 {
     let left = accounts.left(own_customer(row));
     let verdict = verdict(row, accounts.customer(payer(row, request)), left, request);
@@ -130,7 +130,7 @@ fn ruled_act(
 
 fn request_act(bytes: &[u8], request: &Request, accounts: &Accounts) -> CentreAct<CentreAnswer>
     requires reads { read bytes.now ≡ Ok (m.Request request.now) }
-    ensures { result ≡ act_of.request_act bytes.now request.now (device_at accounts.now request.now.device) accounts.now }
+    ensures { result ≡ act_of.request_act bytes.now request.now (device_at accounts.now request.now.device) (act_of.in_books accounts.now) }
 {
     let Some(kept) = accounts.ready(request.device) else {
         return Act::Refuse(CentreRefusal::UnknownDevice(request.device));

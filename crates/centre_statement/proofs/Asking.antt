@@ -1,5 +1,6 @@
 -- What it comes to that a balance is asked for.
 use Rattle.std.proofs.Common.{◌≡◌, ◌≢◌, ◌⊎◌, inl, inr, ℕ, ℤ, Bool, true, false, List, Option, Some, None, refl, sym, subst, ◌∙◌}
+use Rattle.std.specs.Prelude.{if◌then◌else◌}
 use Rattle.bench_base.specs.declared.words.Node.{Node}
 use Rattle.bench_base.specs.declared.words.Node.TheVariants.{Centre}
 use Rattle.bench_base.specs.declared.refusals.CentreRefusal.TheVariants as no
@@ -13,7 +14,10 @@ use Rattle.bench_base.specs.Ranges.{IsCustomer}
 use Rattle.bench_base.specs.Replies.{Told, LostPower, Faulted, PrinterFailed, told_by}
 use Rattle.bench_base.specs.Rules.{todays_rules}
 use Rattle.node_acts.specs.Plans.{after, after_told, with_commit, with_torn, FailsTold}
-use Rattle.centre_ledger.specs.Answers as centre
+use Rattle.node_acts.specs.Said.{said_plan}
+use Rattle.centre_ledger.specs.Acts.{left_act}
+use Rattle.centre_ledger.specs.Plans.{says, told_balance}
+use Rattle.centre_ledger.specs.Records.{customer_row_with}
 use Rattle.ledger_moves.specs.Moves as moves
 use Rattle.ledger_moves.specs.Moves.{Moves, OtherUp, plan, at_node, unless_worn}
 use Rattle.ledger_moves.specs.Tariffs.{Tariff}
@@ -32,10 +36,14 @@ module _ (w : ℕ) (H : Ledger) where
     no_up : (n : Node) (k : ℕ) → p.reply ≢ r.Up n k
     told : IsItsBalance p.reply
 
-  unknown : Asks (centre.no_centre (no.UnknownCustomer w))
+  unknown : Asks (refuse (r.CentreRefused (no.UnknownCustomer w)))
   unknown = record { silent = refl; plain = λ K. refl; no_up = λ n k is. cc; told = inr (λ b is. cc) }
 
-  by_opened : is_on Centre H ≡ true → (b : Bool) → Asks (unless_worn (counted H) (centre.balance_plan w (balance w (counted H)) b) (centre.balance_plan w (balance w (counted H)) b).commit)
+  -- the plan of what is told of the customer, where it is open
+  abbrev told_if : Bool → Plan
+  told_if b = said_plan (says (told_balance w) (left_act w (balance w (counted H)) (if b then Some (customer_row_with w (counted H)) else None)))
+
+  by_opened : is_on Centre H ≡ true → (b : Bool) → Asks (unless_worn (counted H) (told_if b) (told_if b).commit)
   by_opened on true = record { silent = refl; plain = λ K. refl; no_up = λ n k is. cc; told = inl (refl, on) }
   by_opened on false = unknown
 

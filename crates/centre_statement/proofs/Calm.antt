@@ -1,11 +1,9 @@
 -- What a plan tells beside its commit: entries that count nothing and open nothing, two at most; or an Up, with the count of the ledger.
-use Rattle.std.proofs.Common.{◌≡◌, ℕ, ℤ, pos, ◌+◌, Bool, true, false, List, [], ◌∷◌, Option, Some, None, Result, Ok, Err, refl, length, drop}
+use Rattle.std.proofs.Common.{◌≡◌, ℕ, ℤ, pos, ◌+◌, List, [], ◌∷◌, Option, Some, None, Result, Ok, Err, refl, length, drop}
 use Rattle.std.specs.Prelude.{nat_lt}
 use Rattle.bench_base.specs.declared.words.Node.{Node}
 use Rattle.bench_base.specs.declared.words.Node.TheVariants.{Device, Centre, Host, Verifier}
-use Rattle.bench_base.specs.declared.words.Verdict.{Verdict}
 use Rattle.bench_base.specs.declared.refusals.Unread.{Unread}
-use Rattle.bench_base.specs.declared.refusals.CentreRefusal.{CentreRefusal}
 use Rattle.bench_base.specs.declared.ledger.Commit.{Commit}
 use Rattle.bench_base.specs.declared.ledger.Entry.{Entry}
 use Rattle.bench_base.specs.declared.ledger.Entry.TheVariants as e
@@ -26,19 +24,17 @@ use Rattle.node_acts.specs.Said.{tells, saying, said_plan}
 use Rattle.node_acts.specs.declared.act.Act.TheVariants.{Refuse, Tell, Commits}
 use Rattle.psd_wire.specs.declared.message.Message.{Message}
 use Rattle.psd_wire.specs.declared.message.Message.TheVariants as m
-use Rattle.psd_wire.specs.declared.message.Request.{Request}
-use Rattle.psd_wire.specs.declared.message.DoneMsg.{DoneMsg}
-use Rattle.psd_wire.specs.Codes.{has_code}
 use Rattle.psd_wire.specs.Grammar.{read}
 use Rattle.ledger_terms.specs.Devices.{key_of, number, pending}
-use Rattle.ledger_terms.specs.Centres.{registered, opened, receipt, deposits, balance}
-use Rattle.ledger_terms.specs.Rulings.{stored_reply}
 use Rattle.psd_state.specs.State.{State}
 use Rattle.psd_state.specs.Acts as acts
 use Rattle.psd_state.specs.Acts.{DeviceAct}
 use Rattle.psd_state.specs.declared.acts.Taken.{Taken}
 use Rattle.psd_state.specs.declared.acts.Taken.TheVariants as taken
-use Rattle.centre_ledger.specs.Answers as centre
+use Rattle.centre_ledger.specs.declared.taking.CentreAnswer.{CentreAnswer}
+use Rattle.centre_ledger.specs.declared.taking.CentreAnswer.TheVariants as answer
+use Rattle.centre_ledger.specs.Acts as centre_acts
+use Rattle.centre_ledger.specs.Plans as centre
 use Rattle.host_jobs.specs.Acts.{order_by, debit_message_by, begin_print_by, close_by, take_by}
 use Rattle.host_jobs.specs.Plans as host
 use Rattle.verifier.specs.Acts.{trust_by, scan_by}
@@ -131,72 +127,16 @@ module _ (H : Ledger) where
 
   -- == the centre ==
 
-  open_ok : (w : ℕ) (b : Bool) → Clean (centre.open_plan w b)
-  open_ok w true = sure tt
-  open_ok w false = sure tt
-
-  flag_ok : (w : ℕ) (flag b : Bool) → Clean (centre.flag_plan w flag b)
-  flag_ok w flag true = sure tt
-  flag_ok w flag false = sure tt
-
-  deposited_ok : (w n a total : ℕ) (x : Result (Option ℕ) CentreRefusal) → Clean (centre.deposit_answered w n a total x)
-  deposited_ok w n a total (Err x) = sure tt
-  deposited_ok w n a total (Ok None) = sure tt
-  deposited_ok w n a total (Ok (Some after)) = sure tt
-
-  deposit_ok : (w n a : ℕ) (last : ℕ × ℕ) (total : ℕ) (b : Bool) → Clean (centre.deposit_plan w n a last total b)
-  deposit_ok w n a last total true = deposited_ok w n a total (centre.deposit_answer last total n a)
-  deposit_ok w n a last total false = sure tt
-
-  balance_ok : (w n : ℕ) (b : Bool) → Clean (centre.balance_plan w n b)
-  balance_ok w n true = sure tt
-  balance_ok w n false = sure tt
-
-  register_ok : (d origin : ℕ) (key : List ℕ) (o : Option (ℕ × List ℕ)) → Clean (centre.register_plan d origin key o)
-  register_ok d origin key None = sure tt
-  register_ok d origin key (Some x) = sure tt
-
-  repeat_ok : (d n k : ℕ) (o : Option (Verdict × List ℕ)) (reply : Option (List ℕ)) → Clean (centre.repeat_plan d n k o reply)
-  repeat_ok d n k (Some x) (Some reply) = sure tt
-  repeat_ok d n k (Some x) None = sure tt
-  repeat_ok d n k None reply = sure tt
-
-  rule_ok : (k : ℕ) (bytes : List ℕ) (q : Request) (x : Result Bool CentreRefusal) → Clean (centre.rule_answered k bytes q (counted H) x)
-  rule_ok k bytes q (Err x) = sure tt
-  rule_ok k bytes q (Ok true) = repeat_ok q.device q.number k (centre.last_ruling q.device (counted H)) (stored_reply q.device (counted H))
-  rule_ok k bytes q (Ok false) = sure tt
-
-  request_ok : (k : ℕ) (bytes : List ℕ) (q : Request) (o : Option (ℕ × List ℕ)) → Clean (centre.request_plan k bytes q o (counted H))
-  request_ok k bytes q None = sure tt
-  request_ok k bytes q (Some x) = chosen Clean (has_code x.1 bytes) _ _ (λ good. rule_ok k bytes q _) (λ bad. sure tt)
-
-  settled_ok : (d n : ℕ) (x : Result (Option ℕ) CentreRefusal) → Clean (centre.settle_answered d n x)
-  settled_ok d n (Err x) = sure tt
-  settled_ok d n (Ok None) = sure tt
-  settled_ok d n (Ok (Some now)) = sure tt
-
-  done_ok : (bytes : List ℕ) (q : DoneMsg) (o : Option (ℕ × List ℕ)) (settled ruled : ℕ) → Clean (centre.done_plan bytes q o settled ruled)
-  done_ok bytes q None settled ruled = sure tt
-  done_ok bytes q (Some x) settled ruled = chosen Clean (has_code x.1 bytes) _ _ (λ good. settled_ok q.device q.number _) (λ bad. sure tt)
-
-  take_ok : (k : ℕ) (bytes : List ℕ) (x : Result Message Unread) → Clean (centre.centre_take k bytes x (counted H))
-  take_ok k bytes (Ok (m.Request q)) = request_ok k bytes q (registered q.device (counted H))
-  take_ok k bytes (Ok (m.Done q)) = done_ok bytes q (registered q.device (counted H)) _ _
-  take_ok k bytes (Ok (m.Reply p)) = sure tt
-  take_ok k bytes (Ok (m.Debit q)) = sure tt
-  take_ok k bytes (Ok (m.Release x)) = sure tt
-  take_ok k bytes (Err x) = sure tt
+  took_ok : (k : ℕ) (a : CentreAnswer) → ByTold ShowsItsCount (told_by (centre.told_taken k a).reply) (tells (centre.told_taken k a))
+  took_ok k (answer.Ruled d n v note again) = tt
+  took_ok k (answer.Settled d n again) = tt
 
   centre_ok : (bytes : List ℕ) → Clean (moves.centre_plan bytes H)
-  centre_ok bytes = at Centre _ (take_ok (messages H) bytes (read bytes))
-
-  reconciled_ok : (d total : ℕ) (o : Option (ℕ × List ℕ)) → Clean (centre.reconcile_plan d total o (counted H))
-  reconciled_ok d total None = sure tt
-  reconciled_ok d total (Some x) = sure tt
+  centre_ok bytes = at Centre _ (said_ok r.CentreRefused (centre.told_taken (messages H)) (centre_acts.take_by bytes (centre.in_commits (counted H))) (λ x. tt) (took_ok (messages H)))
 
   reconcile_ok : (d : ℕ) (key : Option (List ℕ)) → Clean (moves.reconcile_plan d key (counted H))
   reconcile_ok d None = sure tt
-  reconcile_ok d (Some key) = reconciled_ok d _ (registered d (counted H))
+  reconcile_ok d (Some key) = said_ok r.CentreRefused (centre.told_standing d _) (centre_acts.stand_by d (centre.in_commits (counted H))) (λ x. tt) (λ a. tt)
 
   -- == the host ==
 
@@ -269,11 +209,11 @@ module _ (H : Ledger) where
     event_ok (ev.Resend d) text today = at (Device d) _ (resend_ok d (messages H) (key_of d C) (pending d C))
     event_ok (ev.Ack d) text today = at (Device d) _ (acts_ok d (λ note. r.SentDone d (number d C) (messages H)) (λ note. e.Sent note ∷ []) (acts.ack_act (held d)) (λ a. tt))
     event_ok (ev.Status d) text today = at (Device d) _ (acts_ok d (λ shown. r.Status d shown) (λ shown. []) (acts.status_act today (held d)) (λ a. tt))
-    event_ok (ev.Register d origin key) text today = at Centre _ (register_ok d origin key (registered d C))
-    event_ok (ev.OpenCustomer w) text today = at Centre _ (open_ok w (opened w C))
-    event_ok (ev.Deposit w n a) text today = at Centre _ (deposit_ok w n a (receipt w C) (deposits w C) (opened w C))
-    event_ok (ev.Flag w flag) text today = at Centre _ (flag_ok w flag (opened w C))
-    event_ok (ev.Balance w) text today = at Centre _ (balance_ok w (balance w C) (opened w C))
+    event_ok (ev.Register d origin key) text today = at Centre _ (said_ok r.CentreRefused (centre.told_registered d) (centre_acts.register_by d origin key (centre.in_commits C)) (λ x. tt) (λ u. tt))
+    event_ok (ev.OpenCustomer w) text today = at Centre _ (said_ok r.CentreRefused (centre.told_opened w) (centre_acts.open_by w (centre.in_commits C)) (λ x. tt) (λ u. tt))
+    event_ok (ev.Deposit w n a) text today = at Centre _ (said_ok r.CentreRefused (centre.told_deposited w n) (centre_acts.deposit_by w n a (centre.in_commits C)) (λ x. tt) (λ d. tt))
+    event_ok (ev.Flag w flag) text today = at Centre _ (said_ok r.CentreRefused (centre.told_flagged w flag) (centre_acts.flag_by w flag (centre.in_commits C)) (λ x. tt) (λ u. tt))
+    event_ok (ev.Balance w) text today = at Centre _ (said_ok r.CentreRefused (centre.told_balance w) (centre_acts.balance_by w (centre.in_commits C)) (λ x. tt) (λ left. tt))
     event_ok (ev.Deliver k) text today = deliver_ok today k (message k H)
     event_ok (ev.Give n bytes) text today = give_ok today n bytes
     event_ok (ev.Order d piece class grams zone) text today =

@@ -1,7 +1,7 @@
 -- The centre's part of a plan is right: a Request that it rules on was asked and not ruled before, and shows what the centre
 -- holds; what it settles was applied; and it never answers `ahead` or `changed`.
 use Rattle.std.proofs.Common.{◌≡◌, ℕ, pos, ◌+◌, ◌<◌, ◌≤◌, ◌+ℤ◌, Bool, true, false, List, [], ◌∷◌, Option, Some, None, Result, Ok, Err, cond, refl, sym, ap, subst, ◌∙◌, true≢false, arith, FitsSigned}
-use Rattle.std.specs.Prelude.{◌==◌, ◌&&◌, ◌||◌, nat_lt, nat_le, bytes_eq}
+use Rattle.std.specs.Prelude.{◌==◌, ◌&&◌, ◌||◌, nat_lt, nat_le, bytes_eq, option_map, if◌then◌else◌}
 use Rattle.std.specs.Int.{w32}
 use Rattle.std.proofs.lemmas.Bool.{eqb-true, eqb-false, ltb-false, ltb-true, leb-false, not-false, eq-eqb, and_parts, or_parts}
 use Rattle.std.proofs.lemmas.Slice.Eq.{bytes_eq-Decides}
@@ -16,12 +16,17 @@ use Rattle.bench_base.specs.declared.refusals.CentreRefusal.TheVariants as no
 use Rattle.bench_base.specs.declared.ledger.Commit.{Commit}
 use Rattle.bench_base.specs.declared.ledger.Commit.TheVariants as c
 use Rattle.bench_base.specs.declared.ledger.Entry.TheVariants as e
+use Rattle.bench_base.specs.declared.events.Reply.{Reply}
 use Rattle.bench_base.specs.declared.events.Reply.TheVariants as r
 use Rattle.bench_base.specs.Rules.{Rules}
+use Rattle.bench_base.specs.Plans.{refuse, made, told}
 use Rattle.bench_base.specs.Rows.{first_holding}
 use Rattle.bench_base.specs.Kinds.{is_granted, is_dated, same_kind}
 use Rattle.bench_base.specs.Ranges.{IsDevice, IsCustomer, IsWord, IsDay, IsKey}
 use Rattle.bench_base.specs.Ledger.{Ledger, counted, is_on, IsSent}
+use Rattle.node_acts.specs.declared.said.Said.{Said}
+use Rattle.node_acts.specs.Plans.{after}
+use Rattle.node_acts.specs.Said.{said_plan}
 use Rattle.psd_wire.specs.declared.message.Request.{Request}
 use Rattle.psd_wire.specs.declared.message.ReplyMsg.{ReplyMsg}
 use Rattle.psd_wire.specs.declared.message.DoneMsg.{DoneMsg}
@@ -33,13 +38,21 @@ use Rattle.psd_wire.specs.Codes.{has_code}
 use Rattle.ledger_terms.specs.Requests.{request_in, request_or_none, note_of}
 use Rattle.ledger_terms.specs.Sums.{bought, returned}
 use Rattle.ledger_terms.specs.Devices.{applied_of}
-use Rattle.ledger_terms.specs.Centres.{registered, key_in, ruled, settled, opened, receipt, deposits}
+use Rattle.ledger_terms.specs.Centres.{registered, key_in, ruled, settled, opened, receipt, deposits, balance}
 use Rattle.ledger_terms.specs.InFlight.{ruling_of}
 use Rattle.ledger_terms.specs.Rulings.{verdict, verdict_by, verdict_rows, account_of, Account, reply_to, reply_note, stored_reply, ruled_reply}
-use Rattle.centre_ledger.specs.Answers as centre
-use Rattle.centre_ledger.specs.Answers.{last_ruling}
+use Rattle.centre_ledger.specs.declared.rows.DeviceRow.{DeviceRow}
+use Rattle.centre_ledger.specs.declared.rows.CustomerRow.{CustomerRow}
+use Rattle.centre_ledger.specs.declared.taking.CentreAnswer.{CentreAnswer}
+use Rattle.centre_ledger.specs.Acts.{CentreAct, registered_act, opened_act, flagged_act, taken_act, deposited_act, left_act, stood_act, repeated_act, turn_act, request_act, settled_act, done_act, message_act}
+use Rattle.centre_ledger.specs.Answers.{deposit_rows, deposit_answer, turn_answer, settle_answer}
+use Rattle.centre_ledger.specs.Plans as centre
+use Rattle.centre_ledger.specs.Records.{last_ruling, stored_note, note_or_none, device_row_with, customer_row_with}
+use Rattle.centre_ledger.specs.Rows.{deposited_row, settled_row}
+use Rattle.centre_ledger.specs.Standing.{ruling_in, ruling_read}
+use Rattle.centre_ledger.proofs.ByCommits.{verdict-is, reply-is}
 use Rattle.ledger_moves.specs.Histories.{IsKnown}
-use Rattle.ledger_lawful.specs.Sane.{IsSaneCentre, is_imbalance}
+use Rattle.ledger_lawful.specs.Sane.{IsSane, IsSaneCentre, is_imbalance}
 use Rattle.bench_base.proofs.Rows.{chosen, first, first-that, none-holds}
 use Rattle.std.specs.Prelude.{min}
 use Rattle.std.proofs.Math.Nat.{min-le_right, min-eq_left}
@@ -57,6 +70,7 @@ use Rattle.law_plans.proofs.Franked.{registered-word}
 use Rattle.law_money.proofs.Customers.{granted-rows, AllRefuse}
 use Rattle.law_money.proofs.Requests.{Shown, new-shown, never-imbalance, ruling-sane}
 use Rattle.law_good.proofs.Grown.{Inv, GenuineReply, genuine-at, reply-kept, inv-sent}
+use Rattle.law_orders.proofs.Orders.{centre-order}
 use Rattle.law_plans.proofs.Plans.{PlanOk, IsFit, ok-refuse, ok-made}
 
 request_in-read : (note : List ℕ) (q : Request) → read note ≡ Ok (m.Request q) → request_in note ≡ q
@@ -151,37 +165,63 @@ module _ (ρ : Rules) where
   stored-vouched d x (k ∷ C) g h = let was = stored-vouched d x C g.1 h in record { reply = was.reply; reads = was.reads; vouched = reply-kept was.reply k C was.vouched }
 
 module _ (ρ : Rules) (H : Ledger) (i : Inv ρ H) (on : is_on Centre H ≡ true) where
-  no-ok : (x : CentreRefusal) → IsSaneCentre x → PlanOk ρ H (centre.no_centre x)
+  abbrev C : List Commit
+  C = counted H
+
+  -- the plan of an act of the centre that is told so
+  abbrev OkTold : {A : Type 0} → (A → Said) → CentreAct A → Type 0
+  OkTold say act = PlanOk ρ H (said_plan (centre.says say act))
+
+  no-ok : (x : CentreRefusal) → IsSaneCentre x → PlanOk ρ H (refuse (r.CentreRefused x))
   no-ok x s = ok-refuse ρ H (r.CentreRefused x) refl s
 
-  pub register-ok : (d o : ℕ) (key : List ℕ) → IsDevice d → IsWord o → IsKey key → (w : Option (ℕ × List ℕ)) → registered d (counted H) ≡ w → PlanOk ρ H (centre.register_plan d o key w)
-  register-ok d o key device origin fits None has = ok-made ρ H (r.Registered d) (c.Registered d o key) refl tt (λ n k h. absurd (cc)) (record { fits = has; on = on; range = (device, origin, fits); sure = tt })
-  register-ok d o key device origin fits (Some x) has = no-ok no.Known tt
+  -- what is only told
+  told-ok : (x : Reply) → IsSane x → after (told x []) x H ≡ H → PlanOk ρ H (told x [])
+  told-ok x s plain = record { sane = s; plain = plain; no_up = λ l k h. refl; fit = λ y h. absurd (none-some _ h); keeps = λ j. j }
 
-  pub open-ok : (w : ℕ) → IsCustomer w → (t : Bool) → opened w (counted H) ≡ t → PlanOk ρ H (centre.open_plan w t)
-  open-ok w range true has = no-ok no.Known tt
-  open-ok w range false has = ok-made ρ H (r.Opened w) (c.Opened w) refl tt (λ n k h. absurd (cc)) (record { fits = has; on = on; range = range; sure = tt })
+  pub register-ok : (d o : ℕ) (key : List ℕ) → IsDevice d → IsWord o → IsKey key → PlanOk ρ H (centre.register_plan d o key C)
+  register-ok d o key device origin fits = by (registered d C) refl
+    where
+      by : (w : Option (ℕ × List ℕ)) → registered d C ≡ w → OkTold (centre.told_registered d) (registered_act d o key (option_map (λ x. device_row_with d C x) w))
+      by None has = ok-made ρ H (r.Registered d) (c.Registered d o key) refl tt (λ n k h. absurd (cc)) (record { fits = has; on = on; range = (device, origin, fits); sure = tt })
+      by (Some x) has = no-ok no.Known tt
 
-  pub flag-ok : (w : ℕ) (s : Bool) → IsCustomer w → (t : Bool) → opened w (counted H) ≡ t → PlanOk ρ H (centre.flag_plan w s t)
-  flag-ok w s range true has = ok-made ρ H (r.Flagged w s) (c.Flagged w s) refl tt (λ n k h. absurd (cc)) (record { fits = has; on = on; range = range; sure = tt })
-  flag-ok w s range false has = no-ok (no.UnknownCustomer w) tt
+  -- the row of a customer, where it is open
+  abbrev if-open : ℕ → Bool → Option CustomerRow
+  if-open w t = if t then Some (customer_row_with w C) else None
 
-  pub balance-ok : (w n : ℕ) (t : Bool) → PlanOk ρ H (centre.balance_plan w n t)
-  balance-ok w n true = record { sane = tt; plain = refl; no_up = λ l k h. refl; fit = λ x h. absurd (none-some _ h); keeps = λ j. j }
-  balance-ok w n false = no-ok (no.UnknownCustomer w) tt
+  pub open-ok : (w : ℕ) → IsCustomer w → PlanOk ρ H (centre.open_plan w C)
+  open-ok w range = by (opened w C) refl
+    where
+      by : (t : Bool) → opened w C ≡ t → OkTold (centre.told_opened w) (opened_act w (if-open w t))
+      by true has = no-ok no.Known tt
+      by false has = ok-made ρ H (r.Opened w) (c.Opened w) refl tt (λ n k h. absurd (cc)) (record { fits = has; on = on; range = range; sure = tt })
 
-  pub deposit-ok : (w n a : ℕ) → IsCustomer w → IsWord n → IsWord a → (t : Bool) → opened w (counted H) ≡ t → PlanOk ρ H (centre.deposit_plan w n a (receipt w (counted H)) (deposits w (counted H)) t)
-  deposit-ok w n a range receipts amounts false has = no-ok (no.UnknownCustomer w) tt
-  deposit-ok w n a range receipts amounts true has =
-      let C = counted H in
+  pub flag-ok : (w : ℕ) (s : Bool) → IsCustomer w → PlanOk ρ H (centre.flag_plan w s C)
+  flag-ok w s range = by (opened w C) refl
+    where
+      by : (t : Bool) → opened w C ≡ t → OkTold (centre.told_flagged w s) (flagged_act w s (if-open w t))
+      by true has = ok-made ρ H (r.Flagged w s) (c.Flagged w s) refl tt (λ n k h. absurd (cc)) (record { fits = has; on = on; range = range; sure = tt })
+      by false has = no-ok (no.UnknownCustomer w) tt
+
+  pub balance-ok : (w : ℕ) → PlanOk ρ H (centre.balance_plan w C)
+  balance-ok w = by (opened w C)
+    where
+      by : (t : Bool) → OkTold (centre.told_balance w) (left_act w (balance w C) (if-open w t))
+      by true = told-ok (r.Balance w (balance w C)) tt refl
+      by false = no-ok (no.UnknownCustomer w) tt
+
+  deposited-ok : (w n a : ℕ) → IsCustomer w → IsWord n → IsWord a → opened w C ≡ true
+      → OkTold (centre.told_deposited w n) (taken_act w n a (customer_row_with w C) (deposited_row (customer_row_with w C) n a (deposit_answer (receipt w C) (deposits w C) n a)))
+  deposited-ok w n a range receipts amounts has =
       let last = receipt w C in
       let sum = deposits w C in
-      let P = λ (z : Result (Option ℕ) CentreRefusal). PlanOk ρ H (centre.deposit_answered w n a sum z) in
+      let P = λ (z : Result (Option ℕ) CentreRefusal). OkTold (centre.told_deposited w n) (taken_act w n a (customer_row_with w C) (deposited_row (customer_row_with w C) n a z)) in
       chosen P ((n == last.0) && nat_lt 0 n) _ _
       (λ _. chosen P (a == last.1) (Ok None) (Err (no.Conflict last.1))
-      (λ _. record { sane = tt; plain = refl; no_up = λ l k h. refl; fit = λ x h. absurd (none-some _ h); keeps = λ j. j })
+      (λ _. told-ok (r.Deposited w n true sum) tt refl)
       (λ _. no-ok (no.Conflict last.1) tt))
-      (λ _. first P (centre.deposit_rows last sum n a) (Ok (Some (sum + a)))
+      (λ _. first P (deposit_rows last sum n a) (Ok (Some (sum + a)))
       (no-ok (no.WrongReceipt last.0) tt, (no-ok (no.BadAmount a) tt, (no-ok (no.DepositsFull sum) tt, tt)))
       (λ rows.
       let amount = or_parts (a == 0) (nat_lt 1000000000 a) rows.1.0 in
@@ -199,107 +239,125 @@ module _ (ρ : Rules) (H : Ledger) (i : Inv ρ H) (on : is_on Centre H ≡ true)
         sure = tt;
       })))
 
+  pub deposit-ok : (w n a : ℕ) → IsCustomer w → IsWord n → IsWord a → PlanOk ρ H (centre.deposit_plan w n a C)
+  deposit-ok w n a range receipts amounts = by (opened w C) refl
+    where
+      by : (t : Bool) → opened w C ≡ t → OkTold (centre.told_deposited w n) (deposited_act w n a (if-open w t))
+      by false has = no-ok (no.UnknownCustomer w) tt
+      by true has = deposited-ok w n a range receipts amounts has
+
   -- == a Request ==
 
   -- a Request that was ruled last is the stored one
-  stored-same : (bytes : List ℕ) (q : Request) → read bytes ≡ Ok (m.Request q) → IsSent bytes H → q.number ≡ ruled q.device (counted H) → 0 < ruled q.device (counted H)
-      → bytes_eq (centre.stored_note (last_ruling q.device (counted H))) bytes ≡ true
+  stored-same : (bytes : List ℕ) (q : Request) → read bytes ≡ Ok (m.Request q) → IsSent bytes H → q.number ≡ ruled q.device C → 0 < ruled q.device C
+      → bytes_eq (stored_note (last_ruling q.device C)) bytes ≡ true
   stored-same bytes q reads sent same some =
-      let C = counted H in
       let last = last-some ρ q.device C some in
       let asked : note_of q.device q.number C ≡ Some bytes = genuine-at bytes (m.Request q) H C (i.sents bytes sent) reads in
       let one = ruling-asked ρ q.device (ruled q.device C) last.0 C i.good (last-is ρ q.device last.0 C i.good last.1) in
       let two = subst (λ z. note_of q.device z C ≡ Some bytes) same asked in
       let note : last.0.1 ≡ bytes = same_Some _ _ (sym one ∙ two) in
-      subst (λ z. bytes_eq (centre.stored_note z) bytes ≡ true) (sym last.1) (subst (λ z. bytes_eq z bytes ≡ true) (sym note) (bytes_eq-same bytes))
+      subst (λ z. bytes_eq (stored_note z) bytes ≡ true) (sym last.1) (subst (λ z. bytes_eq z bytes ≡ true) (sym note) (bytes_eq-same bytes))
 
-  -- and is sent its Reply again
-  repeat-ok : (d n k : ℕ) → 0 < ruled d (counted H) → (x : Option (Verdict × List ℕ)) → last_ruling d (counted H) ≡ x → (y : Option (List ℕ)) → stored_reply d (counted H) ≡ y → PlanOk ρ H (centre.repeat_plan d n k x y)
-  repeat-ok d n k some None none y stored = absurd (let last = last-some ρ d (counted H) some in some-none (sym last.1 ∙ none))
-  repeat-ok d n k some (Some x) last None none = absurd (stored-is d x (counted H) last none)
-  repeat-ok d n k some (Some x) last (Some y) stored =
-      let C = counted H in
-      let it = stored-vouched ρ d y C i.good stored in
-      record {
-        sane = ruling-sane ρ d (ruled d C) x C i.good (last-is ρ d x C i.good last);
-        plain = refl;
-        no_up = λ l j h. refl;
-        fit = λ z h. absurd (none-some _ h);
-        keeps = λ j. inv-sent ρ H y (record { what = m.Reply it.reply; reads = it.reads; vouched = it.vouched }) j;
-      }
+  -- the row of the device, which is registered so
+  module _ (d k : ℕ) (x : ℕ × List ℕ) where
+    abbrev row : DeviceRow
+    row = device_row_with d C x
 
-  -- a Request of the next number is ruled
-  new-ok : (bytes : List ℕ) (q : Request) (k : ℕ) → read bytes ≡ Ok (m.Request q) → note_of q.device q.number (counted H) ≡ Some bytes → q.number ≡ ruled q.device (counted H) + 1 → (x : ℕ × List ℕ) → registered q.device (counted H) ≡ Some x
-      → PlanOk ρ H (centre.rule_answered k bytes q (counted H) (Ok false))
-  new-ok bytes q k reads asked next x has =
-      let C = counted H in
-      let d = q.device in
-      let n = q.number in
-      let it = note-reads ρ d n bytes C i.good asked in
-      let is : request_in bytes ≡ q = request_in-read bytes q reads in
-      let shown : Shown q (bought d C) (returned d C) = subst (λ (z : Request). Shown z (bought d C) (returned d C)) is (new-shown ρ d n bytes C i.good asked (omega arith)) in
-      let whole : IsWhole (m.Request q) = subst (λ (z : Request). IsWhole (m.Request z)) is it.whole in
-      let reply = reply-whole ρ q C i.good whole shown in
-      record {
-        sane = never-imbalance ρ C q shown;
-        plain = refl;
-        no_up = λ l j h. absurd (cc);
-        fit = λ y h. subst (IsFit ρ H) (same_Some _ _ h) (record {
-          fits = record {
-            next = next;
-            asked_as = asked;
-            known = (x, has);
-            verdict = ap (λ (z : Request). (verdict C z).0) (sym is);
-            whole = subst (λ (z : Request). IsWhole (m.Reply (reply_to C z))) (sym is) reply;
-          };
-          on = on;
-          range = it.range;
-          sure = tt;
-        });
-        keeps = λ j. inv-sent ρ (e.Commit (c.Ruled d n (verdict C q).0 bytes) ∷ H) (reply_note C q) (record {
-          what = m.Reply (reply_to C q);
-          reads = read-spell (m.Reply (reply_to C q)) (key_in (registered d C)) reply;
-          vouched = reply-vouched ρ d n (verdict C q).0 bytes q C is whole refl refl refl (omega arith);
-        }) j;
-      }
+    -- what is given again is the stored Reply, with its verdict
+    again-ok : (y : List ℕ) → stored_reply d C ≡ Some y → OkTold (centre.told_taken k) (repeated_act row (ruling_in row))
+    unfolding ruling_in
+    again-ok y stored =
+        let it = stored-vouched ρ d y C i.good stored in
+        let reads : read row.reply ≡ Ok (m.Reply it.reply) = ap (λ o. read (note_or_none o)) stored ∙ it.reads in
+        subst (λ o. OkTold (centre.told_taken k) (repeated_act row o)) (sym (ap (λ z. ruling_read z row.request) reads)) (record {
+          sane = ruling-sane ρ it.reply.device it.reply.number (it.reply.verdict, it.vouched.note) C i.good it.vouched.ruled_as;
+          plain = refl;
+          no_up = λ l j h. refl;
+          fit = λ z h. absurd (none-some _ h);
+          keeps = λ j. inv-sent ρ H row.reply (record { what = m.Reply it.reply; reads = reads; vouched = it.vouched }) j;
+        })
 
-  rule-ok : (bytes : List ℕ) (q : Request) (k : ℕ) → read bytes ≡ Ok (m.Request q) → IsSent bytes H → (x : ℕ × List ℕ) → registered q.device (counted H) ≡ Some x → PlanOk ρ H (centre.rule_plan k bytes q (counted H))
-  rule-ok bytes q k reads sent x has =
-      let C = counted H in
-      let d = q.device in
-      let n = q.number in
-      let g = ruled d C in
-      let P = λ (z : Result Bool CentreRefusal). PlanOk ρ H (centre.rule_answered k bytes q C z) in
-      let asked : note_of d n C ≡ Some bytes = genuine-at bytes (m.Request q) H C (i.sents bytes sent) reads in
-      chosen P (nat_lt n g || (n == 0)) _ _
-      (λ _. no-ok (no.Old g) tt)
-      (λ old.
-      let parts = or_parts (nat_lt n g) (n == 0) old in
-      let low : g ≤ n = ltb-false n g parts.0 in
-      let some : n ≡ 0 → ⊥ = eqb-false n 0 parts.1 in
-      chosen P (n == g) _ _
-      (λ same.
-      let is : n ≡ g = eqb-true n g same in
-      chosen P (bytes_eq (centre.stored_note (last_ruling d C)) bytes) (Ok true) (Err (no.Changed g))
-      (λ _. repeat-ok d n k (omega arith) (last_ruling d C) refl (stored_reply d C) refl)
-      (λ t. absurd (true≢false (sym (stored-same bytes q reads sent is (omega arith)) ∙ t))))
-      (λ not_same.
-      let apart : n ≡ g → ⊥ = eqb-false n g not_same in
-      chosen P (nat_lt (g + 1) n) (Err (no.Ahead g)) (Ok false)
-      (λ t. absurd (let up = ltb-true (g + 1) n t in let l = link ρ d C i.good in let le = note-le ρ d n bytes C i.good asked in omega arith))
-      (λ ahead. let high : n ≤ g + 1 = ltb-false (g + 1) n ahead in new-ok bytes q k reads asked (omega arith) x has)))
+    repeat-ok : 0 < ruled d C → OkTold (centre.told_taken k) (repeated_act row (ruling_in row))
+    repeat-ok some = by (stored_reply d C) refl
+      where
+        by : (y : Option (List ℕ)) → stored_reply d C ≡ y → OkTold (centre.told_taken k) (repeated_act row (ruling_in row))
+        by None none = let last = last-some ρ d C some in absurd (stored-is d last.0 C last.1 none)
+        by (Some y) stored = again-ok y stored
+
+  module _ (bytes : List ℕ) (q : Request) (k : ℕ) (reads : read bytes ≡ Ok (m.Request q)) (x : ℕ × List ℕ) (has : registered q.device C ≡ Some x) where
+    abbrev OkTurn : Result Bool CentreRefusal → Type 0
+    OkTurn z = OkTold (centre.told_taken k) (turn_act bytes q (row q.device k x) (centre.in_commits C) z)
+
+    -- a Request of the next number is ruled
+    new-ok : note_of q.device q.number C ≡ Some bytes → q.number ≡ ruled q.device C + 1 → OkTurn (Ok false)
+    new-ok asked next =
+        let d = q.device in
+        let n = q.number in
+        let it = note-reads ρ d n bytes C i.good asked in
+        let is : request_in bytes ≡ q = request_in-read bytes q reads in
+        let shown : Shown q (bought d C) (returned d C) = subst (λ (z : Request). Shown z (bought d C) (returned d C)) is (new-shown ρ d n bytes C i.good asked (omega arith)) in
+        let whole : IsWhole (m.Request q) = subst (λ (z : Request). IsWhole (m.Request z)) is it.whole in
+        let reply = reply-whole ρ q C i.good whole shown in
+        let order = centre-order ρ C i.good in
+        subst (PlanOk ρ H) (λ j. let v = sym (verdict-is C order q x) j in made (r.Ruled d n v false k) (c.Ruled d n v bytes) (e.Sent (sym (reply-is C order q x bytes has) j) ∷ [])) (record {
+          sane = never-imbalance ρ C q shown;
+          plain = refl;
+          no_up = λ l j h. absurd (cc);
+          fit = λ y h. subst (IsFit ρ H) (same_Some _ _ h) (record {
+            fits = record {
+              next = next;
+              asked_as = asked;
+              known = (x, has);
+              verdict = ap (λ (z : Request). (verdict C z).0) (sym is);
+              whole = subst (λ (z : Request). IsWhole (m.Reply (reply_to C z))) (sym is) reply;
+            };
+            on = on;
+            range = it.range;
+            sure = tt;
+          });
+          keeps = λ j. inv-sent ρ (e.Commit (c.Ruled d n (verdict C q).0 bytes) ∷ H) (reply_note C q) (record {
+            what = m.Reply (reply_to C q);
+            reads = read-spell (m.Reply (reply_to C q)) (key_in (registered d C)) reply;
+            vouched = reply-vouched ρ d n (verdict C q).0 bytes q C is whole refl refl refl (omega arith);
+          }) j;
+        })
+
+    rule-ok : IsSent bytes H → OkTurn (turn_answer (ruled q.device C) (stored_note (last_ruling q.device C)) q.number bytes)
+    rule-ok sent =
+        let d = q.device in
+        let n = q.number in
+        let g = ruled d C in
+        let asked : note_of d n C ≡ Some bytes = genuine-at bytes (m.Request q) H C (i.sents bytes sent) reads in
+        chosen OkTurn (nat_lt n g || (n == 0)) _ _
+        (λ _. no-ok (no.Old g) tt)
+        (λ old.
+        let parts = or_parts (nat_lt n g) (n == 0) old in
+        let low : g ≤ n = ltb-false n g parts.0 in
+        let some : n ≡ 0 → ⊥ = eqb-false n 0 parts.1 in
+        chosen OkTurn (n == g) _ _
+        (λ same.
+        let is : n ≡ g = eqb-true n g same in
+        chosen OkTurn (bytes_eq (stored_note (last_ruling d C)) bytes) (Ok true) (Err (no.Changed g))
+        (λ _. repeat-ok d k x (omega arith))
+        (λ t. absurd (true≢false (sym (stored-same bytes q reads sent is (omega arith)) ∙ t))))
+        (λ not_same.
+        let apart : n ≡ g → ⊥ = eqb-false n g not_same in
+        chosen OkTurn (nat_lt (g + 1) n) (Err (no.Ahead g)) (Ok false)
+        (λ t. absurd (let up = ltb-true (g + 1) n t in let l = link ρ d C i.good in let le = note-le ρ d n bytes C i.good asked in omega arith))
+        (λ ahead. let high : n ≤ g + 1 = ltb-false (g + 1) n ahead in new-ok asked (omega arith))))
 
   -- == a Done ==
 
-  settle-ok : (q : DoneMsg) (bytes : List ℕ) → read bytes ≡ Ok (m.Done q) → IsSent bytes H → PlanOk ρ H (centre.settle_answered q.device q.number (centre.settle_answer (settled q.device (counted H)) (ruled q.device (counted H)) q.number))
-  settle-ok q bytes reads sent =
-      let C = counted H in
+  settle-ok : (q : DoneMsg) (bytes : List ℕ) (k : ℕ) (x : ℕ × List ℕ) → read bytes ≡ Ok (m.Done q) → IsSent bytes H
+      → OkTold (centre.told_taken k) (settled_act (row q.device k x) q.number (settled_row (row q.device k x) (settle_answer (settled q.device C) (ruled q.device C) q.number)))
+  settle-ok q bytes k x reads sent =
       let d = q.device in
       let n = q.number in
-      let P = λ (z : Result (Option ℕ) CentreRefusal). PlanOk ρ H (centre.settle_answered d n z) in
+      let P = λ (z : Result (Option ℕ) CentreRefusal). OkTold (centre.told_taken k) (settled_act (row d k x) n (settled_row (row d k x) z)) in
       let applied : (v : Verdict) × (applied_of d n C ≡ Some v) = genuine-at bytes (m.Done q) H C (i.sents bytes sent) reads in
       chosen P (nat_le n (settled d C)) _ _
-      (λ _. record { sane = tt; plain = refl; no_up = λ l k h. refl; fit = λ x h. absurd (none-some _ h); keeps = λ j. j })
+      (λ _. told-ok (r.Settled d n true) tt refl)
       (λ new. chosen P (n == ruled d C) (Ok (Some n)) (Err (no.Ahead (ruled d C)))
       (λ same.
       let is : n ≡ ruled d C = eqb-true n (ruled d C) same in
@@ -317,26 +375,32 @@ module _ (ρ : Rules) (H : Ledger) (i : Inv ρ H) (on : is_on Centre H ≡ true)
       let apart : n ≡ ruled d C → ⊥ = eqb-false n (ruled d C) t in
       omega arith))))
 
-  pub centre-ok : (k : ℕ) (bytes : List ℕ) (x : Result Message Unread) → read bytes ≡ x → IsKnown bytes x Centre H → PlanOk ρ H (centre.centre_take k bytes x (counted H))
-  centre-ok k bytes (Ok (m.Request q)) reads known = keyed (registered q.device (counted H)) refl
+  taken-ok : (k : ℕ) (bytes : List ℕ) (x : Result Message Unread) → read bytes ≡ x → IsKnown bytes x Centre H → OkTold (centre.told_taken k) (message_act bytes (centre.in_commits C) x)
+  taken-ok k bytes (Ok (m.Request q)) reads known = keyed (registered q.device C) refl
     where
-      keyed : (w : Option (ℕ × List ℕ)) → registered q.device (counted H) ≡ w → PlanOk ρ H (centre.request_plan k bytes q w (counted H))
+      keyed : (w : Option (ℕ × List ℕ)) → registered q.device C ≡ w → OkTold (centre.told_taken k) (request_act bytes q (option_map (λ x. device_row_with q.device C x) w) (centre.in_commits C))
       keyed None has = no-ok (no.UnknownDevice q.device) tt
-      keyed (Some x) has = chosen (PlanOk ρ H) (has_code x.1 bytes) _ _
-          (λ t. rule-ok bytes q k reads (known x has t) x has)
+      keyed (Some x) has = chosen (λ (act : CentreAct CentreAnswer). OkTold (centre.told_taken k) act) (has_code x.1 bytes) _ _
+          (λ t. rule-ok bytes q k reads x has (known x has t))
           (λ _. no-ok no.BadCode tt)
-  centre-ok k bytes (Ok (m.Done q)) reads known = keyed (registered q.device (counted H)) refl
+  taken-ok k bytes (Ok (m.Done q)) reads known = keyed (registered q.device C) refl
     where
-      keyed : (w : Option (ℕ × List ℕ)) → registered q.device (counted H) ≡ w → PlanOk ρ H (centre.done_plan bytes q w (settled q.device (counted H)) (ruled q.device (counted H)))
+      keyed : (w : Option (ℕ × List ℕ)) → registered q.device C ≡ w → OkTold (centre.told_taken k) (done_act bytes q (option_map (λ x. device_row_with q.device C x) w))
       keyed None has = no-ok (no.UnknownDevice q.device) tt
-      keyed (Some x) has = chosen (PlanOk ρ H) (has_code x.1 bytes) _ _
-          (λ t. settle-ok q bytes reads (known x has t))
+      keyed (Some x) has = chosen (λ (act : CentreAct CentreAnswer). OkTold (centre.told_taken k) act) (has_code x.1 bytes) _ _
+          (λ t. settle-ok q bytes k x reads (known x has t))
           (λ _. no-ok no.BadCode tt)
-  centre-ok k bytes (Ok (m.Reply p)) reads known = no-ok (no.Unread unread.Tag) tt
-  centre-ok k bytes (Ok (m.Debit p)) reads known = no-ok (no.Unread unread.Tag) tt
-  centre-ok k bytes (Ok (m.Release x)) reads known = no-ok (no.Unread unread.Tag) tt
-  centre-ok k bytes (Err x) reads known = no-ok (no.Unread x) tt
+  taken-ok k bytes (Ok (m.Reply p)) reads known = no-ok (no.Unread unread.Tag) tt
+  taken-ok k bytes (Ok (m.Debit p)) reads known = no-ok (no.Unread unread.Tag) tt
+  taken-ok k bytes (Ok (m.Release x)) reads known = no-ok (no.Unread unread.Tag) tt
+  taken-ok k bytes (Err x) reads known = no-ok (no.Unread x) tt
 
-  pub reconcile-ok : (d sum : ℕ) (w : Option (ℕ × List ℕ)) → PlanOk ρ H (centre.reconcile_plan d sum w (counted H))
-  reconcile-ok d sum None = no-ok (no.UnknownDevice d) tt
-  reconcile-ok d sum (Some x) = record { sane = tt; plain = refl; no_up = λ l k h. refl; fit = λ y h. absurd (none-some _ h); keeps = λ j. j }
+  pub centre-ok : (k : ℕ) (bytes : List ℕ) → IsKnown bytes (read bytes) Centre H → PlanOk ρ H (centre.take_plan k bytes C)
+  centre-ok k bytes known = taken-ok k bytes (read bytes) refl known
+
+  pub reconcile-ok : (d total : ℕ) → PlanOk ρ H (centre.reconcile_plan d total C)
+  reconcile-ok d total = by (registered d C)
+    where
+      by : (w : Option (ℕ × List ℕ)) → OkTold (centre.told_standing d total) (stood_act d (option_map (λ x. centre.standing_after d C) w))
+      by None = no-ok (no.UnknownDevice d) tt
+      by (Some x) = let a = centre.standing_after d C in told-ok (r.Reconciled d total a.centre a.in_flight) tt refl

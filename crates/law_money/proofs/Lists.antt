@@ -14,7 +14,7 @@ use Rattle.ledger_terms.specs.Sums.{applied_list, ruled_list}
 use Rattle.ledger_terms.specs.Devices.{asked, number, pending}
 use Rattle.ledger_terms.specs.Centres.{ruled}
 use Rattle.ledger_terms.specs.InFlight.{ruling_of}
-use Rattle.centre_ledger.specs.Answers.{last_ruling}
+use Rattle.centre_ledger.specs.Records.{last_ruling}
 use Rattle.law_good.proofs.Good.{Good, Fits}
 use Rattle.law_money.proofs.Links.{link, waits, waits-some, ruling-le, note-le}
 use Rattle.law_money.proofs.Money.{last-is, ruling-asked}

@@ -20,7 +20,7 @@ use Rattle.ledger_terms.specs.Devices.{asked, number, applied_of, pending, unles
 use Rattle.ledger_terms.specs.Centres.{ruled, settled}
 use Rattle.ledger_terms.specs.InFlight.{ruling_of, ruled_sum_to, acknowledged_resets, acknowledged_refunds, in_flight, flight_of, flight}
 use Rattle.ledger_terms.specs.Rulings.{reply_to, ruled_reply}
-use Rattle.centre_ledger.specs.Answers.{last_ruling}
+use Rattle.centre_ledger.specs.Records.{last_ruling}
 use Rattle.centre_ledger.proofs.Standings.{sum-to_all}
 use Rattle.law_good.proofs.Good.{Good, Fits}
 use Rattle.law_good.proofs.Kept.{note-kept}

@@ -19,7 +19,7 @@ use Rattle.ledger_terms.specs.Sums.{adds, takes, buy_of, return_of, clears, load
 use Rattle.ledger_terms.specs.Devices.{asked, number, pending}
 use Rattle.ledger_terms.specs.Centres.{ruled, settled}
 use Rattle.ledger_terms.specs.InFlight.{ruling_of}
-use Rattle.centre_ledger.specs.Answers.{last_ruling}
+use Rattle.centre_ledger.specs.Records.{last_ruling}
 use Rattle.ledger_lawful.specs.Further.{Begins, IsCovered}
 use Rattle.law_good.proofs.Good.{Good, Fits}
 use Rattle.law_money.proofs.Links.{link, waits, waits-some, ruling-le}

@@ -6,9 +6,7 @@ use Rattle.bench_base.specs.declared.words.Node.TheVariants.{Device, Centre, Hos
 use Rattle.bench_base.specs.declared.refusals.Unread.{Unread}
 use Rattle.bench_base.specs.declared.refusals.MarkFault.{MarkFault}
 use Rattle.bench_base.specs.declared.refusals.RateRefusal.{RateRefusal}
-use Rattle.bench_base.specs.declared.refusals.CentreRefusal.{CentreRefusal}
 use Rattle.bench_base.specs.declared.refusals.ScanRefusal.{ScanRefusal}
-use Rattle.bench_base.specs.declared.words.Verdict.{Verdict}
 use Rattle.bench_base.specs.declared.ledger.Commit.{Commit}
 use Rattle.bench_base.specs.declared.ledger.Commit.TheVariants.{Accepted}
 use Rattle.bench_base.specs.declared.ledger.Entry.{Entry}
@@ -33,19 +31,19 @@ use Rattle.indicium.specs.declared.Mark.{Mark}
 use Rattle.indicium.specs.Marks.{read_mark}
 use Rattle.psd_wire.specs.declared.message.Message.{Message}
 use Rattle.psd_wire.specs.declared.message.Message.TheVariants as m
-use Rattle.psd_wire.specs.declared.message.Request.{Request}
-use Rattle.psd_wire.specs.declared.message.DoneMsg.{DoneMsg}
 use Rattle.psd_wire.specs.Codes.{has_code}
 use Rattle.psd_wire.specs.Grammar.{read}
 use Rattle.ledger_terms.specs.Devices.{key_of, pending}
-use Rattle.ledger_terms.specs.Centres.{registered, opened, receipt, deposits, balance, ruled, settled}
-use Rattle.ledger_terms.specs.Rulings.{stored_reply}
 use Rattle.psd_state.specs.State.{State}
 use Rattle.psd_state.specs.Acts as acts
 use Rattle.psd_state.specs.Acts.{DeviceAct}
 use Rattle.psd_state.specs.declared.acts.Taken.{Taken}
 use Rattle.psd_state.specs.declared.acts.Taken.TheVariants as taken
-use Rattle.centre_ledger.specs.Answers as centre
+use Rattle.centre_ledger.specs.declared.taking.CentreAnswer.{CentreAnswer}
+use Rattle.centre_ledger.specs.declared.taking.CentreAnswer.TheVariants as answer
+use Rattle.centre_ledger.specs.Acts as centre_acts
+use Rattle.centre_ledger.specs.Plans as centre
+use Rattle.centre_ledger.proofs.Own.{open_own, flag_own, deposit_own, left_own, register_own, stood_own, take_own as centre_take_own}
 use Rattle.host_jobs.specs.Acts.{LookUps, order_by, debit_message_by, begin_print_by, close_by, take_by}
 use Rattle.host_jobs.specs.Plans as host
 use Rattle.host_jobs.proofs.Own.{order_own, send_own, print_own, close_own, take_own}
@@ -67,6 +65,10 @@ use Rattle.law_scans.proofs.Entries.{Is, AllBring, PlanBrings}
 of_device : (P : ℕ → ℕ → ℕ → Type 0) (d : ℕ) (c : Commit) → node_of c ≡ Device d → Is P c
 of_device P d (Accepted e p n) own = absurd (cc)
 of_device P d _ own = tt
+
+of_centre : (P : ℕ → ℕ → ℕ → Type 0) (c : Commit) → node_of c ≡ Centre → Is P c
+of_centre P (Accepted e p n) own = absurd (cc)
+of_centre P _ own = tt
 
 of_host : (P : ℕ → ℕ → ℕ → Type 0) (c : Commit) → node_of c ≡ Host → Is P c
 of_host P (Accepted e p n) own = absurd (cc)
@@ -120,72 +122,34 @@ module _ (P : ℕ → ℕ → ℕ → Type 0) (H : Ledger) where
 
   -- == the centre ==
 
-  open_ok : (w : ℕ) (b : Bool) → Clean (centre.open_plan w b)
-  open_ok w true = (tt, tt)
-  open_ok w false = (tt, tt)
+  abbrev shown : centre_acts.LookUps
+  shown = centre.in_commits (counted H)
 
-  flag_ok : (w : ℕ) (flag b : Bool) → Clean (centre.flag_plan w flag b)
-  flag_ok w flag true = (tt, tt)
-  flag_ok w flag false = (tt, tt)
+  open_ok : (w : ℕ) → Clean (centre.open_plan w (counted H))
+  open_ok w = said_ok Centre r.CentreRefused (centre.told_opened w) (centre_acts.open_by w shown) (of_centre P) (open_own w (shown.customer w)) (λ u. tt)
 
-  deposited_ok : (w n a total : ℕ) (x : Result (Option ℕ) CentreRefusal) → Clean (centre.deposit_answered w n a total x)
-  deposited_ok w n a total (Err x) = (tt, tt)
-  deposited_ok w n a total (Ok None) = (tt, tt)
-  deposited_ok w n a total (Ok (Some after)) = (tt, tt)
+  flag_ok : (w : ℕ) (flag : Bool) → Clean (centre.flag_plan w flag (counted H))
+  flag_ok w flag = said_ok Centre r.CentreRefused (centre.told_flagged w flag) (centre_acts.flag_by w flag shown) (of_centre P) (flag_own w flag (shown.customer w)) (λ u. tt)
 
-  deposit_ok : (w n a : ℕ) (last : ℕ × ℕ) (total : ℕ) (b : Bool) → Clean (centre.deposit_plan w n a last total b)
-  deposit_ok w n a last total true = deposited_ok w n a total (centre.deposit_answer last total n a)
-  deposit_ok w n a last total false = (tt, tt)
+  deposit_ok : (w n a : ℕ) → Clean (centre.deposit_plan w n a (counted H))
+  deposit_ok w n a = said_ok Centre r.CentreRefused (centre.told_deposited w n) (centre_acts.deposit_by w n a shown) (of_centre P) (deposit_own w n a (shown.customer w)) (λ d. tt)
 
-  balance_ok : (w n : ℕ) (b : Bool) → Clean (centre.balance_plan w n b)
-  balance_ok w n true = (tt, tt)
-  balance_ok w n false = (tt, tt)
+  balance_ok : (w : ℕ) → Clean (centre.balance_plan w (counted H))
+  balance_ok w = said_ok Centre r.CentreRefused (centre.told_balance w) (centre_acts.balance_by w shown) (of_centre P) (left_own w (shown.left w) (shown.customer w)) (λ left. tt)
 
-  register_ok : (d origin : ℕ) (key : List ℕ) (o : Option (ℕ × List ℕ)) → Clean (centre.register_plan d origin key o)
-  register_ok d origin key None = (tt, tt)
-  register_ok d origin key (Some x) = (tt, tt)
+  register_ok : (d origin : ℕ) (key : List ℕ) → Clean (centre.register_plan d origin key (counted H))
+  register_ok d origin key = said_ok Centre r.CentreRefused (centre.told_registered d) (centre_acts.register_by d origin key shown) (of_centre P) (register_own d origin key (shown.device d)) (λ u. tt)
 
-  repeat_ok : (d n k : ℕ) (o : Option (Verdict × List ℕ)) (reply : Option (List ℕ)) → Clean (centre.repeat_plan d n k o reply)
-  repeat_ok d n k (Some x) (Some reply) = (tt, (tt, tt))
-  repeat_ok d n k (Some x) None = (tt, tt)
-  repeat_ok d n k None reply = (tt, tt)
-
-  rule_ok : (k : ℕ) (bytes : List ℕ) (q : Request) (x : Result Bool CentreRefusal) → Clean (centre.rule_answered k bytes q (counted H) x)
-  rule_ok k bytes q (Err x) = (tt, tt)
-  rule_ok k bytes q (Ok true) = repeat_ok q.device q.number k (centre.last_ruling q.device (counted H)) (stored_reply q.device (counted H))
-  rule_ok k bytes q (Ok false) = (tt, (tt, tt))
-
-  request_ok : (k : ℕ) (bytes : List ℕ) (q : Request) (o : Option (ℕ × List ℕ)) → Clean (centre.request_plan k bytes q o (counted H))
-  request_ok k bytes q None = (tt, tt)
-  request_ok k bytes q (Some x) = chosen Clean (has_code x.1 bytes) _ _ (λ good. rule_ok k bytes q _) (λ bad. (tt, tt))
-
-  settled_ok : (d n : ℕ) (x : Result (Option ℕ) CentreRefusal) → Clean (centre.settle_answered d n x)
-  settled_ok d n (Err x) = (tt, tt)
-  settled_ok d n (Ok None) = (tt, tt)
-  settled_ok d n (Ok (Some now)) = (tt, tt)
-
-  done_ok : (bytes : List ℕ) (q : DoneMsg) (o : Option (ℕ × List ℕ)) (settled ruled : ℕ) → Clean (centre.done_plan bytes q o settled ruled)
-  done_ok bytes q None settled ruled = (tt, tt)
-  done_ok bytes q (Some x) settled ruled = chosen Clean (has_code x.1 bytes) _ _ (λ good. settled_ok q.device q.number _) (λ bad. (tt, tt))
-
-  take_ok : (k : ℕ) (bytes : List ℕ) (x : Result Message Unread) → Clean (centre.centre_take k bytes x (counted H))
-  take_ok k bytes (Ok (m.Request q)) = request_ok k bytes q (registered q.device (counted H))
-  take_ok k bytes (Ok (m.Done q)) = done_ok bytes q (registered q.device (counted H)) _ _
-  take_ok k bytes (Ok (m.Reply p)) = (tt, tt)
-  take_ok k bytes (Ok (m.Debit q)) = (tt, tt)
-  take_ok k bytes (Ok (m.Release x)) = (tt, tt)
-  take_ok k bytes (Err x) = (tt, tt)
+  took_ok : (k : ℕ) (a : CentreAnswer) → AllBring P (tells (centre.told_taken k a))
+  took_ok k (answer.Ruled d n v note again) = (tt, tt)
+  took_ok k (answer.Settled d n again) = tt
 
   centre_ok : (bytes : List ℕ) → Clean (moves.centre_plan bytes H)
-  centre_ok bytes = at Centre _ (take_ok (messages H) bytes (read bytes))
-
-  reconciled_ok : (d total : ℕ) (o : Option (ℕ × List ℕ)) → Clean (centre.reconcile_plan d total o (counted H))
-  reconciled_ok d total None = (tt, tt)
-  reconciled_ok d total (Some x) = (tt, tt)
+  centre_ok bytes = at Centre _ (said_ok Centre r.CentreRefused (centre.told_taken (messages H)) (centre_acts.take_by bytes shown) (of_centre P) (centre_take_own bytes shown (read bytes)) (took_ok (messages H)))
 
   reconcile_ok : (d : ℕ) (key : Option (List ℕ)) → Clean (moves.reconcile_plan d key (counted H))
   reconcile_ok d None = (tt, tt)
-  reconcile_ok d (Some key) = reconciled_ok d _ (registered d (counted H))
+  reconcile_ok d (Some key) = said_ok Centre r.CentreRefused (centre.told_standing d _) (centre_acts.stand_by d shown) (of_centre P) (stood_own d (shown.standing d)) (λ a. tt)
 
   -- == the host ==
 
@@ -298,11 +262,11 @@ module _ (P : ℕ → ℕ → ℕ → Type 0) (H : Ledger) where
     event_ok (ev.Resend d) text today may = at (Device d) _ (resend_ok d (messages H) (key_of d C) (pending d C))
     event_ok (ev.Ack d) text today may = at (Device d) _ (acts_ok d _ _ (acts.ack_act (held d)) (unsaid (Device d) _ _ _ (call_own d today (call.Ack (record { message = messages H })) (held d))) (λ a. (tt, tt)))
     event_ok (ev.Status d) text today may = at (Device d) _ (acts_ok d _ _ (acts.status_act today (held d)) (unsaid (Device d) _ _ _ (call_own d today call.Status (held d))) (λ a. tt))
-    event_ok (ev.Register d origin key) text today may = at Centre _ (register_ok d origin key (registered d C))
-    event_ok (ev.OpenCustomer w) text today may = at Centre _ (open_ok w (opened w C))
-    event_ok (ev.Deposit w n a) text today may = at Centre _ (deposit_ok w n a (receipt w C) (deposits w C) (opened w C))
-    event_ok (ev.Flag w flag) text today may = at Centre _ (flag_ok w flag (opened w C))
-    event_ok (ev.Balance w) text today may = at Centre _ (balance_ok w (balance w C) (opened w C))
+    event_ok (ev.Register d origin key) text today may = at Centre _ (register_ok d origin key)
+    event_ok (ev.OpenCustomer w) text today may = at Centre _ (open_ok w)
+    event_ok (ev.Deposit w n a) text today may = at Centre _ (deposit_ok w n a)
+    event_ok (ev.Flag w flag) text today may = at Centre _ (flag_ok w flag)
+    event_ok (ev.Balance w) text today may = at Centre _ (balance_ok w)
     event_ok (ev.Deliver k) text today may = deliver_ok today k (message k H)
     event_ok (ev.Give n bytes) text today may = give_ok today n bytes
     event_ok (ev.Order d piece class grams zone) text today may = at Host _ (order_ok d piece class (moves.price_by τ class grams zone (rates_in H)))

@@ -29,7 +29,6 @@ use Rattle.psd_wire.specs.declared.message.Message.TheVariants as m
 use Rattle.psd_wire.specs.Grammar.{read}
 use Rattle.psd_wire.proofs.Readings.{read-found, mark_long}
 use Rattle.ledger_terms.specs.Devices.{key_of, pending}
-use Rattle.ledger_terms.specs.Centres.{registered, opened, balance}
 use Rattle.ledger_moves.specs.Devices
 use Rattle.node_acts.specs.Said.{said_plan}
 use Rattle.host_jobs.specs.Acts.{message_act}
@@ -99,7 +98,7 @@ module _ (τ : Tariff) (ρ : Rules) (carried : IsCarried ρ) (H : Ledger) (i : I
   sent-host bytes x reads known = at-ok Host _ (λ on. subst (λ z. PlanOk ρ H (said_plan (host.says host.told_held (message_act z (host.in_commits (counted H)))))) (sym reads) (host-ok ρ carried H i bytes (Ok x) on known))
 
   sent-centre : (bytes : List ℕ) (x : Message) → read bytes ≡ Ok x → IsKnown bytes (Ok x) Centre H → PlanOk ρ H (Moves.centre_plan bytes H)
-  sent-centre bytes x reads known = at-ok Centre _ (λ on. centre-ok ρ H i on (messages H) bytes (read bytes) refl (subst (λ z. IsKnown bytes z Centre H) (sym reads) known))
+  sent-centre bytes x reads known = at-ok Centre _ (λ on. centre-ok ρ H i on (messages H) bytes (subst (λ z. IsKnown bytes z Centre H) (sym reads) known))
 
   -- a message that was sent names one of the devices
   by_tag : (bytes : List ℕ) (today : ℤ) (x : Message) → IsDay today → read bytes ≡ Ok x → GenuineAs bytes x H (counted H) → IsSent bytes H → PlanOk ρ H (Moves.deliver_to ρ today bytes (Ok x) H)
@@ -128,7 +127,7 @@ module _ (τ : Tariff) (ρ : Rules) (carried : IsCarried ρ) (H : Ledger) (i : I
 
   give-ok : (today : ℤ) (n : Node) (bytes : List ℕ) → IsDay today → TakesBytes n → IsGiven bytes → IsKnown bytes (read bytes) n H → PlanOk ρ H (Moves.give_plan ρ today n bytes H)
   give-ok today (Device d) bytes day takes fits known = at-ok (Device d) _ (λ on. device-ok ρ carried H i d (messages H) today bytes on takes day (read bytes) refl known (debit-fits bytes fits.1))
-  give-ok today Centre bytes day takes fits known = at-ok Centre _ (λ on. centre-ok ρ H i on (messages H) bytes (read bytes) refl known)
+  give-ok today Centre bytes day takes fits known = at-ok Centre _ (λ on. centre-ok ρ H i on (messages H) bytes known)
   give-ok today Host bytes day takes fits known = at-ok Host _ (λ on. host-ok ρ carried H i bytes (read bytes) on known)
   give-ok today Verifier bytes day takes fits known = absurd takes
 
@@ -174,7 +173,7 @@ module _ (τ : Tariff) (ρ : Rules) (carried : IsCarried ρ) (H : Ledger) (i : I
 
   reconcile-all : (d : ℕ) (w : Option (List ℕ)) → is_on Centre H ≡ true → PlanOk ρ H (Moves.reconcile_plan d w (counted H))
   reconcile-all d None on = ok-refuse ρ H (r.DevRefused d no.Blank) refl tt
-  reconcile-all d (Some key) on = reconcile-ok ρ H i on d _ (registered d (counted H))
+  reconcile-all d (Some key) on = reconcile-ok ρ H i on d _
 
   day-ok : (x : Event) (text : List ℕ) (today : ℤ) → IsDay today → IsWholeEvent x → Unforged x H → PlanOk ρ H (Moves.plan_on τ ρ H x text today)
   day-ok (ev.Day t) text today day w u = record { sane = tt; plain = refl; no_up = λ n k h. refl; fit = λ y h. absurd (none-some _ h); keeps = λ j. inv-day ρ H t w j }
@@ -189,11 +188,11 @@ module _ (τ : Tariff) (ρ : Rules) (carried : IsCarried ρ) (H : Ledger) (i : I
   day-ok (ev.Resend d) text today day w u = at-ok (Device d) _ (λ _. resend-ok ρ carried H i d (messages H) (key_of d (counted H)) (pending d (counted H)) refl)
   day-ok (ev.Ack d) text today day w u = at-ok (Device d) _ (λ _. ack-ok ρ carried H i d (messages H) (key_of d (counted H)))
   day-ok (ev.Status d) text today day w u = at-ok (Device d) _ (λ _. status-ok ρ carried H i d today (key_of d (counted H)))
-  day-ok (ev.Register d o key) text today day w u = at-ok Centre _ (λ on. register-ok ρ H i on d o key w.0 w.1 w.2 (registered d (counted H)) refl)
-  day-ok (ev.OpenCustomer c) text today day w u = at-ok Centre _ (λ on. open-ok ρ H i on c w (opened c (counted H)) refl)
-  day-ok (ev.Deposit c n a) text today day w u = at-ok Centre _ (λ on. deposit-ok ρ H i on c n a w.0 w.1 w.2 (opened c (counted H)) refl)
-  day-ok (ev.Flag c s) text today day w u = at-ok Centre _ (λ on. flag-ok ρ H i on c s w (opened c (counted H)) refl)
-  day-ok (ev.Balance c) text today day w u = at-ok Centre _ (λ on. balance-ok ρ H i on c (balance c (counted H)) (opened c (counted H)))
+  day-ok (ev.Register d o key) text today day w u = at-ok Centre _ (λ on. register-ok ρ H i on d o key w.0 w.1 w.2)
+  day-ok (ev.OpenCustomer c) text today day w u = at-ok Centre _ (λ on. open-ok ρ H i on c w)
+  day-ok (ev.Deposit c n a) text today day w u = at-ok Centre _ (λ on. deposit-ok ρ H i on c n a w.0 w.1 w.2)
+  day-ok (ev.Flag c s) text today day w u = at-ok Centre _ (λ on. flag-ok ρ H i on c s w)
+  day-ok (ev.Balance c) text today day w u = at-ok Centre _ (λ on. balance-ok ρ H i on c)
   day-ok (ev.Deliver k) text today day w u = deliver-ok k today day (message k H) refl
   day-ok (ev.Give n bytes) text today day w u = give-ok today n bytes day w.0 w.1 u
   day-ok (ev.Order d p k grams zone) text today day w u = at-ok Host _ (λ on. order-ok ρ carried H i d p k on w.0 w.1 w.2 (Moves.price_by τ k grams zone (rates_in H)) (λ a h. price-within k grams zone (rates_in H) a h))

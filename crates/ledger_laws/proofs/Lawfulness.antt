@@ -19,7 +19,7 @@ use Rattle.ledger_terms.specs.Sums.{adds, takes, loaded, descending}
 use Rattle.ledger_terms.specs.Devices.{asked, number, applied_of, pending}
 use Rattle.ledger_terms.specs.Centres.{ruled, deposits, stored_request}
 use Rattle.ledger_terms.specs.InFlight.{ruling_of}
-use Rattle.centre_ledger.specs.Answers.{last_ruling}
+use Rattle.centre_ledger.specs.Records.{last_ruling}
 use Rattle.ledger_lawful.specs.Lawful.{Always, asks, Numbering, NextDebit, Totals, Refunds, AfterApplied, Accounts, Solvent, Days, AcceptedOnce, HeldOnce, held_piece, LawfulAt, Lawful}
 use Rattle.ledger_lawful.specs.Links.{Link}
 use Rattle.ledger_lawful.specs.Further.{HasOwner, NoImbalance, IsFitting}

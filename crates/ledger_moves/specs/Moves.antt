@@ -24,9 +24,8 @@ use Rattle.psd_wire.specs.declared.message.Message.TheVariants as m
 use Rattle.psd_wire.specs.Grammar.{read}
 use Rattle.ledger_terms.specs.Sums.{ascending, descending}
 use Rattle.ledger_terms.specs.Devices.{key_of, pending}
-use Rattle.ledger_terms.specs.Centres.{registered, opened, receipt, deposits, balance}
 use Rattle.psd_wire.specs.declared.message.DebitMsg.{DebitMsg}
-use Rattle.centre_ledger.specs.Answers as centre
+use Rattle.centre_ledger.specs.Plans as centre
 use Rattle.host_jobs.specs.Plans as host
 use Rattle.verifier.specs.Plans as scans
 use Rattle.ledger_moves.specs.Devices as device
@@ -64,7 +63,7 @@ abbrev pub device_plan : Rules → ℤ → ℕ → List ℕ → Ledger → Plan
 device_plan ρ today d bytes H = at_node (Device d) H (device.device_take ρ (messages H) today d bytes (read bytes) (counted H) (key_of d (counted H)))
 
 abbrev pub centre_plan : List ℕ → Ledger → Plan
-centre_plan bytes H = at_node Centre H (centre.centre_take (messages H) bytes (read bytes) (counted H))
+centre_plan bytes H = at_node Centre H (centre.take_plan (messages H) bytes (counted H))
 
 abbrev pub host_plan : List ℕ → Ledger → Plan
 host_plan bytes H = at_node Host H (host.take_plan bytes (counted H))
@@ -99,7 +98,7 @@ scan_sent n today k (Some bytes) H = scan_plan n today (drop 2 bytes) H
 -- the device answers before the centre
 abbrev pub reconcile_plan : ℕ → Option (List ℕ) → List Commit → Plan
 reconcile_plan d None C = device.no_device d no.Blank
-reconcile_plan d (Some key) C = centre.reconcile_plan d (ascending d C + descending d C) (registered d C) C
+reconcile_plan d (Some key) C = centre.reconcile_plan d (ascending d C + descending d C) C
 
 abbrev pub on_plan : Node → Ledger → Plan
 on_plan n H = if is_on n H then refuse (r.OnAlready n) else told (r.Up n (count_of n (counted H))) (e.Up n (count_of n (counted H)) ∷ [])
@@ -122,11 +121,11 @@ plan_on τ ρ H (ev.Ask d kind who a) text today = at_node (Device d) H (device.
 plan_on τ ρ H (ev.Resend d) text today = at_node (Device d) H (device.resend_plan d (messages H) (key_of d (counted H)) (pending d (counted H)))
 plan_on τ ρ H (ev.Ack d) text today = at_node (Device d) H (device.ack_plan d (messages H) (counted H) (key_of d (counted H)))
 plan_on τ ρ H (ev.Status d) text today = at_node (Device d) H (device.status_plan d today (counted H) (key_of d (counted H)))
-plan_on τ ρ H (ev.Register d origin key) text today = at_node Centre H (centre.register_plan d origin key (registered d (counted H)))
-plan_on τ ρ H (ev.OpenCustomer w) text today = at_node Centre H (centre.open_plan w (opened w (counted H)))
-plan_on τ ρ H (ev.Deposit w n a) text today = at_node Centre H (centre.deposit_plan w n a (receipt w (counted H)) (deposits w (counted H)) (opened w (counted H)))
-plan_on τ ρ H (ev.Flag w flag) text today = at_node Centre H (centre.flag_plan w flag (opened w (counted H)))
-plan_on τ ρ H (ev.Balance w) text today = at_node Centre H (centre.balance_plan w (balance w (counted H)) (opened w (counted H)))
+plan_on τ ρ H (ev.Register d origin key) text today = at_node Centre H (centre.register_plan d origin key (counted H))
+plan_on τ ρ H (ev.OpenCustomer w) text today = at_node Centre H (centre.open_plan w (counted H))
+plan_on τ ρ H (ev.Deposit w n a) text today = at_node Centre H (centre.deposit_plan w n a (counted H))
+plan_on τ ρ H (ev.Flag w flag) text today = at_node Centre H (centre.flag_plan w flag (counted H))
+plan_on τ ρ H (ev.Balance w) text today = at_node Centre H (centre.balance_plan w (counted H))
 plan_on τ ρ H (ev.Deliver k) text today = deliver_plan ρ today k (message k H) H
 plan_on τ ρ H (ev.Give n bytes) text today = give_plan ρ today n bytes H
 plan_on τ ρ H (ev.Order d piece class grams zone) text today =

@@ -19,12 +19,13 @@ use Rattle.centre_ledger.specs.declared.rows.CustomerRow.{CustomerRow}
 use Rattle.centre_ledger.specs.Seen as centre
 use Rattle.centre_ledger.specs.Books.{left_in, customer_at}
 use Rattle.centre_ledger.specs.Acts.{left_act}
+use Rattle.centre_ledger.specs.Plans.{says, told_balance}
 use Rattle.ledger_moves.specs.Tariffs.{Tariff}
 use Rattle.ledger_moves.specs.Moves.{answer}
 use Rattle.ledger_moves.specs.Histories.{History}
 use Rattle.bench_views.specs.declared.calls.DeviceCall.TheVariants.{Status}
 use Rattle.bench_views.specs.declared.calls.CentreCall.TheVariants.{Balance}
-use Rattle.bench_views.specs.Centre.{centre_kind, says, left}
+use Rattle.bench_views.specs.Centre.{centre_kind}
 use Rattle.bench_views.specs.Centre as centres
 use Rattle.bench_views.specs.Devices.{device_kind, IsKnown}
 use Rattle.bench_views.specs.Follows.{DevicesFollow, CentreFollows}
@@ -55,8 +56,8 @@ status_answered follows τ H d today history day on named known =
 
 -- what the centre tells of a customer, where it is on: it commits nothing
 left_told : (w n : ℕ) (o : Option CustomerRow) (v : View centre.Seen) → v.on ≡ true
-    → ((seen_plan centre.counting Centre v (says (left w) (left_act w n o))).reply ≡ done_or (r.CentreRefused (no_centre.UnknownCustomer w)) (done_by (says (left w) (left_act w n o))))
-    × (commit_of centre.counting v (says (left w) (left_act w n o)) ≡ None)
+    → ((seen_plan centre.counting Centre v (says (told_balance w) (left_act w n o))).reply ≡ done_or (r.CentreRefused (no_centre.UnknownCustomer w)) (done_by (says (told_balance w) (left_act w n o))))
+    × (commit_of centre.counting v (says (told_balance w) (left_act w n o)) ≡ None)
 left_told w n None v on = (rw on refl, rw on refl)
 left_told w n (Some row) v on = (rw on refl, rw on refl)
 

@@ -20,6 +20,7 @@ use Rattle.psd_wire.specs.Codes.{has_code}
 use Rattle.psd_wire.specs.Grammar.{read}
 use Rattle.psd_state.specs.Seen as device
 use Rattle.centre_ledger.specs.Books.{Books, device_at}
+use Rattle.centre_ledger.specs.Records.{device_row_with}
 use Rattle.centre_ledger.specs.Seen as centre
 use Rattle.centre_ledger.specs.declared.rows.DeviceRow.{DeviceRow}
 use Rattle.verifier.specs.Seen as verifier
@@ -28,7 +29,7 @@ use Rattle.ledger_terms.specs.Devices.{key_of}
 use Rattle.ledger_terms.specs.Centres.{registered}
 use Rattle.ledger_moves.specs.Devices.{record_with, record_in}
 use Rattle.ledger_moves.specs.Histories.{IsKnown, IsKnownMark, IsSentBy}
-use Rattle.bench_views.specs.Centre.{seen_in, device_row_by}
+use Rattle.bench_views.specs.Centre.{seen_in}
 use Rattle.bench_views.proofs.CentreRows.{device_seen}
 use Rattle.told_centre.specs.Cells as centre_cells
 use Rattle.told_scans.specs.Cells as scan_cells
@@ -132,7 +133,7 @@ is_device d is = (grind (arith, nat_tests), grind (arith, nat_tests))
 no_device : (d : ℕ) → (nat_le 1 d && nat_le d 8) ≡ false → IsDevice d → ⊥
 no_device d is named = let low = named.0 in let high = named.1 in grind (arith, nat_tests)
 
-row_key : (d : ℕ) (C : List Commit) (o : Option (ℕ × List ℕ)) → option_map (λ r. r.key) (device_row_by d C o) ≡ option_map (λ x. x.1) o
+row_key : (d : ℕ) (C : List Commit) (o : Option (ℕ × List ℕ)) → option_map (λ r. r.key) (option_map (λ x. device_row_with d C x) o) ≡ option_map (λ x. x.1) o
 row_key d C None = refl
 row_key d C (Some x) = refl
 

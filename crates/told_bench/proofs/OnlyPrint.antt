@@ -3,7 +3,6 @@ use Rattle.std.proofs.Common.{◌≡◌, ℕ, ℤ, pos, ◌+◌, List, [], ◌�
 use Rattle.bench_base.specs.declared.words.Node.{Node}
 use Rattle.bench_base.specs.declared.words.Node.TheVariants.{Device, Centre, Host, Verifier}
 use Rattle.bench_base.specs.declared.refusals.Unread.{Unread}
-use Rattle.bench_base.specs.declared.refusals.CentreRefusal.{CentreRefusal}
 use Rattle.bench_base.specs.declared.ledger.Commit.{Commit}
 use Rattle.bench_base.specs.declared.ledger.Entry.{Entry}
 use Rattle.bench_base.specs.declared.ledger.Entry.TheVariants as entry
@@ -31,16 +30,11 @@ use Rattle.psd_state.specs.declared.acts.Taken.TheVariants as taken
 use Rattle.psd_state.specs.declared.acts.Franked.{Franked}
 use Rattle.psd_state.specs.Acts as acts
 use Rattle.psd_state.specs.Acts.{DeviceAct}
-use Rattle.bench_base.specs.declared.words.Verdict.{Verdict}
-use Rattle.bench_base.specs.declared.refusals.CentreRefusal.TheVariants as no
-use Rattle.psd_wire.specs.declared.message.Request.{Request}
-use Rattle.psd_wire.specs.declared.message.DoneMsg.{DoneMsg}
-use Rattle.psd_wire.specs.Codes.{has_code}
-use Rattle.ledger_terms.specs.Sums.{ascending, descending}
-use Rattle.ledger_terms.specs.Centres.{registered, ruled, settled}
-use Rattle.ledger_terms.specs.Rulings.{stored_reply}
 use Rattle.ledger_terms.specs.Devices.{key_of, number}
-use Rattle.centre_ledger.specs.Answers as centre
+use Rattle.centre_ledger.specs.declared.taking.CentreAnswer.{CentreAnswer}
+use Rattle.centre_ledger.specs.declared.taking.CentreAnswer.TheVariants as answer
+use Rattle.centre_ledger.specs.Acts.{CentreAct, register_by, open_by, flag_by, deposit_by, balance_by, stand_by, take_by as centre_take_by}
+use Rattle.centre_ledger.specs.Plans as centre
 use Rattle.host_jobs.specs.Acts.{HostAct, order_by, debit_message_by, begin_print_by, close_by, take_by}
 use Rattle.host_jobs.specs.Plans as host
 use Rattle.verifier.specs.Acts.{trust_by, scan_by}
@@ -128,69 +122,17 @@ resent d k (Some key) (Some p) = record { is = refl }
 
 -- == of the centre ==
 
-flagged : (w : ℕ) (flag known : Bool) → NoPrint (centre.flag_plan w flag known)
-flagged w flag true = record { is = refl }
-flagged w flag false = record { is = refl }
+took_answer : (k : ℕ) (a : CentreAnswer) → prints_or_fails (centre.told_taken k a).reply ≡ false
+took_answer k (answer.Ruled d n v note again) = refl
+took_answer k (answer.Settled d n again) = refl
 
-opens : (w : ℕ) (known : Bool) → NoPrint (centre.open_plan w known)
-opens w true = record { is = refl }
-opens w false = record { is = refl }
-
-balances : (w n : ℕ) (known : Bool) → NoPrint (centre.balance_plan w n known)
-balances w n true = record { is = refl }
-balances w n false = record { is = refl }
-
-registers : (d origin : ℕ) (key : List ℕ) (known : Option (ℕ × List ℕ)) → NoPrint (centre.register_plan d origin key known)
-registers d origin key None = record { is = refl }
-registers d origin key (Some x) = record { is = refl }
-
-deposit_act : (w n a total : ℕ) (x : Result (Option ℕ) CentreRefusal) → NoPrint (centre.deposit_answered w n a total x)
-deposit_act w n a total (Err x) = record { is = refl }
-deposit_act w n a total (Ok None) = record { is = refl }
-deposit_act w n a total (Ok (Some after)) = record { is = refl }
-
-deposits : (w n a : ℕ) (last : ℕ × ℕ) (total : ℕ) (known : Bool) → NoPrint (centre.deposit_plan w n a last total known)
-deposits w n a last total true = deposit_act w n a total (centre.deposit_answer last total n a)
-deposits w n a last total false = record { is = refl }
-
-repeats : (d n k : ℕ) (x : Option (Verdict × List ℕ)) (reply : Option (List ℕ)) → NoPrint (centre.repeat_plan d n k x reply)
-repeats d n k None reply = record { is = refl }
-repeats d n k (Some x) None = record { is = refl }
-repeats d n k (Some x) (Some reply) = record { is = refl }
-
-rules_on : (k : ℕ) (bytes : List ℕ) (q : Request) (C : List Commit) (x : Result Bool CentreRefusal) → NoPrint (centre.rule_answered k bytes q C x)
-rules_on k bytes q C (Err x) = record { is = refl }
-rules_on k bytes q C (Ok true) = repeats q.device q.number k (centre.last_ruling q.device C) (stored_reply q.device C)
-rules_on k bytes q C (Ok false) = record { is = refl }
-
-requests : (k : ℕ) (bytes : List ℕ) (q : Request) (x : Option (ℕ × List ℕ)) (C : List Commit) → NoPrint (centre.request_plan k bytes q x C)
-requests k bytes q None C = record { is = refl }
-requests k bytes q (Some x) C = either (has_code x.1 bytes) (centre.rule_plan k bytes q C) (centre.no_centre no.BadCode) (rules_on k bytes q C (centre.turn_answer (ruled q.device C) (centre.stored_note (centre.last_ruling q.device C)) q.number bytes)) (record { is = refl })
-
-settles : (d n : ℕ) (x : Result (Option ℕ) CentreRefusal) → NoPrint (centre.settle_answered d n x)
-settles d n (Err x) = record { is = refl }
-settles d n (Ok None) = record { is = refl }
-settles d n (Ok (Some now)) = record { is = refl }
-
-dones : (bytes : List ℕ) (q : DoneMsg) (x : Option (ℕ × List ℕ)) (settled ruled : ℕ) → NoPrint (centre.done_plan bytes q x settled ruled)
-dones bytes q None settled ruled = record { is = refl }
-dones bytes q (Some x) settled ruled = either (has_code x.1 bytes) (centre.settle_answered q.device q.number (centre.settle_answer settled ruled q.number)) (centre.no_centre no.BadCode) (settles q.device q.number (centre.settle_answer settled ruled q.number)) (record { is = refl })
-
-centre_takes : (k : ℕ) (bytes : List ℕ) (read : Result Message Unread) (C : List Commit) → NoPrint (centre.centre_take k bytes read C)
-centre_takes k bytes (Ok (m.Request q)) C = requests k bytes q (registered q.device C) C
-centre_takes k bytes (Ok (m.Done q)) C = dones bytes q (registered q.device C) (settled q.device C) (ruled q.device C)
-centre_takes k bytes (Ok (m.Reply q)) C = record { is = refl }
-centre_takes k bytes (Ok (m.Debit q)) C = record { is = refl }
-centre_takes k bytes (Ok (m.Release x)) C = record { is = refl }
-centre_takes k bytes (Err x) C = record { is = refl }
-
-compares : (d total : ℕ) (x : Option (ℕ × List ℕ)) (C : List Commit) → NoPrint (centre.reconcile_plan d total x C)
-compares d total None C = record { is = refl }
-compares d total (Some x) C = record { is = refl }
+-- whatever is looked up
+centred : {A : Type 0} (say : A → Said) (act : CentreAct A) → ((a : A) → prints_or_fails (say a).reply ≡ false) → NoPrint (said_plan (centre.says say act))
+centred say act none = says r.CentreRefused say act (λ x. refl) none
 
 reconciles : (d : ℕ) (key : Option (List ℕ)) (C : List Commit) → NoPrint (moves.reconcile_plan d key C)
 reconciles d None C = record { is = refl }
-reconciles d (Some key) C = compares d (ascending d C + descending d C) (registered d C) C
+reconciles d (Some key) C = centred (centre.told_standing d _) (stand_by d (centre.in_commits C)) (λ a. refl)
 
 -- == of the host and the verifier ==
 
@@ -207,7 +149,7 @@ module _ (ρ : Rules) (today : ℤ) (bytes : List ℕ) (H : Ledger) where
   to_device d = at (Device d) H _ (planned d (device.taken_reply d (messages H)) (device.taken_tell d (messages H)) _ (took d (messages H)))
 
   to_centre : NoPrint (moves.centre_plan bytes H)
-  to_centre = at Centre H _ (centre_takes (messages H) bytes (read bytes) (counted H))
+  to_centre = at Centre H _ (centred (centre.told_taken (messages H)) (centre_take_by bytes (centre.in_commits (counted H))) (took_answer (messages H)))
 
   to_host : NoPrint (moves.host_plan bytes H)
   to_host = at Host H _ (host_takes bytes (counted H))
@@ -289,11 +231,11 @@ module _ (τ : Tariff) (ρ : Rules) (H : Ledger) (text : List ℕ) (today : ℤ)
   on_prints (ev.Resend d) = none_at (ev.Resend d) (at (Device d) H _ (resent d (messages H) _ _))
   on_prints (ev.Ack d) = none_at (ev.Ack d) (at (Device d) H (device.ack_plan d (messages H) (counted H) (key_of d (counted H))) (acks d (messages H) (counted H) (key_of d (counted H))))
   on_prints (ev.Status d) = none_at (ev.Status d) (at (Device d) H (device.status_plan d today (counted H) (key_of d (counted H))) (statuses d today (counted H) (key_of d (counted H))))
-  on_prints (ev.Register d origin key) = none_at (ev.Register d origin key) (at Centre H _ (registers d origin key _))
-  on_prints (ev.OpenCustomer w) = none_at (ev.OpenCustomer w) (at Centre H _ (opens w _))
-  on_prints (ev.Deposit w n a) = none_at (ev.Deposit w n a) (at Centre H _ (deposits w n a _ _ _))
-  on_prints (ev.Flag w flag) = none_at (ev.Flag w flag) (at Centre H _ (flagged w flag _))
-  on_prints (ev.Balance w) = none_at (ev.Balance w) (at Centre H _ (balances w _ _))
+  on_prints (ev.Register d origin key) = none_at (ev.Register d origin key) (at Centre H _ (centred (centre.told_registered d) (register_by d origin key (centre.in_commits (counted H))) (λ u. refl)))
+  on_prints (ev.OpenCustomer w) = none_at (ev.OpenCustomer w) (at Centre H _ (centred (centre.told_opened w) (open_by w (centre.in_commits (counted H))) (λ u. refl)))
+  on_prints (ev.Deposit w n a) = none_at (ev.Deposit w n a) (at Centre H _ (centred (centre.told_deposited w n) (deposit_by w n a (centre.in_commits (counted H))) (λ d. refl)))
+  on_prints (ev.Flag w flag) = none_at (ev.Flag w flag) (at Centre H _ (centred (centre.told_flagged w flag) (flag_by w flag (centre.in_commits (counted H))) (λ u. refl)))
+  on_prints (ev.Balance w) = none_at (ev.Balance w) (at Centre H _ (centred (centre.told_balance w) (balance_by w (centre.in_commits (counted H))) (λ left. refl)))
   on_prints (ev.Deliver k) = none_at (ev.Deliver k) (delivers ρ today k (message k H) H)
   on_prints (ev.Give n bytes) = none_at (ev.Give n bytes) (gives_to ρ today bytes H n)
   on_prints (ev.Order d piece class grams zone) = none_at (ev.Order d piece class grams zone)

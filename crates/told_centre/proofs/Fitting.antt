@@ -22,10 +22,11 @@ use Rattle.centre_ledger.specs.Acts.{CentreAct}
 use Rattle.centre_ledger.specs.Acts as acts
 use Rattle.centre_ledger.specs.ActLaws.{LeavesSound, SoundActs}
 use Rattle.centre_ledger.specs.Books.{Books, AreSound, put_row}
+use Rattle.centre_ledger.specs.Plans.{told_taken}
 use Rattle.centre_ledger.specs.Seen.{Seen, cell_of, books_in, counting}
 use Rattle.bench_views.specs.declared.calls.CentreCall.{CentreCall}
 use Rattle.bench_views.specs.declared.calls.CentreCall.TheVariants as call
-use Rattle.bench_views.specs.Centre.{IsKnown, centre_act, took}
+use Rattle.bench_views.specs.Centre.{IsKnown, centre_act}
 use Rattle.told_nodes.specs.Judged.{PrintsNone}
 use Rattle.told_nodes.specs.Giving.{released_as, ReleasesNone}
 use Rattle.told_nodes.specs.Seats.{FitsAct}
@@ -74,11 +75,11 @@ prints_none say says (Refuse x) = tt
 prints_none say says (Tell a) = says a
 prints_none say says (Commits c x a) = says a
 
-took_did : (k : ℕ) (a : CentreAnswer) → told_by (took k a).reply ≡ Did
+took_did : (k : ℕ) (a : CentreAnswer) → told_by (told_taken k a).reply ≡ Did
 took_did k (answer.Ruled d n v note again) = refl
 took_did k (answer.Settled d n again) = refl
 
-took_prints : (k : ℕ) (a : CentreAnswer) (j : ℕ) → (took k a).reply ≢ r.Printed j
+took_prints : (k : ℕ) (a : CentreAnswer) (j : ℕ) → (told_taken k a).reply ≢ r.Printed j
 took_prints k (answer.Ruled d n v note again) j is = cc
 took_prints k (answer.Settled d n again) j is = cc
 
@@ -104,7 +105,7 @@ unreleased_says say says (Refuse x) = tt
 unreleased_says say says (Tell a) = says a
 unreleased_says say says (Commits c x a) = says a
 
-took_releases : (k : ℕ) (a : CentreAnswer) → released_as (took k a).given ≡ None
+took_releases : (k : ℕ) (a : CentreAnswer) → released_as (told_taken k a).given ≡ None
 took_releases k (answer.Ruled d n v note again) = refl
 took_releases k (answer.Settled d n again) = refl
 

@@ -1,3 +1,4 @@
+use Rattle.centre_ledger.proofs.ByCommits as by_commits
 use Rattle.centre_ledger.proofs.Following as following
 use Rattle.centre_ledger.proofs.Slots as slots
 use Rattle.centre_ledger.proofs.Standings as standings
@@ -31,6 +32,7 @@ returns-clause-sound c = slots.sound
 pub returns-clause-rulings : goal.returns-clause-rulings
 returns-clause-rulings c = record {
   ruled = following.ruling;
+  planned = λ C q x bytes order known. (by_commits.verdict-is C order q x, by_commits.reply-is C order q x bytes known);
   paid = slots.paying;
   balanced = following.balancing;
   left = slots.left-is;
