@@ -34,14 +34,13 @@ use Rattle.bench_views.specs.Tariff.{Quote, quote}
 use Rattle.bench_views.specs.Taken.{taken, as_given}
 use Rattle.bench_views.proofs.Events.{each_quiet, IsOfNone, some-same}
 use Rattle.bench.specs.Benches.{Nodes, OfState, Of, IsReady, Stands, BenchOf}
-use Rattle.bench.specs.Calls.{dated}
 use Rattle.bench.specs.Outside.{Outside, ReadsRates}
 use Rattle.bench.specs.Steps.{Steps, DoesAsked, ComparesViews}
 use Rattle.bench.proofs.EachKind.{all_rest, of_all, of_with}
 use Rattle.bench.proofs.Events.{given_alike}
 use Rattle.bench.proofs.Making.{get_some}
 use Rattle.bench_views.proofs.RatesPlans.{taken_by}
-use Rattle.bench.proofs.Quiet.{SwitchesIs, quiet}
+use Rattle.bench.proofs.Quiet.{SwitchesIs, asking, quiet}
 use Rattle.bench.proofs.Unprinted.{IsUnprinted}
 
 -- == which events they are ==
@@ -171,7 +170,7 @@ module _ (n : Nodes) (old : BenchOf n) (ready : IsReady old) (out : Outside) whe
         };
         still = λ k. refl;
       })
-      (λ tells. record { asks = take.Day t; taken_is = refl; does = λ today day. tt; not_read = refl })
+      (λ tells. asking _ _ _ _ _ _ _ _ _ _ (take.Day t) refl (λ today day. tt) refl)
 
   pub steps_end : IsWholeEvent ev.End → Steps n ev.End [] (turn_of r.End []) old old out out
   steps_end whole = quiet n ev.End ev.End [] r.End [] old old out out (all_rest old) refl ready whole
@@ -204,10 +203,10 @@ module _ (n : Nodes) (old : BenchOf n) (ready : IsReady old) (out : Outside) whe
         stands = stands;
         still = λ k. refl;
       })
-      (λ tells. record { asks = take.End; taken_is = refl; does = λ today day. tt; not_read = refl })
+      (λ tells. asking _ _ _ _ _ _ _ _ _ _ take.End refl (λ today day. tt) refl)
 
-  pub steps_none : (e : Event) (x : Taken) → IsWholeEvent e → needs_day e ≡ true → taken old.messages (quote old.rates) e ≡ Some x → old.day ≡ None → Steps n e [] (turn_of r.NoDay []) old old out out
-  steps_none e x whole needs taken_is none = quiet n e (as_given old.messages e) [] r.NoDay [] old old out out (all_rest old) refl ready whole
+  pub steps_none : (e : Event) → IsWholeEvent e → needs_day e ≡ true → old.day ≡ None → Steps n e [] (turn_of r.NoDay []) old old out out
+  steps_none e whole needs none = quiet n e (as_given old.messages e) [] r.NoDay [] old old out out (all_rest old) refl ready whole
       (record {
         given = refl;
         power = λ i. refl;
@@ -239,14 +238,14 @@ module _ (n : Nodes) (old : BenchOf n) (ready : IsReady old) (out : Outside) whe
         stands = stands;
         still = λ k. refl;
       })
-      (λ tells. record { asks = x; taken_is = taken_is; does = λ today day. no_some today (sym none ∙ day); not_read = refl })
+      (λ tells. record { does = λ today y day. no_some today (sym none ∙ day); not_read = refl })
 
   -- == on a day, by what is seen ==
 
-  module _ (IsKnown : n.centre.Seen → Type 0) (knows : (s : n.centre.Seen) → n.centre.IsSound tt s → IsKnown s) (law : OthersAreQuiet n.kinds IsKnown) (prices : KeptPrices) where
+  module _ (today : ℤ) (day_is : old.day ≡ Some today) (IsKnown : n.centre.Seen → Type 0) (knows : (s : n.centre.Seen) → n.centre.IsSound tt s → IsKnown s) (law : OthersAreQuiet n.kinds IsKnown) (prices : KeptPrices) where
     module _ (e : Event) (x : Taken) (reply : Reply) (whole : IsWholeEvent e) (needs : needs_day e ≡ true) (taken_is : taken old.messages (quote old.rates) e ≡ Some x) (given : as_given old.messages e ≡ e)
         (answers : Answers e reply) where
-      pub record OnDay (today : ℤ) : Type 0 where
+      pub record OnDay : Type 0 where
         pub shown : (L : Ledger) → Stands n old L → n.storage.tells → quiet_by n.kinds L x ≡ Some reply
         pub does : n.storage.tells → DoesAsked n today (turn_of reply []) old old out out x
         pub message : (k : ℕ) → x ≡ take.NoMessage k → reply ≡ r.NoMessage k
@@ -256,57 +255,44 @@ module _ (n : Nodes) (old : BenchOf n) (ready : IsReady old) (out : Outside) whe
         pub finds : (d : ℕ) → e ≡ ev.Reconcile d → (i : ℕ) (s : n.Devices) → d ≡ i + 1 → slice_get old.devices i ≡ Some s
             → (reply ≡ r.OffNode Centre) ↔ ((n.devices.is_on s ≡ true) × (n.centre.is_on old.centre ≡ false))
 
-      -- by the day, or that there is none
-      steps_on : ((today : ℤ) → old.day ≡ Some today → OnDay today) → Steps n e [] (turn_of (dated old.day reply) []) old old out out
-      steps_on each = by old.day refl
-        where
-          answered : (today : ℤ) → old.day ≡ Some today → OnDay today → Steps n e [] (turn_of reply []) old old out out
-          answered today day_is on = quiet n e e [] reply [] old old out out (all_rest old) refl ready whole
-              (record {
-                given = given;
-                power = answers.power;
-                fault = answers.fault;
-                gets = answers.gets;
-                says = answers.says;
-                day = λ dated. (λ is. absurd (answers.dated is), λ none. no_some today (sym none ∙ day_is));
-                dated = leaves_day e needs old.day;
-                dates = λ u is. absurd (not_day e needs u is);
-                ends = λ is. absurd (not_end e needs is);
-                compares = λ i is. (refl, refl, λ some. on.finds i is);
-                message = λ k is some. on.message k (some-same (sym taken_is ∙ is));
-                unsent = refl;
-                unmade = refl;
-                untouched = λ calls. refl;
-                refused = λ is. (refl, refl);
-                switches = on.switches;
-                unarmed = λ some. on.unarmed;
-                rates = reads_nothing e reply old.day old.rates out (λ is some. on.not_rates is);
-                printer = refl;
-                prints = answers.prints;
-              })
-              (λ τ L texts history stands tells.
-              let is : plan τ todays_rules L e [] ≡ refuse reply = law τ L e today x reply history (sym stands.day.day ∙ day_is)
-              (taken_by τ prices texts L old.messages old.rates e x stands.day.messages stands.day.rates taken_is) (knows _ ((stands.nodes Centre).store.sound tells).state) (on.shown L stands tells) in
-              record {
-                moves = (whole, inl (ap (λ (p : Plan). p.reply) (sym is)));
-                silent = ap (λ (p : Plan). p.commit) is;
-                adds = λ K. ap (λ (p : Plan). after p reply K) is ∙ answers.adds K;
-                stands = stands;
-                still = λ k. refl;
-              })
-              (λ tells. record {
-                asks = x;
-                taken_is = taken_is;
-                does = λ u day. subst (λ (t : ℤ). DoesAsked n t (turn_of reply []) old old out out x) (some-same (sym day_is ∙ day)) (on.does tells);
-                not_read = answers.not_read;
-              })
-
-          by : (o : Option ℤ) → old.day ≡ o → Steps n e [] (turn_of (dated o reply) []) old old out out
-          by None is = steps_none e x whole needs taken_is is
-          by (Some today) is = answered today is (each today is)
+      steps_on : OnDay → Steps n e [] (turn_of reply []) old old out out
+      steps_on on = quiet n e e [] reply [] old old out out (all_rest old) refl ready whole
+          (record {
+            given = given;
+            power = answers.power;
+            fault = answers.fault;
+            gets = answers.gets;
+            says = answers.says;
+            day = λ dated. (λ is. absurd (answers.dated is), λ none. no_some today (sym none ∙ day_is));
+            dated = leaves_day e needs old.day;
+            dates = λ u is. absurd (not_day e needs u is);
+            ends = λ is. absurd (not_end e needs is);
+            compares = λ i is. (refl, refl, λ some. on.finds i is);
+            message = λ k is some. on.message k (some-same (sym taken_is ∙ is));
+            unsent = refl;
+            unmade = refl;
+            untouched = λ calls. refl;
+            refused = λ is. (refl, refl);
+            switches = on.switches;
+            unarmed = λ some. on.unarmed;
+            rates = reads_nothing e reply old.day old.rates out (λ is some. on.not_rates is);
+            printer = refl;
+            prints = answers.prints;
+          })
+          (λ τ L texts history stands tells.
+          let is : plan τ todays_rules L e [] ≡ refuse reply = law τ L e today x reply history (sym stands.day.day ∙ day_is)
+          (taken_by τ prices texts L old.messages old.rates e x stands.day.messages stands.day.rates taken_is) (knows _ ((stands.nodes Centre).store.sound tells).state) (on.shown L stands tells) in
+          record {
+            moves = (whole, inl (ap (λ (p : Plan). p.reply) (sym is)));
+            silent = ap (λ (p : Plan). p.commit) is;
+            adds = λ K. ap (λ (p : Plan). after p reply K) is ∙ answers.adds K;
+            stands = stands;
+            still = λ k. refl;
+          })
+          (λ tells. asking _ _ _ _ _ _ _ _ _ _ x taken_is (λ u day. subst (λ (t : ℤ). DoesAsked n t (turn_of reply []) old old out out x) (some-same (sym day_is ∙ day)) (on.does tells)) answers.not_read)
 
     module _ (e : Event) (whole : IsWholeEvent e) where
-      pub steps_missing : (k : ℕ) → taken old.messages (quote old.rates) e ≡ Some (take.NoMessage k) → Steps n e [] (turn_of (dated old.day (r.NoMessage k)) []) old old out out
+      pub steps_missing : (k : ℕ) → taken old.messages (quote old.rates) e ≡ Some (take.NoMessage k) → Steps n e [] (turn_of (r.NoMessage k) []) old old out out
       steps_missing k is = ⊎_elim
           (λ (at : e ≡ ev.Deliver k). steps (ap needs_day at) (inl at) (λ m calls keep byte same. let wrong : ev.Deliver k ≡ ev.Cut m calls keep byte = sym at ∙ same in cc)
           (λ same. let wrong : ev.Deliver k ≡ ev.Rates = sym at ∙ same in cc) (λ d same. let wrong : ev.Deliver k ≡ ev.Reconcile d = sym at ∙ same in cc))
@@ -318,7 +304,7 @@ module _ (n : Nodes) (old : BenchOf n) (ready : IsReady old) (out : Outside) whe
           found = quiet_is old.messages (quote old.rates) e (take.NoMessage k) is tt
 
           steps : needs_day e ≡ true → MayGet e (r.NoMessage k) → ((m : Node) (calls keep byte : ℕ) → e ≡ ev.Cut m calls keep byte → ⊥) → e ≢ ev.Rates → ((d : ℕ) → e ≢ ev.Reconcile d)
-              → Steps n e [] (turn_of (dated old.day (r.NoMessage k)) []) old old out out
+              → Steps n e [] (turn_of (r.NoMessage k) []) old old out out
           steps needs gets unarmed not_rates not_compare = steps_on e (take.NoMessage k) (r.NoMessage k) whole needs is found.0
               (record {
                 gets = gets;
@@ -330,7 +316,7 @@ module _ (n : Nodes) (old : BenchOf n) (ready : IsReady old) (out : Outside) whe
                 dated = λ same. cc;
                 prints = record { whole = λ j same. cc; cut = λ j same. cc };
               })
-              (λ today day. record {
+              (record {
                 shown = λ L stands tells. refl;
                 does = λ tells. tt;
                 message = λ j same. ap (λ (i : ℕ). r.NoMessage i) (cc);
@@ -343,14 +329,14 @@ module _ (n : Nodes) (old : BenchOf n) (ready : IsReady old) (out : Outside) whe
       pub steps_compared : (d : ℕ) (reply : Reply) → taken old.messages (quote old.rates) e ≡ Some (take.Reconcile d) → Answers (ev.Reconcile d) reply → ((was : Bool) → was ≡ on_after reply was)
           → ((i : ℕ) (s : n.Devices) → d ≡ i + 1 → slice_get old.devices i ≡ Some s → (reply ≡ r.OffNode (Device d)) ↔ (n.devices.is_on s ≡ false))
           → ((i : ℕ) (s : n.Devices) → d ≡ i + 1 → slice_get old.devices i ≡ Some s → (reply ≡ r.OffNode Centre) ↔ ((n.devices.is_on s ≡ true) × (n.centre.is_on old.centre ≡ false)))
-          → ((i : ℕ) (s : n.Devices) → d ≡ i + 1 → slice_get old.devices i ≡ Some s → ComparesViews n d reply old.centre s) → Steps n e [] (turn_of (dated old.day reply) []) old old out out
+          → ((i : ℕ) (s : n.Devices) → d ≡ i + 1 → slice_get old.devices i ≡ Some s → ComparesViews n d reply old.centre s) → Steps n e [] (turn_of reply []) old old out out
       steps_compared d reply is answers leaves off finds compares =
           let found : e ≡ ev.Reconcile d = quiet_is old.messages (quote old.rates) e (take.Reconcile d) is tt in
           let own = subst IsWholeEvent found whole in
           let s = get_some old.devices (d - 1) (omega (arith, own.0, own.1, ready.eight)) in
           let at : d ≡ d - 1 + 1 = omega (arith, own.0) in
-          subst (λ (x : Event). Steps n x [] (turn_of (dated old.day reply) []) old old out out) (sym found)
-          (steps_on (ev.Reconcile d) (take.Reconcile d) reply own refl refl refl answers (λ today day. record {
+          subst (λ (x : Event). Steps n x [] (turn_of reply []) old old out out) (sym found)
+          (steps_on (ev.Reconcile d) (take.Reconcile d) reply own refl refl refl answers (record {
             shown = λ L stands tells. ap (λ x. Some x) (sym (compares (d - 1) s.0 at s.1 (view_in (Device d) (n.kinds.devices.seen d) L) (view_in Centre (n.kinds.centre.seen tt) L)
                 (stands.nodes (Device d) (d - 1) s.0 at s.1) (stands.nodes Centre) tells));
             does = λ tells. compares;

@@ -32,7 +32,7 @@ use Rattle.bench_views.specs.Tariff.{Quote}
 use Rattle.bench_views.specs.Taken as takes
 use Rattle.bench_views.specs.Taken.{taken, as_given, as_given_by, as_scanned_by, addressee, IsPricedAsked}
 use Rattle.bench_views.proofs.Events.{each_asked, each_of_centre, each_of_host, each_of_verifier, some-same}
-use Rattle.bench.specs.Calls.{asked_event, device_event, centre_event, host_event, verifier_event, device_call_event, centre_call_event, host_call_event, verifier_call_event, IsRanged, IsRangedOfHost, IsRangedOfVerifier}
+use Rattle.bench.specs.Calls.{OfCall, asked_event, device_event, centre_event, host_event, verifier_event, device_call_event, centre_call_event, host_call_event, verifier_call_event, IsRangedCall, IsRangedJob, IsRangedScan}
 
 pub no_day : (o : Option ℤ) (t : ℤ) → o ≡ None → o ≡ Some t → ⊥
 no_day o t none some = cc
@@ -109,6 +109,19 @@ given_alike pool (ev.Reconcile d) = alike (ev.Reconcile d)
 given_alike pool ev.End = alike ev.End
 
 -- == what the bench takes is the event that asks it ==
+
+-- what is taken
+pub taken_as : (pool given : List (List ℕ)) (q : Quote) (e : Event) (o : Option Taken) (x y : Taken) → given ≡ pool → o ≡ taken given q e → o ≡ Some x → x ≡ y → taken pool q e ≡ Some y
+taken_as pool given q e o x y same is some named = ap (λ (l : List (List ℕ)). taken l q e) (sym same) ∙ sym is ∙ some ∙ ap (λ z. Some z) named
+
+-- an event that sets no day and is not the end needs a day
+needs : (e : Event) → ((t : ℤ) → e ≢ ev.Day t) → e ≢ ev.End → needs_day e ≡ true
+needs (ev.Day t) no_day no_end = absurd (no_day t refl)
+needs ev.End no_day no_end = absurd (no_end refl)
+needs _ no_day no_end = refl
+
+pub needs_taken : (pool : List (List ℕ)) (q : Quote) (e : Event) (x : Taken) → taken pool q e ≡ Some x → ((t : ℤ) → x ≢ take.Day t) → x ≢ take.End → needs_day e ≡ true
+needs_taken pool q e x is no_day no_end = needs e (λ t same. no_day t (some-same (sym is ∙ ap (taken pool q) same))) (λ same. no_end (some-same (sym is ∙ ap (taken pool q) same)))
 
 -- the event is the one that asks a node this
 abbrev GivenAs : Event → Taken → Type 0
@@ -203,9 +216,9 @@ module _ (pool : List (List ℕ)) (quote : Quote) where
   IsRangedTaken (take.NoMessage k) = Unit {0}
   IsRangedTaken (take.Reconcile d) = Unit {0}
   IsRangedTaken (take.Device d asked) = Unit {0}
-  IsRangedTaken (take.Centre asked) = IsRanged asked
-  IsRangedTaken (take.Host asked) = IsRangedOfHost asked
-  IsRangedTaken (take.Verifier asked) = IsRangedOfVerifier asked
+  IsRangedTaken (take.Centre asked) = OfCall IsRangedCall asked
+  IsRangedTaken (take.Host asked) = OfCall IsRangedJob asked
+  IsRangedTaken (take.Verifier asked) = OfCall IsRangedScan asked
 
   read_ranged : (bytes : List ℕ) (k : ℕ) (x : Result Message Unread) → IsRangedTaken (takes.delivered_as bytes k x)
   read_ranged bytes k (Ok (m.Reply p)) = by (nat_le 1 p.device && nat_le p.device 8)
@@ -230,8 +243,8 @@ module _ (pool : List (List ℕ)) (quote : Quote) where
   handed : (k : ℕ) (x : Taken) → takes.message_taken k (length pool) (slice_get pool k) ≡ x → IsRangedTaken x
   handed k x is = subst IsRangedTaken is (message_ranged k (length pool) (slice_get pool k))
 
-  pub centre_ranged : (e : Event) (asked : Asked CentreCall) → taken pool quote e ≡ Some (take.Centre asked) → IsWholeEvent e → IsRanged asked
-  centre_ranged = each_of_centre pool quote (λ e asked. IsWholeEvent e → IsRanged asked) (record {
+  pub centre_ranged : (e : Event) (asked : Asked CentreCall) → taken pool quote e ≡ Some (take.Centre asked) → IsWholeEvent e → OfCall IsRangedCall asked
+  centre_ranged = each_of_centre pool quote (λ e asked. IsWholeEvent e → OfCall IsRangedCall asked) (record {
     on = λ whole. tt;
     off = λ whole. tt;
     cut = λ calls keep byte whole. tt;
@@ -245,8 +258,8 @@ module _ (pool : List (List ℕ)) (quote : Quote) where
   })
 
   -- a price is one where the quote gives one
-  pub host_ranged : (e : Event) (asked : Asked HostCall) → taken pool quote e ≡ Some (take.Host asked) → IsWholeEvent e → IsPricedAsked asked → IsRangedOfHost asked
-  host_ranged = each_of_host pool quote (λ e asked. IsWholeEvent e → IsPricedAsked asked → IsRangedOfHost asked) (record {
+  pub host_ranged : (e : Event) (asked : Asked HostCall) → taken pool quote e ≡ Some (take.Host asked) → IsWholeEvent e → IsPricedAsked asked → OfCall IsRangedJob asked
+  host_ranged = each_of_host pool quote (λ e asked. IsWholeEvent e → IsPricedAsked asked → OfCall IsRangedJob asked) (record {
     on = λ whole priced. tt;
     off = λ whole priced. tt;
     cut = λ calls keep byte whole priced. tt;
@@ -258,8 +271,8 @@ module _ (pool : List (List ℕ)) (quote : Quote) where
     deliver = λ k asked is whole priced. handed k (take.Host asked) is;
   })
 
-  pub verifier_ranged : (e : Event) (asked : Asked VerifierCall) → taken pool quote e ≡ Some (take.Verifier asked) → IsWholeEvent e → IsRangedOfVerifier asked
-  verifier_ranged = each_of_verifier pool quote (λ e asked. IsWholeEvent e → IsRangedOfVerifier asked) (record {
+  pub verifier_ranged : (e : Event) (asked : Asked VerifierCall) → taken pool quote e ≡ Some (take.Verifier asked) → IsWholeEvent e → OfCall IsRangedScan asked
+  verifier_ranged = each_of_verifier pool quote (λ e asked. IsWholeEvent e → OfCall IsRangedScan asked) (record {
     on = λ whole. tt;
     off = λ whole. tt;
     cut = λ calls keep byte whole. tt;
@@ -267,6 +280,13 @@ module _ (pool : List (List ℕ)) (quote : Quote) where
     scan = λ n bytes whole. (whole.0, whole.1);
     message = λ n k bytes there whole. (whole.0, whole.1);
   })
+
+-- what holds of each call of which P holds, and of all else, holds of what is asked
+pub of_call : {C : Type 0} {P : C → Type 0} (Q : Asked C → Type 0) → Q On → Q Off → ((calls keep byte : ℕ) → Q (Cut calls keep byte)) → ((c : C) → P c → Q (Call c)) → (asked : Asked C) → OfCall P asked → Q asked
+of_call Q on off cut call On of = on
+of_call Q on off cut call Off of = off
+of_call Q on off cut call (Cut calls keep byte) of = cut calls keep byte
+of_call Q on off cut call (Call c) of = call c of
 
 -- what an event of node m needs
 pub record IsOfNode (m : Node) (e : Event) : Type 0 where

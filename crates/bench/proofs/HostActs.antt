@@ -1,24 +1,15 @@
 -- The acts of the host's calls: what they change, how they are told, and what is printed of them.
-use Rattle.std.proofs.Common.{◌≢◌, ℕ, ℤ, List, Bool, true, false, Option, Some, None, refl, inr, ap, subst, arith}
-use Rattle.bench_base.specs.declared.words.Node.{Node}
+use Rattle.std.proofs.Common.{◌≢◌, ℕ, List, Option, Some, None, refl, inr, ap, subst, arith}
 use Rattle.bench_base.specs.declared.words.Node.TheVariants.{Host}
 use Rattle.bench_base.specs.declared.refusals.HostRefusal.{HostRefusal}
 use Rattle.bench_base.specs.declared.events.Event.TheVariants as ev
-use Rattle.bench_base.specs.declared.events.Reply.{Reply}
 use Rattle.bench_base.specs.declared.events.Reply.TheVariants as r
-use Rattle.nv_model.specs.declared.nv.Nv as nv
 use Rattle.node_acts.specs.declared.act.Act.TheVariants.{Refuse, Tell, Commits}
-use Rattle.node_acts.specs.declared.act.Started.{Started}
-use Rattle.node_acts.specs.declared.act.Started.TheVariants as start
-use Rattle.node_acts.specs.declared.asked.Asked.{Asked}
 use Rattle.node_acts.specs.declared.said.Said.{Said}
 use Rattle.node_acts.specs.declared.said.Printed.{Printed as Print}
 use Rattle.node_acts.specs.Acts.{TellsOf}
-use Rattle.node_acts.specs.Kinds.{Kind}
 use Rattle.node_seat.specs.declared.node.Node.{Ghosts}
 use Rattle.node_seat.specs.Shown.{IsFitting}
-use Rattle.node_turns.specs.Printing.{Printer, NodePrints}
-use Rattle.node_turns.specs.Turns.{start_turn, stop_turn}
 use Rattle.node_turns.proofs.Calls.{IsCallOf, IsToldBy, MayRefuse}
 use Rattle.node_turns.proofs.Printed.{PrintsSo}
 use Rattle.psd_wire.specs.Grammar.{read}
@@ -40,7 +31,6 @@ use Rattle.bench_views.proofs.Events.{some-same}
 use Rattle.bench.specs.Calls.{host_call_event, IsRangedJob}
 use Rattle.bench.proofs.Calls.{polite_says, CommitsNone, none_says, told_made, told_none, fits_says}
 use Rattle.bench.proofs.HostFits.{act_fits}
-use Rattle.bench.proofs.Unprinted.{IsUnprinted, prints_nothing}
 
 -- == what a call changes ==
 
@@ -123,25 +113,3 @@ call_prints (call.Send c) rows = so_says (told_sent c.job c.message) (λ note. r
 call_prints (call.Print c) rows = so_says (told_printed c.job) (printed_so c.job) (acts.begin_print_act c.job rows)
 call_prints (call.Close c) rows = so_says (told_closed c.job) (λ u. record { given = λ p is. cc; says = λ job is. cc }) (acts.close_act c.job rows)
 call_prints (call.Take c) rows = so_says told_held (λ j. record { given = λ p is. cc; says = λ job is. cc }) (acts.take_act c.bytes rows)
-
--- == what is printed where the host is switched ==
-
-pub start_quiet : (m : Node) (x : Started) → IsUnprinted (start_turn m x).reply
-start_quiet m start.Already = record { whole = λ job is. cc; cut = λ job is. cc }
-start_quiet m (start.Up k) = record { whole = λ job is. cc; cut = λ job is. cc }
-start_quiet m start.Power = record { whole = λ job is. cc; cut = λ job is. cc }
-start_quiet m start.Fault = record { whole = λ job is. cc; cut = λ job is. cc }
-start_quiet m start.Damaged = record { whole = λ job is. cc; cut = λ job is. cc }
-
-pub stop_quiet : (m : Node) (was : Bool) → IsUnprinted (stop_turn m was).reply
-stop_quiet m true = record { whole = λ job is. cc; cut = λ job is. cc }
-stop_quiet m false = record { whole = λ job is. cc; cut = λ job is. cc }
-
--- so the printer takes nothing
-pub none_printed : {K S N C R X : Type 0} (n : Ghosts K S N C R) (g : nv.Ghosts S) (kind : Kind N n.Seen X) (m : Node) (d : N) (today : ℤ) (asked : Asked X) (s : K) (reply : Reply) (printer : Printer)
-    → IsUnprinted reply → NodePrints n g kind m d today asked s reply printer printer
-none_printed n g kind m d today asked s reply printer quiet = record {
-  by_view = λ v st tells. prints_nothing reply _ printer printer refl quiet;
-  mark = None;
-  alone = prints_nothing reply None printer printer refl quiet;
-}

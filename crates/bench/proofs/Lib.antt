@@ -5,6 +5,7 @@ mod Blank
 mod BlankCentre
 mod BlankHost
 mod BlankVerifier
+mod Called
 mod Calls
 mod CentreActs
 mod CentreFits

@@ -18,13 +18,12 @@ use Rattle.nv_store.specs.Mounts.{Mounts}
 use Rattle.nv_store.specs.Store.{UsesCommit}
 use Rattle.node_acts.specs.declared.asked.Asked.{Asked}
 use Rattle.node_acts.specs.Kinds.{view_in, node_commit}
-use Rattle.node_acts.specs.Views.{View}
 use Rattle.node_seat.specs.Stands as node
 use Rattle.node_seat.specs.Stands.{StoreStands, times_of, meters_of, HasDamage, IsArmed}
 use Rattle.node_turns.specs.declared.turn.Turn.{Turn}
 use Rattle.node_turns.specs.Costs.{Charged}
-use Rattle.node_turns.specs.NodeTurns.{NodeTurn, Switches, plan_by}
-use Rattle.node_turns.specs.Printing.{PrinterDid, print_of}
+use Rattle.node_turns.specs.NodeTurns.{NodeTurn, Switches}
+use Rattle.node_turns.specs.Printing.{PrinterDid, NodePrints, print_of}
 use Rattle.host_rates.specs.Laws.{KeptPrices}
 use Rattle.ledger_moves.specs.Tariffs.{Tariff}
 use Rattle.ledger_moves.specs.Moves as ledger
@@ -165,9 +164,7 @@ module _ (n : Nodes) (e x : Event) (today : ℤ) (old new : BenchOf n) (turn : T
     pub told : (k : ℕ) → Some (take.NoMessage k) ≡ Some (taken_as asked) → ⊥
     pub sends : new.messages ≡ old.messages ++ notes_in turn.entries
     pub feed : now.rates ≡ before.rates
-    pub mark : Option (List ℕ)
-    pub printer : PrinterDid turn.reply mark before.printer now.printer
-    pub prints : (v : View o.ghosts.Seen) → node.Stands o.ghosts n.storage d v s → n.storage.tells → PrinterDid turn.reply (print_of (plan_by o.ghosts o.kind m d today v asked).after) before.printer now.printer
+    pub prints : NodePrints o.ghosts n.storage o.kind m d today asked s turn.reply before.printer now.printer
     pub does : n.storage.tells → DoesAsked n today turn old new before now (taken_as asked)
 
   module _ (taken_as : Asked o.Call → Taken) (is : IsAsked taken_as) where
@@ -191,8 +188,8 @@ module _ (n : Nodes) (e x : Event) (today : ℤ) (old new : BenchOf n) (turn : T
           is.located.same (is.did.untouched calls (λ lost. not_failed turn.reply _ lost refl fine) (λ failed. not_failed turn.reply _ failed refl fine) none) (old.messages ++ notes_in turn.entries) is.sends;
       there = λ k none. is.told k (sym none ∙ is.taken_is);
       feed = is.feed;
-      mark = is.mark;
-      printer = is.printer;
+      mark = is.prints.mark;
+      printer = is.prints.alone;
       switches = is.located.put (λ o i d s t. Switches i x turn.reply (o.ghosts.is_on s) (o.ghosts.is_on t)) is.did.switches;
       charged = is.located.put (λ o i d s t. Charged i x turn.reply (meters_of o.ghosts n.storage s) (meters_of o.ghosts n.storage t)) is.did.charged;
       armed = λ calls keep byte cut. is.located.put (λ o i d s t. IsArmed o.ghosts n.fuse t calls keep byte) (is.did.armed calls keep byte cut);
@@ -228,7 +225,7 @@ module _ (n : Nodes) (e x : Event) (today : ℤ) (old new : BenchOf n) (turn : T
         open_others = one.open_others o.ghosts n.storage n.fuse o.kind m d today e x asked s t turn is.did n.kinds τ L st tells law;
         left = is.located.put (λ o i d s t. (store : n.Inner) → n.inner.size store ≡ o.ghosts.bytes → HoldsImage o.ghosts n.storage n.inner s t store → StoreStands o.ghosts n.inner d (view_in i (o.kind.seen d) (after_stop τ L e [])) store)
             (λ store size images. one.left o.ghosts n.storage n.fuse o.kind m d today e x asked s t turn is.did n.kinds τ L st tells law n.inner store size images);
-        printed = subst (λ (p : Plan). PrinterDid turn.reply (print_of p.after) before.printer now.printer) (sym law.plan) (is.prints (view_in m (o.kind.seen d) L) st tells);
+        printed = subst (λ (p : Plan). PrinterDid turn.reply (print_of p.after) before.printer now.printer) (sym law.plan) (is.prints.by_view (view_in m (o.kind.seen d) L) st tells);
       }
 
     each_some : {P Q : o.ghosts.Seen → Type 0} → ((k : o.ghosts.Seen) → P k → Q k) → (c : Option (Commit × o.ghosts.Seen)) → IfSome c (λ y. P y.1) → IfSome c (λ y. Q y.1)

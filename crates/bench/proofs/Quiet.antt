@@ -66,10 +66,15 @@ module _ (n : Nodes) (e x : Event) (text : List ℕ)
 
   -- by what the storages show
   pub record QuietShown : Type 0 where
-    pub asks : Taken
-    pub taken_is : taken old.messages (quote old.rates) e ≡ Some asks
-    pub does : (today : ℤ) → old.day ≡ Some today → DoesAsked n today turn old new before now asks
+    pub does : (today : ℤ) (y : Taken) → old.day ≡ Some today → taken old.messages (quote old.rates) e ≡ Some y → DoesAsked n today turn old new before now y
     pub not_read : has_read reply ≡ false
+
+  -- by what is taken of the event
+  pub asking : (x : Taken) → taken old.messages (quote old.rates) e ≡ Some x → ((today : ℤ) → old.day ≡ Some today → DoesAsked n today turn old new before now x) → has_read reply ≡ false → QuietShown
+  asking x is does not_read = record {
+    does = λ today y day taken_is. subst (λ (z : Taken). DoesAsked n today turn old new before now z) (some-same (sym is ∙ taken_is)) (does today day);
+    not_read = not_read;
+  }
 
   abbrev pub SwitchesIs : OfState n.Storage
   SwitchesIs o i d s = IsSome old.day → node_for x ≡ Some i → ((k : ℕ) → reply ≢ r.NoMessage k) → Switches i x reply (o.ghosts.is_on s) (o.ghosts.is_on s)
@@ -129,7 +134,7 @@ module _ (n : Nodes) (e x : Event) (text : List ℕ)
 
     quiet_shown : QuietShown → StepsByViews n e turn old new before now
     quiet_shown shown = record {
-      does = λ today y day is. subst (λ (z : Taken). DoesAsked n today turn old new before now z) (some-same (sym shown.taken_is ∙ is)) (shown.does today day);
+      does = shown.does;
       unwritten = λ none m. still n old new rest (λ o i d s t. Mounts (times_of o.ghosts n.storage s) (times_of o.ghosts n.storage t)) m
           (of_all n (λ o i d s. Mounts (times_of o.ghosts n.storage s) (times_of o.ghosts n.storage s)) old (λ o i d s. mounts_none (times_of o.ghosts n.storage s)) m);
       damaged = λ m on read. absurd (true≢false (sym read ∙ shown.not_read));

@@ -33,7 +33,7 @@ use Rattle.bench.specs.Outside.{Outside, ReadsText, ReadsRates, failed, read, ra
 use Rattle.bench.specs.Steps.{Steps, notes_in}
 use Rattle.bench.proofs.Answered.{again, no_some}
 use Rattle.bench.proofs.EachKind.{of_all, of_with}
-use Rattle.bench.proofs.Quiet.{QuietOn, SwitchesIs, quiet}
+use Rattle.bench.proofs.Quiet.{QuietOn, SwitchesIs, asking, quiet}
 use Rattle.bench.proofs.Unprinted.{IsUnprinted}
 
 -- == what is told of a text ==
@@ -173,7 +173,7 @@ module _ (n : Nodes) (text : List ℕ) (turn : Turn) (today : ℤ)
         prints = so.prints;
       })
       on
-      (λ tells. record { asks = take.Rates; taken_is = refl; does = λ today day. tt; not_read = so.not_read })
+      (λ tells. asking _ _ _ _ _ _ _ _ _ _ take.Rates refl (λ today day. tt) so.not_read)
 
   keeps_of : (L : Ledger) → Keeps (rates_in L) old.rates → (x : Result RateTable RatesFail) → answer text ≡ x → Keeps (rates_in ((plan_of text x).after ++ L)) (rates_after old.rates x)
   keeps_of L keeps (Ok x) is = are_rates text x is

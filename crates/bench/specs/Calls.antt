@@ -1,5 +1,5 @@
 -- What an event of one node does to the bench, and which events ask a node for what.
-use Rattle.std.specs.Prelude.{◌≡◌, ℕ, ℤ, ◌+◌, List, Option, Some, None, slice_get, slice_set}
+use Rattle.std.specs.Prelude.{◌≡◌, ℕ, ℤ, ◌+◌, List, [], Bool, Option, Some, None, slice_get, slice_set}
 use Rattle.bench_base.specs.declared.words.Node.{Node}
 use Rattle.bench_base.specs.declared.words.Node.TheVariants.{Device, Centre, Host, Verifier}
 use Rattle.bench_base.specs.declared.events.Event.{Event}
@@ -9,12 +9,16 @@ use Rattle.bench_base.specs.declared.events.Reply.TheVariants as r
 use Rattle.bench_base.specs.Ranges.{IsDevice, IsCustomer, IsWord, IsCount, IsKey}
 use Rattle.nv_model.specs.declared.nv.Nv as nv
 use Rattle.nv_model.specs.declared.fuse.Fuse as fuse
+use Rattle.node_acts.specs.declared.act.Started.{Started}
 use Rattle.node_acts.specs.declared.asked.Asked.{Asked}
 use Rattle.node_acts.specs.declared.asked.Asked.TheVariants.{On, Off, Cut, Call}
 use Rattle.node_acts.specs.Kinds.{Kind}
 use Rattle.node_seat.specs.declared.node.Node.{Ghosts}
+use Rattle.node_seat.specs.Starts.{StartDoes, StopDoes, ArmDoes}
 use Rattle.node_turns.specs.declared.turn.Turn.{Turn}
 use Rattle.node_turns.specs.NodeTurns.{NodeTurn}
+use Rattle.node_turns.specs.Printing.{Printer, NodePrints}
+use Rattle.node_turns.specs.Turns.{turn_of, start_turn, stop_turn}
 use Rattle.bench_views.specs.declared.calls.DeviceCall.{DeviceCall}
 use Rattle.bench_views.specs.declared.calls.DeviceCall.TheVariants.{Make, Debit, Ask, Resend, Ack, Status, Take}
 use Rattle.bench_views.specs.declared.calls.CentreCall.{CentreCall}
@@ -65,6 +69,13 @@ asked_event m of_call Off = ev.Off m
 asked_event m of_call (Cut calls keep byte) = ev.Cut m calls keep byte
 asked_event m of_call (Call c) = of_call c
 
+-- what is asked is no call, or one of which P holds
+abbrev pub OfCall : {C : Type 0} → (C → Type 0) → Asked C → Type 0
+OfCall P On = Unit {0}
+OfCall P Off = Unit {0}
+OfCall P (Cut calls keep byte) = Unit {0}
+OfCall P (Call c) = P c
+
 abbrev pub device_event : ℕ → Asked DeviceCall → Event
 device_event d asked = asked_event (Device d) (device_call_event d) asked
 
@@ -77,9 +88,21 @@ host_event asked = asked_event Host host_call_event asked
 abbrev pub verifier_event : Asked VerifierCall → Event
 verifier_event asked = asked_event Verifier verifier_call_event asked
 
--- what the event of a device came to on that day, and where the device stands
+-- What a node m came to that is d of its kind, where it was asked this: how it was switched, or its fuse armed, is told so of each kind, and the printer took nothing;
+-- of a call P holds.
+abbrev pub Comes : {K S N C R X : Type 0} (n : Ghosts K S N C R) → nv.Ghosts S → fuse.Ghosts S → Node → N → (Turn → Type 0) → K → K → Printer → Printer → (X → Type 0) → Asked X → Type 0
+Comes n g f m d IsOf s t p q P On = (x : Started) × StartDoes n g d s t x × IsOf (start_turn m x) × (q ≡ p)
+Comes n g f m d IsOf s t p q P Off = (was : Bool) × StopDoes n g s t was × IsOf (stop_turn m was) × (q ≡ p)
+Comes n g f m d IsOf s t p q P (Cut calls keep byte) = ArmDoes n g f calls keep byte s t × IsOf (turn_of (r.CutSet m) []) × (q ≡ p)
+Comes n g f m d IsOf s t p q P (Call c) = P c
+
+-- what the event of node m, which is d of its kind, came to on that day, as it is told, and what the printer took in it
+abbrev pub Told : {K S N C R X : Type 0} (n : Ghosts K S N C R) → nv.Ghosts S → fuse.Ghosts S → Kind N n.Seen X → Node → N → ℤ → Event → Asked X → (Turn → Type 0) → K → K → Printer → Printer → Type 0
+Told n g f kind m d today e asked IsOf s t p q = (turn : Turn) × IsOf turn × NodeTurn n g f kind m d today e asked s t turn × NodePrints n g kind m d today asked s turn.reply p q
+
+-- what the event of a device came to on that day, what the printer took in it, and where the device stands
 pub record DeviceTurn {K S C R : Type 0} (n : Ghosts K S ℕ C R) (g : nv.Ghosts S) (f : fuse.Ghosts S) (kind : Kind ℕ n.Seen DeviceCall)
-    (d : ℕ) (today : ℤ) (asked : Asked DeviceCall) (old new : List K) (turn : Turn) : Type 0 where
+    (d : ℕ) (today : ℤ) (asked : Asked DeviceCall) (old new : List K) (p q : Printer) (turn : Turn) : Type 0 where
   pub place : ℕ
   pub is_device : d ≡ place + 1
   pub before : K
@@ -87,6 +110,7 @@ pub record DeviceTurn {K S C R : Type 0} (n : Ghosts K S ℕ C R) (g : nv.Ghosts
   pub was : slice_get old place ≡ Some before
   pub set : new ≡ slice_set old place now
   pub did : NodeTurn n g f kind (Device d) d today (device_event d asked) asked before now turn
+  pub prints : NodePrints n g kind (Device d) d today asked before turn.reply p q
 
 -- == ranges ==
 
@@ -99,12 +123,6 @@ IsRangedCall (call.Flag c) = IsCustomer c.customer
 IsRangedCall (call.Balance c) = IsCustomer c.customer
 IsRangedCall (call.Take c) = Unit {0}
 
-abbrev pub IsRanged : Asked CentreCall → Type 0
-IsRanged On = Unit {0}
-IsRanged Off = Unit {0}
-IsRanged (Cut calls keep byte) = Unit {0}
-IsRanged (Call c) = IsRangedCall c
-
 -- the numbers of a call of the host: a price is a postage that a piece may be franked with
 abbrev pub IsRangedJob : HostCall → Type 0
 IsRangedJob (host.Order c) = IsDevice c.device × IsPrice c.price
@@ -113,24 +131,12 @@ IsRangedJob (host.Print c) = Unit {0}
 IsRangedJob (host.Close c) = Unit {0}
 IsRangedJob (host.Take c) = Unit {0}
 
-abbrev pub IsRangedOfHost : Asked HostCall → Type 0
-IsRangedOfHost On = Unit {0}
-IsRangedOfHost Off = Unit {0}
-IsRangedOfHost (Cut calls keep byte) = Unit {0}
-IsRangedOfHost (Call c) = IsRangedJob c
-
 -- the numbers of a call of the verifier
 abbrev pub IsRangedScan : VerifierCall → Type 0
 IsRangedScan (verifier.Trust c) = IsDevice c.device × IsKey c.key
 IsRangedScan (verifier.Scan c) = IsCount c.number
 
-abbrev pub IsRangedOfVerifier : Asked VerifierCall → Type 0
-IsRangedOfVerifier On = Unit {0}
-IsRangedOfVerifier Off = Unit {0}
-IsRangedOfVerifier (Cut calls keep byte) = Unit {0}
-IsRangedOfVerifier (Call c) = IsRangedScan c
-
--- == the bench's own ==
+-- == without a day ==
 
 -- the reply to an event that needs a day
 abbrev pub dated : Option ℤ → Reply → Reply

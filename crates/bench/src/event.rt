@@ -1,5 +1,5 @@
 //! One event.
-ghost use Rattle.std.specs.Prelude.{◌≡◌, ◌≢◌, ◌↔◌, IsTrue, ◌<◌, ℕ, List, [], ◌∷◌, length, IfOk, OnErr};
+ghost use Rattle.std.specs.Prelude.{◌≡◌, ◌≢◌, ◌<◌, ℕ, List, [], ◌∷◌, length, IfOk, OnErr};
 ghost use Rattle.bench_base.specs.declared.events.Event.TheVariants as ev;
 ghost use Rattle.bench_base.specs.Ranges.{IsWholeEvent};
 ghost use Rattle.node_turns.specs.declared.turn.Turn.{Turn};
@@ -7,21 +7,19 @@ ghost use Rattle.node_turns.specs.Printing.{Printer, printer_of};
 ghost use Rattle.node_turns.specs.Turns as turns;
 ghost use Rattle.bench.specs.declared.benches.TheConstants.{MOST_MESSAGES};
 ghost use Rattle.bench.specs.Benches.{IsReady, bench_of};
-ghost use Rattle.bench.specs.Calls.{dated};
 ghost use Rattle.bench.specs.Outside.{Feed, WantsMemory, beside, feed_of, outside};
 ghost use Rattle.bench.specs.Steps.{Steps, sending};
 
 use crate::benches::{Bench, BenchOver, HasNodes};
-use crate::centre_turns::centre_turn;
 use crate::comparing::compare;
 use crate::device_turns::device_turn;
-use crate::host_turns::host_turn;
+use crate::node_turn::node_turn;
 use crate::rates::read_turn;
-use crate::verifier_turns::verifier_turn;
 use bench_base::events::{Event, Reply};
 use bench_base::ledger::Entry;
 use bench_base::numbers::DayNo;
 use bench_base::stream::{Sink, Source};
+use bench_base::words::Node as NodeNo;
 use bench_views::laws::{host_follows, nodes_follow, verifier_follows};
 use bench_views::{Taken, take};
 use host_rates::laws::prices_by_text;
@@ -29,63 +27,11 @@ use node_turns::{Sending, Tell, Turn};
 use nv_model::{Fuse, Nv};
 use std::alloc::{AllocError, Global};
 
-// The reply to an event that needs a day.
-fn on_day(day: Option<DayNo>, reply: Reply) -> Reply
-    ensures { result ≡ dated day reply }
-{
-    match day {
-        Some(_) => reply,
-        None => Reply::NoDay,
-    }
-}
-
-// An event that needs a day, where there is none.
-fn no_day<T: Tell>() -> T
-    ensures { T.IsOf result (turns.turn_of Reply.NoDay []) }
-{
-    T::silent(Reply::NoDay)
-}
-
 // A new day.
 fn begun<T: Tell>(day: DayNo) -> T
     ensures { T.IsOf result (turns.turn_of (Reply.Day day) (Entry.Day day ∷ [])) }
 {
     T::one(Reply::Day(day), Entry::Day(day))
-}
-
-// Whether it is a `rates`.
-fn is_rates(event: &Event) -> bool
-    ensures { IsTrue result ↔ (event.now ≡ ev.Rates) }
-{
-    match event {
-        Event::Rates => true,
-        Event::Day(_)
-        | Event::Make { .. }
-        | Event::On(_)
-        | Event::Off(_)
-        | Event::Cut { .. }
-        | Event::Debit { .. }
-        | Event::Ask { .. }
-        | Event::Resend(_)
-        | Event::Ack(_)
-        | Event::Status(_)
-        | Event::Register { .. }
-        | Event::OpenCustomer(_)
-        | Event::Deposit { .. }
-        | Event::Flag { .. }
-        | Event::Balance(_)
-        | Event::Deliver(_)
-        | Event::Give { .. }
-        | Event::Order { .. }
-        | Event::Send(_)
-        | Event::Print(_)
-        | Event::Close(_)
-        | Event::Trust { .. }
-        | Event::ScanMsg { .. }
-        | Event::ScanHex { .. }
-        | Event::Reconcile(_)
-        | Event::End => false,
-    }
 }
 
 // What a `rates` does. It alone may want memory, and it sends nothing.
@@ -105,7 +51,7 @@ fn rates_turn<T: Tell, M: Fuse + Drop, N: Nv, R: Source>(
         (beside (feed_of R.Source rates.old) printer) (beside (feed_of R.Source rates.new) printer))) }
 {
     match bench.day {
-        None => Ok(no_day()),
+        None => Ok(T::silent(Reply::NoDay)),
         Some(_) => read_turn(alloc, &mut bench.rates, rates),
     }
 }
@@ -144,27 +90,36 @@ fn turn_of<T: Tell, M: Fuse + Drop, N: Nv, P: Sink>(
             begun(*day)
         }
         Taken::End => T::silent(Reply::End),
-        Taken::Rates => unreachable!(),
-        Taken::NoMessage(number) => T::silent(on_day(today, Reply::NoMessage(*number))),
-        Taken::Reconcile(device) => T::silent(on_day(
-            today,
-            compare(*device, &bench.devices, &bench.centre),
-        )),
-        Taken::Device(device, asked) => match today {
-            None => no_day(),
-            Some(day) => device_turn(&mut bench.devices, *device, day, asked),
-        },
-        Taken::Centre(asked) => match today {
-            None => no_day(),
-            Some(day) => centre_turn(&mut bench.centre, day, asked),
-        },
-        Taken::Host(asked) => match today {
-            None => no_day(),
-            Some(day) => host_turn(&mut bench.host, day, asked, printer),
-        },
-        Taken::Verifier(asked) => match today {
-            None => no_day(),
-            Some(day) => verifier_turn(&mut bench.verifier, day, asked),
+        _ => match today {
+            None => T::silent(Reply::NoDay),
+            Some(day) => match taken {
+                Taken::Day(_) => unreachable!(),
+                Taken::End => unreachable!(),
+                Taken::Rates => unreachable!(),
+                Taken::NoMessage(number) => T::silent(Reply::NoMessage(*number)),
+                Taken::Reconcile(device) => {
+                    T::silent(compare(*device, &bench.devices, &bench.centre))
+                }
+                Taken::Device(device, asked) => {
+                    device_turn(&mut bench.devices, *device, day, asked, printer)
+                }
+                Taken::Centre(asked) => {
+                    node_turn(&mut bench.centre, (), &NodeNo::Centre, day, asked, printer)
+                }
+                Taken::Host(asked) => {
+                    node_turn(&mut bench.host, (), &NodeNo::Host, day, asked, printer)
+                }
+                Taken::Verifier(asked) => {
+                    node_turn(
+                        &mut bench.verifier,
+                        (),
+                        &NodeNo::Verifier,
+                        day,
+                        asked,
+                        printer,
+                    )
+                }
+            },
         },
     }
 }
@@ -188,12 +143,12 @@ pub fn react<T: Tell, M: Fuse + Drop, N: Nv, R: Source, P: Sink>(
         × WantsMemory event.now (bench_of bench.old).day
         (outside R.Source rates.old P.Sink printer.old) (outside R.Source rates.new P.Sink printer.new)) }
 {
-    if is_rates(event) {
-        return rates_turn(alloc, bench, rates);
-    }
-    let Sending { told, sent } = turn_of(bench, event, printer);
-    bench.send(sent);
-    Ok(told)
+    let Event::Rates = event else {
+        let Sending { told, sent } = turn_of(bench, event, printer);
+        bench.send(sent);
+        return Ok(told);
+    };
+    rates_turn(alloc, bench, rates)
 }
 
 /// Does one event: its reply, and what it adds to the ledger. Only a `rates` on a day takes memory, for its text and its rates; where

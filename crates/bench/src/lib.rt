@@ -7,6 +7,7 @@ mod comparing;
 mod device_turns;
 mod event;
 mod host_turns;
+mod node_turn;
 mod places;
 mod rates;
 mod stores;

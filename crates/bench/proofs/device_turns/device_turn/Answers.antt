@@ -1,5 +1,7 @@
 use Rattle.std.proofs.Common.{◌-◌, ◌<◌, sym, refl, arith}
 use Rattle.std.proofs.lemmas.Option.{slice_get_read}
+use Rattle.bench.specs.Calls.{device_call_event}
+use Rattle.bench.proofs.Called.{told_event}
 use Rattle.bench.proofs.device_turns.device_turn.Goals as goal
 
 pub returns : goal.returns
@@ -7,7 +9,7 @@ returns g c =
     let devices = c.args.devices.now.items in
     let place = c.get.result - 1 in
     let inside : place < 8 = omega (arith, c.get.ensures.range.0, c.get.ensures.range.1) in
-    let came = c.device_did.ensures.did in
+    let came = told_event _ _ _ _ _ _ _ (device_call_event c.args.device) (λ turn. g.T.Tell.IsOf c.node_turn.result turn) _ _ _ _ c.args.asked.now c.node_turn.ensures.did in
     record {
       did = (
         came.0,
@@ -16,10 +18,11 @@ returns g c =
           place = place;
           is_device = omega (arith, c.get.ensures.range.0, c.get.ensures.value);
           before = c.index_mut.result.now;
-          now = c.device_did.new.place;
+          now = c.node_turn.new.place;
           was = slice_get_read devices 8 place c.index_mut.result.now (sym c.requires.eight) inside c.index_mut.ensures.value;
           set = refl;
           did = came.2;
+          prints = came.3;
         },
       );
     }

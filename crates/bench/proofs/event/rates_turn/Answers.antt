@@ -2,7 +2,6 @@ use Rattle.std.proofs.Common.{[], refl}
 use Rattle.bench_base.specs.declared.events.Event.TheVariants as ev
 use Rattle.bench_base.specs.declared.events.Reply.TheVariants as r
 use Rattle.node_turns.specs.Turns.{turn_of}
-use Rattle.bench_views.specs.declared.taken.Taken.TheVariants as take
 use Rattle.bench.specs.contracts.benches.BenchOverHasNodes.TheImpl.{ghosts}
 use Rattle.bench.specs.Benches.{Nodes, bench_of}
 use Rattle.bench.specs.Outside.{beside, feed_of}
@@ -20,8 +19,8 @@ returns-in-None-clause-did g c =
     let old = bench_of c.args.bench.now in (
       [],
       turn_of r.NoDay [],
-      c.no_day.ensures,
-      λ printer. steps_none (nodes_in g) old c.requires.ready (beside (feed_of g.R.Source c.args.rates.now) printer) ev.Rates take.Rates tt refl refl c.in-None.is,
+      c.silent.ensures,
+      λ printer. steps_none (nodes_in g) old c.requires.ready (beside (feed_of g.R.Source c.args.rates.now) printer) ev.Rates tt refl c.in-None.is,
     )
 
 pub returns-in-Some-clause-did : goal.returns-in-Some-clause-did

@@ -7,13 +7,13 @@ use Rattle.bench.specs.Steps.{notes_of, sending}
 use Rattle.bench.proofs.OneTurn.{each_ok, same_steps, sent_steps}
 use Rattle.bench.proofs.event.react.Goals as goal
 
-pub returns-then-is_rates-clause-did : goal.returns-then-is_rates-clause-did
-returns-then-is_rates-clause-did g c =
-    each_ok _ _ (λ told did. (did.0, did.1, did.2, same_steps _ _ _ did.0 did.1 _ _ _ _ (c.is_rates.ensures.0 c.if-is_rates.true) (did.3 (printer_of g.P.Sink c.args.printer.now))))
-    c.rates_turn.result c.rates_turn.ensures.did
-
 pub returns-clause-did : goal.returns-clause-did
 returns-clause-did g c =
+    each_ok _ _ (λ told did. (did.0, did.1, did.2, same_steps _ _ _ did.0 did.1 _ _ _ _ c.in-Rates.is (did.3 (printer_of g.P.Sink c.args.printer.now))))
+    c.rates_turn.result c.rates_turn.ensures.did
+
+pub returns-in_default-clause-did : goal.returns-in_default-clause-did
+returns-in_default-clause-did g c =
     let did = c.turn_of-told.ensures.did in
     let left = bench_of c.turn_of-told.new.bench in
     let sent : bench_of c.send.new.self ≡ sending did.0 left = c.send.ensures ∙ ap (λ (o : Option (List ℕ)). record left { messages = left.messages ++ notes_of o }) did.1.1 in

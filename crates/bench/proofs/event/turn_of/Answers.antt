@@ -1,13 +1,11 @@
 use Rattle.std.specs.Prelude.{slice_get, IfSome, ◌+◌, ◌-◌}
 use Rattle.std.proofs.Common.{◌≡◌, ◌↔◌, ℕ, List, [], ◌∷◌, Option, Some, None, true, false, refl, sym, ◌∙◌, ap, subst, arith}
-use Rattle.bench_base.specs.declared.words.Node.{Node}
 use Rattle.bench_base.specs.declared.words.Node.TheVariants.{Device, Centre, Host, Verifier}
 use Rattle.bench_base.specs.declared.ledger.Entry.TheVariants as entry
 use Rattle.bench_base.specs.declared.events.Event.{Event}
 use Rattle.bench_base.specs.declared.events.Event.TheVariants as ev
 use Rattle.bench_base.specs.declared.events.Reply.{Reply}
 use Rattle.bench_base.specs.declared.events.Reply.TheVariants as r
-use Rattle.bench_base.specs.Events.{needs_day}
 use Rattle.bench_base.specs.Replies.{on_after}
 use Rattle.bench_base.specs.Ranges.{IsWholeEvent}
 use Rattle.node_turns.specs.declared.turn.Turn.{Turn}
@@ -25,18 +23,19 @@ use Rattle.bench_views.specs.Centre as centres
 use Rattle.bench_views.specs.Host as hosts
 use Rattle.bench_views.specs.Verifier as verifiers
 use Rattle.bench_views.specs.Comparing.{compare}
-use Rattle.bench_views.specs.Tariff.{Quote, quote}
-use Rattle.bench_views.specs.Taken.{taken, as_given, IsPriced}
+use Rattle.bench_views.specs.Tariff.{quote}
+use Rattle.bench_views.specs.Taken.{IsPriced}
 use Rattle.bench.specs.contracts.benches.BenchOverHasNodes.TheImpl.{ghosts}
-use Rattle.bench.specs.Benches.{Nodes, BenchOf, IsReady, bench_of, devices, centre as centre_of, host as host_of, verifier as verifier_of}
-use Rattle.bench.specs.Calls.{dated, device_event, centre_event, host_event, verifier_event}
+use Rattle.bench.specs.Benches.{Nodes, BenchOf, bench_of, devices, centre as centre_of, host as host_of, verifier as verifier_of}
+use Rattle.bench.specs.Calls.{device_event, centre_event, host_event, verifier_event, centre_call_event, host_call_event, verifier_call_event}
 use Rattle.bench.specs.Comparing.{ShowsAt, running_device, running_centre}
 use Rattle.bench.specs.Outside.{Outside, beside}
 use Rattle.bench.specs.Steps.{Steps, ComparesViews, sending}
 use Rattle.bench.proofs.Answered.{Answers, quiet_is, steps_day, steps_end, steps_none, steps_missing, steps_compared}
 use Rattle.bench.proofs.AskedNodes.{device_asked, centre_asked, host_asked, verifier_asked}
+use Rattle.bench.proofs.Called.{told_event}
 use Rattle.bench.proofs.Compares.{compare_answers, compare_off, compare_off_centre, compare_leaves, compare_same}
-use Rattle.bench.proofs.Events.{IsOfNode, given_alike, of_device, of_centre, of_host, of_verifier, device_given, centre_given, host_given, verifier_given, centre_ranged, host_ranged, verifier_ranged}
+use Rattle.bench.proofs.Events.{taken_as, needs_taken, of_call, centre_ranged, host_ranged, verifier_ranged}
 use Rattle.bench.proofs.Making.{get_some}
 use Rattle.bench.proofs.NodeEvents.{steps}
 use Rattle.bench.proofs.Quiet.{as_sent}
@@ -70,10 +69,6 @@ module _ (g : Over) where
   known_verifier : (s : (nodes_in g).verifier.Seen) → (nodes_in g).verifier.IsSound tt s → verifiers.IsKnown s
   known_verifier s sound = record { sound = sound.rows; few = sound.few }
 
--- what is taken
-taken_as : (pool given : List (List ℕ)) (q : Quote) (e : Event) (o : Option Taken) (x y : Taken) → given ≡ pool → o ≡ taken given q e → o ≡ Some x → x ≡ y → taken pool q e ≡ Some y
-taken_as pool given q e o x y same is some named = ap (λ (l : List (List ℕ)). taken l q e) (sym same) ∙ sym is ∙ some ∙ ap (λ z. Some z) named
-
 pub returns-in-Day-clause-did : goal.returns-in-Day-clause-did
 returns-in-Day-clause-did g c =
     let old = bench_of c.args.bench.now in
@@ -103,25 +98,36 @@ returns-in-End-clause-did g c =
           (subst (λ (e : Event). Stepped g e (turn_of r.End []) old old out) (sym e_is) (steps_end (nodes_in g) old c.requires.ready out (subst IsWholeEvent e_is c.requires.whole))),
     )
 
--- == what the bench answers by what it sees ==
+-- == without a day ==
 
--- by the reply of a day, or that there is none
-dated_as : (g : Over) (e : Event) (told reply : Reply) (old : B g) (out : Outside) → told ≡ dated old.day reply → Stepped g e (turn_of (dated old.day reply) []) old old out
-    → Stepped g e (turn_of told []) old (sending (turn_of told []) old) out
-dated_as g e told reply old out is steps =
-    as_sent (nodes_in g) e [] (turn_of told []) old old out out refl (subst (λ (x : Reply). Stepped g e (turn_of x []) old old out) (sym is) steps)
+pub returns-in-None-clause-did : goal.returns-in-None-clause-did
+returns-in-None-clause-did g c =
+    let old = bench_of c.args.bench.now in
+    let e = c.args.event.now in
+    let is = taken_as old.messages c.deref.result.now (quote old.rates) e c.take-found.result c.in-Some.taken c.in-Some.taken c.deref.ensures.value c.take-found.ensures.exact c.in-Some.is refl in
+    let turn = turn_of r.NoDay [] in (
+      turn,
+      c.silent-in-None.ensures,
+      refl,
+      λ feed. let out = beside feed (printer_of g.P.Sink c.args.printer.now) in
+          as_sent (nodes_in g) e [] turn old old out out refl
+          (steps_none (nodes_in g) old c.requires.ready out e c.requires.whole (needs_taken old.messages (quote old.rates) e c.in-Some.taken is c.in_default-taken.not-Day c.in_default-taken.not-End) c.in-None.is),
+    )
+
+-- == what the bench answers by what it sees ==
 
 pub returns-in-NoMessage-clause-did : goal.returns-in-NoMessage-clause-did
 returns-in-NoMessage-clause-did g c =
     let old = bench_of c.args.bench.now in
     let k = c.in-NoMessage.number in
-    let is = taken_as old.messages c.deref.result.now (quote old.rates) c.args.event.now c.take-found.result c.in-Some.taken (take.NoMessage k) c.deref.ensures.value c.take-found.ensures.exact c.in-Some.is c.in-NoMessage.is in (
-      turn_of c.on_day.result [],
+    let is = taken_as old.messages c.deref.result.now (quote old.rates) c.args.event.now c.take-found.result c.in-Some.taken (take.NoMessage k) c.deref.ensures.value c.take-found.ensures.exact c.in-Some.is c.in-NoMessage.is in
+    let turn = turn_of (r.NoMessage k) [] in (
+      turn,
       c.silent-in-NoMessage.ensures,
       refl,
       λ feed. let out = beside feed (printer_of g.P.Sink c.args.printer.now) in
-          dated_as g c.args.event.now c.on_day.result (r.NoMessage k) old out c.on_day.ensures
-          (steps_missing (nodes_in g) old c.requires.ready out centres.IsKnown (known_centre g) c.nodes_follow.ensures.quiet c.prices_by_text.ensures.kept c.args.event.now c.requires.whole k is),
+          as_sent (nodes_in g) c.args.event.now [] turn old old out out refl
+          (steps_missing (nodes_in g) old c.requires.ready out c.in-Some-today.day c.in-Some-today.is centres.IsKnown (known_centre g) c.nodes_follow.ensures.quiet c.prices_by_text.ensures.kept c.args.event.now c.requires.whole k is),
     )
 
 -- what a device and the centre show, as they run, is what any two views show for which they stand
@@ -141,12 +147,12 @@ returns-in-Reconcile-clause-did g c =
     let own = subst IsWholeEvent e_is c.requires.whole in
     let s = get_some old.devices (d - 1) (omega (arith, own.0, own.1, c.requires.ready.eight)) in
     let one : c.compare.result ≡ compare d (running_device s.0) (running_centre old.centre) = shows (d - 1) s.0 (omega (arith, own.0)) s.1 in (
-      turn_of c.on_day-in-Reconcile.result [],
+      turn_of c.compare.result [],
       c.silent-in-Reconcile.ensures,
       refl,
       λ feed. let out = beside feed (printer_of g.P.Sink c.args.printer.now) in
-          dated_as g c.args.event.now c.on_day-in-Reconcile.result c.compare.result old out c.on_day-in-Reconcile.ensures
-          (steps_compared (nodes_in g) old c.requires.ready out centres.IsKnown (known_centre g) c.nodes_follow.ensures.quiet c.prices_by_text.ensures.kept c.args.event.now c.requires.whole d
+          as_sent (nodes_in g) c.args.event.now [] (turn_of c.compare.result []) old old out out refl
+          (steps_compared (nodes_in g) old c.requires.ready out c.in-Some-today.day c.in-Some-today.is centres.IsKnown (known_centre g) c.nodes_follow.ensures.quiet c.prices_by_text.ensures.kept c.args.event.now c.requires.whole d
           c.compare.result is
           (subst (λ (x : Reply). Answers (ev.Reconcile d) x) (sym one) (compare_answers d (running_device s.0) (running_centre old.centre)))
           (λ was. subst (λ (x : Reply). was ≡ on_after x was) (sym one) (compare_leaves d (running_device s.0) (running_centre old.centre) was))
@@ -155,73 +161,10 @@ returns-in-Reconcile-clause-did g c =
           (compares g d c.compare.result old shows)),
     )
 
--- == without a day ==
+-- == what it asks a node ==
 
--- an event of a node needs one
-needs : (pool : List (List ℕ)) (e x : Event) (m : Node) → as_given pool e ≡ x → IsOfNode m x → needs_day e ≡ true
-needs pool e x m given of = (given_alike pool e).day ∙ ap needs_day given ∙ of.dated
-
-none_told : (g : Over) (e : Event) (x : Taken) (old : B g) (out : Outside) → IsReady old → IsWholeEvent e → needs_day e ≡ true → taken old.messages (quote old.rates) e ≡ Some x → old.day ≡ None
-    → Stepped g e (turn_of r.NoDay []) old (sending (turn_of r.NoDay []) old) out
-none_told g e x old out ready whole needs is none = as_sent (nodes_in g) e [] (turn_of r.NoDay []) old old out out refl (steps_none (nodes_in g) old ready out e x whole needs is none)
-
-pub returns-in-None-clause-did : goal.returns-in-None-clause-did
-returns-in-None-clause-did g c =
-    let b = c.in-Device in
-    let old = bench_of c.args.bench.now in
-    let is = taken_as old.messages c.deref.result.now (quote old.rates) c.args.event.now c.take-found.result c.in-Some.taken (take.Device b.device b.asked) c.deref.ensures.value c.take-found.ensures.exact c.in-Some.is b.is in (
-      turn_of r.NoDay [],
-      c.no_day.ensures,
-      refl,
-      λ feed. let out = beside feed (printer_of g.P.Sink c.args.printer.now) in
-          none_told g c.args.event.now (take.Device b.device b.asked) old out c.requires.ready c.requires.whole
-          (needs old.messages c.args.event.now (device_event b.device b.asked) (Device b.device) (device_given old.messages (quote old.rates) c.args.event.now b.device b.asked is) (of_device b.device b.asked)) is
-          c.in-None.is,
-    )
-
-pub returns-in-None-today-clause-did : goal.returns-in-None-today-clause-did
-returns-in-None-today-clause-did g c =
-    let b = c.in-Centre in
-    let old = bench_of c.args.bench.now in
-    let is = taken_as old.messages c.deref.result.now (quote old.rates) c.args.event.now c.take-found.result c.in-Some.taken (take.Centre b.asked) c.deref.ensures.value c.take-found.ensures.exact c.in-Some.is b.is in (
-      turn_of r.NoDay [],
-      c.no_day-in-None-today.ensures,
-      refl,
-      λ feed. let out = beside feed (printer_of g.P.Sink c.args.printer.now) in
-          none_told g c.args.event.now (take.Centre b.asked) old out c.requires.ready c.requires.whole
-          (needs old.messages c.args.event.now (centre_event b.asked) Centre (centre_given old.messages (quote old.rates) c.args.event.now b.asked is) (of_centre b.asked)) is c.in-None-today.is,
-    )
-
-pub returns-in-None-today-2-clause-did : goal.returns-in-None-today-2-clause-did
-returns-in-None-today-2-clause-did g c =
-    let b = c.in-Host in
-    let old = bench_of c.args.bench.now in
-    let is = taken_as old.messages c.deref.result.now (quote old.rates) c.args.event.now c.take-found.result c.in-Some.taken (take.Host b.asked) c.deref.ensures.value c.take-found.ensures.exact c.in-Some.is b.is in (
-      turn_of r.NoDay [],
-      c.no_day-in-None-today-2.ensures,
-      refl,
-      λ feed. let out = beside feed (printer_of g.P.Sink c.args.printer.now) in
-          none_told g c.args.event.now (take.Host b.asked) old out c.requires.ready c.requires.whole
-          (needs old.messages c.args.event.now (host_event b.asked) Host (host_given old.messages (quote old.rates) c.args.event.now b.asked is) (of_host b.asked)) is c.in-None-today-2.is,
-    )
-
-pub returns-in-None-today-3-clause-did : goal.returns-in-None-today-3-clause-did
-returns-in-None-today-3-clause-did g c =
-    let b = c.in-Verifier in
-    let old = bench_of c.args.bench.now in
-    let is = taken_as old.messages c.deref.result.now (quote old.rates) c.args.event.now c.take-found.result c.in-Some.taken (take.Verifier b.asked) c.deref.ensures.value c.take-found.ensures.exact c.in-Some.is b.is in (
-      turn_of r.NoDay [],
-      c.no_day-in-None-today-3.ensures,
-      refl,
-      λ feed. let out = beside feed (printer_of g.P.Sink c.args.printer.now) in
-          none_told g c.args.event.now (take.Verifier b.asked) old out c.requires.ready c.requires.whole
-          (needs old.messages c.args.event.now (verifier_event b.asked) Verifier (verifier_given old.messages (quote old.rates) c.args.event.now b.asked is) (of_verifier b.asked)) is c.in-None-today-3.is,
-    )
-
--- == on a day ==
-
-pub returns-in-Some-today-clause-did : goal.returns-in-Some-today-clause-did
-returns-in-Some-today-clause-did g c =
+pub returns-in-Device-clause-did : goal.returns-in-Device-clause-did
+returns-in-Device-clause-did g c =
     let b = c.in-Device in
     let e = c.args.event.now in
     let old = bench_of c.args.bench.now in
@@ -232,85 +175,90 @@ returns-in-Some-today-clause-did g c =
       did.0,
       did.1,
       refl,
-      λ feed. let out = beside feed (printer_of g.P.Sink c.args.printer.now) in
-          steps (nodes_in g) e (device_event b.device b.asked) today old new did.0 out out (Device b.device) (devices (nodes_in g)) b.device b.asked did.2.before did.2.now (take.Device b.device)
-          (device_asked (nodes_in g) e today old new did.0 out out c.in-Some-today.is refl refl refl refl b.device b.asked did.2 refl refl refl refl is)
+      λ feed. let before = beside feed (printer_of g.P.Sink c.args.printer.now) in
+          let now = beside feed (printer_of g.P.Sink c.device_turn.new.printer) in
+          steps (nodes_in g) e (device_event b.device b.asked) today old new did.0 before now (Device b.device) (devices (nodes_in g)) b.device b.asked did.2.before did.2.now (take.Device b.device)
+          (device_asked (nodes_in g) e today old new did.0 before now c.in-Some-today.is refl refl refl refl b.device b.asked did.2 refl refl refl is)
           c.requires.whole c.requires.ready c.prices_by_text.ensures.kept (λ asked. Unit {0}) tt device_kinds.IsKnown (known_device g b.device) (c.nodes_follow.ensures.devices b.device),
     )
 
-pub centre_turn-requires : goal.centre_turn-requires
-centre_turn-requires g c =
+pub node_turn-requires : goal.node_turn-requires
+node_turn-requires g c =
     let old = bench_of c.args.bench.now in
     let b = c.in-Centre in
     let is = taken_as old.messages c.deref.result.now (quote old.rates) c.args.event.now c.take-found.result c.in-Some.taken (take.Centre b.asked) c.deref.ensures.value c.take-found.ensures.exact c.in-Some.is b.is in
     record { ranged = centre_ranged old.messages (quote old.rates) c.args.event.now b.asked is c.requires.whole }
 
-pub returns-in-Some-today-2-clause-did : goal.returns-in-Some-today-2-clause-did
-returns-in-Some-today-2-clause-did g c =
+pub returns-in-Centre-clause-did : goal.returns-in-Centre-clause-did
+returns-in-Centre-clause-did g c =
     let b = c.in-Centre in
     let e = c.args.event.now in
     let old = bench_of c.args.bench.now in
-    let did = c.centre_turn.ensures.did in
-    let today = c.in-Some-today-2.day in
+    let did = told_event _ _ _ _ _ _ _ centre_call_event (λ turn. g.T.Tell.IsOf c.node_turn.result turn) _ _ _ _ b.asked c.node_turn.ensures.did in
+    let today = c.in-Some-today.day in
     let is = taken_as old.messages c.deref.result.now (quote old.rates) e c.take-found.result c.in-Some.taken (take.Centre b.asked) c.deref.ensures.value c.take-found.ensures.exact c.in-Some.is b.is in
-    let new = sending did.0 (record old { centre = c.centre_turn.new.place }) in (
+    let new = sending did.0 (record old { centre = c.node_turn.new.place }) in (
       did.0,
       did.1,
       refl,
-      λ feed. let out = beside feed (printer_of g.P.Sink c.args.printer.now) in
-          steps (nodes_in g) e (centre_event b.asked) today old new did.0 out out Centre (centre_of (nodes_in g)) tt b.asked old.centre new.centre take.Centre
-          (centre_asked (nodes_in g) e today old new did.0 out out c.in-Some-today-2.is refl refl refl refl b.asked did.2 refl refl refl refl is)
-          c.requires.whole c.requires.ready c.prices_by_text.ensures.kept centres.AreBytes c.centre_turn.ensures.bytes centres.IsKnown (known_centre g) c.nodes_follow.ensures.centre,
+      λ feed. let before = beside feed (printer_of g.P.Sink c.args.printer.now) in
+          let now = beside feed (printer_of g.P.Sink c.node_turn.new.printer) in
+          steps (nodes_in g) e (centre_event b.asked) today old new did.0 before now Centre (centre_of (nodes_in g)) tt b.asked old.centre new.centre take.Centre
+          (centre_asked (nodes_in g) e today old new did.0 before now c.in-Some-today.is refl refl refl refl b.asked did.2 did.3 refl refl refl is)
+          c.requires.whole c.requires.ready c.prices_by_text.ensures.kept centres.AreBytes (of_call centres.AreBytes tt tt (λ calls keep byte. tt) (λ call bytes. bytes) b.asked c.node_turn.ensures.bytes)
+          centres.IsKnown (known_centre g) c.nodes_follow.ensures.centre,
     )
 
-pub host_turn-requires : goal.host_turn-requires
-host_turn-requires g c =
+pub node_turn-requires-in-Host : goal.node_turn-requires-in-Host
+node_turn-requires-in-Host g c =
     let old = bench_of c.args.bench.now in
     let b = c.in-Host in
     let is = taken_as old.messages c.deref.result.now (quote old.rates) c.args.event.now c.take-found.result c.in-Some.taken (take.Host b.asked) c.deref.ensures.value c.take-found.ensures.exact c.in-Some.is b.is in
     let priced = subst (λ (o : Option Taken). IfSome o IsPriced) (c.in-Some.is ∙ ap (λ x. Some x) b.is) c.take-found.ensures.priced in
     record { ranged = host_ranged old.messages (quote old.rates) c.args.event.now b.asked is c.requires.whole priced }
 
-pub returns-in-Some-today-3-clause-did : goal.returns-in-Some-today-3-clause-did
-returns-in-Some-today-3-clause-did g c =
+pub returns-in-Host-clause-did : goal.returns-in-Host-clause-did
+returns-in-Host-clause-did g c =
     let b = c.in-Host in
     let e = c.args.event.now in
     let old = bench_of c.args.bench.now in
-    let did = c.host_turn.ensures.did in
-    let today = c.in-Some-today-3.day in
+    let did = told_event _ _ _ _ _ _ _ host_call_event (λ turn. g.T.Tell.IsOf c.node_turn-in-Host.result turn) _ _ _ _ b.asked c.node_turn-in-Host.ensures.did in
+    let today = c.in-Some-today.day in
     let is = taken_as old.messages c.deref.result.now (quote old.rates) e c.take-found.result c.in-Some.taken (take.Host b.asked) c.deref.ensures.value c.take-found.ensures.exact c.in-Some.is b.is in
-    let new = sending did.0 (record old { host = c.host_turn.new.place }) in (
+    let new = sending did.0 (record old { host = c.node_turn-in-Host.new.place }) in (
       did.0,
       did.1,
       refl,
       λ feed. let before = beside feed (printer_of g.P.Sink c.args.printer.now) in
-          let now = beside feed (printer_of g.P.Sink c.host_turn.new.printer) in
+          let now = beside feed (printer_of g.P.Sink c.node_turn-in-Host.new.printer) in
           steps (nodes_in g) e (host_event b.asked) today old new did.0 before now Host (host_of (nodes_in g)) tt b.asked old.host new.host take.Host
-          (host_asked (nodes_in g) e today old new did.0 before now c.in-Some-today-3.is refl refl refl refl b.asked did.2 did.3 refl refl refl is)
+          (host_asked (nodes_in g) e today old new did.0 before now c.in-Some-today.is refl refl refl refl b.asked did.2 did.3 refl refl refl is)
           c.requires.whole c.requires.ready c.prices_by_text.ensures.kept (λ asked. Unit {0}) tt hosts.IsKnown (known_host g) c.host_follows.ensures,
     )
 
-pub verifier_turn-requires : goal.verifier_turn-requires
-verifier_turn-requires g c =
+pub node_turn-requires-in-Verifier : goal.node_turn-requires-in-Verifier
+node_turn-requires-in-Verifier g c =
     let old = bench_of c.args.bench.now in
     let b = c.in-Verifier in
     let is = taken_as old.messages c.deref.result.now (quote old.rates) c.args.event.now c.take-found.result c.in-Some.taken (take.Verifier b.asked) c.deref.ensures.value c.take-found.ensures.exact c.in-Some.is b.is in
     record { ranged = verifier_ranged old.messages (quote old.rates) c.args.event.now b.asked is c.requires.whole }
 
-pub returns-in-Some-today-4-clause-did : goal.returns-in-Some-today-4-clause-did
-returns-in-Some-today-4-clause-did g c =
+pub returns-in-Verifier-clause-did : goal.returns-in-Verifier-clause-did
+returns-in-Verifier-clause-did g c =
     let b = c.in-Verifier in
     let e = c.args.event.now in
     let old = bench_of c.args.bench.now in
-    let did = c.verifier_turn.ensures.did in
-    let today = c.in-Some-today-4.day in
+    let did = told_event _ _ _ _ _ _ _ verifier_call_event (λ turn. g.T.Tell.IsOf c.node_turn-in-Verifier.result turn) _ _ _ _ b.asked c.node_turn-in-Verifier.ensures.did in
+    let today = c.in-Some-today.day in
     let is = taken_as old.messages c.deref.result.now (quote old.rates) e c.take-found.result c.in-Some.taken (take.Verifier b.asked) c.deref.ensures.value c.take-found.ensures.exact c.in-Some.is b.is in
-    let new = sending did.0 (record old { verifier = c.verifier_turn.new.place }) in (
+    let new = sending did.0 (record old { verifier = c.node_turn-in-Verifier.new.place }) in (
       did.0,
       did.1,
       refl,
-      λ feed. let out = beside feed (printer_of g.P.Sink c.args.printer.now) in
-          steps (nodes_in g) e (verifier_event b.asked) today old new did.0 out out Verifier (verifier_of (nodes_in g)) tt b.asked old.verifier new.verifier take.Verifier
-          (verifier_asked (nodes_in g) e today old new did.0 out out c.in-Some-today-4.is refl refl refl refl b.asked did.2 refl refl refl refl is)
-          c.requires.whole c.requires.ready c.prices_by_text.ensures.kept verifiers.AreBytes c.verifier_turn.ensures.bytes verifiers.IsKnown (known_verifier g) c.verifier_follows.ensures,
+      λ feed. let before = beside feed (printer_of g.P.Sink c.args.printer.now) in
+          let now = beside feed (printer_of g.P.Sink c.node_turn-in-Verifier.new.printer) in
+          steps (nodes_in g) e (verifier_event b.asked) today old new did.0 before now Verifier (verifier_of (nodes_in g)) tt b.asked old.verifier new.verifier take.Verifier
+          (verifier_asked (nodes_in g) e today old new did.0 before now c.in-Some-today.is refl refl refl refl b.asked did.2 did.3 refl refl refl is)
+          c.requires.whole c.requires.ready c.prices_by_text.ensures.kept verifiers.AreBytes (of_call verifiers.AreBytes tt tt (λ calls keep byte. tt) (λ call bytes. bytes) b.asked c.node_turn-in-Verifier.ensures.bytes)
+          verifiers.IsKnown (known_verifier g) c.verifier_follows.ensures,
     )
