@@ -1,8 +1,7 @@
 -- The bytes of a statement have one verdict, and it is the one of which they were taken.
-use Rattle.std.proofs.Common.{◌≡◌, ◌≢◌, ℕ, ℤ, pos, ◌+◌, ◌<◌, ◌≤◌, List, [], ◌∷◌, ◌++◌, length, map, Some, None, false, refl, sym, ap, subst, ◌∙◌, arith, append_assoc, append-nil, inl, inr, length-append, eqb}
+use Rattle.std.proofs.Common.{◌≡◌, ◌≢◌, ℕ, ℤ, pos, ◌+◌, ◌<◌, ◌≤◌, List, [], ◌∷◌, ◌++◌, length, map, Some, None, false, refl, sym, ap, subst, ◌∙◌, arith, append_assoc, append-nil, inl, inr, length-append}
 use Rattle.std.proofs.lemmas.Bool.Decides.{eqb_tells}
-use Rattle.std.proofs.lemmas.Bool.{ne_eqb, cond-false}
-use Rattle.line_runs.specs.Ends.{lines_of, with_byte}
+use Rattle.line_runs.specs.Ends.{lines_of}
 use Rattle.line_runs.specs.Lines.{IsOneLine, ended}
 use Rattle.line_runs.proofs.EndLaws.{lines_of-ended, line_first, lines_of-last}
 use Rattle.statement_check.specs.Lines.{IsInRange, line_text}
@@ -115,9 +114,6 @@ lines_of-script place [] more each = refl
 lines_of-script place (line ∷ lines) more each =
     ap lines_of (append_assoc (ended (line_text line)) (script_of lines) more) ∙ lines_of-ended (line_text line) (script_of lines ++ more) (line_one line each.0.ranges)
     ∙ ap (λ (ls : List (List ℕ)). line_text line ∷ ls) (lines_of-script (place_behind line) lines more each.1)
-
-byte_before : (c : ℕ) (bytes : List ℕ) → c ≢ 10 → lines_of (c ∷ bytes) ≡ with_byte c (lines_of bytes)
-byte_before c bytes other = cond-false (eqb c 10) ([] ∷ lines_of bytes) (with_byte c (lines_of bytes)) (ne_eqb c 10 other)
 
 -- where the first line of the bytes ends
 data FirstEnd (bytes : List ℕ) : Type 0 where

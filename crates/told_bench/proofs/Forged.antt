@@ -1,6 +1,7 @@
 -- Whether bytes are forged, by the ledger.
-use Rattle.std.proofs.Common.{◌≡◌, ◌≢◌, ◌↔◌, ℕ, List, [], ◌∷◌, Bool, true, false, not, ◌&&◌, nat_le, if◌then◌else◌, Option, Some, None, option_map, Result, Ok, Err, ◌==◌, refl, sym, ◌∙◌, ap, subst, true≢false, arith}
+use Rattle.std.proofs.Common.{◌≡◌, ◌↔◌, ℕ, List, [], ◌∷◌, Bool, true, false, not, ◌&&◌, nat_le, if◌then◌else◌, Option, Some, None, option_map, Result, Ok, Err, ◌==◌, refl, sym, ◌∙◌, ap, subst, true≢false, arith}
 use Rattle.std.specs.Prelude.{All}
+use Rattle.std.proofs.lemmas.Bool.{eqb-true}
 use Rattle.std.proofs.lemmas.Bool.Decides.{nat_tests}
 use Rattle.std.proofs.lemmas.List.Elements.{All-head, All-tail}
 use Rattle.bench_base.specs.declared.words.Node.{Node}
@@ -12,6 +13,7 @@ use Rattle.bench_base.specs.declared.ledger.Commit.TheVariants as c
 use Rattle.bench_base.specs.Ranges.{IsDevice, InRange}
 use Rattle.bench_base.specs.Ledger.{Ledger, IsSent, IsReleased, counted}
 use Rattle.bench_base.specs.Scans.{trusted}
+use Rattle.bench_base.proofs.Facts.{unlike}
 use Rattle.node_acts.specs.Views.{View}
 use Rattle.indicium.specs.declared.Mark.{Mark}
 use Rattle.psd_wire.specs.declared.message.Message.{Message}
@@ -71,12 +73,6 @@ module _ (bytes : List ℕ) (known : ByteSet (List ℕ)) (P : Type 0) (same : Ha
 
 -- == a device ==
 
-equal_so : (a b : ℕ) → (a == b) ≡ true → a ≡ b
-equal_so a b is = grind (arith, nat_tests)
-
-equal_not : (a b : ℕ) → (a == b) ≡ false → a ≢ b
-equal_not a b is same = grind (arith, nat_tests)
-
 key_kept : (d : ℕ) (C : List Commit) (k : Option (List ℕ)) → option_map (λ s. s.key) (record_with d C k) ≡ k
 key_kept d C None = refl
 key_kept d C (Some key) = refl
@@ -92,8 +88,8 @@ reply_tells bytes known d H same (Ok (m.Reply p)) = by (p.device == d) refl
     u = is_unknown bytes (option_map (λ s. s.key) (record_in d (counted H))) known
 
     by : (t : Bool) → (p.device == d) ≡ t → TellsNot (t && u) (p.device ≡ d → Own)
-    by true is = under u (p.device ≡ d) Own (equal_so p.device d is) (keys_tell bytes known (IsSent bytes H) same _ (key_of d (counted H)) (key_kept d (counted H) (key_of d (counted H))))
-    by false is = λ named. absurd (equal_not p.device d is named)
+    by true is = under u (p.device ≡ d) Own (eqb-true p.device d is) (keys_tell bytes known (IsSent bytes H) same _ (key_of d (counted H)) (key_kept d (counted H) (key_of d (counted H))))
+    by false is = λ named. absurd (unlike p.device d is named)
 reply_tells bytes known d H same (Ok (m.Request q)) = tt
 reply_tells bytes known d H same (Ok (m.Done q)) = tt
 reply_tells bytes known d H same (Ok (m.Release x)) = tt
@@ -109,7 +105,7 @@ registered_range d (c.Registered e origin key ∷ C) x range is =
     by (e == d) refl is (λ same. registered_range d C x (All-tail InRange (c.Registered e origin key) C range) same)
   where
     by : (t : Bool) → (e == d) ≡ t → (if t then Some (origin, key) else registered d C) ≡ Some x → (registered d C ≡ Some x → IsDevice d) → IsDevice d
-    by true named same before = subst IsDevice (equal_so e d named) (All-head InRange (c.Registered e origin key) C range).0
+    by true named same before = subst IsDevice (eqb-true e d named) (All-head InRange (c.Registered e origin key) C range).0
     by false named same before = before same
 registered_range d (c.Made e key ∷ C) x range is = registered_range d C x (All-tail InRange _ C range) is
 registered_range d (c.Asked e n note ∷ C) x range is = registered_range d C x (All-tail InRange _ C range) is

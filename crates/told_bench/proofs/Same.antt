@@ -2,13 +2,10 @@
 use Rattle.std.proofs.Common.{sym, subst}
 use Rattle.bench_base.specs.Ledger.{Ledger}
 use Rattle.told_bench.specs.Forging.{IsSame}
-use Rattle.told_bench.specs.Seeing.{Audit, IsReady, Sees}
+use Rattle.told_bench.specs.Seeing.{Audit, Sees}
 use Rattle.told_bench.proofs.Keeping.{knows_same}
 use Rattle.told_bench.proofs.Sent.{other_known}
 
 module _ (old new : Audit) (same : IsSame old new) where
-  pub same_ready : IsReady old → IsReady new
-  same_ready ready = subst IsReady (sym same.others) (record { eight = ready.eight; devices = ready.devices; centre = ready.centre; host = ready.host; verifier = ready.verifier })
-
   pub same_sees : (H : Ledger) → Sees old H → Sees new H
   same_sees H sees = subst (λ (a : Audit). Sees a H) (sym same.others) (record { run = other_known old new.known H sees.run; known = knows_same old.known new.known H same.keeps sees.known })
