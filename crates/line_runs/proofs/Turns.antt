@@ -264,7 +264,7 @@ module _ {D : Type 0} (l : Lines D) where
               stops_bad number few b left0 left1 taken t.0 t.1 (inr (inr at))
           | inr e ↦
               let at : ReadsLine read.Long t.0 buf (IsAtEnd left1) = subst (λ (x : LineRead). ReadsLine x t.0 buf (IsAtEnd left1)) e t.2 in
-              stops_bad number few b left0 left1 taken t.0 t.1 (inr (inl at))
+              stops_bad number few b left0 left1 taken t.0 t.1 (inr (inl (at.0, at.1)))
         ]
 
     -- ---- one line after another

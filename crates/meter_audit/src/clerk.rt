@@ -1,24 +1,22 @@
 //! Goes over runs that were judged once more, a line after the other, and has the book count what they tell. An auditor of its own is taken along: what is
 //! known of a node before and behind a line is what that tells.
-ghost use Rattle.std.specs.Prelude.{IfOk};
+ghost use Rattle.std.specs.Prelude.{◌≤◌, length, IfOk};
 ghost use Rattle.bench_base.specs.Ranges.{IsWholeEvent};
 ghost use Rattle.told_bench.specs.Seeing.{IsReady, audit_of};
 
+use crate::Fault;
 use crate::book::{Book, Made, Place};
 use crate::digest::{NO_RUNS, Sum, digest_with};
 use crate::figures::{Figures, figures_of};
-use crate::found::{behind_line, line_len};
+use crate::files::Run;
 use crate::journal::Form;
 use crate::kinds::doing_of;
-use crate::{Fault, Run};
 use bench::MOST_MESSAGES;
 use bench_base::events::{Event, Reply};
 use script_text::{is_skipped, read_event};
 use std::alloc::{AllocError, Global};
-use told_bench::{Auditor, Finding, judge, stop};
-
-/// The most lines of a script that are looked at.
-const LINES: u32 = 1_000_000;
+use told_bench::{Auditor, Finding, due_to, judge, stop};
+use told_runs::{LINES, behind};
 
 /// What is left of a run.
 #[derive(Clone, Copy)]
@@ -28,10 +26,23 @@ struct Left<'a> {
     rates: &'a [u8],
 }
 
-// What is left behind so many bytes.
-fn behind(bytes: &[u8], taken: usize) -> &[u8] {
-    if taken < bytes.len() {
-        &bytes[taken..]
+// The place of the first line end, or the end.
+fn line_len(bytes: &[u8]) -> usize
+    ensures { result ≤ length bytes.now }
+{
+    for at in 0..bytes.len() {
+        if bytes[at] == b'\n' {
+            return at;
+        }
+    }
+    bytes.len()
+}
+
+// What is left behind the first line and its line end.
+fn behind_line(bytes: &[u8]) -> &[u8] {
+    let end = line_len(bytes);
+    if end < bytes.len() {
+        &bytes[end + 1..]
     } else {
         &[]
     }
@@ -79,16 +90,19 @@ fn broken_off(
     }
 }
 
-// The answer that is due to the event: no reply has an empty line.
-fn due_to(alloc: Global, auditor: &mut Auditor, event: &Event, rates: &[u8]) -> Result<Reply, Fault>
+// The answer that is due to the event.
+fn due(alloc: Global, auditor: &mut Auditor, event: &Event, rates: &[u8]) -> Result<Reply, Fault>
     requires whole { IsWholeEvent event.now }
     requires ready { IsReady (audit_of auditor.old) }
     ensures ready { IsReady (audit_of auditor.new) }
 {
-    match judged(alloc, auditor, event, rates, &[]) {
-        Err(Finding::Wrong(due)) => Ok(due),
-        Err(Finding::Memory) => Err(Fault::Memory),
-        Ok(_) => Err(Fault::Counted),
+    // A run that is judged has at most as many lines.
+    if auditor.message_count() >= MOST_MESSAGES {
+        return Err(Fault::Memory);
+    }
+    match due_to(alloc, auditor, event, rates) {
+        Ok(due) => Ok(due),
+        Err(_) => Err(Fault::Memory),
     }
 }
 
@@ -161,7 +175,7 @@ impl Clerk {
         ensures ready { IsReady (audit_of self.new.auditor) }
     {
         let doing = doing_of(event);
-        let due = due_to(rt.alloc(), &mut self.auditor, event, rates)?;
+        let due = due(rt.alloc(), &mut self.auditor, event, rates)?;
         let made = self.book.expected(place, &doing, &due);
         let before = known(&self.auditor, &made);
         let taken = match judged(rt.alloc(), &mut self.auditor, event, rates, line) {
@@ -189,7 +203,7 @@ impl Clerk {
         ensures ready { IsReady (audit_of self.new.auditor) }
     {
         let doing = doing_of(event);
-        let due = due_to(rt.alloc(), &mut self.auditor, event, left.rates)?;
+        let due = due(rt.alloc(), &mut self.auditor, event, left.rates)?;
         let made = self.book.expected(place, &doing, &due);
         let before = known(&self.auditor, &made);
         broken_off(

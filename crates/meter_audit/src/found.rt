@@ -1,50 +1,45 @@
 //! What a report has for a line of its script, as text.
 ghost use Rattle.std.specs.Prelude.{◌≤◌, length};
 
+use bench_base::stream::Source;
+use line_runs::lines::LineRead;
+use read_ahead::ReadAhead;
 use script_text::is_skipped;
 use std::alloc::{AllocError, Global};
+use told_runs::read_line;
 
 /// The digits of a byte that is no text.
 const DIGITS: [u8; 16] = *b"0123456789abcdef";
 
-/// The place of the first line end, or the end.
-pub fn line_len(bytes: &[u8]) -> usize
-    ensures { result ≤ length bytes.now }
+// How much of a line lies in the buffer that it was read into.
+fn len_of(read: LineRead) -> usize
+    ensures { result ≤ 600 }
 {
-    for at in 0..bytes.len() {
-        if bytes[at] == b'\n' {
-            return at;
-        }
-    }
-    bytes.len()
-}
-
-/// What is left behind the first line and its line end.
-pub fn behind_line(bytes: &[u8]) -> &[u8] {
-    let end = line_len(bytes);
-    if end < bytes.len() {
-        &bytes[end + 1..]
-    } else {
-        &[]
+    match read {
+        LineRead::Line(len, _) => (len as usize).min(600),
+        LineRead::Long => 600,
+        LineRead::End | LineRead::Fault => 0,
     }
 }
 
-// Whether the script's line is one that a report has no line for.
-fn has_no_answer(script: &[u8]) -> bool {
-    is_skipped(&script[..line_len(script)])
-}
-
-/// The line of the report for the line of this number of the script, counted from 1.
-pub fn found_line<'a>(script: &[u8], report: &'a [u8], number: u32) -> &'a [u8] {
-    let mut lines = script;
-    let mut told = report;
+/// Reads the line of the report for the line of this number of the script, counted from 1, into the buffer: how many bytes it has. Of a longer one the
+/// first 600 are read.
+pub fn find_line<S: Source, R: Source>(
+    script: &mut ReadAhead<S>,
+    report: &mut ReadAhead<R>,
+    number: u32,
+    found: &mut [u8; 600],
+) -> usize
+    ensures { result ≤ 600 }
+{
+    let mut line = [0; 600];
     for _ in 1..number {
-        if !has_no_answer(lines) {
-            told = behind_line(told);
+        let len = len_of(read_line(script, &mut line));
+        if !is_skipped(&line[..len]) {
+            read_line(report, found);
         }
-        lines = behind_line(lines);
     }
-    &told[..line_len(told)]
+    len_of(read_line(report, found))
 }
 
 /// The bytes as text: those that are no printable ASCII as `\xNN`, and a backslash twice.

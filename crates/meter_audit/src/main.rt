@@ -8,6 +8,7 @@ mod book;
 mod clerk;
 mod digest;
 mod figures;
+mod files;
 mod found;
 mod journal;
 mod kinds;
@@ -20,18 +21,19 @@ use bench_base::events::Reply;
 use bench_base::numbers::DayNo;
 use book::Place;
 use clerk::Clerk;
-use found::{found_line, shown};
+use files::{bytes_of, file_of, lines_of, rates_of, whole_run};
+use found::{find_line, shown};
 use journal::Form;
 use kinds::Mishap;
 use page::tell_page;
 use script_text::{Line, put_reply};
 use std::alloc::{AllocError, Global};
 use std::process::ExitCode;
-use std::{env, fs, io};
+use std::{env, io};
 use table::tell_table;
 use thiserror::Error;
 use told_bench::Auditor;
-use told_runs::{Ending, Imprint, Match, Taken, Verdict, audit_run, match_prints};
+use told_runs::{Ending, Imprint, Input, Match, Taken, Verdict, audit_run, match_prints};
 
 /// The exit status of a finding: what can't be so, what is forged, or a report that goes on.
 const FINDING: u8 = 1;
@@ -56,14 +58,6 @@ fn code_of(fault: &Fault) -> u8 {
         Fault::Words | Fault::File(_) | Fault::Write | Fault::Counted => 2,
         Fault::Memory => 3,
     }
-}
-
-/// A run, as it lies in its files.
-#[derive(Drop)]
-struct Run {
-    script: Vec<u8>,
-    report: Vec<u8>,
-    rates: Vec<u8>,
 }
 
 /// What is printed beside the verdicts.
@@ -176,54 +170,8 @@ fn words_of(rt: &HostRuntime) -> Result<Words, Fault> {
     })
 }
 
-// The file of a run that has this ending.
-fn file_of(rt: &HostRuntime, name: &str, ending: &str) -> Result<String, Fault> {
-    let mut file = String::new(rt.alloc());
-    let Ok(()) = file.push_str(name) else {
-        return Err(Fault::Memory);
-    };
-    let Ok(()) = file.push_str(ending) else {
-        return Err(Fault::Memory);
-    };
-    Ok(file)
-}
-
-fn bytes_of(rt: &HostRuntime, name: &str, ending: &str) -> Result<Vec<u8>, Fault> {
-    let file = file_of(rt, name, ending)?;
-    match fs::read(rt, file.as_str()) {
-        Ok(bytes) => Ok(bytes),
-        Err(fault) if fault.kind() == io::ErrorKind::OutOfMemory => Err(Fault::Memory),
-        Err(_) => Err(Fault::File(file)),
-    }
-}
-
-// The rates of a run. A missing file is an empty one, as the meter takes it.
-fn rates_of(rt: &HostRuntime, name: &str) -> Result<Vec<u8>, Fault> {
-    let file = file_of(rt, name, ".rates")?;
-    match fs::read(rt, file.as_str()) {
-        Ok(bytes) => Ok(bytes),
-        Err(fault) if fault.kind() == io::ErrorKind::NotFound => Ok(Vec::new(rt.alloc())),
-        Err(fault) if fault.kind() == io::ErrorKind::OutOfMemory => Err(Fault::Memory),
-        Err(_) => Err(Fault::File(file)),
-    }
-}
-
-fn open_run(rt: &HostRuntime, name: &str) -> Result<Run, Fault> {
-    let script = bytes_of(rt, name, ".script")?;
-    let report = bytes_of(rt, name, ".report")?;
-    let rates = rates_of(rt, name)?;
-    Ok(Run {
-        script,
-        report,
-        rates,
-    })
-}
-
-// Prints a line of a verdict: where the journal goes to standard output, on standard error. Standard error may take no line; the exit status tells the same.
-fn say(rt: &HostRuntime, asked: Asked, text: Result<String, AllocError>) -> Result<(), Fault> {
-    let Ok(text) = text else {
-        return Err(Fault::Memory);
-    };
+// Prints the text of a verdict: where the journal goes to standard output, on standard error. Standard error may take no line; the exit status tells the same.
+fn say(rt: &HostRuntime, asked: Asked, text: &str) -> Result<(), Fault> {
     if has_journal(asked) {
         let _ = eprintln!(rt; "{text}");
         return Ok(());
@@ -234,52 +182,79 @@ fn say(rt: &HostRuntime, asked: Asked, text: Result<String, AllocError>) -> Resu
     }
 }
 
+// What the report has for the line of this number, as text.
+fn found_text(rt: &HostRuntime, name: &str, number: u32) -> Result<String, Fault> {
+    let mut script = lines_of(rt, name, ".script")?;
+    let mut report = lines_of(rt, name, ".report")?;
+    let mut found = [0; 600];
+    let len = find_line(&mut script, &mut report, number, &mut found);
+    match shown(rt.alloc(), &found[..len]) {
+        Ok(text) => Ok(text),
+        Err(_) => Err(Fault::Memory),
+    }
+}
+
 // A finding: what was due there, and what the report has.
 fn wrong_text(
     alloc: Global,
     name: &str,
-    run: &Run,
     number: u32,
     due: &Reply,
+    found: &str,
 ) -> Result<String, AllocError> {
     let mut line = Line::new();
     put_reply(&mut line, due);
     let due = shown(alloc, line.as_slice())?;
-    let has = found_line(run.script.as_slice(), run.report.as_slice(), number);
-    let has = shown(alloc, has)?;
-    format!(in alloc; "wrong {name} line {number}: due {due}\nfound {has}")
+    format!(in alloc; "wrong {name} line {number}: due {due}\nfound {found}")
 }
 
-// A finding: the line whose event brings forged bytes, and what the report has.
-fn forged_text(alloc: Global, name: &str, run: &Run, number: u32) -> Result<String, AllocError> {
-    let has = found_line(run.script.as_slice(), run.report.as_slice(), number);
-    let has = shown(alloc, has)?;
-    format!(in alloc; "forged {name} line {number}\nfound {has}")
-}
-
-fn verdict_text(
-    alloc: Global,
-    name: &str,
-    run: &Run,
-    verdict: &Verdict,
-) -> Result<String, AllocError> {
-    match verdict {
-        Verdict::Lawful(Ending::Done) => format!(in alloc; "lawful {name}"),
-        Verdict::Lawful(Ending::Script(line)) => {
+// The text of a verdict that finds nothing.
+fn lawful_text(alloc: Global, name: &str, ending: Ending) -> Result<String, AllocError> {
+    match ending {
+        Ending::Done => format!(in alloc; "lawful {name}"),
+        Ending::Script(line) => {
             format!(in alloc; "lawful {name}, whose script ends badly at line {line}")
         }
-        Verdict::Lawful(Ending::TooLong) => {
-            format!(in alloc; "lawful {name}, whose script is too long")
-        }
+        Ending::TooLong => format!(in alloc; "lawful {name}, whose script is too long"),
+    }
+}
+
+// What could not be read of a run.
+fn unread(rt: &HostRuntime, name: &str, input: Input) -> Fault {
+    let file = match input {
+        Input::Script => file_of(rt, name, ".script"),
+        Input::Report => file_of(rt, name, ".report"),
+    };
+    match file {
+        Ok(file) => Fault::File(file),
+        Err(fault) => fault,
+    }
+}
+
+fn verdict_text(rt: &HostRuntime, name: &str, verdict: &Verdict) -> Result<String, Fault> {
+    let alloc = rt.alloc();
+    let text = match verdict {
+        Verdict::Lawful(ending) => lawful_text(alloc, name, *ending),
         Verdict::Stopped(line) => {
             format!(in alloc; "stopped {name} before the answer to line {line}")
         }
         Verdict::More(line) => {
             format!(in alloc; "more {name}: the report goes on behind line {line}")
         }
-        Verdict::Wrong(line, due) => wrong_text(alloc, name, run, *line, due),
-        Verdict::Forged(line) => forged_text(alloc, name, run, *line),
-        Verdict::Memory => Err(AllocError),
+        Verdict::Wrong(line, due) => {
+            let found = found_text(rt, name, *line)?;
+            wrong_text(alloc, name, *line, due, found.as_str())
+        }
+        Verdict::Forged(line) => {
+            let found = found_text(rt, name, *line)?;
+            format!(in alloc; "forged {name} line {line}\nfound {found}")
+        }
+        Verdict::Unread(input, _) => return Err(unread(rt, name, *input)),
+        Verdict::Memory => return Err(Fault::Memory),
+    };
+    match text {
+        Ok(text) => Ok(text),
+        Err(_) => Err(Fault::Memory),
     }
 }
 
@@ -288,19 +263,15 @@ fn status_of(verdict: &Verdict) -> u8 {
     match verdict {
         Verdict::Lawful(_) | Verdict::Stopped(_) => 0,
         Verdict::Wrong(_, _) | Verdict::Forged(_) | Verdict::More(_) => FINDING,
+        Verdict::Unread(_, _) => 2,
         Verdict::Memory => 3,
     }
 }
 
 // Prints the verdict on a run, and gives its exit status.
-fn tell(
-    rt: &HostRuntime,
-    asked: Asked,
-    name: &str,
-    run: &Run,
-    verdict: &Verdict,
-) -> Result<u8, Fault> {
-    say(rt, asked, verdict_text(rt.alloc(), name, run, verdict))?;
+fn tell(rt: &HostRuntime, asked: Asked, name: &str, verdict: &Verdict) -> Result<u8, Fault> {
+    let text = verdict_text(rt, name, verdict)?;
+    say(rt, asked, text.as_str())?;
     Ok(status_of(verdict))
 }
 
@@ -312,8 +283,32 @@ fn stopped_at(verdict: &Verdict) -> Option<u32> {
         | Verdict::Wrong(_, _)
         | Verdict::Forged(_)
         | Verdict::More(_)
+        | Verdict::Unread(_, _)
         | Verdict::Memory => None,
     }
+}
+
+// Judges a run by its files, which are read once, line by line.
+fn judge_files(
+    rt: &HostRuntime,
+    auditor: &mut Auditor,
+    name: &str,
+    imprints: &mut Vec<Imprint>,
+) -> Result<Verdict, Fault>
+    requires ready { IsReady (audit_of auditor.old) }
+    ensures ready { IsReady (audit_of auditor.new) }
+{
+    let mut script = lines_of(rt, name, ".script")?;
+    let mut report = lines_of(rt, name, ".report")?;
+    let rates = rates_of(rt, name)?;
+    Ok(audit_run(
+        rt.alloc(),
+        auditor,
+        &mut script,
+        &mut report,
+        rates.as_slice(),
+        imprints,
+    ))
 }
 
 // Goes over a run that was judged, where that is asked for.
@@ -321,8 +316,8 @@ fn count(
     rt: &HostRuntime,
     words: &Words,
     clerk: &mut Clerk,
-    run: &Run,
     place: usize,
+    name: &str,
     stopped: Option<u32>,
 ) -> Result<(), Fault>
     requires ready { IsReady (audit_of clerk.old.auditor) }
@@ -331,7 +326,8 @@ fn count(
     if !is_counted(words.asked) {
         return Ok(());
     }
-    clerk.go_over(rt, words.names.as_slice(), place, run, stopped)?;
+    let run = whole_run(rt, name)?;
+    clerk.go_over(rt, words.names.as_slice(), place, &run, stopped)?;
     match stopped {
         Some(line) => clerk.book.note(Place { run: place, line }, Mishap::Stop),
         None => Ok(()),
@@ -370,11 +366,10 @@ fn tell_prints(rt: &HostRuntime, words: &Words, imprints: &[Imprint]) -> Result<
     };
     let prints = bytes_of(rt, file.as_str(), "")?;
     let found = match_prints(imprints, prints.as_slice());
-    say(
-        rt,
-        words.asked,
-        prints_text(rt.alloc(), file.as_str(), imprints, found),
-    )?;
+    let Ok(text) = prints_text(rt.alloc(), file.as_str(), imprints, found) else {
+        return Err(Fault::Memory);
+    };
+    say(rt, words.asked, text.as_str())?;
     Ok(match found {
         Match::Fit | Match::Open(_) => 0,
         Match::Differ(_) => FINDING,
@@ -404,21 +399,13 @@ fn audit(
     let mut imprints: Vec<Imprint> = Vec::new(rt.alloc());
     for place in 0..words.names.len() {
         let name = words.names[place].as_str();
-        let run = open_run(rt, name)?;
-        let verdict = audit_run(
-            rt.alloc(),
-            auditor,
-            run.script.as_slice(),
-            run.report.as_slice(),
-            run.rates.as_slice(),
-            &mut imprints,
-        );
+        let verdict = judge_files(rt, auditor, name, &mut imprints)?;
         day = auditor.day().or(day);
-        let code = tell(rt, words.asked, name, &run, &verdict)?;
+        let code = tell(rt, words.asked, name, &verdict)?;
         if code != 0 {
             return Ok(Audited { code, day });
         }
-        count(rt, words, clerk, &run, place, stopped_at(&verdict))?;
+        count(rt, words, clerk, place, name, stopped_at(&verdict))?;
     }
     let code = tell_prints(rt, words, imprints.as_slice())?;
     Ok(Audited { code, day })

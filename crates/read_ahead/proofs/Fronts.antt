@@ -15,6 +15,16 @@ front_left at n long bytes within =
     let is : long ≡ n + (long - n) = omega arith in
     ap (λ (k : ℕ). drop n (take k (drop at bytes))) is ∙ drop-take n (long - n) (drop at bytes) ∙ ap (take (long - n)) (drop-drop n at bytes)
 
+-- so many bytes of what was ahead are taken, and the others are left
+pub passes : (at end n : ℕ) (bytes : List ℕ) (known : Option (List ℕ)) → n ≤ end - at
+    → Consumes (prepend_known (take (end - at) (drop at bytes)) known) (prepend_known (take (end - (at + n)) (drop (at + n) bytes)) known) (take n (take (end - at) (drop at bytes)))
+    × (take (end - (at + n)) (drop (at + n) bytes) ≡ drop n (take (end - at) (drop at bytes)))
+passes at end n bytes known within =
+    let front = take (end - at) (drop at bytes) in
+    let sums : end - at - n ≡ end - (at + n) = omega arith in
+    let left : drop n front ≡ take (end - (at + n)) (drop (at + n) bytes) = front_left at n (end - at) bytes within ∙ ap (λ (k : ℕ). take k (drop (at + n) bytes)) sums in
+    (subst (λ (rest : List ℕ). Consumes (prepend_known front known) (prepend_known rest known) (take n front)) left (front_given n front known), sym left)
+
 -- nothing in front of an end is an end
 at_end : (known : Option (List ℕ)) → IsAtEnd known → IsAtEnd (prepend_known [] known)
 at_end None h = tt

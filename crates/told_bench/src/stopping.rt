@@ -1,5 +1,5 @@
 //! Where a report ends before the line end of an answer: whether what stands there of it can be the front of a reply, and how the event is told then.
-ghost use Rattle.std.specs.Prelude.{◌≡◌, ◌↔◌, ◌+◌, ◌<◌, ◌≤◌, ℕ, List, IsTrue, MatchBool, IfOk, length, false};
+ghost use Rattle.std.specs.Prelude.{◌≡◌, ◌↔◌, ◌+◌, ◌<◌, ◌≤◌, ℕ, List, IsTrue, IsOk, MatchBool, IfOk, Ok, length, true, false};
 ghost use Rattle.bench_base.specs.Ledger.{Ledger};
 ghost use Rattle.bench_base.specs.Ranges.{IsNode, IsWholeEvent};
 ghost use Rattle.bench.specs.declared.benches.TheConstants.{MOST_MESSAGES};
@@ -24,6 +24,7 @@ use std::alloc::{AllocError, Global};
 fn begins(reply: &Reply, front: &[u8]) -> bool
     ensures exact { IsTrue result ↔ IsFrontOf front.now (text_of reply.now) }
     ensures whole { IsWholeReply reply.now }
+    ensures short { result ≡ true → length front.now ≤ 256 }
 {
     let mut text = Line::new();
     put_reply(&mut text, reply);
@@ -33,7 +34,8 @@ fn begins(reply: &Reply, front: &[u8]) -> bool
 // Whether the node's other `up` begins so, with its open commit, where this is the answer.
 fn begins_other_up(auditor: &Auditor, due: &Reply, front: &[u8]) -> bool
     requires ready { IsReady (audit_of auditor.now) }
-    ensures { (H : Ledger) → Sees (audit_of auditor.now) H → MatchBool result (BeginsOtherUp due.now H front.now) (BeginsOtherUp due.now H front.now → ⊥) }
+    ensures exact { (H : Ledger) → Sees (audit_of auditor.now) H → MatchBool result (BeginsOtherUp due.now H front.now) (BeginsOtherUp due.now H front.now → ⊥) }
+    ensures short { result ≡ true → length front.now ≤ 256 }
 {
     let Reply::Up { node, commits } = due else {
         return false;
@@ -53,7 +55,8 @@ fn begins_other_up(auditor: &Auditor, due: &Reply, front: &[u8]) -> bool
 
 // Whether a failure of the printer begins so, where this is the answer.
 fn begins_cut_print(due: &Reply, front: &[u8]) -> bool
-    ensures { MatchBool result (BeginsCutPrint due.now front.now) (BeginsCutPrint due.now front.now → ⊥) }
+    ensures exact { MatchBool result (BeginsCutPrint due.now front.now) (BeginsCutPrint due.now front.now → ⊥) }
+    ensures short { result ≡ true → length front.now ≤ 256 }
 {
     let Reply::Printed(job) = due else {
         return false;
@@ -63,7 +66,8 @@ fn begins_cut_print(due: &Reply, front: &[u8]) -> bool
 
 // Whether a failure of the rates begins so.
 fn begins_rates_fault(event: &Event, day: Option<DayNo>, front: &[u8]) -> bool
-    ensures { MatchBool result (BeginsRatesFault event.now day front.now) (BeginsRatesFault event.now day front.now → ⊥) }
+    ensures exact { MatchBool result (BeginsRatesFault event.now day front.now) (BeginsRatesFault event.now day front.now → ⊥) }
+    ensures short { result ≡ true → length front.now ≤ 256 }
 {
     let Event::Rates = event else {
         return false;
@@ -75,7 +79,8 @@ fn begins_rates_fault(event: &Event, day: Option<DayNo>, front: &[u8]) -> bool
 fn comes(auditor: &Auditor, event: &Event, due: &Reply, front: &[u8]) -> bool
     requires whole { IsWholeEvent event.now }
     requires ready { IsReady (audit_of auditor.now) }
-    ensures { (τ : Tariff) (H : Ledger) (left : List ℕ) → Sees (audit_of auditor.now) H → IsDue τ H event.now left due.now → Comes τ H event.now left front.now result }
+    ensures exact { (τ : Tariff) (H : Ledger) (left : List ℕ) → Sees (audit_of auditor.now) H → IsDue τ H event.now left due.now → Comes τ H event.now left front.now result }
+    ensures short { result ≡ true → length front.now ≤ 256 }
 {
     if begins(due, front) {
         return true;
@@ -89,8 +94,8 @@ fn comes(auditor: &Auditor, event: &Event, due: &Reply, front: &[u8]) -> bool
     begins_rates_fault(event, auditor.day, front)
 }
 
-// The answer to the event: no reply has a line end in its line.
-fn due_to(
+/// The answer that is due to the event, which the auditor leaves as it was: no reply has a line end in its line. AllocError is want of memory, for rates or a message.
+pub fn due_to(
     alloc: Global,
     auditor: &mut Auditor,
     event: &Event,
@@ -158,7 +163,8 @@ fn node_at(number: u32) -> Node
 
 // Whether a reply comes that begins so, or a failure of this node does.
 fn asks(comes: bool, node: &Node, front: &[u8]) -> bool
-    ensures { MatchBool result (Asks front.now comes node.now) (Asks front.now comes node.now → ⊥) }
+    ensures exact { MatchBool result (Asks front.now comes node.now) (Asks front.now comes node.now → ⊥) }
+    ensures short { result ≡ true → comes ≡ false → length front.now ≤ 256 }
 {
     comes || begins(&Reply::Power(*node), front) || begins(&Reply::Fault(*node), front)
 }
@@ -182,6 +188,7 @@ fn lose_power_there(
     ensures few { length (audit_of auditor.new).messages ≤ length (audit_of auditor.old).messages + 1 }
     ensures unsent { IfOk result (λ b. b ≡ false → (audit_of auditor.new).messages ≡ (audit_of auditor.old).messages) }
     ensures lost { AtEach (audit_of auditor.old) event.now (λ τ H. IfOk result (λ b. LosesThere τ H event.now left.now front.now comes node.now (audit_of auditor.new) b)) }
+    ensures short { result ≡ Ok true → comes ≡ false → length front.now ≤ 256 }
 {
     if asks(comes, node, front) {
         lose_power_at(alloc, auditor, event, left, node)
@@ -205,6 +212,7 @@ fn lose_power(
     ensures ready { IsReady (audit_of auditor.new) }
     ensures few { length (audit_of auditor.new).messages ≤ length (audit_of auditor.old).messages + 1 }
     ensures lost { AtEach (audit_of auditor.old) event.now (λ τ H. IfOk result (λ b. Loses τ H event.now left.now front.now comes (audit_of auditor.new) b)) }
+    ensures short { result ≡ Ok true → comes ≡ false → length front.now ≤ 256 }
 {
     for number in 1..12 {
         let node = node_at(number);
@@ -218,7 +226,7 @@ fn lose_power(
 /// Judges bytes that a report ends with, where the line of this event should stand: none, some or all of it, without its line end. `Ok` exactly where they are
 /// the front of the line of a reply that the event may get. Whether the event is done is open then, so it is told as one in which its node lost its power, where
 /// it may be told so: the next `up` says whether its commit counts. `Wrong`, with the answer that was due, exactly where they are the front of none; the auditor
-/// has what it had. `Memory` is want of memory, for rates, a message or a mark.
+/// has what it had. More than 256 bytes are never the front of one, whatever the auditor has. `Memory` is want of memory, for rates, a message or a mark.
 pub fn stop(
     alloc: Global,
     auditor: &mut Auditor,
@@ -232,6 +240,7 @@ pub fn stop(
     ensures ready { IsReady (audit_of auditor.new) }
     ensures few { length (audit_of auditor.new).messages ≤ length (audit_of auditor.old).messages + 1 }
     ensures stopped { AtEach (audit_of auditor.old) event.now (λ τ H. IsStopped τ H event.now left.now front.now (audit_of auditor.new) result) }
+    ensures short { IsOk result → length front.now ≤ 256 }
 {
     let Ok(due) = due_to(alloc, auditor, event, left) else {
         return Err(Finding::Memory);

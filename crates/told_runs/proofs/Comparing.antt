@@ -33,6 +33,11 @@ pub from_all : (bytes : List ℕ) → AllByRecursion (λ c. c ≢ 10) bytes → 
 from_all [] all = tt
 from_all (c ∷ bytes) all = (all.0, from_all bytes all.1)
 
+-- the front of a line has no line end
+pub front_one : (front more : List ℕ) → IsOneLine (front ++ more) → IsOneLine front
+front_one [] more one = tt
+front_one (c ∷ front) more one = (one.0, front_one front more one.1)
+
 -- How the pairs a, behind which these are left, stand to the deeds b, behind which those are: the deeds go on behind them, at a ledger of which P holds; or the
 -- pairs go on behind the deeds.
 pub data Compared (τ : Tariff) (P : Ledger → List ℕ → Type 0) (H : Ledger) (left : List ℕ) (a : List Pair) (b : List Deed) (ra rb : List (List ℕ)) (ta tb : List ℕ) : Type 0 where

@@ -1,5 +1,5 @@
 -- An audit is exact: what fits goes no further than it paired, and where something fits to the end, it says so.
-use Rattle.std.proofs.Common.{◌≡◌, ◌≢◌, inl, inr, ℕ, ◌+◌, ◌<◌, ◌≤◌, List, [], ◌∷◌, ◌++◌, length, map, flat_map, refl, sym, ◌∙◌, ap, subst, arith, append-nil, append_assoc}
+use Rattle.std.proofs.Common.{◌≡◌, inl, inr, ℕ, ◌+◌, ◌<◌, ◌≤◌, List, [], ◌∷◌, ◌++◌, length, map, flat_map, refl, sym, ◌∙◌, ap, subst, arith, append-nil, append_assoc}
 use Rattle.std.proofs.lemmas.List.{length-append}
 use Rattle.bench_base.specs.declared.events.Event.{Event}
 use Rattle.bench_base.specs.declared.events.Event.TheVariants as ev
@@ -26,17 +26,18 @@ use Rattle.desk_runs.specs.ScriptLaws.{is_grammar}
 use Rattle.script_replay.specs.Deeds.{ledger_after}
 use Rattle.told_bench.specs.Judging.{IsUntold, MayGet, taken_by}
 use Rattle.told_bench.specs.Seeing.{Audit}
+use Rattle.told_bench.specs.Stopping.{IsFrontOf}
 use Rattle.told_runs.specs.Audits.{MayTell}
 use Rattle.told_runs.specs.Verdicts.{Pair, Skipped, Answered, IsPair, line_in, text_for, status_of, IsEvent, HasLine, HasSome, has_line, has_front, EndsSo, FallsAt, IsWrong, IsSo, TellsSo, Says, imprints_from}
 use Rattle.told_runs.specs.Prints.{ArePrinted}
-use Rattle.told_runs.specs.Fitting.{FitsPrinted, AreTold, rates_after, FitsFirst, FitsToEnd, FitsStopped, EndsTold, BeginsTold, IsLawful, IsStoppedAt, IsExact}
+use Rattle.told_runs.specs.Fitting.{FitsPrinted, AreTold, rates_after, FitsFirst, FitsToEnd, FitsStopped, EndsTold, BeginsTold, IsCutShort, IsLawful, IsStoppedAt, IsExact}
 use Rattle.told_runs.specs.declared.verdict.Ending.{Ending}
 use Rattle.told_runs.specs.declared.verdict.Ending.TheVariants.{Done as Ended, Script, TooLong}
 use Rattle.told_runs.specs.declared.verdict.Verdict.{Verdict}
-use Rattle.told_runs.specs.declared.verdict.Verdict.TheVariants.{Lawful, Stopped, Wrong, Forged, More, Memory}
+use Rattle.told_runs.specs.declared.verdict.Verdict.TheVariants.{Lawful, Stopped, Wrong, Forged, More, Memory, Unread}
 use Rattle.told_runs.proofs.Fitted.{Made, made, lawful_ends, stopped_begins}
 use Rattle.told_runs.proofs.MadePrinted.{made_printed}
-use Rattle.told_runs.proofs.Comparing.{Compared, longer, shorter, compare, one_split}
+use Rattle.told_runs.proofs.Comparing.{front_one, Compared, longer, shorter, compare, one_split}
 
 -- == lines behind which a run goes on ==
 
@@ -85,10 +86,14 @@ not_one : (a x : List ℕ) → IsOneLine (ended a ++ x) → ⊥
 not_one [] x one = one.0 refl
 not_one (c ∷ a) x one = not_one a x one.1
 
--- the front of a line has none
-front_one : (front more : List ℕ) → IsOneLine (front ++ more) → IsOneLine front
-front_one [] more one = tt
-front_one (c ∷ front) more one = (one.0, front_one front more one.1)
+-- bytes without a line end that a line and what is behind it begin with are a front of the line
+front_of_line : (text x front behind : List ℕ) → IsOneLine front → ended text ++ x ≡ front ++ behind → IsFrontOf front text
+front_of_line text x [] behind one is = (text, refl)
+front_of_line [] x (c ∷ front) behind one is = let same : c ≡ 10 = cc is in absurd (one.0 same)
+front_of_line (t ∷ text) x (c ∷ front) behind one is =
+    let head : t ≡ c = cc is in
+    let w = front_of_line text x front behind one.1 (cc is) in
+    (w.0, ap (λ (n : ℕ). n ∷ text) head ∙ ap (λ (l : List ℕ). c ∷ l) w.1)
 
 module _ (one : (x y : Reply) → IsWholeReply x → IsWholeReply y → text_of x ≡ text_of y → told x ≡ told y) (line : (r : Reply) → IsWholeReply r → IsOneLine (text_of r)) where
   -- what the event may get, where that is told
@@ -108,12 +113,13 @@ module _ (one : (x y : Reply) → IsWholeReply x → IsWholeReply y → text_of 
   wrong_not : (τ : Tariff) (K : Ledger) (l : List ℕ) (e : Event) (told_is : List ℕ) (new : Audit) (due : Reply) (d : Done) (x : List ℕ) (has : HasSome told_is)
       → IsWrong τ K l new e due told_is has → d.event ≡ e → MayTell τ K l d → told_is ≡ line_of d.reply ++ x → ⊥
   wrong_not τ K l e told_is new due d x (has_line answer behind has) wrong event may is = untold_not τ K l e answer behind told_is new due d x has wrong event may is
-  wrong_not τ K l e told_is new due d x (has_front one) wrong event may is = not_one (text_of d.reply) x (subst (λ (z : List ℕ). IsOneLine z) is one)
+  wrong_not τ K l e told_is new due d x (has_front front behind begins one) wrong event may is =
+      wrong.none d.reply (record { moves = may_get τ K l front e d event may; whole = may.whole; begins = front_of_line (text_of d.reply) x front behind one (sym is ∙ begins) })
 
   -- nothing goes on behind where the verdict falls
   goes_past : (v : Verdict) (number : ℕ) (rest : List (List ℕ)) (told_is : List ℕ) (falls : FallsAt number rest told_is v) (τ : Tariff) (K : Ledger) (l : List ℕ) (new : Audit) → IsSo τ K l new number rest told_is v falls
       → number ≤ 1000000 → (d : Deed) (more : List Deed) (lines : List (List ℕ)) (x : List ℕ) → Reads script_lines d → GoesOn d → rest ≡ deed.line_in d ∷ lines → told_is ≡ deed.text_for d ++ x
-      → AreTold τ K l (done_in (d ∷ more)) → v ≡ Memory
+      → AreTold τ K l (done_in (d ∷ more)) → IsCutShort v
   goes_past (Lawful end) number rest told_is falls τ K l new so inside d more lines x reads goes rest_is text are =
       absurd (not_end end number (deed.line_in d) lines inside (deed_passes d reads goes) (subst (λ (r : List (List ℕ)). EndsAt script_grammar (status_of end) number r) rest_is falls.script))
   goes_past (More n) number rest told_is falls τ K l new so inside d more lines x reads goes rest_is text are =
@@ -134,13 +140,15 @@ module _ (one : (x y : Reply) → IsWholeReply x → IsWholeReply y → text_of 
       let same : falls.2.line ≡ y = cc (falls.2.rest_is, rest_is) in
       let event : d.event ≡ falls.1 = one_event_of d.event falls.1 y reads.is.0.whole falls.2.is.whole reads.is.0.spells (subst (λ (z : List ℕ). Spells falls.1 z) same falls.2.is.spells) in
       absurd (so.0 (subst (λ (f : Event). Unforged f K) event are.0.unforged))
-  goes_past Memory number rest told_is falls τ K l new so inside d more lines x reads goes rest_is text are = refl
+  goes_past Memory number rest told_is falls τ K l new so inside d more lines x reads goes rest_is text are = tt
+  goes_past (Unread input n) number rest told_is falls τ K l new so inside d more lines x reads goes rest_is text are = tt
 
   -- where something fits to the end that is the place where the verdict falls, it is lawful
   ends_there : (v : Verdict) (number : ℕ) (rest : List (List ℕ)) (told_is : List ℕ) (falls : FallsAt number rest told_is v) (τ : Tariff) (K : Ledger) (l : List ℕ) (new : Audit) → IsSo τ K l new number rest told_is v falls
       → (end : Ending) → EndsAt script_grammar (status_of end) number rest → EndsTold τ K l end told_is → IsLawful v
   ends_there (Lawful e) number rest told_is falls τ K l new so end at ends = inl (e, refl)
-  ends_there Memory number rest told_is falls τ K l new so end at ends = inr refl
+  ends_there Memory number rest told_is falls τ K l new so end at ends = inr tt
+  ends_there (Unread input n) number rest told_is falls τ K l new so end at ends = inr tt
   ends_there (Stopped n) number rest told_is falls τ K l new so Ended at ends =
       absurd (not_one (text_of ends.0.reply) [] (subst (λ (z : List ℕ). IsOneLine z) (ends.3 ∙ sym (append-nil (line_of ends.0.reply))) falls.4))
   ends_there (Stopped n) number rest told_is falls τ K l new so (Script k) at ends = let w = event_ends (Script k) number rest falls.1 falls.3 at in absurd (cc (w.0))
@@ -199,8 +207,12 @@ module _ (one : (x y : Reply) → IsWholeReply x → IsWholeReply y → text_of 
 
       not_wrong : (f : Event) (due : Reply) → e ≡ f → (has : HasSome told_is) → IsWrong τ K l new f due told_is has → ⊥
       not_wrong f due same (has_line answer behind has) wrong = not_one answer behind (subst (λ (z : List ℕ). IsOneLine z) has.is one_told)
-      not_wrong f due same (has_front one) wrong =
-          wrong.none begins.0.reply (record { moves = may_get τ K l told_is f begins.0 (begins.1 ∙ same) begins.2; whole = begins.2.whole; begins = begins.3 })
+      not_wrong f due same (has_front front behind goes one) wrong =
+          wrong.none begins.0.reply (record {
+            moves = may_get τ K l front f begins.0 (begins.1 ∙ same) begins.2;
+            whole = begins.2.whole;
+            begins = (behind ++ begins.3.0, begins.3.1 ∙ ap (λ (z : List ℕ). z ++ begins.3.0) goes ∙ append_assoc front behind begins.3.0);
+          })
 
       by : (x : Verdict) (at : FallsAt number rest told_is x) → IsSo τ K l new number rest told_is x at → IsStoppedAt x number
       by (Lawful end) at is = absurd (not_ended end [] at)
@@ -208,7 +220,8 @@ module _ (one : (x y : Reply) → IsWholeReply x → IsWholeReply y → text_of 
       by (Stopped n) at is = inl (ap (λ (k : ℕ). Stopped k) at.0)
       by (Wrong n due) at is = absurd (not_wrong at.1 due (one_next number number rest e at.1 next at.2) at.3 is.1)
       by (Forged n) at is = absurd (is.0 (subst (λ (x : Event). Unforged x K) (begins.1 ∙ one_next number number rest e at.1 next at.2) begins.2.unforged))
-      by Memory at is = inr refl
+      by Memory at is = inr tt
+      by (Unread input n) at is = inr tt
 
   module _ (v : Verdict) (script report rates : List ℕ) (old new : Audit) (says : Says v script report rates old new) where
     -- what the verdict says where it falls
@@ -221,7 +234,7 @@ module _ (one : (x y : Reply) → IsWholeReply x → IsWholeReply y → text_of 
         compare one line τ (Falls τ) (Begin ∷ H) rates says.pairs deeds says.rest fits.rest says.told fits.told says.front.each fits.each fits.go_on
         (sym says.front.script_is ∙ fits.script_is) (sym says.front.report_is ∙ fits.report_is) so fits.are
 
-    no_longer : (τ : Tariff) (H : Ledger) (deeds : List Deed) (rb : List (List ℕ)) (tb : List ℕ) → length deeds ≤ 1000000 → v ≢ Memory
+    no_longer : (τ : Tariff) (H : Ledger) (deeds : List Deed) (rb : List (List ℕ)) (tb : List ℕ) → length deeds ≤ 1000000 → (IsCutShort v → ⊥)
         → Compared τ (Falls τ) (Begin ∷ H) rates says.pairs deeds says.rest rb says.told tb → length deeds ≤ length says.pairs
     no_longer τ H deeds rb tb few other (longer [] K l size so reads goes lines texts are behind left) = omega (arith, size)
     no_longer τ H deeds rb tb few other (longer (d ∷ more) K l size so reads goes lines texts are behind left) =

@@ -19,7 +19,7 @@ use Rattle.told_runs.specs.Fitting.{AreTold, rates_after, EndsTold, BeginsTold}
 use Rattle.told_runs.specs.declared.verdict.Ending.{Ending}
 use Rattle.told_runs.specs.declared.verdict.Ending.TheVariants.{Done as Ended, Script, TooLong}
 use Rattle.told_runs.specs.declared.verdict.Verdict.{Verdict}
-use Rattle.told_runs.specs.declared.verdict.Verdict.TheVariants.{Lawful, Stopped, Wrong, Forged, More, Memory}
+use Rattle.told_runs.specs.declared.verdict.Verdict.TheVariants.{Lawful, Stopped, Wrong, Forged, More, Memory, Unread}
 
 -- deeds of these pairs, behind which P holds
 pub record Made (τ : Tariff) (P : Ledger → List ℕ → Type 0) (H : Ledger) (left : List ℕ) (a : List Pair) : Type 0 where
@@ -79,6 +79,7 @@ module _ (τ : Tariff) (K : Ledger) (l : List ℕ) (new : Audit) (number : ℕ) 
   lawful_ends (Forged n) falls so end is = absurd (cc is)
   lawful_ends (More n) falls so end is = absurd (cc is)
   lawful_ends Memory falls so end is = absurd (cc is)
+  lawful_ends (Unread input n) falls so end is = absurd (cc is)
 
   -- where it is said that a run was stopped, the report ends within a line of the next event
   pub stopped_begins : (v : Verdict) (falls : FallsAt number rest told v) → IsSo τ K l new number rest told v falls → (n : ℕ) → v ≡ Stopped n
@@ -92,6 +93,7 @@ module _ (τ : Tariff) (K : Ledger) (l : List ℕ) (new : Audit) (number : ℕ) 
   stopped_begins (Forged k) falls so n is = absurd (cc is)
   stopped_begins (More k) falls so n is = absurd (cc is)
   stopped_begins Memory falls so n is = absurd (cc is)
+  stopped_begins (Unread input k) falls so n is = absurd (cc is)
 
 -- nothing is open of what a run printed that was not stopped
 pub none_open : (number : ℕ) (rest : List (List ℕ)) (told : List ℕ) (v : Verdict) (falls : FallsAt number rest told v) (end : Ending) → v ≡ Lawful end → last_given number rest told v falls ≡ None
@@ -101,3 +103,4 @@ none_open number rest told (Wrong n due) falls end is = refl
 none_open number rest told (Forged n) falls end is = refl
 none_open number rest told (More n) falls end is = refl
 none_open number rest told Memory falls end is = refl
+none_open number rest told (Unread input n) falls end is = refl

@@ -1,3 +1,4 @@
+mod Blocks
 mod Comparing
 mod Exact
 mod Fitted
@@ -6,6 +7,8 @@ mod MadePrinted
 mod Matching
 mod One
 mod Paired
+mod Passing
+mod WasRead
+mod ReadTurns
 mod Running
-mod Splits
 mod Turning

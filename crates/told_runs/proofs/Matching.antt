@@ -1,5 +1,5 @@
 -- Prints beside imprints, one after another.
-use Rattle.std.proofs.Common.{◌≡◌, ◌≢◌, ◌↔◌, ◌+◌, ◌==◌, ℕ, zero, suc, List, [], ◌∷◌, ◌++◌, length, take, drop, Bool, true, false, IsTrue, refl, sym, ◌∙◌, ap, subst, arith}
+use Rattle.std.proofs.Common.{◌≡◌, ◌≢◌, ◌+◌, ◌==◌, ℕ, zero, suc, List, [], ◌∷◌, ◌++◌, length, take, drop, Bool, true, false, refl, sym, ◌∙◌, ap, subst, arith}
 use Rattle.std.proofs.lemmas.Bool.{eqb-true}
 use Rattle.std.proofs.lemmas.List.{take-append-drop, take_at, drop_all}
 use Rattle.text_streams.specs.Texts.{print_line}
@@ -100,10 +100,3 @@ line_then line rest is = sym (take-append-drop 129 rest) ∙ ap (λ (l : List �
 
 pub line_first : (line rest more : List ℕ) → length line ≡ 129 → rest ≡ line ++ more → take 129 rest ≡ line
 line_first line rest more long is = ap (take 129) is ∙ take_at line more 129 long
-
-pub reads_line : (b : Bool) (P : Type 0) → (IsTrue b ↔ P) → b ≡ true → P
-reads_line true P exact is = exact.0 refl
-reads_line false P exact is = absurd (cc is)
-
-pub not_line : (b : Bool) (P : Type 0) → (IsTrue b ↔ P) → b ≡ false → P → ⊥
-not_line b P exact is p = let t : IsTrue false = subst (λ (x : Bool). IsTrue x) is (exact.1 p) in cc t

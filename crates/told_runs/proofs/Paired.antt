@@ -13,7 +13,6 @@ use Rattle.told_bench.specs.Seeing.{Audit, Sees}
 use Rattle.told_runs.specs.Verdicts.{Pair, Skipped, Answered, IsPair, line_in, text_for, EndsSo, TellsSo, MayEnd, IsSo, Says, Audited, imprints_from, last_given}
 use Rattle.told_runs.specs.Imprints.{imprint_at}
 use Rattle.told_runs.specs.Turns.{AtHistories, StandsAt, Turned, Fell, FellPut, Progress, IsOver}
-use Rattle.told_runs.specs.declared.audit.Step.{Step}
 use Rattle.told_runs.specs.declared.imprint.Imprint.{Imprint}
 use Rattle.told_runs.specs.declared.verdict.Ending.{Ending}
 use Rattle.told_runs.specs.declared.verdict.Verdict.{Verdict}
@@ -55,36 +54,29 @@ begun script report rates old new before sees = record {
 }
 
 module _ (script0 report0 rates0 : List ℕ) (count : ℕ) (script report rates : List ℕ) (old mid new : Audit) (before half after : List Imprint) (p : Progress count script0 report0 rates0 script report rates old mid before half) where
-  behind_it : (step : Step) → Turned (count + 1) step script report rates mid new half after
-      → Progress (count + 1) script0 report0 rates0 (drop step.script script) (drop step.report report) (drop step.rates rates) old new before after
-  behind_it step t = record {
+  pub progress_more : (used : ℕ) (lines told left : List ℕ) → left ≡ drop used rates → Turned (count + 1) used script lines report told rates mid new half after
+      → Progress (count + 1) script0 report0 rates0 lines told left old new before after
+  progress_more used lines told left is t = subst (λ (l : List ℕ). Progress (count + 1) script0 report0 rates0 lines told l old new before after) (sym is) (record {
     pairs = p.pairs ++ t.pair ∷ [];
     number = length-append p.pairs (t.pair ∷ []) ∙ ap (λ (n : ℕ). n + 1) p.number;
     each = each_more IsPair p.pairs t.pair p.each t.is;
     script_is =
         p.script_is ∙ ap (λ (l : List (List ℕ)). map line_in p.pairs ++ l) t.script_is
-        ∙ sym (append_assoc (map line_in p.pairs) (line_in t.pair ∷ []) (lines_of (drop step.script script)))
-        ∙ ap (λ (l : List (List ℕ)). l ++ lines_of (drop step.script script)) (sym (map-append line_in p.pairs (t.pair ∷ [])));
+        ∙ sym (append_assoc (map line_in p.pairs) (line_in t.pair ∷ []) (lines_of lines))
+        ∙ ap (λ (l : List (List ℕ)). l ++ lines_of lines) (sym (map-append line_in p.pairs (t.pair ∷ [])));
     report_is =
         p.report_is ∙ ap (λ (l : List ℕ). flat_map text_for p.pairs ++ l) t.report_is
-        ∙ sym (append_assoc (flat_map text_for p.pairs) (text_for t.pair) (drop step.report report))
-        ∙ ap (λ (l : List ℕ). l ++ drop step.report report) (ap (λ (l : List ℕ). flat_map text_for p.pairs ++ l) (sym (append-nil (text_for t.pair))) ∙ sym (flat_map-append text_for p.pairs (t.pair ∷ [])));
+        ∙ sym (append_assoc (flat_map text_for p.pairs) (text_for t.pair) told)
+        ∙ ap (λ (l : List ℕ). l ++ told) (ap (λ (l : List ℕ). flat_map text_for p.pairs ++ l) (sym (append-nil (text_for t.pair))) ∙ sym (flat_map-append text_for p.pairs (t.pair ∷ [])));
     so = λ τ H texts history seen.
-        tells_more τ (StandsAt τ mid rates) (StandsAt τ new (drop step.rates rates)) (t.pair ∷ [])
-        (λ K l at. subst (λ (r : List ℕ). TellsSo τ (StandsAt τ new (drop step.rates rates)) K r (t.pair ∷ [])) (sym at.are) (t.so τ K texts at.history at.sees))
+        tells_more τ (StandsAt τ mid rates) (StandsAt τ new (drop used rates)) (t.pair ∷ [])
+        (λ K l at. subst (λ (r : List ℕ). TellsSo τ (StandsAt τ new (drop used rates)) K r (t.pair ∷ [])) (sym at.are) (t.so τ K texts at.history at.sees))
         (Begin ∷ H) rates0 p.pairs (p.so τ H texts history seen);
     prints =
         t.prints ∙ ap (λ (l : List Imprint). l ++ imprints_from (count + 1) (t.pair ∷ [])) p.prints
         ∙ append_assoc before (imprints_from 1 p.pairs) (imprints_from (count + 1) (t.pair ∷ []))
         ∙ ap (λ (l : List Imprint). before ++ l) (ap (λ (n : ℕ). imprints_from 1 p.pairs ++ imprints_from n (t.pair ∷ [])) (omega (arith, p.number)) ∙ sym (imprints_both 1 p.pairs (t.pair ∷ [])));
-  }
-
-  pub progress_more : (step : Step) (lines told left : List ℕ) → lines ≡ drop step.script script → told ≡ drop step.report report → left ≡ drop step.rates rates → Turned (count + 1) step script report rates mid new half after
-      → Progress (count + 1) script0 report0 rates0 lines told left old new before after
-  progress_more step lines told left a b c t =
-      subst (λ (l : List ℕ). Progress (count + 1) script0 report0 rates0 l told left old new before after) (sym a)
-      (subst (λ (l : List ℕ). Progress (count + 1) script0 report0 rates0 (drop step.script script) l left old new before after) (sym b)
-      (subst (λ (l : List ℕ). Progress (count + 1) script0 report0 rates0 (drop step.script script) (drop step.report report) l old new before after) (sym c) (behind_it step t)))
+  })
 
   said : (v : Verdict) → count ≤ 1000000 → Fell (length p.pairs + 1) script report rates mid new v → Says v script0 report0 rates0 old new
   said v few f = record {
@@ -117,5 +109,6 @@ module _ (number : ℕ) (script report rates : List ℕ) (old new : Audit) (end 
   pub over_falls : (behind : List ℕ) (v : Verdict) (before : List Imprint) → EndsWith behind → IsOver end number behind v → FellPut number script report rates old new before before v
   over_falls behind v before w over = elim over [
     | inl o ↦ subst (λ (x : Verdict). FellPut number script report rates old new before before x) (sym o.1) (lawful (subst (λ (b : List ℕ). EndsWith b) o.0 w), sym (append-nil before))
-    | inr o ↦ subst (λ (x : Verdict). FellPut number script report rates old new before before x) (sym o.1) (record { falls = (refl, end, behind, w.0, o.0); so = w.1 }, sym (append-nil before))
+    | inr (inl o) ↦ subst (λ (x : Verdict). FellPut number script report rates old new before before x) (sym o.1) (record { falls = (refl, end, behind, w.0, o.0); so = w.1 }, sym (append-nil before))
+    | inr (inr o) ↦ subst (λ (x : Verdict). FellPut number script report rates old new before before x) (sym o) (record { falls = refl; so = λ τ H texts history seen. tt }, sym (append-nil before))
   ]

@@ -1,6 +1,5 @@
 -- What becomes of one line.
-use Rattle.std.proofs.Common.{◌≡◌, ◌≢◌, ◌⊎◌, ℕ, ◌<◌, ◌≤◌, List, [], ◌∷◌, ◌++◌, length, drop, Bool, true, false, ◌==◌, Option, None, Result, Ok, Err, append-nil, IfOk, IfErr, IsTrue, ◌↔◌, refl, sym, ◌∙◌, ap, subst, arith}
-use Rattle.std.proofs.lemmas.Bool.Decides.{nat_tests}
+use Rattle.std.proofs.Common.{◌≡◌, ◌≢◌, ◌⊎◌, ℕ, ◌<◌, ◌≤◌, List, [], ◌∷◌, ◌++◌, length, drop, Bool, false, ◌==◌, Option, None, Result, Ok, Err, append-nil, IfOk, IfErr, IsTrue, ◌↔◌, refl, sym, ◌∙◌, ap, subst}
 use Rattle.bench_base.specs.declared.events.Event.{Event}
 use Rattle.bench_base.specs.declared.events.Event.TheVariants as ev
 use Rattle.bench_base.specs.declared.events.Reply.{Reply}
@@ -18,7 +17,7 @@ use Rattle.script_text.specs.Told.{IsWholeReply, told}
 use Rattle.script_words.specs.declared.word.LineFault.{LineFault}
 use Rattle.line_runs.specs.Ends.{lines_of, EndsAt}
 use Rattle.line_runs.specs.declared.status.Status.TheVariants as status
-use Rattle.line_runs.specs.Lines.{IsOneLine, ended}
+use Rattle.line_runs.specs.Lines.{IsOneLine}
 use Rattle.desk_runs.specs.Deeds.{Done, done}
 use Rattle.desk_runs.specs.Events.{IsLineOf, IsBad}
 use Rattle.desk_runs.specs.Scripts.{script_grammar}
@@ -28,24 +27,25 @@ use Rattle.told_bench.specs.Forging.{AtHistory}
 use Rattle.told_bench.specs.Judging.{AtEach, IsJudged, text_with}
 use Rattle.told_bench.specs.Seeing.{Audit, Sees}
 use Rattle.told_runs.specs.Imprints.{IsGiven, IsDueMark, GivesSo, imprint_at}
-use Rattle.told_runs.specs.Verdicts.{Skipped, Answered, IsEvent, HasLine, HasSome, has_line, has_front, IsAnswered}
+use Rattle.told_runs.specs.Verdicts.{Skipped, Answered, status_of, IsEvent, HasLine, has_line, has_front, IsAnswered}
 use Rattle.told_runs.specs.Stops.{StopsSo}
 use Rattle.told_runs.specs.Turns.{StandsAt, Turned, FellPut, TurnsSo, BeginsWith, IsOver}
-use Rattle.told_runs.specs.declared.audit.Step.{Step}
 use Rattle.told_runs.specs.declared.imprint.Given.{Given}
 use Rattle.told_runs.specs.declared.imprint.Imprint.{Imprint}
+use Rattle.told_runs.specs.declared.verdict.Ending.{Ending}
 use Rattle.told_runs.specs.declared.verdict.Ending.TheVariants as ends
+use Rattle.told_runs.specs.declared.verdict.Input.TheVariants as input
 use Rattle.told_runs.specs.declared.verdict.Verdict.{Verdict}
-use Rattle.told_runs.specs.declared.verdict.Verdict.TheVariants.{Lawful, Stopped, Wrong, Forged, More, Memory}
+use Rattle.told_runs.specs.declared.verdict.Verdict.TheVariants.{Lawful, Stopped, Wrong, Forged, More, Memory, Unread}
 use Rattle.told_runs.proofs.Giving.{given_by}
 use Rattle.told_runs.proofs.Paired.{over_falls}
 
--- == what holds of the auditor that has the same, and what a report has next ==
+-- == what holds of the auditor that has the same ==
 
 -- of an auditor that sees whatever the one before did
-pub turned_before : (number : ℕ) (script report rates : List ℕ) (old mid new : Audit) (before after : List Imprint) → ((H : Ledger) → Sees old H → Sees mid H) → (r : Result Step Verdict)
-    → TurnsSo number script report rates mid new before after r → TurnsSo number script report rates old new before after r
-turned_before number script report rates old mid new before after sees (Ok step) t = record {
+pub turned_before : (number : ℕ) (script lines report told rates : List ℕ) (old mid new : Audit) (before after : List Imprint) → ((H : Ledger) → Sees old H → Sees mid H) → (r : Result ℕ Verdict)
+    → TurnsSo number script lines report told rates mid new before after r → TurnsSo number script lines report told rates old new before after r
+turned_before number script lines report told rates old mid new before after sees (Ok used) t = record {
   pair = t.pair;
   is = t.is;
   script_is = t.script_is;
@@ -53,26 +53,13 @@ turned_before number script report rates old mid new before after sees (Ok step)
   so = λ τ H texts history seen. t.so τ H texts history (sees H seen);
   prints = t.prints;
 }
-turned_before number script report rates old mid new before after sees (Err v) fell = (record { falls = fell.0.falls; so = λ τ H texts history seen. fell.0.so τ H texts history (sees H seen) }, fell.1)
+turned_before number script lines report told rates old mid new before after sees (Err v) fell = (record { falls = fell.0.falls; so = λ τ H texts history seen. fell.0.so τ H texts history (sees H seen) }, fell.1)
 
--- with one byte more in front, that is no line end
-one_before : (c : ℕ) (told : List ℕ) → c ≢ 10 → HasSome told → HasSome (c ∷ told)
-one_before c told other (has_line answer behind has) = has_line (c ∷ answer) behind (record { one = (other, has.one); is = ap (λ (l : List ℕ). c ∷ l) has.is })
-one_before c told other (has_front one) = has_front (other, one)
+-- == the line of an event ==
 
-split_before : (c : ℕ) (told : List ℕ) (ends : Bool) → (c == 10) ≡ ends → HasSome told → HasSome (c ∷ told)
-split_before c told true is some = has_line [] told (record { one = tt; is = ap (λ (n : ℕ). n ∷ told) (grind (arith, nat_tests)) })
-split_before c told false is some = one_before c told (λ same. grind (arith, nat_tests)) some
-
-has_some : (told : List ℕ) → HasSome told
-has_some [] = has_front tt
-has_some (c ∷ told) = split_before c told (c == 10) refl (has_some told)
-
--- == the line of an event, for which so much of the script is taken ==
-
-module _ (number : ℕ) (inside : number ≤ 1000000) (script line : List ℕ) (taken : ℕ) (e : Event) (begins : BeginsWith script line taken e) (report rates : List ℕ) (old new : Audit) where
+module _ (number : ℕ) (inside : number ≤ 1000000) (script line lines : List ℕ) (e : Event) (begins : BeginsWith script line lines e) (report rates : List ℕ) (old new : Audit) where
   is_event : IsEvent number (lines_of script) e
-  is_event = record { inside = inside; line = line; more = lines_of (drop taken script); rest_is = begins.first; short = begins.short; is = begins.is }
+  is_event = record { inside = inside; line = line; more = lines_of lines; rest_is = begins.first; short = begins.short; is = begins.is }
 
   -- the event brings nothing forged, at each history that the auditor has
   abbrev IsUnforgedThere : Type 0
@@ -95,19 +82,41 @@ module _ (number : ℕ) (inside : number ≤ 1000000) (script line : List ℕ) (
   )
   stops (Wrong n due) before after one unforged stop = (
     record {
-      falls = (stop.0, e, is_event, has_front one);
+      falls = (stop.0, e, is_event, has_front report [] (sym (append-nil report)) one);
       so = λ τ H texts history seen. let here = unforged τ H history seen in (here, stop.1 τ H texts history here seen);
     },
     stop.2 ∙ sym (append-nil before),
   )
-  stops Memory before after one unforged stop = (record { falls = (e, is_event, has_front one); so = λ τ H texts history seen. tt }, stop ∙ sym (append-nil before))
+  stops Memory before after one unforged stop = (record { falls = (e, is_event); so = λ τ H texts history seen. tt }, stop ∙ sym (append-nil before))
+  stops (Unread text n) before after one unforged stop = absurd stop
   stops (Lawful end) before after one unforged stop = absurd stop
   stops (More n) before after one unforged stop = absurd stop
   stops (Forged n) before after one unforged stop = absurd stop
 
   -- there was no memory
   pub wants : (before : List Imprint) → FellPut number script report rates old new before before Memory
-  wants before = (record { falls = (e, is_event, has_some report); so = λ τ H texts history seen. tt }, sym (append-nil before))
+  wants before = (record { falls = (e, is_event); so = λ τ H texts history seen. tt }, sym (append-nil before))
+
+  -- the report could not be read
+  pub unread : (before : List Imprint) → FellPut number script report rates old new before before (Unread input.Report number)
+  unread before = (record { falls = refl; so = λ τ H texts history seen. tt }, sym (append-nil before))
+
+  -- its line goes on behind more than the front of any answer
+  pub too_long : (v : Verdict) (front behind : List ℕ) (before after : List Imprint) → report ≡ front ++ behind → IsOneLine front → ((n : ℕ) → v ≡ Stopped n → ⊥) → IsUnforgedThere → StopsSo number e front rates old new before after v
+      → FellPut number script report rates old new before after v
+  too_long (Stopped n) front behind before after is one never unforged stop = absurd (never n refl)
+  too_long (Wrong n due) front behind before after is one never unforged stop = (
+    record {
+      falls = (stop.0, e, is_event, has_front front behind is one);
+      so = λ τ H texts history seen. let here = unforged τ H history seen in (here, stop.1 τ H texts history here seen);
+    },
+    stop.2 ∙ sym (append-nil before),
+  )
+  too_long Memory front behind before after is one never unforged stop = (record { falls = (e, is_event); so = λ τ H texts history seen. tt }, stop ∙ sym (append-nil before))
+  too_long (Lawful end) front behind before after is one never unforged stop = absurd stop
+  too_long (More n) front behind before after is one never unforged stop = absurd stop
+  too_long (Forged n) front behind before after is one never unforged stop = absurd stop
+  too_long (Unread text n) front behind before after is one never unforged stop = absurd stop
 
   module _ (answer behind : List ℕ) (has : HasLine report answer behind) where
     pub wrong : (due : Reply) (before : List Imprint) → IsUnforgedThere → AtEach old e (λ τ H. IsJudged τ H e rates answer new (Err (found.Wrong due)))
@@ -134,16 +143,13 @@ module _ (number : ℕ) (inside : number ≤ 1000000) (script line : List ℕ) (
             record { history = moves e text w.0 history here w.1.moves; sees = w.1.sees; are = ap (λ (n : ℕ). drop n rates) (sym w.2) },
           )
 
-      pub goes_on : (step : Step) (before after : List Imprint) → step.script ≡ taken → behind ≡ drop step.report report → step.rates ≡ used → e ≢ ev.End → after ≡ before ++ imprint_at number given
-          → Turned number step script report rates old new before after
-      goes_on step before after script_is report_is rates_is passes put = record {
+      pub goes_on : (before after : List Imprint) → e ≢ ev.End → after ≡ before ++ imprint_at number given → Turned number used script lines report behind rates old new before after
+      goes_on before after passes put = record {
         pair = Answered line e answer given;
         is = record { one = begins.one; short = begins.short; is = (begins.is, has.one, passes) };
-        script_is = begins.first ∙ ap (λ (n : ℕ). line ∷ lines_of (drop n script)) (sym script_is);
-        report_is = has.is ∙ ap (λ (l : List ℕ). ended answer ++ l) report_is;
-        so = λ τ H texts history seen.
-            let w = may τ H texts history seen in
-            (w.0, w.1, subst (λ (n : ℕ). StandsAt τ new (drop n rates) (ledger_by τ H w.0) (drop (length w.0.text) rates)) (sym rates_is) w.2);
+        script_is = begins.first;
+        report_is = has.is;
+        so = λ τ H texts history seen. let w = may τ H texts history seen in (w.0, w.1, w.2);
         prints = put ∙ ap (λ (l : List Imprint). before ++ l) (sym (append-nil (imprint_at number given)));
       }
 
@@ -179,34 +185,38 @@ bad_line r fault skipped line none is decides passes = record {
 }
 
 module _ (number : ℕ) (inside : number ≤ 1000000) (script report rates : List ℕ) (old : Audit) where
-  ends_at : (rest : List (List ℕ)) (v : Verdict) (before : List Imprint) → lines_of script ≡ rest → EndsAt script_grammar (status.Script number) number rest → IsOver (ends.Script number) number report v
-      → FellPut number script report rates old old before before v
-  ends_at rest v before are at over = over_falls number script report rates old old (ends.Script number) report v before (
-    record { script = subst (λ (l : List (List ℕ)). EndsAt script_grammar (status.Script number) number l) (sym are) at; report = refl },
-    λ τ H texts history seen. seen,
-  ) over
-
-  -- nothing is left
-  pub ends_missing : (v : Verdict) (before : List Imprint) → script ≡ [] → IsOver (ends.Script number) number report v → FellPut number script report rates old old before before v
-  ends_missing v before none over = ends_at [] v before (ap lines_of none) (inside, refl) over
-
   -- the line is too long, or is neither that of an event nor skipped
   pub ends_bad : (line : List ℕ) (more : List (List ℕ)) (v : Verdict) (before : List Imprint) → lines_of script ≡ line ∷ more → (600 < length line) ⊎ IsBad line → IsOver (ends.Script number) number report v
       → FellPut number script report rates old old before before v
-  ends_bad line more v before are bad over = ends_at (line ∷ more) v before are (inside, refl, bad) over
+  ends_bad line more v before are bad over = over_falls number script report rates old old (ends.Script number) report v before (
+    record { script = subst (λ (l : List (List ℕ)). EndsAt script_grammar (status.Script number) number l) (sym are) (inside, refl, bad); report = refl },
+    λ τ H texts history seen. seen,
+  ) over
 
-  pub skips : (before : List Imprint) (line : List ℕ) (step : Step) → lines_of script ≡ line ∷ lines_of (drop step.script script) → IsOneLine line → length line ≤ 600 → IsSkipped line → step.report ≡ 0 → step.rates ≡ 0 → Turned number step script report rates old old before before
-  skips before line step first one short is none nothing = record {
+  pub skips : (before : List Imprint) (line lines : List ℕ) → lines_of script ≡ line ∷ lines_of lines → IsOneLine line → length line ≤ 600 → IsSkipped line → Turned number 0 script lines report report rates old old before before
+  skips before line lines first one short is = record {
     pair = Skipped line;
     is = record { one = one; short = short; is = is };
     script_is = first;
-    report_is = ap (λ (n : ℕ). drop n report) (sym none);
-    so = λ τ H texts history seen. record { history = history; sees = seen; are = ap (λ (n : ℕ). drop n rates) (sym nothing) };
+    report_is = refl;
+    so = λ τ H texts history seen. record { history = history; sees = seen; are = refl };
     prints = sym (append-nil before);
   }
 
+  -- the script could not be read
+  pub script_unread : (before : List Imprint) → FellPut number script report rates old old before before (Unread input.Script number)
+  script_unread before = (record { falls = refl; so = λ τ H texts history seen. tt }, sym (append-nil before))
+
+-- the script has no line of this number
+pub ends_missing : (number : ℕ) (report rates : List ℕ) (old : Audit) (end : Ending) (v : Verdict) (before : List Imprint) → EndsAt script_grammar (status_of end) number [] → IsOver end number report v
+    → FellPut number [] report rates old old before before v
+ends_missing number report rates old ends.Done v before at over = absurd at
+ends_missing number report rates old (ends.Script n) v before at over =
+    over_falls number [] report rates old old (ends.Script n) report v before (record { script = at; report = refl }, λ τ H texts history seen. seen) over
+ends_missing number report rates old ends.TooLong v before at over =
+    over_falls number [] report rates old old ends.TooLong report v before (record { script = at; report = refl }, λ τ H texts history seen. seen) over
+
 -- so many lines were paired that no more is looked at
-pub ends_long : (number : ℕ) (script report rates : List ℕ) (old : Audit) (v : Verdict) (before : List Imprint) → number ≡ 1000001 → IsOver ends.TooLong 1000001 report v → FellPut number script report rates old old before before v
+pub ends_long : (number : ℕ) (script report rates : List ℕ) (old : Audit) (v : Verdict) (before : List Imprint) → number ≡ 1000001 → IsOver ends.TooLong number report v → FellPut number script report rates old old before before v
 ends_long number script report rates old v before many over =
-    over_falls number script report rates old old ends.TooLong report v before (record { script = many; report = refl }, λ τ H texts history seen. seen)
-    (subst (λ (n : ℕ). IsOver ends.TooLong n report v) (sym many) over)
+    over_falls number script report rates old old ends.TooLong report v before (record { script = many; report = refl }, λ τ H texts history seen. seen) over

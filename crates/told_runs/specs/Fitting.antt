@@ -1,5 +1,5 @@
 -- What deeds fit a script and its report, prints aside; and how the verdict of an audit stands to them.
-use Rattle.std.specs.Prelude.{◌≡◌, ◌≢◌, ℕ, ◌+◌, ◌≤◌, List, [], ◌∷◌, ◌++◌, length, map, drop, ◌⊎◌}
+use Rattle.std.specs.Prelude.{◌≡◌, ℕ, ◌+◌, ◌≤◌, List, [], ◌∷◌, ◌++◌, length, map, drop, ◌⊎◌}
 use Rattle.std.specs.List.{AllByRecursion}
 use Rattle.bench_base.specs.declared.events.Event.{Event}
 use Rattle.bench_base.specs.declared.events.Event.TheVariants as ev
@@ -24,7 +24,7 @@ use Rattle.told_runs.specs.declared.imprint.Imprint.{Imprint}
 use Rattle.told_runs.specs.declared.verdict.Ending.{Ending}
 use Rattle.told_runs.specs.declared.verdict.Ending.TheVariants.{Done as Ended, Script, TooLong}
 use Rattle.told_runs.specs.declared.verdict.Verdict.{Verdict}
-use Rattle.told_runs.specs.declared.verdict.Verdict.TheVariants.{Lawful, Stopped, Memory}
+use Rattle.told_runs.specs.declared.verdict.Verdict.TheVariants.{Lawful, Stopped, Wrong, Forged, More, Memory, Unread}
 
 -- each may be told in turn, at the ledger and with the rates that those before it leave
 abbrev pub AreTold : Tariff → Ledger → List ℕ → List Done → Type 0
@@ -80,23 +80,33 @@ module _ (τ : Tariff) (H : Ledger) (script report rates : List ℕ) where
     pub run : IsRun τ H rates (done_in deeds)
     pub prints_are : prints ≡ printed_of (done_in deeds)
 
--- lawful, or there was no memory
-abbrev pub IsLawful : Verdict → Type 0
-IsLawful v = ((end : Ending) × (v ≡ Lawful end)) ⊎ (v ≡ Memory)
+-- no more was judged, since there was no memory or what is to be read could not be
+abbrev pub IsCutShort : Verdict → Type 0
+IsCutShort (Lawful end) = ⊥
+IsCutShort (Stopped n) = ⊥
+IsCutShort (Wrong n due) = ⊥
+IsCutShort (Forged n) = ⊥
+IsCutShort (More n) = ⊥
+IsCutShort Memory = Unit {0}
+IsCutShort (Unread input n) = Unit {0}
 
--- stopped at the line of this number, or there was no memory
+-- lawful, or cut short
+abbrev pub IsLawful : Verdict → Type 0
+IsLawful v = ((end : Ending) × (v ≡ Lawful end)) ⊎ IsCutShort v
+
+-- stopped at the line of this number, or cut short
 abbrev pub IsStoppedAt : Verdict → ℕ → Type 0
-IsStoppedAt v number = (v ≡ Stopped number) ⊎ (v ≡ Memory)
+IsStoppedAt v number = (v ≡ Stopped number) ⊎ IsCutShort v
 
 -- P of each history that the auditor saw as a run begins, by a tariff of texts
 abbrev pub AtSeen : Audit → (Tariff → Ledger → Type 0) → Type 0
 AtSeen old P = (τ : Tariff) (H : Ledger) → IsOfTexts τ → History τ editions H → Sees old H → P τ (Begin ∷ H)
 
--- AN AUDIT IS EXACT: no deeds that fit are more than it paired, unless memory was wanting; so where it says that a line is wrong, or that its event brings
+-- AN AUDIT IS EXACT: no deeds that fit are more than it paired, unless it was cut short; so where it says that a line is wrong, or that its event brings
 -- something forged, none fit with that line. Where any fit to the end, it says that the run is lawful; and where it says so, some do. Where any fit up to a place at which
 -- the run may have been stopped, it says that; and where it says so, some do.
 pub record IsExact (v : Verdict) (script report rates : List ℕ) (old new : Audit) (says : Says v script report rates old new) : Type 0 where
-  pub longest : v ≢ Memory → AtSeen old (λ τ H. (deeds : List Deed) → FitsFirst τ H script report rates deeds → length deeds ≤ length says.pairs)
+  pub longest : (IsCutShort v → ⊥) → AtSeen old (λ τ H. (deeds : List Deed) → FitsFirst τ H script report rates deeds → length deeds ≤ length says.pairs)
   pub complete : AtSeen old (λ τ H. (deeds : List Deed) → FitsToEnd τ H script report rates deeds → IsLawful v)
   pub sound : (end : Ending) → v ≡ Lawful end
       → AtSeen old (λ τ H. (deeds : List Deed) × FitsToEnd τ H script report rates deeds)

@@ -3,6 +3,7 @@ pub mod Audits
 pub mod Fitting
 pub mod Imprints
 pub mod Prints
+pub mod Reads
 pub mod Verdicts
 -- Bookkeeping: private calls and proofs alone name these.
 pub mod Stops

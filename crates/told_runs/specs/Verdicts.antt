@@ -28,12 +28,13 @@ use Rattle.told_bench.specs.Stopping.{IsBegun, IsUnbegun}
 use Rattle.told_bench.specs.Seeing.{Audit, Sees}
 use Rattle.told_runs.specs.Audits.{MayTell}
 use Rattle.told_runs.specs.Imprints.{IsGiven, IsLeftOpen, imprint_at}
+use Rattle.told_runs.specs.Reads.{IsRead, OfTexts}
 use Rattle.told_runs.specs.declared.imprint.Given.{Given}
 use Rattle.told_runs.specs.declared.imprint.Imprint.{Imprint}
 use Rattle.told_runs.specs.declared.verdict.Ending.{Ending}
 use Rattle.told_runs.specs.declared.verdict.Ending.TheVariants.{Done as Ended, Script, TooLong}
 use Rattle.told_runs.specs.declared.verdict.Verdict.{Verdict}
-use Rattle.told_runs.specs.declared.verdict.Verdict.TheVariants.{Lawful, Stopped, Wrong, Forged, More, Memory}
+use Rattle.told_runs.specs.declared.verdict.Verdict.TheVariants.{Lawful, Stopped, Wrong, Forged, More, Memory, Unread}
 
 -- == lines of the script, each with its line of the report ==
 
@@ -89,10 +90,10 @@ pub record HasLine (told answer behind : List ℕ) : Type 0 where
   pub one : IsOneLine answer
   pub is : told ≡ ended answer ++ behind
 
--- the report has a line next; or it ends before the next line end
+-- the report has a line next; or these bytes of one, which may be cut off there, or go on
 pub data HasSome (told : List ℕ) : Type 0 where
   has_line : (answer behind : List ℕ) → HasLine told answer behind → HasSome told
-  has_front : IsOneLine told → HasSome told
+  has_front : (front behind : List ℕ) → told ≡ front ++ behind → IsOneLine front → HasSome told
 
 -- what the report has for the end of the script, and behind it: a line for `end`, and nothing else for any other end
 abbrev pub HasEnd : Ending → List ℕ → List ℕ → Type 0
@@ -107,14 +108,16 @@ pub record EndsSo (number : ℕ) (rest : List (List ℕ)) (told : List ℕ) (end
 
 -- The verdict falls at the line of this number, where these lines of the script and these bytes of the report are left: the two end together; the report goes
 -- on behind the end of the script; it ends before the line end of the next answer, where this is open of what was printed; it has a line for the next event, or ends
--- before its line end, which the event can't get; or there is a next event, which brings something forged.
+-- before its line end, which the event can't get; there is a next event, which brings something forged, or for which there was no memory; or the script or the
+-- report could not be read there.
 abbrev pub FallsAt : ℕ → List (List ℕ) → List ℕ → Verdict → Type 0
 FallsAt number rest told (Lawful end) = EndsSo number rest told end []
 FallsAt number rest told (More n) = (n ≡ number) × (end : Ending) × (behind : List ℕ) × EndsSo number rest told end behind × (0 < length behind)
 FallsAt number rest told (Stopped n) = (n ≡ number) × (e : Event) × (given : Option Given) × IsEvent number rest e × IsOneLine told
 FallsAt number rest told (Wrong n due) = (n ≡ number) × (e : Event) × IsEvent number rest e × HasSome told
 FallsAt number rest told (Forged n) = (n ≡ number) × (e : Event) × IsEvent number rest e
-FallsAt number rest told Memory = (e : Event) × IsEvent number rest e × HasSome told
+FallsAt number rest told Memory = (e : Event) × IsEvent number rest e
+FallsAt number rest told (Unread input n) = n ≡ number
 
 -- what is open of what was printed, where the run was stopped
 abbrev pub last_given : (number : ℕ) (rest : List (List ℕ)) (told : List ℕ) (v : Verdict) → FallsAt number rest told v → Option Given
@@ -124,6 +127,7 @@ last_given number rest told (Stopped n) at = at.2
 last_given number rest told (Wrong n due) at = None
 last_given number rest told (Forged n) at = None
 last_given number rest told Memory at = None
+last_given number rest told (Unread input n) at = None
 
 -- == what may be so ==
 
@@ -150,10 +154,10 @@ module _ (τ : Tariff) (H : Ledger) (left : List ℕ) (now : Audit) where
   MayEnd (Script line) told behind has = Sees now H
   MayEnd TooLong told behind has = Sees now H
 
-  -- the event may get no reply of the line that the report has, or none whose line begins with what it ends with; this was the answer
+  -- the event may get no reply of the line that the report has, or none whose line begins with these bytes of it; this was the answer
   abbrev pub IsWrong : (e : Event) (due : Reply) (told : List ℕ) → HasSome told → Type 0
   IsWrong e due told (has_line answer behind line) = IsUntold τ H e left answer now due
-  IsWrong e due told (has_front one) = IsUnbegun τ H e left told now due
+  IsWrong e due told (has_front front behind is one) = IsUnbegun τ H e left front now due
 
   -- What the verdict says where it falls: the end may be so; the next event brings nothing forged, and what the report ends with may be the front of the line of a
   -- reply, and the auditor sees the ledger in which a node lost its power in the event, if one may; it brings nothing forged, and may not get what the report
@@ -165,6 +169,7 @@ module _ (τ : Tariff) (H : Ledger) (left : List ℕ) (now : Audit) where
   IsSo number rest told (Wrong n due) at = Unforged at.1 H × IsWrong at.1 due told at.3
   IsSo number rest told (Forged n) at = (Unforged at.1 H → ⊥) × Sees now H
   IsSo number rest told Memory at = Unit {0}
+  IsSo number rest told (Unread input n) at = Unit {0}
 
 -- WHAT AN AUDIT SAYS of a script, its report and the rates: how far the two were paired and where the verdict falls; and for each history that the auditor
 -- sees as the run begins, by a tariff of texts, that the pairs may be so, and what the verdict says there.
@@ -187,3 +192,9 @@ imprints_from number (Answered line e answer given ∷ pairs) = imprint_at numbe
 pub record Audited (v : Verdict) (script report rates : List ℕ) (old new : Audit) (before after : List Imprint) : Type 0 where
   pub says : Says v script report rates old new
   pub prints : after ≡ before ++ (imprints_from 1 says.pairs ++ imprint_at (length says.pairs + 1) (last_given (length says.pairs + 1) says.rest says.told v says.falls))
+
+-- WHAT AN AUDIT SAYS OF WHAT IT READ: whatever stands behind that in the script and in the report, which is nothing where the end was seen.
+pub record AuditedOf (v : Verdict) (script0 script1 report0 report1 : Option (List ℕ)) (rates : List ℕ) (old new : Audit) (before after : List Imprint) : Type 0 where
+  pub script : IsRead script0 script1
+  pub report : IsRead report0 report1
+  pub so : OfTexts script (λ text lines. OfTexts report (λ answers told. Audited v text answers rates old new before after))

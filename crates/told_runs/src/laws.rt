@@ -1,5 +1,5 @@
 //! Laws of audits: each is the contract of a call that does nothing.
-ghost use Rattle.std.specs.Prelude.{◌≡◌, ℕ, List, ◌∷◌};
+ghost use Rattle.std.specs.Prelude.{◌≡◌, ℕ, List, ◌∷◌, Option, Some};
 ghost use Rattle.bench_base.specs.declared.ledger.Entry.TheVariants.{Begin};
 ghost use Rattle.bench_base.specs.Ledger.{Ledger};
 ghost use Rattle.bench_base.specs.Rules.{todays_rules, editions};
@@ -11,7 +11,7 @@ ghost use Rattle.script_replay.specs.Deeds.{ledger_after};
 ghost use Rattle.told_bench.specs.Seeing.{Audit};
 ghost use Rattle.told_runs.specs.Audits.{IsRun, AreAlike, Fits, ledger_left};
 ghost use Rattle.told_runs.specs.Fitting.{AreTold, IsExact, PrintsFit};
-ghost use Rattle.told_runs.specs.Verdicts.{Says};
+ghost use Rattle.told_runs.specs.Verdicts.{Audited, AuditedOf, Says};
 ghost use Rattle.told_runs.specs.declared.imprint.Imprint.{Imprint};
 ghost use Rattle.told_runs.specs.declared.verdict.Verdict.{Verdict};
 
@@ -54,3 +54,9 @@ pub fn prints_fit()
     one_reply();
     one_line();
 }
+
+/// Of sources that tell what they have, an audit says of all of that what it says of what it read.
+pub fn audits_read_all()
+    ensures { (v : Verdict) (script report rates : List ℕ) (script_left report_left : Option (List ℕ)) (old new : Audit) (before after : List Imprint)
+        → AuditedOf v (Some script) script_left (Some report) report_left rates old new before after → Audited v script report rates old new before after }
+{}

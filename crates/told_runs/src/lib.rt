@@ -1,17 +1,21 @@
 //! What an audit says of a script, its report, the rates and the prints together; the audit of one run; and what follows of it.
 #![tactic(auto)]
 
+mod answers;
 pub mod audit;
+mod ends;
 pub mod imprint;
 pub mod laws;
-mod lines;
 pub mod prints;
+mod reading;
 mod stopping;
 #[cfg(test)]
 mod tests;
 pub mod verdict;
 
-pub use audit::audit_run;
+pub use audit::{audit_run, behind};
+pub use ends::LINES;
 pub use imprint::{Given, Imprint, Taken};
 pub use prints::{Match, match_prints};
-pub use verdict::{Ending, Verdict};
+pub use reading::read_line;
+pub use verdict::{Ending, Input, Verdict};

@@ -1,10 +1,12 @@
 //! Audits of the ordinary path over blank nodes, with its report as it is and altered.
 ghost use Rattle.told_bench.specs.Seeing.{IsReady, audit_of};
 
-use crate::{Ending, Imprint, Taken, Verdict, audit_run};
+use crate::{Ending, Imprint, Input, Taken, Verdict, audit_run};
 use bench_base::events::Reply;
+use bench_base::memory::MemSource;
+use read_ahead::ReadAhead;
 use script_text::{Line, put_reply};
-use std::alloc::Global;
+use std::alloc::{AllocError, Global};
 use std::process::Abort;
 use std::test::Fail;
 use told_bench::Auditor;
@@ -96,6 +98,7 @@ enum Due {
     Wrong(u32, &'static str),
     Forged(u32),
     More(u32),
+    Unread(Input, u32),
 }
 
 fn has_text(reply: &Reply, text: &str) -> bool {
@@ -113,6 +116,8 @@ fn is_said(verdict: &Verdict, due: &Due) -> bool {
             && has_text(reply, text),
         (Verdict::Forged(line), Due::Forged(number)) => *line == *number,
         (Verdict::More(line), Due::More(number)) => *line == *number,
+        (Verdict::Unread(input, line), Due::Unread(wanted, number)) => *input == *wanted
+            && *line == *number,
         (_, _) => false,
     }
 }
@@ -134,6 +139,42 @@ fn report_with(alloc: Global, number: usize, text: &str) -> Result<Vec<u8>, Fail
     Ok(report)
 }
 
+/// A source that is read ahead of.
+type Lines = ReadAhead<MemSource>;
+
+// A source of these bytes, which are read in pieces of five, and whose reads of these numbers fail.
+fn source_of(alloc: Global, bytes: &[u8], fails: &[u64]) -> Result<Lines, AllocError> {
+    let mut copy = Vec::new(alloc);
+    copy.extend_from_slice(bytes)?;
+    let mut numbers = Vec::new(alloc);
+    numbers.extend_from_slice(fails)?;
+    let ahead = vec![in alloc; 0; 64]?;
+    Ok(ReadAhead::new(MemSource::new(copy, 5, numbers), ahead))
+}
+
+// Audits a run whose sources don't fail.
+fn audited(
+    alloc: Global,
+    auditor: &mut Auditor,
+    script: &str,
+    report: &[u8],
+    imprints: &mut Vec<Imprint>,
+) -> Result<Verdict, AllocError>
+    requires ready { IsReady (audit_of auditor.old) }
+    ensures ready { IsReady (audit_of auditor.new) }
+{
+    let mut script = source_of(alloc, script.as_bytes(), &[])?;
+    let mut report = source_of(alloc, report, &[])?;
+    Ok(audit_run(
+        alloc,
+        auditor,
+        &mut script,
+        &mut report,
+        RATES.as_bytes(),
+        imprints,
+    ))
+}
+
 // Audits a run behind those that the auditor has.
 fn says_behind(
     rt: &impl Abort,
@@ -148,14 +189,7 @@ fn says_behind(
     ensures ready { IsReady (audit_of auditor.new) }
 {
     let mut imprints: Vec<Imprint> = Vec::new(alloc);
-    let verdict = audit_run(
-        alloc,
-        auditor,
-        script.as_bytes(),
-        report,
-        RATES.as_bytes(),
-        &mut imprints,
-    );
+    let verdict = audited(alloc, auditor, script, report, &mut imprints)?;
     assert!(rt; is_said(&verdict, due), "{row}");
     Ok(())
 }
@@ -305,28 +339,40 @@ fn runs_go_on_behind_a_stop(rt: HostRuntime) -> Result<(), Fail> {
     for row in rows {
         let (number, stop, front, count, due) = row;
         let mut auditor = Auditor::new(alloc)?;
-        let mut imprints: Vec<Imprint> = Vec::new(alloc);
         let report = cut_report(alloc, number, front)?;
-        let first = audit_run(
+        says_behind(
+            &rt,
             alloc,
             &mut auditor,
-            SCRIPT.as_bytes(),
+            SCRIPT,
             report.as_slice(),
-            RATES.as_bytes(),
-            &mut imprints,
-        );
-        assert!(rt; is_said(&first, &stop), "{front}");
+            &stop,
+            front,
+        )?;
         let report = format!(in alloc; "day 20514\nup d1 commits {count}")?;
-        let second = audit_run(
+        says_behind(
+            &rt,
             alloc,
             &mut auditor,
-            "day 2026-03-02\non d1\nend\n".as_bytes(),
+            "day 2026-03-02\non d1\nend\n",
             report.as_bytes(),
-            RATES.as_bytes(),
-            &mut imprints,
-        );
-        assert!(rt; is_said(&second, &due), "{number} {front} {report}");
+            &due,
+            report.as_str(),
+        )?;
     }
+    Ok(())
+}
+
+// Gathers what the printer was given in the ordinary path, as far as the report goes.
+fn gather(
+    alloc: Global,
+    auditor: &mut Auditor,
+    report: &[u8],
+    imprints: &mut Vec<Imprint>,
+) -> Result<(), AllocError>
+    requires ready { IsReady (audit_of auditor.old) }
+{
+    let _ = audited(alloc, auditor, SCRIPT, report, imprints)?;
     Ok(())
 }
 
@@ -335,14 +381,7 @@ fn is_print_open(alloc: Global, number: usize) -> Result<bool, Fail> {
     let mut auditor = Auditor::new(alloc)?;
     let mut imprints: Vec<Imprint> = Vec::new(alloc);
     let report = cut_report(alloc, number, "")?;
-    audit_run(
-        alloc,
-        &mut auditor,
-        SCRIPT.as_bytes(),
-        report.as_slice(),
-        RATES.as_bytes(),
-        &mut imprints,
-    );
+    gather(alloc, &mut auditor, report.as_slice(), &mut imprints)?;
     let Some(imprint) = imprints.last() else {
         return Ok(false);
     };
@@ -472,4 +511,62 @@ fn what_an_earlier_run_sent_is_not_forged(rt: HostRuntime) -> Result<(), Fail> {
         &Due::Done,
         "given again",
     )
+}
+
+// A report of one line of so many bytes.
+fn long_report(alloc: Global, size: usize, end: &str) -> Result<Vec<u8>, Fail> {
+    let mut report = vec![in alloc; b'x'; size]?;
+    report.extend_from_slice(end.as_bytes())?;
+    Ok(report)
+}
+
+#[test]
+fn long_lines_of_a_report_are_wrong(rt: HostRuntime) -> Result<(), Fail> {
+    let alloc = rt.alloc();
+    let due = Due::Wrong(1, "day 20513");
+    for size in [257, 600, 601, 602, 2000] {
+        for end in ["", "\n", "\nend\n"] {
+            let report = long_report(alloc, size, end)?;
+            says(&rt, alloc, SCRIPT, report.as_slice(), &due, end)?;
+        }
+    }
+    Ok(())
+}
+
+// A read is one of five bytes: the script's first line ends with read 2, and its second begins with read 3; so read 1 and 2 of the report, whose second line ends in read 2.
+#[test]
+fn sources_that_fail_are_told(rt: HostRuntime) -> Result<(), Fail> {
+    let alloc = rt.alloc();
+    let script = "day 2026-03-01\nend\n";
+    let report = "day 20513\nend\n";
+    let rows: [(&[u64], &[u64], Due); 8] = [
+        (&[], &[], Due::Done),
+        (&[0], &[0], Due::Unread(Input::Script, 1)),
+        (&[2], &[], Due::Unread(Input::Script, 1)),
+        (&[3], &[2], Due::Unread(Input::Script, 2)),
+        (&[], &[1], Due::Unread(Input::Report, 1)),
+        (&[], &[2], Due::Unread(Input::Report, 2)),
+        (&[], &[3], Due::Unread(Input::Report, 2)),
+        (&[4], &[4], Due::Done),
+    ];
+    for row in rows {
+        let (script_fails, report_fails, due) = row;
+        let mut auditor = Auditor::new(alloc)?;
+        let mut imprints: Vec<Imprint> = Vec::new(alloc);
+        let mut script = source_of(alloc, script.as_bytes(), script_fails)?;
+        let mut report = source_of(alloc, report.as_bytes(), report_fails)?;
+        let verdict = audit_run(
+            alloc,
+            &mut auditor,
+            &mut script,
+            &mut report,
+            RATES.as_bytes(),
+            &mut imprints,
+        );
+        assert!(rt;
+            is_said(&verdict, &due),
+            "{script_fails:?} {report_fails:?}"
+        );
+    }
+    Ok(())
 }

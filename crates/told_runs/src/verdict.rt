@@ -12,6 +12,15 @@ pub enum Ending {
     TooLong,
 }
 
+/// What an audit reads line by line.
+#[derive(Clone, Copy, Debug, PartialEq, Eq)]
+pub enum Input {
+    /// The script of the run.
+    Script,
+    /// Its report.
+    Report,
+}
+
 /// What an audit says of one run.
 #[derive(Clone, Copy)]
 pub enum Verdict {
@@ -30,4 +39,6 @@ pub enum Verdict {
     More(u32),
     /// There was no memory, for rates or for a message.
     Memory,
+    /// This failed to be read at the line of this number. The lines before it may be so.
+    Unread(Input, u32),
 }

@@ -10,17 +10,17 @@ use Rattle.told_bench.specs.Stopping.{IsFrontOf}
 use Rattle.told_bench.proofs.Stops.{by_answer, by_up, by_print, by_rates, by_none}
 use Rattle.told_bench.proofs.stopping.comes.Goals as goal
 
-pub returns-then-begins : goal.returns-then-begins
-returns-then-begins c τ H left sees due_is =
+pub returns-then-begins-clause-exact : goal.returns-then-begins-clause-exact
+returns-then-begins-clause-exact c τ H left sees due_is =
     by_answer τ H c.args.event.now left c.args.front.now c.requires.whole c.args.due.now due_is c.begins.ensures.whole (c.begins.ensures.exact.0 c.if-begins.true)
 
-pub returns-then-begins_other_up : goal.returns-then-begins_other_up
-returns-then-begins_other_up c τ H left sees due_is =
-    by_up τ H c.args.event.now left c.args.front.now c.requires.whole c.args.due.now due_is (rw c.if-begins_other_up.true at c.begins_other_up.ensures H sees)
+pub returns-then-begins_other_up-clause-exact : goal.returns-then-begins_other_up-clause-exact
+returns-then-begins_other_up-clause-exact c τ H left sees due_is =
+    by_up τ H c.args.event.now left c.args.front.now c.requires.whole c.args.due.now due_is (rw c.if-begins_other_up.true at c.begins_other_up.ensures.exact H sees)
 
-pub returns-then-begins_cut_print : goal.returns-then-begins_cut_print
-returns-then-begins_cut_print c τ H left sees due_is =
-    by_print τ H c.args.event.now left c.args.front.now c.requires.whole c.args.due.now due_is (rw c.if-begins_cut_print.true at c.begins_cut_print.ensures)
+pub returns-then-begins_cut_print-clause-exact : goal.returns-then-begins_cut_print-clause-exact
+returns-then-begins_cut_print-clause-exact c τ H left sees due_is =
+    by_print τ H c.args.event.now left c.args.front.now c.requires.whole c.args.due.now due_is (rw c.if-begins_cut_print.true at c.begins_cut_print.ensures.exact)
 
 no_front : (b : Bool) {P : Type 0} → (P → IsTrue b) → b ≡ false → P → ⊥
 no_front b so is p = let t : IsTrue false = subst (λ (x : Bool). IsTrue x) is (so p) in cc t
@@ -30,8 +30,8 @@ last : (τ : Tariff) (H : Ledger) (e : Event) (left front : List ℕ) (whole : I
 last τ H e left front whole due due_is no_answer no_up no_print true is = by_rates τ H e left front whole due due_is is
 last τ H e left front whole due due_is no_answer no_up no_print false is = by_none τ H e left front whole due due_is no_answer no_up no_print is
 
-pub returns : goal.returns
-returns c τ H left sees due_is =
+pub returns-clause-exact : goal.returns-clause-exact
+returns-clause-exact c τ H left sees due_is =
     last τ H c.args.event.now left c.args.front.now c.requires.whole c.args.due.now due_is (no_front c.begins.result c.begins.ensures.exact.1 c.if-begins.false)
-    (rw c.if-begins_other_up.false at c.begins_other_up.ensures H sees) (rw c.if-begins_cut_print.false at c.begins_cut_print.ensures) c.begins_rates_fault.result
-    (subst (λ (day : Option ℤ). MatchBool c.begins_rates_fault.result (BeginsRatesFault c.args.event.now day c.args.front.now) (BeginsRatesFault c.args.event.now day c.args.front.now → ⊥)) sees.run.day.day c.begins_rates_fault.ensures)
+    (rw c.if-begins_other_up.false at c.begins_other_up.ensures.exact H sees) (rw c.if-begins_cut_print.false at c.begins_cut_print.ensures.exact) c.begins_rates_fault.result
+    (subst (λ (day : Option ℤ). MatchBool c.begins_rates_fault.result (BeginsRatesFault c.args.event.now day c.args.front.now) (BeginsRatesFault c.args.event.now day c.args.front.now → ⊥)) sees.run.day.day c.begins_rates_fault.ensures.exact)

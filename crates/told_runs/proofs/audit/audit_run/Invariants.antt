@@ -1,11 +1,18 @@
-use Rattle.std.proofs.Common.{◌≤◌, length}
+use Rattle.std.proofs.Common.{◌-◌, ◌≤◌, length, take, drop}
+use Rattle.std.specs.Io.KnownBytes.{prepend_known}
 use Rattle.told_bench.specs.Seeing.{IsReady, audit_of}
-use Rattle.told_runs.specs.Turns.{Progress}
+use Rattle.told_runs.specs.Turns.{IsProgress}
 use Rattle.told_runs.proofs.audit.audit_run.Given as goal
 
 abbrev pub invariant-loop-count : goal.invariant-loop-count
-invariant-loop-count l = record {
+invariant-loop-count g l = record {
   ready : IsReady (audit_of l.auditor);
   few : length (audit_of l.auditor).messages ≤ l.count;
-  progress : Progress l.count l.fn.script l.fn.report l.fn.rates l.lines l.told l.left (audit_of l.fn.auditor) (audit_of l.auditor) l.fn.imprints.items l.imprints.items;
+  progress : IsProgress l.count l.fn.rates l.left (audit_of l.fn.auditor) (audit_of l.auditor) l.fn.imprints.items l.imprints.items
+      (prepend_known (take (l.fn.script.end - l.fn.script.at) (drop l.fn.script.at l.fn.script.buffer.items)) (g.S.Source.left l.fn.script.inner))
+      (prepend_known (take (l.script.end - l.script.at) (drop l.script.at l.script.buffer.items)) (g.S.Source.left l.script.inner))
+      (prepend_known (take (l.fn.report.end - l.fn.report.at) (drop l.fn.report.at l.fn.report.buffer.items)) (g.R.Source.left l.fn.report.inner))
+      (prepend_known (take (l.report.end - l.report.at) (drop l.report.at l.report.buffer.items)) (g.R.Source.left l.report.inner));
+  script_later : g.S.Source.faults l.fn.script.inner ≤ g.S.Source.faults l.script.inner;
+  report_later : g.R.Source.faults l.fn.report.inner ≤ g.R.Source.faults l.report.inner;
 }

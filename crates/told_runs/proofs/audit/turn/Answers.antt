@@ -1,36 +1,43 @@
-use Rattle.std.proofs.Common.{inl, inr, take, drop, refl, arith}
-use Rattle.std.proofs.lemmas.List.{length-take}
-use Rattle.line_runs.specs.Ends.{lines_of}
+use Rattle.std.proofs.Common.{take, refl}
 use Rattle.told_bench.specs.Seeing.{audit_of}
-use Rattle.told_runs.proofs.Turning.{ends_missing, ends_bad, skips, line_of_event, bad_line}
+use Rattle.told_runs.proofs.ReadTurns.{script_fails, script_ends, script_long, script_bad, script_skips, event_goes, event_falls}
+use Rattle.told_runs.proofs.Turning.{line_of_event, bad_line}
+use Rattle.told_runs.proofs.WasRead.{first_line}
 use Rattle.told_runs.proofs.audit.turn.Goals as goal
 
-pub returns-in_default-clause-turns : goal.returns-in_default-clause-turns
-returns-in_default-clause-turns c = ends_missing c.args.number c.requires.inside c.args.script.now c.args.report.now c.args.rates.now (audit_of c.args.auditor.now) c.over.result c.args.imprints.now.items c.in_default.ensures c.over.ensures
-
-pub returns-then-first-gt-LONGEST-clause-turns : goal.returns-then-first-gt-LONGEST-clause-turns
-returns-then-first-gt-LONGEST-clause-turns c =
-    ends_bad c.args.number c.requires.inside c.args.script.now c.args.report.now c.args.rates.now (audit_of c.args.auditor.now)
-    (take c.in-Some.first.len c.args.script.now) (lines_of (drop c.in-Some.first.taken c.args.script.now)) c.over-then-first-gt-LONGEST.result c.args.imprints.now.items
-    c.in-Some.ensures.3 (inl (omega (arith, c.if-first-gt-LONGEST.true, c.in-Some.ensures.0, length-take c.in-Some.first.len c.args.script.now))) c.over-then-first-gt-LONGEST.ensures
-
 pub returns-then-is_skipped-clause-turns : goal.returns-then-is_skipped-clause-turns
-returns-then-is_skipped-clause-turns c =
-    skips c.args.number c.requires.inside c.args.script.now c.args.report.now c.args.rates.now (audit_of c.args.auditor.now)
-    c.args.imprints.now.items (take c.in-Some.first.len c.args.script.now) _ c.in-Some.ensures.3 c.in-Some.ensures.2 (omega (arith, c.if-first-gt-LONGEST.false, c.in-Some.ensures.0, length-take c.in-Some.first.len c.args.script.now))
-    (c.if-is_skipped.ensures.0 refl) refl refl
+returns-then-is_skipped-clause-turns g c =
+    script_skips c.args.number c.requires.inside c.args.rates.now (audit_of c.args.auditor.now) c.args.imprints.now.items _ _ c.read_line.new.buf (take c.in-Line.len c.read_line.new.buf) _ _
+    (first_line _ _ c.read_line.new.buf c.in-Line.len c.in-Line.is_ended c.in-Line.ensures.taken) (c.if-is_skipped.ensures.0 refl) refl
 
-pub returns-in-Ok-clause-turns : goal.returns-in-Ok-clause-turns
-returns-in-Ok-clause-turns c =
-    c.hear.ensures.turns c.args.script.now (take c.in-Some.first.len c.args.script.now) (record {
-      first = c.in-Some.ensures.3;
-      one = c.in-Some.ensures.2;
-      short = omega (arith, c.if-first-gt-LONGEST.false, c.in-Some.ensures.0, length-take c.in-Some.first.len c.args.script.now);
-      is = line_of_event c.read_event.result c.in-Ok.event (take c.in-Some.first.len c.args.script.now) c.read_event.ensures.found c.in-Ok.is;
-    })
+pub returns-in-Fault-clause-turns : goal.returns-in-Fault-clause-turns
+returns-in-Fault-clause-turns g c =
+    script_fails c.args.number c.requires.inside c.args.rates.now (audit_of c.args.auditor.now) c.args.imprints.now.items _ _ c.read_line.new.buf _ c.in-Fault.ensures.taken
+
+pub returns-in-End-clause-turns : goal.returns-in-End-clause-turns
+returns-in-End-clause-turns g c =
+    script_ends c.args.number c.requires.inside c.args.rates.now (audit_of c.args.auditor.now) c.args.imprints.now.items _ _ c.read_line.new.buf c.over.result _ _ c.over.ensures.over c.in-End.ensures.taken
+
+pub returns-in-Long-clause-turns : goal.returns-in-Long-clause-turns
+returns-in-Long-clause-turns g c =
+    script_long c.args.number c.requires.inside c.args.rates.now (audit_of c.args.auditor.now) c.args.imprints.now.items _ _ c.read_line.new.buf c.over-in-Long.result _ _ c.over-in-Long.ensures.over c.in-Long.ensures.taken
 
 pub returns-in-Err-clause-turns : goal.returns-in-Err-clause-turns
-returns-in-Err-clause-turns c =
-    ends_bad c.args.number c.requires.inside c.args.script.now c.args.report.now c.args.rates.now (audit_of c.args.auditor.now)
-    (take c.in-Some.first.len c.args.script.now) (lines_of (drop c.in-Some.first.taken c.args.script.now)) c.over-in-Err.result c.args.imprints.now.items
-    c.in-Some.ensures.3 (inr (bad_line c.read_event.result c.in-Err.field-0 c.is_skipped.result (take c.in-Some.first.len c.args.script.now) c.read_event.ensures.none c.in-Err.is c.is_skipped.ensures c.if-is_skipped.false)) c.over-in-Err.ensures
+returns-in-Err-clause-turns g c =
+    script_bad c.args.number c.requires.inside c.args.rates.now (audit_of c.args.auditor.now) c.args.imprints.now.items _ _ c.read_line.new.buf c.over-in-Err.result _ _ c.over-in-Err.ensures.over
+    (take c.in-Line.len c.read_line.new.buf) _ (first_line _ _ c.read_line.new.buf c.in-Line.len c.in-Line.is_ended c.in-Line.ensures.taken)
+    (bad_line c.read_event.result c.in-Err.field-0 c.is_skipped.result (take c.in-Line.len c.read_line.new.buf) c.read_event.ensures.none c.in-Err.is c.is_skipped.ensures c.if-is_skipped.false)
+
+pub returns-in-Ok-answer-clause-turns : goal.returns-in-Ok-answer-clause-turns
+returns-in-Ok-answer-clause-turns g c =
+    event_goes c.args.number c.requires.inside c.args.rates.now (audit_of c.args.auditor.now) c.args.imprints.now.items _ _ c.read_line.new.buf
+    (take c.in-Line.len c.read_line.new.buf) _ (first_line _ _ c.read_line.new.buf c.in-Line.len c.in-Line.is_ended c.in-Line.ensures.taken)
+    c.in-Ok.event (line_of_event c.read_event.result c.in-Ok.event (take c.in-Line.len c.read_line.new.buf) c.read_event.ensures.found c.in-Ok.is)
+    (audit_of c.answer.new.auditor) c.answer.new.imprints.items _ _ _ refl c.in-Ok-answer.ensures.answers
+
+pub returns-in-Err-answer-clause-turns : goal.returns-in-Err-answer-clause-turns
+returns-in-Err-answer-clause-turns g c =
+    event_falls c.args.number c.requires.inside c.args.rates.now (audit_of c.args.auditor.now) c.args.imprints.now.items _ _ c.read_line.new.buf
+    (take c.in-Line.len c.read_line.new.buf) _ (first_line _ _ c.read_line.new.buf c.in-Line.len c.in-Line.is_ended c.in-Line.ensures.taken)
+    c.in-Ok.event (line_of_event c.read_event.result c.in-Ok.event (take c.in-Line.len c.read_line.new.buf) c.read_event.ensures.found c.in-Ok.is)
+    (audit_of c.answer.new.auditor) c.answer.new.imprints.items _ _ c.in-Err-answer.verdict c.in-Err-answer.ensures.answers
