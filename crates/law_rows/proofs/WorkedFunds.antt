@@ -21,6 +21,7 @@ use Rattle.ledger_terms.specs.Sums.{adds, takes}
 use Rattle.ledger_terms.specs.Centres.{customer_sum}
 use Rattle.ledger_terms.specs.Rulings.{verdict, verdict_by, reply_to}
 use Rattle.ledger_terms.specs.Franking.{mark_after}
+use Rattle.centre_ledger.specs.Standing.{ruling_in}
 use Rattle.ledger_moves.specs.Moves.{plan}
 use Rattle.law_rows.specs.Runs.{IsRow, sample}
 use Rattle.law_rows.specs.Rows.{key1, reset_3, reset_granted, done_3, mark_1, refund_4, refund_granted, withdraw_4, withdraw_granted, reset_50001, no_funds_4, reset_5, funds_ledger, funds_steps, lost_ledger, lost_steps, refund_ledger, refund_steps, reply_lost_start, settled_ledger, withdrawal_ledger, withdrawal_steps}
@@ -53,7 +54,7 @@ unfolding plan read spell body number spelled request_at reply_at done_at debit_
 lost-step_1 r = row-step sample first_rules _ _ reply_lost_start lost_2 lost_ledger tt ((lit≤ tt, lit≤ tt), inl refl) refl r
 
 lost-step_2 : IsRow sample first_rules (drop 3 lost_steps) lost_3 lost_ledger → IsRow sample first_rules (drop 2 lost_steps) lost_2 lost_ledger
-unfolding plan read spell body number spelled request_at reply_at done_at debit_at release_at kind_of verdict_of size_of day_of marks.body marks.spell marks.mark_at marks.read_mark has_code hmac first_words schedule rounds compress hash_after digest_bytes sha256 request_in adds takes verdict verdict_by reply_to mark_after customer_sum same_kind is_worn
+unfolding plan read spell body number spelled request_at reply_at done_at debit_at release_at kind_of verdict_of size_of day_of marks.body marks.spell marks.mark_at marks.read_mark has_code hmac first_words schedule rounds compress hash_after digest_bytes sha256 request_in adds takes verdict verdict_by reply_to mark_after customer_sum same_kind is_worn ruling_in
 lost-step_2 r = row-step sample first_rules _ _ lost_2 lost_3 lost_ledger tt (lit< tt, inl refl) refl r
 
 lost-step_3 : IsRow sample first_rules (drop 4 lost_steps) lost_4 lost_ledger → IsRow sample first_rules (drop 3 lost_steps) lost_3 lost_ledger
@@ -136,7 +137,7 @@ unfolding plan read spell body number spelled request_at reply_at done_at debit_
 refund-step_6 r = row-step sample first_rules _ _ refund_6 refund_7 refund_ledger tt ((lit≤ tt, lit≤ tt), inl refl) refl r
 
 refund-step_7 : IsRow sample first_rules (drop 8 refund_steps) refund_8 refund_ledger → IsRow sample first_rules (drop 7 refund_steps) refund_7 refund_ledger
-unfolding plan read spell body number spelled request_at reply_at done_at debit_at release_at kind_of verdict_of size_of day_of marks.body marks.spell marks.mark_at marks.read_mark has_code hmac first_words schedule rounds compress hash_after digest_bytes sha256 request_in adds takes verdict verdict_by reply_to mark_after customer_sum same_kind is_worn
+unfolding plan read spell body number spelled request_at reply_at done_at debit_at release_at kind_of verdict_of size_of day_of marks.body marks.spell marks.mark_at marks.read_mark has_code hmac first_words schedule rounds compress hash_after digest_bytes sha256 request_in adds takes verdict verdict_by reply_to mark_after customer_sum same_kind is_worn ruling_in
 refund-step_7 r = row-step sample first_rules _ _ refund_7 refund_8 refund_ledger tt (lit< tt, inl refl) refl r
 
 refund-step_8 : IsRow sample first_rules (drop 9 refund_steps) refund_ledger refund_ledger → IsRow sample first_rules (drop 8 refund_steps) refund_8 refund_ledger
