@@ -175,7 +175,18 @@ fn audited(
     ))
 }
 
-// Audits a run behind those that the auditor has.
+// Whether the last of these is a print at which the run was stopped.
+fn ends_open(imprints: &[Imprint]) -> bool {
+    let Some(imprint) = imprints.last() else {
+        return false;
+    };
+    match imprint.given.taken {
+        Taken::Stopped => true,
+        Taken::Whole | Taken::Failed => false,
+    }
+}
+
+// Audits a run behind those that the auditor has: whether a print is left open.
 fn says_behind(
     rt: &impl Abort,
     alloc: Global,
@@ -184,14 +195,14 @@ fn says_behind(
     report: &[u8],
     due: &Due,
     row: &str,
-) -> Result<(), Fail>
+) -> Result<bool, Fail>
     requires ready { IsReady (audit_of auditor.old) }
     ensures ready { IsReady (audit_of auditor.new) }
 {
     let mut imprints: Vec<Imprint> = Vec::new(alloc);
     let verdict = audited(alloc, auditor, script, report, &mut imprints)?;
     assert!(rt; is_said(&verdict, due), "{row}");
-    Ok(())
+    Ok(ends_open(imprints.as_slice()))
 }
 
 fn says(
@@ -203,7 +214,8 @@ fn says(
     row: &str,
 ) -> Result<(), Fail> {
     let mut auditor = Auditor::new(alloc)?;
-    says_behind(rt, alloc, &mut auditor, script, report, due, row)
+    says_behind(rt, alloc, &mut auditor, script, report, due, row)?;
+    Ok(())
 }
 
 #[test]
@@ -363,40 +375,27 @@ fn runs_go_on_behind_a_stop(rt: HostRuntime) -> Result<(), Fail> {
     Ok(())
 }
 
-// Gathers what the printer was given in the ordinary path, as far as the report goes.
-fn gather(
-    alloc: Global,
-    auditor: &mut Auditor,
-    report: &[u8],
-    imprints: &mut Vec<Imprint>,
-) -> Result<(), AllocError>
-    requires ready { IsReady (audit_of auditor.old) }
-{
-    let _ = audited(alloc, auditor, SCRIPT, report, imprints)?;
-    Ok(())
-}
-
-// Whether a print is open, the last, where the report ends before the answer to this line.
-fn is_print_open(alloc: Global, number: usize) -> Result<bool, Fail> {
+// Whether a print is open where the report ends before the answer to this line.
+fn is_print_open(rt: &impl Abort, alloc: Global, number: usize) -> Result<bool, Fail> {
     let mut auditor = Auditor::new(alloc)?;
-    let mut imprints: Vec<Imprint> = Vec::new(alloc);
     let report = cut_report(alloc, number, "")?;
-    gather(alloc, &mut auditor, report.as_slice(), &mut imprints)?;
-    let Some(imprint) = imprints.last() else {
-        return Ok(false);
-    };
-    Ok(match imprint.given.taken {
-        Taken::Stopped => true,
-        Taken::Whole | Taken::Failed => false,
-    })
+    says_behind(
+        rt,
+        alloc,
+        &mut auditor,
+        SCRIPT,
+        report.as_slice(),
+        &Due::Stopped(number as u32),
+        "before an answer",
+    )
 }
 
 #[test]
 fn a_stopped_print_is_open(rt: HostRuntime) -> Result<(), Fail> {
     let alloc = rt.alloc();
-    assert!(rt; !is_print_open(alloc, 26)?);
-    assert!(rt; is_print_open(alloc, 27)?);
-    assert!(rt; !is_print_open(alloc, 28)?);
+    assert!(rt; !is_print_open(&rt, alloc, 26)?);
+    assert!(rt; is_print_open(&rt, alloc, 27)?);
+    assert!(rt; !is_print_open(&rt, alloc, 28)?);
     Ok(())
 }
 
@@ -510,7 +509,8 @@ fn what_an_earlier_run_sent_is_not_forged(rt: HostRuntime) -> Result<(), Fail> {
         "day 20514\nup d1 commits 2\napplied d1 1 verdict 0\nend\n".as_bytes(),
         &Due::Done,
         "given again",
-    )
+    )?;
+    Ok(())
 }
 
 // A report of one line of so many bytes.
