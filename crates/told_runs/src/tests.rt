@@ -376,16 +376,16 @@ fn runs_go_on_behind_a_stop(rt: HostRuntime) -> Result<(), Fail> {
 }
 
 // Whether a print is open where the report ends before the answer to this line.
-fn is_print_open(rt: &impl Abort, alloc: Global, number: usize) -> Result<bool, Fail> {
+fn is_print_open(rt: &impl Abort, alloc: Global, number: u32) -> Result<bool, Fail> {
     let mut auditor = Auditor::new(alloc)?;
-    let report = cut_report(alloc, number, "")?;
+    let report = cut_report(alloc, number as usize, "")?;
     says_behind(
         rt,
         alloc,
         &mut auditor,
         SCRIPT,
         report.as_slice(),
-        &Due::Stopped(number as u32),
+        &Due::Stopped(number),
         "before an answer",
     )
 }
