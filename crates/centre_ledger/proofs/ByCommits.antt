@@ -1,7 +1,6 @@
 -- The row of the commits is the only one, and a ruling by these rows is the one that follows from the commits.
-use Rattle.std.proofs.Common.{◌≡◌, ℕ, zero, suc, pos, ◌+ℤ◌, ◌≤◌, Bool, true, false, List, [], ◌∷◌, Option, Some, None, cond, refl, sym, ap, ◌∙◌, arith}
-use Rattle.std.specs.Prelude.{◌==◌, ◌&&◌, not, is_some, if◌then◌else◌}
-use Rattle.std.proofs.lemmas.Bool.{eqb-true}
+use Rattle.std.proofs.Common.{◌≡◌, ℕ, pos, ◌+ℤ◌, Bool, true, false, List, [], ◌∷◌, Option, Some, None, cond, refl, sym, ap, ap₂, ◌∙◌}
+use Rattle.std.specs.Prelude.{◌&&◌, not, is_some, if◌then◌else◌}
 use Rattle.bench_base.specs.Kinds.{is_dated, same_kind}
 use Rattle.bench_base.specs.Rows.{first_holding}
 use Rattle.bench_base.specs.declared.words.Kind.TheVariants.{Enrol}
@@ -15,36 +14,27 @@ use Rattle.ledger_terms.specs.Centres.{registered, origin_in, key_in, enrolled, 
 use Rattle.ledger_terms.specs.Rulings.{Account, account_of, verdict, verdict_by, verdict_rows, has_left, own_customer, payer, written_amount, reply_to, reply_note}
 use Rattle.centre_ledger.specs.declared.rows.DeviceRow.{DeviceRow}
 use Rattle.centre_ledger.specs.declared.rows.CustomerRow.{CustomerRow}
+use Rattle.centre_ledger.specs.declared.rows.Enrolment.{Enrolment}
+use Rattle.centre_ledger.specs.declared.rows.Enrolment.TheVariants.{Registered, Enrolled, Withdrawn}
 use Rattle.centre_ledger.specs.Acts.{payer_in, own_left, verdict_in, ruled_in}
 use Rattle.centre_ledger.specs.Laws.{IsSlotOf, IsCustomerSlotOf}
 use Rattle.centre_ledger.specs.Order.{InOrder}
 use Rattle.centre_ledger.specs.Plans.{in_commits}
-use Rattle.centre_ledger.specs.Records.{state_of, device_row_with, device_row, customer_row_with, customer_row, IsRowOf, IsCustomerOf}
-use Rattle.centre_ledger.specs.Rows.{account, enrolled_in, is_suspended, amount_shown, reply_by}
-use Rattle.centre_ledger.specs.Soundness.{IsSoundDevice}
+use Rattle.centre_ledger.specs.Records.{enrolment_of, device_row_with, device_row, customer_row_with, customer_row, IsRowOf, IsCustomerOf}
+use Rattle.centre_ledger.specs.Rows.{account, customer_of, enrolled_in, is_withdrawn, is_suspended, amount_shown, reply_by}
 use Rattle.centre_ledger.proofs.Following.{no-money, shown}
 
 -- == the rows ==
 
-state-same : (state customer : ℕ) (w : Option ℕ) (gone : Bool) → w ≡ (if state == 1 then None else Some customer) → gone ≡ (state == 3) → 1 ≤ state → state ≤ 3 → state_of w gone ≡ state
-state-same zero customer w gone own left low high = absurd (omega arith)
-state-same (suc zero) customer w gone own left low high = rw own refl
-state-same (suc (suc zero)) customer w gone own left low high = rw (own, left) refl
-state-same (suc (suc (suc zero))) customer w gone own left low high = rw (own, left) refl
-state-same (suc (suc (suc (suc n)))) customer w gone own left low high = absurd (omega arith)
+enrolment-is : (e : Enrolment) → enrolment_of (customer_of e) (is_withdrawn e) ≡ e
+enrolment-is Registered = refl
+enrolment-is (Enrolled w) = refl
+enrolment-is (Withdrawn w) = refl
 
-customer-same : (state customer : ℕ) (w : Option ℕ) → w ≡ (if state == 1 then None else Some customer) → (state ≡ 1 → customer ≡ 0) → own_customer w ≡ customer
-customer-same state customer w own none = by (state == 1) refl
-  where
-    by : (t : Bool) → (state == 1) ≡ t → own_customer w ≡ customer
-    by true is = rw (own, is) (sym (none (eqb-true state 1 is)))
-    by false is = rw (own, is) refl
-
-row-is : (r : DeviceRow) (C : List Commit) → IsSoundDevice r → IsRowOf r C → device_row_with r.device C (r.origin, r.key) ≡ r
-row-is r C sound is = λ k. record {
+row-is : (r : DeviceRow) (C : List Commit) → IsRowOf r C → device_row_with r.device C (r.origin, r.key) ≡ r
+row-is r C is = λ k. record {
   device = r.device;
-  state = state-same r.state r.customer (enrolled r.device C) (withdrawn r.device C) is.enrolled is.withdrawn sound.state.0 sound.state.1 k;
-  customer = customer-same r.state r.customer (enrolled r.device C) is.enrolled (λ one. (sound.registered one).0) k;
+  enrolment = (ap₂ enrolment_of is.enrolled is.withdrawn ∙ enrolment-is r.enrolment) k;
   origin = r.origin;
   key = r.key;
   ruled = is.ruled k;
@@ -57,7 +47,7 @@ row-is r C sound is = λ k. record {
 
 pub one_device : (o : Option DeviceRow) (d : ℕ) (C : List Commit) → IsSlotOf o d C → device_row d C ≡ o
 one_device None d C is = rw is refl
-one_device (Some r) d C is = ap (λ e. device_row e C) (sym is.0) ∙ rw is.2.registered (ap (λ (x : DeviceRow). Some x) (row-is r C is.1 is.2))
+one_device (Some r) d C is = ap (λ e. device_row e C) (sym is.0) ∙ rw is.2.registered (ap (λ (x : DeviceRow). Some x) (row-is r C is.2))
 
 customer-is : (r : CustomerRow) (C : List Commit) → IsCustomerOf r C → customer_row_with r.customer C ≡ r
 customer-is r C is = λ k. record { customer = r.customer; suspended = is.suspended k; deposits = is.deposits k; receipt = (is.receipt k).0; amount = (is.receipt k).1 }
@@ -66,7 +56,7 @@ pub one_customer : (o : Option CustomerRow) (w : ℕ) (C : List Commit) → IsCu
 one_customer None w C is = rw is refl
 one_customer (Some r) w C is = ap (λ e. customer_row e C) (sym is.0) ∙ rw is.2.opened (ap (λ (x : CustomerRow). Some x) (customer-is r C is.2))
 
-pub enrolled-is : (w : Option ℕ) (gone : Bool) → (if state_of w gone == 1 then None else Some (own_customer w)) ≡ w
+pub enrolled-is : (w : Option ℕ) (gone : Bool) → customer_of (enrolment_of w gone) ≡ w
 enrolled-is None gone = refl
 enrolled-is (Some w) true = refl
 enrolled-is (Some w) false = refl
@@ -74,7 +64,7 @@ enrolled-is (Some w) false = refl
 -- == a ruling ==
 
 -- a device that was never enrolled is none that was withdrawn; but it hasn't left any the less
-left-is : (w : Option ℕ) (gone : Bool) → has_left w (state_of w gone == 3) ≡ has_left w gone
+left-is : (w : Option ℕ) (gone : Bool) → has_left w (is_withdrawn (enrolment_of w gone)) ≡ has_left w gone
 left-is None gone = refl
 left-is (Some w) true = refl
 left-is (Some w) false = refl
@@ -115,10 +105,10 @@ module _ (C : List Commit) (order : InOrder C) (q : Request) (x : ℕ × List �
   own : enrolled_in r ≡ enrolled q.device C
   own = enrolled-is (enrolled q.device C) (withdrawn q.device C)
 
-  shows-so : shows ≡ record (account_of C q) { withdrawn = r.state == 3 }
+  shows-so : shows ≡ record (account_of C q) { withdrawn = is_withdrawn r.enrolment }
   shows-so = λ i. record {
     enrolled = own i;
-    withdrawn = r.state == 3;
+    withdrawn = is_withdrawn r.enrolment;
     bought = r.buys;
     returned = r.returns;
     opened = (there-is (payer q (enrolled_in r)) C ∙ ap (λ o. opened (payer q o) C) own) i;
@@ -128,7 +118,7 @@ module _ (C : List Commit) (order : InOrder C) (q : Request) (x : ℕ × List �
 
   verdict-so : verdict_by shows q ≡ verdict C q
   unfolding verdict
-  verdict-so = ap (λ (a : Account). verdict_by a q) shows-so ∙ left-alike (account_of C q) (r.state == 3) q (left-is (enrolled q.device C) (withdrawn q.device C))
+  verdict-so = ap (λ (a : Account). verdict_by a q) shows-so ∙ left-alike (account_of C q) (is_withdrawn r.enrolment) q (left-is (enrolled q.device C) (withdrawn q.device C))
 
   pub verdict-is : verdict_in (in_commits C) r q ≡ (verdict C q).0
   verdict-is = ap (λ (y : Verdict × ℕ). y.0) verdict-so

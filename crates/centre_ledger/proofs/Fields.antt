@@ -1,11 +1,15 @@
 -- The numbers of a payload, as they are read one by one, and the zeros behind them.
-use Rattle.std.proofs.Common.{◌≡◌, ℕ, ◌+◌, if◌then◌else◌, List, [], length, take, drop, get_or, replicate, refl, sym, ap, ◌∙◌, subst, arith, ◌↔◌, ne_eqb}
+use Rattle.std.proofs.Common.{◌≡◌, ℕ, ◌+◌, if◌then◌else◌, List, [], ◌∷◌, length, take, drop, get_or, replicate, refl, sym, ap, ap₂, ◌∙◌, subst, arith, ◌↔◌, ne_eqb}
 use Rattle.std.proofs.lemmas.List.{take_all, length-drop}
-use Rattle.bench_base.specs.Table.{One, Four, Eight, number, bytes_in}
+use Rattle.bench_base.specs.Table.{One, Four, Eight, number, bytes_in, values}
 use Rattle.psd_wire.specs.Grammar.{sum_size}
 use Rattle.psd_wire.proofs.Readings.{byte_of}
 use Rattle.centre_ledger.specs.declared.rows.DeviceRow.{DeviceRow}
-use Rattle.centre_ledger.specs.Parts.{state_from, bare_at, sum_at}
+use Rattle.centre_ledger.specs.declared.rows.Enrolment.{Enrolment}
+use Rattle.centre_ledger.specs.declared.rows.Enrolment.TheVariants.{Registered, Enrolled, Withdrawn}
+use Rattle.centre_ledger.specs.Payload.{state_byte, state_number, customer_number, head_table}
+use Rattle.centre_ledger.specs.Parts.{state_from, enrolment_from, IsToldBy, HeadIs, bare_at, sum_at}
+use Rattle.centre_ledger.proofs.Parted.{state-again, state-is}
 
 -- sums of four bytes in version 1, and of eight in version 2
 pub buys-four : (v a : ℕ) (bytes : List ℕ) → v ≡ 1 → a ≡ number Four (take 4 (drop 53 bytes)) → a ≡ sum_at v 53 bytes
@@ -21,21 +25,45 @@ pub returns-eight : (v a : ℕ) (bytes : List ℕ) → (v ≡ 1 → ⊥) → a �
 returns-eight v a bytes n h =
     subst (λ b. let s = if b then Four else Eight in a ≡ number s (take (bytes_in s) (drop (53 + bytes_in s) bytes))) (sym (ne_eqb v 1 n)) h
 
+-- the enrolment that two numbers tell
+told-from : (state customer : ℕ) (e : Enrolment) → IsToldBy state customer e → e ≡ enrolment_from state customer
+told-from state customer e told = own e ∙ ap₂ enrolment_from told.state told.customer
+  where
+    own : (x : Enrolment) → x ≡ enrolment_from (state_number x) (customer_number x)
+    own Registered = refl
+    own (Enrolled w) = refl
+    own (Withdrawn w) = refl
+
 -- the fields, read one by one
-pub bare-read : (v : ℕ) (bytes key request reply : List ℕ) (device state customer origin ruled settled buys returns : ℕ)
-    → device ≡ number Four (take 4 bytes) → state ≡ state_from v (get_or bytes 4 0) → customer ≡ number Four (take 4 (drop 5 bytes)) → origin ≡ number Four (take 4 (drop 9 bytes))
+pub bare-read : (v : ℕ) (bytes key request reply : List ℕ) (device state : ℕ) (enrolment : Enrolment) (origin ruled settled buys returns : ℕ)
+    → device ≡ number Four (take 4 bytes) → state_byte v state ≡ get_or bytes 4 0 → IsToldBy state (number Four (take 4 (drop 5 bytes))) enrolment → origin ≡ number Four (take 4 (drop 9 bytes))
     → key ≡ take 32 (drop 13 bytes) → ruled ≡ number Four (take 4 (drop 45 bytes)) → settled ≡ number Four (take 4 (drop 49 bytes))
     → buys ≡ sum_at v 53 bytes → returns ≡ sum_at v (53 + bytes_in (sum_size v)) bytes → request ≡ [] → reply ≡ []
-    → ◌≡◌ {A = DeviceRow} (record { device = device; state = state; customer = customer; origin = origin; key = key; ruled = ruled; settled = settled; buys = buys; returns = returns; request = request; reply = reply }) (bare_at v bytes)
+    → ◌≡◌ {A = DeviceRow} (record { device = device; enrolment = enrolment; origin = origin; key = key; ruled = ruled; settled = settled; buys = buys; returns = returns; request = request; reply = reply }) (bare_at v bytes)
 unfolding bare_at
-bare-read v bytes key q p d s c o r t b n hd hs hc ho hk hr ht hb hn hq hp =
-    let byte : get_or bytes 4 0 ≡ number One (take 1 (drop 4 bytes)) = sym (byte_of 4 bytes) in
-    let state : s ≡ state_from v (number One (take 1 (drop 4 bytes))) = hs ∙ ap (state_from v) byte in
+bare-read v bytes key q p d s e o r t b n hd hs he ho hk hr ht hb hn hq hp =
+    let byte : s ≡ state_from v (number One (take 1 (drop 4 bytes))) = sym (state-again v s) ∙ ap (state_from v) (hs ∙ sym (byte_of 4 bytes)) in
+    let told : e ≡ enrolment_from (state_from v (number One (take 1 (drop 4 bytes)))) (number Four (take 4 (drop 5 bytes))) =
+    told-from s (number Four (take 4 (drop 5 bytes))) e he ∙ ap (λ x. enrolment_from x (number Four (take 4 (drop 5 bytes)))) byte in
     cc
 
-pub device-read : (v : ℕ) (bytes : List ℕ) → (bare_at v bytes).device ≡ number Four (take 4 bytes)
-unfolding bare_at
-device-read v bytes = refl
+pub head-read : (v : ℕ) (bytes : List ℕ) (device state origin : ℕ) (enrolment : Enrolment) → device ≡ number Four (take 4 bytes) → state_byte v state ≡ get_or bytes 4 0
+    → IsToldBy state (number Four (take 4 (drop 5 bytes))) enrolment → origin ≡ number Four (take 4 (drop 9 bytes))
+    → values 0 head_table bytes ≡ device ∷ state_byte v (state_number enrolment) ∷ customer_number enrolment ∷ origin ∷ []
+head-read v bytes d s o e device byte told origin =
+    let second : number One (take 1 (drop 4 bytes)) ≡ state_byte v (state_number e) = byte_of 4 bytes ∙ sym byte ∙ ap (state_byte v) (sym told.state) in
+    let third : number Four (take 4 (drop 5 bytes)) ≡ customer_number e = sym told.customer in
+    cc
+
+-- and what such bytes begin with tells the enrolment of the row
+pub told-so : (v : ℕ) (bytes : List ℕ) (r : DeviceRow) (state : ℕ) → state_byte v state ≡ get_or bytes 4 0 → HeadIs v r bytes → IsToldBy state (number Four (take 4 (drop 5 bytes))) r.enrolment
+told-so v bytes r state byte head = record {
+  state = sym (state-again v (state_number r.enrolment)) ∙ ap (state_from v) (sym (byte ∙ state-is v r bytes head)) ∙ state-again v state;
+  customer = sym (ap (λ h. get_or h 2 0) head);
+}
+
+pub device-so : (v : ℕ) (bytes : List ℕ) (r : DeviceRow) → HeadIs v r bytes → number Four (take 4 bytes) ≡ r.device
+device-so v bytes r head = ap (λ h. get_or h 0 0) head
 
 -- the bytes behind are zeros
 pub zeros-behind : (at n : ℕ) (bytes : List ℕ) → length bytes ≡ at + n

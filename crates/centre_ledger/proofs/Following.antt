@@ -1,8 +1,8 @@
 -- What one commit does to the rows of the centre, and what the rows say of a ruling and of a balance.
-use Rattle.std.proofs.Common.{◌≡◌, ℕ, pos, ◌+ℤ◌, ◌+◌, ◌≤◌, Bool, true, false, List, [], ◌∷◌, Option, Some, None, Ok, Err, cond, refl, sym, ap, subst, ◌∙◌, true≢false, ⊎_elim, arith}
+use Rattle.std.proofs.Common.{◌≡◌, ℕ, pos, ◌+ℤ◌, ◌+◌, Bool, true, false, List, [], ◌∷◌, Option, Some, None, Ok, Err, cond, refl, sym, ap, ap₂, subst, ◌∙◌, true≢false, arith}
 use Rattle.std.specs.Prelude.{◌==◌, ◌&&◌, ◌||◌, not, nat_lt, nat_le, IsSome, sum_by}
 use Rattle.std.proofs.lemmas.List.Sums.{sum_by-cons}
-use Rattle.std.proofs.lemmas.Bool.{cases_Bool, eqb-true, eq-eqb, ne_eqb}
+use Rattle.std.proofs.lemmas.Bool.{eqb-true, eq-eqb}
 use Rattle.bench_base.specs.declared.words.Kind.{Kind}
 use Rattle.bench_base.specs.declared.words.Kind.TheVariants.{Enrol, Reset, Audit, Refund, Withdraw}
 use Rattle.bench_base.specs.declared.words.Verdict.{Verdict}
@@ -21,10 +21,11 @@ use Rattle.ledger_terms.specs.Sums.{adds, takes, ruled_sum, bought, returned}
 use Rattle.ledger_terms.specs.Centres.{registered, origin_in, key_in, enrolled, withdrawn, ruled, done, settled, opened, suspended, deposits, receipt, is_some_at, device_numbers, sum_over, device_share, customer_sum}
 use Rattle.ledger_terms.specs.Rulings.{Account, account_of, verdict, verdict_by, stored_reply, has_left, is_enrolled, out_of_balance, reply_to, written_amount}
 use Rattle.centre_ledger.specs.declared.rows.DeviceRow.{DeviceRow}
+use Rattle.centre_ledger.specs.declared.rows.Enrolment.{Enrolment}
+use Rattle.centre_ledger.specs.declared.rows.Enrolment.TheVariants.{Registered as NeverEnrolled, Enrolled, Withdrawn}
 use Rattle.centre_ledger.specs.Answers.{settle_answer, deposit_answer}
 use Rattle.centre_ledger.specs.Order.{InOrder}
-use Rattle.centre_ledger.specs.Soundness.{IsSoundDevice}
-use Rattle.centre_ledger.specs.Rows.{enrolled_in, account, amount_shown, reply_by, buys_in, returns_in}
+use Rattle.centre_ledger.specs.Rows.{customer_of, is_withdrawn, withdrawn_of, enrolled_in, account, amount_shown, reply_by, buys_in, returns_in}
 use Rattle.centre_ledger.specs.Records.{last_ruling, stored_note, note_or_none, IsRowOf}
 use Rattle.centre_ledger.specs.Laws.{RegisteringStarts, SettlingKeeps, OtherDevicesKeep, OpeningStarts, DepositingKeeps, FlaggingKeeps, OtherCustomersKeep, RulingByRows, RulingKeeps, IsSlotOf, AreSlots, BalancingByRows}
 
@@ -185,7 +186,7 @@ pub ruling : RulingByRows
 unfolding verdict
 ruling r o left q C is device pays =
     let a : enrolled q.device C ≡ enrolled_in r = ap (λ d. enrolled d C) device ∙ is.enrolled in
-    let b : withdrawn q.device C ≡ (r.state == 3) = ap (λ d. withdrawn d C) device ∙ is.withdrawn in
+    let b : withdrawn q.device C ≡ is_withdrawn r.enrolment = ap (λ d. withdrawn d C) device ∙ is.withdrawn in
     let c : bought q.device C ≡ r.buys = ap (λ d. bought d C) device ∙ is.bought in
     let d : returned q.device C ≡ r.returns = ap (λ d. returned d C) device ∙ is.returned in
     let same : account r o left ≡ account_of C q = λ i. record {
@@ -232,39 +233,33 @@ granted-standing a q h = go (not (same_kind q.kind Enrol) && has_left a.enrolled
     go false true k = absurd (true≢false (sym k))
     go false false k = (refl, refl)
 
-abbrev own_in : ℕ → ℕ → Option ℕ
-own_in s own = cond (s == 1) None (Some own)
-
-enrolled-after : (k : Kind) (g : Bool) (s own c : ℕ) → (g ≡ true → ((not (same_kind k Enrol) && has_left (own_in s own) (s == 3)) ≡ false) × ((same_kind k Enrol && is_enrolled (own_in s own)) ≡ false))
-    → cond (g && same_kind k Enrol) (first_of (own_in s own) (Some c)) (own_in s own) ≡ cond (cond (g && same_kind k Enrol) 2 (cond (g && same_kind k Withdraw) 3 s) == 1) None (Some (cond (g && same_kind k Enrol) c own))
+enrolled-after : (k : Kind) (g : Bool) (e : Enrolment) (c : ℕ) → (g ≡ true → (same_kind k Enrol && is_enrolled (customer_of e)) ≡ false)
+    → cond (g && same_kind k Enrol) (first_of (customer_of e) (Some c)) (customer_of e) ≡ customer_of (cond (g && same_kind k Enrol) (Enrolled c) (cond (g && same_kind k Withdraw) (withdrawn_of e) e))
 unfolding same_kind
-enrolled-after k false s own c h = refl
-enrolled-after Enrol true s own c h = go (s == 1) (h refl).1
-  where
-    go : (t : Bool) → is_enrolled (cond t None (Some own)) ≡ false → first_of (cond t None (Some own)) (Some c) ≡ Some c
-    go true j = refl
-    go false j = absurd (true≢false j)
-enrolled-after Withdraw true s own c h = go (s == 1) (h refl).0
-  where
-    go : (t : Bool) → has_left (cond t None (Some own)) (s == 3) ≡ false → cond t None (Some own) ≡ Some own
-    go true j = absurd (true≢false j)
-    go false j = refl
-enrolled-after Reset true s own c h = refl
-enrolled-after Audit true s own c h = refl
-enrolled-after Refund true s own c h = refl
+enrolled-after k false e c new = refl
+enrolled-after Enrol true NeverEnrolled c new = refl
+enrolled-after Enrol true (Enrolled w) c new = absurd (true≢false (new refl))
+enrolled-after Enrol true (Withdrawn w) c new = absurd (true≢false (new refl))
+enrolled-after Withdraw true NeverEnrolled c new = refl
+enrolled-after Withdraw true (Enrolled w) c new = refl
+enrolled-after Withdraw true (Withdrawn w) c new = refl
+enrolled-after Reset true e c new = refl
+enrolled-after Audit true e c new = refl
+enrolled-after Refund true e c new = refl
 
-withdrawn-after : (k : Kind) (g : Bool) (s own : ℕ) → (g ≡ true → (same_kind k Enrol && is_enrolled (own_in s own)) ≡ false)
-    → cond (g && same_kind k Withdraw) true (s == 3) ≡ (cond (g && same_kind k Enrol) 2 (cond (g && same_kind k Withdraw) 3 s) == 3)
+withdrawn-after : (k : Kind) (g : Bool) (e : Enrolment) (c : ℕ) → (g ≡ true → ((not (same_kind k Enrol) && has_left (customer_of e) (is_withdrawn e)) ≡ false) × ((same_kind k Enrol && is_enrolled (customer_of e)) ≡ false))
+    → cond (g && same_kind k Withdraw) true (is_withdrawn e) ≡ is_withdrawn (cond (g && same_kind k Enrol) (Enrolled c) (cond (g && same_kind k Withdraw) (withdrawn_of e) e))
 unfolding same_kind
-withdrawn-after k false s own h = refl
-withdrawn-after Withdraw true s own h = refl
-withdrawn-after Enrol true s own h = ⊎_elim
-    (λ (t : (s == 1) ≡ true). ap (λ n. n == 3) (eqb-true s 1 t))
-    (λ (t : (s == 1) ≡ false). absurd (true≢false (ap (λ b. is_enrolled (cond b None (Some own))) (sym t) ∙ h refl)))
-    (cases_Bool (s == 1))
-withdrawn-after Reset true s own h = refl
-withdrawn-after Audit true s own h = refl
-withdrawn-after Refund true s own h = refl
+withdrawn-after k false e c stands = refl
+withdrawn-after Withdraw true NeverEnrolled c stands = absurd (true≢false (stands refl).0)
+withdrawn-after Withdraw true (Enrolled w) c stands = refl
+withdrawn-after Withdraw true (Withdrawn w) c stands = refl
+withdrawn-after Enrol true NeverEnrolled c stands = refl
+withdrawn-after Enrol true (Enrolled w) c stands = refl
+withdrawn-after Enrol true (Withdrawn w) c stands = absurd (true≢false (stands refl).1)
+withdrawn-after Reset true e c stands = refl
+withdrawn-after Audit true e c stands = refl
+withdrawn-after Refund true e c stands = refl
 
 pub ruling-keeps : RulingKeeps
 unfolding reply_to
@@ -291,8 +286,8 @@ ruling-keeps r o left note C sound is device number pays v verdict_is =
     } in
     record {
       registered = is.registered;
-      enrolled = rw own (rw is.enrolled (enrolled-after q.kind (is_granted v) r.state r.customer q.customer stands));
-      withdrawn = rw own (rw is.withdrawn (withdrawn-after q.kind (is_granted v) r.state r.customer (λ h. (stands h).1)));
+      enrolled = rw own (rw is.enrolled (enrolled-after q.kind (is_granted v) r.enrolment q.customer (λ h. (stands h).1)));
+      withdrawn = rw own (rw is.withdrawn (withdrawn-after q.kind (is_granted v) r.enrolment q.customer stands));
       ruled = rw own (omega arith);
       settled = rw own (omega arith);
       bought = rw own (ap (λ n. n + adds v q) is.bought);
@@ -306,25 +301,16 @@ ruling-keeps r o left note C sound is device number pays v verdict_is =
 pub share-none : (f : Verdict → Request → ℕ) (d c : ℕ) (C : List Commit) → enrolled d C ≡ None → device_share f c C d ≡ 0
 share-none f d c C h = ap (λ o. cond (is_some_at o c) (ruled_sum f d C) 0) h
 
--- a device that is only registered bought nothing, and has no customer
-pub share-row : (f : Verdict → Request → ℕ) (sum : ℕ) (r : DeviceRow) (c : ℕ) (C : List Commit) → IsSoundDevice r → IsRowOf r C → 1 ≤ c → ruled_sum f r.device C ≡ sum → device_share f c C r.device ≡ cond (r.customer == c) sum 0
-share-row f sum r c C sound is from_1 amount = ⊎_elim
-    (λ (t : (r.state == 1) ≡ true).
-    let none : enrolled r.device C ≡ None = is.enrolled ∙ ap (λ b. cond b None (Some r.customer)) t in
-    let zero = (sound.registered (eqb-true r.state 1 t)).0 in
-    share-none f r.device c C none ∙ sym (ap (λ b. cond b sum 0) (ne_eqb r.customer c (λ e. omega arith))))
-    (λ (t : (r.state == 1) ≡ false).
-    let some : enrolled r.device C ≡ Some r.customer = is.enrolled ∙ ap (λ b. cond b None (Some r.customer)) t in
-    ap (λ o. cond (is_some_at o c) (ruled_sum f r.device C) 0) some ∙ ap (λ n. cond (r.customer == c) n 0) amount)
-    (cases_Bool (r.state == 1))
+pub share-row : (f : Verdict → Request → ℕ) (sum : ℕ) (r : DeviceRow) (c : ℕ) (C : List Commit) → IsRowOf r C → ruled_sum f r.device C ≡ sum → device_share f c C r.device ≡ cond (is_some_at (enrolled_in r) c) sum 0
+share-row f sum r c C is amount = ap₂ (λ o n. cond (is_some_at o c) n 0) is.enrolled amount
 
-slot-buys : (o : Option DeviceRow) (d c : ℕ) (C : List Commit) → InOrder C → 1 ≤ c → IsSlotOf o d C → buys_in c o ≡ device_share adds c C d
-slot-buys None d c C order from_1 h = sym (share-none adds d c C (nothing-before d C order h).enrolled)
-slot-buys (Some r) d c C order from_1 h = sym (share-row adds r.buys r c C h.1 h.2 from_1 h.2.bought) ∙ ap (device_share adds c C) h.0
+slot-buys : (o : Option DeviceRow) (d c : ℕ) (C : List Commit) → InOrder C → IsSlotOf o d C → buys_in c o ≡ device_share adds c C d
+slot-buys None d c C order h = sym (share-none adds d c C (nothing-before d C order h).enrolled)
+slot-buys (Some r) d c C order h = sym (share-row adds r.buys r c C h.2 h.2.bought) ∙ ap (device_share adds c C) h.0
 
-slot-returns : (o : Option DeviceRow) (d c : ℕ) (C : List Commit) → InOrder C → 1 ≤ c → IsSlotOf o d C → returns_in c o ≡ device_share takes c C d
-slot-returns None d c C order from_1 h = sym (share-none takes d c C (nothing-before d C order h).enrolled)
-slot-returns (Some r) d c C order from_1 h = sym (share-row takes r.returns r c C h.1 h.2 from_1 h.2.returned) ∙ ap (device_share takes c C) h.0
+slot-returns : (o : Option DeviceRow) (d c : ℕ) (C : List Commit) → InOrder C → IsSlotOf o d C → returns_in c o ≡ device_share takes c C d
+slot-returns None d c C order h = sym (share-none takes d c C (nothing-before d C order h).enrolled)
+slot-returns (Some r) d c C order h = sym (share-row takes r.returns r c C h.2 h.2.returned) ∙ ap (device_share takes c C) h.0
 
 sums-same : (f : Option DeviceRow → ℕ) (g : ℕ → ℕ) (c : ℕ) (C : List Commit) → ((o : Option DeviceRow) (d : ℕ) → IsSlotOf o d C → f o ≡ g d) → (os : List (Option DeviceRow)) (ds : List ℕ) → AreSlots os ds C → sum_by f os ≡ sum_over g ds
 sums-same f g c C each [] [] h = refl
@@ -338,6 +324,6 @@ sums-same f g c C each (o ∷ os) (d ∷ ds) h =
 pub balancing : BalancingByRows
 unfolding customer_sum
 balancing os c C order customer slots = (
-  sums-same (buys_in c) (device_share adds c C) c C (λ o d h. slot-buys o d c C order customer.0 h) os device_numbers slots,
-  sums-same (returns_in c) (device_share takes c C) c C (λ o d h. slot-returns o d c C order customer.0 h) os device_numbers slots,
+  sums-same (buys_in c) (device_share adds c C) c C (λ o d h. slot-buys o d c C order h) os device_numbers slots,
+  sums-same (returns_in c) (device_share takes c C) c C (λ o d h. slot-returns o d c C order h) os device_numbers slots,
 )

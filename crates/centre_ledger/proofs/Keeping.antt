@@ -1,11 +1,12 @@
 -- The row with a ruling is sound where the row before it was.
 use Rattle.std.proofs.Common.{◌≡◌, ℕ, ℤ, pos, ◌+ℤ◌, ◌+◌, ◌^◌, ◌<◌, ◌≤◌, Bool, true, false, List, [], ◌∷◌, ◌++◌, Option, Some, None, cond, refl, sym, ap, subst, ◌∙◌, true≢false, ⊎_elim, arith, FitsSigned, Fits as Fits32, lit<}
-use Rattle.std.specs.Prelude.{min, ◌==◌, ◌&&◌, ◌||◌, not, nat_lt, is_some}
+use Rattle.std.specs.Prelude.{IfSome, min, ◌==◌, ◌&&◌, ◌||◌, not, nat_lt, is_some}
+use Rattle.std.proofs.lemmas.Option.{none-some}
 use Rattle.std.specs.Int.{w32, cast_unsigned}
 use Rattle.std.proofs.Math.Nat.{min-le_left, min-le_right}
 use Rattle.std.proofs.lemmas.Int.{ints}
 use Rattle.std.proofs.Math.Facts.{Fits-of_z}
-use Rattle.std.proofs.lemmas.Bool.{cases_Bool, eqb-true, eqb-false, ltb-true, ltb-false, not-false, eq-eqb, and_parts}
+use Rattle.std.proofs.lemmas.Bool.{cases_Bool, eqb-true, ltb-true, ltb-false, not-false, and_parts}
 use Rattle.hmac_core.specs.Hmac.{hmac}
 use Rattle.bench_base.specs.declared.words.Kind.{Kind}
 use Rattle.bench_base.specs.declared.words.Kind.TheVariants.{Enrol, Reset, Audit, Refund, Withdraw}
@@ -23,8 +24,10 @@ use Rattle.ledger_terms.specs.Rulings.{Account, verdict_by, own_customer, has_le
 use Rattle.psd_wire.proofs.Readings.{cut, kind_byte, verdict_byte}
 use Rattle.centre_ledger.specs.declared.rows.DeviceRow.{DeviceRow}
 use Rattle.centre_ledger.specs.declared.rows.CustomerRow.{CustomerRow}
+use Rattle.centre_ledger.specs.declared.rows.Enrolment.{Enrolment}
+use Rattle.centre_ledger.specs.declared.rows.Enrolment.TheVariants.{Registered, Enrolled, Withdrawn}
 use Rattle.centre_ledger.specs.Soundness.{IsSoundDevice, IsPayer, IsVerdict}
-use Rattle.centre_ledger.specs.Rows.{enrolled_in, account, amount_shown, deadline_after, reply_by, state_after, customer_after, ruled_row}
+use Rattle.centre_ledger.specs.Rows.{customer_of, is_withdrawn, withdrawn_of, enrolled_in, account, amount_shown, deadline_after, reply_by, enrolment_after, NamesCustomer, ruled_row}
 
 -- == what a granted Request was found to be ==
 
@@ -232,56 +235,63 @@ sums-after r v balance q sound (o, paid, says) =
       emptied = λ g k. rw g (rw k refl);
     }
 
--- == the state ==
-
--- of state and customer after a ruling, with what a granted reset adds to the sum of buys
-record Standing (s c b : ℕ) : Type 0 where
-  state : (1 ≤ s) × (s ≤ 3)
-  registered : s ≡ 1 → (c ≡ 0) × (b ≡ 0)
-  enrolled : 2 ≤ s → IsCustomer c
+-- == the enrolment ==
 
 -- a device of which nothing is left was enrolled
-pub left-of : (s own : ℕ) → has_left (cond (s == 1) None (Some own)) (s == 3) ≡ false → s ≡ 1 → ⊥
-left-of s own h e = true≢false (sym (ap (λ b. has_left (cond b None (Some own)) (s == 3)) (eq-eqb s 1 e)) ∙ h)
+left-of : (e : Enrolment) → has_left (customer_of e) (is_withdrawn e) ≡ false → customer_of e ≡ None → ⊥
+left-of Registered h none = true≢false h
+left-of (Enrolled w) h none = none-some _ (sym none)
+left-of (Withdrawn w) h none = none-some _ (sym none)
 
-standing-of : (k : Kind) (g : Bool) (s own c bought amount : ℕ) → Standing s own bought
-    → (g ≡ true → (not (same_kind k Enrol) && has_left (cond (s == 1) None (Some own)) (s == 3)) ≡ false) → (g ≡ true → same_kind k Enrol ≡ true → IsCustomer c)
-    → Standing (cond (g && same_kind k Enrol) 2 (cond (g && same_kind k Withdraw) 3 s)) (cond (g && same_kind k Enrol) c own) (bought + cond (g && same_kind k Reset) amount 0)
+-- the customer after a ruling is the one before it, or the one that a granted enrolment names
+pub customer-after : (has : ℕ → Type 0) (k : Kind) (g : Bool) (e : Enrolment) (c : ℕ) → IfSome (customer_of e) has → (g ≡ true → same_kind k Enrol ≡ true → has c)
+    → IfSome (customer_of (cond (g && same_kind k Enrol) (Enrolled c) (cond (g && same_kind k Withdraw) (withdrawn_of e) e))) has
 unfolding same_kind
-standing-of k false s own c b a was left named = record { state = was.state; registered = λ h. let r = (was.registered h).1 in ((was.registered h).0, omega arith); enrolled = was.enrolled }
-standing-of Enrol true s own c b a was left named = record { state = (omega arith, omega arith); registered = λ h. absurd (omega arith); enrolled = λ h. named refl refl }
-standing-of Withdraw true s own c b a was left named = record {
-  state = (omega arith, omega arith);
-  registered = λ h. absurd (omega arith);
-  enrolled = λ h. let from_1 = was.state.0 in let no = left-of s own (left refl) in was.enrolled (⊎_elim (λ (t : (s == 1) ≡ true). absurd (no (eqb-true s 1 t))) (λ (t : (s == 1) ≡ false). let other = eqb-false s 1 t in omega arith) (cases_Bool (s == 1)));
-}
-standing-of Reset true s own c b a was left named = record { state = was.state; registered = λ h. absurd (left-of s own (left refl) h); enrolled = was.enrolled }
-standing-of Audit true s own c b a was left named = record { state = was.state; registered = λ h. let r = (was.registered h).1 in ((was.registered h).0, omega arith); enrolled = was.enrolled }
-standing-of Refund true s own c b a was left named = record { state = was.state; registered = λ h. let r = (was.registered h).1 in ((was.registered h).0, omega arith); enrolled = was.enrolled }
+customer-after has k false e c was named = was
+customer-after has Enrol true e c was named = named refl refl
+customer-after has Withdraw true Registered c was named = tt
+customer-after has Withdraw true (Enrolled w) c was named = was
+customer-after has Withdraw true (Withdrawn w) c was named = was
+customer-after has Reset true e c was named = was
+customer-after has Audit true e c was named = was
+customer-after has Refund true e c was named = was
+
+-- a device that is not enrolled then has bought nothing then
+bought-after : (k : Kind) (g : Bool) (e : Enrolment) (c bought amount : ℕ) → (customer_of e ≡ None → bought ≡ 0) → (g ≡ true → (not (same_kind k Enrol) && has_left (customer_of e) (is_withdrawn e)) ≡ false)
+    → customer_of (cond (g && same_kind k Enrol) (Enrolled c) (cond (g && same_kind k Withdraw) (withdrawn_of e) e)) ≡ None → bought + cond (g && same_kind k Reset) amount 0 ≡ 0
+unfolding same_kind
+bought-after k false e c b a was left none = let before = was none in omega arith
+bought-after Enrol true e c b a was left none = absurd (none-some _ (sym none))
+bought-after Withdraw true Registered c b a was left none = let before = was refl in omega arith
+bought-after Withdraw true (Enrolled w) c b a was left none = absurd (none-some _ (sym none))
+bought-after Withdraw true (Withdrawn w) c b a was left none = absurd (none-some _ (sym none))
+bought-after Reset true e c b a was left none = absurd (left-of e (left refl) none)
+bought-after Audit true e c b a was left none = let before = was none in omega arith
+bought-after Refund true e c b a was left none = let before = was none in omega arith
 
 -- a granted enrolment names a customer
 customer-of : (r : DeviceRow) (q : Request) (o : Option CustomerRow) → IsPayer r q o → same_kind q.kind Enrol ≡ true → not (is_some o) ≡ false → IsCustomer q.customer
 customer-of r q None paid k h = absurd (true≢false h)
 customer-of r q (Some c) paid k h = subst IsCustomer (paid.0 ∙ ap (λ b. cond b q.customer (own_customer (enrolled_in r))) k) paid.1
 
-standing : (r : DeviceRow) (v : Verdict) (balance : ℕ) (q : Request) → IsSoundDevice r → IsVerdict r balance q v → Standing (state_after r.state v q.kind) (customer_after r.customer v q) (r.buys + adds v q)
+pub names-customer : (r : DeviceRow) (v : Verdict) (balance : ℕ) (q : Request) → IsVerdict r balance q v → NamesCustomer v q
+names-customer r v balance q (o, paid, says) g enrol =
+    let was = granted (account r o balance) q (sym (ap is_granted says) ∙ g) in
+    customer-of r q o paid enrol (and-then (same_kind q.kind Enrol) (not (is_some o)) enrol was.opened)
+
+bought-then : (r : DeviceRow) (v : Verdict) (balance : ℕ) (q : Request) → IsSoundDevice r → IsVerdict r balance q v → customer_of (enrolment_after r.enrolment v q) ≡ None → r.buys + adds v q ≡ 0
 unfolding adds
-standing r v balance q sound (o, paid, says) =
-    let was = λ (h : is_granted v ≡ true). granted (account r o balance) q (sym (ap is_granted says) ∙ h) in
-    standing-of q.kind (is_granted v) r.state r.customer q.customer r.buys q.amount (record { state = sound.state; registered = sound.registered; enrolled = sound.enrolled })
-    (λ h. (was h).left)
-    (λ h k. customer-of r q o paid k (and-then (same_kind q.kind Enrol) (not (is_some o)) k (was h).opened))
+bought-then r v balance q sound (o, paid, says) =
+    bought-after q.kind (is_granted v) r.enrolment q.customer r.buys q.amount sound.registered (λ g. (granted (account r o balance) q (sym (ap is_granted says) ∙ g)).left)
 
 -- == the row ==
 
 pub ruled-sound : (r : DeviceRow) (v : Verdict) (balance : ℕ) (q : Request) (note : List ℕ) → IsSoundDevice r → IsWord r.origin → IsWhole (m.Request q) → spell (m.Request q) r.key ≡ note → q.device ≡ r.device → q.number ≡ r.ruled + 1 → IsVerdict r balance q v → IsSoundDevice (ruled_row r v balance q note)
 ruled-sound r v balance q note sound origin whole spelled device n is =
     let sums = sums-after r v balance q sound is in
-    let stands = standing r v balance q sound is in
     record {
-      state = stands.state;
-      registered = stands.registered;
-      enrolled = stands.enrolled;
+      registered = bought-then r v balance q sound is;
+      enrolled = customer-after IsCustomer q.kind (is_granted v) r.enrolment q.customer sound.enrolled (names-customer r v balance q is);
       settled_le = omega arith;
       ruled_le = omega arith;
       returns_le = sums.returns_le;

@@ -1,6 +1,6 @@
 -- The balances that are kept are those by the rows, also after a row is put in its place.
 use Rattle.std.proofs.Common.{◌≡◌, ℕ, ◌+◌, ◌-◌, ◌^◌, ◌<◌, ◌≤◌, suc, Bool, true, false, List, [], ◌∷◌, length, get_or, set, map, replicate, Option, Some, None, cond, refl, sym, ap, subst, ◌∙◌, ⊎_elim, true≢false, arith}
-use Rattle.std.specs.Prelude.{◌==◌, All, IfSome, IsSome, sum_by, is_some}
+use Rattle.std.specs.Prelude.{All, IfSome, IsSome, sum_by, is_some}
 use Rattle.std.proofs.lemmas.Bool.{cases_eq, ne_eqb}
 use Rattle.std.proofs.lemmas.List.{get_or_default, get_or-set_same, get_or-set_other, length-map}
 use Rattle.std.proofs.lemmas.List.Elements.{All-set, All-get_or, All-replicate}
@@ -11,7 +11,8 @@ use Rattle.bench_base.specs.Ranges.{IsCustomer, IsDevice}
 use Rattle.centre_ledger.specs.declared.rows.DeviceRow.{DeviceRow}
 use Rattle.centre_ledger.specs.declared.rows.CustomerRow.{CustomerRow}
 use Rattle.centre_ledger.specs.declared.rows.Row.TheVariants.{Device, Customer}
-use Rattle.centre_ledger.specs.Rows.{buys_in, returns_in}
+use Rattle.ledger_terms.specs.Centres.{is_some_at}
+use Rattle.centre_ledger.specs.Rows.{enrolled_in, buys_in, returns_in}
 use Rattle.centre_ledger.specs.Soundness.{IsSoundDevice, IsSoundCustomer}
 use Rattle.centre_ledger.specs.Books.{Books, no_rows, place_of, device_at, customer_at, put_row, left_of, balances_by, kept_at, deposits_in, spent_in, IsCovered, IsOwned, IsDeviceOf, IsCustomerAt, ArePlaced, AreSound, IsKept}
 use Rattle.centre_ledger.proofs.Places.{place-from_1, place-next, put-same, put-other, in-place, from-places}
@@ -35,7 +36,7 @@ sound-customers b placed = from-places (λ o. IfSome o IsSoundCustomer) b.custom
 -- what a sound row gave back for a customer it bought before
 returns-most : (w : ℕ) (o : Option DeviceRow) → IfSome o IsSoundDevice → returns_in w o ≤ buys_in w o
 returns-most w None h = omega arith
-returns-most w (Some r) h = go (r.customer == w)
+returns-most w (Some r) h = go (is_some_at (enrolled_in r) w)
   where
     go : (b : Bool) → cond b r.returns 0 ≤ cond b r.buys 0
     go true = h.returns_le
@@ -48,29 +49,25 @@ sums-most w (o ∷ os) h =
     let tail = sums-most w os (λ k d less. h (suc k) d (omega arith)) in
     rw (sum_by-cons (returns_in w) o os, sum_by-cons (buys_in w) o os) (omega arith)
 
--- a device whose customer is open is none of one that isn't
-unowned : (customers : List (Option CustomerRow)) (r : DeviceRow) (w : ℕ) → IsSoundDevice r → IsOwned customers r → 1 ≤ w → place_of customers w ≡ None → r.customer ≡ w → ⊥
-unowned customers r w sound owned from none own = ⊎_elim
-    (λ (one : r.state ≡ 1). let zero = (sound.registered one).0 in omega arith)
-    (λ (more : r.state ≡ 1 → ⊥).
-    let state = sound.state in
-    let there : IsSome (place_of customers r.customer) = owned (omega arith) in
-    true≢false (sym there ∙ ap (λ c. is_some (place_of customers c)) own ∙ ap is_some none))
-    (cases_eq r.state 1)
+-- a customer that is open is none that isn't
+pub other-customer : (customers : List (Option CustomerRow)) (own : Option ℕ) (w : ℕ) → IfSome own (λ v. IsSome (place_of customers v)) → place_of customers w ≡ None → is_some_at own w ≡ false
+other-customer customers None w owned none = refl
+other-customer customers (Some v) w owned none =
+    ne_eqb v w (λ same. true≢false (sym owned ∙ ap (λ c. is_some (place_of customers c)) same ∙ ap is_some none))
 
-nothing-in : (customers : List (Option CustomerRow)) (o : Option DeviceRow) (w : ℕ) → IfSome o IsSoundDevice → IfSome o (IsOwned customers) → 1 ≤ w → place_of customers w ≡ None
+nothing-in : (customers : List (Option CustomerRow)) (o : Option DeviceRow) (w : ℕ) → IfSome o (IsOwned customers) → place_of customers w ≡ None
     → (buys_in w o ≡ 0) × (returns_in w o ≡ 0)
-nothing-in customers None w sound owned from none = (refl, refl)
-nothing-in customers (Some r) w sound owned from none =
-    let other = ne_eqb r.customer w (unowned customers r w sound owned from none) in
+nothing-in customers None w owned none = (refl, refl)
+nothing-in customers (Some r) w owned none =
+    let other = other-customer customers (enrolled_in r) w owned none in
     (ap (λ b. cond b r.buys 0) other, ap (λ b. cond b r.returns 0) other)
 
-pub nothing-bought : (customers : List (Option CustomerRow)) (os : List (Option DeviceRow)) (w : ℕ) → All (λ o. IfSome o IsSoundDevice) os → All (λ o. IfSome o (IsOwned customers)) os → 1 ≤ w → place_of customers w ≡ None
+pub nothing-bought : (customers : List (Option CustomerRow)) (os : List (Option DeviceRow)) (w : ℕ) → All (λ o. IfSome o (IsOwned customers)) os → place_of customers w ≡ None
     → (sum_by (buys_in w) os ≡ 0) × (sum_by (returns_in w) os ≡ 0)
-nothing-bought customers [] w sound owned from none = (refl, refl)
-nothing-bought customers (o ∷ os) w sound owned from none =
-    let head = nothing-in customers o w (sound 0 None (omega arith)) (owned 0 None (omega arith)) from none in
-    let tail = nothing-bought customers os w (λ k d less. sound (suc k) d (omega arith)) (λ k d less. owned (suc k) d (omega arith)) from none in
+nothing-bought customers [] w owned none = (refl, refl)
+nothing-bought customers (o ∷ os) w owned none =
+    let head = nothing-in customers o w (owned 0 None (omega arith)) none in
+    let tail = nothing-bought customers os w (λ k d less. owned (suc k) d (omega arith)) none in
     (rw (sum_by-cons (buys_in w) o os) (omega arith), rw (sum_by-cons (returns_in w) o os) (omega arith))
 
 -- == what is kept of a customer ==
@@ -175,17 +172,15 @@ record NotOf (b : Books) (r : DeviceRow) (w : ℕ) : Type 0 where
   before : spent_in w (before-of b r) ≡ 0
   after : spent_in w (Some r) ≡ 0
 
-not-of : (b : Books) (r : DeviceRow) (balances : List ℕ) (w : ℕ) → Putting b r balances → 1 ≤ w → customer_at b w ≡ None → NotOf b r w
-not-of b r balances w p from none =
+not-of : (b : Books) (r : DeviceRow) (balances : List ℕ) (w : ℕ) → Putting b r balances → customer_at b w ≡ None → NotOf b r w
+not-of b r balances w p none =
     let d = p.device in
     let count = p.sound.placed.device_count in
     let within : r.device - 1 < length b.devices = omega arith in
-    let was = nothing-in b.customers (before-of b r) w
-    (All-get_or (λ o. IfSome o IsSoundDevice) b.devices (r.device - 1) None within (sound-devices b p.sound.placed))
-    (All-get_or (λ o. IfSome o (IsOwned b.customers)) b.devices (r.device - 1) None within p.sound.joined.owned) from none in
+    let was = nothing-in b.customers (before-of b r) w (All-get_or (λ o. IfSome o (IsOwned b.customers)) b.devices (r.device - 1) None within p.sound.joined.owned) none in
     let here = put-same b.devices r.device (Some r) p.device.0 (omega arith) in
     let owned : IsOwned b.customers r = subst (λ o. IfSome o (IsOwned b.customers)) here (in-place (λ o. IfSome o (IsOwned b.customers)) (put_row b (Device r)).devices r.device tt p.after.joined.owned) in
-    let is = nothing-in b.customers (Some r) w (row-sound b r balances p) owned from none in
+    let is = nothing-in b.customers (Some r) w owned none in
     record { before = let e = was.0 in omega arith; after = let e = is.0 in omega arith }
 
 pub fits : (b : Books) (r : DeviceRow) (balances : List ℕ) → Putting b r balances → (w : ℕ) → IsCustomer w → kept_at balances w + spent_in w (before-of b r) < 2 ^ 64
@@ -196,7 +191,7 @@ fits b r balances p w in_w = go (customer_at b w) refl
 
     go : (o : Option CustomerRow) → customer_at b w ≡ o → kept_at balances w + spent_in w (before-of b r) < 2 ^ 64
     go None at =
-        let none = not-of b r balances w p in_w.0 at in
+        let none = not-of b r balances w p at in
         let zero : kept_at balances w ≡ 0 = left ∙ ap (left_of b.devices) at in
         let before = none.before in
         omega arith
@@ -222,7 +217,7 @@ covers b r balances given p back w in_w = go (customer_at b w) refl
     left = kept-left b balances w p.kept in_w.0
 
     go : (o : Option CustomerRow) → customer_at b w ≡ o → spent_in w (Some r) ≤ kept_at given w
-    go None at = let none = (not-of b r balances w p in_w.0 at).after in omega arith
+    go None at = let none = (not-of b r balances w p at).after in omega arith
     go (Some c) at =
         let is = left-is b (kept_at balances w) w c p.sound at left in
         let then = left-is (put_row b (Device r)) (left_of (put_row b (Device r)).devices (customer_at b w)) w c p.after at refl in
@@ -244,7 +239,7 @@ device-kept b r balances given after p back size taken = record {
 
         go : (o : Option CustomerRow) → customer_at b w ≡ o → kept_at after w ≡ left_of (put_row b (Device r)).devices o
         go None at =
-            let none = not-of b r balances w p in_w.0 at in
+            let none = not-of b r balances w p at in
             let zero : kept_at balances w ≡ 0 = left ∙ ap (left_of b.devices) at in
             omega (arith, none.before, none.after, back.each w in_w, taken w in_w)
         go (Some c) at =
@@ -298,7 +293,7 @@ had b r balances p = go (customer_at b r.customer) refl
 
     go : (o : Option CustomerRow) → customer_at b r.customer ≡ o → Had b r balances
     go None at =
-        let none = nothing-bought b.customers b.devices r.customer (sound-devices b p.sound.placed) p.sound.joined.owned p.customer.0 at in
+        let none = nothing-bought b.customers b.devices r.customer p.sound.joined.owned at in
         let zero : kept_at balances r.customer ≡ 0 = left ∙ ap (left_of b.devices) at in
         let before : deposits_in (customer_at b r.customer) ≡ 0 = ap deposits_in at in
         record { sum = omega (arith, none.0, none.1); most = omega arith; then_most = placed.sound.limit; then_covered = covered; given_back = back }

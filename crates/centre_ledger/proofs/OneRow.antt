@@ -7,7 +7,7 @@ use Rattle.centre_ledger.specs.declared.rows.Row.{Row}
 use Rattle.centre_ledger.specs.declared.rows.Row.TheVariants.{Device, Customer}
 use Rattle.centre_ledger.specs.Soundness.{IsSoundDevice}
 use Rattle.centre_ledger.specs.Payload.{sums_table, request_size, reply_size, end_size, head_part, sums_part, request_part, reply_part, end_part, device_spelled, device_bytes, DeviceFits, IsOld, DeviceReadsAs, RowReadsAs}
-use Rattle.centre_ledger.proofs.Parted.{Spells, parts-of, row-of-parts, size-request, size-reply, length-head, length-sums}
+use Rattle.centre_ledger.proofs.Parted.{Spells, state-low, state-is, parts-of, row-of-parts, size-request, size-reply, length-head, length-sums}
 use Rattle.centre_ledger.specs.PayloadLaws.{PayloadLaws}
 use Rattle.centre_ledger.proofs.CustomerBytes.{one-customer, written-customer, length-customer}
 use Rattle.std.proofs.lemmas.List.{length-replicate}
@@ -17,7 +17,7 @@ use Rattle.std.proofs.lemmas.List.{length-replicate}
 -- what version 1 can spell fits its fields
 old-fits : (r : DeviceRow) → IsSoundDevice r → DeviceFits 2 r → IsOld r → DeviceFits 1 r
 old-fits r sound fits old = record {
-  head = (fits.head.0, (omega (arith, sound.state.1), fits.head.1.1));
+  head = (fits.head.0, (omega (arith, state-low r.enrolment), fits.head.1.1));
   key = fits.key;
   sums = (fits.sums.0, (fits.sums.1.0, (old.buys, (omega (arith, old.buys, sound.returns_le), tt))));
 }
@@ -30,10 +30,10 @@ spells-new r sound fits = record { version = (omega arith, omega arith); sound =
 
 -- the byte of the state tells the version
 pub byte-old : (r : DeviceRow) (bytes : List ℕ) → Spells 1 r → device_spelled 1 r ≡ bytes → get_or bytes 4 0 < 16
-byte-old r bytes g e = omega (arith, (parts-of 1 r bytes g e).state, g.sound.state.1)
+byte-old r bytes g e = omega (arith, state-is 1 r bytes (parts-of 1 r bytes g e).head, state-low r.enrolment)
 
 pub byte-new : (r : DeviceRow) (bytes : List ℕ) → Spells 2 r → device_spelled 2 r ≡ bytes → 16 ≤ get_or bytes 4 0
-byte-new r bytes g e = omega (arith, (parts-of 2 r bytes g e).state)
+byte-new r bytes g e = omega (arith, state-is 2 r bytes (parts-of 2 r bytes g e).head)
 
 -- == one row ==
 

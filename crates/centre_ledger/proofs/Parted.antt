@@ -1,6 +1,5 @@
 -- A row's bytes fall into its parts, and the parts make its bytes, in each version.
-use Rattle.std.proofs.Common.{◌≡◌, ℕ, ◌+◌, ◌-◌, ◌≤◌, ◌==◌, if◌then◌else◌, Bool, true, false, List, [], ◌∷◌, ◌++◌, length, take, drop, get_or, replicate, refl, sym, ap, ap₂, ◌∙◌, subst, arith, length-append, length-drop, length-take-le, append_assoc, inl, inr}
-use Rattle.std.specs.Prelude.{◌⊎◌}
+use Rattle.std.proofs.Common.{◌≡◌, ℕ, ◌+◌, ◌-◌, ◌≤◌, ◌==◌, if◌then◌else◌, Bool, true, false, List, [], ◌∷◌, ◌++◌, length, take, drop, get_or, replicate, refl, sym, ap, ap₂, ◌∙◌, subst, arith, length-append, length-drop, length-take-le, append_assoc}
 use Rattle.std.proofs.lemmas.Bool.{eqb-true, eqb-false}
 use Rattle.std.proofs.lemmas.List.{take_at, drop_at, drop-drop}
 use Rattle.bench_base.specs.Rules.{IsVersion}
@@ -13,9 +12,11 @@ use Rattle.psd_wire.specs.declared.message.Message.TheVariants as m
 use Rattle.psd_wire.specs.Grammar.{IsWhole, spell, reply_table}
 use Rattle.psd_wire.proofs.Readings.{byte_of, request_room, reply_room, request_room-le, length-body_of, length-request, length-reply}
 use Rattle.centre_ledger.specs.declared.rows.DeviceRow.{DeviceRow}
+use Rattle.centre_ledger.specs.declared.rows.Enrolment.{Enrolment}
+use Rattle.centre_ledger.specs.declared.rows.Enrolment.TheVariants.{Registered, Enrolled, Withdrawn}
 use Rattle.centre_ledger.specs.Soundness.{IsRuling, IsSoundDevice}
-use Rattle.centre_ledger.specs.Payload.{state_byte, head_table, head, sums_table, sums, request_size, reply_size, uncoded, kept, filled, message_part, head_part, sums_part, request_part, reply_part, end_part, device_spelled, DeviceFits, IsOld}
-use Rattle.centre_ledger.specs.Parts.{state_from, bare, bare_from, bare_at, request_place, reply_place, Parts, IsKept, IsStored, request_front, reply_front}
+use Rattle.centre_ledger.specs.Payload.{state_byte, state_number, customer_number, head_table, head, sums_table, sums, request_size, reply_size, uncoded, kept, filled, message_part, head_part, sums_part, request_part, reply_part, end_part, device_spelled, DeviceFits, IsOld}
+use Rattle.centre_ledger.specs.Parts.{state_from, enrolment_from, HeadIs, bare, bare_from, bare_at, request_place, reply_place, Parts, IsKept, IsStored, request_front, reply_front}
 use Rattle.centre_ledger.proofs.Notes.{by_version, uncoded-spell, first-request, length-body-reply, length-filled, request-kept, reply-kept, kept-part, one-kept}
 
 -- == a row falls into these parts ==
@@ -49,16 +50,16 @@ state-again v s = go (v == 1)
     go true = refl
     go false = omega arith
 
-pub state-byte-again : (v n : ℕ) → (v ≡ 1) ⊎ (16 ≤ n) → state_byte v (state_from v n) ≡ n
-state-byte-again v n h = go (v == 1) refl
-  where
-    go : (b : Bool) → (v == 1) ≡ b → (if b then (if b then n else n - 16) else (if b then n else n - 16) + 16) ≡ n
-    go true e = refl
-    go false e = high h
-      where
-        high : (v ≡ 1) ⊎ (16 ≤ n) → n - 16 + 16 ≡ n
-        high (inl one) = absurd (eqb-false v 1 e one)
-        high (inr l) = omega (arith, l)
+-- and with the customer's number the enrolment
+enrolment-again : (v : ℕ) (e : Enrolment) → enrolment_from (state_from v (state_byte v (state_number e))) (customer_number e) ≡ e
+enrolment-again v Registered = ap (λ n. enrolment_from n 0) (state-again v 1)
+enrolment-again v (Enrolled w) = ap (λ n. enrolment_from n w) (state-again v 2)
+enrolment-again v (Withdrawn w) = ap (λ n. enrolment_from n w) (state-again v 3)
+
+pub state-low : (e : Enrolment) → state_number e ≤ 3
+state-low Registered = omega arith
+state-low (Enrolled w) = omega arith
+state-low (Withdrawn w) = omega arith
 
 pub parts : (v : ℕ) (r : DeviceRow) (bytes : List ℕ) → DeviceFits v r → length (request_part v r) ≡ request_size v → length (reply_part v r) ≡ reply_size v
     → device_spelled v r ≡ bytes → Parts v r bytes
@@ -79,8 +80,8 @@ parts v r bytes f lq lp e =
     ap (values 45 (sums_table v)) (sym e ∙ sym (append_assoc (head_part v r) r.key (sums_part v r ++ (q ++ (p ++ z)))))
     ∙ sums_values v r (head_part v r ++ r.key) (q ++ (p ++ z)) f (length-append (head_part v r) r.key ∙ ap₂ (λ x y. x + y) lh f.key) in
     record {
-      state = sym (byte_of 4 bytes) ∙ ap (λ h. get_or h 1 0) hs;
-      fields = ap₂ (λ h w. bare_from v h (take 32 (drop 13 bytes)) w) hs vs ∙ ap (λ x. bare_from v (head v r) x (sums r)) s2.1 ∙ ap (λ n. record (bare r) { state = n }) (state-again v r.state);
+      head = hs;
+      fields = ap₂ (λ h w. bare_from v h (take 32 (drop 13 bytes)) w) hs vs ∙ ap (λ x. bare_from v (head v r) x (sums r)) s2.1 ∙ ap (λ e. record (bare r) { enrolment = e }) (enrolment-again v r.enrolment);
       request = s4.1;
       reply = ap (take (reply_size v)) s4.0 ∙ take_at p z (reply_size v) lp;
       end = sym (drop-drop (reply_size v) (reply_place v) bytes) ∙ ap (drop (reply_size v)) s4.0 ∙ drop_at p z (reply_size v) lp;
@@ -88,9 +89,9 @@ parts v r bytes f lq lp e =
 
 -- == the parts make the bytes ==
 
-head-row : (v : ℕ) (r : DeviceRow) (bytes : List ℕ) → Parts v r bytes → values 0 head_table bytes ≡ head v r
-unfolding bare_at
-head-row v r bytes p = ap₂ (λ (f : DeviceRow) s. f.device ∷ s ∷ f.customer ∷ f.origin ∷ []) p.fields (byte_of 4 bytes ∙ p.state)
+-- the byte of the state
+pub state-is : (v : ℕ) (r : DeviceRow) (bytes : List ℕ) → HeadIs v r bytes → get_or bytes 4 0 ≡ state_byte v (state_number r.enrolment)
+state-is v r bytes head = sym (byte_of 4 bytes) ∙ ap (λ h. get_or h 1 0) head
 
 sums-row : (v : ℕ) (r : DeviceRow) (bytes : List ℕ) → Parts v r bytes → values 45 (sums_table v) bytes ≡ sums r
 unfolding bare_at
@@ -104,7 +105,7 @@ pub assembled : (v : ℕ) (r : DeviceRow) (bytes : List ℕ) → 45 + room (sums
 unfolding device_spelled head_part sums_part
 assembled v r bytes l h p =
     let table : List Size = sums_table v in
-    let a : row head_table (head v r) ≡ take 13 (drop 0 bytes) = ap (row head_table) (sym (head-row v r bytes p)) ∙ row-values head_table 0 bytes (omega (arith, l)) h in
+    let a : row head_table (head v r) ≡ take 13 (drop 0 bytes) = ap (row head_table) (sym p.head) ∙ row-values head_table 0 bytes (omega (arith, l)) h in
     let b : r.key ≡ take 32 (drop 13 bytes) = sym (key-part v r bytes p) in
     let c : row table (sums r) ≡ take (room table) (drop 45 bytes) = ap (row table) (sym (sums-row v r bytes p)) ∙ row-values table 45 bytes l h in
     let from_reply = ap₂ (λ x y. x ++ y) (sym p.reply) (sym p.end) ∙ behind (reply_place v) (reply_size v) bytes in
@@ -116,11 +117,11 @@ assembled v r bytes l h p =
 -- the numbers fit the fields of version 2, whatever version they stand in
 pub fits-made : (v : ℕ) (r : DeviceRow) (bytes : List ℕ) → IsVersion v → length bytes ≡ 192 → IsBytes bytes → IsSoundDevice r → Parts v r bytes → DeviceFits 2 r
 fits-made v r bytes h l bs sound p =
-    let front : Fit head_table (head v r) = subst (Fit head_table) (head-row v r bytes p) (values-fit head_table 0 bytes bs) in
+    let front : Fit head_table (head v r) = subst (Fit head_table) p.head (values-fit head_table 0 bytes bs) in
     let numbers : Fit (sums_table v) (sums r) = subst (Fit (sums_table v)) (sums-row v r bytes p) (values-fit (sums_table v) 45 bytes bs) in
     let long : length (drop 13 bytes) ≡ 179 = length-drop 13 bytes ∙ omega (arith, l) in
     record {
-      head = (front.0, (omega (arith, sound.state.1), front.1.1));
+      head = (front.0, (omega (arith, state-low r.enrolment), front.1.1));
       key = ap length (sym (key-part v r bytes p)) ∙ length-take-le 32 (drop 13 bytes) (omega (arith, long));
       sums = by_version (λ k. Fit (sums_table k) (sums r) → Fit (sums_table 2) (sums r)) v h (λ f. (f.0, (f.1.0, (omega (arith, f.1.1.0), (omega (arith, f.1.1.1.0), tt))))) (λ f. f) numbers;
     }

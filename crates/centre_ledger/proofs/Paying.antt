@@ -1,13 +1,10 @@
 -- What the books say of balances, and of the customer who pays, is what the commits say.
-use Rattle.std.proofs.Common.{◌≡◌, ℕ, List, [], ◌∷◌, length, Option, Some, None, cond, refl, sym, ap, subst, ◌∙◌, ⊎_elim, arith}
-use Rattle.std.specs.Prelude.{IsSome}
-use Rattle.std.proofs.lemmas.Bool.{cases_eq, ne_eqb, eq-eqb}
+use Rattle.std.proofs.Common.{◌≡◌, ℕ, List, [], ◌∷◌, length, Option, Some, None, cond, refl, sym, ap, subst, ◌∙◌, arith}
 use Rattle.bench_base.specs.Ranges.{IsCustomer}
 use Rattle.bench_base.specs.declared.ledger.Commit.{Commit}
 use Rattle.psd_wire.specs.declared.message.Request.{Request}
 use Rattle.ledger_terms.specs.Centres.{enrolled, device_numbers, device_share, is_some_at, sum_over, customer_sum, customer_returned, balance}
 use Rattle.ledger_terms.specs.Sums.{takes, ruled_sum}
-use Rattle.bench_base.proofs.Facts.{not-none}
 use Rattle.ledger_terms.specs.Rulings.{payer, own_customer}
 use Rattle.centre_ledger.specs.declared.rows.DeviceRow.{DeviceRow}
 use Rattle.centre_ledger.specs.declared.rows.CustomerRow.{CustomerRow}
@@ -19,6 +16,7 @@ use Rattle.centre_ledger.specs.Acts.{in_books, payer_in, own_left}
 use Rattle.centre_ledger.specs.ActLaws.{AreBooksOf}
 use Rattle.centre_ledger.proofs.Following.{no-money, share-none, nothing-before}
 use Rattle.centre_ledger.proofs.Kept as kept
+use Rattle.centre_ledger.proofs.Kept.{other-customer}
 use Rattle.centre_ledger.proofs.Payers.{found-customer, found-owned}
 use Rattle.centre_ledger.proofs.Slots.{paying}
 use Rattle.centre_ledger.proofs.Slots as by_rows
@@ -62,15 +60,8 @@ module _ (b : Books) (C : List Commit) (s : AreSound b) (books : AreBooksOf b C)
     where
       by : (o : Option DeviceRow) → device_at b d ≡ o → device_share takes w C d ≡ 0
       by None at = let slot : IsSlotOf None d C = subst (λ o. IsSlotOf o d C) at (books.devices d) in share-none takes d w C (nothing-before d C books.order slot).enrolled
-      by (Some r) at = ap (device_share takes w C) (sym slot.0) ∙ ⊎_elim
-          (λ (one : r.state ≡ 1). share-none takes r.device w C (slot.2.enrolled ∙ ap (λ t. cond t None (Some r.customer)) (eq-eqb r.state 1 one)))
-          (λ (more : r.state ≡ 1 → ⊥).
-          let enrolled_so : enrolled r.device C ≡ Some r.customer = slot.2.enrolled ∙ ap (λ t. cond t None (Some r.customer)) (ne_eqb r.state 1 more) in
-          let state = slot.1.state in
-          let open_so = found-owned b d r s at (omega arith) in
-          ap (λ x. cond (is_some_at x w) (ruled_sum takes r.device C) 0) enrolled_so
-          ∙ ap (λ t. cond t (ruled_sum takes r.device C) 0) (ne_eqb r.customer w (λ same. not-none (customer_at b w) (subst (λ v. IsSome (customer_at b v)) same open_so) shut)))
-          (cases_eq r.state 1)
+      by (Some r) at = ap (device_share takes w C) (sym slot.0) ∙ ap (λ x. cond (is_some_at x w) (ruled_sum takes r.device C) 0) slot.2.enrolled
+          ∙ ap (λ t. cond t (ruled_sum takes r.device C) 0) (other-customer b.customers (enrolled_in r) w (found-owned b d r s at) shut)
         where
           slot : IsSlotOf (Some r) d C
           slot = subst (λ o. IsSlotOf o d C) at (books.devices d)

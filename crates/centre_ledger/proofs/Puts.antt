@@ -6,7 +6,7 @@ use Rattle.bench_base.specs.Ranges.{IsCustomer, IsDevice, IsWord}
 use Rattle.centre_ledger.specs.declared.rows.DeviceRow.{DeviceRow}
 use Rattle.centre_ledger.specs.declared.rows.CustomerRow.{CustomerRow}
 use Rattle.centre_ledger.specs.declared.rows.Row.TheVariants.{Device, Customer}
-use Rattle.centre_ledger.specs.Rows.{buys_in, returns_in}
+use Rattle.centre_ledger.specs.Rows.{enrolled_in, buys_in, returns_in}
 use Rattle.centre_ledger.specs.Soundness.{IsSoundDevice, IsSoundCustomer}
 use Rattle.centre_ledger.specs.Books.{Books, place_of, device_at, customer_at, put_row, left_in, deposits_in, IsCovered, IsOwned, IsDeviceOf, IsCustomerAt, AreSound}
 use Rattle.centre_ledger.proofs.Places.{place-from_1, put-same, put-other, in-place, from-places}
@@ -81,11 +81,15 @@ customer-put b r sound in_w sound_r more = record {
 
     owned : (o : Option DeviceRow) → IfSome o (IsOwned b.customers) → IfSome o (IsOwned (put_row b (Customer r)).customers)
     owned None h = tt
-    owned (Some x) h = λ state. still x.customer (h state)
+    owned (Some x) h = by (enrolled_in x) h
+      where
+        by : (own : Option ℕ) → IfSome own (λ w. IsSome (customer_at b w)) → IfSome own (λ w. IsSome (customer_at (put_row b (Customer r)) w))
+        by None there = tt
+        by (Some w) there = still w there
 
     covered : (o : Option CustomerRow) → customer_at b r.customer ≡ o → IsCovered b.devices r
     covered None at =
-        let none = nothing-bought b.customers b.devices r.customer (sound-devices b sound.placed) sound.joined.owned in_w.0 at in
+        let none = nothing-bought b.customers b.devices r.customer sound.joined.owned at in
         omega (arith, none.0)
     covered (Some c) at =
         let is = left-is b (left_in b r.customer) r.customer c sound at refl in

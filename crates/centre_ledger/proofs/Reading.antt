@@ -1,6 +1,5 @@
 -- What the reader of a device's payload found makes the payload, and the reader misses no row.
 use Rattle.std.proofs.Common.{◌≡◌, ℕ, ◌+◌, ◌^◌, ◌<◌, ◌≤◌, ◌==◌, if◌then◌else◌, Bool, true, false, List, [], ◌∷◌, length, take, drop, get_or, refl, sym, ap, ◌∙◌, subst, arith, Option, Some, None, IfSome}
-use Rattle.std.specs.Prelude.{◌⊎◌}
 use Rattle.std.proofs.lemmas.Bool.{eqb-true}
 use Rattle.std.proofs.lemmas.List.{length-take-le, length-drop}
 use Rattle.bench_base.specs.Rules.{IsVersion}
@@ -9,14 +8,14 @@ use Rattle.bench_base.proofs.Tables.{values-fit}
 use Rattle.psd_wire.specs.declared.message.Request.{Request}
 use Rattle.psd_wire.specs.declared.message.ReplyMsg.{ReplyMsg}
 use Rattle.psd_wire.specs.Grammar.{request_table}
-use Rattle.psd_wire.proofs.Readings.{byte_of, request_room, length-request}
+use Rattle.psd_wire.proofs.Readings.{request_room, length-request}
 use Rattle.centre_ledger.specs.declared.rows.DeviceRow.{DeviceRow}
 use Rattle.centre_ledger.specs.Soundness.{IsRuling, IsSoundDevice}
-use Rattle.centre_ledger.specs.Payload.{state_byte, sums_table, request_size, reply_size, message_part, end_part, device_spelled, IsOld}
-use Rattle.centre_ledger.specs.Parts.{state_from, bare, bare_at, request_place, reply_place, end_place, Parts, KeepMessages, IsSpelling}
+use Rattle.centre_ledger.specs.Payload.{sums_table, request_size, reply_size, message_part, end_part, device_spelled, IsOld}
+use Rattle.centre_ledger.specs.Parts.{HeadIs, bare, bare_at, request_place, reply_place, end_place, Parts, KeepMessages, IsSpelling}
 use Rattle.centre_ledger.proofs.Notes.{by_version, first-request, fits-filled}
 use Rattle.centre_ledger.proofs.OneRow.{spells-old, spells-new}
-use Rattle.centre_ledger.proofs.Parted.{Spells, parts-of, assembled, fits-made, state-byte-again}
+use Rattle.centre_ledger.proofs.Parted.{Spells, parts-of, assembled, fits-made}
 
 -- what two clauses say of one row
 pub both-found : {A : Type 0} (o : Option A) (P Q R : A → Type 0) → ((a : A) → P a → Q a → R a) → IfSome o P → IfSome o Q → IfSome o R
@@ -29,26 +28,16 @@ pub bare-again : (v : ℕ) (bytes : List ℕ) (row : DeviceRow) → row ≡ bare
 unfolding bare_at
 bare-again v bytes row e = ap bare e ∙ sym e
 
--- the payload's bytes behind a byte of the state that is none of version 1
-abbrev pub Tells : ℕ → List ℕ → Type 0
-Tells v bytes = (v ≡ 1) ⊎ (16 ≤ get_or bytes 4 0)
-
-state-read : (v : ℕ) (bytes : List ℕ) → (bare_at v bytes).state ≡ state_from v (get_or bytes 4 0)
-unfolding bare_at
-state-read v bytes = ap (state_from v) (byte_of 4 bytes)
-
-pub parts-made : (v : ℕ) (bytes : List ℕ) (row r : DeviceRow) → Tells v bytes → row ≡ bare_at v bytes → bare r ≡ row
+pub parts-made : (v : ℕ) (bytes : List ℕ) (row r : DeviceRow) → row ≡ bare_at v bytes → HeadIs v row bytes → bare r ≡ row
     → KeepMessages v (take (request_size v) (drop (request_place v) bytes)) (take (reply_size v) (drop (reply_place v) bytes)) r
     → drop (end_place v) bytes ≡ end_part v → Parts v r bytes
-parts-made v bytes row r tells stand same messages z =
-    let state : state_from v (get_or bytes 4 0) ≡ r.state = sym (state-read v bytes) ∙ ap (λ (x : DeviceRow). x.state) (sym (same ∙ stand)) in
-    record {
-      state = sym (state-byte-again v (get_or bytes 4 0) tells) ∙ ap (state_byte v) state;
-      fields = sym (same ∙ stand);
-      request = sym messages.first;
-      reply = sym messages.second;
-      end = z;
-    }
+parts-made v bytes row r stand headed same messages z = record {
+  head = subst (λ x. HeadIs v x bytes) (sym same) headed;
+  fields = sym (same ∙ stand);
+  request = sym messages.first;
+  reply = sym messages.second;
+  end = z;
+}
 
 pub row-made : (v : ℕ) (bytes : List ℕ) (r : DeviceRow) → IsVersion v → length bytes ≡ 192 → IsBytes bytes → Parts v r bytes → device_spelled v r ≡ bytes
 row-made v bytes r h l bs p = assembled v r bytes (within v) bs p
@@ -96,9 +85,9 @@ module _ (v : ℕ) (bytes : List ℕ) (r : DeviceRow) (spells : Spells v r) (e :
   parts_are : Parts v r bytes
   parts_are = parts-of v r bytes spells e
 
-  -- the payload is of the row's device
-  pub device-is : (device : ℕ) → r.device ≡ device → (bare_at v bytes).device ≡ device
-  device-is device d = ap (λ (x : DeviceRow). x.device) parts_are.fields ∙ d
+  -- the payload begins as the row does
+  pub head-is : HeadIs v r bytes
+  head-is = parts_are.head
 
   pub end-is : drop (end_place v) bytes ≡ end_part v
   end-is = parts_are.end

@@ -1,35 +1,26 @@
 -- The row with a ruling is one whose customer can pay.
-use Rattle.std.proofs.Common.{◌≡◌, ℕ, ◌+◌, ◌≤◌, Bool, true, false, List, Option, Some, None, cond, refl, sym, ap, subst, ◌∙◌, ⊎_elim, true≢false, arith}
-use Rattle.std.specs.Prelude.{◌==◌, ◌&&◌, not, IsSome, is_some}
-use Rattle.std.proofs.lemmas.Bool.{cases_Bool, cases_eq, ne_eqb, eqb-true, and_parts, not-false}
+use Rattle.std.proofs.Common.{◌≡◌, ℕ, ◌+◌, ◌≤◌, Bool, true, false, List, Option, Some, None, cond, refl, sym, ap, subst, ⊎_elim, true≢false, arith}
+use Rattle.std.specs.Prelude.{◌&&◌, not, IsSome, is_some}
+use Rattle.std.proofs.lemmas.Bool.{cases_Bool, eqb-true, and_parts, not-false}
 use Rattle.bench_base.specs.declared.words.Kind.{Kind}
 use Rattle.bench_base.specs.declared.words.Kind.TheVariants.{Enrol, Reset, Audit, Refund, Withdraw}
 use Rattle.bench_base.specs.declared.words.Verdict.{Verdict}
 use Rattle.bench_base.specs.Kinds.{same_kind, is_granted}
 use Rattle.psd_wire.specs.declared.message.Request.{Request}
 use Rattle.ledger_terms.specs.Sums.{adds, takes}
-use Rattle.ledger_terms.specs.Rulings.{own_customer, has_left, is_enrolled}
+use Rattle.ledger_terms.specs.Centres.{is_some_at}
+use Rattle.ledger_terms.specs.Rulings.{own_customer, is_enrolled}
 use Rattle.centre_ledger.specs.declared.rows.DeviceRow.{DeviceRow}
-use Rattle.centre_ledger.specs.Rows.{account, enrolled_in, customer_after, buys_in, returns_in}
+use Rattle.centre_ledger.specs.declared.rows.Enrolment.{Enrolment}
+use Rattle.centre_ledger.specs.declared.rows.Enrolment.TheVariants.{Registered, Enrolled, Withdrawn}
+use Rattle.centre_ledger.specs.Rows.{account, customer_of, enrolled_in, withdrawn_of, enrolment_after, buys_in, returns_in}
 use Rattle.centre_ledger.specs.Soundness.{IsSoundDevice}
 use Rattle.centre_ledger.specs.Books.{Books, device_at, customer_at, left_in, AreSound}
 use Rattle.centre_ledger.specs.Acts.{in_books, payer_in, own_left, verdict_in, ruled_in}
-use Rattle.centre_ledger.proofs.Keeping.{WasGranted, granted, funded, left-of, and-then}
+use Rattle.centre_ledger.proofs.Keeping.{WasGranted, granted, funded, customer-after, and-then}
 use Rattle.centre_ledger.proofs.Payers.{found-device, found-owned}
 use Rattle.centre_ledger.proofs.Puts.{CanPay}
 use Rattle.bench_base.proofs.Facts.{no_reset}
-
--- the customer after a ruling is open, where the device is enrolled then
-owned-after : (has : ℕ → Type 0) (k : Kind) (g : Bool) (s own c : ℕ) → 1 ≤ s → (2 ≤ s → has own)
-    → (g ≡ true → (not (same_kind k Enrol) && has_left (cond (s == 1) None (Some own)) (s == 3)) ≡ false) → (g ≡ true → same_kind k Enrol ≡ true → has c)
-    → 2 ≤ cond (g && same_kind k Enrol) 2 (cond (g && same_kind k Withdraw) 3 s) → has (cond (g && same_kind k Enrol) c own)
-unfolding same_kind
-owned-after has k false s own c from was left named h = was h
-owned-after has Enrol true s own c from was left named h = named refl refl
-owned-after has Withdraw true s own c from was left named h = was (⊎_elim (λ (one : s ≡ 1). absurd (left-of s own (left refl) one)) (λ (more : s ≡ 1 → ⊥). let two : 2 ≤ s = omega arith in two) (cases_eq s 1))
-owned-after has Reset true s own c from was left named h = was h
-owned-after has Audit true s own c from was left named h = was h
-owned-after has Refund true s own c from was left named h = was h
 
 was-granted : (b : Books) (r : DeviceRow) (q : Request) → is_granted (verdict_in (in_books b) r q) ≡ true → WasGranted (account r (payer_in (in_books b) r q) (own_left (in_books b) r)) q
 was-granted b r q h = granted (account r (payer_in (in_books b) r q) (own_left (in_books b) r)) q h
@@ -50,15 +41,12 @@ no-enrol Refund h = refl
 no-enrol Withdraw h = refl
 
 -- what a granted reset adds is left to the device's own customer
-adds-most : (b : Books) (r : DeviceRow) (q : Request) → adds (verdict_in (in_books b) r q) q ≤ left_in b r.customer
+adds-most : (b : Books) (r : DeviceRow) (q : Request) → adds (verdict_in (in_books b) r q) q ≤ own_left (in_books b) r
 unfolding adds
 adds-most b r q = ⊎_elim
     (λ (t : (is_granted (verdict_in (in_books b) r q) && same_kind q.kind Reset) ≡ true).
     let parts = and_parts (is_granted (verdict_in (in_books b) r q)) (same_kind q.kind Reset) t in
-    let enough = funded (account r (payer_in (in_books b) r q) (own_left (in_books b) r)) q parts.0 parts.1 in
-    let here : has_left (enrolled_in r) (r.state == 3) ≡ false = and-then (not (same_kind q.kind Enrol)) (has_left (enrolled_in r) (r.state == 3)) (no-enrol q.kind parts.1) (was-granted b r q parts.0).left in
-    let enrolled : (r.state == 1) ≡ false = ne_eqb r.state 1 (left-of r.state r.customer here) in
-    rw t (subst (λ s. q.amount ≤ left_in b (own_customer (cond s None (Some r.customer)))) enrolled enough))
+    rw t (funded (account r (payer_in (in_books b) r q) (own_left (in_books b) r)) q parts.0 parts.1))
     (λ (t : (is_granted (verdict_in (in_books b) r q) && same_kind q.kind Reset) ≡ false). rw t (omega arith))
     (cases_Bool (is_granted (verdict_in (in_books b) r q) && same_kind q.kind Reset))
 
@@ -69,16 +57,15 @@ record Fresh (r : DeviceRow) (v : Verdict) (q : Request) : Type 0 where
 
 fresh : (b : Books) (r : DeviceRow) (q : Request) → IsSoundDevice r → is_granted (verdict_in (in_books b) r q) ≡ true → same_kind q.kind Enrol ≡ true → Fresh r (verdict_in (in_books b) r q) q
 unfolding adds
-fresh b r q sound g enrol = ⊎_elim
-    (λ (one : r.state ≡ 1).
-    let buys = (sound.registered one).1 in
+fresh b r q sound g enrol =
+    let buys = sound.registered (never (enrolled_in r) (and-then (same_kind q.kind Enrol) (is_enrolled (enrolled_in r)) enrol (was-granted b r q g).new)) in
     let least = sound.returns_le in
     let none : same_kind q.kind Reset ≡ false = no_reset q.kind enrol in
-    record { bought = rw (g, none) (omega arith); returned = omega arith })
-    (λ (more : r.state ≡ 1 → ⊥).
-    let was : is_enrolled (enrolled_in r) ≡ false = and-then (same_kind q.kind Enrol) (is_enrolled (enrolled_in r)) enrol (was-granted b r q g).new in
-    absurd (true≢false (ap (λ s. is_enrolled (cond s None (Some r.customer))) (sym (ne_eqb r.state 1 more)) ∙ was)))
-    (cases_eq r.state 1)
+    record { bought = rw (g, none) (omega arith); returned = omega arith }
+  where
+    never : (o : Option ℕ) → is_enrolled o ≡ false → o ≡ None
+    never None h = refl
+    never (Some w) h = absurd (true≢false h)
 
 -- of a customer w: what the row bought and gave back, with its customer and without
 none-of : (t s : Bool) (buys returns takes left had : ℕ) → buys ≡ 0 → returns ≡ 0 → cond t buys 0 + cond s returns 0 ≤ left + had + cond t (returns + takes) 0
@@ -91,10 +78,25 @@ own-of : (t : Bool) (buys adds returns takes left : ℕ) → (t ≡ true → add
 own-of true buys adds returns takes left most = let m = most refl in omega arith
 own-of false buys adds returns takes left most = omega arith
 
+-- without a granted enrolment the customer stays
+same-customer : (k : Kind) (g : Bool) (e : Enrolment) (c w : ℕ) → (g && same_kind k Enrol) ≡ false
+    → is_some_at (customer_of (cond (g && same_kind k Enrol) (Enrolled c) (cond (g && same_kind k Withdraw) (withdrawn_of e) e))) w ≡ is_some_at (customer_of e) w
+same-customer k g e c w none = rw none (by (g && same_kind k Withdraw) e)
+  where
+    by : (t : Bool) (x : Enrolment) → is_some_at (customer_of (cond t (withdrawn_of x) x)) w ≡ is_some_at (customer_of x) w
+    by false x = refl
+    by true Registered = refl
+    by true (Enrolled v) = refl
+    by true (Withdrawn v) = refl
+
+-- a device that is under the customer has no other
+owns : (o : Option ℕ) (w : ℕ) → is_some_at o w ≡ true → own_customer o ≡ w
+owns None w h = absurd (true≢false (sym h))
+owns (Some v) w h = eqb-true v w h
+
 pub ruled-can-pay : (b : Books) (r : DeviceRow) (q : Request) (bytes : List ℕ) → AreSound b → device_at b r.device ≡ Some r → CanPay b (ruled_in (in_books b) r q bytes)
 ruled-can-pay b r q bytes sound at = record {
-  owned = owned-after (λ w. IsSome (customer_at b w)) q.kind (is_granted v) r.state r.customer q.customer sound_r.state.0 (found-owned b r.device r sound at)
-      (λ g. (was-granted b r q g).left) (named-open b r q);
+  owned = customer-after (λ w. IsSome (customer_at b w)) q.kind (is_granted v) r.enrolment q.customer (found-owned b r.device r sound at) (named-open b r q);
   paid = λ w c is. subst (λ (o : Option DeviceRow). buys_in w (Some (ruled_in (in_books b) r q bytes)) + returns_in w o ≤ left_in b w + buys_in w o + returns_in w (Some (ruled_in (in_books b) r q bytes))) (sym at) (paid w);
 }
   where
@@ -109,8 +111,8 @@ ruled-can-pay b r q bytes sound at = record {
         (λ (t : (is_granted (verdict_in (in_books b) r q) && same_kind q.kind Enrol) ≡ true).
         let parts = and_parts (is_granted (verdict_in (in_books b) r q)) (same_kind q.kind Enrol) t in
         let none = fresh b r q sound_r parts.0 parts.1 in
-        none-of (customer_after r.customer (verdict_in (in_books b) r q) q == w) (r.customer == w) (r.buys + adds (verdict_in (in_books b) r q) q) r.returns (takes (verdict_in (in_books b) r q) q) (left_in b w) (buys_in w (Some r)) none.bought none.returned)
+        none-of (is_some_at (customer_of (enrolment_after r.enrolment v q)) w) (is_some_at (enrolled_in r) w) (r.buys + adds (verdict_in (in_books b) r q) q) r.returns (takes (verdict_in (in_books b) r q) q) (left_in b w) (buys_in w (Some r)) none.bought none.returned)
         (λ (t : (is_granted (verdict_in (in_books b) r q) && same_kind q.kind Enrol) ≡ false).
-        rw t (own-of (r.customer == w) r.buys (adds (verdict_in (in_books b) r q) q) r.returns (takes (verdict_in (in_books b) r q) q) (left_in b w)
-        (λ e. subst (λ u. adds (verdict_in (in_books b) r q) q ≤ left_in b u) (eqb-true r.customer w e) (adds-most b r q))))
+        rw (same-customer q.kind (is_granted v) r.enrolment q.customer w t) (own-of (is_some_at (enrolled_in r) w) r.buys (adds v q) r.returns (takes v q) (left_in b w)
+        (λ e. subst (λ u. adds v q ≤ left_in b u) (owns (enrolled_in r) w e) (adds-most b r q))))
         (cases_Bool (is_granted (verdict_in (in_books b) r q) && same_kind q.kind Enrol))

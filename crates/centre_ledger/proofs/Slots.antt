@@ -134,9 +134,8 @@ in-order = record {
 
 registered-sound : (d origin : ℕ) (key : List ℕ) → IsSoundDevice (registered_row d origin key)
 registered-sound d origin key = record {
-  state = (omega arith, omega arith);
-  registered = λ h. (refl, refl);
-  enrolled = λ h. absurd (omega arith);
+  registered = λ none. refl;
+  enrolled = tt;
   settled_le = omega arith;
   ruled_le = omega arith;
   returns_le = omega arith;
@@ -155,7 +154,6 @@ settled-sound : (r : DeviceRow) (number now : ℕ) → IsSoundDevice r → settl
 settled-sound r number now sound h =
     let same = settles r.settled r.ruled number now h in
     record {
-      state = sound.state;
       registered = sound.registered;
       enrolled = sound.enrolled;
       settled_le = omega arith;

@@ -1,6 +1,6 @@
 -- The acts of sound books leave sound books.
 use Rattle.std.proofs.Common.{◌≡◌, ℕ, ◌+◌, ◌≤◌, Bool, true, false, List, Option, Some, None, Ok, Err, cond, refl, sym, ap, subst, ◌∙◌, arith}
-use Rattle.std.specs.Prelude.{◌==◌, Result}
+use Rattle.std.specs.Prelude.{Result}
 use Rattle.bench_base.specs.Ranges.{IsCustomer, IsDevice, IsWord}
 use Rattle.bench_base.specs.Table.{IsBytes}
 use Rattle.bench_base.specs.declared.refusals.Unread.{Unread}
@@ -72,17 +72,10 @@ registered-sound : (b : Books) (d origin : ℕ) (key : List ℕ) → AreSound b 
 registered-sound b d origin key s in_d word None at =
     let r = registered_row d origin key in
     let can : CanPay b r = record {
-      owned = λ state. absurd (omega arith);
-      paid = λ w c h. let before : returns_in w (device_at b d) ≡ 0 = ap (returns_in w) at in let buys = no-money w in omega arith;
+      owned = tt;
+      paid = λ w c h. let before : returns_in w (device_at b d) ≡ 0 = ap (returns_in w) at in omega arith;
     } in
     (device-put b r s in_d word (sound.registered d origin key) can, refl)
-  where
-    no-money : (w : ℕ) → buys_in w (Some (registered_row d origin key)) ≡ 0
-    no-money w = nothing (0 == w)
-      where
-        nothing : (t : Bool) → cond {A = ℕ} t 0 0 ≡ 0
-        nothing true = refl
-        nothing false = refl
 registered-sound b d origin key s in_d word (Some r) at = tt
 
 stood-sound : (b : Books) (d : ℕ) (o : Option Standing) → LeavesSound b (stood_act d o)

@@ -6,7 +6,7 @@ use Rattle.centre_ledger.specs.declared.rows.DeviceRow.{DeviceRow}
 use Rattle.centre_ledger.specs.declared.rows.CustomerRow.{CustomerRow}
 use Rattle.centre_ledger.specs.declared.rows.Row.{Row}
 use Rattle.centre_ledger.specs.declared.rows.Row.TheVariants.{Device, Customer}
-use Rattle.centre_ledger.specs.Rows.{buys_in, returns_in}
+use Rattle.centre_ledger.specs.Rows.{enrolled_in, buys_in, returns_in}
 use Rattle.centre_ledger.specs.Soundness.{IsSoundDevice, IsSoundCustomer}
 
 -- a place for each device and each customer, in the order of their numbers, with its row where there is one
@@ -86,7 +86,7 @@ pub record ArePlaced (b : Books) : Type 0 where
 
 -- the customer of a device that was ever enrolled is open
 abbrev pub IsOwned : List (Option CustomerRow) → DeviceRow → Type 0
-IsOwned customers r = 2 ≤ r.state → IsSome (place_of customers r.customer)
+IsOwned customers r = IfSome (enrolled_in r) (λ w. IsSome (place_of customers w))
 
 -- the rows agree
 pub record AreJoined (b : Books) : Type 0 where

@@ -10,14 +10,25 @@ use Rattle.psd_wire.specs.declared.message.Request.{Request}
 use Rattle.psd_wire.specs.declared.message.ReplyMsg.{ReplyMsg}
 use Rattle.psd_wire.specs.Grammar.{IsCoded, IsWhole, spell, sum_size}
 use Rattle.centre_ledger.specs.declared.rows.DeviceRow.{DeviceRow}
+use Rattle.centre_ledger.specs.declared.rows.Enrolment.{Enrolment}
+use Rattle.centre_ledger.specs.declared.rows.Enrolment.TheVariants.{Registered, Enrolled, Withdrawn}
 use Rattle.centre_ledger.specs.Soundness.{IsSoundDevice}
-use Rattle.centre_ledger.specs.Payload.{state_byte, head_table, sums_table, request_size, reply_size, kept, request_part, reply_part, end_part, device_spelled, DeviceFits, IsOld}
+use Rattle.centre_ledger.specs.Payload.{state_number, customer_number, head_table, head, sums_table, request_size, reply_size, kept, request_part, reply_part, end_part, device_spelled, DeviceFits, IsOld}
 
 -- == the parts ==
 
 -- the state by its byte
 abbrev pub state_from : ℕ → ℕ → ℕ
 state_from version byte = if version == 1 then byte else byte - 16
+
+-- the enrolment by its number and its customer's; where another number stands, no row is spelled so
+abbrev pub enrolment_from : ℕ → ℕ → Enrolment
+enrolment_from state customer = if state == 2 then Enrolled customer else if state == 3 then Withdrawn customer else Registered
+
+-- the two are the numbers of the enrolment
+pub record IsToldBy (number own : ℕ) (e : Enrolment) : Type 0 where
+  pub state : state_number e ≡ number
+  pub customer : customer_number e ≡ own
 
 -- a row without its messages
 abbrev pub bare : DeviceRow → DeviceRow
@@ -26,8 +37,7 @@ bare r = record r { request = []; reply = [] }
 abbrev pub bare_from : ℕ → List ℕ → List ℕ → List ℕ → DeviceRow
 bare_from version hs key vs = record {
   device = get_or hs 0 0;
-  state = state_from version (get_or hs 1 0);
-  customer = get_or hs 2 0;
+  enrolment = enrolment_from (state_from version (get_or hs 1 0)) (get_or hs 2 0);
   origin = get_or hs 3 0;
   key = key;
   ruled = get_or vs 0 0;
@@ -56,9 +66,13 @@ reply_place version = request_place version + request_size version
 abbrev pub end_place : ℕ → ℕ
 end_place version = reply_place version + reply_size version
 
+-- the bytes begin with the row's device, state, customer and origin
+abbrev pub HeadIs : ℕ → DeviceRow → List ℕ → Type 0
+HeadIs version r bytes = values 0 head_table bytes ≡ head version r
+
 -- the parts, as they stand
 pub record Parts (version : ℕ) (r : DeviceRow) (bytes : List ℕ) : Type 0 where
-  pub state : get_or bytes 4 0 ≡ state_byte version r.state
+  pub head : HeadIs version r bytes
   pub fields : bare_at version bytes ≡ bare r
   pub request : take (request_size version) (drop (request_place version) bytes) ≡ request_part version r
   pub reply : take (reply_size version) (drop (reply_place version) bytes) ≡ reply_part version r

@@ -2,15 +2,28 @@
 use Rattle.std.specs.Prelude.{◌≡◌, ℕ, ◌+◌, ◌-◌, ◌<◌, ◌≤◌, ◌^◌, ◌⊎◌, Bool, List, [], ◌∷◌, ◌++◌, ◌==◌, if◌then◌else◌, length, take, get_or, replicate}
 use Rattle.bench_base.specs.Table.{Size, One, Four, Eight, row, Fit}
 use Rattle.psd_wire.specs.Grammar.{sum_size}
+use Rattle.ledger_terms.specs.Rulings.{own_customer}
 use Rattle.centre_ledger.specs.declared.rows.DeviceRow.{DeviceRow}
 use Rattle.centre_ledger.specs.declared.rows.CustomerRow.{CustomerRow}
+use Rattle.centre_ledger.specs.declared.rows.Enrolment.{Enrolment}
+use Rattle.centre_ledger.specs.declared.rows.Enrolment.TheVariants.{Registered, Enrolled, Withdrawn}
 use Rattle.centre_ledger.specs.declared.rows.Row.{Row}
 use Rattle.centre_ledger.specs.declared.rows.Row.TheVariants.{Device, Customer}
+use Rattle.centre_ledger.specs.Rows.{customer_of}
 use Rattle.centre_ledger.specs.Soundness.{IsSoundDevice, IsSoundCustomer}
 
 -- == the layout of a device's row ==
 
--- 1 registered, 2 enrolled, 3 withdrawn; in version 2 it is 16 more, so this byte tells the version
+abbrev pub state_number : Enrolment → ℕ
+state_number Registered = 1
+state_number (Enrolled w) = 2
+state_number (Withdrawn w) = 3
+
+-- 0 where the device was never enrolled
+abbrev pub customer_number : Enrolment → ℕ
+customer_number e = own_customer (customer_of e)
+
+-- in version 2 it is 16 more, so this byte tells the version
 abbrev pub state_byte : ℕ → ℕ → ℕ
 state_byte version state = if version == 1 then state else state + 16
 
@@ -19,7 +32,7 @@ abbrev pub head_table : List Size
 head_table = Four ∷ One ∷ Four ∷ Four ∷ []
 
 abbrev pub head : ℕ → DeviceRow → List ℕ
-head version r = r.device ∷ state_byte version r.state ∷ r.customer ∷ r.origin ∷ []
+head version r = r.device ∷ state_byte version (state_number r.enrolment) ∷ customer_number r.enrolment ∷ r.origin ∷ []
 
 -- ruled, settled, buys, returns
 abbrev pub sums_table : ℕ → List Size

@@ -9,7 +9,9 @@ use Rattle.ledger_terms.specs.Centres.{registered, enrolled, withdrawn, ruled, s
 use Rattle.ledger_terms.specs.Rulings.{stored_reply, payer, own_customer}
 use Rattle.centre_ledger.specs.declared.rows.DeviceRow.{DeviceRow}
 use Rattle.centre_ledger.specs.declared.rows.CustomerRow.{CustomerRow}
-use Rattle.centre_ledger.specs.Rows.{enrolled_in, is_suspended}
+use Rattle.centre_ledger.specs.declared.rows.Enrolment.{Enrolment}
+use Rattle.centre_ledger.specs.declared.rows.Enrolment.TheVariants.{Registered, Enrolled, Withdrawn}
+use Rattle.centre_ledger.specs.Rows.{enrolled_in, is_withdrawn, is_suspended}
 
 -- == the last ruling ==
 
@@ -30,18 +32,17 @@ note_or_none (Some note) = note
 
 -- == the rows ==
 
--- 1 registered, 2 enrolled, 3 withdrawn
-abbrev pub state_of : Option ℕ → Bool → ℕ
-state_of None gone = 1
-state_of (Some w) false = 2
-state_of (Some w) true = 3
+-- what became of a device, by the customer under which it was enrolled and by whether it was withdrawn
+abbrev pub enrolment_of : Option ℕ → Bool → Enrolment
+enrolment_of None gone = Registered
+enrolment_of (Some w) false = Enrolled w
+enrolment_of (Some w) true = Withdrawn w
 
 -- the row of device d after these commits, which is registered with this origin and key
 abbrev pub device_row_with : ℕ → List Commit → ℕ × List ℕ → DeviceRow
 device_row_with d C x = record {
   device = d;
-  state = state_of (enrolled d C) (withdrawn d C);
-  customer = own_customer (enrolled d C);
+  enrolment = enrolment_of (enrolled d C) (withdrawn d C);
   origin = x.0;
   key = x.1;
   ruled = ruled d C;
@@ -68,7 +69,7 @@ customer_row w C = if opened w C then Some (customer_row_with w C) else None
 pub record IsRowOf (r : DeviceRow) (C : List Commit) : Type 0 where
   pub registered : registered r.device C ≡ Some (r.origin, r.key)
   pub enrolled : enrolled r.device C ≡ enrolled_in r
-  pub withdrawn : withdrawn r.device C ≡ (r.state == 3)
+  pub withdrawn : withdrawn r.device C ≡ is_withdrawn r.enrolment
   pub ruled : ruled r.device C ≡ r.ruled
   pub settled : settled r.device C ≡ r.settled
   pub bought : bought r.device C ≡ r.buys
@@ -85,7 +86,7 @@ pub record IsCustomerOf (r : CustomerRow) (C : List Commit) : Type 0 where
 
 -- a device that is only registered
 abbrev pub registered_row : ℕ → ℕ → List ℕ → DeviceRow
-registered_row d origin key = record { device = d; state = 1; customer = 0; origin = origin; key = key; ruled = 0; settled = 0; buys = 0; returns = 0; request = []; reply = [] }
+registered_row d origin key = record { device = d; enrolment = Registered; origin = origin; key = key; ruled = 0; settled = 0; buys = 0; returns = 0; request = []; reply = [] }
 
 -- a customer without deposits
 abbrev pub opened_row : ℕ → CustomerRow

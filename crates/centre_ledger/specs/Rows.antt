@@ -1,25 +1,40 @@
 -- What the centre's rows tell, and what they become.
-use Rattle.std.specs.Prelude.{ℕ, ℤ, pos, ◌+◌, ◌+ℤ◌, Bool, false, ◌&&◌, List, Option, Some, None, Result, Ok, Err, is_some, ◌==◌, if◌then◌else◌}
-use Rattle.bench_base.specs.declared.words.Kind.{Kind}
+use Rattle.std.specs.Prelude.{◌≡◌, ℕ, ℤ, pos, ◌+◌, ◌+ℤ◌, Bool, true, false, ◌&&◌, List, Option, Some, None, Result, Ok, Err, is_some, if◌then◌else◌}
 use Rattle.bench_base.specs.declared.words.Kind.TheVariants.{Enrol, Withdraw}
 use Rattle.bench_base.specs.declared.words.Verdict.{Verdict}
 use Rattle.bench_base.specs.declared.words.Verdict.TheVariants.{Granted, NoFunds, Imbalance}
 use Rattle.bench_base.specs.Kinds.{same_kind, is_granted, is_dated}
+use Rattle.bench_base.specs.Ranges.{IsCustomer}
 use Rattle.psd_wire.specs.declared.message.Request.{Request}
 use Rattle.psd_wire.specs.declared.message.ReplyMsg.{ReplyMsg}
 use Rattle.psd_wire.specs.declared.message.Message.TheVariants as m
 use Rattle.psd_wire.specs.Grammar.{spell}
+use Rattle.ledger_terms.specs.Centres.{is_some_at}
 use Rattle.ledger_terms.specs.Sums.{adds, takes}
 use Rattle.bench_base.specs.declared.refusals.CentreRefusal.{CentreRefusal}
 use Rattle.ledger_terms.specs.Rulings.{Account, written_amount}
 use Rattle.centre_ledger.specs.declared.rows.DeviceRow.{DeviceRow}
 use Rattle.centre_ledger.specs.declared.rows.CustomerRow.{CustomerRow}
+use Rattle.centre_ledger.specs.declared.rows.Enrolment.{Enrolment}
+use Rattle.centre_ledger.specs.declared.rows.Enrolment.TheVariants.{Registered, Enrolled, Withdrawn}
 
--- == a ruling ==
+-- == an enrolment ==
 
 -- the customer of a device that was ever enrolled
+abbrev pub customer_of : Enrolment → Option ℕ
+customer_of Registered = None
+customer_of (Enrolled w) = Some w
+customer_of (Withdrawn w) = Some w
+
 abbrev pub enrolled_in : DeviceRow → Option ℕ
-enrolled_in r = if r.state == 1 then None else Some r.customer
+enrolled_in r = customer_of r.enrolment
+
+abbrev pub is_withdrawn : Enrolment → Bool
+is_withdrawn Registered = false
+is_withdrawn (Enrolled w) = false
+is_withdrawn (Withdrawn w) = true
+
+-- == a ruling ==
 
 abbrev pub is_suspended : Option CustomerRow → Bool
 is_suspended None = false
@@ -29,7 +44,7 @@ is_suspended (Some c) = c.suspended
 abbrev pub account : DeviceRow → Option CustomerRow → ℕ → Account
 account r c balance = record {
   enrolled = enrolled_in r;
-  withdrawn = r.state == 3;
+  withdrawn = is_withdrawn r.enrolment;
   bought = r.buys;
   returned = r.returns;
   opened = is_some c;
@@ -60,18 +75,23 @@ reply_by r v balance q = record {
   origin = r.origin;
 }
 
--- a granted enrolment enrols, a granted withdrawal withdraws
-abbrev pub state_after : ℕ → Verdict → Kind → ℕ
-state_after state v k = if is_granted v && same_kind k Enrol then 2 else if is_granted v && same_kind k Withdraw then 3 else state
+abbrev pub withdrawn_of : Enrolment → Enrolment
+withdrawn_of Registered = Registered
+withdrawn_of (Enrolled w) = Withdrawn w
+withdrawn_of (Withdrawn w) = Withdrawn w
 
-abbrev pub customer_after : ℕ → Verdict → Request → ℕ
-customer_after customer v q = if is_granted v && same_kind q.kind Enrol then q.customer else customer
+-- a granted enrolment enrols under the customer that it names, a granted withdrawal withdraws
+abbrev pub enrolment_after : Enrolment → Verdict → Request → Enrolment
+enrolment_after e v q = if is_granted v && same_kind q.kind Enrol then Enrolled q.customer else if is_granted v && same_kind q.kind Withdraw then withdrawn_of e else e
+
+-- an enrolment that is granted names a customer
+abbrev pub NamesCustomer : Verdict → Request → Type 0
+NamesCustomer v q = is_granted v ≡ true → same_kind q.kind Enrol ≡ true → IsCustomer q.customer
 
 -- a ruling settles the one before it
 abbrev pub ruled_row : DeviceRow → Verdict → ℕ → Request → List ℕ → DeviceRow
 ruled_row r v balance q note = record r {
-  state = state_after r.state v q.kind;
-  customer = customer_after r.customer v q;
+  enrolment = enrolment_after r.enrolment v q;
   ruled = q.number;
   settled = r.ruled;
   buys = r.buys + adds v q;
@@ -97,8 +117,8 @@ deposited_row r receipt amount (Ok (Some deposits)) = Ok (Some (record r { depos
 -- the buys of a row that is there and is the customer's
 abbrev pub buys_in : ℕ → Option DeviceRow → ℕ
 buys_in c None = 0
-buys_in c (Some r) = if r.customer == c then r.buys else 0
+buys_in c (Some r) = if is_some_at (enrolled_in r) c then r.buys else 0
 
 abbrev pub returns_in : ℕ → Option DeviceRow → ℕ
 returns_in c None = 0
-returns_in c (Some r) = if r.customer == c then r.returns else 0
+returns_in c (Some r) = if is_some_at (enrolled_in r) c then r.returns else 0

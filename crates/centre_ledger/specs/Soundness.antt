@@ -1,5 +1,5 @@
 -- What holds of each row that the centre keeps. Amounts are in mills.
-use Rattle.std.specs.Prelude.{◌≡◌, ℕ, ◌+◌, ◌^◌, ◌<◌, ◌≤◌, ◌↔◌, true, List, [], Option, Some, None, Ok}
+use Rattle.std.specs.Prelude.{◌≡◌, ℕ, ◌+◌, ◌^◌, ◌<◌, ◌≤◌, ◌↔◌, true, List, [], Option, Some, None, IfSome, Ok}
 use Rattle.bench_base.specs.declared.words.Kind.TheVariants.{Reset}
 use Rattle.bench_base.specs.declared.words.Verdict.{Verdict}
 use Rattle.bench_base.specs.Kinds.{same_kind, empties, is_granted}
@@ -31,11 +31,9 @@ pub record IsRuling (r : DeviceRow) (q : Request) (p : ReplyMsg) : Type 0 where
   pub returns : r.ruled ≡ r.settled + 1 → is_granted p.verdict ≡ true → empties p.kind ≡ true → p.amount ≤ r.returns
 
 pub record IsSoundDevice (r : DeviceRow) : Type 0 where
-  -- 1 registered, 2 enrolled, 3 withdrawn
-  pub state : (1 ≤ r.state) × (r.state ≤ 3)
-  -- a device that is only registered has no customer and bought nothing
-  pub registered : r.state ≡ 1 → (r.customer ≡ 0) × (r.buys ≡ 0)
-  pub enrolled : 2 ≤ r.state → IsCustomer r.customer
+  -- a device that was never enrolled bought nothing
+  pub registered : enrolled_in r ≡ None → r.buys ≡ 0
+  pub enrolled : IfSome (enrolled_in r) IsCustomer
   pub settled_le : r.settled ≤ r.ruled
   pub ruled_le : r.ruled ≤ r.settled + 1
   pub returns_le : r.returns ≤ r.buys

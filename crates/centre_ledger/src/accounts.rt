@@ -9,7 +9,7 @@ ghost use Rattle.centre_ledger.specs.Books.{no_rows, device_at, customer_at, lef
 
 use crate::balances::Balances;
 use crate::ready_row::{ReadyRow, keep, plain};
-use crate::rows::{CustomerRow, DeviceRow, REGISTERED, Row};
+use crate::rows::{CustomerRow, DeviceRow, Row};
 use bench_base::numbers::Customer;
 use std::marker::Model;
 
@@ -37,7 +37,10 @@ fn is_owned(row: &DeviceRow, customers: &[Option<CustomerRow>; 64]) -> bool
     requires { IsSoundDevice row.now }
     ensures { IsTrue result ↔ IsOwned customers.now row.now }
 {
-    row.state == REGISTERED || customers[row.customer as usize - 1].is_some()
+    match row.enrolment.customer() {
+        Some(customer) => customers[customer.get() as usize - 1].is_some(),
+        None => true,
+    }
 }
 
 fn are_owned(devices: &[Option<DeviceRow>; 8], customers: &[Option<CustomerRow>; 64]) -> bool
@@ -63,7 +66,7 @@ fn give_back(balances: &mut Balances, slot: &Option<DeviceRow>)
     ensures given { (w : ℕ) → IsCustomer w → kept_at balances.new w ≡ kept_at balances.old w + spent_in w slot.now }
 {
     if let Some(row) = slot {
-        if let Some(customer) = Customer::new(row.customer) {
+        if let Some(customer) = row.enrolment.customer() {
             balances.add(customer, row.buys - row.returns);
         }
     }
@@ -76,7 +79,7 @@ fn charge(balances: &mut Balances, row: &DeviceRow)
     ensures size { length balances.new ≡ length balances.old }
     ensures taken { (w : ℕ) → IsCustomer w → kept_at balances.new w + spent_in w (Some row.now) ≡ kept_at balances.old w }
 {
-    if let Some(customer) = Customer::new(row.customer) {
+    if let Some(customer) = row.enrolment.customer() {
         balances.take(customer, row.buys - row.returns);
     }
 }

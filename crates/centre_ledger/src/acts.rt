@@ -6,7 +6,7 @@ ghost use Rattle.centre_ledger.specs.Records as records;
 ghost use Rattle.centre_ledger.specs.Soundness.{IsSoundCustomer};
 
 use crate::accounts::Accounts;
-use crate::rows::{CustomerRow, DeviceRow, REGISTERED, Row};
+use crate::rows::{CustomerRow, DeviceRow, Enrolment, Row};
 use crate::settling::deposited;
 use crate::standing::{Standing, standing_of};
 use bench_base::bytes::Note;
@@ -43,8 +43,7 @@ fn registered_row(device: DevNo, origin: u32, key: &Key) -> DeviceRow
 {
     DeviceRow {
         device,
-        state: REGISTERED,
-        customer: 0,
+        enrolment: Enrolment::Registered,
         origin,
         key: *key,
         ruled: 0,

@@ -26,7 +26,7 @@ pub use balances::{Balances, balance_of};
 pub use laws::{acts_follow_the_commits, one_row, rows_follow_the_commits};
 pub use ready_row::ReadyRow;
 pub use replies::ruled;
-pub use rows::{CustomerRow, DeviceRow, ENROLLED, REGISTERED, Row, WITHDRAWN};
+pub use rows::{CustomerRow, DeviceRow, Enrolment, Row};
 pub use rulings::verdict;
 pub use settling::{deposited, is_repeat, settled};
 pub use standing::Standing;

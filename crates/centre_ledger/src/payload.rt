@@ -3,20 +3,23 @@ ghost use Rattle.std.specs.Prelude.{◌≡◌, ◌≤◌, ◌++◌, ◌+◌, IfS
 ghost use Rattle.bench_base.specs.Rules.{IsVersion};
 ghost use Rattle.bench_base.specs.Table.{Fit, bytes_in};
 ghost use Rattle.psd_wire.specs.Grammar.{sum_size};
+ghost use Rattle.bench_base.specs.Ranges.{IsCustomer};
 ghost use Rattle.centre_ledger.specs.declared.rows.DeviceRow.{DeviceRow as TheRow};
+ghost use Rattle.centre_ledger.specs.declared.rows.Enrolment.{Enrolment as TheEnrolment};
 ghost use Rattle.centre_ledger.specs.Soundness.{IsSoundDevice};
 ghost use Rattle.centre_ledger.specs.Payload as layout;
-ghost use Rattle.centre_ledger.specs.Payload.{DeviceReadsAs, device_bytes, filled, request_size, reply_size};
-ghost use Rattle.centre_ledger.specs.Parts.{bare, bare_at, state_from, sum_at, KeepMessages, IsSpelling};
+ghost use Rattle.centre_ledger.specs.Rows.{customer_of, enrolled_in};
+ghost use Rattle.centre_ledger.specs.Payload.{DeviceReadsAs, device_bytes, filled, request_size, reply_size, state_byte};
+ghost use Rattle.centre_ledger.specs.Parts.{bare, bare_at, sum_at, HeadIs, IsToldBy, KeepMessages, IsSpelling};
 
 use crate::messages::{reply_front, request_front, stored, uncoded};
 use crate::page::{is_zero, put};
 use crate::ready_row::{ReadyRow, plain};
-use crate::rows::DeviceRow;
+use crate::rows::{DeviceRow, Enrolment};
 use crate::soundness::is_sound_device;
 use bench_base::bytes::Note;
 use bench_base::fields::{put_u32, put_u64, u32_at, u64_at};
-use bench_base::numbers::DevNo;
+use bench_base::numbers::{Customer, DevNo};
 use bench_base::words::Key;
 use hmac_core::ReadyKey;
 
@@ -67,7 +70,7 @@ fn read_first(device: DevNo, payload: &[u8]) -> Option<ReadyRow>
     ensures found { IfSome result (λ r. (r.device ≡ device) × IsSpelling 1 payload.now r) }
     ensures none { IfNone result ((r : TheRow) → r.device ≡ device → IsSpelling 1 payload.now r → ⊥) }
 {
-    let Some(row) = bare_row(device, 1, payload) else {
+    let Some(row) = bare_row(device, 1, payload[4], payload) else {
         return None;
     };
     if !is_zero(&payload[188..192]) {
@@ -83,7 +86,7 @@ fn read_second(device: DevNo, payload: &[u8]) -> Option<ReadyRow>
     ensures found { IfSome result (λ r. (r.device ≡ device) × IsSpelling 2 payload.now r) }
     ensures none { IfNone result ((r : TheRow) → r.device ≡ device → IsSpelling 2 payload.now r → ⊥) }
 {
-    let Some(row) = bare_row(device, 2, payload) else {
+    let Some(row) = bare_row(device, 2, payload[4] - 16, payload) else {
         return None;
     };
     if !is_zero(&payload[152..192]) {
@@ -92,23 +95,42 @@ fn read_second(device: DevNo, payload: &[u8]) -> Option<ReadyRow>
     with_messages(&row, 2, &payload[69..124], &payload[124..152])
 }
 
-// The row of the device without its messages, where the bytes are of that device.
-fn bare_row(device: DevNo, version: u8, payload: &[u8]) -> Option<DeviceRow>
+// What a state and the number of a customer tell together; None exactly where they are those of no enrolment.
+fn enrolment_of(state: u8, customer: u32) -> Option<Enrolment>
+    ensures found { IfSome result (IsToldBy state customer) }
+    ensures none { IfNone result ((e : TheEnrolment) → IfSome (customer_of e) IsCustomer → IsToldBy state customer e → ⊥) }
+{
+    match Customer::new(customer) {
+        Some(customer) => match state {
+            2 => Some(Enrolment::Enrolled(customer)),
+            3 => Some(Enrolment::Withdrawn(customer)),
+            _ => None,
+        },
+        None if state == 1 && customer == 0 => Some(Enrolment::Registered),
+        None => None,
+    }
+}
+
+// The row of the device without its messages, where the bytes begin as those of a row of that device.
+fn bare_row(device: DevNo, version: u8, state: u8, payload: &[u8]) -> Option<DeviceRow>
     requires long { length payload.now ≡ 192 }
     requires version { IsVersion version }
-    ensures found { IfSome result (λ r. (r ≡ bare_at version payload.now) × (r.device ≡ device)) }
-    ensures none { IfNone result ((bare_at version payload.now).device ≡ device → ⊥) }
+    requires state { state_byte version state ≡ get_or payload.now 4 0 }
+    ensures found { IfSome result (λ r. (r ≡ bare_at version payload.now) × (r.device ≡ device) × HeadIs version r payload.now) }
+    ensures none { IfNone result ((r : TheRow) → r.device ≡ device → IfSome (enrolled_in r) IsCustomer → HeadIs version r payload.now → ⊥) }
 {
     if u32_at(payload, 0) != device.get() {
         return None;
     }
+    let Some(enrolment) = enrolment_of(state, u32_at(payload, 5)) else {
+        return None;
+    };
     let (buys, returns) = sums_at(version, payload);
     let mut key = [0; 32];
     key.copy_from_slice(&payload[13..45]);
     Some(DeviceRow {
         device,
-        state: state_of(version, payload[4]),
-        customer: u32_at(payload, 5),
+        enrolment,
         origin: u32_at(payload, 9),
         key,
         ruled: u32_at(payload, 45),
@@ -118,16 +140,6 @@ fn bare_row(device: DevNo, version: u8, payload: &[u8]) -> Option<DeviceRow>
         request: Note::of(&[]),
         reply: Note::of(&[]),
     })
-}
-
-fn state_of(version: u8, byte: u8) -> u8
-    ensures { result ≡ state_from version byte }
-{
-    if version == 1 {
-        byte
-    } else {
-        byte.saturating_sub(16)
-    }
 }
 
 // Buys and returns, in four bytes each in version 1 and in eight in version 2.
@@ -177,16 +189,37 @@ fn with_messages(row: &DeviceRow, version: u8, request: &[u8], reply: &[u8]) -> 
     }
 }
 
+// 1 registered, 2 enrolled, 3 withdrawn.
+fn state_number(enrolment: Enrolment) -> u8
+    ensures exact { result ≡ layout.state_number enrolment }
+    ensures low { result ≤ 3 }
+{
+    match enrolment {
+        Enrolment::Registered => 1,
+        Enrolment::Enrolled(_) => 2,
+        Enrolment::Withdrawn(_) => 3,
+    }
+}
+
+// The customer's number, and 0 where there is none.
+fn customer_number(enrolment: Enrolment) -> u32
+    ensures { result ≡ layout.customer_number enrolment }
+{
+    match enrolment.customer() {
+        Some(customer) => customer.get(),
+        None => 0,
+    }
+}
+
 #[tactic(auto, unfolding(bench_base::specs::Table::spelled, crate::specs::Payload::head_part))]
 fn head_bytes(row: &DeviceRow) -> [u8; 13]
-    requires { row.now.state ≤ 3 }
     ensures value { result ≡ layout.head_part 2 row.now }
     ensures fits { Fit layout.head_table (layout.head 2 row.now) }
 {
     let mut bytes = [0; 13];
-    let (customer, origin) = (row.customer, row.origin);
+    let (customer, origin) = (customer_number(row.enrolment), row.origin);
     put_u32(&mut bytes, 0, row.device.get());
-    bytes[4] = row.state + 16;
+    bytes[4] = state_number(row.enrolment) + 16;
     put_u32(&mut bytes, 5, customer);
     put_u32(&mut bytes, 9, origin);
     bytes

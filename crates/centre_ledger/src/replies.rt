@@ -10,8 +10,9 @@ ghost use Rattle.centre_ledger.specs.Rows as rows;
 ghost use Rattle.centre_ledger.specs.Rows.{ruled_row};
 ghost use Rattle.centre_ledger.specs.Soundness.{IsSoundDevice, IsNext, IsVerdict};
 
-use crate::rows::{DeviceRow, ENROLLED, WITHDRAWN};
+use crate::rows::{DeviceRow, Enrolment};
 use bench_base::bytes::Note;
+use bench_base::numbers::Customer;
 use bench_base::words::{Kind, Verdict};
 use hmac_core::ReadyKey;
 use psd_wire::{Message, ReplyMsg, Request, read_message, write_message_by};
@@ -77,25 +78,31 @@ fn reply_by(row: &DeviceRow, verdict: Verdict, balance: u64, request: &Request) 
     }
 }
 
-#[tactic(auto, unfolding(bench_base::specs::Kinds::same_kind))]
-fn state_after(state: u8, verdict: Verdict, kind: Kind) -> u8
-    ensures { result ≡ rows.state_after state verdict kind }
+fn withdrawn(before: Enrolment) -> Enrolment
+    ensures { result ≡ rows.withdrawn_of before }
 {
-    match kind {
-        Kind::Enrol if is_granted(verdict) => ENROLLED,
-        Kind::Withdraw if is_granted(verdict) => WITHDRAWN,
-        _ => state,
+    match before.customer() {
+        Some(customer) => Enrolment::Withdrawn(customer),
+        None => Enrolment::Registered,
     }
 }
 
+// A granted enrolment names a customer.
 #[tactic(auto, unfolding(bench_base::specs::Kinds::same_kind))]
-fn customer_after(customer: u32, verdict: Verdict, request: &Request) -> u32
-    ensures { result ≡ rows.customer_after customer verdict request.now }
+fn enrolment_after(before: Enrolment, verdict: Verdict, request: &Request) -> Enrolment
+    requires { rows.NamesCustomer verdict request.now }
+    ensures { result ≡ rows.enrolment_after before verdict request.now }
 {
-    if is_granted(verdict) && matches!(request.kind, Kind::Enrol) {
-        request.customer
-    } else {
-        customer
+    if !is_granted(verdict) {
+        return before;
+    }
+    match request.kind {
+        Kind::Enrol => match Customer::new(request.customer) {
+            Some(customer) => Enrolment::Enrolled(customer),
+            None => unreachable!(),
+        },
+        Kind::Withdraw => withdrawn(before),
+        Kind::Reset | Kind::Audit | Kind::Refund => before,
     }
 }
 
@@ -145,8 +152,7 @@ pub fn ruled_on(
     let reply = Message::Reply(reply_by(row, verdict, balance, request));
     DeviceRow {
         device: row.device,
-        state: state_after(row.state, verdict, request.kind),
-        customer: customer_after(row.customer, verdict, request),
+        enrolment: enrolment_after(row.enrolment, verdict, request),
         origin: row.origin,
         key: row.key,
         ruled: request.number,

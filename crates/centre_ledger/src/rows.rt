@@ -1,23 +1,39 @@
 //! The rows that the centre keeps: one of each device, and one of each customer. Amounts are in mills.
+ghost use Rattle.std.specs.Prelude.{◌≡◌};
+ghost use Rattle.centre_ledger.specs.Rows as of_rows;
+
 use bench_base::bytes::Note;
 use bench_base::numbers::{Customer, DevNo};
 use bench_base::words::Key;
 
-/// The state of a device that is registered and was never enrolled.
-pub const REGISTERED: u8 = 1;
-/// The state of a device that is enrolled.
-pub const ENROLLED: u8 = 2;
-/// The state of a device whose withdrawal was granted.
-pub const WITHDRAWN: u8 = 3;
+/// What became of a device that is registered.
+#[derive(Clone, Copy)]
+pub enum Enrolment {
+    /// It was never enrolled.
+    Registered,
+    /// It is enrolled under this customer.
+    Enrolled(Customer),
+    /// It was enrolled under this customer, and its withdrawal was granted.
+    Withdrawn(Customer),
+}
+
+impl Enrolment {
+    /// The customer of a device that was ever enrolled.
+    pub fn customer(&self) -> Option<Customer>
+        ensures { result ≡ of_rows.customer_of self.now }
+    {
+        match self {
+            Enrolment::Registered => None,
+            Enrolment::Enrolled(customer) | Enrolment::Withdrawn(customer) => Some(*customer),
+        }
+    }
+}
 
 /// What the centre keeps of a device.
 #[derive(Clone, Copy)]
 pub struct DeviceRow {
     pub device: DevNo,
-    /// `REGISTERED`, `ENROLLED` or `WITHDRAWN`.
-    pub state: u8,
-    /// The customer under which the device is enrolled, 1 to 64; 0 until then.
-    pub customer: u32,
+    pub enrolment: Enrolment,
     pub origin: u32,
     pub key: Key,
     /// The greatest number that was ruled on.

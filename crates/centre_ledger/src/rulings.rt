@@ -11,7 +11,7 @@ ghost use Rattle.centre_ledger.specs.Rows as rows;
 ghost use Rattle.centre_ledger.specs.Rows.{account};
 ghost use Rattle.centre_ledger.specs.Soundness.{IsSoundDevice};
 
-use crate::rows::{CustomerRow, DeviceRow, ENROLLED, REGISTERED};
+use crate::rows::{CustomerRow, DeviceRow, Enrolment};
 use bench_base::words::{Kind, Verdict};
 use psd_wire::Request;
 
@@ -103,10 +103,10 @@ pub fn verdict(
 {
     let enrol = is_enrol(request.kind);
     let reset = is_reset(request.kind);
-    if !enrol && row.state != ENROLLED {
+    if !enrol && !matches!(row.enrolment, Enrolment::Enrolled(_)) {
         return Verdict::NotEnrolled;
     }
-    if enrol && row.state != REGISTERED {
+    if enrol && !matches!(row.enrolment, Enrolment::Registered) {
         return Verdict::EnrolledAlready;
     }
     if is_out_of_balance(request, row.buys, row.returns) {

@@ -1,13 +1,14 @@
 //! Whether a row that was read meets its conditions.
-ghost use Rattle.std.specs.Prelude.{◌≡◌, ◌↔◌, ◌≤◌, IsTrue};
+ghost use Rattle.std.specs.Prelude.{◌≡◌, ◌↔◌, IfSome, IsTrue, None};
 ghost use Rattle.bench_base.specs.Ranges.{IsCustomer};
 ghost use Rattle.psd_wire.specs.declared.message.Request.{Request as TheRequest};
 ghost use Rattle.psd_wire.specs.declared.message.ReplyMsg.{ReplyMsg as TheReply};
 ghost use Rattle.centre_ledger.specs.Parts as parts;
 ghost use Rattle.centre_ledger.specs.Parts.{IsSpelled, HasMessages, IsAnswer, IsCovered};
+ghost use Rattle.centre_ledger.specs.Rows.{customer_of};
 ghost use Rattle.centre_ledger.specs.Soundness.{IsRuling, IsSoundDevice, IsSoundCustomer};
 
-use crate::rows::{CustomerRow, DeviceRow, ENROLLED, REGISTERED, WITHDRAWN};
+use crate::rows::{CustomerRow, DeviceRow, Enrolment};
 use crate::settling::{DEPOSIT_LIMIT, DEPOSITS_LIMIT};
 use bench_base::refusals::Unread;
 use bench_base::words::{Kind, Verdict};
@@ -18,7 +19,7 @@ pub fn is_sound_device(row: &DeviceRow) -> bool
     requires { HasMessages row.now }
     ensures { IsTrue result ↔ IsSoundDevice row.now }
 {
-    is_state_right(row.state, row.customer, row.buys)
+    is_enrolment_right(row.enrolment, row.buys)
         && row.settled <= row.ruled
         && row.ruled - row.settled <= 1
         && row.returns <= row.buys
@@ -37,14 +38,13 @@ pub fn is_sound_customer(row: &CustomerRow) -> bool
         && (row.amount == 0) == is_new
 }
 
-// A device that is only registered has no customer and bought nothing.
-fn is_state_right(state: u8, customer: u32, buys: u64) -> bool
-    ensures { IsTrue result ↔ (((1 ≤ state) × (state ≤ 3)) × (state ≡ 1 → (customer ≡ 0) × (buys ≡ 0)) × (2 ≤ state → IsCustomer customer)) }
+// A device that was never enrolled bought nothing.
+fn is_enrolment_right(enrolment: Enrolment, buys: u64) -> bool
+    ensures { IsTrue result ↔ ((customer_of enrolment ≡ None → buys ≡ 0) × IfSome (customer_of enrolment) IsCustomer) }
 {
-    match state {
-        REGISTERED => customer == 0 && buys == 0,
-        ENROLLED | WITHDRAWN => 1 <= customer && customer <= 64,
-        _ => false,
+    match enrolment {
+        Enrolment::Registered => buys == 0,
+        Enrolment::Enrolled(_) | Enrolment::Withdrawn(_) => true,
     }
 }
 

@@ -14,7 +14,7 @@ ghost use Rattle.centre_ledger.specs.Standing as stands;
 use crate::accounts::Accounts;
 use crate::acts::CentreAct;
 use crate::replies::ruled_on;
-use crate::rows::{DeviceRow, REGISTERED, Row};
+use crate::rows::{DeviceRow, Row};
 use crate::rulings::verdict;
 use crate::settling::{is_repeat, settled};
 use crate::standing::ruling_in;
@@ -56,10 +56,9 @@ fn is_own_code(bytes: &[u8], key: &ReadyKey) -> bool
 fn own_customer(row: &DeviceRow) -> u32
     ensures { result ≡ rulings.own_customer (enrolled_in row.now) }
 {
-    if row.state == REGISTERED {
-        0
-    } else {
-        row.customer
+    match row.enrolment.customer() {
+        Some(customer) => customer.get(),
+        None => 0,
     }
 }
 

@@ -3,7 +3,7 @@ ghost use Rattle.centre_ledger.specs.Soundness.{IsSoundDevice};
 
 use crate::checks::{holds, holds_at};
 use bench_base::numbers::{Customer, DevNo};
-use centre_ledger::{CustomerRow, DeviceRow};
+use centre_ledger::{CustomerRow, DeviceRow, Enrolment};
 use std::process::Abort;
 
 /// Device 1, registered and never enrolled.
@@ -251,9 +251,12 @@ fn rows_of_both_versions(rt: HostRuntime) {
     );
 }
 
-// State, customer and origin of a row.
-fn head_of(row: &DeviceRow) -> (u8, u32, u32) {
-    (row.state, row.customer, row.origin)
+// The customer under which the device of a row is enrolled, 0 where it isn't, and its origin.
+fn head_of(row: &DeviceRow) -> (u32, u32) {
+    match row.enrolment {
+        Enrolment::Enrolled(customer) => (customer.get(), row.origin),
+        Enrolment::Registered | Enrolment::Withdrawn(_) => (0, row.origin),
+    }
 }
 
 // Its numbers, and its money.
@@ -271,8 +274,8 @@ fn fields_of_a_row(rt: HostRuntime) {
     let reset = row(&rt, &RESET);
     holds(
         &rt,
-        head_of(&reset) == (2, 1, 94_105),
-        "state, customer and origin",
+        head_of(&reset) == (1, 94_105),
+        "enrolled under customer 1, and origin",
     );
     holds(
         &rt,

@@ -1,13 +1,13 @@
-use Rattle.std.proofs.Common.{sym, ap, ◌∙◌, arith, true≢false, inr}
+use Rattle.std.proofs.Common.{sym, ap, ◌∙◌, arith, true≢false}
 use Rattle.bench_base.proofs.Facts.{none-by}
 use Rattle.centre_ledger.specs.declared.rows.DeviceRow.{DeviceRow}
 use Rattle.centre_ledger.proofs.Fields.{zeros-behind}
-use Rattle.centre_ledger.proofs.Reading.{both-found, bare-again, parts-made, spelling-made, spells, device-is, end-is, not-missed}
+use Rattle.centre_ledger.proofs.Reading.{both-found, bare-again, parts-made, spelling-made, spells, head-is, end-is, not-missed}
 use Rattle.centre_ledger.proofs.payload.read_second.Goals as goal
 
 pub returns-in_default-clause-none : goal.returns-in_default-clause-none
 returns-in_default-clause-none c =
-    λ r d h. c.in_default.ensures.none (device-is 2 c.args.payload.now r (spells 2 c.args.payload.now r (omega arith, omega arith) h) h.reads c.args.device d)
+    λ r d h. c.in_default.ensures.none r d h.sound.enrolled (head-is 2 c.args.payload.now r (spells 2 c.args.payload.now r (omega arith, omega arith) h) h.reads)
 
 pub returns-then-not-is_zero-clause-none : goal.returns-then-not-is_zero-clause-none
 returns-then-not-is_zero-clause-none c =
@@ -26,7 +26,7 @@ returns-clause-found c =
     (λ r found sound. (
       ap (λ (x : DeviceRow). x.device) found.0 ∙ row.1,
       spelling-made 2 c.args.payload.now r (omega arith, omega arith) c.requires.long (λ i. omega (arith, c.type_inv.payload i)) sound
-          (parts-made 2 c.args.payload.now c.in-Some.row r (inr c.requires.state) row.0 found.0 found.1 end),
+          (parts-made 2 c.args.payload.now c.in-Some.row r row.0 row.2 found.0 found.1 end),
     )) c.with_messages.ensures.found c.with_messages.ensures.sound
 
 pub returns-clause-none : goal.returns-clause-none

@@ -4,7 +4,7 @@ use Rattle.psd_wire.specs.declared.message.Message.TheVariants as m
 use Rattle.psd_wire.specs.Grammar.{IsWhole, spell}
 use Rattle.centre_ledger.specs.Soundness.{IsSoundDevice}
 use Rattle.centre_ledger.specs.Rows.{ruled_row}
-use Rattle.centre_ledger.proofs.Keeping.{reply-whole, sums-after, ruled-sound}
+use Rattle.centre_ledger.proofs.Keeping.{names-customer, reply-whole, sums-after, ruled-sound}
 use Rattle.centre_ledger.proofs.replies.ruled_on.Goals as goal
 
 pub write_message_by-requires : goal.write_message_by-requires
@@ -14,6 +14,9 @@ write_message_by-requires c =
     let same : c.reply_by.result.origin ≡ c.args.row.now.origin = ap (λ (p : ReplyMsg). p.origin) c.reply_by.ensures in
     subst (λ (p : ReplyMsg). IsWhole (m.Reply p)) (sym c.reply_by.ensures)
     (reply-whole c.args.row.now c.args.verdict c.args.balance c.args.request.now c.requires.sound (omega arith) c.requires.whole c.requires.verdict)
+
+pub enrolment_after-requires : goal.enrolment_after-requires
+enrolment_after-requires c = names-customer c.args.row.now c.args.verdict c.args.balance c.args.request.now c.requires.verdict
 
 pub returns-clause-sound : goal.returns-clause-sound
 returns-clause-sound c =
@@ -27,8 +30,7 @@ returns-clause-sound c =
     let returns = ap (λ n. r.returns + n) c.takes.ensures.exact in
     let same : ruled_row r c.args.verdict c.args.balance q c.args.bytes.now ≡ _ = λ i. record {
       device = r.device;
-      state = sym c.state_after.ensures i;
-      customer = sym c.customer_after.ensures i;
+      enrolment = sym c.enrolment_after.ensures i;
       origin = r.origin;
       key = r.key;
       ruled = q.number;
