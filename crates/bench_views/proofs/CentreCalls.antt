@@ -55,6 +55,7 @@ use Rattle.node_acts.specs.declared.asked.Asked.TheVariants.{On, Off, Cut, Call}
 use Rattle.bench_views.specs.declared.calls.CentreCall.{CentreCall}
 use Rattle.bench_views.specs.declared.calls.CentreCall.TheVariants as call
 use Rattle.bench_views.specs.declared.taken.Taken.TheVariants as take
+use Rattle.bench_views.specs.declared.taken.Work.TheVariants as work
 use Rattle.bench_views.specs.Taken as takes
 use Rattle.bench_views.specs.Taken.{taken}
 use Rattle.bench_views.specs.Tariff.{Quote}
@@ -174,11 +175,11 @@ call_quiet (call.Take c) b = quiet_says r.CentreRefused (told.told_taken c.messa
 -- == what it is handed ==
 
 -- a message for a device that there can't be
-for_nobody : (bytes : List ℕ) (k : ℕ) (asked : Asked CentreCall) (d : ℕ) (t : Bool) → (if t then takes.to_device d bytes k else takes.to_centre bytes k) ≡ take.Centre asked → asked ≡ Call (call.Take (record { bytes = bytes; message = k }))
+for_nobody : (bytes : List ℕ) (k : ℕ) (asked : Asked CentreCall) (d : ℕ) (t : Bool) → (if t then takes.to_device d bytes k else takes.to_centre bytes k) ≡ take.Work (work.Centre asked) → asked ≡ Call (call.Take (record { bytes = bytes; message = k }))
 for_nobody bytes k asked d true is = cc
 for_nobody bytes k asked d false is = cc
 
-delivered_asked : (bytes : List ℕ) (k : ℕ) (asked : Asked CentreCall) (x : Result Message Unread) → takes.delivered_as bytes k x ≡ take.Centre asked → asked ≡ Call (call.Take (record { bytes = bytes; message = k }))
+delivered_asked : (bytes : List ℕ) (k : ℕ) (asked : Asked CentreCall) (x : Result Message Unread) → takes.delivered_as bytes k x ≡ take.Work (work.Centre asked) → asked ≡ Call (call.Take (record { bytes = bytes; message = k }))
 delivered_asked bytes k asked (Ok (m.Request q)) is = cc
 delivered_asked bytes k asked (Ok (m.Done q)) is = cc
 delivered_asked bytes k asked (Err x) is = cc
@@ -187,10 +188,10 @@ delivered_asked bytes k asked (Ok (m.Reply p)) is = for_nobody bytes k asked p.d
 delivered_asked bytes k asked (Ok (m.Debit q)) is = for_nobody bytes k asked q.device (nat_le 1 q.device && nat_le q.device 8) is
 
 -- a message that was sent names a device, and is none for the centre where it is for one
-not_centre : {P : Type 0} (d : ℕ) (bytes : List ℕ) (k : ℕ) (asked : Asked CentreCall) → IsDevice d → takes.for_device d bytes k ≡ take.Centre asked → P
-not_centre {P} d bytes k asked own is = by (subst (λ (t : Bool). (if t then takes.to_device d bytes k else takes.to_centre bytes k) ≡ take.Centre asked) (one_of_eight d own) is)
+not_centre : {P : Type 0} (d : ℕ) (bytes : List ℕ) (k : ℕ) (asked : Asked CentreCall) → IsDevice d → takes.for_device d bytes k ≡ take.Work (work.Centre asked) → P
+not_centre {P} d bytes k asked own is = by (subst (λ (t : Bool). (if t then takes.to_device d bytes k else takes.to_centre bytes k) ≡ take.Work (work.Centre asked)) (one_of_eight d own) is)
   where
-    by : takes.to_device d bytes k ≡ take.Centre asked → P
+    by : takes.to_device d bytes k ≡ take.Work (work.Centre asked) → P
     by same = cc
 
 -- == at a ledger ==
@@ -282,7 +283,7 @@ module _ (H : Ledger) (known : IsKnown (seen_in (counted H))) (are : AreBooksOf 
       ap (λ (k : ℕ). at_node Centre H (take_plan k bytes C)) (sym (sent_many H)) ∙ at (told.told_taken (length (sent_in H))) (acts.take_by bytes) (take_good bytes is)
 
   -- a message that is delivered to the centre
-  delivered : (today : ℤ) (bytes : List ℕ) (k : ℕ) (asked : Asked CentreCall) (x : Message) → IsAddressed x → takes.delivered_as bytes k (Ok x) ≡ take.Centre asked
+  delivered : (today : ℤ) (bytes : List ℕ) (k : ℕ) (asked : Asked CentreCall) (x : Message) → IsAddressed x → takes.delivered_as bytes k (Ok x) ≡ take.Work (work.Centre asked)
       → deliver_to todays_rules today bytes (Ok x) H ≡ centre_plan bytes H
   delivered today bytes k asked (m.Request q) own is = refl
   delivered today bytes k asked (m.Done q) own is = refl
@@ -293,18 +294,18 @@ module _ (H : Ledger) (known : IsKnown (seen_in (counted H))) (are : AreBooksOf 
   abbrev ByView : ℤ → Asked CentreCall → Plan
   ByView today asked = node_plan counting Centre (centre_kind.plan tt today (view_of H)) (view_of H) asked
 
-  delivered_plan : (today : ℤ) (k : ℕ) (asked : Asked CentreCall) (o : Option (List ℕ)) → message k H ≡ o → takes.message_taken k (length (sent_in H)) o ≡ take.Centre asked → AreBytes asked
+  delivered_plan : (today : ℤ) (k : ℕ) (asked : Asked CentreCall) (o : Option (List ℕ)) → message k H ≡ o → takes.message_taken k (length (sent_in H)) o ≡ take.Work (work.Centre asked) → AreBytes asked
       → deliver_plan todays_rules today k o H ≡ ByView today asked
   delivered_plan today k asked None there at bytes_are = cc
   delivered_plan today k asked (Some bytes) there at bytes_are =
       let to = delivered_asked bytes (length (sent_in H)) asked (read bytes) at in
       let x = sent bytes (message-sent k bytes H there) in
       ap (λ (y : Result Message Unread). deliver_to todays_rules today bytes y H) x.1
-      ∙ delivered today bytes (length (sent_in H)) asked x.0 x.2 (subst (λ (y : Result Message Unread). takes.delivered_as bytes (length (sent_in H)) y ≡ take.Centre asked) x.1 at)
+      ∙ delivered today bytes (length (sent_in H)) asked x.0 x.2 (subst (λ (y : Result Message Unread). takes.delivered_as bytes (length (sent_in H)) y ≡ take.Work (work.Centre asked)) x.1 at)
       ∙ handed bytes (subst AreBytes to bytes_are) ∙ ap (ByView today) (sym to)
 
   pub planned_call : (τ : Tariff) (today : ℤ) (quote : Quote) → day_in H ≡ Some today → commits_in (seen_in C) ≡ count_of Centre C → (e : Event) (asked : Asked CentreCall)
-      → taken (sent_in H) quote e ≡ Some (take.Centre asked) → IsWholeEvent e → AreBytes asked → plan τ todays_rules H e [] ≡ ByView today asked
+      → taken (sent_in H) quote e ≡ Some (take.Work (work.Centre asked)) → IsWholeEvent e → AreBytes asked → plan τ todays_rules H e [] ≡ ByView today asked
   unfolding plan
   planned_call τ today quote day counts = each_of_centre (sent_in H) quote (λ e asked. IsWholeEvent e → AreBytes asked → plan τ todays_rules H e [] ≡ ByView today asked) (record {
     on = λ whole bytes. rw (day, sym counts) refl;
@@ -316,7 +317,7 @@ module _ (H : Ledger) (known : IsKnown (seen_in (counted H))) (are : AreBooksOf 
     flag = λ w flag whole bytes. rw day (at (told.told_flagged w flag) (acts.flag_by w flag) (flag_good w flag whole));
     balance = λ w whole bytes. rw day (at (told.told_balance w) (acts.balance_by w) (balance_good w));
     give = λ bytes whole are_bytes. rw day (handed bytes are_bytes);
-    deliver = λ k asked is whole bytes. rw day (delivered_plan today k asked (message k H) refl (subst (λ (o : Option (List ℕ)). takes.message_taken k (length (sent_in H)) o ≡ take.Centre asked) (sent_at H k) is) bytes);
+    deliver = λ k asked is whole bytes. rw day (delivered_plan today k asked (message k H) refl (subst (λ (o : Option (List ℕ)). takes.message_taken k (length (sent_in H)) o ≡ take.Work (work.Centre asked)) (sent_at H k) is) bytes);
   })
 
 -- == the numbers of a call ==
@@ -327,14 +328,14 @@ IsWholeAsked Off = Unit {0}
 IsWholeAsked (Cut calls keep byte) = Unit {0}
 IsWholeAsked (Call x) = IsWholeCall x
 
-delivered_whole : (k next : ℕ) (asked : Asked CentreCall) (o : Option (List ℕ)) → takes.message_taken k next o ≡ take.Centre asked → AreBytes asked → IsWholeAsked asked
+delivered_whole : (k next : ℕ) (asked : Asked CentreCall) (o : Option (List ℕ)) → takes.message_taken k next o ≡ take.Work (work.Centre asked) → AreBytes asked → IsWholeAsked asked
 delivered_whole k next asked None is bytes_are = cc
 delivered_whole k next asked (Some bytes) is bytes_are =
     let to = delivered_asked bytes next asked (read bytes) is in
     subst IsWholeAsked (sym to) (subst AreBytes to bytes_are)
 
 -- they are those of its event, and of what it hands over
-pub whole_call : (H : Ledger) (quote : Quote) (e : Event) (c : CentreCall) → taken (sent_in H) quote e ≡ Some (take.Centre (Call c)) → IsWholeEvent e → AreBytes (Call c) → IsWholeCall c
+pub whole_call : (H : Ledger) (quote : Quote) (e : Event) (c : CentreCall) → taken (sent_in H) quote e ≡ Some (take.Work (work.Centre (Call c))) → IsWholeEvent e → AreBytes (Call c) → IsWholeCall c
 whole_call H quote e c of = each_of_centre (sent_in H) quote (λ i asked. IsWholeEvent i → AreBytes asked → IsWholeAsked asked) (record {
   on = λ whole bytes. tt;
   off = λ whole bytes. tt;

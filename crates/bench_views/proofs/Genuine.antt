@@ -20,6 +20,7 @@ use Rattle.ledger_moves.specs.Histories.{Unforged, IsKnown}
 use Rattle.bench_views.specs.declared.calls.DeviceCall.{DeviceCall}
 use Rattle.bench_views.specs.declared.calls.DeviceCall.TheVariants.{Make, Debit, Ask, Resend, Ack, Status, Take}
 use Rattle.bench_views.specs.declared.taken.Taken.TheVariants as take
+use Rattle.bench_views.specs.declared.taken.Work.TheVariants as work
 use Rattle.bench_views.specs.Taken as takes
 use Rattle.bench_views.specs.Taken.{taken}
 use Rattle.bench_views.specs.Tariff.{Quote}
@@ -58,14 +59,14 @@ module _ (H : Ledger) (replied : RepliesAreRuled H) where
       replied bytes p (subst (λ (x : Result Message Unread). IsKnown bytes x (Device d) H) reads known own key made coded) reads
 
   -- who takes the bytes of a message that was sent
-  for_device : (e d : ℕ) (bytes : List ℕ) (k : ℕ) (asked : Asked DeviceCall) → IsSent bytes H → takes.for_device e bytes k ≡ take.Device d asked → OfAsked H d asked
+  for_device : (e d : ℕ) (bytes : List ℕ) (k : ℕ) (asked : Asked DeviceCall) → IsSent bytes H → takes.for_device e bytes k ≡ take.Work (work.Device d asked) → OfAsked H d asked
   for_device e d bytes k asked sent is = by (nat_le 1 e && nat_le e 8) is
     where
-      by : (t : Bool) → (if t then takes.to_device e bytes k else takes.to_centre bytes k) ≡ take.Device d asked → OfAsked H d asked
+      by : (t : Bool) → (if t then takes.to_device e bytes k else takes.to_centre bytes k) ≡ take.Work (work.Device d asked) → OfAsked H d asked
       by true same = let to : Call (Take (record { bytes = bytes; message = k })) ≡ asked = cc in subst (OfAsked H d) to (was_sent d bytes sent)
       by false same = cc
 
-  delivered : (d k : ℕ) (bytes : List ℕ) (asked : Asked DeviceCall) (x : Result Message Unread) → IsSent bytes H → takes.delivered_as bytes k x ≡ take.Device d asked → OfAsked H d asked
+  delivered : (d k : ℕ) (bytes : List ℕ) (asked : Asked DeviceCall) (x : Result Message Unread) → IsSent bytes H → takes.delivered_as bytes k x ≡ take.Work (work.Device d asked) → OfAsked H d asked
   delivered d k bytes asked (Ok (m.Reply p)) sent is = for_device p.device d bytes k asked sent is
   delivered d k bytes asked (Ok (m.Debit q)) sent is = for_device q.device d bytes k asked sent is
   delivered d k bytes asked (Ok (m.Release x)) sent is = cc
@@ -73,11 +74,11 @@ module _ (H : Ledger) (replied : RepliesAreRuled H) where
   delivered d k bytes asked (Ok (m.Done q)) sent is = cc
   delivered d k bytes asked (Err x) sent is = cc
 
-  message_asked : (k d next : ℕ) (asked : Asked DeviceCall) (o : Option (List ℕ)) → message k H ≡ o → takes.message_taken k next o ≡ take.Device d asked → OfAsked H d asked
+  message_asked : (k d next : ℕ) (asked : Asked DeviceCall) (o : Option (List ℕ)) → message k H ≡ o → takes.message_taken k next o ≡ take.Work (work.Device d asked) → OfAsked H d asked
   message_asked k d next asked None at is = cc
   message_asked k d next asked (Some bytes) at is = delivered d next bytes asked (read bytes) (message-sent k bytes H at) is
 
-  pub genuine : (quote : Quote) (e : Event) (d : ℕ) (asked : Asked DeviceCall) → taken (sent_in H) quote e ≡ Some (take.Device d asked) → Unforged e H → OfAsked H d asked
+  pub genuine : (quote : Quote) (e : Event) (d : ℕ) (asked : Asked DeviceCall) → taken (sent_in H) quote e ≡ Some (take.Work (work.Device d asked)) → Unforged e H → OfAsked H d asked
   genuine quote = each_asked (sent_in H) quote (λ e d asked. Unforged e H → OfAsked H d asked) (record {
     on = λ d known. tt;
     off = λ d known. tt;
@@ -89,5 +90,5 @@ module _ (H : Ledger) (replied : RepliesAreRuled H) where
     ack = λ d known. tt;
     status = λ d known. tt;
     give = λ d bytes known. given d bytes known;
-    deliver = λ k d asked is known. message_asked k d (length (sent_in H)) asked (message k H) refl (subst (λ (o : Option (List ℕ)). takes.message_taken k (length (sent_in H)) o ≡ take.Device d asked) (sent_at H k) is);
+    deliver = λ k d asked is known. message_asked k d (length (sent_in H)) asked (message k H) refl (subst (λ (o : Option (List ℕ)). takes.message_taken k (length (sent_in H)) o ≡ take.Work (work.Device d asked)) (sent_at H k) is);
   })

@@ -43,6 +43,7 @@ use Rattle.host_jobs.specs.Turns.{InTurn}
 use Rattle.bench_views.specs.declared.calls.HostCall.{HostCall}
 use Rattle.bench_views.specs.declared.calls.HostCall.TheVariants as call
 use Rattle.bench_views.specs.declared.taken.Taken.TheVariants as take
+use Rattle.bench_views.specs.declared.taken.Work.TheVariants as work
 use Rattle.bench_views.specs.Taken as takes
 use Rattle.bench_views.specs.Taken.{taken}
 use Rattle.bench_views.specs.Tariff.{Quote, quote_in}
@@ -100,11 +101,11 @@ IsWholeCall (call.Close c) = Unit {0}
 IsWholeCall (call.Take c) = Unit {0}
 
 -- a message for a device is none for the host
-not_host : {P : Type 0} (d : ℕ) (bytes : List ℕ) (k : ℕ) (asked : Asked HostCall) (t : Bool) → (if t then takes.to_device d bytes k else takes.to_centre bytes k) ≡ take.Host asked → P
+not_host : {P : Type 0} (d : ℕ) (bytes : List ℕ) (k : ℕ) (asked : Asked HostCall) (t : Bool) → (if t then takes.to_device d bytes k else takes.to_centre bytes k) ≡ take.Work (work.Host asked) → P
 not_host d bytes k asked true is = cc
 not_host d bytes k asked false is = cc
 
-delivered_asked : (bytes : List ℕ) (k : ℕ) (asked : Asked HostCall) (x : Result Message Unread) → takes.delivered_as bytes k x ≡ take.Host asked → asked ≡ Call (call.Take (record { bytes = bytes }))
+delivered_asked : (bytes : List ℕ) (k : ℕ) (asked : Asked HostCall) (x : Result Message Unread) → takes.delivered_as bytes k x ≡ take.Work (work.Host asked) → asked ≡ Call (call.Take (record { bytes = bytes }))
 delivered_asked bytes k asked (Ok (m.Release x)) is = cc
 delivered_asked bytes k asked (Ok (m.Request q)) is = cc
 delivered_asked bytes k asked (Ok (m.Done q)) is = cc
@@ -209,7 +210,7 @@ module _ (H : Ledger) (known : IsKnown (seen_after (counted H))) (turn : InTurn 
   handed bytes = at told.told_held (acts.take_act bytes rows) (take_good bytes) (acts.take_by bytes (told.in_commits C)) (plans.taken bytes)
 
   -- a message that is delivered to the host
-  delivered : (today : ℤ) (bytes : List ℕ) (k : ℕ) (asked : Asked HostCall) (x : Result Message Unread) → takes.delivered_as bytes k x ≡ take.Host asked → deliver_to todays_rules today bytes x H ≡ host_plan bytes H
+  delivered : (today : ℤ) (bytes : List ℕ) (k : ℕ) (asked : Asked HostCall) (x : Result Message Unread) → takes.delivered_as bytes k x ≡ take.Work (work.Host asked) → deliver_to todays_rules today bytes x H ≡ host_plan bytes H
   delivered today bytes k asked (Ok (m.Release x)) is = refl
   delivered today bytes k asked (Ok (m.Request q)) is = cc
   delivered today bytes k asked (Ok (m.Done q)) is = cc
@@ -220,13 +221,13 @@ module _ (H : Ledger) (known : IsKnown (seen_after (counted H))) (turn : InTurn 
   abbrev ByView : ℤ → Asked HostCall → Plan
   ByView today asked = node_plan counting Host (host_kind.plan tt today (view_of H)) (view_of H) asked
 
-  delivered_plan : (today : ℤ) (k : ℕ) (asked : Asked HostCall) (o : Option (List ℕ)) → takes.message_taken k (length (sent_in H)) o ≡ take.Host asked → deliver_plan todays_rules today k o H ≡ ByView today asked
+  delivered_plan : (today : ℤ) (k : ℕ) (asked : Asked HostCall) (o : Option (List ℕ)) → takes.message_taken k (length (sent_in H)) o ≡ take.Work (work.Host asked) → deliver_plan todays_rules today k o H ≡ ByView today asked
   delivered_plan today k asked None is = cc
   delivered_plan today k asked (Some bytes) is =
       delivered today bytes (length (sent_in H)) asked (read bytes) is ∙ handed bytes ∙ ap (ByView today) (sym (delivered_asked bytes (length (sent_in H)) asked (read bytes) is))
 
   pub planned_call : (τ : Tariff) (today : ℤ) → day_in H ≡ Some today → commits_in (seen_after C) ≡ count_of Host C → (e : Event) (asked : Asked HostCall)
-      → taken (sent_in H) (quote_in τ H) e ≡ Some (take.Host asked) → IsWholeEvent e → plan τ todays_rules H e [] ≡ ByView today asked
+      → taken (sent_in H) (quote_in τ H) e ≡ Some (take.Work (work.Host asked)) → IsWholeEvent e → plan τ todays_rules H e [] ≡ ByView today asked
   unfolding plan
   planned_call τ today day counts = each_of_host (sent_in H) (quote_in τ H) (λ e asked. IsWholeEvent e → plan τ todays_rules H e [] ≡ ByView today asked) (record {
     on = λ whole. rw (day, sym counts) refl;
@@ -239,7 +240,7 @@ module _ (H : Ledger) (known : IsKnown (seen_after (counted H))) (turn : InTurn 
     print = λ j whole. rw day (at (told.told_printed j) (acts.begin_print_act j rows) (print_good j) (acts.begin_print_by j (told.in_commits C)) (plans.begun j));
     close = λ j whole. rw day (at (told.told_closed j) (acts.close_act j rows) (close_good j) (acts.close_by j (told.in_commits C)) (plans.closed j));
     give = λ bytes whole. rw day (handed bytes);
-    deliver = λ k asked is whole. rw day (delivered_plan today k asked (message k H) (subst (λ (o : Option (List ℕ)). takes.message_taken k (length (sent_in H)) o ≡ take.Host asked) (sent_at H k) is));
+    deliver = λ k asked is whole. rw day (delivered_plan today k asked (message k H) (subst (λ (o : Option (List ℕ)). takes.message_taken k (length (sent_in H)) o ≡ take.Work (work.Host asked)) (sent_at H k) is));
   })
 
 -- == the numbers of a call ==
@@ -250,12 +251,12 @@ IsWholeAsked Off = Unit {0}
 IsWholeAsked (Cut calls keep byte) = Unit {0}
 IsWholeAsked (Call x) = IsWholeCall x
 
-delivered_whole : (k next : ℕ) (asked : Asked HostCall) (o : Option (List ℕ)) → takes.message_taken k next o ≡ take.Host asked → IsWholeAsked asked
+delivered_whole : (k next : ℕ) (asked : Asked HostCall) (o : Option (List ℕ)) → takes.message_taken k next o ≡ take.Work (work.Host asked) → IsWholeAsked asked
 delivered_whole k next asked None is = cc
 delivered_whole k next asked (Some bytes) is = subst IsWholeAsked (sym (delivered_asked bytes next asked (read bytes) is)) tt
 
 -- they are those of its event
-pub whole_call : (H : Ledger) (quote : Quote) (e : Event) (c : HostCall) → taken (sent_in H) quote e ≡ Some (take.Host (Call c)) → IsWholeEvent e → IsWholeCall c
+pub whole_call : (H : Ledger) (quote : Quote) (e : Event) (c : HostCall) → taken (sent_in H) quote e ≡ Some (take.Work (work.Host (Call c))) → IsWholeEvent e → IsWholeCall c
 whole_call H quote e c of = each_of_host (sent_in H) quote (λ i asked. IsWholeEvent i → IsWholeAsked asked) (record {
   on = λ whole. tt;
   off = λ whole. tt;

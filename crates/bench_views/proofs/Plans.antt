@@ -52,6 +52,7 @@ use Rattle.ledger_moves.specs.Moves.{plan, at_node, debit_by, deliver_to, delive
 use Rattle.bench_views.specs.declared.calls.DeviceCall.{DeviceCall}
 use Rattle.bench_views.specs.declared.calls.DeviceCall.TheVariants.{Make, Debit, Ask, Resend, Ack, Status, Take}
 use Rattle.bench_views.specs.declared.taken.Taken.TheVariants as take
+use Rattle.bench_views.specs.declared.taken.Work.TheVariants as work
 use Rattle.bench_views.specs.Taken as takes
 use Rattle.bench_views.specs.Taken.{taken}
 use Rattle.bench_views.specs.Tariff.{Quote}
@@ -241,14 +242,14 @@ module _ (H : Ledger) (resending : ResendingRepeats) where
         ap (λ (n : ℕ). at_node (Device d) H (device.device_take todays_rules n today d bytes (read bytes) C (key_of d C))) is ∙ by_plan _ today (Take (record { bytes = bytes; message = k })) (take_is bytes today k (key_of d C))
 
   -- a message for device d
-  for_device : (today : ℤ) (e d k : ℕ) (bytes : List ℕ) (asked : AskedOf DeviceCall) → takes.for_device e bytes k ≡ take.Device d asked → (e ≡ d) × (asked ≡ Call (Take (record { bytes = bytes; message = k })))
+  for_device : (today : ℤ) (e d k : ℕ) (bytes : List ℕ) (asked : AskedOf DeviceCall) → takes.for_device e bytes k ≡ take.Work (work.Device d asked) → (e ≡ d) × (asked ≡ Call (Take (record { bytes = bytes; message = k })))
   for_device today e d k bytes asked is = by (nat_le 1 e && nat_le e 8) is
     where
-      by : (b : Bool) → (if b then takes.to_device e bytes k else takes.to_centre bytes k) ≡ take.Device d asked → (e ≡ d) × (asked ≡ Call (Take (record { bytes = bytes; message = k })))
+      by : (b : Bool) → (if b then takes.to_device e bytes k else takes.to_centre bytes k) ≡ take.Work (work.Device d asked) → (e ≡ d) × (asked ≡ Call (Take (record { bytes = bytes; message = k })))
       by true same = (cc, cc)
       by false same = cc
 
-  delivered : (today : ℤ) (d k : ℕ) (bytes : List ℕ) (asked : AskedOf DeviceCall) (x : Result Message Unread) → read bytes ≡ x → takes.delivered_as bytes k x ≡ take.Device d asked
+  delivered : (today : ℤ) (d k : ℕ) (bytes : List ℕ) (asked : AskedOf DeviceCall) (x : Result Message Unread) → read bytes ≡ x → takes.delivered_as bytes k x ≡ take.Work (work.Device d asked)
       → (deliver_to todays_rules today bytes x H ≡ device_plan todays_rules today d bytes H) × (asked ≡ Call (Take (record { bytes = bytes; message = k })))
   delivered today d k bytes asked (Ok (m.Reply p)) reads is = let at = for_device today p.device d k bytes asked is in (ap (λ (i : ℕ). device_plan todays_rules today i bytes H) at.0, at.1)
   delivered today d k bytes asked (Ok (m.Debit q)) reads is = let at = for_device today q.device d k bytes asked is in (ap (λ (i : ℕ). device_plan todays_rules today i bytes H) at.0, at.1)
@@ -263,7 +264,7 @@ module _ (H : Ledger) (resending : ResendingRepeats) where
   abbrev IsPlanned : Tariff → ℤ → Event → ℕ → AskedOf DeviceCall → Type 0
   IsPlanned τ today e d asked = KnownAt d → plan τ todays_rules H e [] ≡ node_plan counting (Device d) (device_kind.plan d today (view_of d H)) (view_of d H) asked
 
-  delivered_plan : (τ : Tariff) (today : ℤ) (k d : ℕ) (asked : AskedOf DeviceCall) (o : Option (List ℕ)) → message k H ≡ o → takes.message_taken k (length (sent_in H)) o ≡ take.Device d asked → KnownAt d
+  delivered_plan : (τ : Tariff) (today : ℤ) (k d : ℕ) (asked : AskedOf DeviceCall) (o : Option (List ℕ)) → message k H ≡ o → takes.message_taken k (length (sent_in H)) o ≡ take.Work (work.Device d asked) → KnownAt d
       → deliver_plan todays_rules today k o H ≡ node_plan counting (Device d) (device_kind.plan d today (view_of d H)) (view_of d H) asked
   delivered_plan τ today k d asked None at is known = cc
   delivered_plan τ today k d asked (Some bytes) at is known =
@@ -271,7 +272,7 @@ module _ (H : Ledger) (resending : ResendingRepeats) where
       to.0 ∙ handed d known.0 known.1 bytes today (length (sent_in H)) (sym (sent_many H))
       ∙ ap (λ (a : AskedOf DeviceCall). node_plan counting (Device d) (device_kind.plan d today (view_of d H)) (view_of d H) a) (sym to.1)
 
-  pub planned : (τ : Tariff) (today : ℤ) (quote : Quote) → day_in H ≡ Some today → (e : Event) (d : ℕ) (asked : AskedOf DeviceCall) → taken (sent_in H) quote e ≡ Some (take.Device d asked) → IsPlanned τ today e d asked
+  pub planned : (τ : Tariff) (today : ℤ) (quote : Quote) → day_in H ≡ Some today → (e : Event) (d : ℕ) (asked : AskedOf DeviceCall) → taken (sent_in H) quote e ≡ Some (take.Work (work.Device d asked)) → IsPlanned τ today e d asked
   unfolding plan
   planned τ today quote day = each_asked (sent_in H) quote (IsPlanned τ today) (record {
     on = λ d known. rw day refl;
@@ -285,5 +286,5 @@ module _ (H : Ledger) (resending : ResendingRepeats) where
     ack = λ d known. rw (day, sym (sent_many H)) (by_plan d known.0 known.1 _ today (Ack (record { message = length (sent_in H) })) (ack_is d known.0 known.1 today (length (sent_in H)) (key_of d (counted H))));
     status = λ d known. rw day (by_plan d known.0 known.1 _ today Status (plan_says _ _ _ _ (λ w. refl) (λ w. refl) (status_act today (record_in d (counted H)))));
     give = λ d bytes known. rw day (handed d known.0 known.1 bytes today (length (sent_in H)) (sym (sent_many H)));
-    deliver = λ k d asked is known. rw day (delivered_plan τ today k d asked (message k H) refl (subst (λ (o : Option (List ℕ)). takes.message_taken k (length (sent_in H)) o ≡ take.Device d asked) (sent_at H k) is) known);
+    deliver = λ k d asked is known. rw day (delivered_plan τ today k d asked (message k H) refl (subst (λ (o : Option (List ℕ)). takes.message_taken k (length (sent_in H)) o ≡ take.Work (work.Device d asked)) (sent_at H k) is) known);
   })

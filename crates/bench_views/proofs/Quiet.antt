@@ -23,6 +23,8 @@ use Rattle.centre_ledger.specs.Seen.{books_in}
 use Rattle.centre_ledger.specs.declared.standing.Standing.{Standing}
 use Rattle.bench_views.specs.declared.taken.Taken.{Taken}
 use Rattle.bench_views.specs.declared.taken.Taken.TheVariants as take
+use Rattle.bench_views.specs.declared.taken.Work.{Work}
+use Rattle.bench_views.specs.declared.taken.Work.TheVariants as work
 use Rattle.bench_views.specs.Taken.{taken}
 use Rattle.bench_views.specs.Tariff.{Quote}
 use Rattle.bench_views.specs.Centre as centre_views
@@ -38,8 +40,13 @@ module _ (H : Ledger) (same : in_books (books_in (centre_views.view_of H).state)
   abbrev C : List Commit
   C = counted H
 
-  abbrev Reply_of : Taken → Option Reply
+  abbrev Reply_of : Work → Option Reply
   Reply_of x = quiet_by bench_kinds H x
+
+  abbrev IsAnswered : Reply → Taken → Type 0
+  IsAnswered reply (take.Day t) = ⊥
+  IsAnswered reply take.End = ⊥
+  IsAnswered reply (take.Work x) = Reply_of x ≡ Some reply
 
   -- == comparing ==
 
@@ -73,25 +80,23 @@ module _ (H : Ledger) (same : in_books (books_in (centre_views.view_of H).state)
 
   -- == each event ==
 
-  pub planned_quiet : (τ : Tariff) (today : ℤ) (quote : Quote) → day_in H ≡ Some today → (e : Event) (x : Taken) → taken (sent_in H) quote e ≡ Some x → (reply : Reply) → Reply_of x ≡ Some reply
+  pub planned_quiet : (τ : Tariff) (today : ℤ) (quote : Quote) → day_in H ≡ Some today → (e : Event) (x : Work) → taken (sent_in H) quote e ≡ Some (take.Work x) → (reply : Reply) → Reply_of x ≡ Some reply
       → plan τ todays_rules H e [] ≡ refuse reply
   unfolding plan
-  planned_quiet τ today quote day e x is reply answers = each_quiet (sent_in H) quote (λ i y. Reply_of y ≡ Some reply → plan τ todays_rules H i [] ≡ refuse reply) (record {
-    day = λ t answers. absurd (none-some _ answers);
-    end = λ answers. absurd (none-some _ answers);
+  planned_quiet τ today quote day e x is reply answers = each_quiet (sent_in H) quote (λ i y. IsAnswered reply y → plan τ todays_rules H i [] ≡ refuse reply) (record {
+    day = λ t wrong. absurd wrong;
+    end = λ wrong. absurd wrong;
     rates = λ answers. absurd (none-some _ answers);
     reconcile = λ d answers. rw day (compare_is d ∙ ap refuse (some-same answers));
     deliver = λ k none answers. rw (day, sym (sent_at H k) ∙ none) (ap refuse (some-same answers));
     scan = λ n k none answers. rw (day, sym (sent_at H k) ∙ none) (ap refuse (some-same answers));
-  }) e x is (of_none x answers) answers
+  }) e (take.Work x) is (of_none x answers) answers
     where
-      of_none : (y : Taken) → Reply_of y ≡ Some reply → IsOfNone (sent_in H) quote y
-      of_none (take.Day t) same = tt
-      of_none take.End same = tt
-      of_none take.Rates same = tt
-      of_none (take.NoMessage k) same = tt
-      of_none (take.Reconcile d) same = tt
-      of_none (take.Device d asked) same = absurd (none-some _ same)
-      of_none (take.Centre asked) same = absurd (none-some _ same)
-      of_none (take.Host asked) same = absurd (none-some _ same)
-      of_none (take.Verifier asked) same = absurd (none-some _ same)
+      of_none : (y : Work) → Reply_of y ≡ Some reply → IsOfNone (sent_in H) quote (take.Work y)
+      of_none work.Rates same = tt
+      of_none (work.NoMessage k) same = tt
+      of_none (work.Reconcile d) same = tt
+      of_none (work.Device d asked) same = absurd (none-some _ same)
+      of_none (work.Centre asked) same = absurd (none-some _ same)
+      of_none (work.Host asked) same = absurd (none-some _ same)
+      of_none (work.Verifier asked) same = absurd (none-some _ same)

@@ -33,6 +33,7 @@ use Rattle.verifier.specs.Seen.{Seen, cell_of, counting}
 use Rattle.bench_views.specs.declared.calls.VerifierCall.{VerifierCall}
 use Rattle.bench_views.specs.declared.calls.VerifierCall.TheVariants as call
 use Rattle.bench_views.specs.declared.taken.Taken.TheVariants as take
+use Rattle.bench_views.specs.declared.taken.Work.TheVariants as work
 use Rattle.bench_views.specs.Taken.{taken}
 use Rattle.bench_views.specs.Tariff.{Quote}
 use Rattle.bench_views.specs.Verifier.{view_of, verifier_act, verifier_kind, IsKnown, AreBytes}
@@ -131,7 +132,7 @@ module _ (H : Ledger) (recorded : IsRecorded (counted H)) (known : IsKnown (seen
   ByView today asked = node_plan counting Verifier (verifier_kind.plan tt today (view_of H)) (view_of H) asked
 
   pub planned_call : (τ : Tariff) (today : ℤ) (quote : Quote) → day_in H ≡ Some today → commits_in (seen_after C) ≡ count_of Verifier C → (e : Event) (asked : Asked VerifierCall)
-      → taken (sent_in H) quote e ≡ Some (take.Verifier asked) → IsWholeEvent e → AreBytes asked → plan τ todays_rules H e [] ≡ ByView today asked
+      → taken (sent_in H) quote e ≡ Some (take.Work (work.Verifier asked)) → IsWholeEvent e → AreBytes asked → plan τ todays_rules H e [] ≡ ByView today asked
   unfolding plan
   planned_call τ today quote day counts = each_of_verifier (sent_in H) quote (λ e asked. IsWholeEvent e → AreBytes asked → plan τ todays_rules H e [] ≡ ByView today asked) (record {
     on = λ whole bytes. rw (day, sym counts) refl;
@@ -151,7 +152,7 @@ IsWholeAsked (Cut calls keep byte) = Unit {0}
 IsWholeAsked (Call x) = IsWholeCall x
 
 -- they are those of its event, and of what is scanned
-pub whole_call : (H : Ledger) (quote : Quote) (e : Event) (c : VerifierCall) → taken (sent_in H) quote e ≡ Some (take.Verifier (Call c)) → IsWholeEvent e → AreBytes (Call c) → IsWholeCall c
+pub whole_call : (H : Ledger) (quote : Quote) (e : Event) (c : VerifierCall) → taken (sent_in H) quote e ≡ Some (take.Work (work.Verifier (Call c))) → IsWholeEvent e → AreBytes (Call c) → IsWholeCall c
 whole_call H quote e c of = each_of_verifier (sent_in H) quote (λ i asked. IsWholeEvent i → AreBytes asked → IsWholeAsked asked) (record {
   on = λ whole bytes. tt;
   off = λ whole bytes. tt;

@@ -23,27 +23,28 @@ use Rattle.bench_views.specs.declared.calls.VerifierCall.{VerifierCall}
 use Rattle.bench_views.specs.declared.calls.VerifierCall.TheVariants as verifier
 use Rattle.bench_views.specs.declared.taken.Taken.{Taken}
 use Rattle.bench_views.specs.declared.taken.Taken.TheVariants as take
+use Rattle.bench_views.specs.declared.taken.Work.TheVariants as work
 
 -- == whom an event is for, and what it asks ==
 
 -- what a node is asked: the one of a device, of the centre, of the host, or of the verifier
 abbrev pub of_node : Node → Asked DeviceCall → Asked CentreCall → Asked HostCall → Asked VerifierCall → Taken
-of_node (Device d) device centre host verifier = take.Device d device
-of_node Centre device centre host verifier = take.Centre centre
-of_node Host device centre host verifier = take.Host host
-of_node Verifier device centre host verifier = take.Verifier verifier
+of_node (Device d) device centre host verifier = take.Work (work.Device d device)
+of_node Centre device centre host verifier = take.Work (work.Centre centre)
+of_node Host device centre host verifier = take.Work (work.Host host)
+of_node Verifier device centre host verifier = take.Work (work.Verifier verifier)
 
 abbrev pub of_device : ℕ → DeviceCall → Taken
-of_device d call = take.Device d (Call call)
+of_device d call = take.Work (work.Device d (Call call))
 
 abbrev pub of_centre : CentreCall → Taken
-of_centre call = take.Centre (Call call)
+of_centre call = take.Work (work.Centre (Call call))
 
 abbrev pub of_host : HostCall → Taken
-of_host call = take.Host (Call call)
+of_host call = take.Work (work.Host (Call call))
 
 abbrev pub of_verifier : VerifierCall → Taken
-of_verifier call = take.Verifier (Call call)
+of_verifier call = take.Work (work.Verifier (Call call))
 
 -- bytes for a device, for the centre, for the host; and bytes that are scanned under number n
 abbrev pub to_device : ℕ → List ℕ → ℕ → Taken
@@ -80,12 +81,12 @@ abbrev pub delivered : List ℕ → ℕ → Taken
 delivered bytes k = delivered_as bytes k (read bytes)
 
 abbrev pub message_taken : ℕ → ℕ → Option (List ℕ) → Taken
-message_taken k next None = take.NoMessage k
+message_taken k next None = take.Work (work.NoMessage k)
 message_taken k next (Some bytes) = delivered bytes next
 
 -- a message is scanned from its third byte on, where the mark of a Release begins
 abbrev pub scanned : ℕ → ℕ → Option (List ℕ) → Taken
-scanned n k None = take.NoMessage k
+scanned n k None = take.Work (work.NoMessage k)
 scanned n k (Some bytes) = to_scanner n (drop 2 bytes)
 
 -- bytes that are given to a node; the verifier is given none
@@ -98,7 +99,7 @@ given_to Verifier bytes k = None
 -- what an event asks; a message that it sends is the next one
 abbrev pub taken : List (List ℕ) → Quote → Event → Option Taken
 taken pool quote (ev.Day t) = Some (take.Day t)
-taken pool quote ev.Rates = Some take.Rates
+taken pool quote ev.Rates = Some (take.Work work.Rates)
 taken pool quote (ev.Make d key) = Some (of_device d (device.Make (record { key = key })))
 taken pool quote (ev.On n) = Some (of_node n On On On On)
 taken pool quote (ev.Off n) = Some (of_node n Off Off Off Off)
@@ -122,7 +123,7 @@ taken pool quote (ev.Close j) = Some (of_host (host.Close (record { job = j })))
 taken pool quote (ev.Trust d key) = Some (of_verifier (verifier.Trust (record { device = d; key = key })))
 taken pool quote (ev.ScanMsg scan k) = Some (scanned scan k (slice_get pool k))
 taken pool quote (ev.ScanHex scan bytes) = Some (to_scanner scan bytes)
-taken pool quote (ev.Reconcile d) = Some (take.Reconcile d)
+taken pool quote (ev.Reconcile d) = Some (take.Work (work.Reconcile d))
 taken pool quote ev.End = Some take.End
 
 -- == what is delivered, and what is scanned ==
@@ -194,10 +195,10 @@ IsPricedAsked (Call c) = IsPricedCall c
 abbrev pub IsPriced : Taken → Type 0
 IsPriced (take.Day t) = Unit {0}
 IsPriced take.End = Unit {0}
-IsPriced take.Rates = Unit {0}
-IsPriced (take.NoMessage k) = Unit {0}
-IsPriced (take.Reconcile d) = Unit {0}
-IsPriced (take.Device d asked) = Unit {0}
-IsPriced (take.Centre asked) = Unit {0}
-IsPriced (take.Host asked) = IsPricedAsked asked
-IsPriced (take.Verifier asked) = Unit {0}
+IsPriced (take.Work work.Rates) = Unit {0}
+IsPriced (take.Work (work.NoMessage k)) = Unit {0}
+IsPriced (take.Work (work.Reconcile d)) = Unit {0}
+IsPriced (take.Work (work.Device d asked)) = Unit {0}
+IsPriced (take.Work (work.Centre asked)) = Unit {0}
+IsPriced (take.Work (work.Host asked)) = IsPricedAsked asked
+IsPriced (take.Work (work.Verifier asked)) = Unit {0}

@@ -10,4 +10,4 @@ pub use calls::{
     FlagCall, Handed, HostCall, MakeCall, OpenCall, OrderCall, PrintCall, RegisterCall, ResendCall,
     ScanCall, SendCall, TakeReleaseCall, TakeReplyCall, TakeRequestCall, TrustCall, VerifierCall,
 };
-pub use taken::{Taken, take};
+pub use taken::{Taken, Work, take};

@@ -19,11 +19,18 @@ use host_rates::Rates;
 use node_acts::Asked;
 use psd_wire::{Message, read_message};
 
-/// An event, by whom it is for.
+/// What the bench takes an event for.
 #[derive(Drop)]
 pub enum Taken<'a> {
     Day(DayNo),
     End,
+    /// All else, which is refused where there is no day.
+    Work(Work<'a>),
+}
+
+/// What is done on a day, by whom it is for.
+#[derive(Drop)]
+pub enum Work<'a> {
     Rates,
     /// No message of this number was sent in this run.
     NoMessage(u32),
@@ -46,35 +53,35 @@ fn of_node<'a>(
     ensures { result ≡ takes.of_node node device.entry centre.entry host.entry verifier.entry }
 {
     match node {
-        Node::Device(number) => Taken::Device(number, device),
-        Node::Centre => Taken::Centre(centre),
-        Node::Host => Taken::Host(host),
-        Node::Verifier => Taken::Verifier(verifier),
+        Node::Device(number) => Taken::Work(Work::Device(number, device)),
+        Node::Centre => Taken::Work(Work::Centre(centre)),
+        Node::Host => Taken::Work(Work::Host(host)),
+        Node::Verifier => Taken::Work(Work::Verifier(verifier)),
     }
 }
 
 fn of_device(device: DevNo, call: DeviceCall) -> Taken
     ensures { result ≡ takes.of_device device call.entry }
 {
-    Taken::Device(device, Asked::Call(call))
+    Taken::Work(Work::Device(device, Asked::Call(call)))
 }
 
 fn of_centre(call: CentreCall) -> Taken
     ensures { result ≡ takes.of_centre call.entry }
 {
-    Taken::Centre(Asked::Call(call))
+    Taken::Work(Work::Centre(Asked::Call(call)))
 }
 
 fn of_host(call: HostCall) -> Taken
     ensures { result ≡ takes.of_host call.entry }
 {
-    Taken::Host(Asked::Call(call))
+    Taken::Work(Work::Host(Asked::Call(call)))
 }
 
 fn of_verifier(call: VerifierCall) -> Taken
     ensures { result ≡ takes.of_verifier call.entry }
 {
-    Taken::Verifier(Asked::Call(call))
+    Taken::Work(Work::Verifier(Asked::Call(call)))
 }
 
 fn to_centre<'a>(bytes: &'a [u8], message: u32) -> Taken<'a>
@@ -140,7 +147,7 @@ fn message_taken<'a>(number: u32, next: u32, message: Option<&'a Note>) -> Taken
 {
     match message {
         Some(message) => delivered(message.as_slice(), next),
-        None => Taken::NoMessage(number),
+        None => Taken::Work(Work::NoMessage(number)),
     }
 }
 
@@ -159,7 +166,7 @@ fn scanned<'a>(scan: u32, number: u32, message: Option<&'a Note>) -> Taken<'a>
 {
     match message {
         Some(message) => to_scanner(scan, behind_tag(message.as_slice())),
-        None => Taken::NoMessage(number),
+        None => Taken::Work(Work::NoMessage(number)),
     }
 }
 
@@ -202,7 +209,7 @@ pub fn take<'a>(event: &'a Event, messages: &'a [Note], rates: &Option<Rates>) -
     match event {
         Event::Day(day) => Some(Taken::Day(*day)),
         Event::End => Some(Taken::End),
-        Event::Rates => Some(Taken::Rates),
+        Event::Rates => Some(Taken::Work(Work::Rates)),
         Event::On(node) => Some(of_node(*node, Asked::On, Asked::On, Asked::On, Asked::On)),
         Event::Off(node) => Some(of_node(*node, Asked::Off, Asked::Off, Asked::Off, Asked::Off)),
         Event::Cut {
@@ -325,6 +332,6 @@ pub fn take<'a>(event: &'a Event, messages: &'a [Note], rates: &Option<Rates>) -
             message: number,
         } => { Some(scanned(*scan, *number, messages.get(*number as usize))) }
         Event::ScanHex { scan, bytes } => Some(to_scanner(*scan, bytes.as_slice())),
-        Event::Reconcile(device) => Some(Taken::Reconcile(*device)),
+        Event::Reconcile(device) => Some(Taken::Work(Work::Reconcile(*device))),
     }
 }
