@@ -23,8 +23,9 @@ use Rattle.node_acts.specs.Plans.{MayReply, Fails, after, after_told, with_commi
 use Rattle.node_acts.specs.Said.{IsPlain, seen_plan}
 use Rattle.ledger_moves.specs.Tariffs.{Tariff}
 use Rattle.ledger_moves.specs.Moves.{Moves, plan}
-use Rattle.bench_views.specs.declared.taken.Taken.{Taken}
 use Rattle.bench_views.specs.declared.taken.Taken.TheVariants as take
+use Rattle.bench_views.specs.declared.taken.Work.{Work}
+use Rattle.bench_views.specs.declared.taken.Work.TheVariants as work
 use Rattle.bench_views.specs.Follows.{Follows, FollowsAlways}
 use Rattle.bench_views.specs.Kinds.{bench_kinds}
 use Rattle.bench_views.specs.Messages.{sent_in, SendsNone, IsFew}
@@ -212,8 +213,8 @@ module _ {N S X C : Type 0} (n : Counting S X) (kind : Kind N S C) (m : Node) (d
 
 -- == by the ledger ==
 
-module _ {N S X C : Type 0} (n : Counting S X) (kind : Kind N S C) (m : Node) (d : N) (acts : IsByActs n kind m d) (taken_as : Asked C → Taken) (no_rates : (asked : Asked C) → taken_as asked ≢ take.Rates) where
-  module _ (today : ℤ) (asked : Asked C) (τ : Tariff) (H : Ledger) (e : Event) (asks : taken (sent_in H) (quote_in τ H) e ≡ Some (taken_as asked)) (f : Follows n kind m d bench_kinds τ H e today asked) where
+module _ {N S X C : Type 0} (n : Counting S X) (kind : Kind N S C) (m : Node) (d : N) (acts : IsByActs n kind m d) (work_of : Asked C → Work) (no_rates : (asked : Asked C) → work_of asked ≢ work.Rates) where
+  module _ (today : ℤ) (asked : Asked C) (τ : Tariff) (H : Ledger) (e : Event) (asks : taken (sent_in H) (quote_in τ H) e ≡ Some (take.Work (work_of asked))) (f : Follows n kind m d bench_kinds τ H e today asked) where
     abbrev here : View S
     here = view_in m (kind.seen d) H
 
@@ -221,7 +222,7 @@ module _ {N S X C : Type 0} (n : Counting S X) (kind : Kind N S C) (m : Node) (d
     p = plan_in n kind m d today asked here
 
     reads_none : e ≡ ev.Rates → ⊥
-    reads_none is = let same : Some (take.Rates) ≡ Some (taken_as asked) = sym (ap (taken (sent_in H) (quote_in τ H)) is) ∙ asks in let it : taken_as asked ≡ take.Rates = cc in no_rates asked it
+    reads_none is = let same : Some (take.Work work.Rates) ≡ Some (take.Work (work_of asked)) = sym (ap (taken (sent_in H) (quote_in τ H)) is) ∙ asks in let it : work_of asked ≡ work.Rates = cc in no_rates asked it
 
     opened : (i : Node) → i ≡ m → IsSome (torn_of i H) → IsSome here.next
     opened i is torn = by (torn_of m H) (subst (λ (j : Node). IsSome (torn_of j H)) is torn)
@@ -264,7 +265,7 @@ module _ {N S X C : Type 0} (n : Counting S X) (kind : Kind N S C) (m : Node) (d
       rests = none.rests;
     }
 
-  module _ (IsWhole : Asked C → Type 0) (Fits : S → Type 0) (law : FollowsAlways n kind m d bench_kinds taken_as IsWhole Fits) (today : ℤ) (asked : Asked C) (line : List ℕ) (v w : View S)
+  module _ (IsWhole : Asked C → Type 0) (Fits : S → Type 0) (law : FollowsAlways n kind m d bench_kinds work_of IsWhole Fits) (today : ℤ) (asked : Asked C) (line : List ℕ) (v w : View S)
       (fits : Fits v.state) (next : IfSome (commit_in n kind m d today asked v) (λ x. Fits x.1)) where
     -- the same of any view: what is told of a line
     abbrev SoFrom : Option (List ℕ) → Option (List ℕ) → Reply → Tariff → Ledger → Event → View S → Type 0
@@ -272,7 +273,7 @@ module _ {N S X C : Type 0} (n : Counting S X) (kind : Kind N S C) (m : Node) (d
         → IsOnlyRelease released (after (plan_in n kind m d today asked u) reply []) → MovesSo n kind m d τ H e line w sent released reply
 
     pub lifts_so : (sent released : Option (List ℕ)) (reply : Reply) → TellsOf n m v (plan_in n kind m d today asked v) (commit_in n kind m d today asked v) line w sent reply
-        → IsOnlyRelease released (after (plan_in n kind m d today asked v) reply []) → ByLedger n kind m d taken_as IsWhole today asked v (λ τ H e. MovesSo n kind m d τ H e line w sent released reply)
+        → IsOnlyRelease released (after (plan_in n kind m d today asked v) reply []) → ByLedger n kind m d work_of IsWhole today asked v (λ τ H e. MovesSo n kind m d τ H e line w sent released reply)
     lifts_so sent released reply of only τ H e history unforged day whole asks ranged seen =
         let at : SoFrom sent released reply τ H e (view_in m (kind.seen d) H) =
         λ known more told only. so today asked τ H e asks (law τ H e today asked history unforged day whole asks ranged known more) line w sent released reply told only in
@@ -283,7 +284,7 @@ module _ {N S X C : Type 0} (n : Counting S X) (kind : Kind N S C) (m : Node) (d
         → MovesNever n kind m d τ H e line w due
 
     pub lifts_never : (due : Reply) → TellsNone n m v (plan_in n kind m d today asked v) (commit_in n kind m d today asked v) line w due
-        → ByLedger n kind m d taken_as IsWhole today asked v (λ τ H e. MovesNever n kind m d τ H e line w due)
+        → ByLedger n kind m d work_of IsWhole today asked v (λ τ H e. MovesNever n kind m d τ H e line w due)
     lifts_never due none τ H e history unforged day whole asks ranged seen =
         let at : NeverFrom due τ H e (view_in m (kind.seen d) H) =
         λ known more told. never today asked τ H e asks (law τ H e today asked history unforged day whole asks ranged known more) line w due told in

@@ -14,7 +14,8 @@ use Rattle.node_acts.specs.Kinds.{Kind, view_in, node_plan, node_commit}
 use Rattle.ledger_moves.specs.Tariffs.{Tariff}
 use Rattle.ledger_moves.specs.Moves.{Moves, answer, entries}
 use Rattle.ledger_moves.specs.Histories.{History, Unforged}
-use Rattle.bench_views.specs.declared.taken.Taken.{Taken}
+use Rattle.bench_views.specs.declared.taken.Taken.TheVariants as take
+use Rattle.bench_views.specs.declared.taken.Work.{Work}
 use Rattle.bench_views.specs.Follows.{OthersStay, Rests}
 use Rattle.bench_views.specs.Kinds.{bench_kinds}
 use Rattle.bench_views.specs.Messages.{sent_in}
@@ -67,7 +68,7 @@ module _ {N S X C : Type 0} (n : Counting S X) (kind : Kind N S C) (m : Node) (d
       pub rests : w ≡ view_in m (kind.seen d) H
 
   -- P holds at each history at which the node is seen so, for each event that asks this of it on this day and brings nothing forged
-  abbrev pub ByLedger : (Asked C → Taken) → (Asked C → Type 0) → ℤ → Asked C → View S → (Tariff → Ledger → Event → Type 0) → Type 0
-  ByLedger taken_as IsWhole today asked v P = (τ : Tariff) (H : Ledger) (e : Event) → History τ editions H → Unforged e H
+  abbrev pub ByLedger : (Asked C → Work) → (Asked C → Type 0) → ℤ → Asked C → View S → (Tariff → Ledger → Event → Type 0) → Type 0
+  ByLedger work_of IsWhole today asked v P = (τ : Tariff) (H : Ledger) (e : Event) → History τ editions H → Unforged e H
       → day_in H ≡ Some today → IsWholeEvent e
-      → taken (sent_in H) (quote_in τ H) e ≡ Some (taken_as asked) → IsWhole asked → view_in m (kind.seen d) H ≡ v → P τ H e
+      → taken (sent_in H) (quote_in τ H) e ≡ Some (take.Work (work_of asked)) → IsWhole asked → view_in m (kind.seen d) H ≡ v → P τ H e
