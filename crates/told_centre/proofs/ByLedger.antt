@@ -7,7 +7,7 @@ use Rattle.node_acts.specs.declared.asked.Asked.{Asked}
 use Rattle.node_acts.specs.Views.{View}
 use Rattle.centre_ledger.specs.Seen.{Seen, counting, books_in}
 use Rattle.bench_views.specs.declared.calls.CentreCall.{CentreCall}
-use Rattle.bench_views.specs.declared.taken.Taken.TheVariants as take
+use Rattle.bench_views.specs.declared.taken.Work.TheVariants as work
 use Rattle.bench_views.specs.Centre.{centre_kind, centre_act, IsKnown, AreBytes}
 use Rattle.bench_views.specs.Follows.{CentreFollows}
 use Rattle.bench_views.specs.Kinds.{bench_kinds}
@@ -22,12 +22,12 @@ by_acts today v call = (centre_act call (books_in v.state), refl, call_plain cal
 unreleasing : AreUnreleasing counting centre_kind Centre tt
 unreleasing today v call = (centre_act call (books_in v.state), refl, call_releases call (books_in v.state))
 
-no_rates : (asked : Asked CentreCall) → take.Centre asked ≢ take.Rates
+no_rates : (asked : Asked CentreCall) → work.Centre asked ≢ work.Rates
 no_rates asked is = cc
 
 pub by_ledger : (today : ℤ) (asked : Asked CentreCall) (line : List ℕ) (v w : View Seen) (result : Result (Option (List ℕ)) Reply) → CentreFollows counting bench_kinds IsKnown
     → IsKnown v.state → IfSome (commit_in today asked v) (λ x. IsKnown x.1) → Judged counting Centre v (plan_in today asked v) (commit_in today asked v) line w result → IsByLedger today asked line v w result
 by_ledger today asked line v w (Ok sent) law known next judged τ H e history unforged day whole asks ranged seen =
-    (judged.0, lifts_so counting centre_kind Centre tt by_acts take.Centre no_rates AreBytes IsKnown law today asked line v w known next sent None judged.0 judged.1 (asked_releases counting centre_kind Centre tt unreleasing today asked v judged.0) τ H e history unforged day whole asks ranged seen)
+    (judged.0, lifts_so counting centre_kind Centre tt by_acts work.Centre no_rates AreBytes IsKnown law today asked line v w known next sent None judged.0 judged.1 (asked_releases counting centre_kind Centre tt unreleasing today asked v judged.0) τ H e history unforged day whole asks ranged seen)
 by_ledger today asked line v w (Err due) law known next judged τ H e history unforged day whole asks ranged seen =
-    lifts_never counting centre_kind Centre tt by_acts take.Centre no_rates AreBytes IsKnown law today asked line v w known next due judged τ H e history unforged day whole asks ranged seen
+    lifts_never counting centre_kind Centre tt by_acts work.Centre no_rates AreBytes IsKnown law today asked line v w known next due judged τ H e history unforged day whole asks ranged seen

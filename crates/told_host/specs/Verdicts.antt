@@ -11,7 +11,7 @@ use Rattle.node_acts.specs.Views.{View}
 use Rattle.host_jobs.specs.Seen.{Seen, counting}
 use Rattle.ledger_moves.specs.Tariffs.{Tariff}
 use Rattle.bench_views.specs.declared.calls.HostCall.{HostCall}
-use Rattle.bench_views.specs.declared.taken.Taken.TheVariants as take
+use Rattle.bench_views.specs.declared.taken.Work.TheVariants as work
 use Rattle.bench_views.specs.Host.{host_kind}
 use Rattle.told_nodes.specs.declared.printing.Told.{Told}
 use Rattle.bench_base.specs.Replies.{tells_printer}
@@ -37,7 +37,7 @@ MovesBy τ H e line w (Err due) = MovesNever counting host_kind Host tt τ H e l
 
 -- P at each history at which the host is seen so, for each event that asks this of it on this day and brings nothing forged
 abbrev pub AtHosts : ℤ → Asked HostCall → View Seen → (Tariff → Ledger → Event → Type 0) → Type 0
-AtHosts today asked v P = ByLedger counting host_kind Host tt take.Host (λ a. Unit {0}) today asked v P
+AtHosts today asked v P = ByLedger counting host_kind Host tt work.Host (λ a. Unit {0}) today asked v P
 
 -- There the judgement of the line is that of the ledger.
 abbrev pub IsByLedger : ℤ → Asked HostCall → List ℕ → View Seen → View Seen → Result Told Reply → Type 0

@@ -7,7 +7,7 @@ use Rattle.node_acts.specs.declared.asked.Asked.{Asked}
 use Rattle.node_acts.specs.Views.{View}
 use Rattle.verifier.specs.Seen.{Seen, counting}
 use Rattle.bench_views.specs.declared.calls.VerifierCall.{VerifierCall}
-use Rattle.bench_views.specs.declared.taken.Taken.TheVariants as take
+use Rattle.bench_views.specs.declared.taken.Work.TheVariants as work
 use Rattle.bench_views.specs.Verifier.{verifier_kind, verifier_act, IsKnown, AreBytes}
 use Rattle.bench_views.specs.Follows.{VerifierFollows}
 use Rattle.bench_views.specs.Kinds.{bench_kinds}
@@ -22,12 +22,12 @@ by_acts today v call = (verifier_act today call v.state, refl, call_plain today 
 unreleasing : AreUnreleasing counting verifier_kind Verifier tt
 unreleasing today v call = (verifier_act today call v.state, refl, call_releases today call v.state)
 
-no_rates : (asked : Asked VerifierCall) → take.Verifier asked ≢ take.Rates
+no_rates : (asked : Asked VerifierCall) → work.Verifier asked ≢ work.Rates
 no_rates asked is = cc
 
 pub by_ledger : (today : ℤ) (asked : Asked VerifierCall) (line : List ℕ) (v w : View Seen) (result : Result (Option (List ℕ)) Reply) → VerifierFollows counting bench_kinds IsKnown
     → IsKnown v.state → IfSome (commit_in today asked v) (λ x. IsKnown x.1) → Judged counting Verifier v (plan_in today asked v) (commit_in today asked v) line w result → IsByLedger today asked line v w result
 by_ledger today asked line v w (Ok sent) law known next judged τ H e history unforged day whole asks ranged seen =
-    (judged.0, lifts_so counting verifier_kind Verifier tt by_acts take.Verifier no_rates AreBytes IsKnown law today asked line v w known next sent None judged.0 judged.1 (asked_releases counting verifier_kind Verifier tt unreleasing today asked v judged.0) τ H e history unforged day whole asks ranged seen)
+    (judged.0, lifts_so counting verifier_kind Verifier tt by_acts work.Verifier no_rates AreBytes IsKnown law today asked line v w known next sent None judged.0 judged.1 (asked_releases counting verifier_kind Verifier tt unreleasing today asked v judged.0) τ H e history unforged day whole asks ranged seen)
 by_ledger today asked line v w (Err due) law known next judged τ H e history unforged day whole asks ranged seen =
-    lifts_never counting verifier_kind Verifier tt by_acts take.Verifier no_rates AreBytes IsKnown law today asked line v w known next due judged τ H e history unforged day whole asks ranged seen
+    lifts_never counting verifier_kind Verifier tt by_acts work.Verifier no_rates AreBytes IsKnown law today asked line v w known next due judged τ H e history unforged day whole asks ranged seen

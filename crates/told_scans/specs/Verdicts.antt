@@ -11,7 +11,7 @@ use Rattle.node_acts.specs.Views.{View}
 use Rattle.verifier.specs.Seen.{Seen, counting}
 use Rattle.ledger_moves.specs.Tariffs.{Tariff}
 use Rattle.bench_views.specs.declared.calls.VerifierCall.{VerifierCall}
-use Rattle.bench_views.specs.declared.taken.Taken.TheVariants as take
+use Rattle.bench_views.specs.declared.taken.Work.TheVariants as work
 use Rattle.bench_views.specs.Verifier.{verifier_kind, AreBytes}
 use Rattle.told_nodes.specs.Judged.{Judged}
 use Rattle.told_views.specs.Verdicts as views
@@ -36,4 +36,4 @@ MovesBy τ H e line w (Err due) = MovesNever counting verifier_kind Verifier tt 
 -- judgement of the line is that of the ledger.
 abbrev pub IsByLedger : ℤ → Asked VerifierCall → List ℕ → View Seen → View Seen → Result (Option (List ℕ)) Reply → Type 0
 IsByLedger today asked line v w result =
-    ByLedger counting verifier_kind Verifier tt take.Verifier AreBytes today asked v (λ τ H e. MovesBy τ H e line w result)
+    ByLedger counting verifier_kind Verifier tt work.Verifier AreBytes today asked v (λ τ H e. MovesBy τ H e line w result)
