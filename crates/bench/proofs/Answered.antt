@@ -29,10 +29,12 @@ use Rattle.ledger_moves.specs.Moves.{plan}
 use Rattle.host_rates.specs.Laws.{KeptPrices}
 use Rattle.bench_views.specs.declared.taken.Taken.{Taken}
 use Rattle.bench_views.specs.declared.taken.Taken.TheVariants as take
+use Rattle.bench_views.specs.declared.taken.Work.{Work}
+use Rattle.bench_views.specs.declared.taken.Work.TheVariants as work
 use Rattle.bench_views.specs.Follows.{OthersAreQuiet, quiet_by}
 use Rattle.bench_views.specs.Tariff.{Quote, quote}
 use Rattle.bench_views.specs.Taken.{taken, as_given}
-use Rattle.bench_views.proofs.Events.{each_quiet, IsOfNone, some-same}
+use Rattle.bench_views.proofs.Events.{each_quiet, IsOfNone, same_work, some-same}
 use Rattle.bench.specs.Benches.{Nodes, OfState, Of, IsReady, Stands, BenchOf}
 use Rattle.bench.specs.Outside.{Outside, ReadsRates}
 use Rattle.bench.specs.Steps.{Steps, DoesAsked, ComparesViews}
@@ -48,13 +50,13 @@ use Rattle.bench.proofs.Unprinted.{IsUnprinted}
 abbrev pub IsQuietAs : List (List ℕ) → Event → Taken → Type 0
 IsQuietAs pool e (take.Day t) = e ≡ ev.Day t
 IsQuietAs pool e take.End = e ≡ ev.End
-IsQuietAs pool e take.Rates = e ≡ ev.Rates
-IsQuietAs pool e (take.NoMessage k) = (as_given pool e ≡ e) × ((e ≡ ev.Deliver k) ⊎ ((scan : ℕ) × (e ≡ ev.ScanMsg scan k)))
-IsQuietAs pool e (take.Reconcile d) = e ≡ ev.Reconcile d
-IsQuietAs pool e (take.Device d asked) = Unit {0}
-IsQuietAs pool e (take.Centre asked) = Unit {0}
-IsQuietAs pool e (take.Host asked) = Unit {0}
-IsQuietAs pool e (take.Verifier asked) = Unit {0}
+IsQuietAs pool e (take.Work work.Rates) = e ≡ ev.Rates
+IsQuietAs pool e (take.Work (work.NoMessage k)) = (as_given pool e ≡ e) × ((e ≡ ev.Deliver k) ⊎ ((scan : ℕ) × (e ≡ ev.ScanMsg scan k)))
+IsQuietAs pool e (take.Work (work.Reconcile d)) = e ≡ ev.Reconcile d
+IsQuietAs pool e (take.Work (work.Device d asked)) = Unit {0}
+IsQuietAs pool e (take.Work (work.Centre asked)) = Unit {0}
+IsQuietAs pool e (take.Work (work.Host asked)) = Unit {0}
+IsQuietAs pool e (take.Work (work.Verifier asked)) = Unit {0}
 
 pub quiet_is : (pool : List (List ℕ)) (q : Quote) (e : Event) (x : Taken) → taken pool q e ≡ Some x → IsOfNone pool q x → IsQuietAs pool e x
 quiet_is pool q e x is of = each_quiet pool q (IsQuietAs pool) (record {
@@ -170,7 +172,7 @@ module _ (n : Nodes) (old : BenchOf n) (ready : IsReady old) (out : Outside) whe
         };
         still = λ k. refl;
       })
-      (λ tells. asking _ _ _ _ _ _ _ _ _ _ (take.Day t) refl (λ today day. tt) refl)
+      (λ tells. record { does = λ today y day is. let wrong : Some (take.Day t) ≡ Some (take.Work y) = is in cc; not_read = refl })
 
   pub steps_end : IsWholeEvent ev.End → Steps n ev.End [] (turn_of r.End []) old old out out
   steps_end whole = quiet n ev.End ev.End [] r.End [] old old out out (all_rest old) refl ready whole
@@ -203,7 +205,7 @@ module _ (n : Nodes) (old : BenchOf n) (ready : IsReady old) (out : Outside) whe
         stands = stands;
         still = λ k. refl;
       })
-      (λ tells. asking _ _ _ _ _ _ _ _ _ _ take.End refl (λ today day. tt) refl)
+      (λ tells. record { does = λ today y day is. let wrong : Some take.End ≡ Some (take.Work y) = is in cc; not_read = refl })
 
   pub steps_none : (e : Event) → IsWholeEvent e → needs_day e ≡ true → old.day ≡ None → Steps n e [] (turn_of r.NoDay []) old old out out
   steps_none e whole needs none = quiet n e (as_given old.messages e) [] r.NoDay [] old old out out (all_rest old) refl ready whole
@@ -243,12 +245,12 @@ module _ (n : Nodes) (old : BenchOf n) (ready : IsReady old) (out : Outside) whe
   -- == on a day, by what is seen ==
 
   module _ (today : ℤ) (day_is : old.day ≡ Some today) (IsKnown : n.centre.Seen → Type 0) (knows : (s : n.centre.Seen) → n.centre.IsSound tt s → IsKnown s) (law : OthersAreQuiet n.kinds IsKnown) (prices : KeptPrices) where
-    module _ (e : Event) (x : Taken) (reply : Reply) (whole : IsWholeEvent e) (needs : needs_day e ≡ true) (taken_is : taken old.messages (quote old.rates) e ≡ Some x) (given : as_given old.messages e ≡ e)
+    module _ (e : Event) (x : Work) (reply : Reply) (whole : IsWholeEvent e) (needs : needs_day e ≡ true) (taken_is : taken old.messages (quote old.rates) e ≡ Some (take.Work x)) (given : as_given old.messages e ≡ e)
         (answers : Answers e reply) where
       pub record OnDay : Type 0 where
         pub shown : (L : Ledger) → Stands n old L → n.storage.tells → quiet_by n.kinds L x ≡ Some reply
         pub does : n.storage.tells → DoesAsked n today (turn_of reply []) old old out out x
-        pub message : (k : ℕ) → x ≡ take.NoMessage k → reply ≡ r.NoMessage k
+        pub message : (k : ℕ) → x ≡ work.NoMessage k → reply ≡ r.NoMessage k
         pub switches : (m : Node) → Of n (SwitchesIs n e e [] reply [] old old out out) old m
         pub unarmed : (m : Node) (calls keep byte : ℕ) → e ≡ ev.Cut m calls keep byte → ⊥
         pub not_rates : e ≢ ev.Rates
@@ -268,7 +270,7 @@ module _ (n : Nodes) (old : BenchOf n) (ready : IsReady old) (out : Outside) whe
             dates = λ u is. absurd (not_day e needs u is);
             ends = λ is. absurd (not_end e needs is);
             compares = λ i is. (refl, refl, λ some. on.finds i is);
-            message = λ k is some. on.message k (some-same (sym taken_is ∙ is));
+            message = λ k is some. on.message k (same_work (sym taken_is ∙ is));
             unsent = refl;
             unmade = refl;
             untouched = λ calls. refl;
@@ -281,7 +283,7 @@ module _ (n : Nodes) (old : BenchOf n) (ready : IsReady old) (out : Outside) whe
           })
           (λ τ L texts history stands tells.
           let is : plan τ todays_rules L e [] ≡ refuse reply = law τ L e today x reply history (sym stands.day.day ∙ day_is)
-          (taken_by τ prices texts L old.messages old.rates e x stands.day.messages stands.day.rates taken_is) (knows _ ((stands.nodes Centre).store.sound tells).state) (on.shown L stands tells) in
+          (taken_by τ prices texts L old.messages old.rates e (take.Work x) stands.day.messages stands.day.rates taken_is) (knows _ ((stands.nodes Centre).store.sound tells).state) (on.shown L stands tells) in
           record {
             moves = (whole, inl (ap (λ (p : Plan). p.reply) (sym is)));
             silent = ap (λ (p : Plan). p.commit) is;
@@ -292,7 +294,7 @@ module _ (n : Nodes) (old : BenchOf n) (ready : IsReady old) (out : Outside) whe
           (λ tells. asking _ _ _ _ _ _ _ _ _ _ x taken_is (λ u day. subst (λ (t : ℤ). DoesAsked n t (turn_of reply []) old old out out x) (some-same (sym day_is ∙ day)) (on.does tells)) answers.not_read)
 
     module _ (e : Event) (whole : IsWholeEvent e) where
-      pub steps_missing : (k : ℕ) → taken old.messages (quote old.rates) e ≡ Some (take.NoMessage k) → Steps n e [] (turn_of (r.NoMessage k) []) old old out out
+      pub steps_missing : (k : ℕ) → taken old.messages (quote old.rates) e ≡ Some (take.Work (work.NoMessage k)) → Steps n e [] (turn_of (r.NoMessage k) []) old old out out
       steps_missing k is = ⊎_elim
           (λ (at : e ≡ ev.Deliver k). steps (ap needs_day at) (inl at) (λ m calls keep byte same. let wrong : ev.Deliver k ≡ ev.Cut m calls keep byte = sym at ∙ same in cc)
           (λ same. let wrong : ev.Deliver k ≡ ev.Rates = sym at ∙ same in cc) (λ d same. let wrong : ev.Deliver k ≡ ev.Reconcile d = sym at ∙ same in cc))
@@ -300,12 +302,12 @@ module _ (n : Nodes) (old : BenchOf n) (ready : IsReady old) (out : Outside) whe
           (λ same. let wrong : ev.ScanMsg at.0 k ≡ ev.Rates = sym at.1 ∙ same in cc) (λ d same. let wrong : ev.ScanMsg at.0 k ≡ ev.Reconcile d = sym at.1 ∙ same in cc))
           found.1
         where
-          found : IsQuietAs old.messages e (take.NoMessage k)
-          found = quiet_is old.messages (quote old.rates) e (take.NoMessage k) is tt
+          found : IsQuietAs old.messages e (take.Work (work.NoMessage k))
+          found = quiet_is old.messages (quote old.rates) e (take.Work (work.NoMessage k)) is tt
 
           steps : needs_day e ≡ true → MayGet e (r.NoMessage k) → ((m : Node) (calls keep byte : ℕ) → e ≡ ev.Cut m calls keep byte → ⊥) → e ≢ ev.Rates → ((d : ℕ) → e ≢ ev.Reconcile d)
               → Steps n e [] (turn_of (r.NoMessage k) []) old old out out
-          steps needs gets unarmed not_rates not_compare = steps_on e (take.NoMessage k) (r.NoMessage k) whole needs is found.0
+          steps needs gets unarmed not_rates not_compare = steps_on e (work.NoMessage k) (r.NoMessage k) whole needs is found.0
               (record {
                 gets = gets;
                 says = refl;
@@ -326,17 +328,17 @@ module _ (n : Nodes) (old : BenchOf n) (ready : IsReady old) (out : Outside) whe
                 finds = λ d same. absurd (not_compare d same);
               })
 
-      pub steps_compared : (d : ℕ) (reply : Reply) → taken old.messages (quote old.rates) e ≡ Some (take.Reconcile d) → Answers (ev.Reconcile d) reply → ((was : Bool) → was ≡ on_after reply was)
+      pub steps_compared : (d : ℕ) (reply : Reply) → taken old.messages (quote old.rates) e ≡ Some (take.Work (work.Reconcile d)) → Answers (ev.Reconcile d) reply → ((was : Bool) → was ≡ on_after reply was)
           → ((i : ℕ) (s : n.Devices) → d ≡ i + 1 → slice_get old.devices i ≡ Some s → (reply ≡ r.OffNode (Device d)) ↔ (n.devices.is_on s ≡ false))
           → ((i : ℕ) (s : n.Devices) → d ≡ i + 1 → slice_get old.devices i ≡ Some s → (reply ≡ r.OffNode Centre) ↔ ((n.devices.is_on s ≡ true) × (n.centre.is_on old.centre ≡ false)))
           → ((i : ℕ) (s : n.Devices) → d ≡ i + 1 → slice_get old.devices i ≡ Some s → ComparesViews n d reply old.centre s) → Steps n e [] (turn_of reply []) old old out out
       steps_compared d reply is answers leaves off finds compares =
-          let found : e ≡ ev.Reconcile d = quiet_is old.messages (quote old.rates) e (take.Reconcile d) is tt in
+          let found : e ≡ ev.Reconcile d = quiet_is old.messages (quote old.rates) e (take.Work (work.Reconcile d)) is tt in
           let own = subst IsWholeEvent found whole in
           let s = get_some old.devices (d - 1) (omega (arith, own.0, own.1, ready.eight)) in
           let at : d ≡ d - 1 + 1 = omega (arith, own.0) in
           subst (λ (x : Event). Steps n x [] (turn_of reply []) old old out out) (sym found)
-          (steps_on (ev.Reconcile d) (take.Reconcile d) reply own refl refl refl answers (record {
+          (steps_on (ev.Reconcile d) (work.Reconcile d) reply own refl refl refl answers (record {
             shown = λ L stands tells. ap (λ x. Some x) (sym (compares (d - 1) s.0 at s.1 (view_in (Device d) (n.kinds.devices.seen d) L) (view_in Centre (n.kinds.centre.seen tt) L)
                 (stands.nodes (Device d) (d - 1) s.0 at s.1) (stands.nodes Centre) tells));
             does = λ tells. compares;

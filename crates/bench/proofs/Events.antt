@@ -28,6 +28,8 @@ use Rattle.bench_views.specs.declared.calls.VerifierCall.{VerifierCall}
 use Rattle.bench_views.specs.declared.calls.VerifierCall.TheVariants as verifier
 use Rattle.bench_views.specs.declared.taken.Taken.{Taken}
 use Rattle.bench_views.specs.declared.taken.Taken.TheVariants as take
+use Rattle.bench_views.specs.declared.taken.Work.{Work}
+use Rattle.bench_views.specs.declared.taken.Work.TheVariants as work
 use Rattle.bench_views.specs.Tariff.{Quote}
 use Rattle.bench_views.specs.Taken as takes
 use Rattle.bench_views.specs.Taken.{taken, as_given, as_given_by, as_scanned_by, addressee, IsPricedAsked}
@@ -114,26 +116,31 @@ given_alike pool ev.End = alike ev.End
 pub taken_as : (pool given : List (List ℕ)) (q : Quote) (e : Event) (o : Option Taken) (x y : Taken) → given ≡ pool → o ≡ taken given q e → o ≡ Some x → x ≡ y → taken pool q e ≡ Some y
 taken_as pool given q e o x y same is some named = ap (λ (l : List (List ℕ)). taken l q e) (sym same) ∙ sym is ∙ some ∙ ap (λ z. Some z) named
 
+pub work_as : (pool given : List (List ℕ)) (q : Quote) (e : Event) (o : Option Taken) (x : Taken) (y z : Work) → given ≡ pool → o ≡ taken given q e → o ≡ Some x → x ≡ take.Work y → y ≡ z → taken pool q e ≡ Some (take.Work z)
+work_as pool given q e o x y z same is some named of = taken_as pool given q e o x (take.Work z) same is some (named ∙ ap (λ w. take.Work w) of)
+
 -- an event that sets no day and is not the end needs a day
 needs : (e : Event) → ((t : ℤ) → e ≢ ev.Day t) → e ≢ ev.End → needs_day e ≡ true
 needs (ev.Day t) no_day no_end = absurd (no_day t refl)
 needs ev.End no_day no_end = absurd (no_end refl)
 needs _ no_day no_end = refl
 
-pub needs_taken : (pool : List (List ℕ)) (q : Quote) (e : Event) (x : Taken) → taken pool q e ≡ Some x → ((t : ℤ) → x ≢ take.Day t) → x ≢ take.End → needs_day e ≡ true
-needs_taken pool q e x is no_day no_end = needs e (λ t same. no_day t (some-same (sym is ∙ ap (taken pool q) same))) (λ same. no_end (some-same (sym is ∙ ap (taken pool q) same)))
+pub needs_taken : (pool : List (List ℕ)) (q : Quote) (e : Event) (x : Work) → taken pool q e ≡ Some (take.Work x) → needs_day e ≡ true
+needs_taken pool q e x is = needs e
+    (λ t same. let wrong : Some (take.Day t) ≡ Some (take.Work x) = sym (ap (taken pool q) same) ∙ is in cc)
+    (λ same. let wrong : Some take.End ≡ Some (take.Work x) = sym (ap (taken pool q) same) ∙ is in cc)
 
 -- the event is the one that asks a node this
 abbrev GivenAs : Event → Taken → Type 0
 GivenAs x (take.Day t) = Unit {0}
 GivenAs x take.End = Unit {0}
-GivenAs x take.Rates = Unit {0}
-GivenAs x (take.NoMessage k) = Unit {0}
-GivenAs x (take.Reconcile d) = Unit {0}
-GivenAs x (take.Device d asked) = x ≡ device_event d asked
-GivenAs x (take.Centre asked) = x ≡ centre_event asked
-GivenAs x (take.Host asked) = x ≡ host_event asked
-GivenAs x (take.Verifier asked) = x ≡ verifier_event asked
+GivenAs x (take.Work work.Rates) = Unit {0}
+GivenAs x (take.Work (work.NoMessage k)) = Unit {0}
+GivenAs x (take.Work (work.Reconcile d)) = Unit {0}
+GivenAs x (take.Work (work.Device d asked)) = x ≡ device_event d asked
+GivenAs x (take.Work (work.Centre asked)) = x ≡ centre_event asked
+GivenAs x (take.Work (work.Host asked)) = x ≡ host_event asked
+GivenAs x (take.Work (work.Verifier asked)) = x ≡ verifier_event asked
 
 for_device_given : (bytes : List ℕ) (k d : ℕ) (t : Bool) → GivenAs (ev.Give (if t then Device d else Centre) bytes) (if t then takes.to_device d bytes k else takes.to_centre bytes k)
 for_device_given bytes k d true = refl
@@ -155,7 +162,7 @@ module _ (pool : List (List ℕ)) (quote : Quote) where
   delivered : (k : ℕ) (x : Taken) → takes.message_taken k (length pool) (slice_get pool k) ≡ x → GivenAs (as_given pool (ev.Deliver k)) x
   delivered k x is = subst (λ (y : Taken). GivenAs (as_given pool (ev.Deliver k)) y) is (message_given k (length pool) (slice_get pool k))
 
-  pub device_given : (e : Event) (d : ℕ) (asked : Asked DeviceCall) → taken pool quote e ≡ Some (take.Device d asked) → as_given pool e ≡ device_event d asked
+  pub device_given : (e : Event) (d : ℕ) (asked : Asked DeviceCall) → taken pool quote e ≡ Some (take.Work (work.Device d asked)) → as_given pool e ≡ device_event d asked
   device_given = each_asked pool quote (λ e d asked. as_given pool e ≡ device_event d asked) (record {
     on = λ d. refl;
     off = λ d. refl;
@@ -167,10 +174,10 @@ module _ (pool : List (List ℕ)) (quote : Quote) where
     ack = λ d. refl;
     status = λ d. refl;
     give = λ d bytes. refl;
-    deliver = λ k d asked is. delivered k (take.Device d asked) is;
+    deliver = λ k d asked is. delivered k (take.Work (work.Device d asked)) is;
   })
 
-  pub centre_given : (e : Event) (asked : Asked CentreCall) → taken pool quote e ≡ Some (take.Centre asked) → as_given pool e ≡ centre_event asked
+  pub centre_given : (e : Event) (asked : Asked CentreCall) → taken pool quote e ≡ Some (take.Work (work.Centre asked)) → as_given pool e ≡ centre_event asked
   centre_given = each_of_centre pool quote (λ e asked. as_given pool e ≡ centre_event asked) (record {
     on = refl;
     off = refl;
@@ -181,10 +188,10 @@ module _ (pool : List (List ℕ)) (quote : Quote) where
     flag = λ w suspended. refl;
     balance = λ w. refl;
     give = λ bytes. refl;
-    deliver = λ k asked is. delivered k (take.Centre asked) is;
+    deliver = λ k asked is. delivered k (take.Work (work.Centre asked)) is;
   })
 
-  pub host_given : (e : Event) (asked : Asked HostCall) → taken pool quote e ≡ Some (take.Host asked) → as_given pool e ≡ host_event asked
+  pub host_given : (e : Event) (asked : Asked HostCall) → taken pool quote e ≡ Some (take.Work (work.Host asked)) → as_given pool e ≡ host_event asked
   host_given = each_of_host pool quote (λ e asked. as_given pool e ≡ host_event asked) (record {
     on = refl;
     off = refl;
@@ -194,10 +201,10 @@ module _ (pool : List (List ℕ)) (quote : Quote) where
     print = λ j. refl;
     close = λ j. refl;
     give = λ bytes. refl;
-    deliver = λ k asked is. delivered k (take.Host asked) is;
+    deliver = λ k asked is. delivered k (take.Work (work.Host asked)) is;
   })
 
-  pub verifier_given : (e : Event) (asked : Asked VerifierCall) → taken pool quote e ≡ Some (take.Verifier asked) → as_given pool e ≡ verifier_event asked
+  pub verifier_given : (e : Event) (asked : Asked VerifierCall) → taken pool quote e ≡ Some (take.Work (work.Verifier asked)) → as_given pool e ≡ verifier_event asked
   verifier_given = each_of_verifier pool quote (λ e asked. as_given pool e ≡ verifier_event asked) (record {
     on = refl;
     off = refl;
@@ -212,13 +219,13 @@ module _ (pool : List (List ℕ)) (quote : Quote) where
   abbrev IsRangedTaken : Taken → Type 0
   IsRangedTaken (take.Day t) = Unit {0}
   IsRangedTaken take.End = Unit {0}
-  IsRangedTaken take.Rates = Unit {0}
-  IsRangedTaken (take.NoMessage k) = Unit {0}
-  IsRangedTaken (take.Reconcile d) = Unit {0}
-  IsRangedTaken (take.Device d asked) = Unit {0}
-  IsRangedTaken (take.Centre asked) = OfCall IsRangedCall asked
-  IsRangedTaken (take.Host asked) = OfCall IsRangedJob asked
-  IsRangedTaken (take.Verifier asked) = OfCall IsRangedScan asked
+  IsRangedTaken (take.Work work.Rates) = Unit {0}
+  IsRangedTaken (take.Work (work.NoMessage k)) = Unit {0}
+  IsRangedTaken (take.Work (work.Reconcile d)) = Unit {0}
+  IsRangedTaken (take.Work (work.Device d asked)) = Unit {0}
+  IsRangedTaken (take.Work (work.Centre asked)) = OfCall IsRangedCall asked
+  IsRangedTaken (take.Work (work.Host asked)) = OfCall IsRangedJob asked
+  IsRangedTaken (take.Work (work.Verifier asked)) = OfCall IsRangedScan asked
 
   read_ranged : (bytes : List ℕ) (k : ℕ) (x : Result Message Unread) → IsRangedTaken (takes.delivered_as bytes k x)
   read_ranged bytes k (Ok (m.Reply p)) = by (nat_le 1 p.device && nat_le p.device 8)
@@ -243,7 +250,7 @@ module _ (pool : List (List ℕ)) (quote : Quote) where
   handed : (k : ℕ) (x : Taken) → takes.message_taken k (length pool) (slice_get pool k) ≡ x → IsRangedTaken x
   handed k x is = subst IsRangedTaken is (message_ranged k (length pool) (slice_get pool k))
 
-  pub centre_ranged : (e : Event) (asked : Asked CentreCall) → taken pool quote e ≡ Some (take.Centre asked) → IsWholeEvent e → OfCall IsRangedCall asked
+  pub centre_ranged : (e : Event) (asked : Asked CentreCall) → taken pool quote e ≡ Some (take.Work (work.Centre asked)) → IsWholeEvent e → OfCall IsRangedCall asked
   centre_ranged = each_of_centre pool quote (λ e asked. IsWholeEvent e → OfCall IsRangedCall asked) (record {
     on = λ whole. tt;
     off = λ whole. tt;
@@ -254,11 +261,11 @@ module _ (pool : List (List ℕ)) (quote : Quote) where
     flag = λ w suspended whole. whole;
     balance = λ w whole. whole;
     give = λ bytes whole. tt;
-    deliver = λ k asked is whole. handed k (take.Centre asked) is;
+    deliver = λ k asked is whole. handed k (take.Work (work.Centre asked)) is;
   })
 
   -- a price is one where the quote gives one
-  pub host_ranged : (e : Event) (asked : Asked HostCall) → taken pool quote e ≡ Some (take.Host asked) → IsWholeEvent e → IsPricedAsked asked → OfCall IsRangedJob asked
+  pub host_ranged : (e : Event) (asked : Asked HostCall) → taken pool quote e ≡ Some (take.Work (work.Host asked)) → IsWholeEvent e → IsPricedAsked asked → OfCall IsRangedJob asked
   host_ranged = each_of_host pool quote (λ e asked. IsWholeEvent e → IsPricedAsked asked → OfCall IsRangedJob asked) (record {
     on = λ whole priced. tt;
     off = λ whole priced. tt;
@@ -268,10 +275,10 @@ module _ (pool : List (List ℕ)) (quote : Quote) where
     print = λ j whole priced. tt;
     close = λ j whole priced. tt;
     give = λ bytes whole priced. tt;
-    deliver = λ k asked is whole priced. handed k (take.Host asked) is;
+    deliver = λ k asked is whole priced. handed k (take.Work (work.Host asked)) is;
   })
 
-  pub verifier_ranged : (e : Event) (asked : Asked VerifierCall) → taken pool quote e ≡ Some (take.Verifier asked) → IsWholeEvent e → OfCall IsRangedScan asked
+  pub verifier_ranged : (e : Event) (asked : Asked VerifierCall) → taken pool quote e ≡ Some (take.Work (work.Verifier asked)) → IsWholeEvent e → OfCall IsRangedScan asked
   verifier_ranged = each_of_verifier pool quote (λ e asked. IsWholeEvent e → OfCall IsRangedScan asked) (record {
     on = λ whole. tt;
     off = λ whole. tt;

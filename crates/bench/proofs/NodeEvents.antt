@@ -28,12 +28,13 @@ use Rattle.host_rates.specs.Laws.{KeptPrices}
 use Rattle.ledger_moves.specs.Tariffs.{Tariff}
 use Rattle.ledger_moves.specs.Moves as ledger
 use Rattle.ledger_moves.specs.Moves.{plan}
-use Rattle.bench_views.specs.declared.taken.Taken.{Taken}
 use Rattle.bench_views.specs.declared.taken.Taken.TheVariants as take
+use Rattle.bench_views.specs.declared.taken.Work.{Work}
+use Rattle.bench_views.specs.declared.taken.Work.TheVariants as work
 use Rattle.bench_views.specs.Tariff.{quote}
 use Rattle.bench_views.specs.Taken.{taken, as_given}
 use Rattle.bench_views.specs.Follows.{Follows, FollowsAlways}
-use Rattle.bench_views.proofs.Events.{some-same}
+use Rattle.bench_views.proofs.Events.{same_work, some-same}
 use Rattle.bench.specs.Benches.{Nodes, OneKind, OfChange, At, IsReady, Stands, devices, centre, host, verifier, BenchOf}
 use Rattle.bench.specs.Outside.{Outside}
 use Rattle.bench_base.specs.Replies.{tells_failure}
@@ -154,20 +155,20 @@ not_failed reply failure is tells fine = absurd (true≢false (sym tells ∙ sym
 module _ (n : Nodes) (e x : Event) (today : ℤ) (old new : BenchOf n) (turn : Turn)
     (before now : Outside) (m : Node) (o : OneKind n.Storage) (d : o.Name) (asked : Asked o.Call) (s t : o.Own) where
   -- the event asks this of a node that is on the bench, and came to this turn of it
-  pub record IsAsked (taken_as : Asked o.Call → Taken) : Type 1 where
+  pub record IsAsked (work_of : Asked o.Call → Work) : Type 1 where
     pub located : IsAt n old new m o d s t
     pub did : NodeTurn o.ghosts n.storage n.fuse o.kind m d today x asked s t turn
     pub given : as_given old.messages e ≡ x
     pub of : IsOfNode m x
     pub dated : old.day ≡ Some today
-    pub taken_is : taken old.messages (quote old.rates) e ≡ Some (taken_as asked)
-    pub told : (k : ℕ) → Some (take.NoMessage k) ≡ Some (taken_as asked) → ⊥
+    pub taken_is : taken old.messages (quote old.rates) e ≡ Some (take.Work (work_of asked))
+    pub told : (k : ℕ) → work.NoMessage k ≡ work_of asked → ⊥
     pub sends : new.messages ≡ old.messages ++ notes_in turn.entries
     pub feed : now.rates ≡ before.rates
     pub prints : NodePrints o.ghosts n.storage o.kind m d today asked s turn.reply before.printer now.printer
-    pub does : n.storage.tells → DoesAsked n today turn old new before now (taken_as asked)
+    pub does : n.storage.tells → DoesAsked n today turn old new before now (work_of asked)
 
-  module _ (taken_as : Asked o.Call → Taken) (is : IsAsked taken_as) where
+  module _ (work_of : Asked o.Call → Work) (is : IsAsked work_of) where
     did : NodeDid n m e x turn old new before now
     did = record {
       given = is.given;
@@ -186,7 +187,7 @@ module _ (n : Nodes) (e x : Event) (today : ℤ) (old new : BenchOf n) (turn : T
           (told.0, is.located.put (λ o i d s t. UsesCommit (meters_of o.ghosts n.storage s).fuse (meters_of o.ghosts n.storage t).fuse) told.1);
       untouched = λ calls fine none.
           is.located.same (is.did.untouched calls (λ lost. not_failed turn.reply _ lost refl fine) (λ failed. not_failed turn.reply _ failed refl fine) none) (old.messages ++ notes_in turn.entries) is.sends;
-      there = λ k none. is.told k (sym none ∙ is.taken_is);
+      there = λ k none. is.told k (same_work (sym none ∙ is.taken_is));
       feed = is.feed;
       mark = is.prints.mark;
       printer = is.prints.alone;
@@ -201,8 +202,8 @@ module _ (n : Nodes) (e x : Event) (today : ℤ) (old new : BenchOf n) (turn : T
     shown tells = record {
       does = λ u y day taken_is.
           let when : today ≡ u = some-same (sym is.dated ∙ day) in
-          let what : taken_as asked ≡ y = some-same (sym is.taken_is ∙ taken_is) in
-          subst (λ (j : ℤ). DoesAsked n j turn old new before now y) when (subst (λ (z : Taken). DoesAsked n today turn old new before now z) what (is.does tells));
+          let what : work_of asked ≡ y = same_work (sym is.taken_is ∙ taken_is) in
+          subst (λ (j : ℤ). DoesAsked n j turn old new before now y) when (subst (λ (z : Work). DoesAsked n today turn old new before now z) what (is.does tells));
       unwritten = at_unwritten n m e x turn old new before now did tells;
       damaged = at_damaged n m e x turn old new before now did tells;
     }
@@ -234,13 +235,13 @@ module _ (n : Nodes) (e x : Event) (today : ℤ) (old new : BenchOf n) (turn : T
 
     pub steps : IsWholeEvent e → IsReady old → KeptPrices → (IsWhole : Asked o.Call → Type 0) → IsWhole asked
         → (IsKnown : o.ghosts.Seen → Type 0) → ((k : o.ghosts.Seen) → o.ghosts.IsSound d k → IsKnown k)
-        → FollowsAlways o.ghosts.counting o.kind m d n.kinds taken_as IsWhole IsKnown → Steps n e [] turn old new before now
+        → FollowsAlways o.ghosts.counting o.kind m d n.kinds work_of IsWhole IsKnown → Steps n e [] turn old new before now
     steps whole ready prices IsWhole bytes IsKnown knows follows = record {
       history = λ τ L texts history unforged stands tells.
           let v = view_in m (o.kind.seen d) L in
           let st = is.located.stood L stands in
           let law = follows τ L e today asked history unforged (sym stands.day.day ∙ is.dated) whole
-          (taken_by τ prices texts L old.messages old.rates e (taken_as asked) stands.day.messages stands.day.rates is.taken_is) bytes
+          (taken_by τ prices texts L old.messages old.rates e (take.Work (work_of asked)) stands.day.messages stands.day.rates is.taken_is) bytes
           (knows v.state ((st.store.sound tells).state)) (each_some (λ k next. knows k next.0) (node_commit (o.kind.commit d today v) asked) (is.did.keeps v st tells)) in
           at_on n m e x turn old new before now did τ L (on τ L stands tells law) history unforged whole ready stands tells;
       shown = shown;

@@ -135,10 +135,3 @@ IsRangedJob (host.Take c) = Unit {0}
 abbrev pub IsRangedScan : VerifierCall → Type 0
 IsRangedScan (verifier.Trust c) = IsDevice c.device × IsKey c.key
 IsRangedScan (verifier.Scan c) = IsCount c.number
-
--- == without a day ==
-
--- the reply to an event that needs a day
-abbrev pub dated : Option ℤ → Reply → Reply
-dated None reply = r.NoDay
-dated (Some today) reply = reply

@@ -21,7 +21,7 @@ use bench_base::numbers::DayNo;
 use bench_base::stream::{Sink, Source};
 use bench_base::words::Node as NodeNo;
 use bench_views::laws::{host_follows, nodes_follow, verifier_follows};
-use bench_views::{Taken, take};
+use bench_views::{Taken, Work, take};
 use host_rates::laws::prices_by_text;
 use node_turns::{Sending, Tell, Turn};
 use nv_model::{Fuse, Nv};
@@ -90,26 +90,24 @@ fn turn_of<T: Tell, M: Fuse + Drop, N: Nv, P: Sink>(
             begun(*day)
         }
         Taken::End => T::silent(Reply::End),
-        _ => match today {
+        Taken::Work(work) => match today {
             None => T::silent(Reply::NoDay),
-            Some(day) => match taken {
-                Taken::Day(_) => unreachable!(),
-                Taken::End => unreachable!(),
-                Taken::Rates => unreachable!(),
-                Taken::NoMessage(number) => T::silent(Reply::NoMessage(*number)),
-                Taken::Reconcile(device) => {
+            Some(day) => match work {
+                Work::Rates => unreachable!(),
+                Work::NoMessage(number) => T::silent(Reply::NoMessage(*number)),
+                Work::Reconcile(device) => {
                     T::silent(compare(*device, &bench.devices, &bench.centre))
                 }
-                Taken::Device(device, asked) => {
+                Work::Device(device, asked) => {
                     device_turn(&mut bench.devices, *device, day, asked, printer)
                 }
-                Taken::Centre(asked) => {
+                Work::Centre(asked) => {
                     node_turn(&mut bench.centre, (), &NodeNo::Centre, day, asked, printer)
                 }
-                Taken::Host(asked) => {
+                Work::Host(asked) => {
                     node_turn(&mut bench.host, (), &NodeNo::Host, day, asked, printer)
                 }
-                Taken::Verifier(asked) => {
+                Work::Verifier(asked) => {
                     node_turn(
                         &mut bench.verifier,
                         (),
