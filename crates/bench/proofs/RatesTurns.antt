@@ -25,7 +25,6 @@ use Rattle.host_rates.specs.Answers.{answer}
 use Rattle.ledger_moves.specs.Tariffs.{Tariff}
 use Rattle.ledger_moves.specs.Histories.{History}
 use Rattle.ledger_moves.specs.Moves.{plan}
-use Rattle.bench_views.specs.declared.taken.Taken.TheVariants as take
 use Rattle.bench_views.specs.declared.taken.Work.TheVariants as work
 use Rattle.bench_views.specs.Tariff.{IsOfTexts}
 use Rattle.bench_views.proofs.RatesPlans.{plan_of, planned, are_rates, plan_rates}
