@@ -33,10 +33,11 @@ use Rattle.ledger_moves.specs.Tariffs.{Tariff}
 use Rattle.ledger_moves.specs.Moves.{FailsToRead, plan}
 use Rattle.bench_views.specs.declared.taken.Taken.{Taken}
 use Rattle.bench_views.specs.declared.taken.Taken.TheVariants as take
+use Rattle.bench_views.specs.declared.taken.Work.{Work}
+use Rattle.bench_views.specs.declared.taken.Work.TheVariants as work
 use Rattle.bench_views.specs.Tariff.{IsOfTexts, Quote, quote}
 use Rattle.bench_views.specs.Taken.{taken}
 use Rattle.bench_views.proofs.Events.{each_quiet, IsOfNone}
-use Rattle.bench.specs.Calls.{dated}
 use Rattle.bench.proofs.Making.{get_some}
 use Rattle.told_bench.specs.declared.judging.Heard.{Heard}
 use Rattle.told_bench.specs.declared.judging.Finding.{Finding}
@@ -58,22 +59,22 @@ use Rattle.told_bench.proofs.Quiet.{IsSilent, heard_plainly}
 abbrev pub IsQuietAs : Event → Taken → Type 0
 IsQuietAs e (take.Day t) = e ≡ ev.Day t
 IsQuietAs e take.End = e ≡ ev.End
-IsQuietAs e take.Rates = e ≡ ev.Rates
-IsQuietAs e (take.NoMessage k) = needs_day e ≡ true
-IsQuietAs e (take.Reconcile d) = needs_day e ≡ true
-IsQuietAs e (take.Device d asked) = Unit {0}
-IsQuietAs e (take.Centre asked) = Unit {0}
-IsQuietAs e (take.Host asked) = Unit {0}
-IsQuietAs e (take.Verifier asked) = Unit {0}
+IsQuietAs e (take.Work work.Rates) = e ≡ ev.Rates
+IsQuietAs e (take.Work (work.NoMessage k)) = Unit {0}
+IsQuietAs e (take.Work (work.Reconcile d)) = Unit {0}
+IsQuietAs e (take.Work (work.Device d asked)) = Unit {0}
+IsQuietAs e (take.Work (work.Centre asked)) = Unit {0}
+IsQuietAs e (take.Work (work.Host asked)) = Unit {0}
+IsQuietAs e (take.Work (work.Verifier asked)) = Unit {0}
 
 pub quiet_is : (pool : List (List ℕ)) (q : Quote) (e : Event) (x : Taken) → taken pool q e ≡ Some x → IsOfNone pool q x → IsQuietAs e x
 quiet_is pool q e x is of = each_quiet pool q IsQuietAs (record {
   day = λ t. refl;
   end = refl;
   rates = refl;
-  reconcile = λ d. refl;
-  deliver = λ k none. refl;
-  scan = λ j k none. refl;
+  reconcile = λ d. tt;
+  deliver = λ k none. tt;
+  scan = λ j k none. tt;
 }) e x is of
 
 -- == plans ==
@@ -193,24 +194,15 @@ module _ (τ : Tariff) (H : Ledger) (left line : List ℕ) (old : Audit) (sees :
 
   -- an event of no node that the bench answers by what it sees
   module _ (texts : IsOfTexts τ) (prices : KeptPrices) (history : History τ editions H) (quiet : OthersAreQuiet bench_kinds centres.IsKnown) (known : centres.IsKnown (centre_cells.view_of old.centre).state) where
-    pub hears_quiet : (today : ℤ) → old.day ≡ Some today → (e : Event) (x : Taken) → taken old.messages (quote old.rates) e ≡ Some x → IsOfNone old.messages (quote old.rates) x → x ≢ take.Rates → (reply : Reply) → quiet_by bench_kinds H x ≡ Some reply → IsStill reply → IsWholeEvent e
+    pub hears_quiet : (today : ℤ) → old.day ≡ Some today → (e : Event) (x : Work) → taken old.messages (quote old.rates) e ≡ Some (take.Work x) → x ≢ work.Rates → (reply : Reply) → quiet_by bench_kinds H x ≡ Some reply → IsStill reply → IsWholeEvent e
         → (result : Result Heard Finding) → IsPlainly reply line result → IsHeard τ H e left line old result
-    hears_quiet today day e x is of other reply answers still whole result plainly =
+    hears_quiet today day e x is other reply answers still whole result plainly =
         hears_still e reply
-        (quiet τ H e today x reply history (sym sees.day.day ∙ day) (taken_there τ prices texts H old e x sees is) (subst (λ (v : View centre.Seen). centres.IsKnown v.state) sees.centre known) answers)
+        (quiet τ H e today x reply history (sym sees.day.day ∙ day) (taken_there τ prices texts H old e (take.Work x) sees is) (subst (λ (v : View centre.Seen). centres.IsKnown v.state) sees.centre known) answers)
         still (not_for_rates old.messages (quote old.rates) e x is other) whole result plainly
 
-    -- such an event, with a day or without
-    pub hears_dated : (e : Event) (x : Taken) → taken old.messages (quote old.rates) e ≡ Some x → IsOfNone old.messages (quote old.rates) x → x ≢ take.Rates → needs_day e ≡ true → (reply : Reply) → quiet_by bench_kinds H x ≡ Some reply → IsStill reply → IsWholeEvent e
-        → (result : Result Heard Finding) → IsPlainly (dated old.day reply) line result → IsHeard τ H e left line old result
-    hears_dated e x is of other needs reply answers still whole result plainly = by old.day refl plainly
-      where
-        by : (o : Option ℤ) → old.day ≡ o → IsPlainly (dated o reply) line result → IsHeard τ H e left line old result
-        by None none plain = hears_no_day e needs none whole result plain
-        by (Some today) some plain = hears_quiet today some e x is of other reply answers still whole result plain
-
 -- what compares a device and the centre is what the ledger compares
-pub compared_at : (H : Ledger) (old : Audit) → SeesRun old H → IsReady old → (d : ℕ) → IsDevice d → (reply : Reply) → ComparesInPlace d old.devices old.centre reply → (quiet_by bench_kinds H (take.Reconcile d) ≡ Some reply) × IsStill reply
+pub compared_at : (H : Ledger) (old : Audit) → SeesRun old H → IsReady old → (d : ℕ) → IsDevice d → (reply : Reply) → ComparesInPlace d old.devices old.centre reply → (quiet_by bench_kinds H (work.Reconcile d) ≡ Some reply) × IsStill reply
 compared_at H old sees ready d named reply shows =
     let i = d - 1 in
     let place : d ≡ i + 1 = omega (arith, named.0) in

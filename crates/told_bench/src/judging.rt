@@ -4,7 +4,6 @@ ghost use Rattle.bench_base.specs.Ranges.{IsDevice, IsWholeEvent};
 ghost use Rattle.bench_views.specs.Centre as centres;
 ghost use Rattle.bench_views.specs.Verifier as verifiers;
 ghost use Rattle.bench.specs.declared.benches.TheConstants.{MOST_MESSAGES};
-ghost use Rattle.bench.specs.Calls.{dated};
 ghost use Rattle.told_bench.specs.Placed.{DeviceJudged, ComparesInPlace};
 ghost use Rattle.told_bench.specs.Plainly.{IsPlainly, SendsHeard, heard_of, heard_of_device, heard_of_host, heard_of_rates};
 ghost use Rattle.told_bench.specs.Seeing.{AreSettled, IsReady, audit_of};
@@ -18,7 +17,7 @@ use bench_base::events::{Event, Reply};
 use bench_base::numbers::{DayNo, DevNo};
 use bench_calls::{hands_bytes, scans_bytes};
 use bench_views::laws::nodes_follow;
-use bench_views::{CentreCall, DeviceCall, Taken, VerifierCall, take};
+use bench_views::{CentreCall, DeviceCall, Taken, VerifierCall, Work, take};
 use centre_ledger::Row;
 use host_rates::laws::prices_by_text;
 use node_acts::Asked;
@@ -45,16 +44,6 @@ pub struct Heard {
     pub sent: Option<Note>,
     pub released: Option<[u8; 64]>,
     pub taken: usize,
-}
-
-// The reply to an event that needs a day.
-fn on_day(day: Option<DayNo>, reply: Reply) -> Reply
-    ensures { result ≡ dated day reply }
-{
-    match day {
-        Some(_) => reply,
-        None => Reply::NoDay,
-    }
 }
 
 // The line beside the one answer to an event.
@@ -212,42 +201,28 @@ pub(crate) fn hear(
             Err(finding) => Err(finding),
         },
         Taken::End => plain(Reply::End, line),
-        Taken::NoMessage(number) => plain(on_day(today, Reply::NoMessage(*number)), line),
-        Taken::Reconcile(device) => {
-            let due = compare_in_place(*device, &auditor.devices, &auditor.centre);
-            plain(on_day(today, due), line)
-        }
-        Taken::Rates => match today {
+        Taken::Work(work) => match today {
             None => plain(Reply::NoDay, line),
-            Some(_) => of_rates(judge_rates(alloc, &mut auditor.rates, left, line)),
-        },
-        Taken::Device(device, asked) => match today {
-            None => plain(Reply::NoDay, line),
-            Some(day) => of_device(device_in_place(
-                &mut auditor.devices,
-                *device,
-                day,
-                asked,
-                line,
-            )),
-        },
-        Taken::Centre(asked) => match today {
-            None => plain(Reply::NoDay, line),
-            Some(day) => {
-                hands_centre(asked);
-                of_node(judge_centre(&mut auditor.centre, day, asked, line))
-            }
-        },
-        Taken::Host(asked) => match today {
-            None => plain(Reply::NoDay, line),
-            Some(day) => of_host(judge_host(&mut auditor.host, day, asked, line)),
-        },
-        Taken::Verifier(asked) => match today {
-            None => plain(Reply::NoDay, line),
-            Some(day) => {
-                hands_verifier(asked);
-                of_node(judge_scans(&mut auditor.verifier, day, asked, line))
-            }
+            Some(day) => match work {
+                Work::Rates => of_rates(judge_rates(alloc, &mut auditor.rates, left, line)),
+                Work::NoMessage(number) => plain(Reply::NoMessage(*number), line),
+                Work::Reconcile(device) => {
+                    let due = compare_in_place(*device, &auditor.devices, &auditor.centre);
+                    plain(due, line)
+                }
+                Work::Device(device, asked) => {
+                    of_device(device_in_place(&mut auditor.devices, *device, day, asked, line))
+                }
+                Work::Centre(asked) => {
+                    hands_centre(asked);
+                    of_node(judge_centre(&mut auditor.centre, day, asked, line))
+                }
+                Work::Host(asked) => of_host(judge_host(&mut auditor.host, day, asked, line)),
+                Work::Verifier(asked) => {
+                    hands_verifier(asked);
+                    of_node(judge_scans(&mut auditor.verifier, day, asked, line))
+                }
+            },
         },
     }
 }
