@@ -15,6 +15,7 @@ use Rattle.bench_base.specs.Cells as cells
 use Rattle.bench_base.proofs.Facts.{not-none}
 use Rattle.node_acts.specs.RowList.{row_at}
 use Rattle.node_acts.specs.RowLaws.{listed_at}
+use Rattle.centre_ledger.specs.Rows.{is_withdrawn}
 use Rattle.ledger_terms.specs.Centres.{registered, enrolled, withdrawn, opened}
 use Rattle.centre_ledger.specs.declared.rows.DeviceRow.{DeviceRow}
 use Rattle.centre_ledger.specs.declared.rows.CustomerRow.{CustomerRow}
@@ -25,7 +26,7 @@ use Rattle.centre_ledger.specs.Books as books
 use Rattle.centre_ledger.specs.Order.{InOrder, Follows}
 use Rattle.centre_ledger.specs.Laws.{IsSlotOf, IsCustomerSlotOf, touches_device, touches_customer}
 use Rattle.centre_ledger.specs.ActLaws.{AreBooksOf}
-use Rattle.centre_ledger.specs.Records.{state_of, device_row_with, device_row, customer_row_with, customer_row, IsRowOf, IsCustomerOf}
+use Rattle.centre_ledger.specs.Records.{enrolment_of, device_row_with, device_row, customer_row_with, customer_row, IsRowOf, IsCustomerOf}
 use Rattle.centre_ledger.specs.Seen.{books_in, device_in, customer_in}
 use Rattle.centre_ledger.proofs.ByCommits.{enrolled-is}
 use Rattle.bench_views.specs.Centre.{place_in, row_in, cell_after, seen_in}
@@ -138,7 +139,7 @@ no_customer w (x ∷ C) range none = ⊎_elim
     customer_in_range e (c.Flagged f flag) t fits = subst IsCustomer (eqb-true f e t) fits
     customer_in_range e _ t fits = absurd (true≢false (sym t))
 
-withdrawn-is : (w : Option ℕ) (gone : Bool) → (gone ≡ true → IsSome w) → (state_of w gone == 3) ≡ gone
+withdrawn-is : (w : Option ℕ) (gone : Bool) → (gone ≡ true → IsSome w) → is_withdrawn (enrolment_of w gone) ≡ gone
 withdrawn-is None true some = absurd (true≢false (sym (some refl)))
 withdrawn-is None false some = refl
 withdrawn-is (Some w) true some = refl
