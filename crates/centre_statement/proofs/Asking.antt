@@ -19,7 +19,7 @@ use Rattle.centre_ledger.specs.Acts.{left_act}
 use Rattle.centre_ledger.specs.Plans.{says, told_balance}
 use Rattle.centre_ledger.specs.Records.{customer_row_with}
 use Rattle.ledger_moves.specs.Moves as moves
-use Rattle.ledger_moves.specs.Moves.{Moves, OtherUp, plan, at_node, unless_worn}
+use Rattle.ledger_moves.specs.Moves.{Moves, plan, unless_worn}
 use Rattle.ledger_moves.specs.Tariffs.{Tariff}
 use Rattle.ledger_terms.specs.Centres.{balance, opened}
 use Rattle.bench_base.proofs.Rows.{chosen}

@@ -5,7 +5,6 @@ use Rattle.std.proofs.lemmas.Option.{same_Some}
 use Rattle.bench_base.specs.declared.events.Event.{Event}
 use Rattle.bench_base.specs.declared.events.Reply.{Reply}
 use Rattle.node_turns.specs.declared.turn.Turn.{Turn}
-use Rattle.line_runs.specs.declared.status.Status.TheVariants as status
 use Rattle.desk_runs.specs.Deeds.{Done, Skipped, Did}
 use Rattle.desk_runs.specs.Desks.{World, world, Asks, Does}
 use Rattle.desk_runs.specs.SideDeeds.{SideDeed, Plain, Own, Broken}

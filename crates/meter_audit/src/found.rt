@@ -1,5 +1,5 @@
 //! What a report has for a line of its script, as text.
-ghost use Rattle.std.specs.Prelude.{◌≤◌, length};
+ghost use Rattle.std.specs.Prelude.{◌≤◌};
 
 use bench_base::stream::Source;
 use line_runs::lines::LineRead;

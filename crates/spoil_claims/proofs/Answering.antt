@@ -14,7 +14,6 @@ use Rattle.nv_store.specs.declared.room.Room.{Room}
 use Rattle.node_acts.specs.RowList.{is_worn, put}
 use Rattle.node_turns.specs.declared.turn.Turn.{Turn}
 use Rattle.script_text.specs.Texts.{text_of}
-use Rattle.line_runs.specs.declared.status.Status.TheVariants as status
 use Rattle.desk_runs.specs.Deeds.{Done, Skipped, Did}
 use Rattle.desk_runs.specs.Desks.{World, world, Asks, Does}
 use Rattle.desk_runs.specs.SideDeeds.{SideDeed, Plain, Own, Broken}

@@ -1,7 +1,6 @@
 -- What the line of the report tells of an event, by the ledger.
 use Rattle.std.specs.Prelude.{◌≡◌, ◌≢◌, ℕ, ℤ, List, [], length, take, not, ◌&&◌, is_some, if◌then◌else◌, Option, Result, Ok, Err}
 use Rattle.bench_base.specs.declared.events.Event.{Event}
-use Rattle.bench_base.specs.declared.events.Event.TheVariants as ev
 use Rattle.bench_base.specs.declared.events.Reply.{Reply}
 use Rattle.bench_base.specs.Events.{takes_rates}
 use Rattle.bench_base.specs.Replies.{Told, Did, told_by, fails_to_read}

@@ -1,5 +1,5 @@
 -- A line that is read block by block.
-use Rattle.std.proofs.Common.{◌≡◌, ℕ, ◌+◌, ◌-◌, ◌<◌, ◌≤◌, List, [], ◌∷◌, ◌++◌, length, take, drop, Bool, true, false, Option, refl, sym, ◌∙◌, ap, subst, arith, append-nil, append_assoc}
+use Rattle.std.proofs.Common.{◌≡◌, ℕ, ◌+◌, ◌-◌, ◌<◌, ◌≤◌, List, [], ◌∷◌, ◌++◌, length, take, drop, true, false, Option, sym, ◌∙◌, ap, subst, arith, append-nil, append_assoc}
 use Rattle.std.proofs.lemmas.List.{length-append, length-drop, length-take, length-take-le, length_push, take-append-le, take_all}
 use Rattle.std.proofs.lemmas.List.Elements.{recursion_from_All}
 use Rattle.std.proofs.KnownBytes.{Consumes-trans}
@@ -8,7 +8,7 @@ use lib.Seq.{take-append-add}
 use borrow.Rule.Slice.PartMut.{put_mid}
 use Rattle.line_runs.specs.declared.lines.LineRead.{LineRead}
 use Rattle.line_runs.specs.declared.lines.LineRead.TheVariants as read
-use Rattle.line_runs.specs.Lines.{IsOneLine, ended, ReadsLine}
+use Rattle.line_runs.specs.Lines.{IsOneLine, ReadsLine}
 use Rattle.line_runs.proofs.Held.{Held, Without-push}
 use Rattle.read_ahead.specs.Pieces.{GivesPiece}
 use Rattle.read_ahead.specs.declared.Piece.{Piece}

@@ -47,9 +47,6 @@ module _ (end : Ending) (number : ℕ) (left0 left1 : Option (List ℕ)) (buf : 
   pub said_long : ReadAs left0 left1 buf read.Long → IsSaid end number left0 left1 (More number)
   said_long r = said_more r.0 r.1 (omega (arith, r.2.1))
 
-  pub said_unread : ReadAs left0 left1 buf read.Fault → IsSaid end number left0 left1 (Unread input.Report number)
-  said_unread r = (some r.0 r.1, λ told. inr (inr refl))
-
 -- == the answer to an event ==
 
 -- a line was read, and then more

@@ -1,4 +1,4 @@
-use Rattle.std.proofs.Common.{◌≡◌, ◌+◌, ℕ, List, length, ap, arith}
+use Rattle.std.proofs.Common.{◌≡◌, ℕ, List, length, ap, arith}
 use Rattle.told_bench.specs.Seeing.{audit_of}
 use Rattle.told_runs.proofs.Passing.{begins, goes, ends, falls, too_many}
 use Rattle.told_runs.proofs.audit.audit_run.Goals as goal
