@@ -38,8 +38,6 @@ no_books = λ i. record {
 
 pub centre_sound : IsSound (seen_in [])
 centre_sound = record {
-  long = listed_long CENTRE_CELLS (λ k. cell_after k []);
-  few = no_commits (seen_in []) centre_nothing;
+  known = record { long = listed_long CENTRE_CELLS (λ k. cell_after k []); few = no_commits (seen_in []) centre_nothing; sound = subst AreSound (sym no_books) none-kept.sound };
   placed = λ k. subst (λ (o : Option (ℕ × Row)). IfSome (row_of o) (IsIn k)) (sym (centre_nothing k)) tt;
-  books = subst AreSound (sym no_books) none-kept.sound;
 }

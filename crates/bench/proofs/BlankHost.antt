@@ -5,12 +5,11 @@ use Rattle.node_acts.specs.RowLaws.{listed_long}
 use Rattle.host_jobs.specs.declared.sizes.TheConstants.{HOST_CELLS}
 use Rattle.host_jobs.specs.Records.{cell_after, seen_after}
 use Rattle.host_jobs.specs.Rows.{no_jobs}
-use Rattle.host_jobs.specs.Seen.{rows_in}
+use Rattle.host_jobs.specs.Seen.{rows_in, IsKnown}
 use Rattle.host_jobs.specs.Soundness.{AreSound}
 use Rattle.host_jobs.proofs.FollowingActs.{follows}
 use Rattle.host_jobs.proofs.Keeping.{none-kept}
 use Rattle.host_jobs.proofs.Seeing.{seen-laws}
-use Rattle.host_node.specs.Sound.{IsSound}
 use Rattle.bench.proofs.Blank.{nothing_at, no_commits}
 
 pub host_nothing : (k : ℕ) → row_at (seen_after []) k ≡ None
@@ -19,9 +18,9 @@ host_nothing k = nothing_at HOST_CELLS (λ j. cell_after j []) (λ j. refl) k
 no_rows : rows_in (seen_after []) ≡ no_jobs
 no_rows = seen-laws.rows [] ∙ sym follows.none.are
 
-pub host_sound : IsSound (seen_after [])
+pub host_sound : IsKnown (seen_after [])
 host_sound = record {
   long = listed_long HOST_CELLS (λ k. cell_after k []);
   few = no_commits (seen_after []) host_nothing;
-  rows = subst AreSound (sym no_rows) none-kept.sound;
+  sound = subst AreSound (sym no_rows) none-kept.sound;
 }

@@ -2,11 +2,11 @@
 use Rattle.std.proofs.Common.{[], arith}
 use Rattle.verifier.specs.Records.{seen_after}
 use Rattle.verifier.proofs.LawActs.{follows}
-use Rattle.verifier_node.specs.Sound.{IsSound}
+use Rattle.verifier.specs.Seen.{IsKnown}
 use Rattle.bench.proofs.Blank.{no_commits}
 
-pub verifier_sound : IsSound (seen_after [])
+pub verifier_sound : IsKnown (seen_after [])
 verifier_sound = record {
-  rows = follows.sound [] (record { order = tt; roomy = omega arith; range = λ k c lt. absurd (omega arith) });
+  sound = follows.sound [] (record { order = tt; roomy = omega arith; range = λ k c lt. absurd (omega arith) });
   few = no_commits (seen_after []) follows.none;
 }

@@ -5,6 +5,7 @@ use Rattle.bench_base.specs.declared.refusals.CentreRefusal.{CentreRefusal}
 use Rattle.bench_base.specs.declared.events.Event.TheVariants as ev
 use Rattle.bench_base.specs.declared.events.Reply.TheVariants as r
 use Rattle.node_acts.specs.Plans.{IsOfNode}
+use Rattle.node_acts.proofs.OfCommits.{of_commit, commit_says}
 use Rattle.node_seat.specs.declared.node.Node.{Ghosts}
 use Rattle.node_seat.specs.Shown.{IsFitting}
 use Rattle.centre_ledger.specs.declared.rows.Row.{Row}
@@ -22,11 +23,9 @@ use Rattle.centre_ledger.proofs.SoundActs.{leaves}
 use Rattle.bench_views.specs.declared.calls.CentreCall.{CentreCall}
 use Rattle.bench_views.specs.declared.calls.CentreCall.TheVariants as call
 use Rattle.bench_views.specs.Centre.{centre_act, IsBytesCall}
-use Rattle.bench_views.proofs.Calling.{own_says}
 use Rattle.bench.specs.Calls.{centre_call_event, IsRangedCall}
-use Rattle.bench.proofs.Calls.{polite_says, CommitsNone, none_says, told_made, told_none, fits_says}
+use Rattle.bench.proofs.Calls.{polite_says, CommitsNone, told_made, told_none}
 use Rattle.node_turns.proofs.Calls.{IsCallOf, IsToldBy, MayRefuse, MaySay}
-use Rattle.bench.proofs.CentreFits.{act_fits}
 
 -- == what a call changes ==
 
@@ -35,26 +34,26 @@ module _ {K S R : Type 0} (n : Ghosts K S (Unit {0}) Row R) (b : Books) (sound :
   sound_acts = leaves b sound
 
   by : {A : Type 0} (act : CentreAct A) → LeavesSound b act → IsFitting n tt s act
-  by act left = act_fits n b s from act left
+  by act left = of_commit _ _ act left (λ c x leaves. from x leaves.0)
 
   -- it leaves sound rows
   pub call_fits : (c : CentreCall) → IsRangedCall c → IsBytesCall c → IsFitting n tt s (centre_act c b)
-  call_fits (call.Register c) ranged bytes = fits_says n tt s _ _ (acts.register_act c.device c.origin c.key b) (by (acts.register_act c.device c.origin c.key b) (sound_acts.registered c.device c.origin c.key ranged.0 ranged.1))
-  call_fits (call.Open c) ranged bytes = fits_says n tt s _ _ (acts.open_act c.customer b) (by (acts.open_act c.customer b) (sound_acts.opened c.customer ranged))
-  call_fits (call.Deposit c) ranged bytes = fits_says n tt s _ _ (acts.deposit_act c.customer c.receipt c.amount b) (by (acts.deposit_act c.customer c.receipt c.amount b) (sound_acts.deposited c.customer c.receipt c.amount))
-  call_fits (call.Flag c) ranged bytes = fits_says n tt s _ _ (acts.flag_act c.customer c.suspended b) (by (acts.flag_act c.customer c.suspended b) (sound_acts.flagged c.customer c.suspended))
-  call_fits (call.Balance c) ranged bytes = fits_says n tt s _ _ (acts.balance_act c.customer b) (by (acts.balance_act c.customer b) (sound_acts.balanced c.customer))
-  call_fits (call.Take c) ranged bytes = fits_says n tt s _ _ (acts.take_act c.bytes b) (by (acts.take_act c.bytes b) (sound_acts.taken c.bytes bytes))
+  call_fits (call.Register c) ranged bytes = commit_says _ _ _ (acts.register_act c.device c.origin c.key b) (by (acts.register_act c.device c.origin c.key b) (sound_acts.registered c.device c.origin c.key ranged.0 ranged.1))
+  call_fits (call.Open c) ranged bytes = commit_says _ _ _ (acts.open_act c.customer b) (by (acts.open_act c.customer b) (sound_acts.opened c.customer ranged))
+  call_fits (call.Deposit c) ranged bytes = commit_says _ _ _ (acts.deposit_act c.customer c.receipt c.amount b) (by (acts.deposit_act c.customer c.receipt c.amount b) (sound_acts.deposited c.customer c.receipt c.amount))
+  call_fits (call.Flag c) ranged bytes = commit_says _ _ _ (acts.flag_act c.customer c.suspended b) (by (acts.flag_act c.customer c.suspended b) (sound_acts.flagged c.customer c.suspended))
+  call_fits (call.Balance c) ranged bytes = commit_says _ _ _ (acts.balance_act c.customer b) (by (acts.balance_act c.customer b) (sound_acts.balanced c.customer))
+  call_fits (call.Take c) ranged bytes = commit_says _ _ _ (acts.take_act c.bytes b) (by (acts.take_act c.bytes b) (sound_acts.taken c.bytes bytes))
 
 -- == whose the commit is ==
 
 call_own : (c : CentreCall) (b : Books) → IsOfNode Centre (centre_act c b)
-call_own (call.Register c) b = own_says Centre _ _ (acts.register_act c.device c.origin c.key b) (register_own c.device c.origin c.key (device_at b c.device))
-call_own (call.Open c) b = own_says Centre _ _ (acts.open_act c.customer b) (open_own c.customer (customer_at b c.customer))
-call_own (call.Deposit c) b = own_says Centre _ _ (acts.deposit_act c.customer c.receipt c.amount b) (deposit_own c.customer c.receipt c.amount (customer_at b c.customer))
-call_own (call.Flag c) b = own_says Centre _ _ (acts.flag_act c.customer c.suspended b) (flag_own c.customer c.suspended (customer_at b c.customer))
-call_own (call.Balance c) b = own_says Centre _ _ (acts.balance_act c.customer b) (left_own c.customer (left_in b c.customer) (customer_at b c.customer))
-call_own (call.Take c) b = own_says Centre _ _ (acts.take_act c.bytes b) (take_own c.bytes (in_books b) (read c.bytes))
+call_own (call.Register c) b = commit_says _ _ _ (acts.register_act c.device c.origin c.key b) (register_own c.device c.origin c.key (device_at b c.device))
+call_own (call.Open c) b = commit_says _ _ _ (acts.open_act c.customer b) (open_own c.customer (customer_at b c.customer))
+call_own (call.Deposit c) b = commit_says _ _ _ (acts.deposit_act c.customer c.receipt c.amount b) (deposit_own c.customer c.receipt c.amount (customer_at b c.customer))
+call_own (call.Flag c) b = commit_says _ _ _ (acts.flag_act c.customer c.suspended b) (flag_own c.customer c.suspended (customer_at b c.customer))
+call_own (call.Balance c) b = commit_says _ _ _ (acts.balance_act c.customer b) (left_own c.customer (left_in b c.customer) (customer_at b c.customer))
+call_own (call.Take c) b = commit_says _ _ _ (acts.take_act c.bytes b) (take_own c.bytes (in_books b) (read c.bytes))
 
 -- == how they are told ==
 
@@ -99,7 +98,7 @@ call_told (call.Deposit c) b = told_made Centre _ refl (omega arith) _ (call_own
     (polite_says Centre (ev.Deposit c.customer c.receipt c.amount) r.CentreRefused (told_deposited c.customer c.receipt) (refused (call.Deposit c)) (λ done. record { told = refl; gets = (c.amount, refl); adds = λ made none. (made, none, refl) }) (acts.deposit_act c.customer c.receipt c.amount b))
 call_told (call.Flag c) b = told_made Centre _ refl (omega arith) _ (call_own (call.Flag c) b)
     (polite_says Centre (ev.Flag c.customer c.suspended) r.CentreRefused (told_flagged c.customer c.suspended) (refused (call.Flag c)) (λ u. record { told = refl; gets = refl; adds = λ made none. (made, none, refl) }) (acts.flag_act c.customer c.suspended b))
-call_told (call.Balance c) b = told_none Centre _ _ (none_says _ _ (acts.balance_act c.customer b) (balance_free c.customer (left_in b c.customer) (customer_at b c.customer)))
+call_told (call.Balance c) b = told_none Centre _ _ (commit_says _ _ _ (acts.balance_act c.customer b) (balance_free c.customer (left_in b c.customer) (customer_at b c.customer)))
     (polite_says Centre (ev.Balance c.customer) r.CentreRefused (told_balance c.customer) (refused (call.Balance c)) (λ left. record { told = refl; gets = refl; adds = λ made none. (made, none, refl) }) (acts.balance_act c.customer b))
 call_told (call.Take c) b = told_made Centre _ refl (omega arith) _ (call_own (call.Take c) b)
     (polite_says Centre (ev.Give Centre c.bytes) r.CentreRefused (told_taken c.message) (refused (call.Take c)) (took_said c.message c.bytes) (acts.take_act c.bytes b))

@@ -14,7 +14,8 @@ use Rattle.bench_base.specs.Rules.{Rules, todays_rules}
 use Rattle.bench_base.proofs.Rows.{chosen, first}
 use Rattle.indicium.specs.declared.Mark.{Mark}
 use Rattle.indicium.specs.Marks as marks
-use Rattle.node_acts.specs.declared.act.Act.TheVariants.{Refuse, Tell, Commits}
+use Rattle.node_acts.proofs.OfCommits.{commit_says}
+use Rattle.psd_state.proofs.Released.{commit_released}
 use Rattle.node_seat.specs.declared.node.Node.{Ghosts}
 use Rattle.node_seat.specs.Shown.{IsFitting}
 use Rattle.psd_wire.specs.declared.message.DebitMsg.{DebitMsg}
@@ -24,12 +25,11 @@ use Rattle.psd_wire.specs.declared.message.Message.{Message}
 use Rattle.psd_wire.specs.declared.message.Message.TheVariants as m
 use Rattle.psd_wire.specs.Grammar.{read}
 use Rattle.psd_state.specs.State.{State}
-use Rattle.psd_state.specs.Acts.{DeviceAct, make_act, franked_act, debit_act, asked_act, ask_act, applied_act, reply_rows, reply_act, released, message_act, take_act, told_act, resend_act, ack_act, status_act}
+use Rattle.psd_state.specs.Acts.{DeviceAct, make_act, franked_act, debit_act, asked_act, ask_act, applied_act, reply_rows, reply_act, message_act, take_act, told_act, resend_act, ack_act, status_act}
 use Rattle.psd_state.specs.Answers.{debit_answer, new_answer, piece_rows, debit_rows, frozen_kind, repeated, unless, unless_again, ask_answer, ask_rows, waiting_kind, apply_answer, apply_rows, after_apply, resend_answer, done_answer}
 use Rattle.psd_state.specs.Answers as answers
 use Rattle.psd_state.specs.declared.debiting.Debited.{Debited}
 use Rattle.psd_state.specs.declared.debiting.Debited.TheVariants.{New, Again}
-use Rattle.psd_state.specs.declared.acts.Franked.{Franked}
 use Rattle.psd_state.specs.declared.acts.Taken.{Taken}
 use Rattle.psd_state.specs.declared.acts.Taken.TheVariants as taken_as
 use Rattle.ledger_moves.specs.Moves.{debit_by}
@@ -39,7 +39,7 @@ use Rattle.bench_views.specs.Devices as views
 use Rattle.bench_views.specs.Devices.{device_act}
 use Rattle.bench_views.proofs.Plans.{call_own}
 use Rattle.bench.specs.Calls.{device_call_event}
-use Rattle.bench.proofs.Calls.{polite_says, CommitsNone, none_says, told_made, told_none, fits_says}
+use Rattle.bench.proofs.Calls.{polite_says, CommitsNone, told_made, told_none}
 use Rattle.node_turns.proofs.Calls.{IsCallOf, IsToldBy, MayRefuse, MaySay}
 
 -- == what a call changes ==
@@ -146,14 +146,9 @@ module _ {K S R : Type 0} (n : Ghosts K S ℕ State R) (from : (d : ℕ) (s : n.
       first (λ (a : DeviceAct Taken). IsFitting n d seen a) (reply_rows d bytes p s.key) (applied_act d p (apply_answer s s.pending p)) (search rules)
       (λ _. applied_fits p (apply_answer s s.pending p) (subst (λ (k : ℕ). KeepsApplied k (apply_answer s s.pending p)) is (apply_keeps s s.pending p)))
 
-  released_fits : (piece : ℕ) (act : DeviceAct Franked) → IsFitting n d seen act → IsFitting n d seen (released piece act)
-  released_fits piece (Refuse x) fits = tt
-  released_fits piece (Tell f) fits = tt
-  released_fits piece (Commits c s f) fits = fits
-
   message_fits : (bytes : List ℕ) (today : ℤ) (state : Option State) → IfSome state (λ s. s.device ≡ d) → (x : Result Message Unread) → IsFitting n d seen (message_act todays_rules d bytes today state x)
   message_fits bytes today state is (Ok (m.Reply p)) = reply_fits bytes p state is
-  message_fits bytes today state is (Ok (m.Debit q)) = released_fits q.piece (debit_act todays_rules d q today state) (debit_fits q today state is)
+  message_fits bytes today state is (Ok (m.Debit q)) = commit_released _ q.piece (debit_act todays_rules d q today state) (debit_fits q today state is)
   message_fits bytes today state is (Ok (m.Request q)) = tt
   message_fits bytes today state is (Ok (m.Done q)) = tt
   message_fits bytes today state is (Ok (m.Release x)) = tt
@@ -161,14 +156,14 @@ module _ {K S R : Type 0} (n : Ghosts K S ℕ State R) (from : (d : ℕ) (s : n.
 
   -- a call of a device changes the record of that device
   pub call_fits : (today : ℤ) (call : DeviceCall) (state : Option State) → IfSome state (λ s. s.device ≡ d) → IsFitting n d seen (device_act d today call state)
-  call_fits today (Make c) state is = fits_says n d seen _ _ (make_act d c.key state) (make_fits c.key state)
+  call_fits today (Make c) state is = commit_says _ _ _ (make_act d c.key state) (make_fits c.key state)
   call_fits today (Debit c) state is =
-      fits_says n d seen _ _ (debit_act todays_rules d (debit_by d c.piece c.postage c.class) today state) (debit_fits (debit_by d c.piece c.postage c.class) today state is)
-  call_fits today (Ask c) state is = fits_says n d seen _ _ (ask_act todays_rules d c.kind c.customer c.amount today state) (ask_fits c.kind c.customer c.amount today state is)
-  call_fits today (Resend c) state is = fits_says n d seen _ _ (resend_act state) (resend_fits state)
-  call_fits today (Ack c) state is = fits_says n d seen _ _ (ack_act state) (ack_fits state)
-  call_fits today Status state is = fits_says n d seen _ _ (status_act today state) (status_fits today state)
-  call_fits today (Take c) state is = fits_says n d seen _ _ (take_act todays_rules d c.bytes today state) (message_fits c.bytes today state is (read c.bytes))
+      commit_says _ _ _ (debit_act todays_rules d (debit_by d c.piece c.postage c.class) today state) (debit_fits (debit_by d c.piece c.postage c.class) today state is)
+  call_fits today (Ask c) state is = commit_says _ _ _ (ask_act todays_rules d c.kind c.customer c.amount today state) (ask_fits c.kind c.customer c.amount today state is)
+  call_fits today (Resend c) state is = commit_says _ _ _ (resend_act state) (resend_fits state)
+  call_fits today (Ack c) state is = commit_says _ _ _ (ack_act state) (ack_fits state)
+  call_fits today Status state is = commit_says _ _ _ (status_act today state) (status_fits today state)
+  call_fits today (Take c) state is = commit_says _ _ _ (take_act todays_rules d c.bytes today state) (message_fits c.bytes today state is (read c.bytes))
 
 -- == what commits nothing ==
 
@@ -230,11 +225,11 @@ call_told d today (Debit c) s = told_made (Device d) _ refl (omega arith) (devic
 call_told d today (Ask c) s = told_made (Device d) _ refl (omega arith) (device_act d today (Ask c) s) (call_own d today (Ask c) s)
     (polite_says (Device d) (ev.Ask d c.kind c.customer c.amount) (r.DevRefused d) (views.asked d c.message s) (refused d (Ask c)) (λ note. record { told = refl; gets = inl (c.kind, c.customer, c.amount, refl); adds = λ made none. (note, (made, none, refl)) })
     (ask_act todays_rules d c.kind c.customer c.amount today s))
-call_told d today (Resend c) s = told_none (Device d) _ (device_act d today (Resend c) s) (none_says _ _ (resend_act s) (resend_free s))
+call_told d today (Resend c) s = told_none (Device d) _ (device_act d today (Resend c) s) (commit_says _ _ _ (resend_act s) (resend_free s))
     (polite_says (Device d) (ev.Resend d) (r.DevRefused d) (views.asked d c.message s) (refused d (Resend c)) (λ note. record { told = refl; gets = inr refl; adds = λ made none. (note, (made, none, refl)) }) (resend_act s))
-call_told d today (Ack c) s = told_none (Device d) _ (device_act d today (Ack c) s) (none_says _ _ (ack_act s) (ack_free s))
+call_told d today (Ack c) s = told_none (Device d) _ (device_act d today (Ack c) s) (commit_says _ _ _ (ack_act s) (ack_free s))
     (polite_says (Device d) (ev.Ack d) (r.DevRefused d) (views.sent (r.SentDone d (views.number_in s) c.message)) (refused d (Ack c)) (λ note. record { told = refl; gets = refl; adds = λ made none. (note, (made, none, refl)) }) (ack_act s))
-call_told d today Status s = told_none (Device d) _ (device_act d today Status s) (none_says _ _ (status_act today s) (status_free today s))
+call_told d today Status s = told_none (Device d) _ (device_act d today Status s) (commit_says _ _ _ (status_act today s) (status_free today s))
     (polite_says (Device d) (ev.Status d) (r.DevRefused d) (views.shown d) (refused d Status) (λ shown. record { told = refl; gets = refl; adds = λ made none. (made, none, refl) }) (status_act today s))
 call_told d today (Take c) s = told_made (Device d) _ refl (omega arith) (device_act d today (Take c) s) (call_own d today (Take c) s)
     (polite_says (Device d) (ev.Give (Device d) c.bytes) (r.DevRefused d) (views.took d c.message) (refused d (Take c)) (took_said d c.message c.bytes) (take_act todays_rules d c.bytes today s))

@@ -8,6 +8,7 @@ use Rattle.node_acts.specs.declared.act.Act.TheVariants.{Refuse, Tell, Commits}
 use Rattle.node_acts.specs.declared.said.Said.{Said}
 use Rattle.node_acts.specs.declared.said.Printed.{Printed as Print}
 use Rattle.node_acts.specs.Acts.{TellsOf}
+use Rattle.node_acts.proofs.OfCommits.{of_commit, commit_says}
 use Rattle.node_seat.specs.declared.node.Node.{Ghosts}
 use Rattle.node_seat.specs.Shown.{IsFitting}
 use Rattle.node_turns.proofs.Calls.{IsCallOf, IsToldBy, MayRefuse}
@@ -26,11 +27,9 @@ use Rattle.host_jobs.proofs.SoundActs.{leaves}
 use Rattle.bench_views.specs.declared.calls.HostCall.{HostCall}
 use Rattle.bench_views.specs.declared.calls.HostCall.TheVariants as call
 use Rattle.bench_views.specs.Host.{host_act}
-use Rattle.bench_views.proofs.Calling.{own_says}
 use Rattle.bench_views.proofs.Events.{some-same}
 use Rattle.bench.specs.Calls.{host_call_event, IsRangedJob}
-use Rattle.bench.proofs.Calls.{polite_says, CommitsNone, none_says, told_made, told_none, fits_says}
-use Rattle.bench.proofs.HostFits.{act_fits}
+use Rattle.bench.proofs.Calls.{polite_says, CommitsNone, told_made, told_none}
 
 -- == what a call changes ==
 
@@ -39,16 +38,16 @@ module _ {K S R : Type 0} (n : Ghosts K S (Unit {0}) JobRow R) (rows : Jobs) (so
   sound_acts = leaves rows sound
 
   by : {A : Type 0} (act : HostAct A) → LeavesSound rows act → IsFitting n tt s act
-  by act left = act_fits n rows s from act left
+  by act left = of_commit _ _ act left (λ c x leaves. from x leaves.0)
 
   -- it leaves sound jobs
   pub call_fits : (c : HostCall) → IsRangedJob c → IsFitting n tt s (host_act c rows)
   call_fits (call.Order c) ranged =
-      fits_says n tt s _ _ (acts.order_act c.device c.piece c.class c.price rows) (by (acts.order_act c.device c.piece c.class c.price rows) (sound_acts.ordered c.device c.piece c.class c.price ranged.0 ranged.1))
-  call_fits (call.Send c) ranged = fits_says n tt s _ _ (acts.debit_message_act c.job rows) (by (acts.debit_message_act c.job rows) (sound_acts.sent c.job))
-  call_fits (call.Print c) ranged = fits_says n tt s _ _ (acts.begin_print_act c.job rows) (by (acts.begin_print_act c.job rows) (sound_acts.begun c.job))
-  call_fits (call.Close c) ranged = fits_says n tt s _ _ (acts.close_act c.job rows) (by (acts.close_act c.job rows) (sound_acts.closed c.job))
-  call_fits (call.Take c) ranged = fits_says n tt s _ _ (acts.take_act c.bytes rows) (by (acts.take_act c.bytes rows) (sound_acts.taken c.bytes))
+      commit_says _ _ _ (acts.order_act c.device c.piece c.class c.price rows) (by (acts.order_act c.device c.piece c.class c.price rows) (sound_acts.ordered c.device c.piece c.class c.price ranged.0 ranged.1))
+  call_fits (call.Send c) ranged = commit_says _ _ _ (acts.debit_message_act c.job rows) (by (acts.debit_message_act c.job rows) (sound_acts.sent c.job))
+  call_fits (call.Print c) ranged = commit_says _ _ _ (acts.begin_print_act c.job rows) (by (acts.begin_print_act c.job rows) (sound_acts.begun c.job))
+  call_fits (call.Close c) ranged = commit_says _ _ _ (acts.close_act c.job rows) (by (acts.close_act c.job rows) (sound_acts.closed c.job))
+  call_fits (call.Take c) ranged = commit_says _ _ _ (acts.take_act c.bytes rows) (by (acts.take_act c.bytes rows) (sound_acts.taken c.bytes))
 
 -- == how they are told ==
 
@@ -84,16 +83,16 @@ send_free None = tt
 send_free (Some x) = unless_none (send_answer (Some x.state)) (Tell (acts.debit_note x)) tt
 
 pub call_told : (c : HostCall) (rows : Jobs) → IsToldBy Host (host_call_event c) (host_act c rows)
-call_told (call.Order c) rows = told_made Host _ refl (omega arith) _ (own_says Host _ _ (acts.order_act c.device c.piece c.class c.price rows) (order_own c.device c.piece c.class c.price (in_rows rows)))
+call_told (call.Order c) rows = told_made Host _ refl (omega arith) _ (commit_says _ _ _ (acts.order_act c.device c.piece c.class c.price rows) (order_own c.device c.piece c.class c.price (in_rows rows)))
     (polite_says Host (ev.Order c.device c.piece c.class c.grams c.zone) r.HostRefused told_ordered (refused (call.Order c)) (λ a. record { told = refl; gets = (c.device, c.piece, c.class, c.grams, c.zone, refl); adds = λ made none. (made, none, refl) })
     (acts.order_act c.device c.piece c.class c.price rows))
-call_told (call.Send c) rows = told_none Host _ _ (none_says _ _ (acts.debit_message_act c.job rows) (send_free (job_row rows c.job)))
+call_told (call.Send c) rows = told_none Host _ _ (commit_says _ _ _ (acts.debit_message_act c.job rows) (send_free (job_row rows c.job)))
     (polite_says Host (ev.Send c.job) r.HostRefused (told_sent c.job c.message) (refused (call.Send c)) (λ note. record { told = refl; gets = refl; adds = λ made none. (note, (made, none, refl)) }) (acts.debit_message_act c.job rows))
-call_told (call.Print c) rows = told_made Host _ refl (omega arith) _ (own_says Host _ _ (acts.begin_print_act c.job rows) (print_own (job_row rows c.job) (tops_in rows)))
+call_told (call.Print c) rows = told_made Host _ refl (omega arith) _ (commit_says _ _ _ (acts.begin_print_act c.job rows) (print_own (job_row rows c.job) (tops_in rows)))
     (polite_says Host (ev.Print c.job) r.HostRefused (told_printed c.job) (refused (call.Print c)) (λ mark. record { told = refl; gets = refl; adds = λ made none. (mark, (made, none, refl)) }) (acts.begin_print_act c.job rows))
-call_told (call.Close c) rows = told_made Host _ refl (omega arith) _ (own_says Host _ _ (acts.close_act c.job rows) (close_own (job_row rows c.job) (tops_in rows)))
+call_told (call.Close c) rows = told_made Host _ refl (omega arith) _ (commit_says _ _ _ (acts.close_act c.job rows) (close_own (job_row rows c.job) (tops_in rows)))
     (polite_says Host (ev.Close c.job) r.HostRefused (told_closed c.job) (refused (call.Close c)) (λ u. record { told = refl; gets = refl; adds = λ made none. (made, none, refl) }) (acts.close_act c.job rows))
-call_told (call.Take c) rows = told_made Host _ refl (omega arith) _ (own_says Host _ _ (acts.take_act c.bytes rows) (take_own (read c.bytes) (in_rows rows)))
+call_told (call.Take c) rows = told_made Host _ refl (omega arith) _ (commit_says _ _ _ (acts.take_act c.bytes rows) (take_own (read c.bytes) (in_rows rows)))
     (polite_says Host (ev.Give Host c.bytes) r.HostRefused told_held (refused (call.Take c)) (λ j. record { told = refl; gets = inr (c.bytes, refl); adds = λ made none. (made, none, refl) }) (acts.take_act c.bytes rows))
 
 -- == what is printed of them ==

@@ -8,7 +8,6 @@ mod BlankVerifier
 mod Called
 mod Calls
 mod CentreActs
-mod CentreFits
 mod Charges
 mod Compares
 mod DeviceActs
@@ -16,7 +15,6 @@ pub mod EachKind
 pub mod EachStore
 pub mod Events
 mod HostActs
-mod HostFits
 pub mod Left
 pub mod Making
 mod NodeEvents
@@ -30,4 +28,3 @@ mod Sets
 mod Stops
 mod Unprinted
 mod VerifierActs
-mod VerifierFits

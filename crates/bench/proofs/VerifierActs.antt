@@ -8,6 +8,7 @@ use Rattle.bench_base.specs.declared.events.Event.TheVariants as ev
 use Rattle.bench_base.specs.declared.events.Reply.TheVariants as r
 use Rattle.bench_base.proofs.Rows.{chosen}
 use Rattle.node_acts.specs.Plans.{IsOfNode}
+use Rattle.node_acts.proofs.OfCommits.{of_commit, commit_says}
 use Rattle.node_seat.specs.declared.node.Node.{Ghosts}
 use Rattle.node_seat.specs.Shown.{IsFitting}
 use Rattle.node_turns.proofs.Calls.{IsCallOf, IsToldBy, MayRefuse}
@@ -26,10 +27,8 @@ use Rattle.verifier.proofs.LawActs.{leaves}
 use Rattle.bench_views.specs.declared.calls.VerifierCall.{VerifierCall}
 use Rattle.bench_views.specs.declared.calls.VerifierCall.TheVariants as call
 use Rattle.bench_views.specs.Verifier.{verifier_act, IsBytesCall}
-use Rattle.bench_views.proofs.Calling.{own_says}
 use Rattle.bench.specs.Calls.{verifier_call_event, IsRangedScan}
-use Rattle.bench.proofs.Calls.{polite_says, told_made, fits_says}
-use Rattle.bench.proofs.VerifierFits.{act_fits}
+use Rattle.bench.proofs.Calls.{polite_says, told_made}
 
 -- == what a call changes ==
 
@@ -38,12 +37,12 @@ module _ {K S R : Type 0} (n : Ghosts K S (Unit {0}) Change R) (rows : Seen) (so
   sound_acts = leaves rows sound
 
   by : {A : Type 0} (act : ScanAct A) → LeavesSound rows act → IsFitting n tt s act
-  by act left = act_fits n rows s from act left
+  by act left = of_commit _ _ act left (λ c x leaves. from x leaves.0)
 
   -- it leaves sound rows
   pub call_fits : (today : ℤ) (c : VerifierCall) → IsRangedScan c → IsBytesCall c → IsFitting n tt s (verifier_act today c rows)
-  call_fits today (call.Trust c) ranged bytes = fits_says n tt s _ _ (acts.trust_act c.device c.key rows) (by (acts.trust_act c.device c.key rows) (sound_acts.trusted c.device c.key ranged.0 ranged.1))
-  call_fits today (call.Scan c) ranged bytes = fits_says n tt s _ _ (acts.scan_act c.number c.bytes today rows) (by (acts.scan_act c.number c.bytes today rows) (sound_acts.scanned c.number c.bytes today ranged bytes))
+  call_fits today (call.Trust c) ranged bytes = commit_says _ _ _ (acts.trust_act c.device c.key rows) (by (acts.trust_act c.device c.key rows) (sound_acts.trusted c.device c.key ranged.0 ranged.1))
+  call_fits today (call.Scan c) ranged bytes = commit_says _ _ _ (acts.scan_act c.number c.bytes today rows) (by (acts.scan_act c.number c.bytes today rows) (sound_acts.scanned c.number c.bytes today ranged bytes))
 
 -- == whose the commit is ==
 
@@ -83,7 +82,7 @@ refused c x = record {
 }
 
 pub call_told : (today : ℤ) (c : VerifierCall) (s : Seen) → IsToldBy Verifier (verifier_call_event c) (verifier_act today c s)
-call_told today (call.Trust c) s = told_made Verifier _ refl (omega arith) _ (own_says Verifier _ _ (acts.trust_act c.device c.key s) (trust_own c.device c.key (is_some (key_at s c.device))))
+call_told today (call.Trust c) s = told_made Verifier _ refl (omega arith) _ (commit_says _ _ _ (acts.trust_act c.device c.key s) (trust_own c.device c.key (is_some (key_at s c.device))))
     (polite_says Verifier (ev.Trust c.device c.key) r.ScanRefused (told_trusted c.device) (refused (call.Trust c)) (λ u. record { told = refl; gets = (c.key, refl); adds = λ made none. (made, none, refl) }) (acts.trust_act c.device c.key s))
-call_told today (call.Scan c) s = told_made Verifier _ refl (omega arith) _ (own_says Verifier _ _ (acts.scan_act c.number c.bytes today s) (read_own c.number c.bytes today s (read_mark c.bytes)))
+call_told today (call.Scan c) s = told_made Verifier _ refl (omega arith) _ (commit_says _ _ _ (acts.scan_act c.number c.bytes today s) (read_own c.number c.bytes today s (read_mark c.bytes)))
     (polite_says Verifier (ev.ScanHex c.number c.bytes) r.ScanRefused (told_accepted c.number) (refused (call.Scan c)) (λ a. record { told = refl; gets = inr (c.bytes, refl); adds = λ made none. (made, none, refl) }) (acts.scan_act c.number c.bytes today s))

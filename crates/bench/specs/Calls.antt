@@ -68,13 +68,6 @@ asked_event m of_call Off = ev.Off m
 asked_event m of_call (Cut calls keep byte) = ev.Cut m calls keep byte
 asked_event m of_call (Call c) = of_call c
 
--- what is asked is no call, or one of which P holds
-abbrev pub OfCall : {C : Type 0} → (C → Type 0) → Asked C → Type 0
-OfCall P On = Unit {0}
-OfCall P Off = Unit {0}
-OfCall P (Cut calls keep byte) = Unit {0}
-OfCall P (Call c) = P c
-
 abbrev pub device_event : ℕ → Asked DeviceCall → Event
 device_event d asked = asked_event (Device d) (device_call_event d) asked
 

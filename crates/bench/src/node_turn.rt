@@ -1,6 +1,7 @@
 //! An event of one node, whatever its kind.
 ghost use Rattle.node_turns.specs.Printing.{printer_of};
-ghost use Rattle.bench.specs.Calls.{Comes, OfCall};
+ghost use Rattle.node_acts.specs.Kinds.{OfCall};
+ghost use Rattle.bench.specs.Calls.{Comes};
 
 use bench_base::numbers::DayNo;
 use bench_base::stream::Sink;

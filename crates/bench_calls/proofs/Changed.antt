@@ -1,6 +1,6 @@
 -- What an act changes, by what the rules say that it leaves.
 use Rattle.std.proofs.Common.{◌≡◌, sym, subst}
-use Rattle.node_acts.specs.declared.act.Act.TheVariants.{Refuse, Tell, Commits}
+use Rattle.node_acts.proofs.OfCommits.{of_commit}
 use Rattle.node_calls.specs.Changes.{ChangesBy}
 use Rattle.centre_ledger.specs.Acts.{CentreAct}
 use Rattle.centre_ledger.specs.ActLaws as centre
@@ -15,27 +15,21 @@ use Rattle.verifier.specs.ActLaws as verifier
 use Rattle.verifier.specs.Seen.{Seen}
 
 sound_by : {A : Type 0} (b : Books) (act : CentreAct A) → centre.LeavesSound b act → ChangesBy (λ x. AreSound (put_row b x)) act
-sound_by b (Refuse x) leaves = tt
-sound_by b (Tell a) leaves = tt
-sound_by b (Commits c x a) leaves = leaves.0
+sound_by b act leaves = of_commit _ _ act leaves (λ c x left. left.0)
 
 pub put_sound : {A : Type 0} (b books : Books) → b ≡ books → (act : CentreAct A) {result : CentreAct A} → result ≡ act → centre.LeavesSound b act → ChangesBy (λ x. AreSound (put_row books x)) result
 put_sound {A} b books same act {result} is leaves =
     subst (λ (w : Books). ChangesBy (λ x. AreSound (put_row w x)) result) same (subst (λ (a : CentreAct A). ChangesBy (λ x. AreSound (put_row b x)) a) (sym is) (sound_by b act leaves))
 
 next_by : {A : Type 0} (rows : Jobs) (act : HostAct A) → host.LeavesSound rows act → ChangesBy (λ x. IsNext rows x) act
-next_by rows (Refuse x) leaves = tt
-next_by rows (Tell a) leaves = tt
-next_by rows (Commits c x a) leaves = leaves.0
+next_by rows act leaves = of_commit _ _ act leaves (λ c x left. left.0)
 
 pub put_next : {A : Type 0} (b jobs : Jobs) → b ≡ jobs → (act : HostAct A) {result : HostAct A} → result ≡ act → host.LeavesSound b act → ChangesBy (λ x. IsNext jobs x) result
 put_next {A} b jobs same act {result} is leaves =
     subst (λ (w : Jobs). ChangesBy (λ x. IsNext w x) result) same (subst (λ (a : HostAct A). ChangesBy (λ x. IsNext b x) a) (sym is) (next_by b act leaves))
 
 fit_by : {A : Type 0} (s : Seen) (act : ScanAct A) → verifier.LeavesSound s act → ChangesBy (λ x. verifier.IsFit s x) act
-fit_by s (Refuse x) leaves = tt
-fit_by s (Tell a) leaves = tt
-fit_by s (Commits c x a) leaves = leaves.0
+fit_by s act leaves = of_commit _ _ act leaves (λ c x left. left.0)
 
 pub put_fit : {A : Type 0} (s : Seen) (act : ScanAct A) {result : ScanAct A} → result ≡ act → verifier.LeavesSound s act → ChangesBy (λ x. verifier.IsFit s x) result
 put_fit {A} s act is leaves = subst (λ (a : ScanAct A). ChangesBy (λ x. verifier.IsFit s x) a) (sym is) (fit_by s act leaves)

@@ -24,16 +24,17 @@ use Rattle.psd_wire.specs.Codes.{has_code}
 use Rattle.ledger_terms.specs.Devices.{key_of}
 use Rattle.ledger_terms.specs.Rulings.{ruled_reply}
 use Rattle.node_acts.specs.declared.act.Act.{Act}
-use Rattle.node_acts.specs.declared.act.Act.TheVariants.{Refuse, Tell, Commits}
+use Rattle.node_acts.specs.declared.act.Act.TheVariants.{Refuse}
+use Rattle.node_acts.proofs.OfCommits.{commit_says, said_commit}
+use Rattle.psd_state.proofs.Released.{commit_released}
 use Rattle.psd_state.specs.State.{State, Holds}
 use Rattle.psd_state.specs.Records.{IsRecordOf, IsRuled as HasRuling, state_of}
 use Rattle.psd_state.specs.Answers.{debit_answer, ask_answer, apply_answer, after_apply, is_stray, resend_answer, done_answer}
 use Rattle.psd_state.specs.Seen.{counting}
-use Rattle.psd_state.specs.Acts.{DeviceAct, make_act, franked_act, debit_act, asked_act, ask_act, applied_act, reply_act, released, message_act, take_act, told_act, resend_act, ack_act, status_act}
+use Rattle.psd_state.specs.Acts.{DeviceAct, make_act, franked_act, debit_act, asked_act, ask_act, applied_act, reply_act, message_act, take_act, told_act, resend_act, ack_act, status_act}
 use Rattle.psd_state.specs.Laws.{MakingStarts, DebitingKeeps, AskingKeeps, ApplyingKeeps}
 use Rattle.psd_state.specs.declared.debiting.Debited.{Debited}
 use Rattle.psd_state.specs.declared.debiting.Debited.TheVariants.{New, Again}
-use Rattle.psd_state.specs.declared.acts.Franked.{Franked}
 use Rattle.psd_state.specs.declared.acts.Taken.{Taken}
 use Rattle.psd_state.specs.declared.acts.Taken.TheVariants as taken_as
 use Rattle.ledger_moves.specs.Moves.{debit_by}
@@ -42,9 +43,9 @@ use Rattle.bench_views.specs.declared.calls.DeviceCall.{DeviceCall}
 use Rattle.bench_views.specs.declared.calls.DeviceCall.TheVariants.{Make, Debit, Ask, Resend, Ack, Status, Take}
 use Rattle.ledger_moves.specs.Devices.{record_in, record_with}
 use Rattle.bench_views.specs.Devices.{seen_in, marked, took, device_act, IsKnown}
-use Rattle.bench_views.proofs.Calling.{IsMade, made_says}
-use Rattle.bench_views.proofs.Genuine.{IsRuled, OfCall}
-use Rattle.bench_views.proofs.Steps.{IsQuiet, IsSaid, IsQuietAct, IsRight, right_says, quiet_says}
+use Rattle.bench_views.proofs.Calling.{IsMade}
+use Rattle.bench_views.proofs.Genuine.{IsRuled, IsGenuine}
+use Rattle.bench_views.proofs.Steps.{IsQuiet, IsSaid, IsQuietAct, IsRight, quiet_says}
 
 -- == what is said ==
 
@@ -181,14 +182,9 @@ module _ (H : Ledger) (ordered : AreOrdered (counted H)) (making : MakingStarts)
         applied_right p s (apply_answer s s.pending p) (ordered.records d key h) (holds_of key h) (subst (λ (e : ℕ). ruled_reply e p.number C ≡ Some p) same whole) refl
         (made_where (not (p.device == d)) (not (has_code key bytes)) (no.WrongDevice p.device) no.BadCode act made own coded))
 
-    released_right : (piece : ℕ) (act : DeviceAct Franked) → IsRightAct act → IsRightAct (released piece act)
-    released_right piece (Refuse x) right = tt
-    released_right piece (Tell f) right = tt
-    released_right piece (Commits c s f) right = right
-
     message_right : (today : ℤ) (x : Result Message Unread) → read bytes ≡ x → IsNextMade (message_act todays_rules d bytes today (record_in d C) x) → IsRightAct (message_act todays_rules d bytes today (record_in d C) x)
     message_right today (Ok (m.Reply p)) reads made = reply_right p reads (key_of d C) refl made
-    message_right today (Ok (m.Debit q)) reads made = released_right q.piece (debit_act todays_rules d q today (record_in d C)) (debit_right q today (key_of d C) refl)
+    message_right today (Ok (m.Debit q)) reads made = commit_released _ q.piece (debit_act todays_rules d q today (record_in d C)) (debit_right q today (key_of d C) refl)
     message_right today (Ok (m.Request q)) reads made = tt
     message_right today (Ok (m.Done q)) reads made = tt
     message_right today (Ok (m.Release x)) reads made = tt
@@ -196,16 +192,16 @@ module _ (H : Ledger) (ordered : AreOrdered (counted H)) (making : MakingStarts)
 
   -- == each call ==
 
-  pub call_right : (today : ℤ) (call : DeviceCall) → OfCall H d call → IsNextMade (device_act d today call (record_in d C)) → IsRightAct (device_act d today call (record_in d C))
-  call_right today (Make c) genuine made = right_says counting (Device d) (seen_in d) H _ _ (make_act d c.key (record_in d C)) (make_right c.key (key_of d C) refl)
+  pub call_right : (today : ℤ) (call : DeviceCall) → IsGenuine H d call → IsNextMade (device_act d today call (record_in d C)) → IsRightAct (device_act d today call (record_in d C))
+  call_right today (Make c) genuine made = commit_says _ _ _ (make_act d c.key (record_in d C)) (make_right c.key (key_of d C) refl)
   call_right today (Debit c) genuine made =
-      right_says counting (Device d) (seen_in d) H _ _ (debit_act todays_rules d (debit_by d c.piece c.postage c.class) today (record_in d C)) (debit_right (debit_by d c.piece c.postage c.class) today (key_of d C) refl)
+      commit_says _ _ _ (debit_act todays_rules d (debit_by d c.piece c.postage c.class) today (record_in d C)) (debit_right (debit_by d c.piece c.postage c.class) today (key_of d C) refl)
   call_right today (Ask q) genuine made =
       let act = ask_act todays_rules d q.kind q.customer q.amount today (record_in d C) in
-      right_says counting (Device d) (seen_in d) H _ _ act (ask_right q.kind q.customer q.amount today (key_of d C) refl (made_says counting (Device d) (seen_in d) H (λ c s. AreOrdered (c ∷ counted H) × IsKnown s) _ _ act made))
-  call_right today (Resend c) genuine made = right_says counting (Device d) (seen_in d) H _ _ (resend_act (record_in d C)) (resend_right (key_of d C))
-  call_right today (Ack c) genuine made = right_says counting (Device d) (seen_in d) H _ _ (ack_act (record_in d C)) (ack_right (key_of d C))
-  call_right today Status genuine made = right_says counting (Device d) (seen_in d) H _ _ (status_act today (record_in d C)) (status_right today (key_of d C))
+      commit_says _ _ _ act (ask_right q.kind q.customer q.amount today (key_of d C) refl (said_commit _ _ _ act made))
+  call_right today (Resend c) genuine made = commit_says _ _ _ (resend_act (record_in d C)) (resend_right (key_of d C))
+  call_right today (Ack c) genuine made = commit_says _ _ _ (ack_act (record_in d C)) (ack_right (key_of d C))
+  call_right today Status genuine made = commit_says _ _ _ (status_act today (record_in d C)) (status_right today (key_of d C))
   call_right today (Take q) genuine made =
       let act = take_act todays_rules d q.bytes today (record_in d C) in
-      right_says counting (Device d) (seen_in d) H _ _ act (message_right q.bytes genuine today (read q.bytes) refl (made_says counting (Device d) (seen_in d) H (λ c s. AreOrdered (c ∷ counted H) × IsKnown s) _ _ act made))
+      commit_says _ _ _ act (message_right q.bytes genuine today (read q.bytes) refl (said_commit _ _ _ act made))

@@ -11,7 +11,7 @@ use Rattle.bench_base.specs.Ledger.{Ledger, is_on, counted}
 use Rattle.node_acts.specs.declared.act.Act.{Act}
 use Rattle.node_acts.specs.declared.act.Act.TheVariants.{Refuse, Tell, Commits}
 use Rattle.node_acts.specs.declared.said.Said.{Said}
-use Rattle.node_acts.specs.Acts.{commit_of}
+use Rattle.node_acts.specs.Acts.{commit_of, OfCommit}
 use Rattle.node_acts.specs.Kinds.{view_in}
 use Rattle.node_acts.specs.Plans.{plan_of, IsOfNode}
 use Rattle.node_acts.specs.Said.{tells, saying, said_plan, seen_plan}
@@ -25,23 +25,10 @@ plan_says refusal reply tell say reply_is tell_is (Refuse x) = refl
 plan_says refusal reply tell say reply_is tell_is (Tell a) = ap₂ (λ (y : Reply) (l : List Entry). told y l) (reply_is a) (tell_is a)
 plan_says refusal reply tell say reply_is tell_is (Commits c x a) = ap₂ (λ (y : Reply) (l : List Entry). made y c l) (reply_is a) (tell_is a)
 
--- saying what it answers leaves its commit the node's
-pub own_says : {X F A : Type 0} (m : Node) (refusal : F → Reply) (say : A → Said) (act : Act X F A) → IsOfNode m act → IsOfNode m (saying refusal say act)
-own_says m refusal say (Refuse x) own = tt
-own_says m refusal say (Tell a) own = tt
-own_says m refusal say (Commits c x a) own = own
-
 module _ {S X : Type 0} (n : Counting S X) (m : Node) (seen : List Commit → S) (H : Ledger) where
   -- the cell of its commit is worn where it is seen to be
   abbrev pub IsWornAlike : {F A : Type 0} → Act X F A → Type 0
-  IsWornAlike (Refuse x) = Unit {0}
-  IsWornAlike (Tell a) = Unit {0}
-  IsWornAlike (Commits c x a) = is_worn c (counted H) ≡ n.is_worn (seen (counted H)) x
-
-  pub worn_says : {F A : Type 0} (refusal : F → Reply) (say : A → Said) (act : Act X F A) → IsWornAlike act → IsWornAlike (saying refusal say act)
-  worn_says refusal say (Refuse x) alike = tt
-  worn_says refusal say (Tell a) alike = tt
-  worn_says refusal say (Commits c x a) alike = alike
+  IsWornAlike = OfCommit (λ c x. is_worn c (counted H) ≡ n.is_worn (seen (counted H)) x)
 
   pub at_seen : (act : Act X Reply Said) → IsOfNode m act → IsWornAlike act → at_node m H (said_plan act) ≡ seen_plan n m (view_in m seen H) act
   at_seen (Refuse x) own alike = refl
@@ -59,14 +46,7 @@ module _ {S X : Type 0} (n : Counting S X) (m : Node) (seen : List Commit → S)
 
   -- what is known of the commit that an act makes: P of it and the record after it, where it is made
   abbrev pub IsMade : {F A : Type 0} → (Commit → S → Type 0) → Act X F A → Type 0
-  IsMade P (Refuse x) = Unit {0}
-  IsMade P (Tell a) = Unit {0}
-  IsMade P (Commits c x a) = is_on m H ≡ true → n.is_worn (seen (counted H)) x ≡ false → P c (n.after (seen (counted H)) x)
-
-  pub made_says : {F A : Type 0} (P : Commit → S → Type 0) (refusal : F → Reply) (say : A → Said) (act : Act X F A) → IsMade P (saying refusal say act) → IsMade P act
-  made_says P refusal say (Refuse x) made = tt
-  made_says P refusal say (Tell a) made = tt
-  made_says P refusal say (Commits c x a) made = made
+  IsMade P = OfCommit (λ c x. is_on m H ≡ true → n.is_worn (seen (counted H)) x ≡ false → P c (n.after (seen (counted H)) x))
 
   -- so where the plan's commit and the record after it are known
   pub made_by : (P : Commit → Type 0) (Q : S → Type 0) (act : Act X Reply Said) → ((c : Commit) → (seen_plan n m (view_in m seen H) act).commit ≡ Some c → P c)

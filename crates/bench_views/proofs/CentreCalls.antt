@@ -17,10 +17,9 @@ use Rattle.bench_base.specs.Ranges.{IsWholeEvent, IsDevice, IsCustomer}
 use Rattle.bench_base.specs.Cells.{place_of}
 use Rattle.bench_base.specs.Cells as cells
 use Rattle.bench_base.specs.Ledger.{Ledger, day_in, count_of, counted, message}
-use Rattle.node_acts.specs.declared.act.Act.TheVariants.{Refuse, Tell, Commits}
 use Rattle.node_acts.specs.declared.said.Said.{Said}
 use Rattle.node_acts.specs.Plans.{IsOfNode}
-use Rattle.node_acts.specs.Kinds.{node_plan}
+use Rattle.node_acts.specs.Kinds.{node_plan, OfCall}
 use Rattle.node_acts.specs.RowList.{commits_in}
 use Rattle.node_acts.specs.Said.{said_plan, seen_plan}
 use Rattle.psd_wire.specs.declared.message.Request.{Request}
@@ -48,10 +47,12 @@ use Rattle.centre_ledger.specs.ActLaws as law
 use Rattle.centre_ledger.specs.ActLaws.{AreBooksOf, FollowsCommits, ActsFollow, ActsArePlanned}
 use Rattle.centre_ledger.specs.Plans as told
 use Rattle.centre_ledger.specs.Plans.{says, in_commits, take_plan}
-use Rattle.centre_ledger.specs.Seen.{counting, cell_of, books_in}
+use Rattle.centre_ledger.specs.Seen.{counting, cell_of, books_in, IsKnown}
 use Rattle.centre_ledger.proofs.Payers.{found-device}
 use Rattle.node_acts.specs.declared.asked.Asked.{Asked}
-use Rattle.node_acts.specs.declared.asked.Asked.TheVariants.{On, Off, Cut, Call}
+use Rattle.node_acts.specs.declared.asked.Asked.TheVariants.{Call}
+use Rattle.node_acts.specs.Acts.{OfCommit}
+use Rattle.node_acts.proofs.OfCommits.{of_commit, of_both, commit_says}
 use Rattle.bench_views.specs.declared.calls.CentreCall.{CentreCall}
 use Rattle.bench_views.specs.declared.calls.CentreCall.TheVariants as call
 use Rattle.bench_views.specs.declared.taken.Taken.TheVariants as take
@@ -59,21 +60,19 @@ use Rattle.bench_views.specs.declared.taken.Work.TheVariants as work
 use Rattle.bench_views.specs.Taken as takes
 use Rattle.bench_views.specs.Taken.{taken}
 use Rattle.bench_views.specs.Tariff.{Quote}
-use Rattle.bench_views.specs.Centre.{seen_in, view_of, centre_act, centre_kind, place_in, IsKnown, AreBytes}
+use Rattle.bench_views.specs.Centre.{seen_in, view_of, centre_act, centre_kind, place_in, AreBytes}
 use Rattle.bench_views.specs.Messages.{sent_in}
-use Rattle.bench_views.proofs.Calling.{own_says, worn_says, at_seen, IsWornAlike}
+use Rattle.bench_views.proofs.Calling.{at_seen, IsWornAlike}
 use Rattle.bench_views.proofs.Events.{each_of_centre, one_of_eight}
 use Rattle.bench_views.proofs.CentreCommits.{HasCell, seen_put, worn}
 use Rattle.bench_views.proofs.Sent.{sent_many, sent_at}
-use Rattle.bench_views.proofs.Steps.{IsQuiet, IsSaid, IsQuietAct, IsRight, quiet_says, right_says}
+use Rattle.bench_views.proofs.Steps.{IsQuiet, IsSaid, IsQuietAct, IsRight, quiet_says}
 
 -- == whose the commits are, and where they lie ==
 
 -- the commit of the act, if it makes one, is the centre's, and lies in the cell of its row
 abbrev IsPlacedAct : {A : Type 0} → CentreAct A → Type 0
-IsPlacedAct (Refuse x) = Unit {0}
-IsPlacedAct (Tell a) = Unit {0}
-IsPlacedAct (Commits c x a) = (node_of c ≡ Centre) × HasCell x × (place_of c ≡ place_in (cell_of x))
+IsPlacedAct = OfCommit (λ c x. (node_of c ≡ Centre) × HasCell x × (place_of c ≡ place_in (cell_of x)))
 
 device_place : (d : ℕ) → IsDevice d → place_in (d - 1) ≡ cells.OfRow d
 device_place d is = rw (lt-ltb (d - 1) 8 (omega (arith, is))) (ap cells.OfRow (omega (arith, is)))
@@ -214,19 +213,13 @@ module _ (H : Ledger) (known : IsKnown (seen_in (counted H))) (are : AreBooksOf 
   IsGood act = IsPlacedAct act × FollowsCommits b C act
 
   own : {A : Type 0} (act : CentreAct A) → IsGood act → IsOfNode Centre act
-  own (Refuse x) good = tt
-  own (Tell a) good = tt
-  own (Commits c x a) good = good.0.0
+  own act good = of_commit _ _ act good.0 (λ c x placed. placed.0)
 
   right : {A : Type 0} (act : CentreAct A) → IsGood act → IsRight counting Centre seen_in H act
-  right (Refuse x) good = tt
-  right (Tell a) good = tt
-  right (Commits c x a) good = (good.0.0, λ on fresh. seen_put C b are known.sound.placed c x good.0.1 good.1 good.0.2)
+  right act good = of_commit _ _ act (of_both _ _ act good.0 good.1) (λ c x both. (both.0.0, λ on fresh. seen_put C b are known.sound.placed c x both.0.1 both.1 both.0.2))
 
   worn_alike : {A : Type 0} (act : CentreAct A) → IsGood act → IsWornAlike counting Centre seen_in H act
-  worn_alike (Refuse x) good = tt
-  worn_alike (Tell a) good = tt
-  worn_alike (Commits c x a) good = worn C b are known.sound.placed c x good.0.1 good.1 good.0.2 known
+  worn_alike act good = of_commit _ _ act (of_both _ _ act good.0 good.1) (λ c x both. worn C b are known.sound.placed c x both.0.1 both.1 both.0.2 known)
 
   -- == each call ==
 
@@ -253,20 +246,20 @@ module _ (H : Ledger) (known : IsKnown (seen_in (counted H))) (are : AreBooksOf 
   take_good bytes is = (take_placed b known.sound bytes (read bytes), following.taken bytes is)
 
   pub call_own : (c : CentreCall) → IsWholeCall c → IsOfNode Centre (centre_act c b)
-  call_own (call.Register c) whole = own_says Centre _ _ (acts.register_act c.device c.origin c.key b) (own (acts.register_act c.device c.origin c.key b) (register_good c.device c.origin c.key whole))
-  call_own (call.Open c) whole = own_says Centre _ _ (acts.open_act c.customer b) (own (acts.open_act c.customer b) (open_good c.customer whole))
-  call_own (call.Deposit c) whole = own_says Centre _ _ (acts.deposit_act c.customer c.receipt c.amount b) (own (acts.deposit_act c.customer c.receipt c.amount b) (deposit_good c.customer c.receipt c.amount whole))
-  call_own (call.Flag c) whole = own_says Centre _ _ (acts.flag_act c.customer c.suspended b) (own (acts.flag_act c.customer c.suspended b) (flag_good c.customer c.suspended whole))
-  call_own (call.Balance c) whole = own_says Centre _ _ (acts.balance_act c.customer b) (own (acts.balance_act c.customer b) (balance_good c.customer))
-  call_own (call.Take c) whole = own_says Centre _ _ (acts.take_act c.bytes b) (own (acts.take_act c.bytes b) (take_good c.bytes whole))
+  call_own (call.Register c) whole = commit_says _ _ _ (acts.register_act c.device c.origin c.key b) (own (acts.register_act c.device c.origin c.key b) (register_good c.device c.origin c.key whole))
+  call_own (call.Open c) whole = commit_says _ _ _ (acts.open_act c.customer b) (own (acts.open_act c.customer b) (open_good c.customer whole))
+  call_own (call.Deposit c) whole = commit_says _ _ _ (acts.deposit_act c.customer c.receipt c.amount b) (own (acts.deposit_act c.customer c.receipt c.amount b) (deposit_good c.customer c.receipt c.amount whole))
+  call_own (call.Flag c) whole = commit_says _ _ _ (acts.flag_act c.customer c.suspended b) (own (acts.flag_act c.customer c.suspended b) (flag_good c.customer c.suspended whole))
+  call_own (call.Balance c) whole = commit_says _ _ _ (acts.balance_act c.customer b) (own (acts.balance_act c.customer b) (balance_good c.customer))
+  call_own (call.Take c) whole = commit_says _ _ _ (acts.take_act c.bytes b) (own (acts.take_act c.bytes b) (take_good c.bytes whole))
 
   pub call_right : (c : CentreCall) → IsWholeCall c → IsRight counting Centre seen_in H (centre_act c b)
-  call_right (call.Register c) whole = right_says counting Centre seen_in H _ _ (acts.register_act c.device c.origin c.key b) (right (acts.register_act c.device c.origin c.key b) (register_good c.device c.origin c.key whole))
-  call_right (call.Open c) whole = right_says counting Centre seen_in H _ _ (acts.open_act c.customer b) (right (acts.open_act c.customer b) (open_good c.customer whole))
-  call_right (call.Deposit c) whole = right_says counting Centre seen_in H _ _ (acts.deposit_act c.customer c.receipt c.amount b) (right (acts.deposit_act c.customer c.receipt c.amount b) (deposit_good c.customer c.receipt c.amount whole))
-  call_right (call.Flag c) whole = right_says counting Centre seen_in H _ _ (acts.flag_act c.customer c.suspended b) (right (acts.flag_act c.customer c.suspended b) (flag_good c.customer c.suspended whole))
-  call_right (call.Balance c) whole = right_says counting Centre seen_in H _ _ (acts.balance_act c.customer b) (right (acts.balance_act c.customer b) (balance_good c.customer))
-  call_right (call.Take c) whole = right_says counting Centre seen_in H _ _ (acts.take_act c.bytes b) (right (acts.take_act c.bytes b) (take_good c.bytes whole))
+  call_right (call.Register c) whole = commit_says _ _ _ (acts.register_act c.device c.origin c.key b) (right (acts.register_act c.device c.origin c.key b) (register_good c.device c.origin c.key whole))
+  call_right (call.Open c) whole = commit_says _ _ _ (acts.open_act c.customer b) (right (acts.open_act c.customer b) (open_good c.customer whole))
+  call_right (call.Deposit c) whole = commit_says _ _ _ (acts.deposit_act c.customer c.receipt c.amount b) (right (acts.deposit_act c.customer c.receipt c.amount b) (deposit_good c.customer c.receipt c.amount whole))
+  call_right (call.Flag c) whole = commit_says _ _ _ (acts.flag_act c.customer c.suspended b) (right (acts.flag_act c.customer c.suspended b) (flag_good c.customer c.suspended whole))
+  call_right (call.Balance c) whole = commit_says _ _ _ (acts.balance_act c.customer b) (right (acts.balance_act c.customer b) (balance_good c.customer))
+  call_right (call.Take c) whole = commit_says _ _ _ (acts.take_act c.bytes b) (right (acts.take_act c.bytes b) (take_good c.bytes whole))
 
   -- == its plan ==
 
@@ -275,7 +268,7 @@ module _ (H : Ledger) (known : IsKnown (seen_in (counted H))) (are : AreBooksOf 
   at say act good =
       let seen = act (in_books b) in
       ap (λ (x : LookUps). at_node Centre H (said_plan (says say (act x)))) (sym plans)
-      ∙ at_seen counting Centre seen_in H (says say seen) (own_says Centre r.CentreRefused say seen (own seen good)) (worn_says counting Centre seen_in H r.CentreRefused say seen (worn_alike seen good))
+      ∙ at_seen counting Centre seen_in H (says say seen) (commit_says _ r.CentreRefused say seen (own seen good)) (commit_says _ r.CentreRefused say seen (worn_alike seen good))
 
   -- what it is handed, by the next message
   handed : (bytes : List ℕ) → IsBytes bytes → centre_plan bytes H ≡ seen_plan counting Centre (view_of H) (centre_act (call.Take (record { bytes = bytes; message = length (sent_in H) })) b)
@@ -323,10 +316,7 @@ module _ (H : Ledger) (known : IsKnown (seen_in (counted H))) (are : AreBooksOf 
 -- == the numbers of a call ==
 
 abbrev IsWholeAsked : Asked CentreCall → Type 0
-IsWholeAsked On = Unit {0}
-IsWholeAsked Off = Unit {0}
-IsWholeAsked (Cut calls keep byte) = Unit {0}
-IsWholeAsked (Call x) = IsWholeCall x
+IsWholeAsked = OfCall IsWholeCall
 
 delivered_whole : (k next : ℕ) (asked : Asked CentreCall) (o : Option (List ℕ)) → takes.message_taken k next o ≡ take.Work (work.Centre asked) → AreBytes asked → IsWholeAsked asked
 delivered_whole k next asked None is bytes_are = cc

@@ -18,12 +18,12 @@ use Rattle.centre_ledger.specs.declared.rows.CustomerRow.{CustomerRow}
 use Rattle.centre_ledger.specs.Books.{Books, ArePlaced, device_at, customer_at, put_row}
 use Rattle.centre_ledger.specs.ActLaws.{AreBooksOf}
 use Rattle.centre_ledger.specs.Order.{InOrder}
-use Rattle.centre_ledger.specs.Seen.{cell_of}
+use Rattle.centre_ledger.specs.Seen.{cell_of, IsKnown}
 use Rattle.ledger_terms.specs.Centres.{registered, opened}
 use Rattle.std.proofs.lemmas.Bool.Decides.{nat_tests}
 use Rattle.centre_ledger.specs.Records.{device_row_with, device_row, customer_row_with, customer_row}
 use Rattle.centre_ledger.proofs.ByCommits.{one_device, one_customer}
-use Rattle.bench_views.specs.Centre.{place_in, row_in, cell_after, seen_in, IsKnown}
+use Rattle.bench_views.specs.Centre.{place_in, row_in, cell_after, seen_in}
 use Rattle.bench_views.proofs.CentreRows.{seen_at, no_device_commits, no_customer_commits}
 use Rattle.bench_views.proofs.Counts.{top-is}
 
@@ -144,4 +144,4 @@ module _ (C : List Commit) (b : Books) (are : AreBooksOf b C) (placed : ArePlace
     worn known =
         let here : commits_at (row_at (seen_in C) (cell_of x)) ≡ cells.commits_at (place_of c) C =
         ap (λ (o : Option (ℕ × Row)). commits_at o) (seen_at C (cell_of x) (cell_inside x has)) ∙ counted_at (cell_of x) C are.order ∙ ap (λ (p : Place). cells.commits_at p C) (sym at) in
-        ap (λ (n : ℕ). nat_le MOST_COMMITS n) (sym here) ∙ top-is (commits_at (row_at (seen_in C) (cell_of x))) MOST_COMMITS (known.few (cell_of x) (cell_inside x has))
+        ap (λ (n : ℕ). nat_le MOST_COMMITS n) (sym here) ∙ top-is (commits_at (row_at (seen_in C) (cell_of x))) MOST_COMMITS (known.few (cell_of x))

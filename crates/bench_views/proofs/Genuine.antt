@@ -6,7 +6,8 @@ use Rattle.bench_base.specs.declared.refusals.Unread.{Unread}
 use Rattle.bench_base.specs.declared.events.Event.{Event}
 use Rattle.bench_base.specs.Ledger.{Ledger, IsSent, counted, message}
 use Rattle.node_acts.specs.declared.asked.Asked.{Asked}
-use Rattle.node_acts.specs.declared.asked.Asked.TheVariants.{On, Off, Cut, Call}
+use Rattle.node_acts.specs.declared.asked.Asked.TheVariants.{Call}
+use Rattle.node_acts.specs.Kinds.{OfCall}
 use Rattle.psd_wire.specs.declared.message.ReplyMsg.{ReplyMsg}
 use Rattle.psd_wire.specs.declared.message.Message.{Message}
 use Rattle.psd_wire.specs.declared.message.Message.TheVariants as m
@@ -35,20 +36,17 @@ module _ (H : Ledger) where
       → ruled_reply p.device p.number (counted H) ≡ Some p
 
   -- so those that a call hands to the device
-  abbrev pub OfCall : ℕ → DeviceCall → Type 0
-  OfCall d (Make c) = Unit {0}
-  OfCall d (Debit c) = Unit {0}
-  OfCall d (Ask c) = Unit {0}
-  OfCall d (Resend c) = Unit {0}
-  OfCall d (Ack c) = Unit {0}
-  OfCall d Status = Unit {0}
-  OfCall d (Take c) = IsRuled d c.bytes
+  abbrev pub IsGenuine : ℕ → DeviceCall → Type 0
+  IsGenuine d (Make c) = Unit {0}
+  IsGenuine d (Debit c) = Unit {0}
+  IsGenuine d (Ask c) = Unit {0}
+  IsGenuine d (Resend c) = Unit {0}
+  IsGenuine d (Ack c) = Unit {0}
+  IsGenuine d Status = Unit {0}
+  IsGenuine d (Take c) = IsRuled d c.bytes
 
   abbrev pub OfAsked : ℕ → Asked DeviceCall → Type 0
-  OfAsked d On = Unit {0}
-  OfAsked d Off = Unit {0}
-  OfAsked d (Cut calls keep byte) = Unit {0}
-  OfAsked d (Call c) = OfCall d c
+  OfAsked d = OfCall (IsGenuine d)
 
 module _ (H : Ledger) (replied : RepliesAreRuled H) where
   was_sent : (d : ℕ) (bytes : List ℕ) → IsSent bytes H → IsRuled H d bytes

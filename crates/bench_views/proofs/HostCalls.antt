@@ -14,14 +14,16 @@ use Rattle.bench_base.specs.Plans.{Plan}
 use Rattle.bench_base.specs.Ranges.{IsWholeEvent, IsDevice}
 use Rattle.bench_base.specs.Cells.{OfJob, place_of}
 use Rattle.bench_base.specs.Ledger.{Ledger, day_in, count_of, counted, message}
-use Rattle.node_acts.specs.declared.act.Act.TheVariants.{Refuse, Tell, Commits}
+use Rattle.node_acts.specs.declared.act.Act.TheVariants.{Tell}
 use Rattle.node_acts.specs.declared.asked.Asked.{Asked}
-use Rattle.node_acts.specs.declared.asked.Asked.TheVariants.{On, Off, Cut, Call}
+use Rattle.node_acts.specs.declared.asked.Asked.TheVariants.{Call}
 use Rattle.node_acts.specs.declared.said.Said.{Said}
 use Rattle.node_acts.specs.Plans.{IsOfNode}
-use Rattle.node_acts.specs.Kinds.{node_plan}
+use Rattle.node_acts.specs.Kinds.{node_plan, OfCall}
 use Rattle.node_acts.specs.RowList.{commits_in}
 use Rattle.node_acts.specs.Said.{said_plan, seen_plan}
+use Rattle.node_acts.specs.Acts.{OfCommit}
+use Rattle.node_acts.proofs.OfCommits.{of_commit, of_both, commit_says}
 use Rattle.psd_wire.specs.declared.message.Message.{Message}
 use Rattle.psd_wire.specs.declared.message.Message.TheVariants as m
 use Rattle.psd_wire.specs.Grammar.{read}
@@ -37,7 +39,7 @@ use Rattle.host_jobs.specs.ActLaws.{LeavesSound, ActsLeaveSound, AreRowsOf, Foll
 use Rattle.host_jobs.specs.ActLaws as law
 use Rattle.host_jobs.specs.Records.{seen_after}
 use Rattle.host_jobs.specs.Rows.{Jobs, open_in, job_row, tops_in}
-use Rattle.host_jobs.specs.Seen.{counting, cell_of, rows_in}
+use Rattle.host_jobs.specs.Seen.{counting, cell_of, rows_in, IsKnown}
 use Rattle.host_jobs.specs.SeenLaws.{SeenLaws}
 use Rattle.host_jobs.specs.Turns.{InTurn}
 use Rattle.bench_views.specs.declared.calls.HostCall.{HostCall}
@@ -47,26 +49,22 @@ use Rattle.bench_views.specs.declared.taken.Work.TheVariants as work
 use Rattle.bench_views.specs.Taken as takes
 use Rattle.bench_views.specs.Taken.{taken}
 use Rattle.bench_views.specs.Tariff.{Quote, quote_in}
-use Rattle.bench_views.specs.Host.{IsKnown, view_of, host_act, host_kind}
+use Rattle.bench_views.specs.Host.{view_of, host_act, host_kind}
 use Rattle.bench_views.specs.Messages.{sent_in}
-use Rattle.bench_views.proofs.Calling.{own_says, worn_says, at_seen, IsWornAlike}
+use Rattle.bench_views.proofs.Calling.{at_seen, IsWornAlike}
 use Rattle.bench_views.proofs.Events.{each_of_host}
 use Rattle.bench_views.proofs.HostCommits.{worn}
 use Rattle.bench_views.proofs.Sent.{sent_many, sent_at}
-use Rattle.bench_views.proofs.Steps.{IsQuiet, IsQuietAct, IsRight, quiet_says, right_says}
+use Rattle.bench_views.proofs.Steps.{IsQuiet, IsQuietAct, IsRight, quiet_says}
 
 -- == whose the commits are, and where they lie ==
 
 -- the commit of the act, if it makes one, is the host's, and lies in the cell of its row
 abbrev IsPlacedAct : {A : Type 0} → HostAct A → Type 0
-IsPlacedAct (Refuse x) = Unit {0}
-IsPlacedAct (Tell a) = Unit {0}
-IsPlacedAct (Commits c x a) = (node_of c ≡ Host) × (place_of c ≡ OfJob (cell_of x))
+IsPlacedAct = OfCommit (λ c x. (node_of c ≡ Host) × (place_of c ≡ OfJob (cell_of x)))
 
 sound_placed : {A : Type 0} (rows : Jobs) (act : HostAct A) → LeavesSound rows act → IsPlacedAct act
-sound_placed rows (Refuse x) leaves = tt
-sound_placed rows (Tell a) leaves = tt
-sound_placed rows (Commits c x a) leaves = (leaves.1, leaves.2)
+sound_placed rows act leaves = of_commit _ _ act leaves (λ c x left. (left.1, left.2))
 
 -- whatever the price
 order_placed : (d piece class : ℕ) (price : Option (Result ℕ RateRefusal)) (rows : Jobs) → IsPlacedAct (acts.order_act d piece class price rows)
@@ -139,19 +137,13 @@ module _ (H : Ledger) (known : IsKnown (seen_after (counted H))) (turn : InTurn 
   IsGood act = IsPlacedAct act × FollowsCommits rows C act
 
   own : {A : Type 0} (act : HostAct A) → IsGood act → IsOfNode Host act
-  own (Refuse x) good = tt
-  own (Tell a) good = tt
-  own (Commits c x a) good = good.0.0
+  own act good = of_commit _ _ act good.0 (λ c x placed. placed.0)
 
   right : {A : Type 0} (act : HostAct A) → IsGood act → IsRight counting Host seen_after H act
-  right (Refuse x) good = tt
-  right (Tell a) good = tt
-  right (Commits c x a) good = (good.0.0, λ on fresh. laws.puts rows C c x are good.1 good.0.1)
+  right act good = of_commit _ _ act (of_both _ _ act good.0 good.1) (λ c x both. (both.0.0, λ on fresh. laws.puts rows C c x are both.1 both.0.1))
 
   worn_alike : {A : Type 0} (act : HostAct A) → IsGood act → IsWornAlike counting Host seen_after H act
-  worn_alike (Refuse x) good = tt
-  worn_alike (Tell a) good = tt
-  worn_alike (Commits c x a) good = worn laws C turn c x good.0.1 known
+  worn_alike act good = of_commit _ _ act good.0 (λ c x placed. worn laws C turn c x placed.1 known)
 
   -- == each call ==
 
@@ -180,19 +172,19 @@ module _ (H : Ledger) (known : IsKnown (seen_after (counted H))) (turn : InTurn 
   take_good bytes = (sound_placed rows (acts.take_act bytes rows) (leaving.taken bytes), following.taken bytes)
 
   pub call_own : (c : HostCall) → IsWholeCall c → IsOfNode Host (host_act c rows)
-  call_own (call.Order c) whole = own_says Host _ _ (acts.order_act c.device c.piece c.class c.price rows) (own (acts.order_act c.device c.piece c.class c.price rows) (order_good c.device c.piece c.class c.price whole))
-  call_own (call.Send c) whole = own_says Host _ _ (acts.debit_message_act c.job rows) (own (acts.debit_message_act c.job rows) (send_good c.job))
-  call_own (call.Print c) whole = own_says Host _ _ (acts.begin_print_act c.job rows) (own (acts.begin_print_act c.job rows) (print_good c.job))
-  call_own (call.Close c) whole = own_says Host _ _ (acts.close_act c.job rows) (own (acts.close_act c.job rows) (close_good c.job))
-  call_own (call.Take c) whole = own_says Host _ _ (acts.take_act c.bytes rows) (own (acts.take_act c.bytes rows) (take_good c.bytes))
+  call_own (call.Order c) whole = commit_says _ _ _ (acts.order_act c.device c.piece c.class c.price rows) (own (acts.order_act c.device c.piece c.class c.price rows) (order_good c.device c.piece c.class c.price whole))
+  call_own (call.Send c) whole = commit_says _ _ _ (acts.debit_message_act c.job rows) (own (acts.debit_message_act c.job rows) (send_good c.job))
+  call_own (call.Print c) whole = commit_says _ _ _ (acts.begin_print_act c.job rows) (own (acts.begin_print_act c.job rows) (print_good c.job))
+  call_own (call.Close c) whole = commit_says _ _ _ (acts.close_act c.job rows) (own (acts.close_act c.job rows) (close_good c.job))
+  call_own (call.Take c) whole = commit_says _ _ _ (acts.take_act c.bytes rows) (own (acts.take_act c.bytes rows) (take_good c.bytes))
 
   pub call_right : (c : HostCall) → IsWholeCall c → IsRight counting Host seen_after H (host_act c rows)
   call_right (call.Order c) whole =
-      right_says counting Host seen_after H _ _ (acts.order_act c.device c.piece c.class c.price rows) (right (acts.order_act c.device c.piece c.class c.price rows) (order_good c.device c.piece c.class c.price whole))
-  call_right (call.Send c) whole = right_says counting Host seen_after H _ _ (acts.debit_message_act c.job rows) (right (acts.debit_message_act c.job rows) (send_good c.job))
-  call_right (call.Print c) whole = right_says counting Host seen_after H _ _ (acts.begin_print_act c.job rows) (right (acts.begin_print_act c.job rows) (print_good c.job))
-  call_right (call.Close c) whole = right_says counting Host seen_after H _ _ (acts.close_act c.job rows) (right (acts.close_act c.job rows) (close_good c.job))
-  call_right (call.Take c) whole = right_says counting Host seen_after H _ _ (acts.take_act c.bytes rows) (right (acts.take_act c.bytes rows) (take_good c.bytes))
+      commit_says _ _ _ (acts.order_act c.device c.piece c.class c.price rows) (right (acts.order_act c.device c.piece c.class c.price rows) (order_good c.device c.piece c.class c.price whole))
+  call_right (call.Send c) whole = commit_says _ _ _ (acts.debit_message_act c.job rows) (right (acts.debit_message_act c.job rows) (send_good c.job))
+  call_right (call.Print c) whole = commit_says _ _ _ (acts.begin_print_act c.job rows) (right (acts.begin_print_act c.job rows) (print_good c.job))
+  call_right (call.Close c) whole = commit_says _ _ _ (acts.close_act c.job rows) (right (acts.close_act c.job rows) (close_good c.job))
+  call_right (call.Take c) whole = commit_says _ _ _ (acts.take_act c.bytes rows) (right (acts.take_act c.bytes rows) (take_good c.bytes))
 
   -- == its plan ==
 
@@ -200,7 +192,7 @@ module _ (H : Ledger) (known : IsKnown (seen_after (counted H))) (turn : InTurn 
   at : {A : Type 0} (say : A → Said) (act : HostAct A) → IsGood act → (planned_as : HostAct A) → act ≡ planned_as → at_node Host H (said_plan (says say planned_as)) ≡ seen_plan counting Host (view_of H) (says say act)
   at {A} say act good planned_as is =
       ap (λ (x : HostAct A). at_node Host H (said_plan (says say x))) (sym is)
-      ∙ at_seen counting Host seen_after H (says say act) (own_says Host r.HostRefused say act (own act good)) (worn_says counting Host seen_after H r.HostRefused say act (worn_alike act good))
+      ∙ at_seen counting Host seen_after H (says say act) (commit_says _ r.HostRefused say act (own act good)) (commit_says _ r.HostRefused say act (worn_alike act good))
 
   -- by the next message
   sends : (j : ℕ) → at_node Host H (told.send_plan (length (sent_in H)) j C) ≡ seen_plan counting Host (view_of H) (host_act (call.Send (record { job = j; message = length (sent_in H) })) rows)
@@ -246,10 +238,7 @@ module _ (H : Ledger) (known : IsKnown (seen_after (counted H))) (turn : InTurn 
 -- == the numbers of a call ==
 
 abbrev IsWholeAsked : Asked HostCall → Type 0
-IsWholeAsked On = Unit {0}
-IsWholeAsked Off = Unit {0}
-IsWholeAsked (Cut calls keep byte) = Unit {0}
-IsWholeAsked (Call x) = IsWholeCall x
+IsWholeAsked = OfCall IsWholeCall
 
 delivered_whole : (k next : ℕ) (asked : Asked HostCall) (o : Option (List ℕ)) → takes.message_taken k next o ≡ take.Work (work.Host asked) → IsWholeAsked asked
 delivered_whole k next asked None is = cc

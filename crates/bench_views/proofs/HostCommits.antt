@@ -16,11 +16,10 @@ use Rattle.law_jobs.specs.Places as places
 use Rattle.host_jobs.specs.declared.rows.JobRow.{JobRow}
 use Rattle.host_jobs.specs.declared.sizes.TheConstants.{HOST_CELLS}
 use Rattle.host_jobs.specs.Records.{cell_after, seen_after}
-use Rattle.host_jobs.specs.Seen.{cell_of}
+use Rattle.host_jobs.specs.Seen.{cell_of, IsKnown}
 use Rattle.host_jobs.specs.SeenLaws.{SeenLaws}
 use Rattle.host_jobs.specs.Turns.{InTurn}
 use Rattle.host_jobs.proofs.Cells.{cell-lt}
-use Rattle.bench_views.specs.Host.{IsKnown}
 use Rattle.bench_views.proofs.CentreCounts.{same_sum}
 use Rattle.bench_views.proofs.Counts.{top-is}
 

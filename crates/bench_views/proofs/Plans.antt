@@ -36,14 +36,15 @@ use Rattle.psd_state.specs.declared.debiting.Debited.{Debited}
 use Rattle.psd_state.specs.declared.debiting.Debited.TheVariants.{New, Again}
 use Rattle.psd_state.specs.declared.acts.Taken.{Taken}
 use Rattle.psd_state.specs.declared.acts.Taken.TheVariants as taken_as
-use Rattle.psd_state.specs.Acts.{DeviceAct, make_act, franked_act, debit_act, asked_act, ask_act, applied_act, reply_act, released, message_act, take_act, told_act, resend_act, ack_act, status_act}
+use Rattle.psd_state.specs.Acts.{DeviceAct, make_act, franked_act, debit_act, asked_act, ask_act, applied_act, reply_act, message_act, take_act, told_act, resend_act, ack_act, status_act}
 use Rattle.node_acts.specs.declared.act.Act.{Act}
-use Rattle.node_acts.specs.declared.act.Act.TheVariants.{Refuse, Tell, Commits}
 use Rattle.node_acts.specs.declared.asked.Asked.{Asked as AskedOf}
 use Rattle.node_acts.specs.declared.asked.Asked.TheVariants.{Call}
 use Rattle.node_acts.specs.Kinds.{node_plan}
 use Rattle.node_acts.specs.Plans.{IsOfNode}
 use Rattle.node_acts.specs.Said.{tells, saying, said_plan, seen_plan}
+use Rattle.node_acts.proofs.OfCommits.{of_commit, commit_says}
+use Rattle.psd_state.proofs.Released.{commit_released}
 use Rattle.psd_state.specs.Seen.{counting}
 use Rattle.ledger_moves.specs.Tariffs.{Tariff}
 use Rattle.ledger_moves.specs.Devices as device
@@ -58,7 +59,7 @@ use Rattle.bench_views.specs.Taken.{taken}
 use Rattle.bench_views.specs.Tariff.{Quote}
 use Rattle.bench_views.specs.Devices.{seen_in, view_of, asked, took, device_act, device_kind, IsKnown}
 use Rattle.bench_views.specs.Messages.{sent_in}
-use Rattle.bench_views.proofs.Calling.{plan_says, own_says, at_seen, IsWornAlike}
+use Rattle.bench_views.proofs.Calling.{plan_says, at_seen, IsWornAlike}
 use Rattle.bench_views.proofs.Counts.{worn-is}
 use Rattle.bench_views.proofs.Events.{each_asked}
 use Rattle.bench_views.proofs.Frames.{one-device}
@@ -119,27 +120,22 @@ module _ (d : ℕ) where
       either (λ (a : DeviceAct Taken). IsOfNode (Device d) a) (not (p.device == d)) _ _ tt
       (either (λ (a : DeviceAct Taken). IsOfNode (Device d) a) (not (has_code s.key bytes)) _ act tt (applied_own p (apply_answer s s.pending p)))
 
-  released_own : (piece : ℕ) (act : DeviceAct _) → IsOfNode (Device d) act → IsOfNode (Device d) (released piece act)
-  released_own piece (Refuse x) own = tt
-  released_own piece (Tell a) own = tt
-  released_own piece (Commits c x a) own = own
-
   message_own : (bytes : List ℕ) (today : ℤ) (s : Option State) (x : Result Message Unread) → IsOfNode (Device d) (message_act todays_rules d bytes today s x)
   message_own bytes today s (Ok (m.Reply p)) = reply_own bytes p s
-  message_own bytes today s (Ok (m.Debit q)) = released_own q.piece (debit_act todays_rules d q today s) (debit_own q today s)
+  message_own bytes today s (Ok (m.Debit q)) = commit_released _ q.piece (debit_act todays_rules d q today s) (debit_own q today s)
   message_own bytes today s (Ok (m.Request q)) = tt
   message_own bytes today s (Ok (m.Done q)) = tt
   message_own bytes today s (Ok (m.Release x)) = tt
   message_own bytes today s (Err x) = tt
 
   pub call_own : (today : ℤ) (call : DeviceCall) (s : Option State) → IsOfNode (Device d) (device_act d today call s)
-  call_own today (Make c) s = own_says (Device d) _ _ (make_act d c.key s) (make_own c.key s)
-  call_own today (Debit c) s = own_says (Device d) _ _ (debit_act todays_rules d (debit_by d c.piece c.postage c.class) today s) (debit_own (debit_by d c.piece c.postage c.class) today s)
-  call_own today (Ask c) s = own_says (Device d) _ _ (ask_act todays_rules d c.kind c.customer c.amount today s) (ask_own c.kind c.customer c.amount today s)
-  call_own today (Resend c) s = own_says (Device d) _ _ (resend_act s) (resend_own s)
-  call_own today (Ack c) s = own_says (Device d) _ _ (ack_act s) (ack_own s)
-  call_own today Status s = own_says (Device d) _ _ (status_act today s) (status_own today s)
-  call_own today (Take c) s = own_says (Device d) _ _ (take_act todays_rules d c.bytes today s) (message_own c.bytes today s (read c.bytes))
+  call_own today (Make c) s = commit_says _ _ _ (make_act d c.key s) (make_own c.key s)
+  call_own today (Debit c) s = commit_says _ _ _ (debit_act todays_rules d (debit_by d c.piece c.postage c.class) today s) (debit_own (debit_by d c.piece c.postage c.class) today s)
+  call_own today (Ask c) s = commit_says _ _ _ (ask_act todays_rules d c.kind c.customer c.amount today s) (ask_own c.kind c.customer c.amount today s)
+  call_own today (Resend c) s = commit_says _ _ _ (resend_act s) (resend_own s)
+  call_own today (Ack c) s = commit_says _ _ _ (ack_act s) (ack_own s)
+  call_own today Status s = commit_says _ _ _ (status_act today s) (status_own today s)
+  call_own today (Take c) s = commit_says _ _ _ (take_act todays_rules d c.bytes today s) (message_own c.bytes today s (read c.bytes))
 
   -- a device's commit goes into its one cell
   own_cell : (c : Commit) → node_of c ≡ Device d → place_of c ≡ OfDevice d
@@ -167,9 +163,7 @@ module _ (H : Ledger) (resending : ResendingRepeats) where
     C = counted H
 
     worn_alike : {F A : Type 0} (act : Act State F A) → IsOfNode (Device d) act → IsWornAlike counting (Device d) (seen_in d) H act
-    worn_alike (Refuse x) own = tt
-    worn_alike (Tell a) own = tt
-    worn_alike (Commits c x a) own = worn-is d c C (own_cell d c own) known.few
+    worn_alike act own = of_commit _ _ act own (λ c x is. worn-is d c C (own_cell d c is) known.few)
 
     -- at the device, the plan of its act is what is seen
     at : (today : ℤ) (call : DeviceCall) → at_node (Device d) H (said_plan (device_act d today call (record_in d C))) ≡ seen_plan counting (Device d) (view_of d H) (device_act d today call (record_in d C))

@@ -20,7 +20,7 @@ use Rattle.node_acts.specs.declared.said.GivenOut.{GivenOut}
 use Rattle.node_acts.specs.declared.said.GivenOut.TheVariants.{Released, Printed}
 use Rattle.node_acts.specs.Said.{saying, seen_plan, tells, with_sent, with_given}
 use Rattle.node_acts.specs.Views.{Counting, View, committed, torn}
-use Rattle.node_acts.specs.Acts.{commit_in, commit_of}
+use Rattle.node_acts.specs.Acts.{commit_in, commit_of, OfCommit}
 use Rattle.node_acts.specs.Plans.{with_commit, after, after_told, Fails, FailsTold, MayFail, MayReply, done_plan, view_after, view_told}
 use Rattle.node_acts.specs.Kinds.{view_in}
 use Rattle.bench_views.proofs.Events.{some-same}
@@ -179,15 +179,7 @@ module _ {S X : Type 0} (n : Counting S X) (m : Node) (seen : List Commit → S)
 
   -- the commit is the node's, and its record follows from it where it can be made
   abbrev pub IsRight : {F A : Type 0} → Act X F A → Type 0
-  IsRight (Commits c y a) = (node_of c ≡ m) × (is_on m H ≡ true → n.is_worn (seen (counted H)) y ≡ false → seen (c ∷ counted H) ≡ n.after (seen (counted H)) y)
-  IsRight (Refuse x) = Unit {0}
-  IsRight (Tell a) = Unit {0}
-
-  -- saying what it answers changes none of this
-  pub right_says : {F A : Type 0} (refusal : F → Reply) (say : A → Said) (act : Act X F A) → IsRight act → IsRight (saying refusal say act)
-  right_says refusal say (Commits c y a) right = right
-  right_says refusal say (Refuse x) right = tt
-  right_says refusal say (Tell a) right = tt
+  IsRight = OfCommit (λ c y. (node_of c ≡ m) × (is_on m H ≡ true → n.is_worn (seen (counted H)) y ≡ false → seen (c ∷ counted H) ≡ n.after (seen (counted H)) y))
 
   worn_quiet : IsQuiet (r.Worn m)
   worn_quiet = tt

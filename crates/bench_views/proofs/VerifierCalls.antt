@@ -13,15 +13,15 @@ use Rattle.bench_base.specs.Table.{IsBytes}
 use Rattle.bench_base.specs.Ranges.{IsWholeEvent, IsDevice, IsKey, IsCount}
 use Rattle.bench_base.specs.Cells as cells
 use Rattle.bench_base.specs.Ledger.{Ledger, day_in, count_of, counted}
-use Rattle.node_acts.specs.declared.act.Act.TheVariants.{Refuse, Tell, Commits}
 use Rattle.node_acts.specs.declared.asked.Asked.{Asked}
-use Rattle.node_acts.specs.declared.asked.Asked.TheVariants.{On, Off, Cut, Call}
+use Rattle.node_acts.specs.declared.asked.Asked.TheVariants.{Call}
 use Rattle.node_acts.specs.declared.said.Said.{Said}
 use Rattle.node_acts.specs.Plans.{IsOfNode}
-use Rattle.node_acts.specs.Kinds.{node_plan}
+use Rattle.node_acts.specs.Kinds.{node_plan, OfCall}
 use Rattle.node_acts.specs.RowList.{row_at, commits_at, commits_in}
 use Rattle.node_acts.specs.RowList as rows
 use Rattle.node_acts.specs.Said.{said_plan, seen_plan}
+use Rattle.node_acts.proofs.OfCommits.{of_commit, of_both, commit_says}
 use Rattle.ledger_moves.specs.Tariffs.{Tariff}
 use Rattle.ledger_moves.specs.Moves.{plan, at_node, scan_plan, scan_sent}
 use Rattle.verifier.specs.declared.acts.Change.{Change}
@@ -29,20 +29,20 @@ use Rattle.verifier.specs.Acts.{ScanAct, trust_by, trust_act, scan_by, scan_act}
 use Rattle.verifier.specs.Plans.{says, told_trusted, told_accepted, in_commits}
 use Rattle.verifier.specs.ActLaws.{LeavesSound, SoundActs, ActsLeaveSound, IsNext, FollowsCommits, FollowingActs, ActsFollow, PlannedActs, ActsArePlanned}
 use Rattle.verifier.specs.Records.{seen_after, IsRecorded}
-use Rattle.verifier.specs.Seen.{Seen, cell_of, counting}
+use Rattle.verifier.specs.Seen.{Seen, cell_of, counting, IsKnown}
 use Rattle.bench_views.specs.declared.calls.VerifierCall.{VerifierCall}
 use Rattle.bench_views.specs.declared.calls.VerifierCall.TheVariants as call
 use Rattle.bench_views.specs.declared.taken.Taken.TheVariants as take
 use Rattle.bench_views.specs.declared.taken.Work.TheVariants as work
 use Rattle.bench_views.specs.Taken.{taken}
 use Rattle.bench_views.specs.Tariff.{Quote}
-use Rattle.bench_views.specs.Verifier.{view_of, verifier_act, verifier_kind, IsKnown, AreBytes}
+use Rattle.bench_views.specs.Verifier.{view_of, verifier_act, verifier_kind, AreBytes}
 use Rattle.bench_views.specs.Messages.{sent_in}
-use Rattle.bench_views.proofs.Calling.{own_says, worn_says, at_seen, IsWornAlike}
+use Rattle.bench_views.proofs.Calling.{at_seen, IsWornAlike}
 use Rattle.bench_views.proofs.Counts.{top-is}
 use Rattle.bench_views.proofs.Events.{each_of_verifier}
 use Rattle.bench_views.proofs.Sent.{sent_at}
-use Rattle.bench_views.proofs.Steps.{IsQuiet, IsQuietAct, IsRight, quiet_says, right_says}
+use Rattle.bench_views.proofs.Steps.{IsQuiet, IsQuietAct, IsRight, quiet_says}
 
 -- the numbers of the call fit their fields
 abbrev pub IsWholeCall : VerifierCall → Type 0
@@ -81,14 +81,10 @@ module _ (H : Ledger) (recorded : IsRecorded (counted H)) (known : IsKnown (seen
   IsGood act = LeavesSound s act × FollowsCommits C act
 
   own : {A : Type 0} (act : ScanAct A) → IsGood act → IsOfNode Verifier act
-  own (Refuse x) good = tt
-  own (Tell a) good = tt
-  own (Commits c x a) good = good.0.1
+  own act good = of_commit _ _ act good.0 (λ c x leaves. leaves.1)
 
   right : {A : Type 0} (act : ScanAct A) → IsGood act → IsRight counting Verifier seen_after H act
-  right (Refuse x) good = tt
-  right (Tell a) good = tt
-  right (Commits c x a) good = (good.0.1, λ on fresh. sym good.1.seen)
+  right act good = of_commit _ _ act (of_both _ _ act good.0 good.1) (λ c x both. (both.0.1, λ on fresh. sym both.1.seen))
 
   -- the cell of a change is worn where the ledger says so
   worn : (c : Commit) (x : Change) → IsNext C c x → cells.is_worn c C ≡ rows.is_worn s (cell_of x)
@@ -96,9 +92,7 @@ module _ (H : Ledger) (recorded : IsRecorded (counted H)) (known : IsKnown (seen
   worn c x next = ap (λ (n : ℕ). nat_le MOST_COMMITS n) (sym next.count) ∙ top-is (commits_at (row_at s (cell_of x))) MOST_COMMITS (known.few (cell_of x))
 
   worn_alike : {A : Type 0} (act : ScanAct A) → IsGood act → IsWornAlike counting Verifier seen_after H act
-  worn_alike (Refuse x) good = tt
-  worn_alike (Tell a) good = tt
-  worn_alike (Commits c x a) good = worn c x good.1
+  worn_alike act good = of_commit _ _ act good.1 worn
 
   -- == each call ==
 
@@ -109,12 +103,12 @@ module _ (H : Ledger) (recorded : IsRecorded (counted H)) (known : IsKnown (seen
   scan_good n bytes today count are = (leaving.scanned n bytes today count are, following.scanned n bytes today count are)
 
   pub call_own : (today : ℤ) (c : VerifierCall) → IsWholeCall c → IsOfNode Verifier (verifier_act today c s)
-  call_own today (call.Trust c) whole = own_says Verifier _ _ (trust_act c.device c.key s) (own (trust_act c.device c.key s) (trust_good c.device c.key whole.0 whole.1))
-  call_own today (call.Scan c) whole = own_says Verifier _ _ (scan_act c.number c.bytes today s) (own (scan_act c.number c.bytes today s) (scan_good c.number c.bytes today whole.0 whole.1))
+  call_own today (call.Trust c) whole = commit_says _ _ _ (trust_act c.device c.key s) (own (trust_act c.device c.key s) (trust_good c.device c.key whole.0 whole.1))
+  call_own today (call.Scan c) whole = commit_says _ _ _ (scan_act c.number c.bytes today s) (own (scan_act c.number c.bytes today s) (scan_good c.number c.bytes today whole.0 whole.1))
 
   pub call_right : (today : ℤ) (c : VerifierCall) → IsWholeCall c → IsRight counting Verifier seen_after H (verifier_act today c s)
-  call_right today (call.Trust c) whole = right_says counting Verifier seen_after H _ _ (trust_act c.device c.key s) (right (trust_act c.device c.key s) (trust_good c.device c.key whole.0 whole.1))
-  call_right today (call.Scan c) whole = right_says counting Verifier seen_after H _ _ (scan_act c.number c.bytes today s) (right (scan_act c.number c.bytes today s) (scan_good c.number c.bytes today whole.0 whole.1))
+  call_right today (call.Trust c) whole = commit_says _ _ _ (trust_act c.device c.key s) (right (trust_act c.device c.key s) (trust_good c.device c.key whole.0 whole.1))
+  call_right today (call.Scan c) whole = commit_says _ _ _ (scan_act c.number c.bytes today s) (right (scan_act c.number c.bytes today s) (scan_good c.number c.bytes today whole.0 whole.1))
 
   -- == its plan ==
 
@@ -122,7 +116,7 @@ module _ (H : Ledger) (recorded : IsRecorded (counted H)) (known : IsKnown (seen
   at : {A : Type 0} (say : A → Said) (act : ScanAct A) → IsGood act → (planned_as : ScanAct A) → act ≡ planned_as → at_node Verifier H (said_plan (says say planned_as)) ≡ seen_plan counting Verifier (view_of H) (says say act)
   at {A} say act good planned_as is =
       ap (λ (x : ScanAct A). at_node Verifier H (said_plan (says say x))) (sym is)
-      ∙ at_seen counting Verifier seen_after H (says say act) (own_says Verifier r.ScanRefused say act (own act good)) (worn_says counting Verifier seen_after H r.ScanRefused say act (worn_alike act good))
+      ∙ at_seen counting Verifier seen_after H (says say act) (commit_says _ r.ScanRefused say act (own act good)) (commit_says _ r.ScanRefused say act (worn_alike act good))
 
   -- bytes that are scanned
   scans : (today : ℤ) (n : ℕ) (bytes : List ℕ) → IsCount n → IsBytes bytes → scan_plan n today bytes H ≡ seen_plan counting Verifier (view_of H) (verifier_act today (call.Scan (record { number = n; bytes = bytes })) s)
@@ -146,10 +140,7 @@ module _ (H : Ledger) (recorded : IsRecorded (counted H)) (known : IsKnown (seen
 -- == the numbers of a call ==
 
 abbrev IsWholeAsked : Asked VerifierCall → Type 0
-IsWholeAsked On = Unit {0}
-IsWholeAsked Off = Unit {0}
-IsWholeAsked (Cut calls keep byte) = Unit {0}
-IsWholeAsked (Call x) = IsWholeCall x
+IsWholeAsked = OfCall IsWholeCall
 
 -- they are those of its event, and of what is scanned
 pub whole_call : (H : Ledger) (quote : Quote) (e : Event) (c : VerifierCall) → taken (sent_in H) quote e ≡ Some (take.Work (work.Verifier (Call c))) → IsWholeEvent e → AreBytes (Call c) → IsWholeCall c

@@ -1,7 +1,7 @@
 -- The centre, as the ledger shows it to the bench, and what a call of it does by that alone. Amounts are in mills.
-use Rattle.std.specs.Prelude.{◌≡◌, ℕ, ◌+◌, ◌-◌, ◌<◌, ◌≤◌, List, length, Option, option_map, nat_lt, if◌then◌else◌}
+use Rattle.std.specs.Prelude.{ℕ, ◌+◌, ◌-◌, List, Option, option_map, nat_lt, if◌then◌else◌}
 use Rattle.bench_base.specs.declared.words.Node.TheVariants.{Centre}
-use Rattle.bench_base.specs.declared.sizes.TheConstants.{MOST_COMMITS, CENTRE_CELLS}
+use Rattle.bench_base.specs.declared.sizes.TheConstants.{CENTRE_CELLS}
 use Rattle.bench_base.specs.declared.ledger.Commit.{Commit}
 use Rattle.bench_base.specs.declared.events.Reply.{Reply}
 use Rattle.bench_base.specs.Cells.{Place, OfRow, OfCustomer}
@@ -10,13 +10,12 @@ use Rattle.bench_base.specs.Ledger.{Ledger}
 use Rattle.bench_base.specs.Table.{IsBytes}
 use Rattle.node_acts.specs.declared.act.Act.{Act}
 use Rattle.node_acts.specs.declared.asked.Asked.{Asked}
-use Rattle.node_acts.specs.declared.asked.Asked.TheVariants.{On, Off, Cut, Call}
 use Rattle.node_acts.specs.Views.{View}
 use Rattle.node_acts.specs.declared.said.Said.{Said}
 use Rattle.node_acts.specs.Said.{kind_by}
-use Rattle.node_acts.specs.Kinds.{Kind, view_in}
-use Rattle.node_acts.specs.RowList.{listed, row_at, commits_at}
-use Rattle.centre_ledger.specs.Books.{Books, AreSound}
+use Rattle.node_acts.specs.Kinds.{Kind, view_in, OfCall}
+use Rattle.node_acts.specs.RowList.{listed, commits_at}
+use Rattle.centre_ledger.specs.Books.{Books}
 use Rattle.centre_ledger.specs.declared.rows.Row.{Row}
 use Rattle.centre_ledger.specs.declared.rows.Row.TheVariants as row
 use Rattle.centre_ledger.specs.Plans.{says, told_registered, told_opened, told_deposited, told_flagged, told_balance, told_taken}
@@ -40,12 +39,6 @@ cell_after k C = option_map (λ r. (cells.commits_at (place_in k) C, r)) (row_in
 
 abbrev pub seen_in : List Commit → Seen
 seen_in C = listed CENTRE_CELLS (λ k. cell_after k C)
-
--- a record that storage can show: of so many cells, none with more commits than it can count, and rows that are sound
-pub record IsKnown (s : Seen) : Type 0 where
-  pub long : length s ≡ CENTRE_CELLS
-  pub few : (k : ℕ) → k < CENTRE_CELLS → commits_at (row_at s k) ≤ MOST_COMMITS
-  pub sound : AreSound (books_in s)
 
 -- what the bench sees of the centre
 abbrev pub view_of : Ledger → View Seen
@@ -74,7 +67,4 @@ IsBytesCall (call.Balance c) = Unit {0}
 IsBytesCall (call.Take c) = IsBytes c.bytes
 
 abbrev pub AreBytes : Asked CentreCall → Type 0
-AreBytes On = Unit {0}
-AreBytes Off = Unit {0}
-AreBytes (Cut calls keep byte) = Unit {0}
-AreBytes (Call c) = IsBytesCall c
+AreBytes = OfCall IsBytesCall

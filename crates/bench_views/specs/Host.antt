@@ -1,7 +1,5 @@
 -- The host, as the ledger shows it to the bench, and what a call of it does by that alone. Postage is in mills.
-use Rattle.std.specs.Prelude.{◌≡◌, ℕ, ◌≤◌, length}
 use Rattle.bench_base.specs.declared.words.Node.TheVariants.{Host}
-use Rattle.bench_base.specs.declared.sizes.TheConstants.{MOST_COMMITS}
 use Rattle.bench_base.specs.declared.events.Reply.{Reply}
 use Rattle.bench_base.specs.Ledger.{Ledger}
 use Rattle.node_acts.specs.declared.act.Act.{Act}
@@ -9,25 +7,16 @@ use Rattle.node_acts.specs.declared.said.Said.{Said}
 use Rattle.node_acts.specs.Said.{kind_by}
 use Rattle.node_acts.specs.Views.{View}
 use Rattle.node_acts.specs.Kinds.{Kind, view_in}
-use Rattle.node_acts.specs.RowList.{row_at, commits_at}
 use Rattle.host_jobs.specs.declared.rows.JobRow.{JobRow}
-use Rattle.host_jobs.specs.declared.sizes.TheConstants.{HOST_CELLS}
 use Rattle.host_jobs.specs.Rows.{Jobs}
 use Rattle.host_jobs.specs.Records.{seen_after}
 use Rattle.host_jobs.specs.Seen.{Seen, counting, rows_in}
-use Rattle.host_jobs.specs.Soundness.{AreSound}
 use Rattle.host_jobs.specs.Acts as acts
 use Rattle.host_jobs.specs.Plans.{says, told_ordered, told_sent, told_printed, told_closed, told_held}
 use Rattle.bench_views.specs.declared.calls.HostCall.{HostCall}
 use Rattle.bench_views.specs.declared.calls.HostCall.TheVariants as call
 
 -- == its record ==
-
--- a record that storage can show: of so many cells, none with more commits than it can count, and jobs that are sound
-pub record IsKnown (s : Seen) : Type 0 where
-  pub long : length s ≡ HOST_CELLS
-  pub few : (k : ℕ) → commits_at (row_at s k) ≤ MOST_COMMITS
-  pub sound : AreSound (rows_in s)
 
 -- what the bench sees of the host
 abbrev pub view_of : Ledger → View Seen

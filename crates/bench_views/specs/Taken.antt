@@ -8,6 +8,7 @@ use Rattle.bench_base.specs.declared.events.Event.{Event}
 use Rattle.bench_base.specs.declared.events.Event.TheVariants as ev
 use Rattle.node_acts.specs.declared.asked.Asked.{Asked}
 use Rattle.node_acts.specs.declared.asked.Asked.TheVariants.{On, Off, Cut, Call}
+use Rattle.node_acts.specs.Kinds.{OfCall}
 use Rattle.psd_wire.specs.declared.message.Message.{Message}
 use Rattle.psd_wire.specs.declared.message.Message.TheVariants as m
 use Rattle.psd_wire.specs.Grammar.{read}
@@ -187,10 +188,7 @@ IsPricedCall (host.Close c) = Unit {0}
 IsPricedCall (host.Take c) = Unit {0}
 
 abbrev pub IsPricedAsked : Asked HostCall → Type 0
-IsPricedAsked On = Unit {0}
-IsPricedAsked Off = Unit {0}
-IsPricedAsked (Cut calls keep byte) = Unit {0}
-IsPricedAsked (Call c) = IsPricedCall c
+IsPricedAsked = OfCall IsPricedCall
 
 abbrev pub IsPriced : Taken → Type 0
 IsPriced (take.Day t) = Unit {0}

@@ -1,32 +1,24 @@
 -- The verifier, as the ledger shows it to the bench, and what a call of it does by that alone.
-use Rattle.std.specs.Prelude.{ℕ, ℤ, ◌≤◌}
+use Rattle.std.specs.Prelude.{ℤ}
 use Rattle.bench_base.specs.declared.words.Node.TheVariants.{Verifier}
-use Rattle.bench_base.specs.declared.sizes.TheConstants.{MOST_COMMITS}
 use Rattle.bench_base.specs.declared.events.Reply.{Reply}
 use Rattle.bench_base.specs.Ledger.{Ledger}
 use Rattle.bench_base.specs.Table.{IsBytes}
 use Rattle.node_acts.specs.declared.act.Act.{Act}
 use Rattle.node_acts.specs.declared.asked.Asked.{Asked}
-use Rattle.node_acts.specs.declared.asked.Asked.TheVariants.{On, Off, Cut, Call}
 use Rattle.node_acts.specs.declared.said.Said.{Said}
 use Rattle.node_acts.specs.Said.{kind_by}
 use Rattle.node_acts.specs.Views.{View}
-use Rattle.node_acts.specs.Kinds.{Kind, view_in}
-use Rattle.node_acts.specs.RowList.{row_at, commits_at}
+use Rattle.node_acts.specs.Kinds.{Kind, view_in, OfCall}
 use Rattle.verifier.specs.declared.acts.Change.{Change}
 use Rattle.verifier.specs.Records.{seen_after}
-use Rattle.verifier.specs.Seen.{Seen, AreSound, counting}
+use Rattle.verifier.specs.Seen.{Seen, counting}
 use Rattle.verifier.specs.Acts.{trust_act, scan_act}
 use Rattle.verifier.specs.Plans.{says, told_trusted, told_accepted}
 use Rattle.bench_views.specs.declared.calls.VerifierCall.{VerifierCall}
 use Rattle.bench_views.specs.declared.calls.VerifierCall.TheVariants as call
 
 -- == its record ==
-
--- a record that storage can show: rows that are sound, and no cell with more commits than it can count
-pub record IsKnown (s : Seen) : Type 0 where
-  pub sound : AreSound s
-  pub few : (k : ℕ) → commits_at (row_at s k) ≤ MOST_COMMITS
 
 -- what the bench sees of the verifier
 abbrev pub view_of : Ledger → View Seen
@@ -47,7 +39,4 @@ IsBytesCall (call.Trust c) = Unit {0}
 IsBytesCall (call.Scan c) = IsBytes c.bytes
 
 abbrev pub AreBytes : Asked VerifierCall → Type 0
-AreBytes On = Unit {0}
-AreBytes Off = Unit {0}
-AreBytes (Cut calls keep byte) = Unit {0}
-AreBytes (Call c) = IsBytesCall c
+AreBytes = OfCall IsBytesCall

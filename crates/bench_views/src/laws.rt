@@ -4,9 +4,6 @@ ghost use Rattle.centre_ledger.specs.Seen as centre;
 ghost use Rattle.host_jobs.specs.Seen as host;
 ghost use Rattle.verifier.specs.Seen as verifier;
 ghost use Rattle.bench_views.specs.Devices as devices;
-ghost use Rattle.bench_views.specs.Centre.{IsKnown};
-ghost use Rattle.bench_views.specs.Host as hosts;
-ghost use Rattle.bench_views.specs.Verifier as verifiers;
 ghost use Rattle.bench_views.specs.Follows.{DevicesFollow, CentreFollows, HostFollows, VerifierFollows, OthersAreQuiet};
 ghost use Rattle.bench_views.specs.Kinds.{bench_kinds};
 
@@ -18,7 +15,7 @@ use verifier::acts_follow_the_commits as acts_of_verifier;
 
 /// An event of the host does what the host alone would do, and changes it alone: see `Follows`.
 pub fn host_follows()
-    ensures { HostFollows host.counting bench_kinds hosts.IsKnown }
+    ensures { HostFollows host.counting bench_kinds host.IsKnown }
 {
     histories();
     orders();
@@ -29,7 +26,7 @@ pub fn host_follows()
 
 /// An event of the verifier does what the verifier alone would do, and changes it alone: see `Follows`.
 pub fn verifier_follows()
-    ensures { VerifierFollows verifier.counting bench_kinds verifiers.IsKnown }
+    ensures { VerifierFollows verifier.counting bench_kinds verifier.IsKnown }
 {
     histories();
     orders();
@@ -41,8 +38,8 @@ pub fn verifier_follows()
 /// what is seen of the nodes, and changes none.
 pub fn nodes_follow()
     ensures devices { DevicesFollow device.counting bench_kinds devices.IsKnown }
-    ensures centre { CentreFollows centre.counting bench_kinds IsKnown }
-    ensures quiet { OthersAreQuiet bench_kinds IsKnown }
+    ensures centre { CentreFollows centre.counting bench_kinds centre.IsKnown }
+    ensures quiet { OthersAreQuiet bench_kinds centre.IsKnown }
 {
     histories();
     orders();

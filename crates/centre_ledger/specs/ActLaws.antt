@@ -5,7 +5,9 @@ use Rattle.bench_base.specs.Ranges.{IsDevice, IsCustomer, IsWord}
 use Rattle.bench_base.specs.Table.{IsBytes}
 use Rattle.bench_base.specs.declared.words.Node.TheVariants.{Centre}
 use Rattle.bench_base.specs.declared.ledger.Commit.{Commit}
-use Rattle.node_acts.specs.declared.act.Act.TheVariants.{Refuse, Tell, Commits}
+use Rattle.node_acts.specs.Acts.{OfCommit}
+use Rattle.node_acts.specs.declared.act.Act.{Act}
+use Rattle.centre_ledger.specs.declared.rows.Row.{Row}
 use Rattle.centre_ledger.specs.Acts.{CentreAct, in_books, open_act, flag_act, deposit_act, balance_act, register_act, standing_act, take_act}
 use Rattle.centre_ledger.specs.Books.{Books, device_at, customer_at, no_rows, put_row, AreSound}
 use Rattle.centre_ledger.specs.Laws.{IsSlotOf, IsCustomerSlotOf}
@@ -15,10 +17,8 @@ use Rattle.centre_ledger.specs.Plans.{in_commits}
 -- == the rows stay sound ==
 
 -- where the act commits a row, the commit is the centre's, and the books with the row are sound
-abbrev pub LeavesSound : {A : Type 0} → Books → CentreAct A → Type 0
-LeavesSound b (Refuse x) = Unit {0}
-LeavesSound b (Tell a) = Unit {0}
-LeavesSound b (Commits c x a) = AreSound (put_row b x) × (node_of c ≡ Centre)
+abbrev pub LeavesSound : {F A : Type 0} → Books → Act Row F A → Type 0
+LeavesSound b = OfCommit (λ c x. AreSound (put_row b x) × (node_of c ≡ Centre))
 
 pub record SoundActs (b : Books) : Type 0 where
   pub registered : (d origin : ℕ) (key : List ℕ) → IsDevice d → IsWord origin → LeavesSound b (register_act d origin key b)
@@ -42,9 +42,7 @@ pub record AreBooksOf (b : Books) (C : List Commit) : Type 0 where
 
 -- where the act commits a row, the books with it are those of the commits and that one
 abbrev pub FollowsCommits : {A : Type 0} → Books → List Commit → CentreAct A → Type 0
-FollowsCommits b C (Refuse x) = Unit {0}
-FollowsCommits b C (Tell a) = Unit {0}
-FollowsCommits b C (Commits c x a) = AreBooksOf (put_row b x) (c ∷ C)
+FollowsCommits b C = OfCommit (λ c x. AreBooksOf (put_row b x) (c ∷ C))
 
 pub record FollowingActs (b : Books) (C : List Commit) : Type 0 where
   pub registered : (d origin : ℕ) (key : List ℕ) → IsDevice d → FollowsCommits b C (register_act d origin key b)

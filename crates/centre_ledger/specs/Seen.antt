@@ -1,13 +1,14 @@
 -- What is seen of the centre: of each of its 72 cells nothing, or how many commits it has and its row. Cell d - 1 is device d, and cell
 -- 7 + w customer w.
-use Rattle.std.specs.Prelude.{ℕ, ◌+◌, ◌-◌, Option, Some, None}
+use Rattle.std.specs.Prelude.{◌≡◌, ℕ, ◌+◌, ◌-◌, ◌≤◌, length, Option, Some, None}
+use Rattle.bench_base.specs.declared.sizes.TheConstants.{MOST_COMMITS, CENTRE_CELLS}
 use Rattle.node_acts.specs.Views.{Counting}
-use Rattle.node_acts.specs.RowList.{RowList, row_at, counting_by, listed}
+use Rattle.node_acts.specs.RowList.{RowList, row_at, commits_at, counting_by, listed}
 use Rattle.centre_ledger.specs.declared.rows.DeviceRow.{DeviceRow}
 use Rattle.centre_ledger.specs.declared.rows.CustomerRow.{CustomerRow}
 use Rattle.centre_ledger.specs.declared.rows.Row.{Row}
 use Rattle.centre_ledger.specs.declared.rows.Row.TheVariants as row
-use Rattle.centre_ledger.specs.Books.{Books}
+use Rattle.centre_ledger.specs.Books.{Books, AreSound}
 
 abbrev pub Seen : Type 0
 Seen = RowList Row
@@ -35,3 +36,9 @@ books_in s = record {
   devices = listed 8 (λ i. device_in (row_at s i));
   customers = listed 64 (λ i. customer_in (row_at s (8 + i)));
 }
+
+-- a record that storage can show: of so many cells, none with more commits than it can count, and rows that are sound, also together
+pub record IsKnown (s : Seen) : Type 0 where
+  pub long : length s ≡ CENTRE_CELLS
+  pub few : (k : ℕ) → commits_at (row_at s k) ≤ MOST_COMMITS
+  pub sound : AreSound (books_in s)

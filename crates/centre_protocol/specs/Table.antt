@@ -68,15 +68,13 @@ reads_one k (row.Customer r) (row.Customer s) p reads reads' =
 -- what is seen of cells that hold sound rows
 sound_found : (m : CentreRows) (held : ℕ → Option Held) → Found centre_table m held → IsSound (seen_of centre_table m held)
 sound_found m held found = record {
-  long = long;
-  few = few_found centre_table m held found;
+  known = record { long = long; few = few_found centre_table m held found; sound = found.agree };
   placed = λ k. elim (cases_lt k CENTRE_CELLS) [
     | inr past ↦ subst (λ (o : Option (ℕ × Row)). IfSome (row_of o) (IsIn k)) (sym (get_or_past s k None (omega (arith, long, past)))) tt
     | inl inside ↦
         subst (λ (o : Option Row). IfSome o (IsIn k)) (sym (seen_row CENTRE_CELLS IsPayloadOf (row_in m.accounts) held found.keeps.filled k inside))
         (in_cell k (row_in m.accounts k) (held k) (found.keeps.filled k inside))
   ];
-  books = found.agree;
 }
   where
     s : Seen
@@ -92,26 +90,28 @@ sound_found m held found = record {
 
 stays_sound : (s : Seen) (x : Row) → IsSound s → HasCell x → IsFit s x → counting.is_worn s x ≡ false → IsSound (counting.after s x)
 stays_sound s x sound has fits fresh = record {
-  long = put_long s (cell_of x) x ∙ sound.long;
-  few = few_after s (cell_of x) x (omega (arith, cell_inside x has, sound.long)) sound.few fresh;
+  known = record {
+    long = put_long s (cell_of x) x ∙ sound.known.long;
+    few = few_after s (cell_of x) x (omega (arith, cell_inside x has, sound.known.long)) sound.known.few fresh;
+    sound = subst AreSound (sym (cells_put s x sound.known.long has)) fits;
+  };
   placed = λ k. elim (cases_eq k (cell_of x)) [
     | inl is ↦
         subst (λ (o : Option (ℕ × Row)). IfSome (row_of o) (IsIn k)) (sym (ap (row_at (put s (cell_of x) x)) is ∙ here)) (subst (λ (j : ℕ). IsIn j x) (sym is) (is_in x has))
     | inr differs ↦ subst (λ (o : Option (ℕ × Row)). IfSome (row_of o) (IsIn k)) (sym (put_other s (cell_of x) x k differs)) (sound.placed k)
   ];
-  books = subst AreSound (sym (cells_put s x sound.long has)) fits;
 }
   where
     here : row_at (put s (cell_of x) x) (cell_of x) ≡ Some (commits_at (row_at s (cell_of x)) + 1, x)
-    here = put_here s (cell_of x) x (omega (arith, cell_inside x has, sound.long))
+    here = put_here s (cell_of x) x (omega (arith, cell_inside x has, sound.known.long))
 
 pub centre_laws : Laws ROW_BYTES centre_table
 centre_laws = record {
   small = omega arith;
   inside = cell_inside;
   one_row = reads_one;
-  long = λ s sound. sound.long;
-  agree = λ s sound. sound.books;
+  long = λ s sound. sound.known.long;
+  agree = λ s sound. sound.known.sound;
   sound = sound_found;
   stays_sound = stays_sound;
 }

@@ -7,7 +7,9 @@ use Rattle.bench_base.specs.Jobs.{cell_of}
 use Rattle.bench_base.specs.declared.words.Node.TheVariants.{Host}
 use Rattle.bench_base.specs.declared.refusals.RateRefusal.{RateRefusal}
 use Rattle.bench_base.specs.declared.ledger.Commit.{Commit}
-use Rattle.node_acts.specs.declared.act.Act.TheVariants.{Refuse, Tell, Commits}
+use Rattle.node_acts.specs.Acts.{OfCommit}
+use Rattle.node_acts.specs.declared.act.Act.{Act}
+use Rattle.host_jobs.specs.declared.rows.JobRow.{JobRow}
 use Rattle.host_jobs.specs.Acts.{HostAct, order_by, order_act, debit_message_by, debit_message_act, take_by, take_act, begin_print_by, begin_print_act, close_by, close_act}
 use Rattle.host_jobs.specs.Plans.{in_commits}
 use Rattle.host_jobs.specs.Records.{rows_after}
@@ -18,10 +20,8 @@ use Rattle.host_jobs.specs.Turns.{InTurn}
 -- == the rows stay sound ==
 
 -- where the act commits a row, it is one that these rows can take, and the commit is the host's and lies in the cell of the row
-abbrev pub LeavesSound : {A : Type 0} → Jobs → HostAct A → Type 0
-LeavesSound rows (Refuse x) = Unit {0}
-LeavesSound rows (Tell a) = Unit {0}
-LeavesSound rows (Commits c x a) = IsNext rows x × (node_of c ≡ Host) × (place_of c ≡ OfJob (cell_of x.job))
+abbrev pub LeavesSound : {F A : Type 0} → Jobs → Act JobRow F A → Type 0
+LeavesSound rows = OfCommit (λ c x. IsNext rows x × (node_of c ≡ Host) × (place_of c ≡ OfJob (cell_of x.job)))
 
 -- a price is a postage that a piece may be franked with
 abbrev pub IsPrice : Option (Result ℕ RateRefusal) → Type 0
@@ -46,9 +46,7 @@ pub record AreRowsOf (rows : Jobs) (C : List Commit) : Type 0 where
 
 -- where the act commits a row, the rows with it are those of the commits and that one
 abbrev pub FollowsCommits : {A : Type 0} → Jobs → List Commit → HostAct A → Type 0
-FollowsCommits rows C (Refuse x) = Unit {0}
-FollowsCommits rows C (Tell a) = Unit {0}
-FollowsCommits rows C (Commits c x a) = AreRowsOf (put_row rows x) (c ∷ C)
+FollowsCommits rows C = OfCommit (λ c x. AreRowsOf (put_row rows x) (c ∷ C))
 
 pub record FollowingActs (rows : Jobs) (C : List Commit) : Type 0 where
   pub ordered : (d piece class : ℕ) (price : Option (Result ℕ RateRefusal)) → IsDevice d → FollowsCommits rows C (order_act d piece class price rows)

@@ -15,12 +15,12 @@ use Rattle.host_jobs.specs.declared.sizes.TheConstants.{JOB_BYTES, HOST_CELLS}
 use Rattle.host_jobs.specs.Payload.{job_bytes}
 use Rattle.host_jobs.specs.Rows.{row_in}
 use Rattle.host_jobs.specs.Soundness.{AreSound, IsKept}
-use Rattle.host_jobs.specs.Seen.{Seen, cell_of, counting, rows_in}
+use Rattle.host_jobs.specs.Seen.{Seen, cell_of, counting, rows_in, IsKnown}
 use Rattle.host_jobs.proofs.JobBytes.{one-job}
 use Rattle.host_node.specs.Unique.{kept_prop}
 use Rattle.host_node.specs.Payloads.{IsPayloadOf}
 use Rattle.host_node.specs.Cells.{cell_inside, rows_put}
-use Rattle.host_node.specs.Sound.{IsSound, IsFit}
+use Rattle.host_node.specs.Sound.{IsFit}
 use Rattle.host_node.specs.declared.kept.HostRows.{HostRows}
 
 pub payload_prop : (k : ℕ) (x : JobRow) (p : List ℕ) → IsProp (IsPayloadOf k x p)
@@ -38,7 +38,7 @@ host_table = record {
   HasCell = λ x. Unit {0};
   IsFit = IsFit;
   Agree = λ s. AreSound (rows_in s);
-  IsSound = IsSound;
+  IsSound = IsKnown;
   kept = λ m held k. row_in m.jobs k;
   Follows = λ m held. IsKept m.jobs m.kept;
   one_follows = λ m held. kept_prop m.jobs m.kept;
@@ -52,18 +52,18 @@ reads_one : ReadsOne IsPayloadOf
 reads_one k x y p reads reads' = ∥∥₁_elim reads.1 (job_set x y) (λ a. ∥∥₁_elim reads'.1 (job_set x y) (λ b. one-job p x y a b))
 
 -- what is seen of cells that hold sound jobs
-sound_found : (m : HostRows) (held : ℕ → Option Held) → Found host_table m held → IsSound (seen_of host_table m held)
+sound_found : (m : HostRows) (held : ℕ → Option Held) → Found host_table m held → IsKnown (seen_of host_table m held)
 sound_found m held found = record {
   long = seen_long HOST_CELLS IsPayloadOf (row_in m.jobs) held;
   few = few_found host_table m held found;
-  rows = found.agree;
+  sound = found.agree;
 }
 
-stays_sound : (s : Seen) (x : JobRow) → IsSound s → IsFit s x → counting.is_worn s x ≡ false → IsSound (counting.after s x)
+stays_sound : (s : Seen) (x : JobRow) → IsKnown s → IsFit s x → counting.is_worn s x ≡ false → IsKnown (counting.after s x)
 stays_sound s x sound fits fresh = record {
   long = put_long s (cell_of x) x ∙ sound.long;
   few = few_after s (cell_of x) x (omega (arith, cell_inside x, sound.long)) sound.few fresh;
-  rows = subst AreSound (sym (rows_put s x)) fits.sound;
+  sound = subst AreSound (sym (rows_put s x)) fits.sound;
 }
 
 pub host_laws : Laws JOB_BYTES host_table
@@ -72,7 +72,7 @@ host_laws = record {
   inside = λ x has. cell_inside x;
   one_row = reads_one;
   long = λ s sound. sound.long;
-  agree = λ s sound. sound.rows;
+  agree = λ s known. known.sound;
   sound = sound_found;
   stays_sound = λ s x sound has. stays_sound s x sound;
 }

@@ -58,6 +58,7 @@ use Rattle.ledger_moves.specs.Tariffs.{Tariff, TextFault, NoToml, NoForm}
 use Rattle.bench_views.specs.declared.calls.DeviceCall.TheVariants as call
 use Rattle.bench_views.proofs.Plans.{call_own}
 use Rattle.bench_base.proofs.Rows.{chosen}
+use Rattle.node_acts.proofs.OfCommits.{said_commit}
 use Rattle.law_scans.specs.Acceptances.{IsOfPiece, IsScanOf}
 use Rattle.law_scans.proofs.Entries.{Is, AllBring, PlanBrings}
 
@@ -76,9 +77,7 @@ of_host P _ own = tt
 
 -- what says its answers commits what it says them of
 unsaid : {X F A : Type 0} (m : Node) (refusal : F → Reply) (say : A → Said) (act : Act X F A) → IsOfNode m (saying refusal say act) → IsOfNode m act
-unsaid m refusal say (Refuse x) own = tt
-unsaid m refusal say (Tell a) own = tt
-unsaid m refusal say (Commits c x a) own = own
+unsaid m refusal say act own = said_commit _ refusal say act own
 
 module _ (P : ℕ → ℕ → ℕ → Type 0) (H : Ledger) where
   -- it brings nothing of which P is not known

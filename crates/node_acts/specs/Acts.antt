@@ -58,6 +58,12 @@ CommitsSome P (Refuse x) = ⊥
 CommitsSome P (Tell a) = ⊥
 CommitsSome P (Commits c x a) = P c
 
+-- P holds of what the act commits and of the change that it makes, if it commits
+abbrev pub OfCommit : {X F A : Type 0} → (Commit → X → Type 0) → Act X F A → Type 0
+OfCommit P (Refuse x) = Unit {0}
+OfCommit P (Tell a) = Unit {0}
+OfCommit P (Commits c x a) = P c x
+
 -- what a call of this act may come to at all: an act that commits nothing never fails
 abbrev pub CameOf : {X F A : Type 0} → Act X F A → Outcome F A → Type 0
 CameOf act o.Off = Unit {0}

@@ -26,6 +26,13 @@ pub record Kind (N S C : Type 0) : Type 0 where
   pub plan : N → ℤ → View S → C → Plan
   pub commit : N → ℤ → View S → C → Option (Commit × S)
 
+-- P holds of the call that is asked, if it is a call
+abbrev pub OfCall : {C : Type 0} → (C → Type 0) → Asked C → Type 0
+OfCall P On = Unit {0}
+OfCall P Off = Unit {0}
+OfCall P (Cut calls keep byte) = Unit {0}
+OfCall P (Call c) = P c
+
 -- the plan of what node m is asked, where a call has its own
 abbrev pub node_plan : {S X C : Type 0} → Counting S X → Node → (C → Plan) → View S → Asked C → Plan
 node_plan n m call v On = on_plan n m v

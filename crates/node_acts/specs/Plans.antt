@@ -15,7 +15,7 @@ use Rattle.node_acts.specs.declared.act.Act.TheVariants.{Refuse, Tell, Commits}
 use Rattle.node_acts.specs.declared.act.Outcome.{Outcome}
 use Rattle.node_acts.specs.declared.act.Outcome.TheVariants as o
 use Rattle.node_acts.specs.Views.{Counting, View, up, stopped, torn, committed}
-use Rattle.node_acts.specs.Acts.{is_full}
+use Rattle.node_acts.specs.Acts.{is_full, OfCommit}
 
 -- == the plan ==
 
@@ -100,9 +100,7 @@ call_entries m tell act (o.Fault c) = entry.Torn m c ∷ []
 
 -- the commit of the act, if it makes one, is the node's
 abbrev pub IsOfNode : {X F A : Type 0} → Node → Act X F A → Type 0
-IsOfNode m (Refuse x) = Unit {0}
-IsOfNode m (Tell a) = Unit {0}
-IsOfNode m (Commits c x a) = node_of c ≡ m
+IsOfNode m = OfCommit (λ c x. node_of c ≡ m)
 
 -- == by what is seen of the node ==
 

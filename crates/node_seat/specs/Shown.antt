@@ -2,8 +2,9 @@
 use Rattle.std.specs.Prelude.{◌≡◌, ◌⊎◌, ℕ, ◌+◌, List, Option, Some, None, IfSome}
 use Rattle.bench_base.specs.declared.ledger.Commit.{Commit}
 use Rattle.node_acts.specs.declared.act.Act.{Act}
-use Rattle.node_acts.specs.declared.act.Act.TheVariants.{Refuse, Tell, Commits}
+use Rattle.node_acts.specs.declared.act.Act.TheVariants.{Commits}
 use Rattle.node_acts.specs.Views.{View}
+use Rattle.node_acts.specs.Acts.{OfCommit}
 use Rattle.node_seat.specs.declared.node.Node.{Ghosts}
 
 module _ {K S N C R : Type 0} (n : Ghosts K S N C R) where
@@ -37,6 +38,4 @@ module _ {K S N C R : Type 0} (n : Ghosts K S N C R) where
 
   -- a change of the act is one of node d and this record
   abbrev pub IsFitting : {F A : Type 0} → N → n.Seen → Act C F A → Type 0
-  IsFitting d s (Refuse x) = Unit {0}
-  IsFitting d s (Tell a) = Unit {0}
-  IsFitting d s (Commits c x a) = n.IsFrom d s x
+  IsFitting d s = OfCommit (λ c x. n.IsFrom d s x)

@@ -15,6 +15,7 @@ use Rattle.node_acts.specs.declared.said.Said.{Said}
 use Rattle.node_acts.specs.Acts.{commit_of, outcome_in, outcome_of, MayCome, MayTear, TellsOf, CommitsSome, CameOf, after_call, cost, has_failed, is_refusal}
 use Rattle.node_acts.specs.Said.{saying, planned_commit}
 use Rattle.node_acts.specs.Views.{Counting, View}
+use Rattle.node_acts.proofs.OfCommits.{said_commit}
 use Rattle.node_seat.specs.declared.node.Node.{Ghosts}
 use Rattle.node_seat.specs.Ends.{end_of_call, end_of, is_done}
 use Rattle.node_seat.specs.Shown.{Allowed, IsAfter, IsNext, IsFitting}
@@ -162,11 +163,6 @@ module _ {F A K S N C R : Type 0} (refusal : F → Reply) (n : Ghosts K S N C R)
   abbrev said : Act C Reply Said
   said = saying refusal say act
 
-  fits_says : (d : N) (s : n.Seen) (a : Act C F A) → IsFitting n d s (saying refusal say a) → IsFitting n d s a
-  fits_says d s (Refuse x) fits = tt
-  fits_says d s (Tell a) fits = tt
-  fits_says d s (Commits c x a) fits = fits
-
   -- what holds of the commit of an act holds of the commit of the act that is said
   at_said : (P : Option (Commit × n.Seen) → Type 0) (v : View n.Seen) → P (commit_of n.counting v act) → P (commit_of n.counting v said)
   at_said P v p = subst P (sym (made_says refusal say n.counting v act)) p
@@ -183,11 +179,11 @@ module _ {F A K S N C R : Type 0} (refusal : F → Reply) (n : Ghosts K S N C R)
       comes = λ d v st tells. may_told refusal say n.counting v act x (did.comes d v st tells);
       stands = λ d v st tells fit. at_said (λ made. Stands n g d (after_call (told x) made v) t) v
           (subst (λ (w : View n.Seen). Stands n g d w t) (sym (after_told refusal say x (commit_of n.counting v act) v))
-          (did.stands d v st tells (fits_says d v.state act fit)));
+          (did.stands d v st tells (said_commit _ refusal say act fit)));
       turn = λ d v st tells. at_said (λ made. stored.Turn (Allowed n v) (IsAfter n made) (times_of n g s) (times_of n g t) (end_of_call (told x) made)) v
           (subst (λ (e : End). stored.Turn (Allowed n v) (IsAfter n (commit_of n.counting v act)) (times_of n g s) (times_of n g t) e)
           (sym (end_call_told refusal say x (commit_of n.counting v act))) (did.turn d v st tells));
-      keeps = λ d v st tells fit. at_said (λ made. IfSome made (λ y. IsNext n d v.state y.1)) v (did.keeps d v st tells (fits_says d v.state act fit));
+      keeps = λ d v st tells fit. at_said (λ made. IfSome made (λ y. IsNext n d v.state y.1)) v (did.keeps d v st tells (said_commit _ refusal say act fit));
       came = came_told refusal say act x did.came;
       refused = λ is. did.refused (sym (refusal_told refusal say x) ∙ is);
       tells_only = λ none. did.tells_only (λ some. none (some_says refusal say (λ c. Unit {0}) act some));

@@ -6,3 +6,4 @@ pub mod Steps
 pub mod Read
 pub mod Under
 mod Decisions
+pub mod Released

@@ -26,7 +26,6 @@ use Rattle.ledger_moves.specs.Histories.{History}
 use Rattle.bench_views.specs.declared.calls.DeviceCall.TheVariants.{Status}
 use Rattle.bench_views.specs.declared.calls.CentreCall.TheVariants.{Balance}
 use Rattle.bench_views.specs.Centre.{centre_kind}
-use Rattle.bench_views.specs.Centre as centres
 use Rattle.bench_views.specs.Devices.{device_kind, IsKnown}
 use Rattle.bench_views.specs.Follows.{DevicesFollow, CentreFollows}
 use Rattle.bench_views.specs.Kinds.{bench_kinds}
@@ -61,8 +60,8 @@ left_told : (w n : ℕ) (o : Option CustomerRow) (v : View centre.Seen) → v.on
 left_told w n None v on = (rw on refl, rw on refl)
 left_told w n (Some row) v on = (rw on refl, rw on refl)
 
-pub balance_answered : CentreFollows centre.counting bench_kinds centres.IsKnown → (τ : Tariff) (H : Ledger) (w : ℕ) (today : ℤ) → History τ editions H → day_in H ≡ Some today → is_on Centre H ≡ true
-    → IsCustomer w → centres.IsKnown (centre_in H) → answer τ todays_rules H (ev.Balance w) [] ≡ done_or (r.CentreRefused (no_centre.UnknownCustomer w)) (balance_by w (centre_in H))
+pub balance_answered : CentreFollows centre.counting bench_kinds centre.IsKnown → (τ : Tariff) (H : Ledger) (w : ℕ) (today : ℤ) → History τ editions H → day_in H ≡ Some today → is_on Centre H ≡ true
+    → IsCustomer w → centre.IsKnown (centre_in H) → answer τ todays_rules H (ev.Balance w) [] ≡ done_or (r.CentreRefused (no_centre.UnknownCustomer w)) (balance_by w (centre_in H))
 balance_answered follows τ H w today history day on named known =
     let b = centre.books_in (centre_in H) in
     let told = left_told w (left_in b w) (customer_at b w) (view_in Centre (centre_kind.seen tt) H) on in

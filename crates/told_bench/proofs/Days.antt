@@ -22,7 +22,6 @@ use Rattle.centre_ledger.specs.Acts.{CentreAct, standing_act}
 use Rattle.centre_ledger.specs.declared.standing.Standing.{Standing}
 use Rattle.host_rates.specs.Laws.{KeptPrices}
 use Rattle.ledger_moves.specs.Histories.{History}
-use Rattle.bench_views.specs.Centre as centres
 use Rattle.bench_views.specs.Comparing.{stood, compared, compare}
 use Rattle.bench_views.specs.Follows.{OthersAreQuiet, quiet_by}
 use Rattle.bench_views.specs.Kinds.{bench_kinds}
@@ -193,12 +192,12 @@ module _ (τ : Tariff) (H : Ledger) (left line : List ℕ) (old : Audit) (sees :
   hears_end e is whole result plainly = hears_still e r.End (subst (λ (i : Event). plan τ todays_rules H i [] ≡ refuse r.End) (sym is) (plan_end τ H)) end_still (λ same. let wrong : ev.End ≡ ev.Rates = sym is ∙ same in cc) whole result plainly
 
   -- an event of no node that the bench answers by what it sees
-  module _ (texts : IsOfTexts τ) (prices : KeptPrices) (history : History τ editions H) (quiet : OthersAreQuiet bench_kinds centres.IsKnown) (known : centres.IsKnown (centre_cells.view_of old.centre).state) where
+  module _ (texts : IsOfTexts τ) (prices : KeptPrices) (history : History τ editions H) (quiet : OthersAreQuiet bench_kinds centre.IsKnown) (known : centre.IsKnown (centre_cells.view_of old.centre).state) where
     pub hears_quiet : (today : ℤ) → old.day ≡ Some today → (e : Event) (x : Work) → taken old.messages (quote old.rates) e ≡ Some (take.Work x) → x ≢ work.Rates → (reply : Reply) → quiet_by bench_kinds H x ≡ Some reply → IsStill reply → IsWholeEvent e
         → (result : Result Heard Finding) → IsPlainly reply line result → IsHeard τ H e left line old result
     hears_quiet today day e x is other reply answers still whole result plainly =
         hears_still e reply
-        (quiet τ H e today x reply history (sym sees.day.day ∙ day) (taken_there τ prices texts H old e (take.Work x) sees is) (subst (λ (v : View centre.Seen). centres.IsKnown v.state) sees.centre known) answers)
+        (quiet τ H e today x reply history (sym sees.day.day ∙ day) (taken_there τ prices texts H old e (take.Work x) sees is) (subst (λ (v : View centre.Seen). centre.IsKnown v.state) sees.centre known) answers)
         still (not_for_rates old.messages (quote old.rates) e x is other) whole result plainly
 
 -- what compares a device and the centre is what the ledger compares

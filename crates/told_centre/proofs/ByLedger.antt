@@ -5,10 +5,10 @@ use Rattle.bench_base.specs.declared.words.Node.TheVariants.{Centre}
 use Rattle.bench_base.specs.declared.events.Reply.{Reply}
 use Rattle.node_acts.specs.declared.asked.Asked.{Asked}
 use Rattle.node_acts.specs.Views.{View}
-use Rattle.centre_ledger.specs.Seen.{Seen, counting, books_in}
+use Rattle.centre_ledger.specs.Seen.{Seen, counting, books_in, IsKnown}
 use Rattle.bench_views.specs.declared.calls.CentreCall.{CentreCall}
 use Rattle.bench_views.specs.declared.taken.Work.TheVariants as work
-use Rattle.bench_views.specs.Centre.{centre_kind, centre_act, IsKnown, AreBytes}
+use Rattle.bench_views.specs.Centre.{centre_kind, centre_act, AreBytes}
 use Rattle.bench_views.specs.Follows.{CentreFollows}
 use Rattle.bench_views.specs.Kinds.{bench_kinds}
 use Rattle.told_nodes.specs.Judged.{Judged}

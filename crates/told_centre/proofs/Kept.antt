@@ -8,8 +8,8 @@ use Rattle.node_acts.specs.RowList.{RowList, row_at, commits_at, commits_in, is_
 use Rattle.node_acts.specs.RowLaws.{put_long, put_here, put_other, put_counts}
 use Rattle.centre_ledger.specs.declared.rows.Row.{Row}
 use Rattle.centre_ledger.specs.Books.{Books, put_row, no_rows, AreSound}
-use Rattle.bench_views.specs.Centre.{IsKnown, seen_in}
-use Rattle.centre_ledger.specs.Seen.{cell_of, books_in}
+use Rattle.bench_views.specs.Centre.{seen_in}
+use Rattle.centre_ledger.specs.Seen.{cell_of, books_in, IsKnown}
 use Rattle.centre_protocol.specs.Cells.{HasCell, cell_inside, cells_put}
 use Rattle.told_centre.specs.Records.{AreKept}
 use Rattle.bench_base.proofs.Facts.{room_left}
@@ -87,10 +87,10 @@ put_known s x known has fresh sound =
     let inside : cell_of x < length s = omega (arith, cell_inside x has, known.long) in
     record {
       long = put_long s (cell_of x) x ∙ known.long;
-      few = λ k lt. elim (cases_eq k (cell_of x)) [
+      few = λ k. elim (cases_eq k (cell_of x)) [
         | inl is ↦ subst (λ (o : Option (ℕ × Row)). commits_at o ≤ MOST_COMMITS) (sym (ap (row_at (put s (cell_of x) x)) is ∙ put_here s (cell_of x) x inside))
-            (room_left (commits_at (row_at s (cell_of x))) (known.few (cell_of x) (cell_inside x has)) fresh)
-        | inr differs ↦ subst (λ (o : Option (ℕ × Row)). commits_at o ≤ MOST_COMMITS) (sym (put_other s (cell_of x) x k differs)) (known.few k lt)
+            (room_left (commits_at (row_at s (cell_of x))) (known.few (cell_of x)) fresh)
+        | inr differs ↦ subst (λ (o : Option (ℕ × Row)). commits_at o ≤ MOST_COMMITS) (sym (put_other s (cell_of x) x k differs)) (known.few k)
       ];
       sound = subst AreSound (sym (cells_put s x known.long has)) sound;
     }

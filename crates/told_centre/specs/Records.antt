@@ -4,8 +4,8 @@ use Rattle.bench_base.specs.declared.sizes.TheConstants.{MOST_COMMITS, CENTRE_CE
 use Rattle.bench_base.specs.Ranges.{IsDevice, IsCustomer, IsWord}
 use Rattle.bench_base.specs.Table.{IsBytes}
 use Rattle.node_acts.specs.declared.asked.Asked.{Asked}
-use Rattle.node_acts.specs.declared.asked.Asked.TheVariants.{On, Off, Cut, Call}
 use Rattle.node_acts.specs.RowList.{RowList, row_at, commits_at, commits_in}
+use Rattle.node_acts.specs.Kinds.{OfCall}
 use Rattle.centre_ledger.specs.declared.rows.Row.{Row}
 use Rattle.centre_ledger.specs.Books.{Books, AreSound, put_row}
 use Rattle.centre_ledger.specs.Seen.{Seen, books_in}
@@ -33,7 +33,4 @@ IsRanged (call.Balance c) = IsCustomer c.customer
 IsRanged (call.Take c) = IsBytes c.bytes
 
 abbrev pub IsRangedAsked : Asked CentreCall → Type 0
-IsRangedAsked On = Unit {0}
-IsRangedAsked Off = Unit {0}
-IsRangedAsked (Cut calls keep byte) = Unit {0}
-IsRangedAsked (Call c) = IsRanged c
+IsRangedAsked = OfCall IsRanged

@@ -1,6 +1,6 @@
 //! Whether a line of the report can be the reply to an event of the centre.
 ghost use Rattle.std.specs.Prelude.{IfSome};
-ghost use Rattle.bench_views.specs.Centre.{IsKnown};
+ghost use Rattle.centre_ledger.specs.Seen.{IsKnown};
 ghost use Rattle.told_centre.specs.Records.{IsRangedAsked};
 ghost use Rattle.told_centre.specs.Cells.{cells_of, view_of, IsSettled};
 ghost use Rattle.told_centre.specs.Verdicts.{IsByView, IsByLedger, commit_in};

@@ -1,7 +1,7 @@
 -- The record of a device, and the device in its place, as the bench sees a device.
 use Rattle.node_acts.specs.declared.act.Act.{Act}
-use Rattle.node_acts.specs.declared.act.Act.TheVariants.{Refuse, Tell, Commits}
 use Rattle.node_acts.specs.Views.{View}
+use Rattle.node_acts.specs.Acts.{OfCommit}
 use Rattle.psd_state.specs.Seen.{Seen, counting}
 use Rattle.psd_state.specs.State.{State, Holds}
 use Rattle.told_nodes.specs.declared.seat.Seat.{Seat}
@@ -21,6 +21,4 @@ IsSettled seat = seats.IsSettled counting (λ s x. Unit {0}) seen_of seat
 
 -- the record that an act commits is one that storage can show
 abbrev pub HoldsAct : {F A : Type 0} → Act State F A → Type 0
-HoldsAct (Refuse x) = Unit {0}
-HoldsAct (Tell a) = Unit {0}
-HoldsAct (Commits c x a) = Holds x
+HoldsAct = OfCommit (λ c x. Holds x)

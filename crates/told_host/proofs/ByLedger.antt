@@ -5,10 +5,10 @@ use Rattle.bench_base.specs.declared.words.Node.TheVariants.{Host}
 use Rattle.bench_base.specs.declared.events.Reply.{Reply}
 use Rattle.node_acts.specs.declared.asked.Asked.{Asked}
 use Rattle.node_acts.specs.Views.{View}
-use Rattle.host_jobs.specs.Seen.{Seen, counting, rows_in}
+use Rattle.host_jobs.specs.Seen.{Seen, counting, rows_in, IsKnown}
 use Rattle.bench_views.specs.declared.calls.HostCall.{HostCall}
 use Rattle.bench_views.specs.declared.taken.Work.TheVariants as work
-use Rattle.bench_views.specs.Host.{host_kind, host_act, IsKnown}
+use Rattle.bench_views.specs.Host.{host_kind, host_act}
 use Rattle.bench_views.specs.Follows.{HostFollows}
 use Rattle.bench_views.specs.Kinds.{bench_kinds}
 use Rattle.told_nodes.specs.declared.printing.Told.{Told}

@@ -9,10 +9,9 @@ use Rattle.node_acts.specs.RowLaws.{put_long, put_here, put_other, put_counts}
 use Rattle.host_jobs.specs.declared.rows.JobRow.{JobRow}
 use Rattle.host_jobs.specs.declared.sizes.TheConstants.{HOST_CELLS}
 use Rattle.host_jobs.specs.Rows.{Jobs, put_row}
-use Rattle.host_jobs.specs.Seen.{cell_of, rows_in}
+use Rattle.host_jobs.specs.Seen.{cell_of, rows_in, IsKnown}
 use Rattle.host_jobs.specs.Soundness.{AreSound, IsNext}
 use Rattle.host_node.specs.Cells.{cell_inside, rows_put}
-use Rattle.bench_views.specs.Host.{IsKnown}
 use Rattle.told_host.specs.Records.{AreJoined}
 use Rattle.bench_base.proofs.Facts.{room_left}
 

@@ -6,10 +6,9 @@ use Rattle.bench_base.specs.Rules.{todays_rules}
 use Rattle.node_acts.specs.declared.asked.Asked.{Asked}
 use Rattle.node_acts.specs.Views.{View}
 use Rattle.node_turns.specs.Printing.{print_of}
-use Rattle.host_jobs.specs.Seen.{Seen, counting}
+use Rattle.host_jobs.specs.Seen.{Seen, counting, IsKnown}
 use Rattle.ledger_moves.specs.Moves.{plan}
 use Rattle.bench_views.specs.declared.calls.HostCall.{HostCall}
-use Rattle.bench_views.specs.Host.{IsKnown}
 use Rattle.bench_views.specs.Follows.{HostFollows}
 use Rattle.bench_views.specs.Kinds.{bench_kinds}
 use Rattle.told_host.specs.Verdicts.{AtHosts, plan_in, commit_in}

@@ -3,8 +3,8 @@ use Rattle.std.specs.Prelude.{◌≡◌, ℕ, ◌≤◌, length}
 use Rattle.bench_base.specs.declared.sizes.TheConstants.{MOST_COMMITS}
 use Rattle.bench_base.specs.Ranges.{IsDevice}
 use Rattle.node_acts.specs.declared.asked.Asked.{Asked}
-use Rattle.node_acts.specs.declared.asked.Asked.TheVariants.{On, Off, Cut, Call}
 use Rattle.node_acts.specs.RowList.{RowList, row_at, commits_at, commits_in}
+use Rattle.node_acts.specs.Kinds.{OfCall}
 use Rattle.host_jobs.specs.declared.rows.JobRow.{JobRow}
 use Rattle.host_jobs.specs.declared.sizes.TheConstants.{HOST_CELLS}
 use Rattle.host_jobs.specs.ActLaws.{IsPrice}
@@ -38,7 +38,4 @@ IsRanged (call.Close c) = Unit {0}
 IsRanged (call.Take c) = Unit {0}
 
 abbrev pub IsRangedAsked : Asked HostCall → Type 0
-IsRangedAsked On = Unit {0}
-IsRangedAsked Off = Unit {0}
-IsRangedAsked (Cut calls keep byte) = Unit {0}
-IsRangedAsked (Call c) = IsRanged c
+IsRangedAsked = OfCall IsRanged

@@ -1,6 +1,6 @@
 //! Whether a line of the report can be the reply to an event of the host.
 ghost use Rattle.std.specs.Prelude.{IfSome};
-ghost use Rattle.bench_views.specs.Host.{IsKnown};
+ghost use Rattle.host_jobs.specs.Seen.{IsKnown};
 ghost use Rattle.told_host.specs.Cells.{cells_of, view_of, IsSettled};
 ghost use Rattle.told_host.specs.Records.{IsRangedAsked};
 ghost use Rattle.told_host.specs.Verdicts.{IsByView, IsByLedger, commit_in};

@@ -6,3 +6,4 @@ mod Switching
 pub mod Releasing
 pub mod Silent
 pub mod Telling
+pub mod Acts

@@ -5,10 +5,10 @@ use Rattle.bench_base.specs.declared.words.Node.TheVariants.{Verifier}
 use Rattle.bench_base.specs.declared.events.Reply.{Reply}
 use Rattle.node_acts.specs.declared.asked.Asked.{Asked}
 use Rattle.node_acts.specs.Views.{View}
-use Rattle.verifier.specs.Seen.{Seen, counting}
+use Rattle.verifier.specs.Seen.{Seen, counting, IsKnown}
 use Rattle.bench_views.specs.declared.calls.VerifierCall.{VerifierCall}
 use Rattle.bench_views.specs.declared.taken.Work.TheVariants as work
-use Rattle.bench_views.specs.Verifier.{verifier_kind, verifier_act, IsKnown, AreBytes}
+use Rattle.bench_views.specs.Verifier.{verifier_kind, verifier_act, AreBytes}
 use Rattle.bench_views.specs.Follows.{VerifierFollows}
 use Rattle.bench_views.specs.Kinds.{bench_kinds}
 use Rattle.told_nodes.specs.Judged.{Judged}

@@ -1,6 +1,6 @@
 //! Whether a line of the report can be the reply to an event of the verifier.
 ghost use Rattle.std.specs.Prelude.{IfSome};
-ghost use Rattle.bench_views.specs.Verifier.{IsKnown};
+ghost use Rattle.verifier.specs.Seen.{IsKnown};
 ghost use Rattle.told_scans.specs.Records.{IsRangedAsked};
 ghost use Rattle.told_scans.specs.Cells.{cells_of, view_of, IsSettled};
 ghost use Rattle.told_scans.specs.Verdicts.{IsByView, IsByLedger, commit_in};

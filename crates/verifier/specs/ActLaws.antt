@@ -10,7 +10,8 @@ use Rattle.bench_base.specs.Nodes.{node_of, same_node}
 use Rattle.bench_base.specs.Ranges.{IsDevice, IsKey, IsCount}
 use Rattle.bench_base.specs.Table.{IsBytes}
 use Rattle.node_acts.specs.RowList.{row_at, commits_at, commits_in}
-use Rattle.node_acts.specs.declared.act.Act.TheVariants.{Refuse, Tell, Commits}
+use Rattle.node_acts.specs.Acts.{OfCommit}
+use Rattle.node_acts.specs.declared.act.Act.{Act}
 use Rattle.verifier.specs.declared.acts.Change.{Change}
 use Rattle.verifier.specs.declared.acts.Change.TheVariants as change
 use Rattle.verifier.specs.Acts.{ScanAct, trust_by, trust_act, scan_by, scan_act}
@@ -32,10 +33,8 @@ pub record IsFit (s : Seen) (x : Change) : Type 0 where
   pub sound : AreSound (counting.after s x)
 
 -- where the act commits a change, the commit is the verifier's, and the rows can take it
-abbrev pub LeavesSound : {A : Type 0} → Seen → ScanAct A → Type 0
-LeavesSound s (Refuse x) = Unit {0}
-LeavesSound s (Tell a) = Unit {0}
-LeavesSound s (Commits c x a) = IsFit s x × (node_of c ≡ Verifier)
+abbrev pub LeavesSound : {F A : Type 0} → Seen → Act Change F A → Type 0
+LeavesSound s = OfCommit (λ c x. IsFit s x × (node_of c ≡ Verifier))
 
 pub record SoundActs (s : Seen) : Type 0 where
   pub trusted : (d : ℕ) (key : List ℕ) → IsDevice d → IsKey key → LeavesSound s (trust_act d key s)
@@ -53,9 +52,7 @@ pub record IsNext (C : List Commit) (c : Commit) (x : Change) : Type 0 where
   pub count : commits_at (row_at (seen_after C) (cell_of x)) ≡ cells.commits_at (place_of c) C
 
 abbrev pub FollowsCommits : {A : Type 0} → List Commit → ScanAct A → Type 0
-FollowsCommits C (Refuse x) = Unit {0}
-FollowsCommits C (Tell a) = Unit {0}
-FollowsCommits C (Commits c x a) = IsNext C c x
+FollowsCommits C = OfCommit (λ c x. IsNext C c x)
 
 pub record FollowingActs (C : List Commit) : Type 0 where
   pub trusted : (d : ℕ) (key : List ℕ) → IsDevice d → IsKey key → FollowsCommits C (trust_act d key (seen_after C))

@@ -2,10 +2,10 @@
 -- the blocks lie in cells 8, 9 and so on.
 use Rattle.std.specs.Prelude.{◌≡◌, ℕ, ◌+◌, ◌-◌, ◌%◌, ◌≤◌, Bool, false, ◌&&◌, List, length, drop, get_or, set, Option, Some, None, IsSome, IfSome, is_some, ◌==◌, position, if◌then◌else◌}
 use Rattle.std.specs.List.{prefix_len}
-use Rattle.bench_base.specs.declared.sizes.TheConstants.{VERIFIER_CELLS, FIRST_BLOCK, BLOCK_PIECES}
+use Rattle.bench_base.specs.declared.sizes.TheConstants.{MOST_COMMITS, VERIFIER_CELLS, FIRST_BLOCK, BLOCK_PIECES}
 use Rattle.bench_base.specs.Scans.{block_of}
 use Rattle.node_acts.specs.Views.{Counting}
-use Rattle.node_acts.specs.RowList.{RowList, row_at, row_of, commits_in, is_worn, put}
+use Rattle.node_acts.specs.RowList.{RowList, row_at, row_of, commits_at, commits_in, is_worn, put}
 use Rattle.verifier.specs.declared.acts.Change.{Change}
 use Rattle.verifier.specs.declared.acts.Change.TheVariants as change
 use Rattle.verifier.specs.declared.acts.Spot.{Spot}
@@ -90,6 +90,11 @@ pub record AreSound (s : Seen) : Type 0 where
   pub long : length s ≡ VERIFIER_CELLS
   pub each : (k : ℕ) → IfSome (row_in s k) (IsRowAt k)
   pub together : AreTogether s
+
+-- a record that storage can show: rows that are sound, and no cell with more commits than it can count
+pub record IsKnown (s : Seen) : Type 0 where
+  pub sound : AreSound s
+  pub few : (k : ℕ) → commits_at (row_at s k) ≤ MOST_COMMITS
 
 -- == a change ==
 

@@ -13,12 +13,12 @@ use Rattle.verifier.specs.ActLaws.{IsFit}
 use Rattle.verifier.specs.declared.index.Entry.{Entry}
 use Rattle.verifier.specs.Payload.{IsPayloadOf, row_bytes}
 use Rattle.verifier.specs.Rows.{Row, TrustRow, BlockRow}
-use Rattle.verifier.specs.Seen.{Seen, AreTogether, cell_of, row_with, counting}
+use Rattle.verifier.specs.Seen.{Seen, AreTogether, IsKnown, cell_of, row_with, counting}
 use Rattle.verifier.proofs.Laid.{payload-laws}
 use Rattle.verifier_node.specs.Payloads.{rows_held, seen_held}
 use Rattle.verifier_node.specs.Boots.{AreJoined}
 use Rattle.verifier_node.specs.Held.{held-sound}
-use Rattle.verifier_node.specs.Sound.{IsSound, HasCell}
+use Rattle.verifier_node.specs.Sound.{HasCell}
 use Rattle.verifier_node.specs.declared.kept.VerifierRows.{VerifierRows}
 
 pub payload_prop : (k : ℕ) (x : Row) (p : List ℕ) → IsProp (IsPayloadOf k x p)
@@ -40,7 +40,7 @@ verifier_table = record {
   HasCell = HasCell;
   IsFit = IsFit;
   Agree = AreTogether;
-  IsSound = IsSound;
+  IsSound = IsKnown;
   kept = λ m held k. rows_held held k;
   Follows = λ m held. AreJoined held m.index;
   one_follows = λ m held. joined_prop held m.index;
@@ -51,16 +51,16 @@ reads_one : ReadsOne IsPayloadOf
 reads_one k x y p reads reads' = sym (payload-laws.one_row k x p reads) ∙ payload-laws.one_row k y p reads'
 
 -- what is seen of cells that hold sound rows
-sound_found : (m : VerifierRows) (held : ℕ → Option Held) → Found verifier_table m held → IsSound (seen_held held)
+sound_found : (m : VerifierRows) (held : ℕ → Option Held) → Found verifier_table m held → IsKnown (seen_held held)
 sound_found m held found = record {
-  rows = held-sound held found.keeps.filled found.agree;
+  sound = held-sound held found.keeps.filled found.agree;
   few = few_found verifier_table m held found;
 }
 
-stays_sound : (s : Seen) (x : Change) → IsSound s → HasCell x → IsFit s x → counting.is_worn s x ≡ false → IsSound (counting.after s x)
-stays_sound s x sound has fits fresh = record {
-  rows = fits.sound;
-  few = few_after s (cell_of x) (row_with s x) (omega (arith, has, sound.rows.long)) sound.few fresh;
+stays_sound : (s : Seen) (x : Change) → IsKnown s → HasCell x → IsFit s x → counting.is_worn s x ≡ false → IsKnown (counting.after s x)
+stays_sound s x known has fits fresh = record {
+  sound = fits.sound;
+  few = few_after s (cell_of x) (row_with s x) (omega (arith, has, known.sound.long)) known.few fresh;
 }
 
 pub verifier_laws : Laws BLOCK_BYTES verifier_table
@@ -68,8 +68,8 @@ verifier_laws = record {
   small = omega arith;
   inside = λ x has. has;
   one_row = reads_one;
-  long = λ s sound. sound.rows.long;
-  agree = λ s sound. sound.rows.together;
+  long = λ s known. known.sound.long;
+  agree = λ s known. known.sound.together;
   sound = sound_found;
   stays_sound = stays_sound;
 }

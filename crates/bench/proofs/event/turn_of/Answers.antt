@@ -18,10 +18,12 @@ use Rattle.psd_device.specs.NodeView as device_view
 use Rattle.row_node.specs.NodeView as centre_view
 use Rattle.bench_views.specs.declared.taken.Taken.{Taken}
 use Rattle.bench_views.specs.declared.taken.Taken.TheVariants as take
+use Rattle.centre_ledger.specs.Seen as centre_seen
+use Rattle.host_jobs.specs.Seen as host_seen
+use Rattle.verifier.specs.Seen as verifier_seen
 use Rattle.bench_views.specs.declared.taken.Work.TheVariants as work
 use Rattle.bench_views.specs.Devices as device_kinds
 use Rattle.bench_views.specs.Centre as centres
-use Rattle.bench_views.specs.Host as hosts
 use Rattle.bench_views.specs.Verifier as verifiers
 use Rattle.bench_views.specs.Comparing.{compare}
 use Rattle.bench_views.specs.Tariff.{quote}
@@ -60,15 +62,6 @@ module _ (g : Over) where
       holds : (o : Option State) → IfSome o (IsOwn k) → IfSome o Holds
       holds None own = tt
       holds (Some x) own = own.kept.holds
-
-  known_centre : (s : (nodes_in g).centre.Seen) → (nodes_in g).centre.IsSound tt s → centres.IsKnown s
-  known_centre s sound = record { long = sound.long; few = λ k lt. sound.few k; sound = sound.books }
-
-  known_host : (s : (nodes_in g).host.Seen) → (nodes_in g).host.IsSound tt s → hosts.IsKnown s
-  known_host s sound = record { long = sound.long; few = sound.few; sound = sound.rows }
-
-  known_verifier : (s : (nodes_in g).verifier.Seen) → (nodes_in g).verifier.IsSound tt s → verifiers.IsKnown s
-  known_verifier s sound = record { sound = sound.rows; few = sound.few }
 
 pub returns-in-Day-clause-did : goal.returns-in-Day-clause-did
 returns-in-Day-clause-did g c =
@@ -128,7 +121,7 @@ returns-in-NoMessage-clause-did g c =
       refl,
       λ feed. let out = beside feed (printer_of g.P.Sink c.args.printer.now) in
           as_sent (nodes_in g) c.args.event.now [] turn old old out out refl
-          (steps_missing (nodes_in g) old c.requires.ready out c.in-Some-today.day c.in-Some-today.is centres.IsKnown (known_centre g) c.nodes_follow.ensures.quiet c.prices_by_text.ensures.kept c.args.event.now c.requires.whole k is),
+          (steps_missing (nodes_in g) old c.requires.ready out c.in-Some-today.day c.in-Some-today.is centre_seen.IsKnown (λ s sound. sound.known) c.nodes_follow.ensures.quiet c.prices_by_text.ensures.kept c.args.event.now c.requires.whole k is),
     )
 
 -- what a device and the centre show, as they run, is what any two views show for which they stand
@@ -153,7 +146,7 @@ returns-in-Reconcile-clause-did g c =
       refl,
       λ feed. let out = beside feed (printer_of g.P.Sink c.args.printer.now) in
           as_sent (nodes_in g) c.args.event.now [] (turn_of c.compare.result []) old old out out refl
-          (steps_compared (nodes_in g) old c.requires.ready out c.in-Some-today.day c.in-Some-today.is centres.IsKnown (known_centre g) c.nodes_follow.ensures.quiet c.prices_by_text.ensures.kept c.args.event.now c.requires.whole d
+          (steps_compared (nodes_in g) old c.requires.ready out c.in-Some-today.day c.in-Some-today.is centre_seen.IsKnown (λ s sound. sound.known) c.nodes_follow.ensures.quiet c.prices_by_text.ensures.kept c.args.event.now c.requires.whole d
           c.compare.result is
           (subst (λ (x : Reply). Answers (ev.Reconcile d) x) (sym one) (compare_answers d (running_device s.0) (running_centre old.centre)))
           (λ was. subst (λ (x : Reply). was ≡ on_after x was) (sym one) (compare_leaves d (running_device s.0) (running_centre old.centre) was))
@@ -207,7 +200,7 @@ returns-in-Centre-clause-did g c =
           steps (nodes_in g) e (centre_event b.asked) today old new did.0 before now Centre (centre_of (nodes_in g)) tt b.asked old.centre new.centre work.Centre
           (centre_asked (nodes_in g) e today old new did.0 before now c.in-Some-today.is refl refl refl refl b.asked did.2 did.3 refl refl refl is)
           c.requires.whole c.requires.ready c.prices_by_text.ensures.kept centres.AreBytes (of_call centres.AreBytes tt tt (λ calls keep byte. tt) (λ call bytes. bytes) b.asked c.node_turn.ensures.bytes)
-          centres.IsKnown (known_centre g) c.nodes_follow.ensures.centre,
+          centre_seen.IsKnown (λ s sound. sound.known) c.nodes_follow.ensures.centre,
     )
 
 pub node_turn-requires-in-Host : goal.node_turn-requires-in-Host
@@ -234,7 +227,7 @@ returns-in-Host-clause-did g c =
           let now = beside feed (printer_of g.P.Sink c.node_turn-in-Host.new.printer) in
           steps (nodes_in g) e (host_event b.asked) today old new did.0 before now Host (host_of (nodes_in g)) tt b.asked old.host new.host work.Host
           (host_asked (nodes_in g) e today old new did.0 before now c.in-Some-today.is refl refl refl refl b.asked did.2 did.3 refl refl refl is)
-          c.requires.whole c.requires.ready c.prices_by_text.ensures.kept (λ asked. Unit {0}) tt hosts.IsKnown (known_host g) c.host_follows.ensures,
+          c.requires.whole c.requires.ready c.prices_by_text.ensures.kept (λ asked. Unit {0}) tt host_seen.IsKnown (λ s sound. sound) c.host_follows.ensures,
     )
 
 pub node_turn-requires-in-Verifier : goal.node_turn-requires-in-Verifier
@@ -261,5 +254,5 @@ returns-in-Verifier-clause-did g c =
           steps (nodes_in g) e (verifier_event b.asked) today old new did.0 before now Verifier (verifier_of (nodes_in g)) tt b.asked old.verifier new.verifier work.Verifier
           (verifier_asked (nodes_in g) e today old new did.0 before now c.in-Some-today.is refl refl refl refl b.asked did.2 did.3 refl refl refl is)
           c.requires.whole c.requires.ready c.prices_by_text.ensures.kept verifiers.AreBytes (of_call verifiers.AreBytes tt tt (λ calls keep byte. tt) (λ call bytes. bytes) b.asked c.node_turn-in-Verifier.ensures.bytes)
-          verifiers.IsKnown (known_verifier g) c.verifier_follows.ensures,
+          verifier_seen.IsKnown (λ s sound. sound) c.verifier_follows.ensures,
     )

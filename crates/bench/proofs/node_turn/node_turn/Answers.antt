@@ -2,7 +2,8 @@ use Rattle.std.proofs.Common.{ℤ, refl, sym, subst}
 use Rattle.bench_base.specs.declared.words.Node.{Node}
 use Rattle.node_acts.specs.declared.asked.Asked.{Asked}
 use Rattle.node_turns.specs.Printing.{Printer, printer_of}
-use Rattle.bench.specs.Calls.{Comes, OfCall}
+use Rattle.node_acts.specs.Kinds.{OfCall}
+use Rattle.bench.specs.Calls.{Comes}
 use Rattle.bench.proofs.node_turn.node_turn.Given.{Over}
 use Rattle.bench.proofs.node_turn.node_turn.Goals as goal
 

@@ -4,9 +4,9 @@ use Rattle.bench_base.specs.declared.words.Node.TheVariants.{Centre}
 use Rattle.node_acts.specs.declared.asked.Asked.{Asked}
 use Rattle.node_acts.specs.Plans.{IsOfNode}
 use Rattle.node_acts.specs.Said.{IsPlain}
-use Rattle.centre_ledger.specs.Seen.{counting, books_in}
+use Rattle.centre_ledger.specs.Seen.{counting, books_in, IsKnown}
 use Rattle.bench_views.specs.declared.calls.CentreCall.{CentreCall}
-use Rattle.bench_views.specs.Centre.{centre_act, IsKnown}
+use Rattle.bench_views.specs.Centre.{centre_act}
 use Rattle.told_nodes.specs.Judged.{PrintsNone}
 use Rattle.told_nodes.specs.Seats.{FitsAct, view_of}
 use Rattle.told_centre.specs.Cells.{cells_of}

@@ -7,9 +7,9 @@ use Rattle.node_acts.specs.declared.asked.Asked.TheVariants as asks
 use Rattle.node_acts.specs.Plans.{IsOfNode}
 use Rattle.node_acts.specs.Said.{IsPlain}
 use Rattle.node_acts.specs.Views.{View}
-use Rattle.host_jobs.specs.Seen.{Seen, rows_in}
+use Rattle.host_jobs.specs.Seen.{Seen, rows_in, IsKnown}
 use Rattle.bench_views.specs.declared.calls.HostCall.{HostCall}
-use Rattle.bench_views.specs.Host.{host_act, IsKnown}
+use Rattle.bench_views.specs.Host.{host_act}
 use Rattle.told_nodes.specs.declared.printing.Told.{Told}
 use Rattle.told_nodes.specs.Seats.{FitsAct}
 use Rattle.told_host.specs.Cells.{view_of}

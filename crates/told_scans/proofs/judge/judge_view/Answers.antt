@@ -5,9 +5,9 @@ use Rattle.node_acts.specs.declared.asked.Asked.{Asked}
 use Rattle.node_acts.specs.Plans.{IsOfNode}
 use Rattle.node_acts.specs.Said.{IsPlain}
 use Rattle.verifier.specs.ActLaws.{IsFit}
-use Rattle.verifier.specs.Seen.{counting}
+use Rattle.verifier.specs.Seen.{counting, IsKnown}
 use Rattle.bench_views.specs.declared.calls.VerifierCall.{VerifierCall}
-use Rattle.bench_views.specs.Verifier.{verifier_act, IsKnown}
+use Rattle.bench_views.specs.Verifier.{verifier_act}
 use Rattle.told_nodes.specs.Judged.{PrintsNone}
 use Rattle.told_nodes.specs.Seats.{FitsAct, view_of}
 use Rattle.told_scans.specs.Cells.{cells_of}

@@ -20,7 +20,7 @@ acts_of g today = record {
   told = λ c k. acts.call_told c (books_in k);
   plan = λ c v. refl;
   commit = λ c v. refl;
-  fits = λ c asked k sound. acts.call_fits (nodes_in g).centre (books_in k) sound.books k (λ y is. is) c asked.0 asked.1;
+  fits = λ c asked k sound. acts.call_fits (nodes_in g).centre (books_in k) sound.known.sound k (λ y is. is) c asked.0 asked.1;
 }
 
 pub returns-in-Register : goal.returns-in-Register

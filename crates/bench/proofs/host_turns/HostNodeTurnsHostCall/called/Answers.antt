@@ -20,7 +20,7 @@ acts_of g today = record {
   told = λ c k. acts.call_told c (rows_in k);
   plan = λ c v. refl;
   commit = λ c v. refl;
-  fits = λ c asked k sound. acts.call_fits (nodes_in g).host (rows_in k) sound.rows k (λ y is. is) c asked;
+  fits = λ c asked k sound. acts.call_fits (nodes_in g).host (rows_in k) sound.sound k (λ y is. is) c asked;
 }
 
 pub returns-in-Order : goal.returns-in-Order

@@ -19,7 +19,7 @@ acts_of g today = record {
   told = λ c k. acts.call_told today c k;
   plan = λ c v. refl;
   commit = λ c v. refl;
-  fits = λ c asked k sound. acts.call_fits (nodes_in g).verifier k sound.rows k (λ y is. is) today c asked.0 asked.1;
+  fits = λ c asked k sound. acts.call_fits (nodes_in g).verifier k sound.sound k (λ y is. is) today c asked.0 asked.1;
 }
 
 pub returns-in-Trust : goal.returns-in-Trust

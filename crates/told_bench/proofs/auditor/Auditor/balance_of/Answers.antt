@@ -4,8 +4,7 @@ use Rattle.bench_base.specs.declared.refusals.CentreRefusal.TheVariants as no
 use Rattle.bench_base.specs.Ranges.{IsCustomer}
 use Rattle.node_acts.specs.RowList.{listed}
 use Rattle.node_acts.specs.Views.{View}
-use Rattle.centre_ledger.specs.Seen.{Seen}
-use Rattle.bench_views.specs.Centre.{IsKnown}
+use Rattle.centre_ledger.specs.Seen.{Seen, IsKnown}
 use Rattle.told_bench.specs.Telling.{balance_by, done_or}
 use Rattle.told_bench.proofs.Answered.{balance_answered}
 use Rattle.told_bench.proofs.auditor.Auditor.balance_of.Goals as goal
