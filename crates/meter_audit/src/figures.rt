@@ -23,7 +23,7 @@ fn descending(auditor: &Auditor, device: DevNo) -> Option<u64>
 
 // The customer of the device.
 fn customer_of(auditor: &Auditor, device: DevNo) -> Option<Customer> {
-    Customer::new(auditor.device_row(device)?.customer)
+    auditor.device_row(device)?.enrolment.customer()
 }
 
 // The balance of the customer that the commit is of, by itself or by its device.

@@ -56,11 +56,15 @@ struct Trade {
 
 // Adds what the device bought and gave back, where it is the customer's. All sums of a centre fit.
 fn add_device(auditor: &Auditor, trade: &mut Trade, device: DevNo, customer: Customer) {
-    if let Some(row) = auditor.device_row(device) {
-        if row.customer == customer.get() {
+    let Some(row) = auditor.device_row(device) else {
+        return;
+    };
+    match row.enrolment.customer() {
+        Some(own) if own.get() == customer.get() => {
             trade.bought = trade.bought.saturating_add(row.buys);
             trade.returned = trade.returned.saturating_add(row.returns);
         }
+        _ => {}
     }
 }
 
