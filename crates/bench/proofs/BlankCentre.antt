@@ -9,7 +9,7 @@ use Rattle.centre_ledger.specs.declared.rows.CustomerRow.{CustomerRow}
 use Rattle.centre_ledger.specs.declared.rows.Row.{Row}
 use Rattle.centre_ledger.specs.Books.{AreSound, no_rows}
 use Rattle.centre_ledger.specs.Seen.{books_in, device_in, customer_in}
-use Rattle.centre_ledger.proofs.Kept.{none-kept}
+use Rattle.centre_ledger.proofs.Kept.{none_kept}
 use Rattle.centre_protocol.specs.Payloads.{IsIn}
 use Rattle.centre_protocol.specs.Sound.{IsSound}
 use Rattle.bench_views.specs.Centre.{cell_after, seen_in}
@@ -38,6 +38,6 @@ no_books = λ i. record {
 
 pub centre_sound : IsSound (seen_in [])
 centre_sound = record {
-  known = record { long = listed_long CENTRE_CELLS (λ k. cell_after k []); few = no_commits (seen_in []) centre_nothing; sound = subst AreSound (sym no_books) none-kept.sound };
+  known = record { long = listed_long CENTRE_CELLS (λ k. cell_after k []); few = no_commits (seen_in []) centre_nothing; sound = subst AreSound (sym no_books) none_kept.sound };
   placed = λ k. subst (λ (o : Option (ℕ × Row)). IfSome (row_of o) (IsIn k)) (sym (centre_nothing k)) tt;
 }

@@ -9,7 +9,7 @@ use Rattle.bench_base.specs.declared.events.Event.{Event}
 use Rattle.bench_base.specs.declared.events.Event.TheVariants as ev
 use Rattle.bench_base.specs.declared.events.Reply.{Reply}
 use Rattle.bench_base.specs.declared.events.Reply.TheVariants as r
-use Rattle.bench_base.proofs.Facts.{same_node-true}
+use Rattle.bench_base.proofs.Facts.{same_node_true}
 use Rattle.bench_base.specs.Events.{node_for, needs_day, may_commit, day_after, IsAt}
 use Rattle.bench_base.specs.Ranges.{IsWholeEvent}
 use Rattle.bench_base.specs.Replies.{tells_power, tells_fault, MayGet, MayFailAt}
@@ -33,7 +33,7 @@ use Rattle.bench_views.specs.declared.taken.Work.TheVariants as work
 use Rattle.bench_views.specs.Tariff.{Quote}
 use Rattle.bench_views.specs.Taken as takes
 use Rattle.bench_views.specs.Taken.{taken, as_given, as_given_by, as_scanned_by, addressee, IsPricedAsked}
-use Rattle.bench_views.proofs.Events.{each_asked, each_of_centre, each_of_host, each_of_verifier, some-same}
+use Rattle.bench_views.proofs.Events.{each_asked, each_of_centre, each_of_host, each_of_verifier, some_same}
 use Rattle.node_acts.specs.Kinds.{OfCall}
 use Rattle.bench.specs.Calls.{asked_event, device_event, centre_event, host_event, verifier_event, device_call_event, centre_call_event, host_call_event, verifier_call_event, IsRangedCall, IsRangedJob, IsRangedScan}
 
@@ -352,16 +352,16 @@ pub of_verifier : (asked : Asked VerifierCall) → IsOfNode Verifier (verifier_e
 of_verifier asked = asked_of Verifier verifier_call_event verifier_call_of asked
 
 pub node_is : (m : Node) (e : Event) (k : Node) → IsOfNode m e → node_for e ≡ Some k → m ≡ k
-node_is m e k of is = some-same (sym of.node ∙ is)
+node_is m e k of is = some_same (sym of.node ∙ is)
 
 -- == whom a failure is told of ==
 
 power_at : (e : Event) (k : Node) (reply : Reply) → MayGet e reply → tells_power k reply ≡ true → MayFailAt e k
-power_at e k (r.Power n) may is = subst (MayFailAt e) (same_node-true n k is) may
+power_at e k (r.Power n) may is = subst (MayFailAt e) (same_node_true n k is) may
 power_at e k _ may is = absurd (true≢false (sym is))
 
 fault_at : (e : Event) (k : Node) (reply : Reply) → MayGet e reply → tells_fault k reply ≡ true → MayFailAt e k
-fault_at e k (r.Fault n) may is = subst (MayFailAt e) (same_node-true n k is) may
+fault_at e k (r.Fault n) may is = subst (MayFailAt e) (same_node_true n k is) may
 fault_at e k _ may is = absurd (true≢false (sym is))
 
 fails_there : (m : Node) (e : Event) (k : Node) → IsOfNode m e → MayFailAt e k → m ≡ k

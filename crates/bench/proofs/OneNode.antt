@@ -30,14 +30,14 @@ use Rattle.ledger_moves.specs.Tariffs.{Tariff}
 use Rattle.ledger_moves.specs.Moves.{plan, entries}
 use Rattle.bench_views.specs.Kinds.{Kinds}
 use Rattle.bench_views.specs.Follows.{OthersStay, Follows, Replied, plan_by, commit_by}
-use Rattle.bench_views.proofs.Events.{some-same}
-use Rattle.bench_views.proofs.Views.{same-self}
+use Rattle.bench_views.proofs.Events.{some_same}
+use Rattle.bench_views.proofs.Views.{same_node_self}
 use Rattle.bench_views.specs.Messages.{sent_in}
 use Rattle.bench.proofs.Notes.{few_notes}
 use Rattle.bench.specs.Steps.{notes_in, ShowsCommit, ShowsLedger, HoldsImage, with_open, after_stop}
 
 own_torn : (m : Node) (c : Commit) (H : Ledger) → torn_of m (entry.Torn m c ∷ H) ≡ Some c
-own_torn m c H = rw (same-self m) refl
+own_torn m c H = rw (same_node_self m) refl
 
 pub none_mapped : {X Y : Type 0} (f : X → Y) (o : Option X) → option_map f o ≡ None → o ≡ None
 none_mapped f None is = refl
@@ -154,7 +154,7 @@ module _ {K S N C R X : Type 0} (n : Ghosts K S N C R) (g : nv.Ghosts S) (f : fu
 
     -- the record after it
     record_is : kind.seen d (x.0 ∷ counted H) ≡ x.1
-    record_is = some-same (sym (ap (λ (o : Option Commit). option_map (λ (c : Commit). kind.seen d (c ∷ counted H)) o) (own_torn m x.0 H)) ∙ ap (λ (w : View n.Seen). w.next) open_here)
+    record_is = some_same (sym (ap (λ (o : Option Commit). option_map (λ (c : Commit). kind.seen d (c ∷ counted H)) o) (own_torn m x.0 H)) ∙ ap (λ (w : View n.Seen). w.next) open_here)
 
   -- == at any moment ==
 

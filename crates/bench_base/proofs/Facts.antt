@@ -15,33 +15,33 @@ use Rattle.bench_base.specs.Rules.{is_version, IsVersion}
 
 -- == the variant of an Option or a Result ==
 
-pub some-none : {A : Type 0} {a : A} → Some a ≡ None → ⊥
-some-none h = cc
+pub some_none : {A : Type 0} {a : A} → Some a ≡ None → ⊥
+some_none h = cc
 
-pub is-some : {A : Type 0} (o : Option A) (a : A) → o ≡ Some a → IsSome o
-is-some None a h = absurd (cc)
-is-some (Some b) a h = refl
+pub some_by : {A : Type 0} (o : Option A) (a : A) → o ≡ Some a → IsSome o
+some_by None a h = absurd (cc)
+some_by (Some b) a h = refl
 
-pub not-none : {A P : Type 0} (o : Option A) → IsSome o → o ≡ None → P
-not-none None some none = absurd (cc)
-not-none (Some a) some none = absurd (cc)
+pub not_none : {A P : Type 0} (o : Option A) → IsSome o → o ≡ None → P
+not_none None some none = absurd (cc)
+not_none (Some a) some none = absurd (cc)
 
-pub none-if : {A : Type 0} (o : Option A) → ((x : A) → o ≡ Some x → ⊥) → o ≡ None
-none-if None h = refl
-none-if (Some x) h = absurd (h x refl)
+pub none_if : {A : Type 0} (o : Option A) → ((x : A) → o ≡ Some x → ⊥) → o ≡ None
+none_if None h = refl
+none_if (Some x) h = absurd (h x refl)
 
-pub none-by : {A : Type 0} (o : Option A) (P Q : Type 0) → (P → Q) → IfNone o P → IfNone o Q
-none-by None P Q f h = f h
-none-by (Some a) P Q f h = tt
+pub none_by : {A : Type 0} (o : Option A) (P Q : Type 0) → (P → Q) → IfNone o P → IfNone o Q
+none_by None P Q f h = f h
+none_by (Some a) P Q f h = tt
 
-pub ok-same : {A F : Type 0} {a b : A} → ◌≡◌ {A = Result A F} (Ok a) (Ok b) → a ≡ b
-ok-same h = cc
+pub ok_same : {A F : Type 0} {a b : A} → ◌≡◌ {A = Result A F} (Ok a) (Ok b) → a ≡ b
+ok_same h = cc
 
-pub ok-err : {A F : Type 0} {x : A} {e : F} → ◌≡◌ {A = Result A F} (Ok x) (Err e) → ⊥
-ok-err h = cc
+pub ok_err : {A F : Type 0} {x : A} {e : F} → ◌≡◌ {A = Result A F} (Ok x) (Err e) → ⊥
+ok_err h = cc
 
-pub err-ok : {A F : Type 0} {x : A} {e : F} → ◌≡◌ {A = Result A F} (Err e) (Ok x) → ⊥
-err-ok h = cc
+pub err_ok : {A F : Type 0} {x : A} {e : F} → ◌≡◌ {A = Result A F} (Err e) (Ok x) → ⊥
+err_ok h = cc
 
 -- == a test ==
 
@@ -81,9 +81,9 @@ found true None a b e = inl (refl, cc)
 found true (Some y) a b e = inr e
 found false o a b e = inr e
 
-pub first_of-some : {A : Type 0} (o : Option A) (a : A) → (b : A) × (first_of o (Some a) ≡ Some b)
-first_of-some None a = (a, refl)
-first_of-some (Some b) a = (b, refl)
+pub first_of_some : {A : Type 0} (o : Option A) (a : A) → (b : A) × (first_of o (Some a) ≡ Some b)
+first_of_some None a = (a, refl)
+first_of_some (Some b) a = (b, refl)
 
 -- what was found stays
 pub kept_first : {A : Type 0} (t : Bool) (o : Option A) (a b : A) → o ≡ Some b → cond t (first_of o (Some a)) o ≡ Some b
@@ -91,9 +91,9 @@ kept_first true o a b e = rw e refl
 kept_first false o a b e = e
 
 -- what was not found before is found now
-pub first_of-none : {A : Type 0} (o : Option A) (b : Option A) → ((x : A) → o ≡ Some x → ⊥) → first_of o b ≡ b
-first_of-none None b h = refl
-first_of-none (Some x) b h = absurd (h x refl)
+pub first_of_none : {A : Type 0} (o : Option A) (b : Option A) → ((x : A) → o ≡ Some x → ⊥) → first_of o b ≡ b
+first_of_none None b h = refl
+first_of_none (Some x) b h = absurd (h x refl)
 
 -- == bytes ==
 
@@ -103,18 +103,18 @@ behind at n bytes = ap (λ r. take n (drop at bytes) ++ r) (sym (drop-drop n at 
 
 -- == nodes ==
 
-pub same_node-true : (m n : Node) → same_node m n ≡ true → m ≡ n
-same_node-true (Device d) (Device e) h = ap Device (eqb-true d e h)
-same_node-true Centre Centre h = refl
-same_node-true Host Host h = refl
-same_node-true Verifier Verifier h = refl
-same_node-true _ _ h = absurd (true≢false (sym h))
+pub same_node_true : (m n : Node) → same_node m n ≡ true → m ≡ n
+same_node_true (Device d) (Device e) h = ap Device (eqb-true d e h)
+same_node_true Centre Centre h = refl
+same_node_true Host Host h = refl
+same_node_true Verifier Verifier h = refl
+same_node_true _ _ h = absurd (true≢false (sym h))
 
-pub same_node-self : (m : Node) → same_node m m ≡ true
-same_node-self (Device d) = eq-eqb d d refl
-same_node-self Centre = refl
-same_node-self Host = refl
-same_node-self Verifier = refl
+pub same_node_self : (m : Node) → same_node m m ≡ true
+same_node_self (Device d) = eq-eqb d d refl
+same_node_self Centre = refl
+same_node_self Host = refl
+same_node_self Verifier = refl
 
 -- == versions and counts ==
 

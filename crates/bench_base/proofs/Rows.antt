@@ -2,7 +2,7 @@
 use Rattle.std.proofs.Common.{◌≡◌, Bool, true, false, List, [], ◌∷◌, cond, IsErr, Result, Ok, Err, refl, sym, true≢false}
 use Rattle.std.specs.Prelude.{if◌then◌else◌}
 use Rattle.bench_base.specs.Rows.{first_holding}
-use Rattle.bench_base.proofs.Facts.{err-ok}
+use Rattle.bench_base.proofs.Facts.{err_ok}
 
 -- one way of a choice, or the other
 pub chosen : {A : Type 0} (P : A → Type 0) (t : Bool) (a b : A) → (t ≡ true → P a) → (t ≡ false → P b) → P (cond t a b)
@@ -28,18 +28,18 @@ abbrev pub RowsHold : {A : Type 0} → (A → Type 0) → List (Bool × A) → T
 RowsHold P [] = Unit {0}
 RowsHold P (row ∷ rows) = (row.0 ≡ true → P row.1) × RowsHold P rows
 
-pub first-that : {A : Type 0} (P : A → Type 0) (rows : List (Bool × A)) (a : A) → RowsHold P rows → (AllFalse rows → P a) → P (first_holding rows a)
-first-that P [] a each last = last tt
-first-that P (row ∷ rows) a each last = chosen P row.0 row.1 (first_holding rows a) (λ t. each.0 t) (λ e. first-that P rows a each.1 (λ h. last (e, h)))
+pub first_that : {A : Type 0} (P : A → Type 0) (rows : List (Bool × A)) (a : A) → RowsHold P rows → (AllFalse rows → P a) → P (first_holding rows a)
+first_that P [] a each last = last tt
+first_that P (row ∷ rows) a each last = chosen P row.0 row.1 (first_holding rows a) (λ t. each.0 t) (λ e. first_that P rows a each.1 (λ h. last (e, h)))
 
-pub none-holds : {A : Type 0} (rows : List (Bool × A)) (a : A) → AllFalse rows → first_holding rows a ≡ a
-none-holds [] a h = refl
-none-holds (row ∷ rows) a h = rw h.0 (none-holds rows a h.1)
+pub none_holds : {A : Type 0} (rows : List (Bool × A)) (a : A) → AllFalse rows → first_holding rows a ≡ a
+none_holds [] a h = refl
+none_holds (row ∷ rows) a h = rw h.0 (none_holds rows a h.1)
 
 -- == rows that refuse ==
 
 err_not : {A F : Type 0} (r : Result A F) (y : A) → IsErr r → r ≡ Ok y → ⊥
-err_not (Err e) y h k = err-ok k
+err_not (Err e) y h k = err_ok k
 err_not (Ok x) y h k = true≢false (sym h)
 
 passed : {A F : Type 0} (b : Bool) (x rest : Result A F) (y : A) → IsErr x → (if b then x else rest) ≡ Ok y → (b ≡ false) × (rest ≡ Ok y)

@@ -45,52 +45,52 @@ five_bytes x rest l h =
     ap₂ (λ a b. a ∷ b) high (ap (to_be_bytes w32) same ∙ be_bytes_4 rest low l (λ i. h (suc i)) refl)
 
 -- the bytes of the number of these bytes
-pub spelled-number : (s : Size) (bytes : List ℕ) → length bytes ≡ bytes_in s → IsBytes bytes → spelled s (number s bytes) ≡ bytes
+pub spelled_number : (s : Size) (bytes : List ℕ) → length bytes ≡ bytes_in s → IsBytes bytes → spelled s (number s bytes) ≡ bytes
 unfolding spelled number
-spelled-number One bytes l h = one_cell bytes l
-spelled-number Two bytes l h = be_bytes_2 bytes _ l h refl
-spelled-number Four bytes l h = be_bytes_4 bytes _ l h refl
-spelled-number Five [] l h = absurd (omega (arith, l))
-spelled-number Five (x ∷ rest) l h = five_bytes x rest (omega (arith, l)) h
-spelled-number Eight bytes l h = be_bytes_8 bytes _ l h refl
+spelled_number One bytes l h = one_cell bytes l
+spelled_number Two bytes l h = be_bytes_2 bytes _ l h refl
+spelled_number Four bytes l h = be_bytes_4 bytes _ l h refl
+spelled_number Five [] l h = absurd (omega (arith, l))
+spelled_number Five (x ∷ rest) l h = five_bytes x rest (omega (arith, l)) h
+spelled_number Eight bytes l h = be_bytes_8 bytes _ l h refl
 
 -- the number of the bytes of a number
-pub number-spelled : (s : Size) (n : ℕ) → IsNumber s n → number s (spelled s n) ≡ n
+pub number_spelled : (s : Size) (n : ℕ) → IsNumber s n → number s (spelled s n) ≡ n
 unfolding spelled number
-number-spelled One n h = refl
-number-spelled Two n h = from_be_bytes-to_be_bytes_2 n h
-number-spelled Four n h = from_be_bytes-to_be_bytes_4 n h
-number-spelled Five n h =
+number_spelled One n h = refl
+number_spelled Two n h = from_be_bytes-to_be_bytes_2 n h
+number_spelled Four n h = from_be_bytes-to_be_bytes_4 n h
+number_spelled Five n h =
     ap (λ r. n / 2 ^ 32 * 2 ^ 32 + r) (from_be_bytes-to_be_bytes_4 (n % 2 ^ 32) (omega arith)) ∙ omega arith
-number-spelled Eight n h = from_be_bytes-to_be_bytes_8 n h
+number_spelled Eight n h = from_be_bytes-to_be_bytes_8 n h
 
-pub length-spelled : (s : Size) (n : ℕ) → length (spelled s n) ≡ bytes_in s
+pub length_spelled : (s : Size) (n : ℕ) → length (spelled s n) ≡ bytes_in s
 unfolding spelled
-length-spelled One n = refl
-length-spelled Two n = refl
-length-spelled Four n = refl
-length-spelled Five n = refl
-length-spelled Eight n = refl
+length_spelled One n = refl
+length_spelled Two n = refl
+length_spelled Four n = refl
+length_spelled Five n = refl
+length_spelled Eight n = refl
 
-pub number-fits : (s : Size) (bytes : List ℕ) → IsBytes bytes → IsNumber s (number s bytes)
+pub number_fits : (s : Size) (bytes : List ℕ) → IsBytes bytes → IsNumber s (number s bytes)
 unfolding number
-number-fits One bytes h = h 0
-number-fits Two bytes h = omega (arith, h 0, h 1)
-number-fits Four bytes h = omega (arith, h 0, h 1, h 2, h 3)
-number-fits Five bytes h =
+number_fits One bytes h = h 0
+number_fits Two bytes h = omega (arith, h 0, h 1)
+number_fits Four bytes h = omega (arith, h 0, h 1, h 2, h 3)
+number_fits Five bytes h =
     let rest : IsBytes (drop 1 bytes) = IsBytes-drop 1 bytes h in
     omega (arith, h 0, rest 0, rest 1, rest 2, rest 3)
-number-fits Eight bytes h = omega (arith, h 0, h 1, h 2, h 3, h 4, h 5, h 6, h 7)
+number_fits Eight bytes h = omega (arith, h 0, h 1, h 2, h 3, h 4, h 5, h 6, h 7)
 
-pub length-row : (ss : List Size) (vs : List ℕ) → Fit ss vs → length (row ss vs) ≡ room ss
-length-row [] vs h = refl
-length-row (s ∷ ss) [] h = absurd h
-length-row (s ∷ ss) (v ∷ vs) h = length-append (spelled s v) (row ss vs) ∙ ap₂ (λ a b. a + b) (length-spelled s v) (length-row ss vs h.1)
+pub length_row : (ss : List Size) (vs : List ℕ) → Fit ss vs → length (row ss vs) ≡ room ss
+length_row [] vs h = refl
+length_row (s ∷ ss) [] h = absurd h
+length_row (s ∷ ss) (v ∷ vs) h = length-append (spelled s v) (row ss vs) ∙ ap₂ (λ a b. a + b) (length_spelled s v) (length_row ss vs h.1)
 
 -- what is read at a place is a number for each field, and it fits
-pub values-fit : (ss : List Size) (at : ℕ) (bytes : List ℕ) → IsBytes bytes → Fit ss (values at ss bytes)
-values-fit [] at bytes h = tt
-values-fit (s ∷ ss) at bytes h = (number-fits s (take (bytes_in s) (drop at bytes)) (IsBytes-take (bytes_in s) (drop at bytes) (IsBytes-drop at bytes h)), values-fit ss (at + bytes_in s) bytes h)
+pub values_fit : (ss : List Size) (at : ℕ) (bytes : List ℕ) → IsBytes bytes → Fit ss (values at ss bytes)
+values_fit [] at bytes h = tt
+values_fit (s ∷ ss) at bytes h = (number_fits s (take (bytes_in s) (drop at bytes)) (IsBytes-take (bytes_in s) (drop at bytes) (IsBytes-drop at bytes h)), values_fit ss (at + bytes_in s) bytes h)
 
 -- two parts that stand one after the other
 pub joined : (at m n : ℕ) (bytes : List ℕ) → take m (drop at bytes) ++ take n (drop (at + m) bytes) ≡ take (m + n) (drop at bytes)
@@ -102,29 +102,29 @@ joined at m n bytes =
     ∙ take-append-drop m (take (m + n) rest)
 
 -- THE FIRST LAW: what is read at a place is written there
-pub row-values : (ss : List Size) (at : ℕ) (bytes : List ℕ) → at + room ss ≤ length bytes → IsBytes bytes → row ss (values at ss bytes) ≡ take (room ss) (drop at bytes)
-row-values [] at bytes l h = refl
-row-values (s ∷ ss) at bytes l h =
+pub row_values : (ss : List Size) (at : ℕ) (bytes : List ℕ) → at + room ss ≤ length bytes → IsBytes bytes → row ss (values at ss bytes) ≡ take (room ss) (drop at bytes)
+row_values [] at bytes l h = refl
+row_values (s ∷ ss) at bytes l h =
     ap₂ (λ a b. a ++ b)
-    (spelled-number s (take (bytes_in s) (drop at bytes)) (long_part at (bytes_in s) bytes (omega arith)) (IsBytes-take (bytes_in s) (drop at bytes) (IsBytes-drop at bytes h)))
-    (row-values ss (at + bytes_in s) bytes (omega arith) h)
+    (spelled_number s (take (bytes_in s) (drop at bytes)) (long_part at (bytes_in s) bytes (omega arith)) (IsBytes-take (bytes_in s) (drop at bytes) (IsBytes-drop at bytes h)))
+    (row_values ss (at + bytes_in s) bytes (omega arith) h)
     ∙ joined at (bytes_in s) (room ss) bytes
 
 -- THE SECOND LAW: what is written at a place is read there
-pub values-row : (ss : List Size) (vs front rest : List ℕ) (at : ℕ) → length front ≡ at → Fit ss vs → values at ss (front ++ (row ss vs ++ rest)) ≡ vs
-values-row [] [] front rest at l h = refl
-values-row [] (v ∷ vs) front rest at l h = absurd h
-values-row (s ∷ ss) [] front rest at l h = absurd h
-values-row (s ∷ ss) (v ∷ vs) front rest at l h =
+pub values_row : (ss : List Size) (vs front rest : List ℕ) (at : ℕ) → length front ≡ at → Fit ss vs → values at ss (front ++ (row ss vs ++ rest)) ≡ vs
+values_row [] [] front rest at l h = refl
+values_row [] (v ∷ vs) front rest at l h = absurd h
+values_row (s ∷ ss) [] front rest at l h = absurd h
+values_row (s ∷ ss) (v ∷ vs) front rest at l h =
     let text : List ℕ = front ++ ((spelled s v ++ row ss vs) ++ rest) in
     let regroup : text ≡ (front ++ spelled s v) ++ (row ss vs ++ rest) = simp append_assoc in
     let tail : drop at text ≡ (spelled s v ++ row ss vs) ++ rest = drop_at front ((spelled s v ++ row ss vs) ++ rest) at l in
     let part : take (bytes_in s) (drop at text) ≡ spelled s v =
-    ap (take (bytes_in s)) (tail ∙ append_assoc (spelled s v) (row ss vs) rest) ∙ take_at (spelled s v) (row ss vs ++ rest) (bytes_in s) (length-spelled s v) in
-    let first : number s (take (bytes_in s) (drop at text)) ≡ v = ap (number s) part ∙ number-spelled s v h.0 in
+    ap (take (bytes_in s)) (tail ∙ append_assoc (spelled s v) (row ss vs) rest) ∙ take_at (spelled s v) (row ss vs ++ rest) (bytes_in s) (length_spelled s v) in
+    let first : number s (take (bytes_in s) (drop at text)) ≡ v = ap (number s) part ∙ number_spelled s v h.0 in
     let others : values (at + bytes_in s) ss text ≡ vs =
     ap (values (at + bytes_in s) ss) regroup
-    ∙ values-row ss vs (front ++ spelled s v) rest (at + bytes_in s) (length-append front (spelled s v) ∙ ap₂ (λ a b. a + b) l (length-spelled s v)) h.1 in
+    ∙ values_row ss vs (front ++ spelled s v) rest (at + bytes_in s) (length-append front (spelled s v) ∙ ap₂ (λ a b. a + b) l (length_spelled s v)) h.1 in
     ap₂ (λ x xs. x ∷ xs) first others
 
 -- the first two fields of a message are a byte each

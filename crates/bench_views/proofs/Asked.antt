@@ -24,7 +24,7 @@ use Rattle.node_acts.specs.Plans.{MayReply, after, after_told, with_commit, with
 use Rattle.node_acts.specs.Kinds.{view_in, node_plan, node_commit}
 use Rattle.bench_views.specs.Messages.{IsFew}
 use Rattle.bench_views.proofs.Sent.{NoBegin}
-use Rattle.bench_views.proofs.Steps.{Step, turns-on, turns-off, cuts}
+use Rattle.bench_views.proofs.Steps.{Step, turns_on, turns_off, cuts}
 
 module _ {S X C : Type 0} (n : Counting S X) (m : Node) (call_plan : C → Plan) (call_commit : C → Option (Commit × S)) (v : View S) where
   on_silent : (on : Bool) (k : ℕ) → (if on then refuse (r.OnAlready m) else told (r.Up m k) (entry.Up m k ∷ [])).commit ≡ None
@@ -56,8 +56,8 @@ pub stepped : {S X C : Type 0} (n : Counting S X) (m : Node) (seen : List Commit
     → ((c : C) → asked ≡ Call c → (x : Reply) → MayReply n m (view_in m seen H) (call_plan c) x → Step n m seen H x (call_commit c) (after (call_plan c) x H))
     → (x : Reply) → MayReply n m (view_in m seen H) (node_plan n m call_plan (view_in m seen H) asked) x
     → Step n m seen H x (node_commit call_commit asked) (after (node_plan n m call_plan (view_in m seen H) asked) x H)
-stepped n m seen H call_plan call_commit On calls x may = turns-on n m seen H (is_on m H) x may
-stepped n m seen H call_plan call_commit Off calls x may = turns-off n m seen H (is_on m H) x may
+stepped n m seen H call_plan call_commit On calls x may = turns_on n m seen H (is_on m H) x may
+stepped n m seen H call_plan call_commit Off calls x may = turns_off n m seen H (is_on m H) x may
 stepped n m seen H call_plan call_commit (Cut k keep byte) calls x may = cuts n m seen H x may
 stepped n m seen H call_plan call_commit (Call c) calls x may = calls c refl x may
 

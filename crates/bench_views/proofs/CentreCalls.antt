@@ -29,7 +29,7 @@ use Rattle.psd_wire.specs.declared.message.Message.TheVariants as m
 use Rattle.psd_wire.specs.Grammar.{read}
 use Rattle.psd_wire.specs.Codes.{has_code}
 use Rattle.ledger_lawful.specs.Further.{SentAreRead, IsAddressed}
-use Rattle.ledger_laws.proofs.Histories.{message-sent}
+use Rattle.ledger_laws.proofs.Histories.{message_sent}
 use Rattle.ledger_moves.specs.Tariffs.{Tariff}
 use Rattle.ledger_moves.specs.Moves.{plan, at_node, centre_plan, deliver_to, deliver_plan}
 use Rattle.centre_ledger.specs.declared.rows.DeviceRow.{DeviceRow}
@@ -48,7 +48,7 @@ use Rattle.centre_ledger.specs.ActLaws.{AreBooksOf, FollowsCommits, ActsFollow, 
 use Rattle.centre_ledger.specs.Plans as told
 use Rattle.centre_ledger.specs.Plans.{says, in_commits, take_plan}
 use Rattle.centre_ledger.specs.Seen.{counting, cell_of, books_in, IsKnown}
-use Rattle.centre_ledger.proofs.Payers.{found-device}
+use Rattle.centre_ledger.proofs.Payers.{found_device}
 use Rattle.node_acts.specs.declared.asked.Asked.{Asked}
 use Rattle.node_acts.specs.declared.asked.Asked.TheVariants.{Call}
 use Rattle.node_acts.specs.Acts.{OfCommit}
@@ -127,7 +127,7 @@ checked P false x y p q = q
 module _ (b : Books) (sound : AreSound b) (bytes : List ℕ) where
   -- a device that has a row is one of its own
   own_device : (d : ℕ) (r : DeviceRow) → device_at b d ≡ Some r → IsDevice r.device
-  own_device d r at = let found = found-device b d r sound at in subst IsDevice (sym found.0.device) found.1
+  own_device d r at = let found = found_device b d r sound at in subst IsDevice (sym found.0.device) found.1
 
   request_placed : (q : Request) (o : Option DeviceRow) → device_at b q.device ≡ o → IsPlacedAct (request_act bytes q o (in_books b))
   request_placed q None at = tt
@@ -292,7 +292,7 @@ module _ (H : Ledger) (known : IsKnown (seen_in (counted H))) (are : AreBooksOf 
   delivered_plan today k asked None there at bytes_are = cc
   delivered_plan today k asked (Some bytes) there at bytes_are =
       let to = delivered_asked bytes (length (sent_in H)) asked (read bytes) at in
-      let x = sent bytes (message-sent k bytes H there) in
+      let x = sent bytes (message_sent k bytes H there) in
       ap (λ (y : Result Message Unread). deliver_to todays_rules today bytes y H) x.1
       ∙ delivered today bytes (length (sent_in H)) asked x.0 x.2 (subst (λ (y : Result Message Unread). takes.delivered_as bytes (length (sent_in H)) y ≡ take.Work (work.Centre asked)) x.1 at)
       ∙ handed bytes (subst AreBytes to bytes_are) ∙ ap (ByView today) (sym to)

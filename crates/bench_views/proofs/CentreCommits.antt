@@ -25,7 +25,7 @@ use Rattle.centre_ledger.specs.Records.{device_row_with, device_row, customer_ro
 use Rattle.centre_ledger.proofs.ByCommits.{one_device, one_customer}
 use Rattle.bench_views.specs.Centre.{place_in, row_in, cell_after, seen_in}
 use Rattle.bench_views.proofs.CentreRows.{seen_at, no_device_commits, no_customer_commits}
-use Rattle.bench_views.proofs.Counts.{top-is}
+use Rattle.bench_views.proofs.Counts.{top_is}
 
 -- the row has a cell
 abbrev pub HasCell : Row → Type 0
@@ -38,13 +38,13 @@ cell_inside (row.Customer r) has = omega arith
 
 -- == one cell or another ==
 
-same_place-self : (p : Place) → same_place p p ≡ true
-same_place-self (OfDevice d) = eq-eqb d d refl
-same_place-self (OfRow d) = eq-eqb d d refl
-same_place-self (OfCustomer w) = eq-eqb w w refl
-same_place-self (OfJob j) = eq-eqb j j refl
-same_place-self (OfTrust d) = eq-eqb d d refl
-same_place-self (OfBlock d b) = rw (eq-eqb d d refl, eq-eqb b b refl) refl
+same_place_self : (p : Place) → same_place p p ≡ true
+same_place_self (OfDevice d) = eq-eqb d d refl
+same_place_self (OfRow d) = eq-eqb d d refl
+same_place_self (OfCustomer w) = eq-eqb w w refl
+same_place_self (OfJob j) = eq-eqb j j refl
+same_place_self (OfTrust d) = eq-eqb d d refl
+same_place_self (OfBlock d b) = rw (eq-eqb d d refl, eq-eqb b b refl) refl
 
 is_small : (k : ℕ) → nat_lt k 8 ≡ true → k < 8
 is_small k is = grind (arith, nat_tests)
@@ -125,7 +125,7 @@ module _ (C : List Commit) (b : Books) (are : AreBooksOf b C) (placed : ArePlace
 
   module _ (x : Row) (has : HasCell x) (later : AreBooksOf (put_row b x) (c ∷ C)) (at : place_of c ≡ place_in (cell_of x)) where
     count_here : cells.commits_at (place_in (cell_of x)) (c ∷ C) ≡ cells.commits_at (place_in (cell_of x)) C + 1
-    count_here = rw (ap (λ (p : Place). same_place p (place_in (cell_of x))) at ∙ same_place-self (place_in (cell_of x))) refl
+    count_here = rw (ap (λ (p : Place). same_place p (place_in (cell_of x))) at ∙ same_place_self (place_in (cell_of x))) refl
 
     count_there : (k : ℕ) → k ≢ cell_of x → cells.commits_at (place_in k) (c ∷ C) ≡ cells.commits_at (place_in k) C
     count_there k differs = rw (ap (λ (p : Place). same_place p (place_in k)) at ∙ apart (cell_of x) k (λ same. differs (sym same))) refl
@@ -144,4 +144,4 @@ module _ (C : List Commit) (b : Books) (are : AreBooksOf b C) (placed : ArePlace
     worn known =
         let here : commits_at (row_at (seen_in C) (cell_of x)) ≡ cells.commits_at (place_of c) C =
         ap (λ (o : Option (ℕ × Row)). commits_at o) (seen_at C (cell_of x) (cell_inside x has)) ∙ counted_at (cell_of x) C are.order ∙ ap (λ (p : Place). cells.commits_at p C) (sym at) in
-        ap (λ (n : ℕ). nat_le MOST_COMMITS n) (sym here) ∙ top-is (commits_at (row_at (seen_in C) (cell_of x))) MOST_COMMITS (known.few (cell_of x))
+        ap (λ (n : ℕ). nat_le MOST_COMMITS n) (sym here) ∙ top_is (commits_at (row_at (seen_in C) (cell_of x))) MOST_COMMITS (known.few (cell_of x))

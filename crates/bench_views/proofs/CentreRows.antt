@@ -12,7 +12,7 @@ use Rattle.bench_base.specs.declared.ledger.Commit.TheVariants as c
 use Rattle.bench_base.specs.Ranges.{InRange, IsDevice, IsCustomer}
 use Rattle.bench_base.specs.Cells.{OfRow, OfCustomer, same_place, place_of}
 use Rattle.bench_base.specs.Cells as cells
-use Rattle.bench_base.proofs.Facts.{not-none}
+use Rattle.bench_base.proofs.Facts.{not_none}
 use Rattle.node_acts.specs.RowList.{row_at}
 use Rattle.node_acts.specs.RowLaws.{listed_at}
 use Rattle.centre_ledger.specs.Rows.{is_withdrawn}
@@ -28,51 +28,51 @@ use Rattle.centre_ledger.specs.Laws.{IsSlotOf, IsCustomerSlotOf, touches_device,
 use Rattle.centre_ledger.specs.ActLaws.{AreBooksOf}
 use Rattle.centre_ledger.specs.Records.{enrolment_of, device_row_with, device_row, customer_row_with, customer_row, IsRowOf, IsCustomerOf}
 use Rattle.centre_ledger.specs.Seen.{books_in, device_in, customer_in}
-use Rattle.centre_ledger.proofs.ByCommits.{enrolled-is}
+use Rattle.centre_ledger.proofs.ByCommits.{enrolled_is}
 use Rattle.bench_views.specs.Centre.{place_in, row_in, cell_after, seen_in}
 
 -- == where there is no row, no commit lies ==
 
-device-place : (d : ℕ) (x : Commit) → same_place (place_of x) (OfRow d) ≡ touches_device d x
-device-place d (c.Registered e o k) = refl
-device-place d _ = refl
+device_place : (d : ℕ) (x : Commit) → same_place (place_of x) (OfRow d) ≡ touches_device d x
+device_place d (c.Registered e o k) = refl
+device_place d _ = refl
 
-customer-place : (w : ℕ) (x : Commit) → same_place (place_of x) (OfCustomer w) ≡ touches_customer w x
-customer-place w (c.Opened e) = refl
-customer-place w _ = refl
+customer_place : (w : ℕ) (x : Commit) → same_place (place_of x) (OfCustomer w) ≡ touches_customer w x
+customer_place w (c.Opened e) = refl
+customer_place w _ = refl
 
-touched-device : (d : ℕ) (x : Commit) (C : List Commit) → Follows x C → touches_device d x ≡ true → IsSome (registered d (x ∷ C))
-touched-device d (c.Registered e o k) C follows t = rw t refl
-touched-device d (c.Ruled e n v note) C follows t = subst (λ (k : ℕ). IsSome (registered k C)) (eqb-true e d t) follows.0
-touched-device d (c.Settled e n) C follows t = subst (λ (k : ℕ). IsSome (registered k C)) (eqb-true e d t) follows
-touched-device d _ C follows t = absurd (true≢false (sym t))
+touched_device : (d : ℕ) (x : Commit) (C : List Commit) → Follows x C → touches_device d x ≡ true → IsSome (registered d (x ∷ C))
+touched_device d (c.Registered e o k) C follows t = rw t refl
+touched_device d (c.Ruled e n v note) C follows t = subst (λ (k : ℕ). IsSome (registered k C)) (eqb-true e d t) follows.0
+touched_device d (c.Settled e n) C follows t = subst (λ (k : ℕ). IsSome (registered k C)) (eqb-true e d t) follows
+touched_device d _ C follows t = absurd (true≢false (sym t))
 
-touched-customer : (w : ℕ) (x : Commit) (C : List Commit) → Follows x C → touches_customer w x ≡ true → opened w (x ∷ C) ≡ true
-touched-customer w (c.Opened e) C follows t = rw t refl
-touched-customer w (c.Deposited e n a) C follows t = ap (λ (k : ℕ). opened k C) (sym (eqb-true e w t)) ∙ follows.0
-touched-customer w (c.Flagged e flag) C follows t = ap (λ (k : ℕ). opened k C) (sym (eqb-true e w t)) ∙ follows
-touched-customer w _ C follows t = absurd (true≢false (sym t))
+touched_customer : (w : ℕ) (x : Commit) (C : List Commit) → Follows x C → touches_customer w x ≡ true → opened w (x ∷ C) ≡ true
+touched_customer w (c.Opened e) C follows t = rw t refl
+touched_customer w (c.Deposited e n a) C follows t = ap (λ (k : ℕ). opened k C) (sym (eqb-true e w t)) ∙ follows.0
+touched_customer w (c.Flagged e flag) C follows t = ap (λ (k : ℕ). opened k C) (sym (eqb-true e w t)) ∙ follows
+touched_customer w _ C follows t = absurd (true≢false (sym t))
 
-untouched-device : (d : ℕ) (x : Commit) (C : List Commit) → touches_device d x ≡ false → registered d (x ∷ C) ≡ registered d C
-untouched-device d (c.Registered e o k) C t = rw t refl
-untouched-device d _ C t = refl
+untouched_device : (d : ℕ) (x : Commit) (C : List Commit) → touches_device d x ≡ false → registered d (x ∷ C) ≡ registered d C
+untouched_device d (c.Registered e o k) C t = rw t refl
+untouched_device d _ C t = refl
 
-untouched-customer : (w : ℕ) (x : Commit) (C : List Commit) → touches_customer w x ≡ false → opened w (x ∷ C) ≡ opened w C
-untouched-customer w (c.Opened e) C t = rw t refl
-untouched-customer w _ C t = refl
+untouched_customer : (w : ℕ) (x : Commit) (C : List Commit) → touches_customer w x ≡ false → opened w (x ∷ C) ≡ opened w C
+untouched_customer w (c.Opened e) C t = rw t refl
+untouched_customer w _ C t = refl
 
 pub no_device_commits : (d : ℕ) (C : List Commit) → InOrder C → registered d C ≡ None → cells.commits_at (OfRow d) C ≡ 0
 no_device_commits d [] order none = refl
 no_device_commits d (x ∷ C) order none = ⊎_elim
-    (λ (t : touches_device d x ≡ true). not-none (registered d (x ∷ C)) (touched-device d x C order.0 t) none)
-    (λ (t : touches_device d x ≡ false). rw (device-place d x, t) (no_device_commits d C order.1 (sym (untouched-device d x C t) ∙ none)))
+    (λ (t : touches_device d x ≡ true). not_none (registered d (x ∷ C)) (touched_device d x C order.0 t) none)
+    (λ (t : touches_device d x ≡ false). rw (device_place d x, t) (no_device_commits d C order.1 (sym (untouched_device d x C t) ∙ none)))
     (cases_Bool (touches_device d x))
 
 pub no_customer_commits : (w : ℕ) (C : List Commit) → InOrder C → opened w C ≡ false → cells.commits_at (OfCustomer w) C ≡ 0
 no_customer_commits w [] order none = refl
 no_customer_commits w (x ∷ C) order none = ⊎_elim
-    (λ (t : touches_customer w x ≡ true). absurd (true≢false (sym (touched-customer w x C order.0 t) ∙ none)))
-    (λ (t : touches_customer w x ≡ false). rw (customer-place w x, t) (no_customer_commits w C order.1 (sym (untouched-customer w x C t) ∙ none)))
+    (λ (t : touches_customer w x ≡ true). absurd (true≢false (sym (touched_customer w x C order.0 t) ∙ none)))
+    (λ (t : touches_customer w x ≡ false). rw (customer_place w x, t) (no_customer_commits w C order.1 (sym (untouched_customer w x C t) ∙ none)))
     (cases_Bool (touches_customer w x))
 
 -- == the rows in their cells ==
@@ -117,7 +117,7 @@ no_device : (d : ℕ) (C : List Commit) → All InRange C → (IsDevice d → �
 no_device d [] range none = refl
 no_device d (x ∷ C) range none = ⊎_elim
     (λ (t : touches_device d x ≡ true). absurd (none (device_in_range d x t (All-head InRange x C range))))
-    (λ (t : touches_device d x ≡ false). untouched-device d x C t ∙ no_device d C (All-tail InRange x C range) none)
+    (λ (t : touches_device d x ≡ false). untouched_device d x C t ∙ no_device d C (All-tail InRange x C range) none)
     (cases_Bool (touches_device d x))
   where
     device_in_range : (e : ℕ) (y : Commit) → touches_device e y ≡ true → InRange y → IsDevice e
@@ -130,7 +130,7 @@ no_customer : (w : ℕ) (C : List Commit) → All InRange C → (IsCustomer w �
 no_customer w [] range none = refl
 no_customer w (x ∷ C) range none = ⊎_elim
     (λ (t : touches_customer w x ≡ true). absurd (none (customer_in_range w x t (All-head InRange x C range))))
-    (λ (t : touches_customer w x ≡ false). untouched-customer w x C t ∙ no_customer w C (All-tail InRange x C range) none)
+    (λ (t : touches_customer w x ≡ false). untouched_customer w x C t ∙ no_customer w C (All-tail InRange x C range) none)
     (cases_Bool (touches_customer w x))
   where
     customer_in_range : (e : ℕ) (y : Commit) → touches_customer e y ≡ true → InRange y → IsCustomer e
@@ -139,25 +139,25 @@ no_customer w (x ∷ C) range none = ⊎_elim
     customer_in_range e (c.Flagged f flag) t fits = subst IsCustomer (eqb-true f e t) fits
     customer_in_range e _ t fits = absurd (true≢false (sym t))
 
-withdrawn-is : (w : Option ℕ) (gone : Bool) → (gone ≡ true → IsSome w) → is_withdrawn (enrolment_of w gone) ≡ gone
-withdrawn-is None true some = absurd (true≢false (sym (some refl)))
-withdrawn-is None false some = refl
-withdrawn-is (Some w) true some = refl
-withdrawn-is (Some w) false some = refl
+withdrawn_is : (w : Option ℕ) (gone : Bool) → (gone ≡ true → IsSome w) → is_withdrawn (enrolment_of w gone) ≡ gone
+withdrawn_is None true some = absurd (true≢false (sym (some refl)))
+withdrawn_is None false some = refl
+withdrawn_is (Some w) true some = refl
+withdrawn_is (Some w) false some = refl
 
 -- == in the places, and outside of them ==
 
 within : (d n : ℕ) → ((1 ≤ d) × (d ≤ n)) ⊎ ((1 ≤ d) × (d ≤ n) → ⊥)
 within d n = ⊎_elim
-    (λ (low : nat_le 1 d ≡ true). ⊎_elim (λ (high : nat_le d n ≡ true). inl (leb-true 1 d low, leb-true d n high)) (λ (high : nat_le d n ≡ false). inr (λ is. leb-no d n high is.1)) (cases_Bool (nat_le d n)))
-    (λ (low : nat_le 1 d ≡ false). inr (λ is. leb-no 1 d low is.0))
+    (λ (low : nat_le 1 d ≡ true). ⊎_elim (λ (high : nat_le d n ≡ true). inl (leb_true 1 d low, leb_true d n high)) (λ (high : nat_le d n ≡ false). inr (λ is. leb_no d n high is.1)) (cases_Bool (nat_le d n)))
+    (λ (low : nat_le 1 d ≡ false). inr (λ is. leb_no 1 d low is.0))
     (cases_Bool (nat_le 1 d))
   where
-    leb-true : (i j : ℕ) → nat_le i j ≡ true → i ≤ j
-    leb-true i j is = grind (arith, nat_tests)
+    leb_true : (i j : ℕ) → nat_le i j ≡ true → i ≤ j
+    leb_true i j is = grind (arith, nat_tests)
 
-    leb-no : (i j : ℕ) → nat_le i j ≡ false → i ≤ j → ⊥
-    leb-no i j is le = grind (arith, nat_tests)
+    leb_no : (i j : ℕ) → nat_le i j ≡ false → i ≤ j → ⊥
+    leb_no i j is le = grind (arith, nat_tests)
 
 outside : {R : Type 0} (d : ℕ) (rows : List (Option R)) (n : ℕ) → length rows ≡ n → (1 ≤ d → d ≤ n → ⊥) → books.place_of rows d ≡ None
 outside d rows n long none = ⊎_elim
@@ -185,8 +185,8 @@ module _ (C : List Commit) (order : InOrder C) (range : All InRange C) (owned : 
   row_of : (d : ℕ) (x : ℕ × List ℕ) (r : DeviceRow) → registered d C ≡ Some x → Some (device_row_with d C x) ≡ Some r → IsRowOf r C
   row_of d x r made is = subst (λ (y : DeviceRow). IsRowOf y C) (same_Some _ _ is) (record {
     registered = made;
-    enrolled = sym (enrolled-is (enrolled d C) (withdrawn d C));
-    withdrawn = sym (withdrawn-is (enrolled d C) (withdrawn d C) (owned d));
+    enrolled = sym (enrolled_is (enrolled d C) (withdrawn d C));
+    withdrawn = sym (withdrawn_is (enrolled d C) (withdrawn d C) (owned d));
     ruled = refl;
     settled = refl;
     bought = refl;

@@ -16,7 +16,7 @@ use Rattle.psd_wire.specs.Codes.{has_code}
 use Rattle.ledger_terms.specs.Devices.{key_of}
 use Rattle.ledger_terms.specs.Rulings.{ruled_reply}
 use Rattle.ledger_lawful.specs.Further.{RepliesAreRuled}
-use Rattle.ledger_laws.proofs.Histories.{message-sent}
+use Rattle.ledger_laws.proofs.Histories.{message_sent}
 use Rattle.ledger_moves.specs.Histories.{Unforged, IsKnown}
 use Rattle.bench_views.specs.declared.calls.DeviceCall.{DeviceCall}
 use Rattle.bench_views.specs.declared.calls.DeviceCall.TheVariants.{Make, Debit, Ask, Resend, Ack, Status, Take}
@@ -74,7 +74,7 @@ module _ (H : Ledger) (replied : RepliesAreRuled H) where
 
   message_asked : (k d next : ℕ) (asked : Asked DeviceCall) (o : Option (List ℕ)) → message k H ≡ o → takes.message_taken k next o ≡ take.Work (work.Device d asked) → OfAsked H d asked
   message_asked k d next asked None at is = cc
-  message_asked k d next asked (Some bytes) at is = delivered d next bytes asked (read bytes) (message-sent k bytes H at) is
+  message_asked k d next asked (Some bytes) at is = delivered d next bytes asked (read bytes) (message_sent k bytes H at) is
 
   pub genuine : (quote : Quote) (e : Event) (d : ℕ) (asked : Asked DeviceCall) → taken (sent_in H) quote e ≡ Some (take.Work (work.Device d asked)) → Unforged e H → OfAsked H d asked
   genuine quote = each_asked (sent_in H) quote (λ e d asked. Unforged e H → OfAsked H d asked) (record {

@@ -16,21 +16,21 @@ use Rattle.ledger_moves.specs.Tariffs.{Tariff}
 use Rattle.ledger_moves.specs.Moves.{Moves, OtherUp, FailsToRead, plan, entries}
 use Rattle.bench_views.proofs.Steps.{Step}
 
-open-if : {A : Type 0} (f : Commit → A) (t : Option Commit) → IsSome (option_map f t) → IsSome t
-open-if f None h = h
-open-if f (Some c) h = refl
+open_if : {A : Type 0} (f : Commit → A) (t : Option Commit) → IsSome (option_map f t) → IsSome t
+open_if f None h = h
+open_if f (Some c) h = refl
 
 module _ {S X : Type 0} (n : Counting S X) (m : Node) (seen : List Commit → S) (τ : Tariff) (H : Ledger) (e : Event) (p : Plan) (planned : plan τ todays_rules H e [] ≡ p) where
   abbrev Gets : Reply → Plan → Type 0
   Gets reply q = (reply ≡ q.reply) ⊎ (OtherUp q.reply reply H ⊎ (Fails q reply ⊎ FailsToRead e reply (day_in H)))
 
-  other-up : (reply : Reply) → IsOtherUp n m (view_in m seen H) p reply → OtherUp p.reply reply H
-  other-up reply o = record {
+  other_up : (reply : Reply) → IsOtherUp n m (view_in m seen H) p reply → OtherUp p.reply reply H
+  other_up reply o = record {
     node = m;
     count = n.count (seen (counted H));
     answer_is = o.0;
     more = o.2;
-    torn = open-if (λ c. seen (c ∷ counted H)) (torn_of m H) o.1;
+    torn = open_if (λ c. seen (c ∷ counted H)) (torn_of m H) o.1;
   }
 
   pub moves : IsWholeEvent e → (reply : Reply) → MayReply n m (view_in m seen H) p reply → Moves τ todays_rules H e [] reply
@@ -38,7 +38,7 @@ module _ {S X : Type 0} (n : Counting S X) (m : Node) (seen : List Commit → S)
     where
       gets : MayReply n m (view_in m seen H) p reply → Gets reply p
       gets (inl h) = inl h
-      gets (inr (inl o)) = inr (inl (other-up reply o))
+      gets (inr (inl o)) = inr (inl (other_up reply o))
       gets (inr (inr f)) = inr (inr (inl f))
 
   pub goes : (reply : Reply) (made : Option (Commit × S)) → Step n m seen H reply made (after p reply H) → Step n m seen H reply made (entries τ todays_rules H e [] reply)

@@ -19,9 +19,9 @@ use Rattle.host_jobs.specs.Records.{cell_after, seen_after}
 use Rattle.host_jobs.specs.Seen.{cell_of, IsKnown}
 use Rattle.host_jobs.specs.SeenLaws.{SeenLaws}
 use Rattle.host_jobs.specs.Turns.{InTurn}
-use Rattle.host_jobs.proofs.Cells.{cell-lt}
+use Rattle.host_jobs.proofs.Cells.{cell_lt}
 use Rattle.bench_views.proofs.CentreCounts.{same_sum}
-use Rattle.bench_views.proofs.Counts.{top-is}
+use Rattle.bench_views.proofs.Counts.{top_is}
 
 places_are : listed HOST_CELLS OfJob ≡ host_places
 unfolding host_places
@@ -38,6 +38,6 @@ module _ (laws : SeenLaws) (C : List Commit) (turn : InTurn C) where
   unfolding cells.is_worn
   worn c x at known =
       let here : commits_at (row_at (seen_after C) (cell_of x)) ≡ cells.commits_at (place_of c) C =
-      ap (λ (o : Option (ℕ × JobRow)). commits_at o) (listed_at HOST_CELLS (λ k. cell_after k C) None (cell_of x) (cell-lt x.job))
+      ap (λ (o : Option (ℕ × JobRow)). commits_at o) (listed_at HOST_CELLS (λ k. cell_after k C) None (cell_of x) (cell_lt x.job))
       ∙ laws.counted C (cell_of x) turn ∙ ap (λ (p : Place). cells.commits_at p C) (sym at) in
-      ap (λ (n : ℕ). nat_le MOST_COMMITS n) (sym here) ∙ top-is (commits_at (row_at (seen_after C) (cell_of x))) MOST_COMMITS (known.few (cell_of x))
+      ap (λ (n : ℕ). nat_le MOST_COMMITS n) (sym here) ∙ top_is (commits_at (row_at (seen_after C) (cell_of x))) MOST_COMMITS (known.few (cell_of x))

@@ -8,8 +8,8 @@ use Rattle.bench_base.specs.Nodes.{same_node, node_of}
 use Rattle.node_acts.specs.RowLaws.{listed_same}
 use Rattle.host_jobs.specs.declared.sizes.TheConstants.{HOST_CELLS}
 use Rattle.host_jobs.specs.Records.{cell_after, seen_after}
-use Rattle.host_jobs.proofs.Seeing.{seen-laws}
-use Rattle.bench_views.proofs.Views.{Apart, same-apart}
+use Rattle.host_jobs.proofs.Seeing.{seen_laws}
+use Rattle.bench_views.proofs.Views.{Apart, same_apart}
 
 -- whether a commit is the host's
 abbrev IsHosts : Commit → Type 0
@@ -32,11 +32,11 @@ cell_under k _ _ C its other = absurd (true≢false (sym its))
 
 pub host_apart : (m : Node) → Host ≢ m → Apart m Host seen_after
 host_apart m ne = record {
-  frame = λ c C own next. seen-laws.stays c C (others c own);
+  frame = λ c C own next. seen_laws.stays c C (others c own);
   under = λ x c C its own next more.
       let hosts : IsHosts x = ap (λ (i : Node). same_node i Host) its in
       listed_same HOST_CELLS (λ k. cell_after k (x ∷ c ∷ C)) (λ k. cell_after k (x ∷ C)) (λ k lt. cell_under k x c C hosts (others c own));
 }
   where
     others : (c : Commit) → node_of c ≡ m → IsOthers c
-    others c own = ap (λ (i : Node). same_node i Host) own ∙ same-apart m Host ne
+    others c own = ap (λ (i : Node). same_node i Host) own ∙ same_apart m Host ne

@@ -30,7 +30,7 @@ use Rattle.psd_state.specs.State.{State, Holds, PendingOk}
 use Rattle.psd_state.specs.Records.{IsRecordOf, IsOutstanding, state_of}
 use Rattle.psd_state.specs.Answers.{debit_answer, ask_answer, ask_rows, waiting_kind, apply_answer, resend_answer, done_answer}
 use Rattle.bench_base.proofs.Rows.{passes}
-use Rattle.psd_state.proofs.Keeping.{unless-passes}
+use Rattle.psd_state.proofs.Keeping.{unless_passes}
 use Rattle.psd_state.specs.Laws.{ResendingRepeats}
 use Rattle.psd_state.specs.declared.debiting.Debited.{Debited}
 use Rattle.psd_state.specs.declared.debiting.Debited.TheVariants.{New, Again}
@@ -60,9 +60,9 @@ use Rattle.bench_views.specs.Tariff.{Quote}
 use Rattle.bench_views.specs.Devices.{seen_in, view_of, asked, took, device_act, device_kind, IsKnown}
 use Rattle.bench_views.specs.Messages.{sent_in}
 use Rattle.bench_views.proofs.Calling.{plan_says, at_seen, IsWornAlike}
-use Rattle.bench_views.proofs.Counts.{worn-is}
+use Rattle.bench_views.proofs.Counts.{worn_is}
 use Rattle.bench_views.proofs.Events.{each_asked}
-use Rattle.bench_views.proofs.Frames.{one-device}
+use Rattle.bench_views.proofs.Frames.{one_device}
 use Rattle.bench_views.proofs.Sent.{sent_many, sent_at}
 
 -- == whose the commit is ==
@@ -139,10 +139,10 @@ module _ (d : ℕ) where
 
   -- a device's commit goes into its one cell
   own_cell : (c : Commit) → node_of c ≡ Device d → place_of c ≡ OfDevice d
-  own_cell (c.Made e key) own = ap OfDevice (one-device e d own)
-  own_cell (c.Asked e n note) own = ap OfDevice (one-device e d own)
-  own_cell (c.Applied e n v) own = ap OfDevice (one-device e d own)
-  own_cell (c.Debited e piece postage class day version) own = ap OfDevice (one-device e d own)
+  own_cell (c.Made e key) own = ap OfDevice (one_device e d own)
+  own_cell (c.Asked e n note) own = ap OfDevice (one_device e d own)
+  own_cell (c.Applied e n v) own = ap OfDevice (one_device e d own)
+  own_cell (c.Debited e piece postage class day version) own = ap OfDevice (one_device e d own)
   own_cell _ own = cc
 
 -- the next number, where it fits
@@ -152,7 +152,7 @@ counts_on {n} fits = rw (ne_eqb n 4294967295 fits) refl
 -- a device with the last number asks for nothing
 not_full : (s : State) (kind : Kind) (who amount : ℕ) (today : ℤ) (x : State × List ℕ) → ask_answer todays_rules s kind who amount today ≡ Ok x → s.number ≢ 4294967295
 not_full s kind who amount today x is full =
-    let idle = unless-passes (waiting_kind s.pending) no.Busy _ x is in
+    let idle = unless_passes (waiting_kind s.pending) no.Busy _ x is in
     let through = passes (ask_rows todays_rules s kind amount today) _ x (refl, (refl, (refl, (refl, (refl, (refl, tt)))))) idle.1 in
     let not_last : nat_le 4294967295 s.number ≡ false = through.0.1.1.1.1.1.0 in
     true≢false (sym (le-leb 4294967295 s.number (omega (arith, full))) ∙ not_last)
@@ -163,7 +163,7 @@ module _ (H : Ledger) (resending : ResendingRepeats) where
     C = counted H
 
     worn_alike : {F A : Type 0} (act : Act State F A) → IsOfNode (Device d) act → IsWornAlike counting (Device d) (seen_in d) H act
-    worn_alike act own = of_commit _ _ act own (λ c x is. worn-is d c C (own_cell d c is) known.few)
+    worn_alike act own = of_commit _ _ act own (λ c x is. worn_is d c C (own_cell d c is) known.few)
 
     -- at the device, the plan of its act is what is seen
     at : (today : ℤ) (call : DeviceCall) → at_node (Device d) H (said_plan (device_act d today call (record_in d C))) ≡ seen_plan counting (Device d) (view_of d H) (device_act d today call (record_in d C))

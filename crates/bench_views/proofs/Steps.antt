@@ -23,7 +23,7 @@ use Rattle.node_acts.specs.Views.{Counting, View, committed, torn}
 use Rattle.node_acts.specs.Acts.{commit_in, commit_of, OfCommit}
 use Rattle.node_acts.specs.Plans.{with_commit, after, after_told, Fails, FailsTold, MayFail, MayReply, done_plan, view_after, view_told}
 use Rattle.node_acts.specs.Kinds.{view_in}
-use Rattle.bench_views.proofs.Events.{some-same}
+use Rattle.bench_views.proofs.Events.{some_same}
 
 -- entries that tell of what was done
 abbrev pub AreTold : List Entry → Type 0
@@ -61,17 +61,17 @@ IsPlain Refused = Unit {0}
 IsPlain (Armed n) = Unit {0}
 IsPlain _ = ⊥
 
-plain-after : (t : Told) (p : Plan) (H : Ledger) → IsPlain t → after_told p t H ≡ p.after ++ with_commit p.commit H
-plain-after Did p H h = refl
-plain-after Refused p H h = refl
-plain-after (Armed n) p H h = refl
-plain-after _ p H h = absurd h
+plain_after : (t : Told) (p : Plan) (H : Ledger) → IsPlain t → after_told p t H ≡ p.after ++ with_commit p.commit H
+plain_after Did p H h = refl
+plain_after Refused p H h = refl
+plain_after (Armed n) p H h = refl
+plain_after _ p H h = absurd h
 
-plain-still : {S X : Type 0} (n : Counting S X) (t : Told) (v : View S) → IsPlain t → view_told n t None v ≡ v
-plain-still n Did v h = refl
-plain-still n Refused v h = refl
-plain-still n (Armed m) v h = refl
-plain-still n _ v h = absurd h
+plain_still : {S X : Type 0} (n : Counting S X) (t : Told) (v : View S) → IsPlain t → view_told n t None v ≡ v
+plain_still n Did v h = refl
+plain_still n Refused v h = refl
+plain_still n (Armed m) v h = refl
+plain_still n _ v h = absurd h
 
 abbrev pub IsQuiet : Reply → Type 0
 IsQuiet y = IsPlain (told_by y)
@@ -138,7 +138,7 @@ module _ {S X : Type 0} (n : Counting S X) (m : Node) (seen : List Commit → S)
 
   -- the reply of the plan itself
   by_answer : (x y : Reply) (p : Plan) (made : Option (Commit × S)) → x ≡ y → IsPlain (told_by y) → Goes y made (p.after ++ with_commit p.commit H) → Goes x made (after p x H)
-  by_answer x y p made is plain goes = subst (λ (z : Reply). Goes z made (after p z H)) (sym is) (subst (Goes y made) (sym (plain-after (told_by y) p H plain)) goes)
+  by_answer x y p made is plain goes = subst (λ (z : Reply). Goes z made (after p z H)) (sym is) (subst (Goes y made) (sym (plain_after (told_by y) p H plain)) goes)
 
   -- where the printer fails nothing is told, and the commit is as it is
   unprinted : (x : Reply) (p : Plan) → p.commit ≡ None → PrinterFails x → Goes x None (after p x H)
@@ -149,18 +149,18 @@ module _ {S X : Type 0} (n : Counting S X) (m : Node) (seen : List Commit → S)
   silent x p none (inl f) = absurd (none-some _ (sym none ∙ f.is))
   silent x p none (inr f) = unprinted x p none f
 
-  pub tells-plain : (x y : Reply) (T : List Entry) → IsQuiet y → AreTold T → Gets (told y T) x → Goes x None (after (told y T) x H)
-  tells-plain x y T quiet are (inl h) = by_answer x y (told y T) None h quiet (does_tell T are (λ v. plain-still n (told_by y) v quiet))
-  tells-plain x y T quiet are (inr (inl o)) = absurd (no_boot y quiet m (n.count (seen (counted H))) o.0)
-  tells-plain x y T quiet are (inr (inr f)) = silent x (told y T) refl (failed (told y T) x (no_boot y quiet) f)
+  pub tells_plain : (x y : Reply) (T : List Entry) → IsQuiet y → AreTold T → Gets (told y T) x → Goes x None (after (told y T) x H)
+  tells_plain x y T quiet are (inl h) = by_answer x y (told y T) None h quiet (does_tell T are (λ v. plain_still n (told_by y) v quiet))
+  tells_plain x y T quiet are (inr (inl o)) = absurd (no_boot y quiet m (n.count (seen (counted H))) o.0)
+  tells_plain x y T quiet are (inr (inr f)) = silent x (told y T) refl (failed (told y T) x (no_boot y quiet) f)
 
-  torn-still : (t : Told) (i : Node) (c : Commit) (s : S) (v : View S) → (t ≡ LostPower i) ⊎ (t ≡ Faulted i) → view_told n t (Some (c, s)) v ≡ torn s v
-  torn-still t i c s v (inl is) = ap (λ (z : Told). view_told n z (Some (c, s)) v) is
-  torn-still t i c s v (inr is) = ap (λ (z : Told). view_told n z (Some (c, s)) v) is
+  torn_still : (t : Told) (i : Node) (c : Commit) (s : S) (v : View S) → (t ≡ LostPower i) ⊎ (t ≡ Faulted i) → view_told n t (Some (c, s)) v ≡ torn s v
+  torn_still t i c s v (inl is) = ap (λ (z : Told). view_told n z (Some (c, s)) v) is
+  torn_still t i c s v (inr is) = ap (λ (z : Told). view_told n z (Some (c, s)) v) is
 
-  torn-after : (t : Told) (i : Node) (y : Reply) (c : Commit) (T : List Entry) → i ≡ m → (t ≡ LostPower i) ⊎ (t ≡ Faulted i) → after_told (made y c T) t H ≡ entry.Torn m c ∷ H
-  torn-after t i y c T at (inl is) = ap (λ (z : Told). after_told (made y c T) z H) is ∙ ap (λ (z : Node). entry.Torn z c ∷ H) at
-  torn-after t i y c T at (inr is) = ap (λ (z : Told). after_told (made y c T) z H) is ∙ ap (λ (z : Node). entry.Torn z c ∷ H) at
+  torn_after : (t : Told) (i : Node) (y : Reply) (c : Commit) (T : List Entry) → i ≡ m → (t ≡ LostPower i) ⊎ (t ≡ Faulted i) → after_told (made y c T) t H ≡ entry.Torn m c ∷ H
+  torn_after t i y c T at (inl is) = ap (λ (z : Told). after_told (made y c T) z H) is ∙ ap (λ (z : Node). entry.Torn z c ∷ H) at
+  torn_after t i y c T at (inr is) = ap (λ (z : Told). after_told (made y c T) z H) is ∙ ap (λ (z : Node). entry.Torn z c ∷ H) at
 
   makes : (x y : Reply) (c : Commit) (s : S) (T : List Entry) → told_by y ≡ Did → AreTold T → is_on m H ≡ true → node_of c ≡ m → seen (c ∷ counted H) ≡ s
       → Gets (made y c T) x → Goes x (Some (c, s)) (after (made y c T) x H)
@@ -171,8 +171,8 @@ module _ {S X : Type 0} (n : Counting S X) (m : Node) (seen : List Commit → S)
     where
       by : Failed (made y c T) x ⊎ PrinterFails x → Goes x (Some (c, s)) (after (made y c T) x H)
       by (inl g) =
-          let at : g.n ≡ m = sym g.own ∙ ap node_of (sym (some-same g.is)) ∙ own in
-          subst (λ (new : Ledger). Goes x (Some (c, s)) new) (sym (torn-after (told_by x) g.n y c T at g.how)) (tears c s (λ v. torn-still (told_by x) g.n c s v g.how) own is)
+          let at : g.n ≡ m = sym g.own ∙ ap node_of (sym (some_same g.is)) ∙ own in
+          subst (λ (new : Ledger). Goes x (Some (c, s)) new) (sym (torn_after (told_by x) g.n y c T at g.how)) (tears c s (λ v. torn_still (told_by x) g.n c s v g.how) own is)
       by (inr g) = subst (λ (t : Told). Goes x (Some (c, s)) (after_told (made y c T) t H)) (sym g.1) (does [] c s tt (λ v. ap (λ (t : Told). view_told n t (Some (c, s)) v) g.1) on own is)
 
   -- == a call, by its act ==
@@ -190,19 +190,19 @@ module _ {S X : Type 0} (n : Counting S X) (m : Node) (seen : List Commit → S)
   commits : (worn : Bool) (c : Commit) (s : S) (a : Said) (x : Reply) → IsSaid a → is_on m H ≡ true → node_of c ≡ m → (worn ≡ false → seen (c ∷ counted H) ≡ s)
       → Gets (cond worn (refuse (r.Worn m)) (made a.reply c (tells a))) x
       → Goes x (cond worn None (Some (c, s))) (after (cond worn (refuse (r.Worn m)) (made a.reply c (tells a))) x H)
-  commits true c s a x said on own is may = tells-plain x (r.Worn m) [] worn_quiet tt may
+  commits true c s a x said on own is may = tells_plain x (r.Worn m) [] worn_quiet tt may
   commits false c s a x said on own is may = makes x a.reply c s (tells a) said (said_told a.given a.sent) on own (is refl) may
 
-  acts-on : (act : Act X Reply Said) (x : Reply) → IsQuietAct act → IsRight act → is_on m H ≡ true → Gets (by_act n m (seen (counted H)) act) x
+  acts_on : (act : Act X Reply Said) (x : Reply) → IsQuietAct act → IsRight act → is_on m H ≡ true → Gets (by_act n m (seen (counted H)) act) x
       → Goes x (commit_in n (seen (counted H)) act) (after (by_act n m (seen (counted H)) act) x H)
-  acts-on (Refuse y) x quiet right on may = tells-plain x y [] quiet tt may
-  acts-on (Tell a) x quiet right on may = tells-plain x a.reply (tells a) (subst IsPlain (sym quiet) tt) (said_told a.given a.sent) may
-  acts-on (Commits c y a) x quiet right on may = commits (n.is_worn (seen (counted H)) y) c (n.after (seen (counted H)) y) a x quiet on right.0 (right.1 on) may
+  acts_on (Refuse y) x quiet right on may = tells_plain x y [] quiet tt may
+  acts_on (Tell a) x quiet right on may = tells_plain x a.reply (tells a) (subst IsPlain (sym quiet) tt) (said_told a.given a.sent) may
+  acts_on (Commits c y a) x quiet right on may = commits (n.is_worn (seen (counted H)) y) c (n.after (seen (counted H)) y) a x quiet on right.0 (right.1 on) may
 
   acts_by : (on : Bool) (act : Act X Reply Said) (x : Reply) → IsQuietAct act → IsRight act → is_on m H ≡ on → Gets (cond on (by_act n m (seen (counted H)) act) (refuse (r.OffNode m))) x
       → Goes x (cond on (commit_in n (seen (counted H)) act) None) (after (cond on (by_act n m (seen (counted H)) act) (refuse (r.OffNode m))) x H)
-  acts_by true act x quiet right is may = acts-on act x quiet right is may
-  acts_by false act x quiet right is may = tells-plain x (r.OffNode m) [] off_quiet tt may
+  acts_by true act x quiet right is may = acts_on act x quiet right is may
+  acts_by false act x quiet right is may = tells_plain x (r.OffNode m) [] off_quiet tt may
 
   pub acts : (act : Act X Reply Said) (x : Reply) → IsQuietAct act → IsRight act → Gets (seen_plan n m (view_in m seen H) act) x
       → Goes x (commit_of n (view_in m seen H) act) (after (seen_plan n m (view_in m seen H) act) x H)
@@ -216,26 +216,26 @@ module _ {S X : Type 0} (n : Counting S X) (m : Node) (seen : List Commit → S)
   abbrev stop_plan : Plan
   stop_plan = told (r.Down m) (entry.Down m ∷ [])
 
-  boot-may : (k : ℕ) (x : Reply) → x ≡ r.Up m k → Goes x None (after boot_plan x H)
-  boot-may k x h = subst (λ z. Goes z None (after boot_plan z H)) (sym h) (boots k)
+  boot_may : (k : ℕ) (x : Reply) → x ≡ r.Up m k → Goes x None (after boot_plan x H)
+  boot_may k x h = subst (λ z. Goes z None (after boot_plan z H)) (sym h) (boots k)
 
-  boot-fails : (x : Reply) (t : Told) → told_by x ≡ t → FailsTold boot_plan t → Goes x None (after_told boot_plan t H)
-  boot-fails x (LostPower i) is h = does_tell [] tt (λ v. ap (λ (t : Told). view_told n t None v) is)
-  boot-fails x (Faulted i) is h = does_tell [] tt (λ v. ap (λ (t : Told). view_told n t None v) is)
-  boot-fails x (PrinterFailed j) is h = cc
-  boot-fails x _ is h = absurd h
+  boot_fails : (x : Reply) (t : Told) → told_by x ≡ t → FailsTold boot_plan t → Goes x None (after_told boot_plan t H)
+  boot_fails x (LostPower i) is h = does_tell [] tt (λ v. ap (λ (t : Told). view_told n t None v) is)
+  boot_fails x (Faulted i) is h = does_tell [] tt (λ v. ap (λ (t : Told). view_told n t None v) is)
+  boot_fails x (PrinterFailed j) is h = cc
+  boot_fails x _ is h = absurd h
 
-  pub turns-on : (on : Bool) (x : Reply) → Gets (cond on (refuse (r.OnAlready m)) boot_plan) x → Goes x None (after (cond on (refuse (r.OnAlready m)) boot_plan) x H)
-  turns-on true x may = tells-plain x (r.OnAlready m) [] tt tt may
-  turns-on false x (inl h) = boot-may (n.count (seen (counted H))) x h
-  turns-on false x (inr (inl o)) = boot-may (n.count (seen (counted H)) + 1) x o.2
-  turns-on false x (inr (inr f)) = boot-fails x (told_by x) refl f
+  pub turns_on : (on : Bool) (x : Reply) → Gets (cond on (refuse (r.OnAlready m)) boot_plan) x → Goes x None (after (cond on (refuse (r.OnAlready m)) boot_plan) x H)
+  turns_on true x may = tells_plain x (r.OnAlready m) [] tt tt may
+  turns_on false x (inl h) = boot_may (n.count (seen (counted H))) x h
+  turns_on false x (inr (inl o)) = boot_may (n.count (seen (counted H)) + 1) x o.2
+  turns_on false x (inr (inr f)) = boot_fails x (told_by x) refl f
 
-  pub turns-off : (on : Bool) (x : Reply) → Gets (cond on stop_plan (refuse (r.OffNode m))) x → Goes x None (after (cond on stop_plan (refuse (r.OffNode m))) x H)
-  turns-off true x (inl h) = subst (λ z. Goes z None (after stop_plan z H)) (sym h) stops
-  turns-off true x (inr (inl o)) = let e = o.0 in cc
-  turns-off true x (inr (inr f)) = silent x stop_plan refl (failed stop_plan x (λ i k e. cc) f)
-  turns-off false x may = tells-plain x (r.OffNode m) [] tt tt may
+  pub turns_off : (on : Bool) (x : Reply) → Gets (cond on stop_plan (refuse (r.OffNode m))) x → Goes x None (after (cond on stop_plan (refuse (r.OffNode m))) x H)
+  turns_off true x (inl h) = subst (λ z. Goes z None (after stop_plan z H)) (sym h) stops
+  turns_off true x (inr (inl o)) = let e = o.0 in cc
+  turns_off true x (inr (inr f)) = silent x stop_plan refl (failed stop_plan x (λ i k e. cc) f)
+  turns_off false x may = tells_plain x (r.OffNode m) [] tt tt may
 
   pub cuts : (x : Reply) → Gets (refuse (r.CutSet m)) x → Goes x None (after (refuse (r.CutSet m)) x H)
-  cuts x may = tells-plain x (r.CutSet m) [] tt tt may
+  cuts x may = tells_plain x (r.CutSet m) [] tt tt may

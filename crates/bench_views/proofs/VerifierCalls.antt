@@ -39,7 +39,7 @@ use Rattle.bench_views.specs.Tariff.{Quote}
 use Rattle.bench_views.specs.Verifier.{view_of, verifier_act, verifier_kind, AreBytes}
 use Rattle.bench_views.specs.Messages.{sent_in}
 use Rattle.bench_views.proofs.Calling.{at_seen, IsWornAlike}
-use Rattle.bench_views.proofs.Counts.{top-is}
+use Rattle.bench_views.proofs.Counts.{top_is}
 use Rattle.bench_views.proofs.Events.{each_of_verifier}
 use Rattle.bench_views.proofs.Sent.{sent_at}
 use Rattle.bench_views.proofs.Steps.{IsQuiet, IsQuietAct, IsRight, quiet_says}
@@ -89,7 +89,7 @@ module _ (H : Ledger) (recorded : IsRecorded (counted H)) (known : IsKnown (seen
   -- the cell of a change is worn where the ledger says so
   worn : (c : Commit) (x : Change) → IsNext C c x → cells.is_worn c C ≡ rows.is_worn s (cell_of x)
   unfolding cells.is_worn
-  worn c x next = ap (λ (n : ℕ). nat_le MOST_COMMITS n) (sym next.count) ∙ top-is (commits_at (row_at s (cell_of x))) MOST_COMMITS (known.few (cell_of x))
+  worn c x next = ap (λ (n : ℕ). nat_le MOST_COMMITS n) (sym next.count) ∙ top_is (commits_at (row_at s (cell_of x))) MOST_COMMITS (known.few (cell_of x))
 
   worn_alike : {A : Type 0} (act : ScanAct A) → IsGood act → IsWornAlike counting Verifier seen_after H act
   worn_alike act good = of_commit _ _ act good.1 worn

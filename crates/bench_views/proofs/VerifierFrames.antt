@@ -8,7 +8,7 @@ use Rattle.bench_base.specs.declared.ledger.Commit.TheVariants.{Made, Asked, App
 use Rattle.bench_base.specs.Nodes.{same_node, node_of}
 use Rattle.node_acts.specs.RowLaws.{listed_same}
 use Rattle.verifier.specs.Records.{cell_after, seen_after}
-use Rattle.bench_views.proofs.Views.{Apart, same-apart}
+use Rattle.bench_views.proofs.Views.{Apart, same_apart}
 
 -- a commit of another node, in any cell
 cell_stays : (k : ℕ) (c : Commit) (C : List Commit) → same_node (node_of c) Verifier ≡ false → cell_after k (c ∷ C) ≡ cell_after k C
@@ -75,4 +75,4 @@ verifier_apart m ne = record {
 }
   where
     other : (c : Commit) → node_of c ≡ m → same_node (node_of c) Verifier ≡ false
-    other c own = ap (λ (n : Node). same_node n Verifier) own ∙ same-apart m Verifier ne
+    other c own = ap (λ (n : Node). same_node n Verifier) own ∙ same_apart m Verifier ne

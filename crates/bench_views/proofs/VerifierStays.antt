@@ -44,15 +44,15 @@ record_under i _ c C its own = cc
 
 pub devices_stay : (i : ℕ) → Apart Verifier (Device i) (device.seen_in i)
 devices_stay i = record {
-  frame = λ c C own next. λ k. record { count = count-of i c C own k; state = record_stays i c C own k };
-  under = λ x c C its own next more. λ k. record { count = count-under i x c C own k; state = record_under i x c C its own k };
+  frame = λ c C own next. λ k. record { count = count_stays i c C own k; state = record_stays i c C own k };
+  under = λ x c C its own next more. λ k. record { count = count_under i x c C own k; state = record_under i x c C its own k };
 }
   where
-    count-of : (j : ℕ) (c : Commit) (C : List Commit) → node_of c ≡ Verifier → count_of (Device j) (c ∷ C) ≡ count_of (Device j) C
-    count-of j c C own = rw own refl
+    count_stays : (j : ℕ) (c : Commit) (C : List Commit) → node_of c ≡ Verifier → count_of (Device j) (c ∷ C) ≡ count_of (Device j) C
+    count_stays j c C own = rw own refl
 
-    count-under : (j : ℕ) (x c : Commit) (C : List Commit) → node_of c ≡ Verifier → count_of (Device j) (x ∷ c ∷ C) ≡ count_of (Device j) (x ∷ C)
-    count-under j x c C own = ap (λ (k : ℕ). if same_node (node_of x) (Device j) then k + 1 else k) (count-of j c C own)
+    count_under : (j : ℕ) (x c : Commit) (C : List Commit) → node_of c ≡ Verifier → count_of (Device j) (x ∷ c ∷ C) ≡ count_of (Device j) (x ∷ C)
+    count_under j x c C own = ap (λ (k : ℕ). if same_node (node_of x) (Device j) then k + 1 else k) (count_stays j c C own)
 
 -- == the centre ==
 

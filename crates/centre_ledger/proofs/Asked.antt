@@ -10,16 +10,16 @@ use Rattle.psd_wire.specs.declared.message.Request.{Request}
 use Rattle.psd_wire.specs.declared.message.Message.TheVariants as m
 use Rattle.psd_wire.specs.Codes.{has_code}
 use Rattle.psd_wire.specs.Grammar.{IsWhole, HasCode, read, spell, request_table}
-use Rattle.psd_wire.proofs.Readings.{spell-back, length-request}
+use Rattle.psd_wire.proofs.Readings.{spell_back, length_request}
 use Rattle.centre_ledger.specs.Answers.{turn_answer}
 
-pub code-has : (key bytes : List ℕ) → has_code key bytes ≡ true → HasCode bytes key
+pub code_has : (key bytes : List ℕ) → has_code key bytes ≡ true → HasCode bytes key
 unfolding has_code
-code-has key bytes h = (Decides-and _ _ (leb-true 32 _, le-leb 32 _) (bytes_eq-Decides _ _)).0 h
+code_has key bytes h = (Decides-and _ _ (leb-true 32 _, le-leb 32 _) (bytes_eq-Decides _ _)).0 h
 
 -- one that is to be ruled has the next number
-pub turn-next : (g : ℕ) (stored : List ℕ) (n : ℕ) (bytes : List ℕ) → turn_answer g stored n bytes ≡ Ok false → n ≡ g + 1
-turn-next g stored n bytes h = go (nat_lt n g || (n == 0)) (n == g) (bytes_eq stored bytes) (nat_lt (g + 1) n) refl refl refl h
+pub turn_next : (g : ℕ) (stored : List ℕ) (n : ℕ) (bytes : List ℕ) → turn_answer g stored n bytes ≡ Ok false → n ≡ g + 1
+turn_next g stored n bytes h = go (nat_lt n g || (n == 0)) (n == g) (bytes_eq stored bytes) (nat_lt (g + 1) n) refl refl refl h
   where
     go : (a b c d : Bool) → (nat_lt n g || (n == 0)) ≡ a → (n == g) ≡ b → nat_lt (g + 1) n ≡ d
         → cond a (Err (no.Old g)) (cond b (cond c (Ok true) (Err (no.Changed g))) (cond d (Err (no.Ahead g)) (Ok false))) ≡ Ok false → n ≡ g + 1
@@ -35,10 +35,10 @@ turn-next g stored n bytes h = go (nat_lt n g || (n == 0)) (n == g) (bytes_eq st
 
 -- what was read with a right code is a whole Request, spelled so
 pub asked : (q : Request) (key bytes : List ℕ) → IsBytes bytes → read bytes ≡ Ok (m.Request q) → HasCode bytes key → IsWhole (m.Request q) × (spell (m.Request q) key ≡ bytes)
-asked q key bytes b r c = spell-back (m.Request q) key bytes refl b r c
+asked q key bytes b r c = spell_back (m.Request q) key bytes refl b r c
 
 pub short : (q : Request) (key bytes : List ℕ) → IsWhole (m.Request q) → spell (m.Request q) key ≡ bytes → length bytes ≤ 87
-short q key bytes whole spelled = subst (λ b. length b ≤ 87) spelled (rw (length-request q key whole) (go (q.version == 1)))
+short q key bytes whole spelled = subst (λ b. length b ≤ 87) spelled (rw (length_request q key whole) (go (q.version == 1)))
   where
     go : (b : Bool) → room (request_table (cond b Four Eight)) + 32 ≤ 87
     go true = lit≤ tt

@@ -22,19 +22,19 @@ use Rattle.centre_ledger.specs.Order.{InOrder}
 use Rattle.centre_ledger.specs.Plans.{in_commits}
 use Rattle.centre_ledger.specs.Records.{enrolment_of, device_row_with, device_row, customer_row_with, customer_row, IsRowOf, IsCustomerOf}
 use Rattle.centre_ledger.specs.Rows.{account, customer_of, enrolled_in, is_withdrawn, is_suspended, amount_shown, reply_by}
-use Rattle.centre_ledger.proofs.Following.{no-money, shown}
+use Rattle.centre_ledger.proofs.Following.{no_money, shown}
 
 -- == the rows ==
 
-enrolment-is : (e : Enrolment) → enrolment_of (customer_of e) (is_withdrawn e) ≡ e
-enrolment-is Registered = refl
-enrolment-is (Enrolled w) = refl
-enrolment-is (Withdrawn w) = refl
+enrolment_is : (e : Enrolment) → enrolment_of (customer_of e) (is_withdrawn e) ≡ e
+enrolment_is Registered = refl
+enrolment_is (Enrolled w) = refl
+enrolment_is (Withdrawn w) = refl
 
-row-is : (r : DeviceRow) (C : List Commit) → IsRowOf r C → device_row_with r.device C (r.origin, r.key) ≡ r
-row-is r C is = λ k. record {
+row_is : (r : DeviceRow) (C : List Commit) → IsRowOf r C → device_row_with r.device C (r.origin, r.key) ≡ r
+row_is r C is = λ k. record {
   device = r.device;
-  enrolment = (ap₂ enrolment_of is.enrolled is.withdrawn ∙ enrolment-is r.enrolment) k;
+  enrolment = (ap₂ enrolment_of is.enrolled is.withdrawn ∙ enrolment_is r.enrolment) k;
   origin = r.origin;
   key = r.key;
   ruled = is.ruled k;
@@ -47,50 +47,50 @@ row-is r C is = λ k. record {
 
 pub one_device : (o : Option DeviceRow) (d : ℕ) (C : List Commit) → IsSlotOf o d C → device_row d C ≡ o
 one_device None d C is = rw is refl
-one_device (Some r) d C is = ap (λ e. device_row e C) (sym is.0) ∙ rw is.2.registered (ap (λ (x : DeviceRow). Some x) (row-is r C is.2))
+one_device (Some r) d C is = ap (λ e. device_row e C) (sym is.0) ∙ rw is.2.registered (ap (λ (x : DeviceRow). Some x) (row_is r C is.2))
 
-customer-is : (r : CustomerRow) (C : List Commit) → IsCustomerOf r C → customer_row_with r.customer C ≡ r
-customer-is r C is = λ k. record { customer = r.customer; suspended = is.suspended k; deposits = is.deposits k; receipt = (is.receipt k).0; amount = (is.receipt k).1 }
+customer_is : (r : CustomerRow) (C : List Commit) → IsCustomerOf r C → customer_row_with r.customer C ≡ r
+customer_is r C is = λ k. record { customer = r.customer; suspended = is.suspended k; deposits = is.deposits k; receipt = (is.receipt k).0; amount = (is.receipt k).1 }
 
 pub one_customer : (o : Option CustomerRow) (w : ℕ) (C : List Commit) → IsCustomerSlotOf o w C → customer_row w C ≡ o
 one_customer None w C is = rw is refl
-one_customer (Some r) w C is = ap (λ e. customer_row e C) (sym is.0) ∙ rw is.2.opened (ap (λ (x : CustomerRow). Some x) (customer-is r C is.2))
+one_customer (Some r) w C is = ap (λ e. customer_row e C) (sym is.0) ∙ rw is.2.opened (ap (λ (x : CustomerRow). Some x) (customer_is r C is.2))
 
-pub enrolled-is : (w : Option ℕ) (gone : Bool) → customer_of (enrolment_of w gone) ≡ w
-enrolled-is None gone = refl
-enrolled-is (Some w) true = refl
-enrolled-is (Some w) false = refl
+pub enrolled_is : (w : Option ℕ) (gone : Bool) → customer_of (enrolment_of w gone) ≡ w
+enrolled_is None gone = refl
+enrolled_is (Some w) true = refl
+enrolled_is (Some w) false = refl
 
 -- == a ruling ==
 
 -- a device that was never enrolled is none that was withdrawn; but it hasn't left any the less
-left-is : (w : Option ℕ) (gone : Bool) → has_left w (is_withdrawn (enrolment_of w gone)) ≡ has_left w gone
-left-is None gone = refl
-left-is (Some w) true = refl
-left-is (Some w) false = refl
+left_is : (w : Option ℕ) (gone : Bool) → has_left w (is_withdrawn (enrolment_of w gone)) ≡ has_left w gone
+left_is None gone = refl
+left_is (Some w) true = refl
+left_is (Some w) false = refl
 
-there-is : (w : ℕ) (C : List Commit) → is_some (customer_row w C) ≡ opened w C
-there-is w C = by (opened w C)
+there_is : (w : ℕ) (C : List Commit) → is_some (customer_row w C) ≡ opened w C
+there_is w C = by (opened w C)
   where
     by : (t : Bool) → is_some (if t then Some (customer_row_with w C) else None) ≡ t
     by true = refl
     by false = refl
 
-suspended-is : (w : ℕ) (C : List Commit) → InOrder C → is_suspended (customer_row w C) ≡ suspended w C
-suspended-is w C order = by (opened w C) refl
+suspended_is : (w : ℕ) (C : List Commit) → InOrder C → is_suspended (customer_row w C) ≡ suspended w C
+suspended_is w C order = by (opened w C) refl
   where
     by : (t : Bool) → opened w C ≡ t → is_suspended (if t then Some (customer_row_with w C) else None) ≡ suspended w C
     by true at = refl
-    by false at = sym (no-money w C order at).suspended
+    by false at = sym (no_money w C order at).suspended
 
 abbrev behind : {A : Type 0} → List A → List A
 behind [] = []
 behind (x ∷ xs) = xs
 
 -- whether it was withdrawn counts only for whether it has left
-left-alike : (a : Account) (gone : Bool) (q : Request) → has_left a.enrolled gone ≡ has_left a.enrolled a.withdrawn → verdict_by (record a { withdrawn = gone }) q ≡ verdict_by a q
+left_alike : (a : Account) (gone : Bool) (q : Request) → has_left a.enrolled gone ≡ has_left a.enrolled a.withdrawn → verdict_by (record a { withdrawn = gone }) q ≡ verdict_by a q
 unfolding verdict_by same_kind
-left-alike a gone q same = ap given same
+left_alike a gone q same = ap given same
   where
     given : Bool → Verdict × ℕ
     given left = if not (same_kind q.kind Enrol) && left then (NotEnrolled, 0) else first_holding (behind (verdict_rows a q)) (Granted, q.amount)
@@ -103,33 +103,33 @@ module _ (C : List Commit) (order : InOrder C) (q : Request) (x : ℕ × List �
   shows = account r (payer_in (in_commits C) r q) (own_left (in_commits C) r)
 
   own : enrolled_in r ≡ enrolled q.device C
-  own = enrolled-is (enrolled q.device C) (withdrawn q.device C)
+  own = enrolled_is (enrolled q.device C) (withdrawn q.device C)
 
-  shows-so : shows ≡ record (account_of C q) { withdrawn = is_withdrawn r.enrolment }
-  shows-so = λ i. record {
+  shows_so : shows ≡ record (account_of C q) { withdrawn = is_withdrawn r.enrolment }
+  shows_so = λ i. record {
     enrolled = own i;
     withdrawn = is_withdrawn r.enrolment;
     bought = r.buys;
     returned = r.returns;
-    opened = (there-is (payer q (enrolled_in r)) C ∙ ap (λ o. opened (payer q o) C) own) i;
-    suspended = (suspended-is (payer q (enrolled_in r)) C order ∙ ap (λ o. suspended (payer q o) C) own) i;
+    opened = (there_is (payer q (enrolled_in r)) C ∙ ap (λ o. opened (payer q o) C) own) i;
+    suspended = (suspended_is (payer q (enrolled_in r)) C order ∙ ap (λ o. suspended (payer q o) C) own) i;
     balance = balance (own_customer (own i)) C;
   }
 
-  verdict-so : verdict_by shows q ≡ verdict C q
+  verdict_so : verdict_by shows q ≡ verdict C q
   unfolding verdict
-  verdict-so = ap (λ (a : Account). verdict_by a q) shows-so ∙ left-alike (account_of C q) (is_withdrawn r.enrolment) q (left-is (enrolled q.device C) (withdrawn q.device C))
+  verdict_so = ap (λ (a : Account). verdict_by a q) shows_so ∙ left_alike (account_of C q) (is_withdrawn r.enrolment) q (left_is (enrolled q.device C) (withdrawn q.device C))
 
-  pub verdict-is : verdict_in (in_commits C) r q ≡ (verdict C q).0
-  verdict-is = ap (λ (y : Verdict × ℕ). y.0) verdict-so
+  pub verdict_is : verdict_in (in_commits C) r q ≡ (verdict C q).0
+  verdict_is = ap (λ (y : Verdict × ℕ). y.0) verdict_so
 
   -- and so is the Reply that is sent
-  pub reply-is : (bytes : List ℕ) → registered q.device C ≡ Some x → (ruled_in (in_commits C) r q bytes).reply ≡ reply_note C q
+  pub reply_is : (bytes : List ℕ) → registered q.device C ≡ Some x → (ruled_in (in_commits C) r q bytes).reply ≡ reply_note C q
   unfolding reply_to
-  reply-is bytes known = λ i. spell (m.Reply (same i)) (key_in (sym known i))
+  reply_is bytes known = λ i. spell (m.Reply (same i)) (key_in (sym known i))
     where
-      amount-is : amount_shown (verdict_in (in_commits C) r q) q.amount r.buys (own_left (in_commits C) r) ≡ (verdict C q).1
-      amount-is = sym (shown shows q) ∙ ap (λ (y : Verdict × ℕ). y.1) verdict-so
+      amount_is : amount_shown (verdict_in (in_commits C) r q) q.amount r.buys (own_left (in_commits C) r) ≡ (verdict C q).1
+      amount_is = sym (shown shows q) ∙ ap (λ (y : Verdict × ℕ). y.1) verdict_so
 
       same : reply_by r (verdict_in (in_commits C) r q) (own_left (in_commits C) r) q ≡ reply_to C q
       same = λ i. record {
@@ -137,8 +137,8 @@ module _ (C : List Commit) (order : InOrder C) (q : Request) (x : ℕ × List �
         device = q.device;
         number = q.number;
         kind = q.kind;
-        verdict = verdict-is i;
-        amount = written_amount q.version (amount-is i);
-        deadline = cond (is_dated (verdict-is i) q.kind) (q.day +ℤ pos 92) (pos 0);
+        verdict = verdict_is i;
+        amount = written_amount q.version (amount_is i);
+        deadline = cond (is_dated (verdict_is i) q.kind) (q.day +ℤ pos 92) (pos 0);
         origin = origin_in (sym known i);
       }

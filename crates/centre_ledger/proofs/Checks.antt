@@ -6,7 +6,7 @@ use Rattle.psd_wire.specs.declared.message.ReplyMsg.{ReplyMsg}
 use Rattle.psd_wire.specs.declared.message.Message.{Message}
 use Rattle.psd_wire.specs.declared.message.Message.TheVariants as m
 use Rattle.psd_wire.specs.Grammar.{IsWhole, spell, read}
-use Rattle.psd_wire.proofs.Readings.{read-spell}
+use Rattle.psd_wire.proofs.Readings.{read_spell}
 use Rattle.centre_ledger.specs.declared.rows.DeviceRow.{DeviceRow}
 use Rattle.centre_ledger.specs.Soundness.{IsRuling}
 use Rattle.centre_ledger.specs.Parts.{IsSpelled, IsAnswer, IsCovered, request_of, reply_of}
@@ -14,8 +14,8 @@ use Rattle.centre_ledger.specs.Parts.{IsSpelled, IsAnswer, IsCovered, request_of
 -- == the messages of a row, read ==
 
 -- the Request that was read is the one that was spelled
-pub found-request : (key note : List ℕ) (q : Request) → IsSpelled key note → request_of (read note) ≡ Some q → IsWhole (m.Request q) × (spell (m.Request q) key ≡ note)
-found-request key note q (x, c, w, s) e = go x w s (sym (ap (λ b. request_of (read b)) (sym s) ∙ ap request_of (read-spell x key w)) ∙ e)
+pub found_request : (key note : List ℕ) (q : Request) → IsSpelled key note → request_of (read note) ≡ Some q → IsWhole (m.Request q) × (spell (m.Request q) key ≡ note)
+found_request key note q (x, c, w, s) e = go x w s (sym (ap (λ b. request_of (read b)) (sym s) ∙ ap request_of (read_spell x key w)) ∙ e)
   where
     go : (y : Message) → IsWhole y → spell y key ≡ note → request_of (Ok y) ≡ Some q → IsWhole (m.Request q) × (spell (m.Request q) key ≡ note)
     go (m.Request r) u t f = subst (λ z. IsWhole (m.Request z) × (spell (m.Request z) key ≡ note)) (same_Some _ _ f) (u, t)
@@ -24,8 +24,8 @@ found-request key note q (x, c, w, s) e = go x w s (sym (ap (λ b. request_of (r
     go (m.Debit r) u t f = absurd (none-some _ f)
     go (m.Release r) u t f = absurd (none-some _ f)
 
-pub found-reply : (key note : List ℕ) (p : ReplyMsg) → IsSpelled key note → reply_of (read note) ≡ Some p → IsWhole (m.Reply p) × (spell (m.Reply p) key ≡ note)
-found-reply key note p (x, c, w, s) e = go x w s (sym (ap (λ b. reply_of (read b)) (sym s) ∙ ap reply_of (read-spell x key w)) ∙ e)
+pub found_reply : (key note : List ℕ) (p : ReplyMsg) → IsSpelled key note → reply_of (read note) ≡ Some p → IsWhole (m.Reply p) × (spell (m.Reply p) key ≡ note)
+found_reply key note p (x, c, w, s) e = go x w s (sym (ap (λ b. reply_of (read b)) (sym s) ∙ ap reply_of (read_spell x key w)) ∙ e)
   where
     go : (y : Message) → IsWhole y → spell y key ≡ note → reply_of (Ok y) ≡ Some p → IsWhole (m.Reply p) × (spell (m.Reply p) key ≡ note)
     go (m.Reply r) u t f = subst (λ z. IsWhole (m.Reply z) × (spell (m.Reply z) key ≡ note)) (same_Some _ _ f) (u, t)
@@ -35,19 +35,19 @@ found-reply key note p (x, c, w, s) e = go x w s (sym (ap (λ b. reply_of (read 
     go (m.Release r) u t f = absurd (none-some _ f)
 
 -- what a ruling keeps is read
-pub reads-request : (r : DeviceRow) (q : Request) (p : ReplyMsg) → IsRuling r q p → request_of (read r.request) ≡ Some q
-reads-request r q p h = ap (λ b. request_of (read b)) h.request ∙ ap request_of (read-spell (m.Request q) r.key h.request_whole)
+pub reads_request : (r : DeviceRow) (q : Request) (p : ReplyMsg) → IsRuling r q p → request_of (read r.request) ≡ Some q
+reads_request r q p h = ap (λ b. request_of (read b)) h.request ∙ ap request_of (read_spell (m.Request q) r.key h.request_whole)
 
-pub reads-reply : (r : DeviceRow) (q : Request) (p : ReplyMsg) → IsRuling r q p → reply_of (read r.reply) ≡ Some p
-reads-reply r q p h = ap (λ b. reply_of (read b)) h.reply ∙ ap reply_of (read-spell (m.Reply p) r.key h.reply_whole)
+pub reads_reply : (r : DeviceRow) (q : Request) (p : ReplyMsg) → IsRuling r q p → reply_of (read r.reply) ≡ Some p
+reads_reply r q p h = ap (λ b. reply_of (read b)) h.reply ∙ ap reply_of (read_spell (m.Reply p) r.key h.reply_whole)
 
 -- == a ruling, and what is asked of the two messages ==
 
-pub ruling-made : (r : DeviceRow) (q : Request) (p : ReplyMsg) → IsSpelled r.key r.request → IsSpelled r.key r.reply
+pub ruling_made : (r : DeviceRow) (q : Request) (p : ReplyMsg) → IsSpelled r.key r.request → IsSpelled r.key r.reply
     → request_of (read r.request) ≡ Some q → reply_of (read r.reply) ≡ Some p → IsAnswer r q p → IsCovered r p → IsRuling r q p
-ruling-made r q p a b e f answer covered =
-    let request = found-request r.key r.request q a e in
-    let reply = found-reply r.key r.reply p b f in
+ruling_made r q p a b e f answer covered =
+    let request = found_request r.key r.request q a e in
+    let reply = found_reply r.key r.reply p b f in
     record {
       request = sym request.1;
       request_whole = request.0;
@@ -63,8 +63,8 @@ ruling-made r q p a b e f answer covered =
       returns = covered.returns;
     }
 
-pub ruling-answers : (r : DeviceRow) (q : Request) (p : ReplyMsg) → IsRuling r q p → IsAnswer r q p × IsCovered r p
-ruling-answers r q p h = (
+pub ruling_answers : (r : DeviceRow) (q : Request) (p : ReplyMsg) → IsRuling r q p → IsAnswer r q p × IsCovered r p
+ruling_answers r q p h = (
   record {
     request_device = h.request_device;
     request_number = h.request_number;
@@ -77,16 +77,16 @@ ruling-answers r q p h = (
 )
 
 -- the ruling is of the two messages that were read
-pub ruling-parts : (r : DeviceRow) (q : Request) (p : ReplyMsg) → request_of (read r.request) ≡ Some q → reply_of (read r.reply) ≡ Some p
+pub ruling_parts : (r : DeviceRow) (q : Request) (p : ReplyMsg) → request_of (read r.request) ≡ Some q → reply_of (read r.reply) ≡ Some p
     → (x : Request) → (y : ReplyMsg) → IsRuling r x y → IsAnswer r q p × IsCovered r p
-ruling-parts r q p e f x y h =
-    let first : x ≡ q = same_Some _ _ (sym (reads-request r x y h) ∙ e) in
-    let second : y ≡ p = same_Some _ _ (sym (reads-reply r x y h) ∙ f) in
-    let parts = ruling-answers r x y h in
+ruling_parts r q p e f x y h =
+    let first : x ≡ q = same_Some _ _ (sym (reads_request r x y h) ∙ e) in
+    let second : y ≡ p = same_Some _ _ (sym (reads_reply r x y h) ∙ f) in
+    let parts = ruling_answers r x y h in
     subst (λ z. IsAnswer r q z × IsCovered r z) second (subst (λ z. IsAnswer r z y × IsCovered r y) first parts)
 
-pub no-request : (r : DeviceRow) → request_of (read r.request) ≡ None → (x : Request) → (y : ReplyMsg) → IsRuling r x y → ⊥
-no-request r e x y h = absurd (none-some _ (sym e ∙ reads-request r x y h))
+pub no_request : (r : DeviceRow) → request_of (read r.request) ≡ None → (x : Request) → (y : ReplyMsg) → IsRuling r x y → ⊥
+no_request r e x y h = absurd (none-some _ (sym e ∙ reads_request r x y h))
 
-pub no-reply : (r : DeviceRow) → reply_of (read r.reply) ≡ None → (x : Request) → (y : ReplyMsg) → IsRuling r x y → ⊥
-no-reply r e x y h = absurd (none-some _ (sym e ∙ reads-reply r x y h))
+pub no_reply : (r : DeviceRow) → reply_of (read r.reply) ≡ None → (x : Request) → (y : ReplyMsg) → IsRuling r x y → ⊥
+no_reply r e x y h = absurd (none-some _ (sym e ∙ reads_reply r x y h))

@@ -14,7 +14,7 @@ use Rattle.psd_wire.specs.Grammar.{spell}
 use Rattle.bench_base.specs.declared.refusals.CentreRefusal.TheVariants as no
 use Rattle.bench_base.specs.declared.ledger.Commit.{Commit}
 use Rattle.bench_base.specs.declared.ledger.Commit.TheVariants.{Registered, Opened, Deposited, Flagged, Ruled, Settled}
-use Rattle.bench_base.proofs.Facts.{some-none, not-none, either}
+use Rattle.bench_base.proofs.Facts.{some_none, not_none, either}
 use Rattle.psd_wire.specs.declared.message.Request.{Request}
 use Rattle.ledger_terms.specs.Requests.{request_in}
 use Rattle.ledger_terms.specs.Sums.{adds, takes, ruled_sum, bought, returned}
@@ -42,15 +42,15 @@ pub record Nothing (d : ℕ) (C : List Commit) : Type 0 where
   pub last : last_ruling d C ≡ None
   pub reply : stored_reply d C ≡ None
 
-pub nothing-before : (d : ℕ) (C : List Commit) → InOrder C → registered d C ≡ None → Nothing d C
-nothing-before d [] o h = record { enrolled = refl; withdrawn = refl; ruled = refl; done = refl; bought = refl; returned = refl; last = refl; reply = refl }
-nothing-before d (Registered e origin key ∷ C) o h = either e d
-    (λ t y. absurd (some-none (rw t at h)))
-    (λ t. let n = nothing-before d C o.1 (rw t at h) in record { enrolled = n.enrolled; withdrawn = n.withdrawn; ruled = n.ruled; done = n.done; bought = n.bought; returned = n.returned; last = n.last; reply = n.reply })
-nothing-before d (Ruled e n v note ∷ C) o h =
-    let was = nothing-before d C o.1 h in
+pub nothing_before : (d : ℕ) (C : List Commit) → InOrder C → registered d C ≡ None → Nothing d C
+nothing_before d [] o h = record { enrolled = refl; withdrawn = refl; ruled = refl; done = refl; bought = refl; returned = refl; last = refl; reply = refl }
+nothing_before d (Registered e origin key ∷ C) o h = either e d
+    (λ t y. absurd (some_none (rw t at h)))
+    (λ t. let n = nothing_before d C o.1 (rw t at h) in record { enrolled = n.enrolled; withdrawn = n.withdrawn; ruled = n.ruled; done = n.done; bought = n.bought; returned = n.returned; last = n.last; reply = n.reply })
+nothing_before d (Ruled e n v note ∷ C) o h =
+    let was = nothing_before d C o.1 h in
     either e d
-    (λ t y. absurd (not-none (registered d C) (subst (λ z. IsSome (registered z C)) y o.0.0) h))
+    (λ t y. absurd (not_none (registered d C) (subst (λ z. IsSome (registered z C)) y o.0.0) h))
     (λ t. record {
       enrolled = rw t was.enrolled;
       withdrawn = rw t was.withdrawn;
@@ -61,16 +61,16 @@ nothing-before d (Ruled e n v note ∷ C) o h =
       last = rw t was.last;
       reply = rw t was.reply;
     })
-nothing-before d (Settled e n ∷ C) o h =
-    let was = nothing-before d C o.1 h in
+nothing_before d (Settled e n ∷ C) o h =
+    let was = nothing_before d C o.1 h in
     either e d
-    (λ t y. absurd (not-none (registered d C) (subst (λ z. IsSome (registered z C)) y o.0) h))
+    (λ t y. absurd (not_none (registered d C) (subst (λ z. IsSome (registered z C)) y o.0) h))
     (λ t. record { enrolled = was.enrolled; withdrawn = was.withdrawn; ruled = was.ruled; done = rw t was.done; bought = was.bought; returned = was.returned; last = was.last; reply = was.reply })
-nothing-before d (_ ∷ C) o h = let n = nothing-before d C o.1 h in record { enrolled = n.enrolled; withdrawn = n.withdrawn; ruled = n.ruled; done = n.done; bought = n.bought; returned = n.returned; last = n.last; reply = n.reply }
+nothing_before d (_ ∷ C) o h = let n = nothing_before d C o.1 h in record { enrolled = n.enrolled; withdrawn = n.withdrawn; ruled = n.ruled; done = n.done; bought = n.bought; returned = n.returned; last = n.last; reply = n.reply }
 
 pub registering : RegisteringStarts
 registering d origin key C o h =
-    let n = nothing-before d C o h in
+    let n = nothing_before d C o h in
     let a = n.ruled in
     let b = n.done in
     record {
@@ -95,8 +95,8 @@ settles settled ruled n now h = go (nat_le n settled) (n == ruled) refl h
     go false false e k = absurd (cc)
 
 -- and it is the number that was done
-pub settled-number : (settled ruled n now : ℕ) → settle_answer settled ruled n ≡ Ok (Some now) → now ≡ n
-settled-number settled ruled n now h = go (nat_le n settled) (n == ruled) h
+pub settled_number : (settled ruled n now : ℕ) → settle_answer settled ruled n ≡ Ok (Some now) → now ≡ n
+settled_number settled ruled n now h = go (nat_le n settled) (n == ruled) h
   where
     go : (t u : Bool) → cond t (Ok None) (cond u (Ok (Some n)) (Err (no.Ahead ruled))) ≡ Ok (Some now) → now ≡ n
     go true u k = absurd (cc)
@@ -121,11 +121,11 @@ settling r C number now sound is h =
       reply = is.reply;
     }
 
-pub other-devices : OtherDevicesKeep
-other-devices r C (Registered e origin key) h is = record { registered = rw h is.registered; enrolled = is.enrolled; withdrawn = is.withdrawn; ruled = is.ruled; settled = is.settled; bought = is.bought; returned = is.returned; request = is.request; reply = is.reply }
-other-devices r C (Ruled e n v note) h is = record { registered = is.registered; enrolled = rw h is.enrolled; withdrawn = rw h is.withdrawn; ruled = rw h is.ruled; settled = rw h is.settled; bought = rw h is.bought; returned = rw h is.returned; request = rw h is.request; reply = rw h is.reply }
-other-devices r C (Settled e n) h is = record { registered = is.registered; enrolled = is.enrolled; withdrawn = is.withdrawn; ruled = is.ruled; settled = rw h is.settled; bought = is.bought; returned = is.returned; request = is.request; reply = is.reply }
-other-devices r C _ h is = record { registered = is.registered; enrolled = is.enrolled; withdrawn = is.withdrawn; ruled = is.ruled; settled = is.settled; bought = is.bought; returned = is.returned; request = is.request; reply = is.reply }
+pub other_devices : OtherDevicesKeep
+other_devices r C (Registered e origin key) h is = record { registered = rw h is.registered; enrolled = is.enrolled; withdrawn = is.withdrawn; ruled = is.ruled; settled = is.settled; bought = is.bought; returned = is.returned; request = is.request; reply = is.reply }
+other_devices r C (Ruled e n v note) h is = record { registered = is.registered; enrolled = rw h is.enrolled; withdrawn = rw h is.withdrawn; ruled = rw h is.ruled; settled = rw h is.settled; bought = rw h is.bought; returned = rw h is.returned; request = rw h is.request; reply = rw h is.reply }
+other_devices r C (Settled e n) h is = record { registered = is.registered; enrolled = is.enrolled; withdrawn = is.withdrawn; ruled = is.ruled; settled = rw h is.settled; bought = is.bought; returned = is.returned; request = is.request; reply = is.reply }
+other_devices r C _ h is = record { registered = is.registered; enrolled = is.enrolled; withdrawn = is.withdrawn; ruled = is.ruled; settled = is.settled; bought = is.bought; returned = is.returned; request = is.request; reply = is.reply }
 
 -- == customers ==
 
@@ -134,27 +134,27 @@ pub record NoMoney (c : ℕ) (C : List Commit) : Type 0 where
   pub deposits : deposits c C ≡ 0
   pub receipt : receipt c C ≡ (0, 0)
 
-pub no-money : (c : ℕ) (C : List Commit) → InOrder C → opened c C ≡ false → NoMoney c C
-no-money c [] o h = record { suspended = refl; deposits = refl; receipt = refl }
-no-money c (Opened e ∷ C) o h = either e c
+pub no_money : (c : ℕ) (C : List Commit) → InOrder C → opened c C ≡ false → NoMoney c C
+no_money c [] o h = record { suspended = refl; deposits = refl; receipt = refl }
+no_money c (Opened e ∷ C) o h = either e c
     (λ t y. absurd (true≢false (rw t at h)))
-    (λ t. let n = no-money c C o.1 (rw t at h) in record { suspended = n.suspended; deposits = n.deposits; receipt = n.receipt })
-no-money c (Deposited e n a ∷ C) o h = either e c
+    (λ t. let n = no_money c C o.1 (rw t at h) in record { suspended = n.suspended; deposits = n.deposits; receipt = n.receipt })
+no_money c (Deposited e n a ∷ C) o h = either e c
     (λ t y. absurd (true≢false (sym (subst (λ z. opened z C ≡ true) y o.0.0) ∙ h)))
-    (λ t. let was = no-money c C o.1 h in record { suspended = was.suspended; deposits = rw t was.deposits; receipt = rw t was.receipt })
-no-money c (Flagged e s ∷ C) o h = either e c
+    (λ t. let was = no_money c C o.1 h in record { suspended = was.suspended; deposits = rw t was.deposits; receipt = rw t was.receipt })
+no_money c (Flagged e s ∷ C) o h = either e c
     (λ t y. absurd (true≢false (sym (subst (λ z. opened z C ≡ true) y o.0) ∙ h)))
-    (λ t. let was = no-money c C o.1 h in record { suspended = rw t was.suspended; deposits = was.deposits; receipt = was.receipt })
-no-money c (_ ∷ C) o h = let n = no-money c C o.1 h in record { suspended = n.suspended; deposits = n.deposits; receipt = n.receipt }
+    (λ t. let was = no_money c C o.1 h in record { suspended = rw t was.suspended; deposits = was.deposits; receipt = was.receipt })
+no_money c (_ ∷ C) o h = let n = no_money c C o.1 h in record { suspended = n.suspended; deposits = n.deposits; receipt = n.receipt }
 
 pub opening : OpeningStarts
 opening c C o h =
-    let n = no-money c C o h in
+    let n = no_money c C o h in
     record { opened = rw (eq-eqb c c refl) refl; suspended = n.suspended; deposits = n.deposits; receipt = n.receipt }
 
 -- the deposits after a new one are one amount more
-deposits-are : (last : ℕ × ℕ) (total n a after : ℕ) → deposit_answer last total n a ≡ Ok (Some after) → after ≡ total + a
-deposits-are last total n a after h = go ((n == last.0) && nat_lt 0 n) (a == last.1) (not (n == last.0 + 1)) ((a == 0) || nat_lt 1000000000 a) (nat_lt 1000000000000000 (total + a)) h
+deposits_are : (last : ℕ × ℕ) (total n a after : ℕ) → deposit_answer last total n a ≡ Ok (Some after) → after ≡ total + a
+deposits_are last total n a after h = go ((n == last.0) && nat_lt 0 n) (a == last.1) (not (n == last.0 + 1)) ((a == 0) || nat_lt 1000000000 a) (nat_lt 1000000000000000 (total + a)) h
   where
     go : (t u x y z : Bool) → cond t (cond u (Ok None) (Err (no.Conflict last.1))) (cond x (Err (no.WrongReceipt last.0)) (cond y (Err (no.BadAmount a)) (cond z (Err (no.DepositsFull total)) (Ok (Some (total + a)))))) ≡ Ok (Some after) → after ≡ total + a
     go true true x y z k = absurd (cc)
@@ -166,7 +166,7 @@ deposits-are last total n a after h = go ((n == last.0) && nat_lt 0 n) (a == las
 
 pub depositing : DepositingKeeps
 depositing r C n a after is h =
-    let sum = deposits-are (r.receipt, r.amount) r.deposits n a after h in
+    let sum = deposits_are (r.receipt, r.amount) r.deposits n a after h in
     let was = is.deposits in
     let own : (r.customer == r.customer) ≡ true = eq-eqb r.customer r.customer refl in
     record { opened = is.opened; suspended = is.suspended; deposits = rw own (omega arith); receipt = rw own refl }
@@ -174,11 +174,11 @@ depositing r C n a after is h =
 pub flagging : FlaggingKeeps
 flagging r C s is = record { opened = is.opened; suspended = rw (eq-eqb r.customer r.customer refl) refl; deposits = is.deposits; receipt = is.receipt }
 
-pub other-customers : OtherCustomersKeep
-other-customers r C (Opened e) h is = record { opened = rw h is.opened; suspended = is.suspended; deposits = is.deposits; receipt = is.receipt }
-other-customers r C (Deposited e n a) h is = record { opened = is.opened; suspended = is.suspended; deposits = rw h is.deposits; receipt = rw h is.receipt }
-other-customers r C (Flagged e s) h is = record { opened = is.opened; suspended = rw h is.suspended; deposits = is.deposits; receipt = is.receipt }
-other-customers r C _ h is = record { opened = is.opened; suspended = is.suspended; deposits = is.deposits; receipt = is.receipt }
+pub other_customers : OtherCustomersKeep
+other_customers r C (Opened e) h is = record { opened = rw h is.opened; suspended = is.suspended; deposits = is.deposits; receipt = is.receipt }
+other_customers r C (Deposited e n a) h is = record { opened = is.opened; suspended = is.suspended; deposits = rw h is.deposits; receipt = rw h is.receipt }
+other_customers r C (Flagged e s) h is = record { opened = is.opened; suspended = rw h is.suspended; deposits = is.deposits; receipt = is.receipt }
+other_customers r C _ h is = record { opened = is.opened; suspended = is.suspended; deposits = is.deposits; receipt = is.receipt }
 
 -- == a ruling ==
 
@@ -218,9 +218,9 @@ shown a q = go (not (same_kind q.kind Enrol) && has_left a.enrolled a.withdrawn)
     go false false false false false false = refl
 
 -- what is granted is no enrolment of a device that was enrolled, and nothing else of one that isn't
-granted-standing : (a : Account) (q : Request) → is_granted (verdict_by a q).0 ≡ true → ((not (same_kind q.kind Enrol) && has_left a.enrolled a.withdrawn) ≡ false) × ((same_kind q.kind Enrol && is_enrolled a.enrolled) ≡ false)
+granted_standing : (a : Account) (q : Request) → is_granted (verdict_by a q).0 ≡ true → ((not (same_kind q.kind Enrol) && has_left a.enrolled a.withdrawn) ≡ false) × ((same_kind q.kind Enrol && is_enrolled a.enrolled) ≡ false)
 unfolding verdict_by
-granted-standing a q h = go (not (same_kind q.kind Enrol) && has_left a.enrolled a.withdrawn) (same_kind q.kind Enrol && is_enrolled a.enrolled) h
+granted_standing a q h = go (not (same_kind q.kind Enrol) && has_left a.enrolled a.withdrawn) (same_kind q.kind Enrol && is_enrolled a.enrolled) h
   where
     rest : Verdict × ℕ
     rest = first_holding ((out_of_balance q a.bought a.returned, (Imbalance, a.bought)) ∷ (same_kind q.kind Enrol && not a.opened, (NoCustomer, 0)) ∷ ((same_kind q.kind Enrol || same_kind q.kind Reset) && a.suspended, (Suspended, 0)) ∷ (same_kind q.kind Reset && nat_lt a.balance q.amount, (NoFunds, a.balance)) ∷ []) (Granted, q.amount)
@@ -233,40 +233,40 @@ granted-standing a q h = go (not (same_kind q.kind Enrol) && has_left a.enrolled
     go false true k = absurd (true≢false (sym k))
     go false false k = (refl, refl)
 
-enrolled-after : (k : Kind) (g : Bool) (e : Enrolment) (c : ℕ) → (g ≡ true → (same_kind k Enrol && is_enrolled (customer_of e)) ≡ false)
+enrolled_after : (k : Kind) (g : Bool) (e : Enrolment) (c : ℕ) → (g ≡ true → (same_kind k Enrol && is_enrolled (customer_of e)) ≡ false)
     → cond (g && same_kind k Enrol) (first_of (customer_of e) (Some c)) (customer_of e) ≡ customer_of (cond (g && same_kind k Enrol) (Enrolled c) (cond (g && same_kind k Withdraw) (withdrawn_of e) e))
 unfolding same_kind
-enrolled-after k false e c new = refl
-enrolled-after Enrol true NeverEnrolled c new = refl
-enrolled-after Enrol true (Enrolled w) c new = absurd (true≢false (new refl))
-enrolled-after Enrol true (Withdrawn w) c new = absurd (true≢false (new refl))
-enrolled-after Withdraw true NeverEnrolled c new = refl
-enrolled-after Withdraw true (Enrolled w) c new = refl
-enrolled-after Withdraw true (Withdrawn w) c new = refl
-enrolled-after Reset true e c new = refl
-enrolled-after Audit true e c new = refl
-enrolled-after Refund true e c new = refl
+enrolled_after k false e c new = refl
+enrolled_after Enrol true NeverEnrolled c new = refl
+enrolled_after Enrol true (Enrolled w) c new = absurd (true≢false (new refl))
+enrolled_after Enrol true (Withdrawn w) c new = absurd (true≢false (new refl))
+enrolled_after Withdraw true NeverEnrolled c new = refl
+enrolled_after Withdraw true (Enrolled w) c new = refl
+enrolled_after Withdraw true (Withdrawn w) c new = refl
+enrolled_after Reset true e c new = refl
+enrolled_after Audit true e c new = refl
+enrolled_after Refund true e c new = refl
 
-withdrawn-after : (k : Kind) (g : Bool) (e : Enrolment) (c : ℕ) → (g ≡ true → ((not (same_kind k Enrol) && has_left (customer_of e) (is_withdrawn e)) ≡ false) × ((same_kind k Enrol && is_enrolled (customer_of e)) ≡ false))
+withdrawn_after : (k : Kind) (g : Bool) (e : Enrolment) (c : ℕ) → (g ≡ true → ((not (same_kind k Enrol) && has_left (customer_of e) (is_withdrawn e)) ≡ false) × ((same_kind k Enrol && is_enrolled (customer_of e)) ≡ false))
     → cond (g && same_kind k Withdraw) true (is_withdrawn e) ≡ is_withdrawn (cond (g && same_kind k Enrol) (Enrolled c) (cond (g && same_kind k Withdraw) (withdrawn_of e) e))
 unfolding same_kind
-withdrawn-after k false e c stands = refl
-withdrawn-after Withdraw true NeverEnrolled c stands = absurd (true≢false (stands refl).0)
-withdrawn-after Withdraw true (Enrolled w) c stands = refl
-withdrawn-after Withdraw true (Withdrawn w) c stands = refl
-withdrawn-after Enrol true NeverEnrolled c stands = refl
-withdrawn-after Enrol true (Enrolled w) c stands = refl
-withdrawn-after Enrol true (Withdrawn w) c stands = absurd (true≢false (stands refl).1)
-withdrawn-after Reset true e c stands = refl
-withdrawn-after Audit true e c stands = refl
-withdrawn-after Refund true e c stands = refl
+withdrawn_after k false e c stands = refl
+withdrawn_after Withdraw true NeverEnrolled c stands = absurd (true≢false (stands refl).0)
+withdrawn_after Withdraw true (Enrolled w) c stands = refl
+withdrawn_after Withdraw true (Withdrawn w) c stands = refl
+withdrawn_after Enrol true NeverEnrolled c stands = refl
+withdrawn_after Enrol true (Enrolled w) c stands = refl
+withdrawn_after Enrol true (Withdrawn w) c stands = absurd (true≢false (stands refl).1)
+withdrawn_after Reset true e c stands = refl
+withdrawn_after Audit true e c stands = refl
+withdrawn_after Refund true e c stands = refl
 
-pub ruling-keeps : RulingKeeps
+pub ruling_keeps : RulingKeeps
 unfolding reply_to
-ruling-keeps r o left note C sound is device number pays v verdict_is =
+ruling_keeps r o left note C sound is device number pays v verdict_is =
     let q = request_in note in
     let own : (r.device == r.device) ≡ true = eq-eqb r.device r.device refl in
-    let stands = λ (h : is_granted v ≡ true). granted-standing (account r o left) q (sym (ap is_granted verdict_is) ∙ h) in
+    let stands = λ (h : is_granted v ≡ true). granted_standing (account r o left) q (sym (ap is_granted verdict_is) ∙ h) in
     let same = ruling r o left q C is device pays in
     let was_ruled = is.ruled in
     let was_settled = is.settled in
@@ -286,8 +286,8 @@ ruling-keeps r o left note C sound is device number pays v verdict_is =
     } in
     record {
       registered = is.registered;
-      enrolled = rw own (rw is.enrolled (enrolled-after q.kind (is_granted v) r.enrolment q.customer (λ h. (stands h).1)));
-      withdrawn = rw own (rw is.withdrawn (withdrawn-after q.kind (is_granted v) r.enrolment q.customer stands));
+      enrolled = rw own (rw is.enrolled (enrolled_after q.kind (is_granted v) r.enrolment q.customer (λ h. (stands h).1)));
+      withdrawn = rw own (rw is.withdrawn (withdrawn_after q.kind (is_granted v) r.enrolment q.customer stands));
       ruled = rw own (omega arith);
       settled = rw own (omega arith);
       bought = rw own (ap (λ n. n + adds v q) is.bought);
@@ -298,32 +298,32 @@ ruling-keeps r o left note C sound is device number pays v verdict_is =
 
 -- == a balance ==
 
-pub share-none : (f : Verdict → Request → ℕ) (d c : ℕ) (C : List Commit) → enrolled d C ≡ None → device_share f c C d ≡ 0
-share-none f d c C h = ap (λ o. cond (is_some_at o c) (ruled_sum f d C) 0) h
+pub share_none : (f : Verdict → Request → ℕ) (d c : ℕ) (C : List Commit) → enrolled d C ≡ None → device_share f c C d ≡ 0
+share_none f d c C h = ap (λ o. cond (is_some_at o c) (ruled_sum f d C) 0) h
 
-pub share-row : (f : Verdict → Request → ℕ) (sum : ℕ) (r : DeviceRow) (c : ℕ) (C : List Commit) → IsRowOf r C → ruled_sum f r.device C ≡ sum → device_share f c C r.device ≡ cond (is_some_at (enrolled_in r) c) sum 0
-share-row f sum r c C is amount = ap₂ (λ o n. cond (is_some_at o c) n 0) is.enrolled amount
+pub share_row : (f : Verdict → Request → ℕ) (sum : ℕ) (r : DeviceRow) (c : ℕ) (C : List Commit) → IsRowOf r C → ruled_sum f r.device C ≡ sum → device_share f c C r.device ≡ cond (is_some_at (enrolled_in r) c) sum 0
+share_row f sum r c C is amount = ap₂ (λ o n. cond (is_some_at o c) n 0) is.enrolled amount
 
-slot-buys : (o : Option DeviceRow) (d c : ℕ) (C : List Commit) → InOrder C → IsSlotOf o d C → buys_in c o ≡ device_share adds c C d
-slot-buys None d c C order h = sym (share-none adds d c C (nothing-before d C order h).enrolled)
-slot-buys (Some r) d c C order h = sym (share-row adds r.buys r c C h.2 h.2.bought) ∙ ap (device_share adds c C) h.0
+slot_buys : (o : Option DeviceRow) (d c : ℕ) (C : List Commit) → InOrder C → IsSlotOf o d C → buys_in c o ≡ device_share adds c C d
+slot_buys None d c C order h = sym (share_none adds d c C (nothing_before d C order h).enrolled)
+slot_buys (Some r) d c C order h = sym (share_row adds r.buys r c C h.2 h.2.bought) ∙ ap (device_share adds c C) h.0
 
-slot-returns : (o : Option DeviceRow) (d c : ℕ) (C : List Commit) → InOrder C → IsSlotOf o d C → returns_in c o ≡ device_share takes c C d
-slot-returns None d c C order h = sym (share-none takes d c C (nothing-before d C order h).enrolled)
-slot-returns (Some r) d c C order h = sym (share-row takes r.returns r c C h.2 h.2.returned) ∙ ap (device_share takes c C) h.0
+slot_returns : (o : Option DeviceRow) (d c : ℕ) (C : List Commit) → InOrder C → IsSlotOf o d C → returns_in c o ≡ device_share takes c C d
+slot_returns None d c C order h = sym (share_none takes d c C (nothing_before d C order h).enrolled)
+slot_returns (Some r) d c C order h = sym (share_row takes r.returns r c C h.2 h.2.returned) ∙ ap (device_share takes c C) h.0
 
-sums-same : (f : Option DeviceRow → ℕ) (g : ℕ → ℕ) (c : ℕ) (C : List Commit) → ((o : Option DeviceRow) (d : ℕ) → IsSlotOf o d C → f o ≡ g d) → (os : List (Option DeviceRow)) (ds : List ℕ) → AreSlots os ds C → sum_by f os ≡ sum_over g ds
-sums-same f g c C each [] [] h = refl
-sums-same f g c C each [] (d ∷ ds) h = absurd h
-sums-same f g c C each (o ∷ os) [] h = absurd h
-sums-same f g c C each (o ∷ os) (d ∷ ds) h =
+sums_same : (f : Option DeviceRow → ℕ) (g : ℕ → ℕ) (c : ℕ) (C : List Commit) → ((o : Option DeviceRow) (d : ℕ) → IsSlotOf o d C → f o ≡ g d) → (os : List (Option DeviceRow)) (ds : List ℕ) → AreSlots os ds C → sum_by f os ≡ sum_over g ds
+sums_same f g c C each [] [] h = refl
+sums_same f g c C each [] (d ∷ ds) h = absurd h
+sums_same f g c C each (o ∷ os) [] h = absurd h
+sums_same f g c C each (o ∷ os) (d ∷ ds) h =
     let here = each o d h.0 in
-    let rest = sums-same f g c C each os ds h.1 in
+    let rest = sums_same f g c C each os ds h.1 in
     grind (arith, sum_by-cons)
 
 pub balancing : BalancingByRows
 unfolding customer_sum
 balancing os c C order customer slots = (
-  sums-same (buys_in c) (device_share adds c C) c C (λ o d h. slot-buys o d c C order h) os device_numbers slots,
-  sums-same (returns_in c) (device_share takes c C) c C (λ o d h. slot-returns o d c C order h) os device_numbers slots,
+  sums_same (buys_in c) (device_share adds c C) c C (λ o d h. slot_buys o d c C order h) os device_numbers slots,
+  sums_same (returns_in c) (device_share takes c C) c C (λ o d h. slot_returns o d c C order h) os device_numbers slots,
 )

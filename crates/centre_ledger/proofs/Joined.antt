@@ -29,14 +29,14 @@ five a b c d e z =
     append_assoc (((a ++ b) ++ c) ++ d) e z ∙ append_assoc ((a ++ b) ++ c) d (e ++ z) ∙ append_assoc (a ++ b) c (d ++ (e ++ z)) ∙ append_assoc a b (c ++ (d ++ (e ++ z)))
 
 -- the five parts of a row, one laid after the other
-pub row-laid : (head key sums request reply b1 b2 b3 b4 b5 : List ℕ) → length head ≡ 13 → length key ≡ 32 → length sums ≡ 24 → length request ≤ 55 → length reply ≤ 28
+pub row_laid : (head key sums request reply b1 b2 b3 b4 b5 : List ℕ) → length head ≡ 13 → length key ≡ 32 → length sums ≡ 24 → length request ≤ 55 → length reply ≤ 28
     → b1 ≡ take 0 (replicate 192 0) ++ (head ++ drop (0 + length head) (replicate 192 0))
     → b2 ≡ take 13 b1 ++ (key ++ drop (13 + length key) b1)
     → b3 ≡ take 45 b2 ++ (sums ++ drop (45 + length sums) b2)
     → b4 ≡ take 69 b3 ++ (request ++ drop (69 + length request) b3)
     → b5 ≡ take 124 b4 ++ (reply ++ drop (124 + length reply) b4)
     → b5 ≡ head ++ (key ++ (sums ++ (filled 55 request ++ (filled 28 reply ++ replicate 40 0))))
-row-laid head key sums request reply b1 b2 b3 b4 b5 lh lk ls lq lp e1 e2 e3 e4 e5 =
+row_laid head key sums request reply b1 b2 b3 b4 b5 lh lk ls lq lp e1 e2 e3 e4 e5 =
     let n1 : length head ≡ 13 = lh in
     let n2 : length (head ++ key) ≡ 45 = omega (arith, lh, lk, length-append head key) in
     let n3 : length ((head ++ key) ++ sums) ≡ 69 = omega (arith, n2, ls, length-append (head ++ key) sums) in

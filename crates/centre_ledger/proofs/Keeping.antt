@@ -31,8 +31,8 @@ use Rattle.centre_ledger.specs.Rows.{customer_of, is_withdrawn, withdrawn_of, en
 
 -- == what a granted Request was found to be ==
 
-pub and-then : (a b : Bool) → a ≡ true → (a && b) ≡ false → b ≡ false
-and-then a b t h = ap (λ x. x && b) (sym t) ∙ h
+pub and_then : (a b : Bool) → a ≡ true → (a && b) ≡ false → b ≡ false
+and_then a b t h = ap (λ x. x && b) (sym t) ∙ h
 
 pub record WasGranted (a : Account) (q : Request) : Type 0 where
   pub left : (not (same_kind q.kind Enrol) && has_left a.enrolled a.withdrawn) ≡ false
@@ -58,9 +58,9 @@ granted a q h = go (not (same_kind q.kind Enrol) && has_left a.enrolled a.withdr
     go false false false false e f g i k = record { left = e; new = f; sums = g; opened = i }
 
 -- a refusal for want of funds shows a balance below the amount
-short-of : (a : Account) (q : Request) → (verdict_by a q).0 ≡ NoFunds → a.balance < q.amount
+short_of : (a : Account) (q : Request) → (verdict_by a q).0 ≡ NoFunds → a.balance < q.amount
 unfolding verdict_by
-short-of a q h = go (not (same_kind q.kind Enrol) && has_left a.enrolled a.withdrawn) (same_kind q.kind Enrol && is_enrolled a.enrolled) (out_of_balance q a.bought a.returned) (same_kind q.kind Enrol && not a.opened) ((same_kind q.kind Enrol || same_kind q.kind Reset) && a.suspended) (same_kind q.kind Reset && nat_lt a.balance q.amount) refl h
+short_of a q h = go (not (same_kind q.kind Enrol) && has_left a.enrolled a.withdrawn) (same_kind q.kind Enrol && is_enrolled a.enrolled) (out_of_balance q a.bought a.returned) (same_kind q.kind Enrol && not a.opened) ((same_kind q.kind Enrol || same_kind q.kind Reset) && a.suspended) (same_kind q.kind Reset && nat_lt a.balance q.amount) refl h
   where
     given : (s t u x y z : Bool) → Verdict × ℕ
     given s t u x y z = cond s (NotEnrolled, 0) (cond t (EnrolledAlready, 0) (cond u (Imbalance, a.bought) (cond x (NoCustomer, 0) (cond y (Suspended, 0) (cond z (NoFunds, a.balance) (Granted, q.amount))))))
@@ -89,79 +89,79 @@ funded a q h reset = go (not (same_kind q.kind Enrol) && has_left a.enrolled a.w
     go false false false true y z e k = absurd (true≢false (sym k))
     go false false false false true z e k = absurd (true≢false (sym k))
     go false false false false false true e k = absurd (true≢false (sym k))
-    go false false false false false false e k = ltb-false a.balance q.amount (and-then (same_kind q.kind Reset) (nat_lt a.balance q.amount) reset e)
+    go false false false false false false e k = ltb-false a.balance q.amount (and_then (same_kind q.kind Reset) (nat_lt a.balance q.amount) reset e)
 
 -- == the Reply ==
 
-amount-long : (v : Verdict) (asked bought balance : ℕ) → asked < 2 ^ 64 → bought < 2 ^ 64 → (v ≡ NoFunds → balance < asked) → amount_shown v asked bought balance < 2 ^ 64
-amount-long Granted asked bought balance w b f = w
-amount-long Imbalance asked bought balance w b f = b
-amount-long NoFunds asked bought balance w b f = let less = f refl in omega arith
-amount-long NotEnrolled asked bought balance w b f = omega arith
-amount-long EnrolledAlready asked bought balance w b f = omega arith
-amount-long NoCustomer asked bought balance w b f = omega arith
-amount-long Suspended asked bought balance w b f = omega arith
+amount_long : (v : Verdict) (asked bought balance : ℕ) → asked < 2 ^ 64 → bought < 2 ^ 64 → (v ≡ NoFunds → balance < asked) → amount_shown v asked bought balance < 2 ^ 64
+amount_long Granted asked bought balance w b f = w
+amount_long Imbalance asked bought balance w b f = b
+amount_long NoFunds asked bought balance w b f = let less = f refl in omega arith
+amount_long NotEnrolled asked bought balance w b f = omega arith
+amount_long EnrolledAlready asked bought balance w b f = omega arith
+amount_long NoCustomer asked bought balance w b f = omega arith
+amount_long Suspended asked bought balance w b f = omega arith
 
 -- what is written of an amount fits the version's field
-amount-fits : (version amount : ℕ) → amount < 2 ^ 64 → IsNumber (sum_size version) (written_amount version amount)
-amount-fits version amount w = go (version == 1)
+amount_fits : (version amount : ℕ) → amount < 2 ^ 64 → IsNumber (sum_size version) (written_amount version amount)
+amount_fits version amount w = go (version == 1)
   where
     go : (b : Bool) → IsNumber (cond b Four Eight) (cond b (min amount 4294967295) amount)
     go true = omega (arith, min-le_right amount 4294967295)
     go false = w
 
-written-le : (version amount : ℕ) → written_amount version amount ≤ amount
-written-le version amount = go (version == 1)
+written_le : (version amount : ℕ) → written_amount version amount ≤ amount
+written_le version amount = go (version == 1)
   where
     go : (b : Bool) → cond b (min amount 4294967295) amount ≤ amount
     go true = min-le_left amount 4294967295
     go false = omega arith
 
 -- what is asked has eight bytes at most
-asked-long : (version amount : ℕ) → IsNumber (sum_size version) amount → amount < 2 ^ 64
-asked-long version amount h = go (version == 1) h
+asked_long : (version amount : ℕ) → IsNumber (sum_size version) amount → amount < 2 ^ 64
+asked_long version amount h = go (version == 1) h
   where
     go : (b : Bool) → IsNumber (cond b Four Eight) amount → amount < 2 ^ 64
     go true k = omega (arith, k)
     go false k = k
 
-amount-granted : (v : Verdict) (asked bought balance : ℕ) → is_granted v ≡ true → amount_shown v asked bought balance ≡ asked
-amount-granted Granted asked bought balance h = refl
-amount-granted NotEnrolled asked bought balance h = absurd (true≢false (sym h))
-amount-granted EnrolledAlready asked bought balance h = absurd (true≢false (sym h))
-amount-granted NoCustomer asked bought balance h = absurd (true≢false (sym h))
-amount-granted Suspended asked bought balance h = absurd (true≢false (sym h))
-amount-granted NoFunds asked bought balance h = absurd (true≢false (sym h))
-amount-granted Imbalance asked bought balance h = absurd (true≢false (sym h))
+amount_granted : (v : Verdict) (asked bought balance : ℕ) → is_granted v ≡ true → amount_shown v asked bought balance ≡ asked
+amount_granted Granted asked bought balance h = refl
+amount_granted NotEnrolled asked bought balance h = absurd (true≢false (sym h))
+amount_granted EnrolledAlready asked bought balance h = absurd (true≢false (sym h))
+amount_granted NoCustomer asked bought balance h = absurd (true≢false (sym h))
+amount_granted Suspended asked bought balance h = absurd (true≢false (sym h))
+amount_granted NoFunds asked bought balance h = absurd (true≢false (sym h))
+amount_granted Imbalance asked bought balance h = absurd (true≢false (sym h))
 
-deadline-fits : (t : Bool) (z : ℤ) → IsDay z → FitsSigned w32 (cond t (z +ℤ pos 92) (pos 0))
-deadline-fits true z h = search (arith, ints, h.0, h.1)
-deadline-fits false z h = search (arith, ints)
+deadline_fits : (t : Bool) (z : ℤ) → IsDay z → FitsSigned w32 (cond t (z +ℤ pos 92) (pos 0))
+deadline_fits true z h = search (arith, ints, h.0, h.1)
+deadline_fits false z h = search (arith, ints)
 
-pub reply-whole : (r : DeviceRow) (v : Verdict) (balance : ℕ) (q : Request) → IsSoundDevice r → IsWord r.origin → IsWhole (m.Request q) → IsVerdict r balance q v → IsWhole (m.Reply (reply_by r v balance q))
-reply-whole r v balance q sound origin w (o, paid, says) =
-    let signed : FitsSigned w32 (deadline_after v q) = deadline-fits (is_dated v q.kind) q.day w.2 in
+pub reply_whole : (r : DeviceRow) (v : Verdict) (balance : ℕ) (q : Request) → IsSoundDevice r → IsWord r.origin → IsWhole (m.Request q) → IsVerdict r balance q v → IsWhole (m.Reply (reply_by r v balance q))
+reply_whole r v balance q sound origin w (o, paid, says) =
+    let signed : FitsSigned w32 (deadline_after v q) = deadline_fits (is_dated v q.kind) q.day w.2 in
     let small : Fits32 w32 (cast_unsigned w32 (deadline_after v q)) = Fits-of_z signed in
-    let asked = asked-long q.version q.amount w.1.1.1.1.1.1.1.0 in
-    let amount = amount-fits q.version _ (amount-long v q.amount r.buys balance asked sound.limit (λ e. short-of (account r o balance) q (sym says ∙ e))) in
+    let asked = asked_long q.version q.amount w.1.1.1.1.1.1.1.0 in
+    let amount = amount_fits q.version _ (amount_long v q.amount r.buys balance asked sound.limit (λ e. short_of (account r o balance) q (sym says ∙ e))) in
     (w.0, (omega (arith, w.0.1), (lit< tt, (w.1.1.1.0, (w.1.1.1.1.0, (kind_byte q.kind, (verdict_byte v, (amount, (omega (arith, small), (origin, tt))))))))), signed)
 
 -- == the sums ==
 
-none-true : (b : Bool) (bs : List Bool) → any_true (b ∷ bs) ≡ false → (b ≡ false) × (any_true bs ≡ false)
-none-true true bs h = absurd (true≢false h)
-none-true false bs h = (refl, h)
+none_true : (b : Bool) (bs : List Bool) → any_true (b ∷ bs) ≡ false → (b ≡ false) × (any_true bs ≡ false)
+none_true true bs h = absurd (true≢false h)
+none_true false bs h = (refl, h)
 
-none-of-3 : (a b c : Bool) → any_true (a ∷ b ∷ c ∷ []) ≡ false → c ≡ false
-none-of-3 a b c h = (none-true c [] (none-true b (c ∷ []) (none-true a (b ∷ c ∷ []) h).1).1).0
+none_of_3 : (a b c : Bool) → any_true (a ∷ b ∷ c ∷ []) ≡ false → c ≡ false
+none_of_3 a b c h = (none_true c [] (none_true b (c ∷ []) (none_true a (b ∷ c ∷ []) h).1).1).0
 
-none-of-5 : (a b c d e : Bool) → any_true (a ∷ b ∷ c ∷ d ∷ e ∷ []) ≡ false → (a ≡ false) × (b ≡ false) × (c ≡ false) × (e ≡ false)
-none-of-5 a b c d e h =
-    let first = none-true a (b ∷ c ∷ d ∷ e ∷ []) h in
-    let second = none-true b (c ∷ d ∷ e ∷ []) first.1 in
-    let third = none-true c (d ∷ e ∷ []) second.1 in
-    let fourth = none-true d (e ∷ []) third.1 in
-    (first.0, second.0, third.0, (none-true e [] fourth.1).0)
+none_of_5 : (a b c d e : Bool) → any_true (a ∷ b ∷ c ∷ d ∷ e ∷ []) ≡ false → (a ≡ false) × (b ≡ false) × (c ≡ false) × (e ≡ false)
+none_of_5 a b c d e h =
+    let first = none_true a (b ∷ c ∷ d ∷ e ∷ []) h in
+    let second = none_true b (c ∷ d ∷ e ∷ []) first.1 in
+    let third = none_true c (d ∷ e ∷ []) second.1 in
+    let fourth = none_true d (e ∷ []) third.1 in
+    (first.0, second.0, third.0, (none_true e [] fourth.1).0)
 
 record Agrees (q : Request) (b t : ℕ) : Type 0 where
   bought : q.ascending + q.descending + q.refunded ≡ b
@@ -171,16 +171,16 @@ record Agrees (q : Request) (b t : ℕ) : Type 0 where
 
 agrees : (q : Request) (b t : ℕ) → out_of_balance q b t ≡ false → Agrees q b t
 agrees q b t h =
-    let all = none-of-5 (not (q.ascending + q.descending + q.refunded == b)) (not (q.refunded == t)) (empties q.kind && not (q.amount == q.descending)) ((same_kind q.kind Enrol || same_kind q.kind Audit) && not (q.amount == 0)) (same_kind q.kind Reset && is_past_limits q.version b q.amount) h in
+    let all = none_of_5 (not (q.ascending + q.descending + q.refunded == b)) (not (q.refunded == t)) (empties q.kind && not (q.amount == q.descending)) ((same_kind q.kind Enrol || same_kind q.kind Audit) && not (q.amount == 0)) (same_kind q.kind Reset && is_past_limits q.version b q.amount) h in
     record {
       bought = eqb-true (q.ascending + q.descending + q.refunded) b (not-false _ all.0);
       returned = eqb-true q.refunded t (not-false _ all.1);
-      emptied = λ e. eqb-true q.amount q.descending (not-false _ (and-then (empties q.kind) (not (q.amount == q.descending)) e all.2));
-      limited = λ e. and-then (same_kind q.kind Reset) (is_past_limits q.version b q.amount) e all.3;
+      emptied = λ e. eqb-true q.amount q.descending (not-false _ (and_then (empties q.kind) (not (q.amount == q.descending)) e all.2));
+      limited = λ e. and_then (same_kind q.kind Reset) (is_past_limits q.version b q.amount) e all.3;
     }
 
-limit-long : (version : ℕ) → buys_limit version < 2 ^ 64
-limit-long version = go (version == 1) (version == 2)
+limit_long : (version : ℕ) → buys_limit version < 2 ^ 64
+limit_long version = go (version == 1) (version == 2)
   where
     go : (a b : Bool) → cond a 4294967295 (cond b 1000000000000 0) < 2 ^ 64
     go true b = omega arith
@@ -189,17 +189,17 @@ limit-long version = go (version == 1) (version == 2)
 
 within : (version bought amount : ℕ) → is_past_limits version bought amount ≡ false → bought + amount < 2 ^ 64
 within version bought amount h =
-    let last = none-of-3 (amount == 0) (nat_lt 10000000 amount) (nat_lt (buys_limit version) (bought + amount)) h in
-    omega (arith, ltb-false (buys_limit version) (bought + amount) last, limit-long version)
+    let last = none_of_3 (amount == 0) (nat_lt 10000000 amount) (nat_lt (buys_limit version) (bought + amount)) h in
+    omega (arith, ltb-false (buys_limit version) (bought + amount) last, limit_long version)
 
 -- a reset empties nothing
-pub reset-fills : (k : Kind) → same_kind k Reset ≡ true → empties k ≡ false
+pub reset_fills : (k : Kind) → same_kind k Reset ≡ true → empties k ≡ false
 unfolding same_kind
-reset-fills Enrol h = refl
-reset-fills Reset h = refl
-reset-fills Audit h = refl
-reset-fills Refund h = absurd (true≢false (sym h))
-reset-fills Withdraw h = absurd (true≢false (sym h))
+reset_fills Enrol h = refl
+reset_fills Reset h = refl
+reset_fills Audit h = refl
+reset_fills Refund h = absurd (true≢false (sym h))
+reset_fills Withdraw h = absurd (true≢false (sym h))
 
 pub record Sums (r : DeviceRow) (v : Verdict) (q : Request) : Type 0 where
   pub returns_le : r.returns + takes v q ≤ r.buys + adds v q
@@ -207,9 +207,9 @@ pub record Sums (r : DeviceRow) (v : Verdict) (q : Request) : Type 0 where
   pub filled : is_granted v ≡ true → same_kind q.kind Reset ≡ true → (adds v q ≡ q.amount) × (takes v q ≡ 0)
   pub emptied : is_granted v ≡ true → empties q.kind ≡ true → takes v q ≡ q.amount
 
-pub sums-after : (r : DeviceRow) (v : Verdict) (balance : ℕ) (q : Request) → IsSoundDevice r → IsVerdict r balance q v → Sums r v q
+pub sums_after : (r : DeviceRow) (v : Verdict) (balance : ℕ) (q : Request) → IsSoundDevice r → IsVerdict r balance q v → Sums r v q
 unfolding adds takes
-sums-after r v balance q sound (o, paid, says) =
+sums_after r v balance q sound (o, paid, says) =
     let was = λ (h : is_granted v ≡ true). agrees q r.buys r.returns (granted (account r o balance) q (sym (ap is_granted says) ∙ h)).sums in
     let le = sound.returns_le in
     let limit = sound.limit in
@@ -231,67 +231,67 @@ sums-after r v balance q sound (o, paid, says) =
           rw t most)
           (λ (t : (is_granted v && same_kind q.kind Reset) ≡ false). rw t (omega arith))
           (cases_Bool (is_granted v && same_kind q.kind Reset));
-      filled = λ g k. let e = reset-fills q.kind k in (rw g (rw k refl), rw g (rw e refl));
+      filled = λ g k. let e = reset_fills q.kind k in (rw g (rw k refl), rw g (rw e refl));
       emptied = λ g k. rw g (rw k refl);
     }
 
 -- == the enrolment ==
 
 -- a device of which nothing is left was enrolled
-left-of : (e : Enrolment) → has_left (customer_of e) (is_withdrawn e) ≡ false → customer_of e ≡ None → ⊥
-left-of Registered h none = true≢false h
-left-of (Enrolled w) h none = none-some _ (sym none)
-left-of (Withdrawn w) h none = none-some _ (sym none)
+left_of : (e : Enrolment) → has_left (customer_of e) (is_withdrawn e) ≡ false → customer_of e ≡ None → ⊥
+left_of Registered h none = true≢false h
+left_of (Enrolled w) h none = none-some _ (sym none)
+left_of (Withdrawn w) h none = none-some _ (sym none)
 
 -- the customer after a ruling is the one before it, or the one that a granted enrolment names
-pub customer-after : (has : ℕ → Type 0) (k : Kind) (g : Bool) (e : Enrolment) (c : ℕ) → IfSome (customer_of e) has → (g ≡ true → same_kind k Enrol ≡ true → has c)
+pub customer_after : (has : ℕ → Type 0) (k : Kind) (g : Bool) (e : Enrolment) (c : ℕ) → IfSome (customer_of e) has → (g ≡ true → same_kind k Enrol ≡ true → has c)
     → IfSome (customer_of (cond (g && same_kind k Enrol) (Enrolled c) (cond (g && same_kind k Withdraw) (withdrawn_of e) e))) has
 unfolding same_kind
-customer-after has k false e c was named = was
-customer-after has Enrol true e c was named = named refl refl
-customer-after has Withdraw true Registered c was named = tt
-customer-after has Withdraw true (Enrolled w) c was named = was
-customer-after has Withdraw true (Withdrawn w) c was named = was
-customer-after has Reset true e c was named = was
-customer-after has Audit true e c was named = was
-customer-after has Refund true e c was named = was
+customer_after has k false e c was named = was
+customer_after has Enrol true e c was named = named refl refl
+customer_after has Withdraw true Registered c was named = tt
+customer_after has Withdraw true (Enrolled w) c was named = was
+customer_after has Withdraw true (Withdrawn w) c was named = was
+customer_after has Reset true e c was named = was
+customer_after has Audit true e c was named = was
+customer_after has Refund true e c was named = was
 
 -- a device that is not enrolled then has bought nothing then
-bought-after : (k : Kind) (g : Bool) (e : Enrolment) (c bought amount : ℕ) → (customer_of e ≡ None → bought ≡ 0) → (g ≡ true → (not (same_kind k Enrol) && has_left (customer_of e) (is_withdrawn e)) ≡ false)
+bought_after : (k : Kind) (g : Bool) (e : Enrolment) (c bought amount : ℕ) → (customer_of e ≡ None → bought ≡ 0) → (g ≡ true → (not (same_kind k Enrol) && has_left (customer_of e) (is_withdrawn e)) ≡ false)
     → customer_of (cond (g && same_kind k Enrol) (Enrolled c) (cond (g && same_kind k Withdraw) (withdrawn_of e) e)) ≡ None → bought + cond (g && same_kind k Reset) amount 0 ≡ 0
 unfolding same_kind
-bought-after k false e c b a was left none = let before = was none in omega arith
-bought-after Enrol true e c b a was left none = absurd (none-some _ (sym none))
-bought-after Withdraw true Registered c b a was left none = let before = was refl in omega arith
-bought-after Withdraw true (Enrolled w) c b a was left none = absurd (none-some _ (sym none))
-bought-after Withdraw true (Withdrawn w) c b a was left none = absurd (none-some _ (sym none))
-bought-after Reset true e c b a was left none = absurd (left-of e (left refl) none)
-bought-after Audit true e c b a was left none = let before = was none in omega arith
-bought-after Refund true e c b a was left none = let before = was none in omega arith
+bought_after k false e c b a was left none = let before = was none in omega arith
+bought_after Enrol true e c b a was left none = absurd (none-some _ (sym none))
+bought_after Withdraw true Registered c b a was left none = let before = was refl in omega arith
+bought_after Withdraw true (Enrolled w) c b a was left none = absurd (none-some _ (sym none))
+bought_after Withdraw true (Withdrawn w) c b a was left none = absurd (none-some _ (sym none))
+bought_after Reset true e c b a was left none = absurd (left_of e (left refl) none)
+bought_after Audit true e c b a was left none = let before = was none in omega arith
+bought_after Refund true e c b a was left none = let before = was none in omega arith
 
 -- a granted enrolment names a customer
-customer-of : (r : DeviceRow) (q : Request) (o : Option CustomerRow) → IsPayer r q o → same_kind q.kind Enrol ≡ true → not (is_some o) ≡ false → IsCustomer q.customer
-customer-of r q None paid k h = absurd (true≢false h)
-customer-of r q (Some c) paid k h = subst IsCustomer (paid.0 ∙ ap (λ b. cond b q.customer (own_customer (enrolled_in r))) k) paid.1
+enrols_customer : (r : DeviceRow) (q : Request) (o : Option CustomerRow) → IsPayer r q o → same_kind q.kind Enrol ≡ true → not (is_some o) ≡ false → IsCustomer q.customer
+enrols_customer r q None paid k h = absurd (true≢false h)
+enrols_customer r q (Some c) paid k h = subst IsCustomer (paid.0 ∙ ap (λ b. cond b q.customer (own_customer (enrolled_in r))) k) paid.1
 
-pub names-customer : (r : DeviceRow) (v : Verdict) (balance : ℕ) (q : Request) → IsVerdict r balance q v → NamesCustomer v q
-names-customer r v balance q (o, paid, says) g enrol =
+pub names_customer : (r : DeviceRow) (v : Verdict) (balance : ℕ) (q : Request) → IsVerdict r balance q v → NamesCustomer v q
+names_customer r v balance q (o, paid, says) g enrol =
     let was = granted (account r o balance) q (sym (ap is_granted says) ∙ g) in
-    customer-of r q o paid enrol (and-then (same_kind q.kind Enrol) (not (is_some o)) enrol was.opened)
+    enrols_customer r q o paid enrol (and_then (same_kind q.kind Enrol) (not (is_some o)) enrol was.opened)
 
-bought-then : (r : DeviceRow) (v : Verdict) (balance : ℕ) (q : Request) → IsSoundDevice r → IsVerdict r balance q v → customer_of (enrolment_after r.enrolment v q) ≡ None → r.buys + adds v q ≡ 0
+bought_then : (r : DeviceRow) (v : Verdict) (balance : ℕ) (q : Request) → IsSoundDevice r → IsVerdict r balance q v → customer_of (enrolment_after r.enrolment v q) ≡ None → r.buys + adds v q ≡ 0
 unfolding adds
-bought-then r v balance q sound (o, paid, says) =
-    bought-after q.kind (is_granted v) r.enrolment q.customer r.buys q.amount sound.registered (λ g. (granted (account r o balance) q (sym (ap is_granted says) ∙ g)).left)
+bought_then r v balance q sound (o, paid, says) =
+    bought_after q.kind (is_granted v) r.enrolment q.customer r.buys q.amount sound.registered (λ g. (granted (account r o balance) q (sym (ap is_granted says) ∙ g)).left)
 
 -- == the row ==
 
-pub ruled-sound : (r : DeviceRow) (v : Verdict) (balance : ℕ) (q : Request) (note : List ℕ) → IsSoundDevice r → IsWord r.origin → IsWhole (m.Request q) → spell (m.Request q) r.key ≡ note → q.device ≡ r.device → q.number ≡ r.ruled + 1 → IsVerdict r balance q v → IsSoundDevice (ruled_row r v balance q note)
-ruled-sound r v balance q note sound origin whole spelled device n is =
-    let sums = sums-after r v balance q sound is in
+pub ruled_sound : (r : DeviceRow) (v : Verdict) (balance : ℕ) (q : Request) (note : List ℕ) → IsSoundDevice r → IsWord r.origin → IsWhole (m.Request q) → spell (m.Request q) r.key ≡ note → q.device ≡ r.device → q.number ≡ r.ruled + 1 → IsVerdict r balance q v → IsSoundDevice (ruled_row r v balance q note)
+ruled_sound r v balance q note sound origin whole spelled device n is =
+    let sums = sums_after r v balance q sound is in
     record {
-      registered = bought-then r v balance q sound is;
-      enrolled = customer-after IsCustomer q.kind (is_granted v) r.enrolment q.customer sound.enrolled (names-customer r v balance q is);
+      registered = bought_then r v balance q sound is;
+      enrolled = customer_after IsCustomer q.kind (is_granted v) r.enrolment q.customer sound.enrolled (names_customer r v balance q is);
       settled_le = omega arith;
       ruled_le = omega arith;
       returns_le = sums.returns_le;
@@ -306,23 +306,23 @@ ruled-sound r v balance q note sound origin whole spelled device n is =
           request_device = device;
           request_number = refl;
           reply = refl;
-          reply_whole = reply-whole r v balance q sound origin whole is;
+          reply_whole = reply_whole r v balance q sound origin whole is;
           reply_device = device;
           reply_number = refl;
           kind = refl;
           version = refl;
-          buys = λ _ g k. let x = sums.filled g k in let a = x.0 in let t = x.1 in let le = sound.returns_le in let shown = amount-granted v q.amount r.buys balance g in
-              omega (arith, written-le q.version (amount_shown v q.amount r.buys balance));
-          returns = λ _ g k. let t = sums.emptied g k in let shown = amount-granted v q.amount r.buys balance g in
-              omega (arith, written-le q.version (amount_shown v q.amount r.buys balance));
+          buys = λ _ g k. let x = sums.filled g k in let a = x.0 in let t = x.1 in let le = sound.returns_le in let shown = amount_granted v q.amount r.buys balance g in
+              omega (arith, written_le q.version (amount_shown v q.amount r.buys balance));
+          returns = λ _ g k. let t = sums.emptied g k in let shown = amount_granted v q.amount r.buys balance g in
+              omega (arith, written_le q.version (amount_shown v q.amount r.buys balance));
         },
       );
     }
 
 -- bytes that read as a Request and end in their code under the key are its spelling
-pub spelled-so : (q : Request) (key bytes code : List ℕ) → ReadsAs bytes (m.Request q) code → HasCode bytes key → spell (m.Request q) key ≡ bytes
+pub spelled_so : (q : Request) (key bytes code : List ℕ) → ReadsAs bytes (m.Request q) code → HasCode bytes key → spell (m.Request q) key ≡ bytes
 unfolding spell
-spelled-so q key bytes code is has =
+spelled_so q key bytes code is has =
     let parts = cut (body (m.Request q)) code bytes is.long is.spelled in
     let made : code ≡ hmac key (body (m.Request q)) = sym parts.1 ∙ has.1 ∙ ap (hmac key) parts.0 in
     ap (λ k. body (m.Request q) ++ k) (sym made) ∙ sym is.spelled

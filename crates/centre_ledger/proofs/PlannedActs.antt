@@ -10,7 +10,7 @@ use Rattle.centre_ledger.specs.Laws.{IsSlotOf}
 use Rattle.centre_ledger.specs.Order.{InOrder}
 use Rattle.centre_ledger.specs.Plans.{shown_standing}
 use Rattle.centre_ledger.proofs.ByCommits.{one_device, one_customer}
-use Rattle.centre_ledger.proofs.Paying.{left-is}
+use Rattle.centre_ledger.proofs.Paying.{left_is}
 use Rattle.centre_ledger.proofs.Standings.{standing}
 
 stands : (o : Option DeviceRow) (d : ℕ) (C : List Commit) → InOrder C → IsSlotOf o d C → option_map standing_of o ≡ shown_standing d C
@@ -23,6 +23,6 @@ pub planned : ActsArePlanned
 planned b C s books = λ i. record {
   device = λ d. sym (one_device (device_at b d) d C (books.devices d)) i;
   customer = λ w. sym (one_customer (customer_at b w) w C (books.customers w)) i;
-  left = λ w. left-is b C s books w i;
+  left = λ w. left_is b C s books w i;
   standing = λ d. stands (device_at b d) d C books.order (books.devices d) i;
 }

@@ -10,9 +10,9 @@ use Rattle.bench_base.specs.declared.ledger.Commit.TheVariants.{Registered, Open
 use Rattle.bench_base.specs.Nodes.{node_of, same_node}
 use Rattle.bench_base.specs.Ranges.{IsWord}
 use Rattle.bench_base.specs.Table.{IsBytes}
-use Rattle.bench_base.proofs.Facts.{is-some}
+use Rattle.bench_base.proofs.Facts.{some_by}
 use Rattle.psd_wire.specs.declared.message.Message.TheVariants as m
-use Rattle.psd_wire.proofs.Readings.{spell-back}
+use Rattle.psd_wire.proofs.Readings.{spell_back}
 use Rattle.ledger_terms.specs.Requests.{request_in}
 use Rattle.ledger_terms.specs.Centres.{registered, enrolled, opened, suspended, balance}
 use Rattle.ledger_terms.specs.Rulings.{payer, own_customer, verdict_by}
@@ -24,18 +24,18 @@ use Rattle.centre_ledger.specs.Soundness.{IsSoundDevice, IsSoundCustomer, IsNext
 use Rattle.centre_ledger.specs.Rows.{account, enrolled_in, is_suspended, ruled_row}
 use Rattle.centre_ledger.specs.Records.{IsRowOf, IsCustomerOf, registered_row, PaysBy}
 use Rattle.centre_ledger.specs.Laws.{touches_device, touches_customer, IsSlotOf, IsCustomerSlotOf, SlotLaws, OrderLaws, SoundLaws, PayingByRows, BalanceByRows}
-use Rattle.centre_ledger.proofs.Keeping.{ruled-sound}
-use Rattle.centre_ledger.proofs.Following.{ruling, balancing, no-money, settles, other-devices, other-customers}
+use Rattle.centre_ledger.proofs.Keeping.{ruled_sound}
+use Rattle.centre_ledger.proofs.Following.{ruling, balancing, no_money, settles, other_devices, other_customers}
 
 -- == which rows there are ==
 
-device-there : (o : Option DeviceRow) (d : ℕ) (C : List Commit) → IsSlotOf o d C → is_some o ≡ is_some (registered d C)
-device-there None d C h = ap is_some (sym h)
-device-there (Some r) d C h = ap is_some (sym h.2.registered) ∙ ap (λ e. is_some (registered e C)) h.0
+device_there : (o : Option DeviceRow) (d : ℕ) (C : List Commit) → IsSlotOf o d C → is_some o ≡ is_some (registered d C)
+device_there None d C h = ap is_some (sym h)
+device_there (Some r) d C h = ap is_some (sym h.2.registered) ∙ ap (λ e. is_some (registered e C)) h.0
 
-customer-there : (o : Option CustomerRow) (c : ℕ) (C : List Commit) → IsCustomerSlotOf o c C → is_some o ≡ opened c C
-customer-there None c C h = sym h
-customer-there (Some r) c C h = sym h.2.opened ∙ ap (λ e. opened e C) h.0
+customer_there : (o : Option CustomerRow) (c : ℕ) (C : List Commit) → IsCustomerSlotOf o c C → is_some o ≡ opened c C
+customer_there None c C h = sym h
+customer_there (Some r) c C h = sym h.2.opened ∙ ap (λ e. opened e C) h.0
 
 unregistered : (d : ℕ) (C : List Commit) (c : Commit) → touches_device d c ≡ false → registered d C ≡ None → registered d (c ∷ C) ≡ None
 unregistered d C (Registered e origin key) t h = rw t h
@@ -45,22 +45,22 @@ unopened : (w : ℕ) (C : List Commit) (c : Commit) → touches_customer w c ≡
 unopened w C (Opened e) t h = rw t h
 unopened w C _ t h = h
 
-other-slots : (o : Option DeviceRow) (d : ℕ) (C : List Commit) (c : Commit) → touches_device d c ≡ false → IsSlotOf o d C → IsSlotOf o d (c ∷ C)
-other-slots None d C c t h = unregistered d C c t h
-other-slots (Some r) d C c t h = (h.0, h.1, other-devices r C c (ap (λ e. touches_device e c) h.0 ∙ t) h.2)
+other_slots : (o : Option DeviceRow) (d : ℕ) (C : List Commit) (c : Commit) → touches_device d c ≡ false → IsSlotOf o d C → IsSlotOf o d (c ∷ C)
+other_slots None d C c t h = unregistered d C c t h
+other_slots (Some r) d C c t h = (h.0, h.1, other_devices r C c (ap (λ e. touches_device e c) h.0 ∙ t) h.2)
 
-other-customer_slots : (o : Option CustomerRow) (w : ℕ) (C : List Commit) (c : Commit) → touches_customer w c ≡ false → IsCustomerSlotOf o w C → IsCustomerSlotOf o w (c ∷ C)
-other-customer_slots None w C c t h = unopened w C c t h
-other-customer_slots (Some r) w C c t h = (h.0, h.1, other-customers r C c (ap (λ e. touches_customer e c) h.0 ∙ t) h.2)
+other_customer_slots : (o : Option CustomerRow) (w : ℕ) (C : List Commit) (c : Commit) → touches_customer w c ≡ false → IsCustomerSlotOf o w C → IsCustomerSlotOf o w (c ∷ C)
+other_customer_slots None w C c t h = unopened w C c t h
+other_customer_slots (Some r) w C c t h = (h.0, h.1, other_customers r C c (ap (λ e. touches_customer e c) h.0 ∙ t) h.2)
 
 pub slots : SlotLaws
 slots = record {
   no_device = λ d. refl;
   no_customer = λ c. refl;
-  device_there = device-there;
-  customer_there = customer-there;
-  other_devices = other-slots;
-  other_customers = other-customer_slots;
+  device_there = device_there;
+  customer_there = customer_there;
+  other_devices = other_slots;
+  other_customers = other_customer_slots;
 }
 
 -- == the order ==
@@ -73,8 +73,8 @@ pub record IsDeposit (last total n a after : ℕ) : Type 0 where
   pub sum : after ≡ total + a
 
 -- what a deposit that is taken was found to be
-pub deposit-taken : (last : ℕ × ℕ) (total n a after : ℕ) → deposit_answer last total n a ≡ Ok (Some after) → IsDeposit last.0 total n a after
-deposit-taken last total n a after h = go ((n == last.0) && nat_lt 0 n) (a == last.1) (not (n == last.0 + 1)) ((a == 0) || nat_lt 1000000000 a) (nat_lt 1000000000000000 (total + a)) refl refl refl h
+pub deposit_taken : (last : ℕ × ℕ) (total n a after : ℕ) → deposit_answer last total n a ≡ Ok (Some after) → IsDeposit last.0 total n a after
+deposit_taken last total n a after h = go ((n == last.0) && nat_lt 0 n) (a == last.1) (not (n == last.0 + 1)) ((a == 0) || nat_lt 1000000000 a) (nat_lt 1000000000000000 (total + a)) refl refl refl h
   where
     go : (t u x y z : Bool) → not (n == last.0 + 1) ≡ x → ((a == 0) || nat_lt 1000000000 a) ≡ y → nat_lt 1000000000000000 (total + a) ≡ z
         → cond t (cond u (Ok None) (Err (no.Conflict last.1))) (cond x (Err (no.WrongReceipt last.0)) (cond y (Err (no.BadAmount a)) (cond z (Err (no.DepositsFull total)) (Ok (Some (total + a)))))) ≡ Ok (Some after) → IsDeposit last.0 total n a after
@@ -95,45 +95,45 @@ deposit-taken last total n a after h = go ((n == last.0) && nat_lt 0 n) (a == la
           sum = sym same;
         }
 
-others-in-order : (c : Commit) (C : List Commit) → same_node (node_of c) Centre ≡ false → InOrder C → InOrder (c ∷ C)
-others-in-order (Registered d origin key) C h o = absurd (true≢false h)
-others-in-order (Opened w) C h o = absurd (true≢false h)
-others-in-order (Deposited w n a) C h o = absurd (true≢false h)
-others-in-order (Flagged w s) C h o = absurd (true≢false h)
-others-in-order (Ruled d n v note) C h o = absurd (true≢false h)
-others-in-order (Settled d n) C h o = absurd (true≢false h)
-others-in-order _ C h o = (tt, o)
+others_in_order : (c : Commit) (C : List Commit) → same_node (node_of c) Centre ≡ false → InOrder C → InOrder (c ∷ C)
+others_in_order (Registered d origin key) C h o = absurd (true≢false h)
+others_in_order (Opened w) C h o = absurd (true≢false h)
+others_in_order (Deposited w n a) C h o = absurd (true≢false h)
+others_in_order (Flagged w s) C h o = absurd (true≢false h)
+others_in_order (Ruled d n v note) C h o = absurd (true≢false h)
+others_in_order (Settled d n) C h o = absurd (true≢false h)
+others_in_order _ C h o = (tt, o)
 
-ruled-in-order : (r : DeviceRow) (o : Option CustomerRow) (left : ℕ) (note : List ℕ) (C : List Commit) (v : Verdict) → InOrder C → IsRowOf r C → IsNext r note
+ruled_in_order : (r : DeviceRow) (o : Option CustomerRow) (left : ℕ) (note : List ℕ) (C : List Commit) (v : Verdict) → InOrder C → IsRowOf r C → IsNext r note
     → PaysBy (request_in note) o left C → v ≡ (verdict_by (account r o left) (request_in note)).0 → InOrder (Ruled r.device (request_in note).number v note ∷ C)
-ruled-in-order r o left note C v order is next pays says =
+ruled_in_order r o left note C v order is next pays says =
     let was = is.ruled in
     let n = next.number in
     let same = ruling r o left (request_in note) C is next.device pays in
-    ((is-some (registered r.device C) (r.origin, r.key) is.registered, omega arith, says ∙ ap (λ (x : Verdict × ℕ). x.0) same), order)
+    ((some_by (registered r.device C) (r.origin, r.key) is.registered, omega arith, says ∙ ap (λ (x : Verdict × ℕ). x.0) same), order)
 
-deposited-in-order : (r : CustomerRow) (C : List Commit) (receipt amount after : ℕ) → InOrder C → IsCustomerOf r C
+deposited_in_order : (r : CustomerRow) (C : List Commit) (receipt amount after : ℕ) → InOrder C → IsCustomerOf r C
     → deposit_answer (r.receipt, r.amount) r.deposits receipt amount ≡ Ok (Some after) → InOrder (Deposited r.customer receipt amount ∷ C)
-deposited-in-order r C n a after order is h =
+deposited_in_order r C n a after order is h =
     let was = is.deposits in
-    let room = (deposit-taken (r.receipt, r.amount) r.deposits n a after h).room in
+    let room = (deposit_taken (r.receipt, r.amount) r.deposits n a after h).room in
     ((is.opened, omega arith), order)
 
-pub in-order : OrderLaws
-in-order = record {
+pub in_order : OrderLaws
+in_order = record {
   registered = λ d origin key C order slot. (slot, order);
   opened = λ c C order slot. (slot, order);
-  deposited = deposited-in-order;
+  deposited = deposited_in_order;
   flagged = λ r C flag order is. (is.opened, order);
-  ruled = ruled-in-order;
-  settled = λ r C n now order is h. (is-some (registered r.device C) (r.origin, r.key) is.registered, order);
-  others = others-in-order;
+  ruled = ruled_in_order;
+  settled = λ r C n now order is h. (some_by (registered r.device C) (r.origin, r.key) is.registered, order);
+  others = others_in_order;
 }
 
 -- == the conditions of a row ==
 
-registered-sound : (d origin : ℕ) (key : List ℕ) → IsSoundDevice (registered_row d origin key)
-registered-sound d origin key = record {
+registered_sound : (d origin : ℕ) (key : List ℕ) → IsSoundDevice (registered_row d origin key)
+registered_sound d origin key = record {
   registered = λ none. refl;
   enrolled = tt;
   settled_le = omega arith;
@@ -144,14 +144,14 @@ registered-sound d origin key = record {
   ruling = λ h. absurd (omega arith);
 }
 
-next-sound : (r : DeviceRow) (balance : ℕ) (note : List ℕ) (v : Verdict) → IsSoundDevice r → IsWord r.origin → IsBytes note → IsNext r note
+next_sound : (r : DeviceRow) (balance : ℕ) (note : List ℕ) (v : Verdict) → IsSoundDevice r → IsWord r.origin → IsBytes note → IsNext r note
     → IsVerdict r balance (request_in note) v → IsSoundDevice (ruled_row r v balance (request_in note) note)
-next-sound r balance note v sound origin bytes next says =
-    let back = spell-back (m.Request (request_in note)) r.key note refl bytes next.reads next.code in
-    ruled-sound r v balance (request_in note) note sound origin back.0 back.1 next.device next.number says
+next_sound r balance note v sound origin bytes next says =
+    let back = spell_back (m.Request (request_in note)) r.key note refl bytes next.reads next.code in
+    ruled_sound r v balance (request_in note) note sound origin back.0 back.1 next.device next.number says
 
-settled-sound : (r : DeviceRow) (number now : ℕ) → IsSoundDevice r → settle_answer r.settled r.ruled number ≡ Ok (Some now) → IsSoundDevice (record r { settled = now })
-settled-sound r number now sound h =
+settled_sound : (r : DeviceRow) (number now : ℕ) → IsSoundDevice r → settle_answer r.settled r.ruled number ≡ Ok (Some now) → IsSoundDevice (record r { settled = now })
+settled_sound r number now sound h =
     let same = settles r.settled r.ruled number now h in
     record {
       registered = sound.registered;
@@ -181,10 +181,10 @@ settled-sound r number now sound h =
       );
     }
 
-deposited-sound : (r : CustomerRow) (receipt amount after : ℕ) → IsSoundCustomer r → deposit_answer (r.receipt, r.amount) r.deposits receipt amount ≡ Ok (Some after)
+deposited_sound : (r : CustomerRow) (receipt amount after : ℕ) → IsSoundCustomer r → deposit_answer (r.receipt, r.amount) r.deposits receipt amount ≡ Ok (Some after)
     → IsSoundCustomer (record r { deposits = after; receipt = receipt; amount = amount })
-deposited-sound r n a after sound h =
-    let is = deposit-taken (r.receipt, r.amount) r.deposits n a after h in
+deposited_sound r n a after sound h =
+    let is = deposit_taken (r.receipt, r.amount) r.deposits n a after h in
     let from_1 = is.from_1 in
     let most = is.most in
     let room = is.room in
@@ -200,31 +200,31 @@ deposited-sound r n a after sound h =
 
 pub sound : SoundLaws
 sound = record {
-  registered = registered-sound;
-  ruled = next-sound;
-  settled = settled-sound;
+  registered = registered_sound;
+  ruled = next_sound;
+  settled = settled_sound;
   opened = λ c. record { limit = omega arith; last = omega arith; amount_le = omega arith; receipt = (λ x. x, λ x. x); amount = (λ x. x, λ x. x) };
-  deposited = deposited-sound;
+  deposited = deposited_sound;
   flagged = λ r flag s. record { limit = s.limit; last = s.last; amount_le = s.amount_le; receipt = s.receipt; amount = s.amount };
 }
 
 -- == who pays ==
 
-pays-suspended : (o : Option CustomerRow) (w : ℕ) (C : List Commit) → InOrder C → IsCustomerSlotOf o w C → suspended w C ≡ is_suspended o
-pays-suspended None w C order slot = (no-money w C order slot).suspended
-pays-suspended (Some c) w C order slot = ap (λ x. suspended x C) (sym slot.0) ∙ slot.2.suspended
+pays_suspended : (o : Option CustomerRow) (w : ℕ) (C : List Commit) → InOrder C → IsCustomerSlotOf o w C → suspended w C ≡ is_suspended o
+pays_suspended None w C order slot = (no_money w C order slot).suspended
+pays_suspended (Some c) w C order slot = ap (λ x. suspended x C) (sym slot.0) ∙ slot.2.suspended
 
 pub paying : PayingByRows
 paying r o q C order is device slot =
     let own : enrolled q.device C ≡ enrolled_in r = ap (λ d. enrolled d C) device ∙ is.enrolled in
     record {
-      opened = ap (λ x. opened (payer q x) C) own ∙ sym (customer-there o (payer q (enrolled_in r)) C slot);
-      suspended = ap (λ x. suspended (payer q x) C) own ∙ pays-suspended o (payer q (enrolled_in r)) C order slot;
+      opened = ap (λ x. opened (payer q x) C) own ∙ sym (customer_there o (payer q (enrolled_in r)) C slot);
+      suspended = ap (λ x. suspended (payer q x) C) own ∙ pays_suspended o (payer q (enrolled_in r)) C order slot;
       balance = ap (λ x. balance (own_customer x) C) own;
     }
 
-pub left-is : BalanceByRows
-left-is os w left C order customer rows is sum =
+pub left_is : BalanceByRows
+left_is os w left C order customer rows is sum =
     let sums = balancing os w.customer C order customer rows in
     let bought = sums.0 in
     let returned = sums.1 in

@@ -12,13 +12,13 @@ use Rattle.bench_base.specs.declared.ledger.Commit.{Commit}
 use Rattle.bench_base.specs.declared.ledger.Commit.TheVariants.{Ruled}
 use Rattle.bench_base.specs.Table.{Size, One, Two, Four, Five, Eight, IsNumber, bytes_in, number, row, spelled}
 use Rattle.bench_base.proofs.Facts.{either}
-use Rattle.bench_base.proofs.Tables.{number-spelled}
+use Rattle.bench_base.proofs.Tables.{number_spelled}
 use Rattle.hmac_core.specs.Hmac.{hmac}
 use Rattle.psd_wire.specs.declared.message.Request.{Request}
 use Rattle.psd_wire.specs.declared.message.ReplyMsg.{ReplyMsg}
 use Rattle.psd_wire.specs.declared.message.Message.TheVariants as m
 use Rattle.psd_wire.specs.Grammar.{IsWhole, read, spell, body, sum_size, reply_table, reply_values, verdict_code, verdict_of}
-use Rattle.psd_wire.proofs.Readings.{read-spell, verdict_of-code}
+use Rattle.psd_wire.proofs.Readings.{read_spell, verdict_of_code}
 use Rattle.ledger_terms.specs.Requests.{request_in, request_or_none}
 use Rattle.ledger_terms.specs.Sums.{adds, takes, ruled_sum}
 use Rattle.ledger_terms.specs.Centres.{registered, key_in, ruled, settled}
@@ -34,46 +34,46 @@ use Rattle.centre_ledger.specs.Laws.{StandingByRows}
 -- == the rulings of a device have rising numbers ==
 
 -- no ruling has a number above the greatest
-above-none : (d n : ℕ) (C : List Commit) → ruled d C < n → ruling_of d n C ≡ None
-above-none d n [] h = refl
-above-none d n (Ruled e k v note ∷ C) h = either e d
-    (λ t y. let top : max k (ruled d C) < n = rw t at h in rw (t, ne_eqb k n (λ z. omega arith)) (above-none d n C (omega arith)))
-    (λ t. rw t (above-none d n C (rw t at h)))
-above-none d n (_ ∷ C) h = above-none d n C h
+above_none : (d n : ℕ) (C : List Commit) → ruled d C < n → ruling_of d n C ≡ None
+above_none d n [] h = refl
+above_none d n (Ruled e k v note ∷ C) h = either e d
+    (λ t y. let top : max k (ruled d C) < n = rw t at h in rw (t, ne_eqb k n (λ z. omega arith)) (above_none d n C (omega arith)))
+    (λ t. rw t (above_none d n C (rw t at h)))
+above_none d n (_ ∷ C) h = above_none d n C h
 
 -- the ruling of the greatest number is the last one
-last-is : (d n : ℕ) (C : List Commit) → InOrder C → ruled d C ≡ n → 1 ≤ n → ruling_of d n C ≡ last_ruling d C
-last-is d n [] o h from_1 = absurd (omega arith)
-last-is d n (Ruled e k v note ∷ C) o h from_1 = either e d
+last_is : (d n : ℕ) (C : List Commit) → InOrder C → ruled d C ≡ n → 1 ≤ n → ruling_of d n C ≡ last_ruling d C
+last_is d n [] o h from_1 = absurd (omega arith)
+last_is d n (Ruled e k v note ∷ C) o h from_1 = either e d
     (λ t y.
     let top : max k (ruled d C) ≡ n = rw t at h in
     let less : ruled d C < k = subst (λ z. ruled z C < k) y o.0.1 in
-    rw (t, eq-eqb k n (omega arith), above-none d n C (omega arith)) refl)
-    (λ t. rw t (last-is d n C o.1 (rw t at h) from_1))
-last-is d n (_ ∷ C) o h from_1 = last-is d n C o.1 h from_1
+    rw (t, eq-eqb k n (omega arith), above_none d n C (omega arith)) refl)
+    (λ t. rw t (last_is d n C o.1 (rw t at h) from_1))
+last_is d n (_ ∷ C) o h from_1 = last_is d n C o.1 h from_1
 
 -- where no number was ruled there is no ruling
-none-last : (d : ℕ) (C : List Commit) → InOrder C → ruled d C ≡ 0 → last_ruling d C ≡ None
-none-last d [] o h = refl
-none-last d (Ruled e k v note ∷ C) o h = either e d
+none_last : (d : ℕ) (C : List Commit) → InOrder C → ruled d C ≡ 0 → last_ruling d C ≡ None
+none_last d [] o h = refl
+none_last d (Ruled e k v note ∷ C) o h = either e d
     (λ t y. let top : max k (ruled d C) ≡ 0 = rw t at h in let less = o.0.1 in absurd (omega arith))
-    (λ t. rw t (none-last d C o.1 (rw t at h)))
-none-last d (_ ∷ C) o h = none-last d C o.1 h
+    (λ t. rw t (none_last d C o.1 (rw t at h)))
+none_last d (_ ∷ C) o h = none_last d C o.1 h
 
-last-none : (d : ℕ) (C : List Commit) → last_ruling d C ≡ None → ruled d C ≡ 0
-last-none d [] h = refl
-last-none d (Ruled e k v note ∷ C) h = either e d
+last_none : (d : ℕ) (C : List Commit) → last_ruling d C ≡ None → ruled d C ≡ 0
+last_none d [] h = refl
+last_none d (Ruled e k v note ∷ C) h = either e d
     (λ t y. let no : Some (v, note) ≡ None = rw t at h in absurd (cc))
-    (λ t. rw t (last-none d C (rw t at h)))
-last-none d (_ ∷ C) h = last-none d C h
+    (λ t. rw t (last_none d C (rw t at h)))
+last_none d (_ ∷ C) h = last_none d C h
 
 -- up to the greatest number the sum is that of all rulings
-pub sum-to_all : (f : Verdict → Request → ℕ) (d s : ℕ) (C : List Commit) → ruled d C ≤ s → ruled_sum_to f d s C ≡ ruled_sum f d C
-sum-to_all f d s [] h = refl
-sum-to_all f d s (Ruled e k v note ∷ C) h = either e d
-    (λ t y. let top : max k (ruled d C) ≤ s = rw t at h in rw (t, le-leb k s (omega arith)) (ap (λ n. n + f v (request_in note)) (sum-to_all f d s C (omega arith))))
-    (λ t. rw t (sum-to_all f d s C (rw t at h)))
-sum-to_all f d s (_ ∷ C) h = sum-to_all f d s C h
+pub sum_to_all : (f : Verdict → Request → ℕ) (d s : ℕ) (C : List Commit) → ruled d C ≤ s → ruled_sum_to f d s C ≡ ruled_sum f d C
+sum_to_all f d s [] h = refl
+sum_to_all f d s (Ruled e k v note ∷ C) h = either e d
+    (λ t y. let top : max k (ruled d C) ≤ s = rw t at h in rw (t, le-leb k s (omega arith)) (ap (λ n. n + f v (request_in note)) (sum_to_all f d s C (omega arith))))
+    (λ t. rw t (sum_to_all f d s C (rw t at h)))
+sum_to_all f d s (_ ∷ C) h = sum_to_all f d s C h
 
 -- a ruling with its Request as it was asked
 abbrev as_asked : Option (Verdict × List ℕ) → Option (Verdict × Request)
@@ -81,15 +81,15 @@ as_asked None = None
 as_asked (Some x) = Some (x.0, request_in x.1)
 
 -- up to the number before it, all but the last
-sum-to_last : (f : Verdict → Request → ℕ) (d s : ℕ) (C : List Commit) → InOrder C → ruled d C ≡ s + 1 → ruled_sum_to f d s C + by_ruling 0 f (as_asked (last_ruling d C)) ≡ ruled_sum f d C
-sum-to_last f d s [] o h = absurd (omega arith)
-sum-to_last f d s (Ruled e k v note ∷ C) o h = either e d
+sum_to_last : (f : Verdict → Request → ℕ) (d s : ℕ) (C : List Commit) → InOrder C → ruled d C ≡ s + 1 → ruled_sum_to f d s C + by_ruling 0 f (as_asked (last_ruling d C)) ≡ ruled_sum f d C
+sum_to_last f d s [] o h = absurd (omega arith)
+sum_to_last f d s (Ruled e k v note ∷ C) o h = either e d
     (λ t y.
     let top : max k (ruled d C) ≡ s + 1 = rw t at h in
     let less : ruled d C < k = subst (λ z. ruled z C < k) y o.0.1 in
-    rw (t, lt-leb k s (omega arith)) (ap (λ n. n + f v (request_in note)) (sum-to_all f d s C (omega arith))))
-    (λ t. rw t (sum-to_last f d s C o.1 (rw t at h)))
-sum-to_last f d s (_ ∷ C) o h = sum-to_last f d s C o.1 h
+    rw (t, lt-leb k s (omega arith)) (ap (λ n. n + f v (request_in note)) (sum_to_all f d s C (omega arith))))
+    (λ t. rw t (sum_to_last f d s C o.1 (rw t at h)))
+sum_to_last f d s (_ ∷ C) o h = sum_to_last f d s C o.1 h
 
 -- == the verdict in a Reply ==
 
@@ -98,10 +98,10 @@ verdict_byte : (p : ReplyMsg) (key : List ℕ) → get_or (spell (m.Reply p) key
 unfolding spell body spelled
 verdict_byte p key = refl
 
-same-verdict : (p x : ReplyMsg) (key other : List ℕ) → spell (m.Reply p) key ≡ spell (m.Reply x) other → p.verdict ≡ x.verdict
-same-verdict p x key other h =
+same_verdict : (p x : ReplyMsg) (key other : List ℕ) → spell (m.Reply p) key ≡ spell (m.Reply x) other → p.verdict ≡ x.verdict
+same_verdict p x key other h =
     let codes : verdict_code p.verdict ≡ verdict_code x.verdict = sym (verdict_byte p key) ∙ ap (λ b. get_or b 11 0) h ∙ verdict_byte x other in
-    same_Some _ _ (sym (verdict_of-code p.verdict) ∙ ap verdict_of codes ∙ verdict_of-code x.verdict)
+    same_Some _ _ (sym (verdict_of_code p.verdict) ∙ ap verdict_of codes ∙ verdict_of_code x.verdict)
 
 -- the amount stands at one place, in as many bytes as the version has
 amount_bytes : (s : Size) (p : ReplyMsg) (rest : List ℕ) → take (bytes_in s) (drop 12 (row (reply_table s) (reply_values p) ++ rest)) ≡ spelled s p.amount
@@ -117,7 +117,7 @@ unfolding spell body
 amount_in s p key size fits =
     ap (λ z. number s (take (bytes_in s) (drop 12 (row (reply_table z) (reply_values p) ++ hmac key (row (reply_table z) (reply_values p)))))) size
     ∙ ap (number s) (amount_bytes s p (hmac key (row (reply_table s) (reply_values p))))
-    ∙ number-spelled s p.amount fits
+    ∙ number_spelled s p.amount fits
 
 same_amount : (s : Size) (p x : ReplyMsg) (key other : List ℕ) → sum_size p.version ≡ s → sum_size x.version ≡ s → IsNumber s p.amount → IsNumber s x.amount
     → spell (m.Reply p) key ≡ spell (m.Reply x) other → p.amount ≡ x.amount
@@ -131,22 +131,22 @@ pub record KeepsReply (d : ℕ) (C : List Commit) (x : Verdict × List ℕ) : Ty
   pub stored : stored_reply d C ≡ Some (spell (m.Reply (reply_to before (request_in x.1))) key)
   pub verdict : (verdict before (request_in x.1)).0 ≡ x.0
 
-keeps-reply : (d : ℕ) (C : List Commit) (x : Verdict × List ℕ) → InOrder C → last_ruling d C ≡ Some x → KeepsReply d C x
-keeps-reply d [] x o h = let no : None ≡ Some x = h in absurd (cc)
-keeps-reply d (Ruled e k v note ∷ C) x o h = either e d
+keeps_reply : (d : ℕ) (C : List Commit) (x : Verdict × List ℕ) → InOrder C → last_ruling d C ≡ Some x → KeepsReply d C x
+keeps_reply d [] x o h = let no : None ≡ Some x = h in absurd (cc)
+keeps_reply d (Ruled e k v note ∷ C) x o h = either e d
     (λ t y.
     let same : Some (v, note) ≡ Some x = rw t at h in
     subst (λ z. KeepsReply d (Ruled e k v note ∷ C) z) (same_Some _ _ same)
     (record { key = key_in (registered (request_in note).device C); before = C; stored = rw t refl; verdict = sym o.0.2 }))
-    (λ t. let was = keeps-reply d C x o.1 (rw t at h) in record { key = was.key; before = was.before; stored = rw t was.stored; verdict = was.verdict })
-keeps-reply d (_ ∷ C) x o h = let was = keeps-reply d C x o.1 h in record { key = was.key; before = was.before; stored = was.stored; verdict = was.verdict }
+    (λ t. let was = keeps_reply d C x o.1 (rw t at h) in record { key = was.key; before = was.before; stored = rw t was.stored; verdict = was.verdict })
+keeps_reply d (_ ∷ C) x o h = let was = keeps_reply d C x o.1 h in record { key = was.key; before = was.before; stored = was.stored; verdict = was.verdict }
 
 -- == what was granted ==
 
 -- a granted Request has its own amount in the Reply
-amount-granted : (a : Account) (q : Request) → is_granted (verdict_by a q).0 ≡ true → (verdict_by a q).1 ≡ q.amount
+amount_granted : (a : Account) (q : Request) → is_granted (verdict_by a q).0 ≡ true → (verdict_by a q).1 ≡ q.amount
 unfolding verdict_by
-amount-granted a q h = go (not (same_kind q.kind Enrol) && has_left a.enrolled a.withdrawn) (same_kind q.kind Enrol && is_enrolled a.enrolled) (out_of_balance q a.bought a.returned) (same_kind q.kind Enrol && not a.opened) ((same_kind q.kind Enrol || same_kind q.kind Reset) && a.suspended) (same_kind q.kind Reset && nat_lt a.balance q.amount) h
+amount_granted a q h = go (not (same_kind q.kind Enrol) && has_left a.enrolled a.withdrawn) (same_kind q.kind Enrol && is_enrolled a.enrolled) (out_of_balance q a.bought a.returned) (same_kind q.kind Enrol && not a.opened) ((same_kind q.kind Enrol || same_kind q.kind Reset) && a.suspended) (same_kind q.kind Reset && nat_lt a.balance q.amount) h
   where
     given : (s t u x y z : Bool) → Verdict × ℕ
     given s t u x y z = cond s (NotEnrolled, 0) (cond t (EnrolledAlready, 0) (cond u (Imbalance, a.bought) (cond x (NoCustomer, 0) (cond y (Suspended, 0) (cond z (NoFunds, a.balance) (Granted, q.amount))))))
@@ -170,7 +170,7 @@ written_as q fits = by_size (q.version == 1) refl fits
 
 granted_reply : (before : List Commit) (q : Request) → IsNumber (sum_size q.version) q.amount → is_granted (verdict before q).0 ≡ true → (reply_to before q).amount ≡ q.amount
 unfolding verdict reply_to
-granted_reply before q fits granted = ap (written_amount q.version) (amount-granted (account_of before q) q granted) ∙ written_as q fits
+granted_reply before q fits granted = ap (written_amount q.version) (amount_granted (account_of before q) q granted) ∙ written_as q fits
 
 -- what f gives of a Request that was not granted doesn't turn on its amount
 abbrev OfGranted : {A : Type 0} → (Verdict → Request → A) → Type 0
@@ -195,37 +195,37 @@ as_granted f of v q n amount = ⊎_elim
 
 -- == the row ==
 
-reads-none : (note : List ℕ) → ruling_read (read []) note ≡ None
+reads_none : (note : List ℕ) → ruling_read (read []) note ≡ None
 unfolding read
-reads-none note = refl
+reads_none note = refl
 
-grants-none : (note : List ℕ) → granted_read (read []) note ≡ None
+grants_none : (note : List ℕ) → granted_read (read []) note ≡ None
 unfolding read
-grants-none note = refl
+grants_none note = refl
 
 -- the last ruling, as it is kept and as it was granted
 pub record IsLast (r : DeviceRow) (o : Option (Verdict × List ℕ)) : Type 1 where
   pub kept : o ≡ ruling_in r
   pub granted : {A : Type 0} (otherwise : A) (f : Verdict → Request → A) → OfGranted f → by_ruling otherwise f (as_asked o) ≡ by_ruling otherwise f (granted_in r)
 
-none-is : (r : DeviceRow) → r.reply ≡ [] → IsLast r None
+none_is : (r : DeviceRow) → r.reply ≡ [] → IsLast r None
 unfolding ruling_in granted_in
-none-is r empty = record {
-  kept = sym (ap (λ b. ruling_read (read b) r.request) empty ∙ reads-none r.request);
-  granted = λ otherwise f of. sym (ap (λ b. by_ruling otherwise f (granted_read (read b) r.request)) empty ∙ ap (by_ruling otherwise f) (grants-none r.request));
+none_is r empty = record {
+  kept = sym (ap (λ b. ruling_read (read b) r.request) empty ∙ reads_none r.request);
+  granted = λ otherwise f of. sym (ap (λ b. by_ruling otherwise f (granted_read (read b) r.request)) empty ∙ ap (by_ruling otherwise f) (grants_none r.request));
 }
 
-some-is : (r : DeviceRow) (p : ReplyMsg) → read r.reply ≡ Ok (m.Reply p) → (is_granted p.verdict ≡ true → p.amount ≡ (request_in r.request).amount) → IsLast r (Some (p.verdict, r.request))
+some_is : (r : DeviceRow) (p : ReplyMsg) → read r.reply ≡ Ok (m.Reply p) → (is_granted p.verdict ≡ true → p.amount ≡ (request_in r.request).amount) → IsLast r (Some (p.verdict, r.request))
 unfolding ruling_in granted_in
-some-is r p reads amount = record {
+some_is r p reads amount = record {
   kept = sym (ap (λ x. ruling_read x r.request) reads);
   granted = λ otherwise f of. as_granted f of p.verdict (request_in r.request) p.amount amount ∙ sym (ap (λ x. by_ruling otherwise f (granted_read x r.request)) reads);
 }
 
 -- the Request that is kept is read back
-request-read : (q : Request) (key note : List ℕ) → IsWhole (m.Request q) → note ≡ spell (m.Request q) key → request_in note ≡ q
+request_read : (q : Request) (key note : List ℕ) → IsWhole (m.Request q) → note ≡ spell (m.Request q) key → request_in note ≡ q
 unfolding request_in
-request-read q key note whole is = ap request_or_none (ap read is ∙ read-spell (m.Request q) key whole)
+request_read q key note whole is = ap request_or_none (ap read is ∙ read_spell (m.Request q) key whole)
 
 verdict_to : (before : List Commit) (q : Request) → (verdict before q).0 ≡ (reply_to before q).verdict
 unfolding reply_to
@@ -235,29 +235,29 @@ version_to : (before : List Commit) (q : Request) → (reply_to before q).versio
 unfolding reply_to
 version_to before q = refl
 
-ruling-last : (r : DeviceRow) (C : List Commit) → InOrder C → IsSoundDevice r → IsRowOf r C → IsLast r (last_ruling r.device C)
-ruling-last r C o sound is = ⊎_elim
+ruling_last : (r : DeviceRow) (C : List Commit) → InOrder C → IsSoundDevice r → IsRowOf r C → IsLast r (last_ruling r.device C)
+ruling_last r C o sound is = ⊎_elim
     (λ (none : r.ruled < 1).
     let empty = sound.unruled (omega arith) in
-    subst (λ (x : Option (Verdict × List ℕ)). IsLast r x) (sym (none-last r.device C o (let n = is.ruled in omega arith))) (none-is r empty.1))
+    subst (λ (x : Option (Verdict × List ℕ)). IsLast r x) (sym (none_last r.device C o (let n = is.ruled in omega arith))) (none_is r empty.1))
     (λ (some : 1 ≤ r.ruled).
     let was = sound.ruling some in
     let p = was.1 in
-    let read_so : read r.reply ≡ Ok (m.Reply p) = ap read was.2.reply ∙ read-spell (m.Reply p) r.key was.2.reply_whole in
+    let read_so : read r.reply ≡ Ok (m.Reply p) = ap read was.2.reply ∙ read_spell (m.Reply p) r.key was.2.reply_whole in
     let kept = go was.0 p was.2 some (last_ruling r.device C) refl in
-    subst (λ (x : Option (Verdict × List ℕ)). IsLast r x) (sym kept.0) (some-is r p read_so kept.1))
+    subst (λ (x : Option (Verdict × List ℕ)). IsLast r x) (sym kept.0) (some_is r p read_so kept.1))
     (cases_lt r.ruled 1)
   where
     go : (q : Request) (p : ReplyMsg) → IsRuling r q p → 1 ≤ r.ruled → (x : Option (Verdict × List ℕ)) → last_ruling r.device C ≡ x
         → (x ≡ Some (p.verdict, r.request)) × (is_granted p.verdict ≡ true → p.amount ≡ (request_in r.request).amount)
-    go q p ruling some None h = let n = is.ruled in let z = last-none r.device C h in absurd (omega arith)
+    go q p ruling some None h = let n = is.ruled in let z = last_none r.device C h in absurd (omega arith)
     go q p ruling some (Some x) h =
-        let k = keeps-reply r.device C x o h in
+        let k = keeps_reply r.device C x o h in
         let kept = reply_to k.before (request_in x.1) in
         let same : spell (m.Reply kept) k.key ≡ spell (m.Reply p) r.key = sym (ap note_or_none k.stored) ∙ is.reply ∙ ruling.reply in
-        let v : x.0 ≡ p.verdict = sym k.verdict ∙ verdict_to k.before (request_in x.1) ∙ same-verdict kept p k.key r.key same in
+        let v : x.0 ≡ p.verdict = sym k.verdict ∙ verdict_to k.before (request_in x.1) ∙ same_verdict kept p k.key r.key same in
         let note : x.1 ≡ r.request = sym (ap stored_note h) ∙ is.request in
-        let asked : request_in x.1 ≡ q = ap request_in note ∙ request-read q r.key r.request ruling.request_whole ruling.request in (
+        let asked : request_in x.1 ≡ q = ap request_in note ∙ request_read q r.key r.request ruling.request_whole ruling.request in (
           λ i. Some (v i, note i),
           λ granted. let given : is_granted (verdict k.before (request_in x.1)).0 ≡ true = ap is_granted (k.verdict ∙ v) ∙ granted in
               let fits : IsNumber (sum_size (request_in x.1).version) (request_in x.1).amount = subst (λ (y : Request). IsNumber (sum_size y.version) y.amount) (sym asked) ruling.request_whole.1.1.1.1.1.1.1.0 in
@@ -269,28 +269,28 @@ ruling-last r C o sound is = ⊎_elim
               ∙ amount ∙ ap (λ b. (request_in b).amount) note,
         )
 
-shown-asked : (o : Option (Verdict × List ℕ)) → flight_shown o ≡ flight_told (as_asked o)
-shown-asked None = refl
-shown-asked (Some x) = refl
+shown_asked : (o : Option (Verdict × List ℕ)) → flight_shown o ≡ flight_told (as_asked o)
+shown_asked None = refl
+shown_asked (Some x) = refl
 
-flight-is : (r : DeviceRow) (C : List Commit) → InOrder C → IsSoundDevice r → IsRowOf r C → flight_shown (in_flight r.device C) ≡ flight_told (flight_in r)
-flight-is r C o sound is =
+flight_is : (r : DeviceRow) (C : List Commit) → InOrder C → IsSoundDevice r → IsRowOf r C → flight_shown (in_flight r.device C) ≡ flight_told (flight_in r)
+flight_is r C o sound is =
     let top = is.ruled in
     let done = is.settled in
     let le = sound.ruled_le in
     ⊎_elim
     (λ (t : nat_lt r.settled r.ruled ≡ true).
     let less = ltb-true r.settled r.ruled t in
-    ap flight_shown (last-is r.device (settled r.device C + 1) C o (omega arith) (omega arith)) ∙ shown-asked (last_ruling r.device C)
-    ∙ (ruling-last r C o sound is).granted None told_of of_told ∙ sym (ap (λ b. flight_told (cond b (granted_in r) None)) t))
+    ap flight_shown (last_is r.device (settled r.device C + 1) C o (omega arith) (omega arith)) ∙ shown_asked (last_ruling r.device C)
+    ∙ (ruling_last r C o sound is).granted None told_of of_told ∙ sym (ap (λ b. flight_told (cond b (granted_in r) None)) t))
     (λ (t : nat_lt r.settled r.ruled ≡ false).
     let most = ltb-false r.settled r.ruled t in
-    ap flight_shown (above-none r.device (settled r.device C + 1) C (omega arith)) ∙ sym (ap (λ b. flight_told (cond b (granted_in r) None)) t))
+    ap flight_shown (above_none r.device (settled r.device C + 1) C (omega arith)) ∙ sym (ap (λ b. flight_told (cond b (granted_in r) None)) t))
     (cases_Bool (nat_lt r.settled r.ruled))
 
-sum-is : (f : Verdict → Request → ℕ) → OfGranted f → (sum : ℕ) (r : DeviceRow) (C : List Commit) → InOrder C → IsSoundDevice r → IsRowOf r C → ruled_sum f r.device C ≡ sum
+sum_is : (f : Verdict → Request → ℕ) → OfGranted f → (sum : ℕ) (r : DeviceRow) (C : List Commit) → InOrder C → IsSoundDevice r → IsRowOf r C → ruled_sum f r.device C ≡ sum
     → ruled_sum_to f r.device (settled r.device C) C ≡ sum - by_ruling 0 f (flight_in r)
-sum-is f of sum r C o sound is all =
+sum_is f of sum r C o sound is all =
     let top = is.ruled in
     let done = is.settled in
     let le = sound.ruled_le in
@@ -298,36 +298,36 @@ sum-is f of sum r C o sound is all =
     (λ (t : nat_lt r.settled r.ruled ≡ true).
     let less = ltb-true r.settled r.ruled t in
     let flies : flight_in r ≡ granted_in r = ap (λ b. cond b (granted_in r) None) t in
-    let last : by_ruling 0 f (as_asked (last_ruling r.device C)) ≡ by_ruling 0 f (flight_in r) = (ruling-last r C o sound is).granted 0 f of ∙ ap (by_ruling 0 f) (sym flies) in
-    let parts = sum-to_last f r.device (settled r.device C) C o (omega arith) in
+    let last : by_ruling 0 f (as_asked (last_ruling r.device C)) ≡ by_ruling 0 f (flight_in r) = (ruling_last r C o sound is).granted 0 f of ∙ ap (by_ruling 0 f) (sym flies) in
+    let parts = sum_to_last f r.device (settled r.device C) C o (omega arith) in
     omega (arith, last, parts, all))
     (λ (t : nat_lt r.settled r.ruled ≡ false).
     let most = ltb-false r.settled r.ruled t in
     let lands : by_ruling 0 f (flight_in r) ≡ 0 = ap (λ b. by_ruling 0 f (cond b (granted_in r) None)) t in
-    let whole = sum-to_all f r.device (settled r.device C) C (omega arith) in
+    let whole = sum_to_all f r.device (settled r.device C) C (omega arith) in
     omega (arith, lands, whole, all))
     (cases_Bool (nat_lt r.settled r.ruled))
 
-repeated-is : (r : DeviceRow) (C : List Commit) → InOrder C → IsRowOf r C → last_ruling r.device C ≡ ruling_in r → (p : ReplyMsg) → read r.reply ≡ Ok (m.Reply p)
+repeated_is : (r : DeviceRow) (C : List Commit) → InOrder C → IsRowOf r C → last_ruling r.device C ≡ ruling_in r → (p : ReplyMsg) → read r.reply ≡ Ok (m.Reply p)
     → (last_ruling r.device C ≡ Some (p.verdict, r.request)) × (stored_reply r.device C ≡ Some r.reply)
 unfolding ruling_in
-repeated-is r C o is last p reads =
+repeated_is r C o is last p reads =
     let here : last_ruling r.device C ≡ Some (p.verdict, r.request) = last ∙ ap (λ x. ruling_read x r.request) reads in
-    let kept = keeps-reply r.device C (p.verdict, r.request) o here in
+    let kept = keeps_reply r.device C (p.verdict, r.request) o here in
     let reply : spell (m.Reply (reply_to kept.before (request_in r.request))) kept.key ≡ r.reply = sym (ap note_or_none kept.stored) ∙ is.reply in
     (here, kept.stored ∙ ap (λ (x : List ℕ). Some x) reply)
 
 pub standing : StandingByRows
 standing r C o sound is =
-    let last = (ruling-last r C o sound is).kept in
-    let flies = flight-is r C o sound is in
-    let resets : acknowledged_resets r.device C ≡ resets_in r = sum-is adds of_adds r.buys r C o sound is is.bought in
-    let refunds : acknowledged_refunds r.device C ≡ refunds_in r = sum-is takes of_takes r.returns r C o sound is is.returned in
+    let last = (ruling_last r C o sound is).kept in
+    let flies = flight_is r C o sound is in
+    let resets : acknowledged_resets r.device C ≡ resets_in r = sum_is adds of_adds r.buys r C o sound is is.bought in
+    let refunds : acknowledged_refunds r.device C ≡ refunds_in r = sum_is takes of_takes r.returns r C o sound is is.returned in
     record {
       last = last;
       in_flight = flies;
       resets = resets;
       refunds = refunds;
       standing = λ i. record { centre = resets i - refunds i; in_flight = flies i };
-      repeated = repeated-is r C o is last;
+      repeated = repeated_is r C o is last;
     }

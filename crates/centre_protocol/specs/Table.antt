@@ -20,8 +20,8 @@ use Rattle.centre_ledger.specs.declared.rows.Row.{Row}
 use Rattle.centre_ledger.specs.declared.rows.Row.TheVariants as row
 use Rattle.centre_ledger.specs.Books.{AreSound}
 use Rattle.centre_ledger.specs.Payload.{row_bytes}
-use Rattle.centre_ledger.proofs.OneRow.{one-device}
-use Rattle.centre_ledger.proofs.CustomerBytes.{one-customer}
+use Rattle.centre_ledger.proofs.OneRow.{one_device_row}
+use Rattle.centre_ledger.proofs.CustomerBytes.{one_customer_row}
 use Rattle.centre_ledger.specs.Seen.{Seen, cell_of, counting, books_in}
 use Rattle.centre_protocol.specs.Payloads.{IsIn, IsPayloadOf}
 use Rattle.centre_protocol.specs.Cells.{HasCell, row_in, cell_inside, is_in, cells_put}
@@ -59,11 +59,11 @@ customer_set = hlevel props
 -- the payload of a cell reads as one row
 reads_one : ReadsOne IsPayloadOf
 reads_one k (row.Device r) (row.Device s) p reads reads' =
-    ap (λ (x : DeviceRow). row.Device x) (∥∥₁_elim reads.1 (device_set r s) (λ a. ∥∥₁_elim reads'.1 (device_set r s) (λ b. one-device p r s a b)))
+    ap (λ (x : DeviceRow). row.Device x) (∥∥₁_elim reads.1 (device_set r s) (λ a. ∥∥₁_elim reads'.1 (device_set r s) (λ b. one_device_row p r s a b)))
 reads_one k (row.Device r) (row.Customer s) p reads reads' = absurd (omega (arith, reads.0.1, reads'.0.1))
 reads_one k (row.Customer r) (row.Device s) p reads reads' = absurd (omega (arith, reads.0.1, reads'.0.1))
 reads_one k (row.Customer r) (row.Customer s) p reads reads' =
-    ap (λ (x : CustomerRow). row.Customer x) (∥∥₁_elim reads.1 (customer_set r s) (λ a. ∥∥₁_elim reads'.1 (customer_set r s) (λ b. one-customer p r s a b)))
+    ap (λ (x : CustomerRow). row.Customer x) (∥∥₁_elim reads.1 (customer_set r s) (λ a. ∥∥₁_elim reads'.1 (customer_set r s) (λ b. one_customer_row p r s a b)))
 
 -- what is seen of cells that hold sound rows
 sound_found : (m : CentreRows) (held : ℕ → Option Held) → Found centre_table m held → IsSound (seen_of centre_table m held)

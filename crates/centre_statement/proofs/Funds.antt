@@ -18,9 +18,9 @@ use Rattle.ledger_lawful.specs.Lawful.{Always, Lawful, LawfulAt, Balances, Refun
 use Rattle.ledger_moves.specs.Histories.{History}
 use Rattle.ledger_moves.specs.Tariffs.{Tariff}
 use Rattle.law_good.proofs.Good.{Good, Fits}
-use Rattle.law_money.proofs.Links.{link, note-le}
+use Rattle.law_money.proofs.Links.{link, note_le}
 use Rattle.law_money.proofs.Money as money
-use Rattle.ledger_laws.proofs.Histories.{histories, allows-same, carried-by}
+use Rattle.ledger_laws.proofs.Histories.{histories, allows_same, carried_by}
 use Rattle.centre_statement.specs.Balances.{BalancesFit}
 use Rattle.centre_statement.proofs.Following.{always_map, counted_always}
 
@@ -49,7 +49,7 @@ module _ (ρ : Rules) where
       let fits = subst (λ z. Fits ρ (Ruled z n v note) C) y good.0 in
       let next = fits.next in
       let l = link ρ d C good.1 in
-      let le = note-le ρ d n note C good.1 fits.asked_as in
+      let le = note_le ρ d n note C good.1 fits.asked_as in
       let even = (money.balance ρ d C good.1).even (omega arith) in
       let all : is_granted v ≡ true → empties (request_in note).kind ≡ true → (request_in note).amount ≡ descending d C =
       subst (λ z. is_granted v ≡ true → empties (request_in note).kind ≡ true → (request_in note).amount ≡ descending z C) y refunds.0 in
@@ -85,6 +85,6 @@ module _ (ρ : Rules) where
 
 pub all_fit : (τ : Tariff) (ρ : Rules) (ρs : List Rules) (H : Ledger) → Editions (ρ ∷ ρs) → History τ (ρ ∷ ρs) H → Lawful ρ H → BalancesFit (counted H)
 all_fit τ ρ ρs H editions history lawful =
-    fit_lists ρ (counted H) (histories τ (ρ ∷ ρs) editions H history ρ (carried-by ρs ρ editions.0, allows-same ρ)).good
+    fit_lists ρ (counted H) (histories τ (ρ ∷ ρs) editions H history ρ (carried_by ρs ρ editions.0, allows_same ρ)).good
     (counted_always Refunds H (always_map (LawfulAt ρ) (λ B. Refunds (counted B)) (λ B at. at.refunds) H lawful))
     (counted_always Balances H (always_map (LawfulAt ρ) (λ B. Balances (counted B)) (λ B at. at.balances) H lawful))

@@ -3,10 +3,10 @@ use Rattle.std.proofs.Common.{ℕ, zero, suc, ◌%◌, ◌^◌, ◌<◌, List, [
 use Rattle.std.specs.Int.{byte_at, bytes_high_first}
 use Rattle.bench_base.specs.Ranges.{IsWord, IsWholeEvent}
 use Rattle.bench_base.specs.Table.{Size, One, Two, Four, Five, Eight, IsNumber, IsBytes, Fit, spelled, row}
-use Rattle.bench_base.proofs.Tables.{IsBytes-append, length-row}
+use Rattle.bench_base.proofs.Tables.{IsBytes-append, length_row}
 use Rattle.psd_wire.specs.declared.message.Message.TheVariants as m
 use Rattle.psd_wire.specs.Grammar.{body, spell, debit_table, debit_values}
-use Rattle.psd_wire.proofs.Readings.{read-spell}
+use Rattle.psd_wire.proofs.Readings.{read_spell}
 use Rattle.generator.specs.Given.{GivesOnlyDebits}
 use Rattle.generator.specs.Turns.{gives, debit_of}
 
@@ -42,12 +42,12 @@ pub gives_whole : (piece postage : ℕ) → IsWord piece → IsWord postage → 
 unfolding gives body
 gives_whole piece postage h k =
     let fit = fits piece postage h k in
-    ((omega arith, omega arith), (omega (arith, length-row debit_table (debit_values (debit_of piece postage)) fit), IsBytes-row debit_table (debit_values (debit_of piece postage)) fit))
+    ((omega arith, omega arith), (omega (arith, length_row debit_table (debit_values (debit_of piece postage)) fit), IsBytes-row debit_table (debit_values (debit_of piece postage)) fit))
 
 -- it reads as a Debit
 pub gives_debit : (piece postage : ℕ) → IsWord piece → IsWord postage → GivesOnlyDebits (gives piece postage)
 unfolding gives spell
-gives_debit piece postage h k = (debit_of piece postage, read-spell (m.Debit (debit_of piece postage)) [] (fits piece postage h k))
+gives_debit piece postage h k = (debit_of piece postage, read_spell (m.Debit (debit_of piece postage)) [] (fits piece postage h k))
 
 pub IsBytes-ones : (n : ℕ) → IsBytes (replicate n 1)
 IsBytes-ones zero i = omega arith

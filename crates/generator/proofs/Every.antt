@@ -13,9 +13,9 @@ use Rattle.generator.specs.Opening.{first_key, introductions, first_transactions
 use Rattle.generator.specs.Events.{turns, opened, generated}
 use Rattle.generator.proofs.Debits.{IsBytes-ones, gives_whole, gives_debit}
 
-each-append : (P : Event → Type 0) (a b : List Event) → AllByRecursion P a → AllByRecursion P b → AllByRecursion P (a ++ b)
-each-append P [] b p q = q
-each-append P (e ∷ a) b p q = (p.0, each-append P a b p.1 q)
+each_append : (P : Event → Type 0) (a b : List Event) → AllByRecursion P a → AllByRecursion P b → AllByRecursion P (a ++ b)
+each_append P [] b p q = q
+each_append P (e ∷ a) b p q = (p.0, each_append P a b p.1 q)
 
 -- what a turn draws fits its types
 abbrev IsTurn : Turn → Type 0
@@ -44,7 +44,7 @@ each_turn : (P : Event → Type 0) → ((n : ℕ) (c : Counts) (t : Turn) → Ha
     → (n x : ℕ) (c : Counts) → HasRoom n c → AllByRecursion P (turns n x c)
 each_turn P each zero x c h = tt
 each_turn P each (suc n) x c h =
-    each-append P (events_of c (turn_from x)) _ (each n c (turn_from x) h (is_turn x))
+    each_append P (events_of c (turn_from x)) _ (each n c (turn_from x) h (is_turn x))
     (each_turn P each n (number_after (draws_of (turn_from x)) x) (counted c (turn_from x)) (room_counted n c (turn_from x) h))
 
 whole_turn : (n : ℕ) (c : Counts) (t : Turn) → HasRoom (suc n) c → IsTurn t → AllByRecursion IsWholeEvent (events_of c t)
@@ -101,15 +101,15 @@ whole_debits = search rules
 
 pub all_whole : (seed count : ℕ) → IsWord seed → count ≤ 90000 → AllByRecursion IsWholeEvent (generated seed count)
 all_whole seed count word few =
-    each-append IsWholeEvent opening (turns count seed opened)
-    (each-append IsWholeEvent introductions (first_transactions ++ first_debits) whole_introductions (each-append IsWholeEvent first_transactions first_debits whole_transactions whole_debits))
+    each_append IsWholeEvent opening (turns count seed opened)
+    (each_append IsWholeEvent introductions (first_transactions ++ first_debits) whole_introductions (each_append IsWholeEvent first_transactions first_debits whole_transactions whole_debits))
     (whole_turns seed count few)
 
 debits_opening : AllByRecursion GivesOnlyDebits opening
 debits_opening = search rules
 
 pub all_debits : (seed count : ℕ) → IsWord seed → count ≤ 90000 → AllByRecursion GivesOnlyDebits (generated seed count)
-all_debits seed count word few = each-append GivesOnlyDebits opening (turns count seed opened) debits_opening (debits_turns seed count few)
+all_debits seed count word few = each_append GivesOnlyDebits opening (turns count seed opened) debits_opening (debits_turns seed count few)
 
 alone_gives : (piece postage : ℕ) → NeedsNoStream (gives piece postage)
 unfolding gives
@@ -125,10 +125,10 @@ alone_turn c Reset = search rules
 alone_turns : (n x : ℕ) (c : Counts) → AllByRecursion NeedsNoStream (turns n x c)
 alone_turns zero x c = tt
 alone_turns (suc n) x c =
-    each-append NeedsNoStream (events_of c (turn_from x)) _ (alone_turn c (turn_from x)) (alone_turns n (number_after (draws_of (turn_from x)) x) (counted c (turn_from x)))
+    each_append NeedsNoStream (events_of c (turn_from x)) _ (alone_turn c (turn_from x)) (alone_turns n (number_after (draws_of (turn_from x)) x) (counted c (turn_from x)))
 
 alone_opening : AllByRecursion NeedsNoStream opening
 alone_opening = search rules
 
 pub all_alone : (seed count : ℕ) → AllByRecursion NeedsNoStream (generated seed count)
-all_alone seed count = each-append NeedsNoStream opening (turns count seed opened) alone_opening (alone_turns count seed opened)
+all_alone seed count = each_append NeedsNoStream opening (turns count seed opened) alone_opening (alone_turns count seed opened)

@@ -3,6 +3,6 @@ use Rattle.std.proofs.Common.{◌≡◌, ℕ, List, length}
 use Rattle.hmac_core.specs.Hmac.{hmac}
 use Rattle.sha2.proofs.Facts256.{length-sha256}
 
-pub length-hmac : (key text : List ℕ) → length (hmac key text) ≡ 32
+pub length_hmac : (key text : List ℕ) → length (hmac key text) ≡ 32
 unfolding hmac
-length-hmac key text = length-sha256 _
+length_hmac key text = length-sha256 _

@@ -6,7 +6,7 @@ use Rattle.std.proofs.lemmas.Bool.{cases_Bool}
 use Rattle.std.proofs.lemmas.List.{append-nil}
 use Rattle.bench_base.specs.Ranges.{IsPostage}
 use Rattle.bench_base.specs.Table.{values, row, Fit}
-use Rattle.bench_base.proofs.Tables.{values-row}
+use Rattle.bench_base.proofs.Tables.{values_row}
 use Rattle.host_departments.specs.Payload.{cell_table, cell_bytes, quota_from, job_from, row_from, decoded, IsFit}
 use Rattle.host_departments.specs.Rows.{department_of}
 use Rattle.host_departments.specs.declared.row.DepartmentRow.{DepartmentRow}
@@ -42,7 +42,7 @@ is_in_range j p most is = (grind (arith, nat_tests), (grind (arith, nat_tests), 
 numbers_back : (a b c : ℕ) → Fit cell_table (a ∷ b ∷ c ∷ []) → (bytes : List ℕ) → bytes ≡ cell_bytes a b c → values 0 cell_table bytes ≡ a ∷ b ∷ c ∷ []
 unfolding cell_bytes
 numbers_back a b c fit bytes is =
-    ap (values 0 cell_table) (is ∙ sym (append-nil (row cell_table (a ∷ b ∷ c ∷ [])))) ∙ values-row cell_table (a ∷ b ∷ c ∷ []) [] [] 0 refl fit
+    ap (values 0 cell_table) (is ∙ sym (append-nil (row cell_table (a ∷ b ∷ c ∷ [])))) ∙ values_row cell_table (a ∷ b ∷ c ∷ []) [] [] 0 refl fit
 
 quota_back : (k q : ℕ) → quota_from k ((k + 1) ∷ q ∷ 0 ∷ []) ≡ Some (Quota q)
 unfolding quota_from

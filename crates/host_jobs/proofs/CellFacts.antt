@@ -16,8 +16,8 @@ use Rattle.host_jobs.specs.Answers.{is_open}
 use Rattle.host_jobs.specs.Turns.{InTurn}
 use Rattle.host_jobs.specs.Rows.{job_in}
 use Rattle.host_jobs.specs.Records.{tops_after, record_by, record_of, job_no, cell_row}
-use Rattle.host_jobs.proofs.Cells.{cell-lt, cell-one}
-use Rattle.host_jobs.proofs.JobFacts.{Facts, IsJob, facts, open-state}
+use Rattle.host_jobs.proofs.Cells.{cell_lt, cell_one}
+use Rattle.host_jobs.proofs.JobFacts.{Facts, IsJob, facts, open_state}
 
 -- the row is what the commits tell of the job
 pub record IsRowOf (r : JobRow) (j : ℕ) (C : List Commit) : Type 0 where
@@ -51,8 +51,8 @@ pub record CellFacts (C : List Commit) : Type 0 where
   pub tops_le : (k : ℕ) (r : JobRow) (d : ℕ) → cell_row k C ≡ Some r → IsDevice d → get_or r.tops (d - 1) 0 ≤ top d C
   pub tops_at : ((d : ℕ) → top d C ≡ 0) ⊎ HasTops C
 
-pub after-at : (C : List Commit) (d : ℕ) → IsDevice d → get_or (tops_after C) (d - 1) 0 ≡ top d C
-after-at C d is = listed_at 8 (λ i. top (i + 1) C) 0 (d - 1) (omega (arith, is)) ∙ ap (λ (n : ℕ). top n C) (omega (arith, is))
+pub after_at : (C : List Commit) (d : ℕ) → IsDevice d → get_or (tops_after C) (d - 1) 0 ≡ top d C
+after_at C d is = listed_at 8 (λ i. top (i + 1) C) 0 (d - 1) (omega (arith, is)) ∙ ap (λ (n : ℕ). top n C) (omega (arith, is))
 
 -- what a commit leaves of another job
 record Same (j : ℕ) (old new : List Commit) : Type 0 where
@@ -86,13 +86,13 @@ module _ (i : ℕ) (c : Commit) (C : List Commit) (by : Changes i c C) (old : Ce
   abbrev new : JobRow
   new = written what.0 stands.0
 
-  record-is : record_of i D ≡ Some new
-  record-is = ap (λ (o : Option Job). record_by i D o (state_of i D)) what.1 ∙ ap (λ (o : Option JobState). record_by i D (Some what.0) o) stands.1
+  record_is : record_of i D ≡ Some new
+  record_is = ap (λ (o : Option Job). record_by i D o (state_of i D)) what.1 ∙ ap (λ (o : Option JobState). record_by i D (Some what.0) o) stands.1
 
   here : cell_row (cell_of i) D ≡ Some new
   here =
       let same : same_place (place_of c) (OfJob (cell_of i)) ≡ true = ap (λ (p : Place). same_place p (OfJob (cell_of i))) by.place ∙ eq-eqb (cell_of i) (cell_of i) refl in
-      rw same (ap (λ (n : ℕ). record_of n D) by.number ∙ record-is)
+      rw same (ap (λ (n : ℕ). record_of n D) by.number ∙ record_is)
 
   other : (k : ℕ) → k ≢ cell_of i → cell_row k D ≡ cell_row k C
   other k differs =
@@ -106,8 +106,8 @@ module _ (i : ℕ) (c : Commit) (C : List Commit) (by : Changes i c C) (old : Ce
       (λ (e : (last_job D ≡ last_job C + 1) × (i ≡ last_job C + 1)). ((le.0, omega (arith, le.1, e.0, e.1)), omega (arith, near, e.0)))
       by.grown
 
-  step-cells : (j : ℕ) → IsJob j D → last_job D < j + 1024 → Shown j D
-  step-cells j le near = ⊎_elim
+  step_cells : (j : ℕ) → IsJob j D → last_job D < j + 1024 → Shown j D
+  step_cells j le near = ⊎_elim
       (λ (e : j ≡ i). subst (λ (n : ℕ). Shown n D) (sym e) (record { row = new; at = here; is = record { number = refl; job = what.1; state = stands.1; held = refl } }))
       (λ (differs : j ≢ i).
       let was = before j le near differs in
@@ -115,13 +115,13 @@ module _ (i : ℕ) (c : Commit) (C : List Commit) (by : Changes i c C) (old : Ce
       let same = by.others j differs in
       record {
         row = it.row;
-        at = other (cell_of j) (λ e. differs (cell-one (last_job D) j i le.0 le.1 near by.own.0 by.own.1 by.near e)) ∙ it.at;
+        at = other (cell_of j) (λ e. differs (cell_one (last_job D) j i le.0 le.1 near by.own.0 by.own.1 by.near e)) ∙ it.at;
         is = record { number = it.is.number; job = same.job ∙ it.is.job; state = same.state ∙ it.is.state; held = same.held ∙ it.is.held };
       })
       (cases_eq j i)
 
-  step-back : (k : ℕ) (r : JobRow) → cell_row k D ≡ Some r → IsLast k r.job D
-  step-back k r at = ⊎_elim
+  step_back : (k : ℕ) (r : JobRow) → cell_row k D ≡ Some r → IsLast k r.job D
+  step_back k r at = ⊎_elim
       (λ (e : k ≡ cell_of i).
       let is : new ≡ r = same_Some _ _ (sym here ∙ ap (λ (n : ℕ). cell_row n D) (sym e) ∙ at) in
       let number : i ≡ r.job = ap (λ (y : JobRow). y.job) is in
@@ -145,21 +145,21 @@ module _ (i : ℕ) (c : Commit) (C : List Commit) (by : Changes i c C) (old : Ce
       far : (j : ℕ) → 1 ≤ j → i ≡ j + 1024 → cell_of j ≡ cell_of i
       far j from e = omega arith
 
-  step-tops_le : (k : ℕ) (r : JobRow) (d : ℕ) → cell_row k D ≡ Some r → IsDevice d → get_or r.tops (d - 1) 0 ≤ top d D
-  step-tops_le k r d at device = ⊎_elim
+  step_tops_le : (k : ℕ) (r : JobRow) (d : ℕ) → cell_row k D ≡ Some r → IsDevice d → get_or r.tops (d - 1) 0 ≤ top d D
+  step_tops_le k r d at device = ⊎_elim
       (λ (e : k ≡ cell_of i).
       let is : new ≡ r = same_Some _ _ (sym here ∙ ap (λ (n : ℕ). cell_row n D) (sym e) ∙ at) in
       let tops : tops_after D ≡ r.tops = ap (λ (y : JobRow). y.tops) is in
-      omega (arith, ap (λ (l : List ℕ). get_or l (d - 1) 0) tops, after-at D d device))
+      omega (arith, ap (λ (l : List ℕ). get_or l (d - 1) 0) tops, after_at D d device))
       (λ (differs : k ≢ cell_of i). omega (arith, old.tops_le k r d (sym (other k differs) ∙ at) device, by.tops d))
       (cases_eq k (cell_of i))
 
   step : CellFacts D
   step = record {
-    cells = step-cells;
-    back = step-back;
-    tops_le = step-tops_le;
-    tops_at = inr (record { cell = cell_of i; inside = cell-lt i; row = new; at = here; tops = refl });
+    cells = step_cells;
+    back = step_back;
+    tops_le = step_tops_le;
+    tops_at = inr (record { cell = cell_of i; inside = cell_lt i; row = new; at = here; tops = refl });
   }
 
 none : CellFacts []
@@ -171,30 +171,30 @@ none = record {
 }
 
 -- an order is not about another job
-other-ordered : (i f q a k j : ℕ) (C : List Commit) → j ≢ i → Same j C (Ordered i f q a k ∷ C)
-other-ordered i f q a k j C differs = let t = ne_eqb i j (λ e. differs (sym e)) in record { job = rw t refl; state = rw t refl; held = refl {a = held_of j C} }
+other_ordered : (i f q a k j : ℕ) (C : List Commit) → j ≢ i → Same j C (Ordered i f q a k ∷ C)
+other_ordered i f q a k j C differs = let t = ne_eqb i j (λ e. differs (sym e)) in record { job = rw t refl; state = rw t refl; held = refl {a = held_of j C} }
 
-other-held : (i j : ℕ) (x : List ℕ) (C : List Commit) → j ≢ i → Same j C (Held i x ∷ C)
-other-held i j x C differs = let t = ne_eqb i j (λ e. differs (sym e)) in record { job = refl; state = rw t refl; held = rw t refl }
+other_held : (i j : ℕ) (x : List ℕ) (C : List Commit) → j ≢ i → Same j C (Held i x ∷ C)
+other_held i j x C differs = let t = ne_eqb i j (λ e. differs (sym e)) in record { job = refl; state = rw t refl; held = rw t refl }
 
-other-began : (i j : ℕ) (C : List Commit) → j ≢ i → Same j C (Began i ∷ C)
-other-began i j C differs = let t = ne_eqb i j (λ e. differs (sym e)) in record { job = refl; state = rw t refl; held = refl }
+other_began : (i j : ℕ) (C : List Commit) → j ≢ i → Same j C (Began i ∷ C)
+other_began i j C differs = let t = ne_eqb i j (λ e. differs (sym e)) in record { job = refl; state = rw t refl; held = refl }
 
-other-closed : (i j : ℕ) (C : List Commit) → j ≢ i → Same j C (Closed i ∷ C)
-other-closed i j C differs = let t = ne_eqb i j (λ e. differs (sym e)) in record { job = refl; state = rw t refl; held = refl }
+other_closed : (i j : ℕ) (C : List Commit) → j ≢ i → Same j C (Closed i ∷ C)
+other_closed i j C differs = let t = ne_eqb i j (λ e. differs (sym e)) in record { job = refl; state = rw t refl; held = refl }
 
 -- a job that is not closed is one of the last 1,024
-pub live-near : (C : List Commit) → Facts C → (i : ℕ) (s : JobState) → state_of i C ≡ Some s → (s ≡ state.Closed → ⊥) → last_job C < i + 1024
-live-near C h i s at live = ⊎_elim
+pub live_near : (C : List Commit) → Facts C → (i : ℕ) (s : JobState) → state_of i C ≡ Some s → (s ≡ state.Closed → ⊥) → last_job C < i + 1024
+live_near C h i s at live = ⊎_elim
     (λ (lt : last_job C < i + 1024). lt)
     (λ (far : i + 1024 ≤ last_job C). absurd (live (same_Some _ _ (sym at ∙ h.past i (h.state_le i s at).0 far))))
     (cases_lt (last_job C) (i + 1024))
 
-open-live : (s : JobState) → is_open (Some s) ≡ true → s ≡ state.Closed → ⊥
-open-live state.Ordered live e = absurd (cc)
-open-live state.Held live e = absurd (cc)
-open-live state.Begun live e = absurd (cc)
-open-live state.Closed live e = let bad : false ≡ true = live in absurd (cc)
+open_live : (s : JobState) → is_open (Some s) ≡ true → s ≡ state.Closed → ⊥
+open_live state.Ordered live e = absurd (cc)
+open_live state.Held live e = absurd (cc)
+open_live state.Begun live e = absurd (cc)
+open_live state.Closed live e = let bad : false ≡ true = live in absurd (cc)
 
 pub cells : (C : List Commit) → InTurn C → CellFacts C
 cells [] g = none
@@ -204,7 +204,7 @@ cells (Ordered i f q a k ∷ C) g =
       number = refl;
       own = (omega (arith, g.0.next), omega (arith, g.0.next));
       near = omega (arith, g.0.next);
-      others = λ j differs. other-ordered i f q a k j C differs;
+      others = λ j differs. other_ordered i f q a k j C differs;
       grown = inr (refl, g.0.next);
       tops = λ d. omega arith;
     }) (cells C g.1) (facts (Ordered i f q a k ∷ C) g)
@@ -215,8 +215,8 @@ cells (Held i x ∷ C) g =
       place = refl;
       number = refl;
       own = h.state_le i state.Ordered mine.state;
-      near = live-near C h i state.Ordered mine.state (λ e. absurd (cc));
-      others = λ j differs. other-held i j x C differs;
+      near = live_near C h i state.Ordered mine.state (λ e. absurd (cc));
+      others = λ j differs. other_held i j x C differs;
       grown = inl refl;
       tops = λ d. omega arith;
     }) (cells C g.1) (facts (Held i x ∷ C) g)
@@ -226,20 +226,20 @@ cells (Began i ∷ C) g =
       place = refl;
       number = refl;
       own = h.state_le i state.Held g.0;
-      near = live-near C h i state.Held g.0 (λ e. absurd (cc));
-      others = λ j differs. other-began i j C differs;
+      near = live_near C h i state.Held g.0 (λ e. absurd (cc));
+      others = λ j differs. other_began i j C differs;
       grown = inl refl;
       tops = λ d. omega arith;
     }) (cells C g.1) (facts (Began i ∷ C) g)
 cells (Closed i ∷ C) g =
     let h = facts C g.1 in
-    let it = open-state (state_of i C) g.0 in
+    let it = open_state (state_of i C) g.0 in
     step i (Closed i) C (record {
       place = refl;
       number = refl;
       own = h.state_le i it.0 it.1;
-      near = live-near C h i it.0 it.1 (open-live it.0 (ap is_open (sym it.1) ∙ g.0));
-      others = λ j differs. other-closed i j C differs;
+      near = live_near C h i it.0 it.1 (open_live it.0 (ap is_open (sym it.1) ∙ g.0));
+      others = λ j differs. other_closed i j C differs;
       grown = inl refl;
       tops = λ d. omega arith;
     }) (cells C g.1) (facts (Closed i ∷ C) g)

@@ -7,7 +7,7 @@ use Rattle.std.proofs.lemmas.List.{drop_at, take_at, take-append-drop, drop-drop
 use Rattle.bench_base.specs.declared.words.JobState.{JobState}
 use Rattle.bench_base.specs.declared.words.JobState.TheVariants as state
 use Rattle.bench_base.specs.Table.{One, Two, Four, number, row, values, Fit, IsBytes}
-use Rattle.bench_base.proofs.Tables.{row-values, values-row, values-fit, length-row}
+use Rattle.bench_base.proofs.Tables.{row_values, values_row, values_fit, length_row}
 use Rattle.indicium.specs.declared.Mark.{Mark}
 use Rattle.indicium.specs.Marks.{read_mark}
 use Rattle.psd_wire.proofs.Readings.{byte_of, mark_long}
@@ -19,41 +19,41 @@ use Rattle.host_jobs.specs.PayloadLaws.{PayloadLaws}
 -- == marks ==
 
 -- the last 64 bytes
-pub end-of : (bytes : List ℕ) → length bytes ≡ 115 → (take 64 (drop 51 bytes) ≡ drop 51 bytes) × (length (take 64 (drop 51 bytes)) ≡ 64)
-end-of bytes l =
+pub end_of : (bytes : List ℕ) → length bytes ≡ 115 → (take 64 (drop 51 bytes) ≡ drop 51 bytes) × (length (take 64 (drop 51 bytes)) ≡ 64)
+end_of bytes l =
     let long : length (drop 51 bytes) ≡ 64 = length-drop 51 bytes ∙ omega (arith, l) in
     let all : take 64 (drop 51 bytes) ≡ drop 51 bytes = take_all 64 (drop 51 bytes) (omega (arith, long)) in
     (all, ap length all ∙ long)
 
-zeros-unread : (found : Mark × List ℕ) → read_mark (replicate 64 0) ≡ Ok found → ⊥
+zeros_unread : (found : Mark × List ℕ) → read_mark (replicate 64 0) ≡ Ok found → ⊥
 unfolding read_mark
-zeros-unread found e = cc
+zeros_unread found e = cc
 
 -- a mark is none of zeros
 abbrev pub IsSome64 : List ℕ → Type 0
 IsSome64 x = (replicate 64 0 ≡ x → ⊥) × (length x ≡ 64)
 
-some64-prop : (x : List ℕ) → IsProp (IsSome64 x)
-some64-prop x = hlevel props
+some64_prop : (x : List ℕ) → IsProp (IsSome64 x)
+some64_prop x = hlevel props
 
-pub mark-some : (r : JobRow) (x : List ℕ) → Holds r x → IsSome64 x
-mark-some r x h = ∥∥₁_elim h.mark (some64-prop x) (λ m. (λ zeros. zeros-unread (m.mark, m.code) (ap read_mark zeros ∙ m.reads), mark_long x (m.mark, m.code) m.reads))
+pub mark_some : (r : JobRow) (x : List ℕ) → Holds r x → IsSome64 x
+mark_some r x h = ∥∥₁_elim h.mark (some64_prop x) (λ m. (λ zeros. zeros_unread (m.mark, m.code) (ap read_mark zeros ∙ m.reads), mark_long x (m.mark, m.code) m.reads))
 
-pub marks-some : (r : JobRow) (o : Option (List ℕ)) → IfSome o (Holds r) → IfSome o IsSome64
-marks-some r None h = tt
-marks-some r (Some x) h = mark-some r x h
+pub marks_some : (r : JobRow) (o : Option (List ℕ)) → IfSome o (Holds r) → IfSome o IsSome64
+marks_some r None h = tt
+marks_some r (Some x) h = mark_some r x h
 
-part-long : (o : Option (List ℕ)) → IfSome o IsSome64 → length (mark_part o) ≡ 64
+part_long : (o : Option (List ℕ)) → IfSome o IsSome64 → length (mark_part o) ≡ 64
 unfolding mark_part
-part-long None h = refl
-part-long (Some x) h = h.1
+part_long None h = refl
+part_long (Some x) h = h.1
 
-one-mark : (o p : Option (List ℕ)) → IfSome o IsSome64 → IfSome p IsSome64 → mark_part o ≡ mark_part p → o ≡ p
+one_mark : (o p : Option (List ℕ)) → IfSome o IsSome64 → IfSome p IsSome64 → mark_part o ≡ mark_part p → o ≡ p
 unfolding mark_part
-one-mark None None h k e = refl
-one-mark None (Some y) h k e = absurd (k.0 e)
-one-mark (Some x) None h k e = absurd (h.0 (sym e))
-one-mark (Some x) (Some y) h k e = ap (λ (z : List ℕ). Some z) e
+one_mark None None h k e = refl
+one_mark None (Some y) h k e = absurd (k.0 e)
+one_mark (Some x) None h k e = absurd (h.0 (sym e))
+one_mark (Some x) (Some y) h k e = ap (λ (z : List ℕ). Some z) e
 
 -- == the parts of the bytes ==
 
@@ -66,104 +66,104 @@ pub record Parts (r : JobRow) (bytes : List ℕ) : Type 0 where
 pub parts : (r : JobRow) (bytes : List ℕ) → JobReadsAs bytes r → Parts r bytes
 unfolding job_bytes head_part tops_part
 parts r bytes h = record {
-  numbers = ap (values 0 head_table) (sym h.reads) ∙ values-row head_table (head r) [] (row tops_table r.tops ++ mark_part r.indicium) 0 refl h.fits.head;
-  tops = ap (values 19 tops_table) (sym h.reads) ∙ values-row tops_table r.tops (row head_table (head r)) (mark_part r.indicium) 19 long h.fits.tops;
+  numbers = ap (values 0 head_table) (sym h.reads) ∙ values_row head_table (head r) [] (row tops_table r.tops ++ mark_part r.indicium) 0 refl h.fits.head;
+  tops = ap (values 19 tops_table) (sym h.reads) ∙ values_row tops_table r.tops (row head_table (head r)) (mark_part r.indicium) 19 long h.fits.tops;
   mark =
       ap (drop 51) (sym h.reads)
       ∙ sym (drop-drop 32 19 (row head_table (head r) ++ (row tops_table r.tops ++ mark_part r.indicium)))
       ∙ ap (drop 32) (drop_at (row head_table (head r)) (row tops_table r.tops ++ mark_part r.indicium) 19 long)
-      ∙ drop_at (row tops_table r.tops) (mark_part r.indicium) 32 (length-row tops_table r.tops h.fits.tops);
+      ∙ drop_at (row tops_table r.tops) (mark_part r.indicium) 32 (length_row tops_table r.tops h.fits.tops);
 }
   where
     long : length (row head_table (head r)) ≡ 19
-    long = length-row head_table (head r) h.fits.head
+    long = length_row head_table (head r) h.fits.head
 
 pub made : (r : JobRow) (bytes : List ℕ) → length bytes ≡ 115 → IsBytes bytes → IsSoundJob r → Parts r bytes → JobReadsAs bytes r
 unfolding job_bytes head_part tops_part
 made r bytes l h sound are = record {
   sound = sound;
-  fits = record { head = subst (Fit head_table) are.numbers (values-fit head_table 0 bytes h); tops = subst (Fit tops_table) are.tops (values-fit tops_table 19 bytes h) };
+  fits = record { head = subst (Fit head_table) are.numbers (values_fit head_table 0 bytes h); tops = subst (Fit tops_table) are.tops (values_fit tops_table 19 bytes h) };
   reads =
-      ap₂ (λ x y. x ++ y) (ap (row head_table) (sym are.numbers) ∙ row-values head_table 0 bytes (omega (arith, l)) h)
-      (ap₂ (λ x y. x ++ y) (ap (row tops_table) (sym are.tops) ∙ row-values tops_table 19 bytes (omega (arith, l)) h) (sym are.mark)
+      ap₂ (λ x y. x ++ y) (ap (row head_table) (sym are.numbers) ∙ row_values head_table 0 bytes (omega (arith, l)) h)
+      (ap₂ (λ x y. x ++ y) (ap (row tops_table) (sym are.tops) ∙ row_values tops_table 19 bytes (omega (arith, l)) h) (sym are.mark)
       ∙ ap (λ x. take 32 (drop 19 bytes) ++ x) (sym (drop-drop 32 19 bytes)) ∙ take-append-drop 32 (drop 19 bytes))
       ∙ take-append-drop 19 bytes;
 }
 
 -- == one job ==
 
-byte-state : (s t : JobState) → state_byte s ≡ state_byte t → s ≡ t
-byte-state state.Ordered state.Ordered e = refl
-byte-state state.Held state.Held e = refl
-byte-state state.Begun state.Begun e = refl
-byte-state state.Closed state.Closed e = refl
-byte-state state.Ordered state.Held e = absurd (omega (arith, e))
-byte-state state.Ordered state.Begun e = absurd (omega (arith, e))
-byte-state state.Ordered state.Closed e = absurd (omega (arith, e))
-byte-state state.Held state.Ordered e = absurd (omega (arith, e))
-byte-state state.Held state.Begun e = absurd (omega (arith, e))
-byte-state state.Held state.Closed e = absurd (omega (arith, e))
-byte-state state.Begun state.Ordered e = absurd (omega (arith, e))
-byte-state state.Begun state.Held e = absurd (omega (arith, e))
-byte-state state.Begun state.Closed e = absurd (omega (arith, e))
-byte-state state.Closed state.Ordered e = absurd (omega (arith, e))
-byte-state state.Closed state.Held e = absurd (omega (arith, e))
-byte-state state.Closed state.Begun e = absurd (omega (arith, e))
+byte_state : (s t : JobState) → state_byte s ≡ state_byte t → s ≡ t
+byte_state state.Ordered state.Ordered e = refl
+byte_state state.Held state.Held e = refl
+byte_state state.Begun state.Begun e = refl
+byte_state state.Closed state.Closed e = refl
+byte_state state.Ordered state.Held e = absurd (omega (arith, e))
+byte_state state.Ordered state.Begun e = absurd (omega (arith, e))
+byte_state state.Ordered state.Closed e = absurd (omega (arith, e))
+byte_state state.Held state.Ordered e = absurd (omega (arith, e))
+byte_state state.Held state.Begun e = absurd (omega (arith, e))
+byte_state state.Held state.Closed e = absurd (omega (arith, e))
+byte_state state.Begun state.Ordered e = absurd (omega (arith, e))
+byte_state state.Begun state.Held e = absurd (omega (arith, e))
+byte_state state.Begun state.Closed e = absurd (omega (arith, e))
+byte_state state.Closed state.Ordered e = absurd (omega (arith, e))
+byte_state state.Closed state.Held e = absurd (omega (arith, e))
+byte_state state.Closed state.Begun e = absurd (omega (arith, e))
 
-pub state-in : (s : JobState) → (1 ≤ state_byte s) × (state_byte s ≤ 4)
-state-in state.Ordered = (omega arith, omega arith)
-state-in state.Held = (omega arith, omega arith)
-state-in state.Begun = (omega arith, omega arith)
-state-in state.Closed = (omega arith, omega arith)
+pub state_in : (s : JobState) → (1 ≤ state_byte s) × (state_byte s ≤ 4)
+state_in state.Ordered = (omega arith, omega arith)
+state_in state.Held = (omega arith, omega arith)
+state_in state.Begun = (omega arith, omega arith)
+state_in state.Closed = (omega arith, omega arith)
 
 -- jobs of the same parts are one job
-pub same-job : (r s : JobRow) (bytes : List ℕ) → Parts r bytes → Parts s bytes → IfSome r.indicium IsSome64 → IfSome s.indicium IsSome64 → r ≡ s
-same-job r s bytes a b some some' =
+pub same_job : (r s : JobRow) (bytes : List ℕ) → Parts r bytes → Parts s bytes → IfSome r.indicium IsSome64 → IfSome s.indicium IsSome64 → r ≡ s
+same_job r s bytes a b some some' =
     let e : head r ≡ head s = sym a.numbers ∙ b.numbers in
     let job : r.job ≡ s.job = ap (λ vs. get_or vs 0 0) e in
     let device : r.device ≡ s.device = ap (λ vs. get_or vs 1 0) e in
     let piece : r.piece ≡ s.piece = ap (λ vs. get_or vs 2 0) e in
     let postage : r.postage ≡ s.postage = ap (λ vs. get_or vs 3 0) e in
     let class : r.class ≡ s.class = ap (λ vs. get_or vs 4 0) e in
-    let state : r.state ≡ s.state = byte-state r.state s.state (ap (λ vs. get_or vs 5 0) e) in
+    let state : r.state ≡ s.state = byte_state r.state s.state (ap (λ vs. get_or vs 5 0) e) in
     let tops : r.tops ≡ s.tops = sym a.tops ∙ b.tops in
-    let indicium : r.indicium ≡ s.indicium = one-mark r.indicium s.indicium some some' (sym a.mark ∙ b.mark) in
+    let indicium : r.indicium ≡ s.indicium = one_mark r.indicium s.indicium some some' (sym a.mark ∙ b.mark) in
     λ i. record { job = job i; device = device i; piece = piece i; postage = postage i; class = class i; state = state i; tops = tops i; indicium = indicium i }
 
-pub one-job : (payload : List ℕ) (r s : JobRow) → JobReadsAs payload r → JobReadsAs payload s → r ≡ s
-one-job payload r s a b = same-job r s payload (parts r payload a) (parts s payload b) (marks-some r r.indicium a.sound.holds) (marks-some s s.indicium b.sound.holds)
+pub one_job : (payload : List ℕ) (r s : JobRow) → JobReadsAs payload r → JobReadsAs payload s → r ≡ s
+one_job payload r s a b = same_job r s payload (parts r payload a) (parts s payload b) (marks_some r r.indicium a.sound.holds) (marks_some s s.indicium b.sound.holds)
 
-pub written-job : (r : JobRow) → IsSoundJob r → JobFits r → JobReadsAs (job_bytes r) r
-written-job r sound fits = record { sound = sound; fits = fits; reads = refl }
+pub written_job : (r : JobRow) → IsSoundJob r → JobFits r → JobReadsAs (job_bytes r) r
+written_job r sound fits = record { sound = sound; fits = fits; reads = refl }
 
-pub length-job : (payload : List ℕ) (r : JobRow) → JobReadsAs payload r → length payload ≡ 115
+pub length_job : (payload : List ℕ) (r : JobRow) → JobReadsAs payload r → length payload ≡ 115
 unfolding job_bytes head_part tops_part
-length-job payload r h =
-    let long = part-long r.indicium (marks-some r r.indicium h.sound.holds) in
-    let one = length-row head_table (head r) h.fits.head in
-    let two = length-row tops_table r.tops h.fits.tops in
+length_job payload r h =
+    let long = part_long r.indicium (marks_some r r.indicium h.sound.holds) in
+    let one = length_row head_table (head r) h.fits.head in
+    let two = length_row tops_table r.tops h.fits.tops in
     omega (arith, ap length (sym h.reads), length-append (row head_table (head r)) (row tops_table r.tops ++ mark_part r.indicium), length-append (row tops_table r.tops) (mark_part r.indicium), long, one, two)
 
-pub payload-laws : PayloadLaws
-payload-laws = record { one = one-job; written = written-job; long = length-job }
+pub payload_laws : PayloadLaws
+payload_laws = record { one = one_job; written = written_job; long = length_job }
 
 -- == the numbers, read one by one ==
 
-pub numbers-read : (bytes : List ℕ) (j d p a k : ℕ) (s : JobState) → j ≡ number Four (take 4 bytes) → d ≡ number Four (take 4 (drop 4 bytes)) → p ≡ number Four (take 4 (drop 8 bytes))
+pub numbers_read : (bytes : List ℕ) (j d p a k : ℕ) (s : JobState) → j ≡ number Four (take 4 bytes) → d ≡ number Four (take 4 (drop 4 bytes)) → p ≡ number Four (take 4 (drop 8 bytes))
     → a ≡ number Four (take 4 (drop 12 bytes)) → k ≡ number Two (take 2 (drop 16 bytes)) → state_byte s ≡ get_or bytes 18 0
     → values 0 head_table bytes ≡ j ∷ d ∷ p ∷ a ∷ k ∷ state_byte s ∷ []
-numbers-read bytes j d p a k s hj hd hp ha hk hs =
+numbers_read bytes j d p a k s hj hd hp ha hk hs =
     let byte : number One (take 1 (drop 18 bytes)) ≡ state_byte s = byte_of 18 bytes ∙ sym hs in
     cc
 
-pub job-number : (r : JobRow) (bytes : List ℕ) → JobReadsAs bytes r → number Four (take 4 bytes) ≡ r.job
-job-number r bytes h = ap (λ vs. get_or vs 0 0) (parts r bytes h).numbers
+pub job_number : (r : JobRow) (bytes : List ℕ) → JobReadsAs bytes r → number Four (take 4 bytes) ≡ r.job
+job_number r bytes h = ap (λ vs. get_or vs 0 0) (parts r bytes h).numbers
 
-pub device-number : (r : JobRow) (bytes : List ℕ) → JobReadsAs bytes r → number Four (take 4 (drop 4 bytes)) ≡ r.device
-device-number r bytes h = ap (λ vs. get_or vs 1 0) (parts r bytes h).numbers
+pub device_number : (r : JobRow) (bytes : List ℕ) → JobReadsAs bytes r → number Four (take 4 (drop 4 bytes)) ≡ r.device
+device_number r bytes h = ap (λ vs. get_or vs 1 0) (parts r bytes h).numbers
 
-pub state-number : (r : JobRow) (bytes : List ℕ) → JobReadsAs bytes r → get_or bytes 18 0 ≡ state_byte r.state
-state-number r bytes h = sym (byte_of 18 bytes) ∙ ap (λ vs. get_or vs 5 0) (parts r bytes h).numbers
+pub state_number : (r : JobRow) (bytes : List ℕ) → JobReadsAs bytes r → get_or bytes 18 0 ≡ state_byte r.state
+state_number r bytes h = sym (byte_of 18 bytes) ∙ ap (λ vs. get_or vs 5 0) (parts r bytes h).numbers
 
 -- == the parts, laid one after the other ==
 

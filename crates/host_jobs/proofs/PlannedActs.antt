@@ -25,13 +25,13 @@ use Rattle.host_jobs.specs.Soundness.{AreSound}
 use Rattle.host_jobs.specs.Acts.{HostAct, in_rows, shelf_in, ordered_act, order_by, unless, sent_act, begun_act, printed_act, closed_act, held_act, open_act, mark_act, message_act}
 use Rattle.host_jobs.specs.Plans.{shelf_of, shown_job, in_commits}
 use Rattle.host_jobs.specs.ActLaws.{AreRowsOf, ActsArePlanned}
-use Rattle.host_jobs.proofs.ByRows.{Tells, tells, tops-are, last-is, top-is, open-is, oldest-is, shown-in, shown-out}
+use Rattle.host_jobs.proofs.ByRows.{Tells, tells, tops_are, last_is, top_is, open_is, oldest_is, shown_in, shown_out}
 
 -- == order ==
 
 -- the answer is by the top, the last job, and the oldest one where the cells are full
-same-answer : (piece : ℕ) (h g : Shelf) → h.top ≡ g.top → h.last ≡ g.last → (1024 ≤ g.last → h.oldest ≡ g.oldest) → order_answer piece h None ≡ order_answer piece g None
-same-answer piece h g top last oldest =
+same_answer : (piece : ℕ) (h g : Shelf) → h.top ≡ g.top → h.last ≡ g.last → (1024 ≤ g.last → h.oldest ≡ g.oldest) → order_answer piece h None ≡ order_answer piece g None
+same_answer piece h g top last oldest =
     ap (λ (t : ℕ). answer t h.last (nat_le 1024 h.last && is_open h.oldest)) top
     ∙ ap (λ (n : ℕ). answer g.top n (nat_le 1024 n && is_open h.oldest)) last
     ∙ ap (λ (b : Bool). answer g.top g.last b) (by (nat_le 1024 g.last) refl)
@@ -45,69 +45,69 @@ same-answer piece h g top last oldest =
     by false is = ap (λ (b : Bool). b && is_open h.oldest) is ∙ ap (λ (b : Bool). b && is_open g.oldest) (sym is)
 
 module _ (rows : Jobs) (C : List Commit) (sound : AreSound rows) (are : AreRowsOf rows C) where
-  tops-now : tops_in rows ≡ tops_after C
-  tops-now = tops-are rows C sound are
+  tops_now : tops_in rows ≡ tops_after C
+  tops_now = tops_are rows C sound are
 
-  order-answer : (d piece : ℕ) → IsDevice d → (o : Option ℕ) → order_answer piece (shelf_in d rows) o ≡ order_answer piece (shelf_of d C) o
-  order-answer d piece device (Some j) = refl
-  order-answer d piece device None = same-answer piece (shelf_in d rows) (shelf_of d C) (top-is rows C sound are d device) (last-is rows C sound are) (oldest-is rows C sound are)
+  same_order : (d piece : ℕ) → IsDevice d → (o : Option ℕ) → order_answer piece (shelf_in d rows) o ≡ order_answer piece (shelf_of d C) o
+  same_order d piece device (Some j) = refl
+  same_order d piece device None = same_answer piece (shelf_in d rows) (shelf_of d C) (top_is rows C sound are d device) (last_is rows C sound are) (oldest_is rows C sound are)
 
-  order-alike : (d piece class : ℕ) (price : Option (Result ℕ RateRefusal)) → IsDevice d → order_by d piece class price (in_rows rows) ≡ order_by d piece class price (in_commits C)
-  order-alike d piece class None device = refl
-  order-alike d piece class (Some (Err x)) device = refl
-  order-alike d piece class (Some (Ok postage)) device =
-      ap (λ (tops : List ℕ). ordered_act d piece class postage tops (order_answer piece (shelf_in d rows) (open_in d rows))) tops-now
-      ∙ ap (λ (o : Option ℕ). ordered_act d piece class postage (tops_after C) (order_answer piece (shelf_in d rows) o)) (open-is rows C sound are d)
-      ∙ ap (λ (o : Result ℕ HostRefusal). ordered_act d piece class postage (tops_after C) o) (order-answer d piece device (open_job d C))
+  order_alike : (d piece class : ℕ) (price : Option (Result ℕ RateRefusal)) → IsDevice d → order_by d piece class price (in_rows rows) ≡ order_by d piece class price (in_commits C)
+  order_alike d piece class None device = refl
+  order_alike d piece class (Some (Err x)) device = refl
+  order_alike d piece class (Some (Ok postage)) device =
+      ap (λ (tops : List ℕ). ordered_act d piece class postage tops (order_answer piece (shelf_in d rows) (open_in d rows))) tops_now
+      ∙ ap (λ (o : Option ℕ). ordered_act d piece class postage (tops_after C) (order_answer piece (shelf_in d rows) o)) (open_is rows C sound are d)
+      ∙ ap (λ (o : Result ℕ HostRefusal). ordered_act d piece class postage (tops_after C) o) (same_order d piece device (open_job d C))
 
   -- == a job in its cell ==
 
   -- what is done with a row doesn't depend on the tops of its time
-  job-alike : {A : Type 0} (act : Option JobRow → HostAct A) → ((r : JobRow) (tops : List ℕ) → act (Some r) ≡ act (Some (record r { tops = tops }))) → (j : ℕ) → act (job_row rows j) ≡ act (shown_job j C)
-  job-alike {A} act same j = by (job_row rows j) (tells rows C sound are j (job_row rows j) refl)
+  job_alike : {A : Type 0} (act : Option JobRow → HostAct A) → ((r : JobRow) (tops : List ℕ) → act (Some r) ≡ act (Some (record r { tops = tops }))) → (j : ℕ) → act (job_row rows j) ≡ act (shown_job j C)
+  job_alike {A} act same j = by (job_row rows j) (tells rows C sound are j (job_row rows j) refl)
     where
       by : (o : Option JobRow) → Tells j C o → act o ≡ act (shown_job j C)
-      by None it = sym (ap act (shown-out j C it))
-      by (Some r) it = same r (tops_after C) ∙ sym (ap act (shown-in j C r it.0 it.1))
+      by None it = sym (ap act (shown_out j C it))
+      by (Some r) it = same r (tops_after C) ∙ sym (ap act (shown_in j C r it.0 it.1))
 
-  begun-alike : (r : JobRow) (tops now : List ℕ) (mark : Option (List ℕ)) → begun_act r mark now ≡ begun_act (record r { tops = tops }) mark now
-  begun-alike r tops now None = refl
-  begun-alike r tops now (Some x) = refl
+  begun_alike : (r : JobRow) (tops now : List ℕ) (mark : Option (List ℕ)) → begun_act r mark now ≡ begun_act (record r { tops = tops }) mark now
+  begun_alike r tops now None = refl
+  begun_alike r tops now (Some x) = refl
 
-  send-alike : (j : ℕ) → sent_act (job_row rows j) ≡ sent_act (shown_job j C)
-  send-alike j = job-alike sent_act (λ r tops. refl) j
+  send_alike : (j : ℕ) → sent_act (job_row rows j) ≡ sent_act (shown_job j C)
+  send_alike j = job_alike sent_act (λ r tops. refl) j
 
-  print-alike : (j : ℕ) → printed_act (job_row rows j) (tops_in rows) ≡ printed_act (shown_job j C) (tops_after C)
-  print-alike j =
-      job-alike (λ (o : Option JobRow). printed_act o (tops_in rows)) (λ r tops. ap (unless (print_answer (Some r.state))) (begun-alike r tops (tops_in rows) r.indicium)) j
-      ∙ ap (printed_act (shown_job j C)) tops-now
+  print_alike : (j : ℕ) → printed_act (job_row rows j) (tops_in rows) ≡ printed_act (shown_job j C) (tops_after C)
+  print_alike j =
+      job_alike (λ (o : Option JobRow). printed_act o (tops_in rows)) (λ r tops. ap (unless (print_answer (Some r.state))) (begun_alike r tops (tops_in rows) r.indicium)) j
+      ∙ ap (printed_act (shown_job j C)) tops_now
 
-  close-alike : (j : ℕ) → closed_act (job_row rows j) (tops_in rows) ≡ closed_act (shown_job j C) (tops_after C)
-  close-alike j = job-alike (λ (o : Option JobRow). closed_act o (tops_in rows)) (λ r tops. refl) j ∙ ap (closed_act (shown_job j C)) tops-now
+  close_alike : (j : ℕ) → closed_act (job_row rows j) (tops_in rows) ≡ closed_act (shown_job j C) (tops_after C)
+  close_alike j = job_alike (λ (o : Option JobRow). closed_act o (tops_in rows)) (λ r tops. refl) j ∙ ap (closed_act (shown_job j C)) tops_now
 
   -- == a Release ==
 
-  open-alike : (x : List ℕ) (k : Mark) (o : Option ℕ) → open_act x k o (in_rows rows) ≡ open_act x k o (in_commits C)
-  open-alike x k None = refl
-  open-alike x k (Some j) = job-alike (λ (o : Option JobRow). held_act x k o (tops_in rows)) (λ r tops. refl) j ∙ ap (held_act x k (shown_job j C)) tops-now
+  open_alike : (x : List ℕ) (k : Mark) (o : Option ℕ) → open_act x k o (in_rows rows) ≡ open_act x k o (in_commits C)
+  open_alike x k None = refl
+  open_alike x k (Some j) = job_alike (λ (o : Option JobRow). held_act x k o (tops_in rows)) (λ r tops. refl) j ∙ ap (held_act x k (shown_job j C)) tops_now
 
-  mark-alike : (x : List ℕ) (o : Result (Mark × List ℕ) MarkFault) → mark_act x o (in_rows rows) ≡ mark_act x o (in_commits C)
-  mark-alike x (Err fault) = refl
-  mark-alike x (Ok k) = ap (λ (o : Option ℕ). open_act x k.0 o (in_rows rows)) (open-is rows C sound are k.0.device) ∙ open-alike x k.0 (open_job k.0.device C)
+  mark_alike : (x : List ℕ) (o : Result (Mark × List ℕ) MarkFault) → mark_act x o (in_rows rows) ≡ mark_act x o (in_commits C)
+  mark_alike x (Err fault) = refl
+  mark_alike x (Ok k) = ap (λ (o : Option ℕ). open_act x k.0 o (in_rows rows)) (open_is rows C sound are k.0.device) ∙ open_alike x k.0 (open_job k.0.device C)
 
-  take-alike : (o : Result Message Unread) → message_act o (in_rows rows) ≡ message_act o (in_commits C)
-  take-alike (Ok (m.Release x)) = mark-alike x (read_mark x)
-  take-alike (Ok (m.Request q)) = refl
-  take-alike (Ok (m.Reply q)) = refl
-  take-alike (Ok (m.Done q)) = refl
-  take-alike (Ok (m.Debit q)) = refl
-  take-alike (Err x) = refl
+  take_alike : (o : Result Message Unread) → message_act o (in_rows rows) ≡ message_act o (in_commits C)
+  take_alike (Ok (m.Release x)) = mark_alike x (read_mark x)
+  take_alike (Ok (m.Request q)) = refl
+  take_alike (Ok (m.Reply q)) = refl
+  take_alike (Ok (m.Done q)) = refl
+  take_alike (Ok (m.Debit q)) = refl
+  take_alike (Err x) = refl
 
 pub planned : ActsArePlanned
 planned rows C sound are = record {
-  ordered = order-alike rows C sound are;
-  sent = send-alike rows C sound are;
-  taken = λ bytes. take-alike rows C sound are (read bytes);
-  begun = print-alike rows C sound are;
-  closed = close-alike rows C sound are;
+  ordered = order_alike rows C sound are;
+  sent = send_alike rows C sound are;
+  taken = λ bytes. take_alike rows C sound are (read bytes);
+  begun = print_alike rows C sound are;
+  closed = close_alike rows C sound are;
 }

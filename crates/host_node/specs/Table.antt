@@ -16,7 +16,7 @@ use Rattle.host_jobs.specs.Payload.{job_bytes}
 use Rattle.host_jobs.specs.Rows.{row_in}
 use Rattle.host_jobs.specs.Soundness.{AreSound, IsKept}
 use Rattle.host_jobs.specs.Seen.{Seen, cell_of, counting, rows_in, IsKnown}
-use Rattle.host_jobs.proofs.JobBytes.{one-job}
+use Rattle.host_jobs.proofs.JobBytes.{one_job}
 use Rattle.host_node.specs.Unique.{kept_prop}
 use Rattle.host_node.specs.Payloads.{IsPayloadOf}
 use Rattle.host_node.specs.Cells.{cell_inside, rows_put}
@@ -49,7 +49,7 @@ job_set = hlevel props
 
 -- the payload of a cell reads as one job
 reads_one : ReadsOne IsPayloadOf
-reads_one k x y p reads reads' = ∥∥₁_elim reads.1 (job_set x y) (λ a. ∥∥₁_elim reads'.1 (job_set x y) (λ b. one-job p x y a b))
+reads_one k x y p reads reads' = ∥∥₁_elim reads.1 (job_set x y) (λ a. ∥∥₁_elim reads'.1 (job_set x y) (λ b. one_job p x y a b))
 
 -- what is seen of cells that hold sound jobs
 sound_found : (m : HostRows) (held : ℕ → Option Held) → Found host_table m held → IsKnown (seen_of host_table m held)

@@ -5,4 +5,4 @@ use Rattle.host_jobs.specs.Soundness.{IsKept}
 use Rattle.host_jobs.proofs.Unique as of_jobs
 
 pub kept_prop : (rows : Jobs) (kept : Kept) → IsProp (IsKept rows kept)
-kept_prop rows kept = of_jobs.kept-prop rows kept
+kept_prop rows kept = of_jobs.kept_unique rows kept

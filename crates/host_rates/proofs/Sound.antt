@@ -59,15 +59,15 @@ All-listed f P (table ms) takes = tt
 within : (greatest n : ℕ) → (nat_le 1 n && nat_le n greatest) ≡ true → (1 ≤ n) × (n ≤ greatest)
 within greatest n h = let (low, high) = and_parts (nat_le 1 n) (nat_le n greatest) h in (leb-true 1 n low, leb-true n greatest high)
 
-whole-within : (greatest : ℕ) (d : Data) → IfSome (whole greatest d) (λ n. (1 ≤ n) × (n ≤ greatest))
-whole-within greatest (string s) = tt
-whole-within greatest (integer (pos n)) = IfSome-where_holds _ (nat_le 1 n && nat_le n greatest) n (within greatest n)
-whole-within greatest (integer (negsuc n)) = tt
-whole-within greatest (float x) = tt
-whole-within greatest (boolean b) = tt
-whole-within greatest (datetime t) = tt
-whole-within greatest (array ds) = tt
-whole-within greatest (table ms) = tt
+whole_within : (greatest : ℕ) (d : Data) → IfSome (whole greatest d) (λ n. (1 ≤ n) × (n ≤ greatest))
+whole_within greatest (string s) = tt
+whole_within greatest (integer (pos n)) = IfSome-where_holds _ (nat_le 1 n && nat_le n greatest) n (within greatest n)
+whole_within greatest (integer (negsuc n)) = tt
+whole_within greatest (float x) = tt
+whole_within greatest (boolean b) = tt
+whole_within greatest (datetime t) = tt
+whole_within greatest (array ds) = tt
+whole_within greatest (table ms) = tt
 
 -- == order ==
 
@@ -98,16 +98,16 @@ differing (c ∷ cs) h =
 
 -- == the rate file ==
 
-mills_of-sound : (zones : ℕ) (d : Data) → IfSome (mills_of zones d) (λ ms. (length ms ≡ zones) × All IsPrice ms)
-mills_of-sound zones d =
-    IfSome-and_then (All IsPrice) _ _ (listed (whole 100000) d) (All-listed (whole 100000) IsPrice d (whole-within 100000))
+mills_of_sound : (zones : ℕ) (d : Data) → IfSome (mills_of zones d) (λ ms. (length ms ≡ zones) × All IsPrice ms)
+mills_of_sound zones d =
+    IfSome-and_then (All IsPrice) _ _ (listed (whole 100000) d) (All-listed (whole 100000) IsPrice d (whole_within 100000))
     (λ ms priced. IfSome-where_holds _ (length ms == zones) ms (λ same. (eqb-true (length ms) zones same, priced)))
 
-step_of-sound : (zones : ℕ) (d : Data) → IfSome (step_of zones d) (IsStep zones)
-step_of-sound zones d =
+step_of_sound : (zones : ℕ) (d : Data) → IfSome (step_of zones d) (IsStep zones)
+step_of_sound zones d =
     IfSome-and_then (λ q. ((1 ≤ q.0) × (q.0 ≤ 100000)) × ((length q.1 ≡ zones) × All IsPrice q.1)) (IsStep zones) _ _
     (IfSome-and_then (λ p. Unit {0}) _ _ (two (codes "grams") (codes "mills") d) (any_of _)
-    (λ p h. IfSome-both _ _ (whole 100000 p.0) _ (whole-within 100000 p.0) (mills_of-sound zones p.1)))
+    (λ p h. IfSome-both _ _ (whole 100000 p.0) _ (whole_within 100000 p.0) (mills_of_sound zones p.1)))
     (λ q h. record { weight = h.0; each_zone = h.1.0; prices = h.1.1 })
 
 record AreSteps (zones : ℕ) (steps : List StepTable) : Type 0 where
@@ -115,18 +115,18 @@ record AreSteps (zones : ℕ) (steps : List StepTable) : Type 0 where
   sound : All (IsStep zones) steps
   rising : AllPairs (λ s t. s.grams < t.grams) steps
 
-steps_of-sound : (zones : ℕ) (d : Data) → IfSome (steps_of zones d) (AreSteps zones)
-steps_of-sound zones d =
-    IfSome-and_then (All (IsStep zones)) (AreSteps zones) _ (listed (step_of zones) d) (All-listed (step_of zones) (IsStep zones) d (step_of-sound zones))
+steps_of_sound : (zones : ℕ) (d : Data) → IfSome (steps_of zones d) (AreSteps zones)
+steps_of_sound zones d =
+    IfSome-and_then (All (IsStep zones)) (AreSteps zones) _ (listed (step_of zones) d) (All-listed (step_of zones) (IsStep zones) d (step_of_sound zones))
     (λ steps each_sound. IfSome-where_holds (AreSteps zones) (is_few steps && rises_above 0 steps) steps
     (λ h. let both_hold = and_parts (is_few steps) (rises_above 0 steps) h in
     record { few = within 64 (length steps) both_hold.0; sound = each_sound; rising = rising 0 steps both_hold.1 }))
 
-class_of-sound : (zones : ℕ) (d : Data) → IfSome (class_of zones d) (IsClass zones)
-class_of-sound zones d =
+class_of_sound : (zones : ℕ) (d : Data) → IfSome (class_of zones d) (IsClass zones)
+class_of_sound zones d =
     IfSome-and_then (λ q. ((1 ≤ q.0) × (q.0 ≤ 65535)) × AreSteps zones q.1) (IsClass zones) _ _
     (IfSome-and_then (λ p. Unit {0}) _ _ (two (codes "number") (codes "steps") d) (any_of _)
-    (λ p h. IfSome-both _ (AreSteps zones) (whole 65535 p.0) _ (whole-within 65535 p.0) (steps_of-sound zones p.1)))
+    (λ p h. IfSome-both _ (AreSteps zones) (whole 65535 p.0) _ (whole_within 65535 p.0) (steps_of_sound zones p.1)))
     (λ q h. record { number = h.0; few = h.1.few; steps = h.1.sound; rising = h.1.rising })
 
 pub record AreClasses (zones : ℕ) (cs : List ClassTable) : Type 0 where
@@ -134,29 +134,29 @@ pub record AreClasses (zones : ℕ) (cs : List ClassTable) : Type 0 where
   pub sound : All (IsClass zones) cs
   pub differing : AllPairs (λ c d. c.number ≢ d.number) cs
 
-classes_of-sound : (zones : ℕ) (d : Data) → IfSome (classes_of zones d) (AreClasses zones)
-classes_of-sound zones d =
-    IfSome-and_then (All (IsClass zones)) (AreClasses zones) _ (listed (class_of zones) d) (All-listed (class_of zones) (IsClass zones) d (class_of-sound zones))
+classes_of_sound : (zones : ℕ) (d : Data) → IfSome (classes_of zones d) (AreClasses zones)
+classes_of_sound zones d =
+    IfSome-and_then (All (IsClass zones)) (AreClasses zones) _ (listed (class_of zones) d) (All-listed (class_of zones) (IsClass zones) d (class_of_sound zones))
     (λ cs each_sound. IfSome-where_holds (AreClasses zones) (is_few cs && differ cs) cs
     (λ h. let both_hold = and_parts (is_few cs) (differ cs) h in
     record { few = within 64 (length cs) both_hold.0; sound = each_sound; differing = differing cs both_hold.1 }))
 
 -- zones and classes that were read make rates
-pub rates-sound : (zones_data classes_data : Data) (zones : ℕ) (cs : List ClassTable) → whole 9 zones_data ≡ Some zones → classes_of zones classes_data ≡ Some cs → IsRates (record { zones = zones; classes = cs })
-rates-sound zones_data classes_data zones cs zones_is classes_is =
-    let sound = IfSome-at (AreClasses zones) (classes_of zones classes_data) cs classes_is (classes_of-sound zones classes_data) in
+pub rates_sound : (zones_data classes_data : Data) (zones : ℕ) (cs : List ClassTable) → whole 9 zones_data ≡ Some zones → classes_of zones classes_data ≡ Some cs → IsRates (record { zones = zones; classes = cs })
+rates_sound zones_data classes_data zones cs zones_is classes_is =
+    let sound = IfSome-at (AreClasses zones) (classes_of zones classes_data) cs classes_is (classes_of_sound zones classes_data) in
     record {
-      zoned = IfSome-at (λ n. (1 ≤ n) × (n ≤ 9)) (whole 9 zones_data) zones zones_is (whole-within 9 zones_data);
+      zoned = IfSome-at (λ n. (1 ≤ n) × (n ≤ 9)) (whole 9 zones_data) zones zones_is (whole_within 9 zones_data);
       few = sound.few;
       classes = sound.sound;
       differing = sound.differing;
     }
 
-pub rates_in-sound : (ms : Members) → IfSome (rates_in ms) IsRates
-rates_in-sound ms =
+pub rates_in_sound : (ms : Members) → IfSome (rates_in ms) IsRates
+rates_in_sound ms =
     IfSome-and_then (λ p. Unit {0}) IsRates _ (two_in (codes "zones") (codes "class") ms) (any_of _)
-    (λ p h. IfSome-and_then (λ z. (1 ≤ z) × (z ≤ 9)) IsRates _ (whole 9 p.0) (whole-within 9 p.0)
-    (λ zones zoned. IfSome-map (AreClasses zones) IsRates _ (classes_of zones p.1) (classes_of-sound zones p.1)
+    (λ p h. IfSome-and_then (λ z. (1 ≤ z) × (z ≤ 9)) IsRates _ (whole 9 p.0) (whole_within 9 p.0)
+    (λ zones zoned. IfSome-map (AreClasses zones) IsRates _ (classes_of zones p.1) (classes_of_sound zones p.1)
     (λ cs sound. record { zoned = zoned; few = sound.few; classes = sound.sound; differing = sound.differing })))
 
 -- == what is found ==
@@ -171,30 +171,30 @@ IfSome-find test P [] all = tt
 IfSome-find test P (x ∷ xs) all = IfSome-find_first P x (test x) (find test xs) (All-head P x xs all) (IfSome-find test P xs (All-tail P x xs all))
 
 -- the rates of a text are of the form
-pub rates_of-sound : (text : List ℕ) → IfSome (rates_of text) IsRates
-rates_of-sound text = IfSome-and_then (λ ms. Unit {0}) IsRates rates_in (document text) (any_of _) (λ ms h. rates_in-sound ms)
+pub rates_of_sound : (text : List ℕ) → IfSome (rates_of text) IsRates
+rates_of_sound text = IfSome-and_then (λ ms. Unit {0}) IsRates rates_in (document text) (any_of _) (λ ms h. rates_in_sound ms)
 
 -- == prices ==
 
-step_price-bounds : (zone zones : ℕ) (steps : List StepTable) (o : Option StepTable) → 1 ≤ zone → zone ≤ zones → IfSome o (IsStep zones) → IfOk (step_price zone steps o) IsPrice
-step_price-bounds zone zones steps None low high sound = tt
-step_price-bounds zone zones steps (Some s) low high sound =
+step_price_bounds : (zone zones : ℕ) (steps : List StepTable) (o : Option StepTable) → 1 ≤ zone → zone ≤ zones → IfSome o (IsStep zones) → IfOk (step_price zone steps o) IsPrice
+step_price_bounds zone zones steps None low high sound = tt
+step_price_bounds zone zones steps (Some s) low high sound =
     let inside : zone - 1 < length s.mills = omega (arith, sound.each_zone) in sound.prices (zone - 1) 0 inside
 
-class_price-bounds : (grams zone zones : ℕ) (o : Option ClassTable) (b : Bool) → b ≡ (nat_le 1 zone && nat_le zone zones) → IfSome o (IsClass zones) → IfOk (class_price grams zone zones o) IsPrice
-class_price-bounds grams zone zones None b is sound = tt
-class_price-bounds grams zone zones (Some c) false is sound = rw (← is) tt
-class_price-bounds grams zone zones (Some c) true is sound =
+class_price_bounds : (grams zone zones : ℕ) (o : Option ClassTable) (b : Bool) → b ≡ (nat_le 1 zone && nat_le zone zones) → IfSome o (IsClass zones) → IfOk (class_price grams zone zones o) IsPrice
+class_price_bounds grams zone zones None b is sound = tt
+class_price_bounds grams zone zones (Some c) false is sound = rw (← is) tt
+class_price_bounds grams zone zones (Some c) true is sound =
     let there = within zones zone (sym is) in
-    rw (← is) (step_price-bounds zone zones c.steps (step_for grams c.steps) there.0 there.1 (IfSome-find _ (IsStep zones) c.steps sound.steps))
+    rw (← is) (step_price_bounds zone zones c.steps (step_for grams c.steps) there.0 there.1 (IfSome-find _ (IsStep zones) c.steps sound.steps))
 
-pub price_in-bounds : (class grams zone : ℕ) (r : RateTable) → IsRates r → IfOk (price_in class grams zone r) IsPrice
-price_in-bounds class grams zone r sound = class_price-bounds grams zone r.zones (class_numbered class r) _ refl (IfSome-find _ (IsClass r.zones) r.classes sound.classes)
+pub price_in_bounds : (class grams zone : ℕ) (r : RateTable) → IsRates r → IfOk (price_in class grams zone r) IsPrice
+price_in_bounds class grams zone r sound = class_price_bounds grams zone r.zones (class_numbered class r) _ refl (IfSome-find _ (IsClass r.zones) r.classes sound.classes)
 
-price_by-bounds : (class grams zone : ℕ) (o : Option RateTable) → IfSome o IsRates → IfOk (price_by class grams zone o) IsPrice
-price_by-bounds class grams zone None sound = tt
-price_by-bounds class grams zone (Some r) sound = price_in-bounds class grams zone r sound
+price_by_bounds : (class grams zone : ℕ) (o : Option RateTable) → IfSome o IsRates → IfOk (price_by class grams zone o) IsPrice
+price_by_bounds class grams zone None sound = tt
+price_by_bounds class grams zone (Some r) sound = price_in_bounds class grams zone r sound
 
 -- each price is from 1 to 100,000 mills
-pub price-bounds : (text : List ℕ) (class grams zone postage : ℕ) → price text class grams zone ≡ Ok postage → (1 ≤ postage) × (postage ≤ 100000)
-price-bounds text class grams zone postage is = IfOk-at_ok IsPrice is (price_by-bounds class grams zone (rates_of text) (rates_of-sound text))
+pub price_bounds : (text : List ℕ) (class grams zone postage : ℕ) → price text class grams zone ≡ Ok postage → (1 ≤ postage) × (postage ≤ 100000)
+price_bounds text class grams zone postage is = IfOk-at_ok IsPrice is (price_by_bounds class grams zone (rates_of text) (rates_of_sound text))

@@ -10,18 +10,18 @@ use Rattle.host_rates.specs.declared.reading.RatesFail.TheVariants as fail
 use Rattle.host_rates.specs.Answers.{AreRatesOf, Reads, UnlessMemory, answer, answer_of}
 use Rattle.host_rates.specs.Reading.{document, rates_in}
 use Rattle.host_rates.specs.Tables.{RateTable, IsRates}
-use Rattle.host_rates.proofs.Sound.{IfSome-at, rates_in-sound}
+use Rattle.host_rates.proofs.Sound.{IfSome-at, rates_in_sound}
 
 -- a text that isn't too long is answered by its document
-pub answer-short : (text : List ℕ) (o : Option Members) → length text ≤ 65536 → document text ≡ o → answer text ≡ answer_of fail.Toml fail.Form o
-answer-short text o short is =
+pub answer_short : (text : List ℕ) (o : Option Members) → length text ≤ 65536 → document text ≡ o → answer text ≡ answer_of fail.Toml fail.Form o
+answer_short text o short is =
     let no : nat_lt 65536 (length text) ≡ false = grind arith in rw (no, is)
 
-pub document-some : (text : List ℕ) (ms : Members) → IsUtf8 text → parse_document text ≡ Some ms → document text ≡ Some ms
-document-some text ms utf8 is = rw (is_utf8-from_IsUtf8 text utf8) is
+pub document_some : (text : List ℕ) (ms : Members) → IsUtf8 text → parse_document text ≡ Some ms → document text ≡ Some ms
+document_some text ms utf8 is = rw (is_utf8-from_IsUtf8 text utf8) is
 
-pub document-none : (text : List ℕ) → (IsUtf8 text → parse_document text ≡ None) → document text ≡ None
-document-none text none =
+pub document_none : (text : List ℕ) → (IsUtf8 text → parse_document text ≡ None) → document text ≡ None
+document_none text none =
     elim (cases_Bool (is_utf8 text)) [
       | inl is_text ↦ rw is_text (none (IsUtf8-from_is_utf8 text is_text))
       | inr is_none ↦ rw is_none
@@ -41,5 +41,5 @@ AreRatesOf-read (Ok a) text ms is read = rw is read
 AreRatesOf-read (Err x) text ms is read = tt
 
 pub IsRates-read : (r : Result RateTable RatesFail) (ms : Members) → Reads (λ x. x) r (rates_in ms) → IfOk r IsRates
-IsRates-read (Ok a) ms read = IfSome-at IsRates (rates_in ms) a read (rates_in-sound ms)
+IsRates-read (Ok a) ms read = IfSome-at IsRates (rates_in ms) a read (rates_in_sound ms)
 IsRates-read (Err x) ms read = tt

@@ -14,9 +14,9 @@ use Rattle.host_rates.specs.declared.reading.RatesFail.{RatesFail}
 use Rattle.host_rates.specs.declared.reading.RatesFail.TheVariants as fail
 
 -- as many keys as entries
-pub key_count-members_view : (es : List Entry) → key_count (members_view es) ≡ length es
-key_count-members_view [] = refl
-key_count-members_view (e ∷ es) = ap suc (key_count-members_view es)
+pub key_count_members_view : (es : List Entry) → key_count (members_view es) ≡ length es
+key_count_members_view [] = refl
+key_count_members_view (e ∷ es) = ap suc (key_count_members_view es)
 
 -- == a list read item by item ==
 

@@ -19,7 +19,7 @@ use Rattle.psd_wire.specs.declared.message.DebitMsg.{DebitMsg}
 use Rattle.bench_base.specs.Kinds.{is_granted}
 use Rattle.bench_base.specs.Ledger.{Ledger, day_in, IsSent, IsReleased, IsReleasedAs, IsPrinted, is_on, count_of, torn_of, at_up, counted}
 use Rattle.bench_base.specs.Jobs.{held_of, begun}
-use Rattle.bench_base.proofs.Facts.{ok-same, same_node-true}
+use Rattle.bench_base.proofs.Facts.{ok_same, same_node_true}
 use Rattle.psd_wire.specs.declared.message.ReplyMsg.{ReplyMsg}
 use Rattle.psd_wire.specs.declared.message.Message.{Message}
 use Rattle.psd_wire.specs.declared.message.Message.TheVariants as m
@@ -30,7 +30,7 @@ use Rattle.ledger_terms.specs.InFlight.{ruling_of}
 use Rattle.ledger_terms.specs.Rulings.{ruled_reply}
 use Rattle.ledger_terms.specs.Franking.{marked}
 use Rattle.ledger_lawful.specs.Lawful.{Always, Releases, PrintedOnce}
-use Rattle.law_good.proofs.Kept.{note-kept, ruling-kept, ruled_reply-kept, applied-kept, begun-kept}
+use Rattle.law_good.proofs.Kept.{note_kept, ruling_kept, ruled_reply_kept, applied_kept, begun_kept}
 use Rattle.law_good.proofs.Good.{Fits, Good}
 use Rattle.law_good.proofs.Frame.{frame}
 
@@ -39,7 +39,7 @@ use Rattle.law_good.proofs.Frame.{frame}
 -- a node that is on and a node that is off are two
 apart : (m n : Node) (H : Ledger) → is_on m H ≡ true → is_on n H ≡ false → same_node m n ≡ false
 apart m n H on off = ⊎_elim
-    (λ (h : same_node m n ≡ true). absurd (true≢false (sym on ∙ (ap (λ x. is_on x H) (same_node-true m n h) ∙ off))))
+    (λ (h : same_node m n ≡ true). absurd (true≢false (sym on ∙ (ap (λ x. is_on x H) (same_node_true m n h) ∙ off))))
     (λ (h : same_node m n ≡ false). h)
     (cases_Bool (same_node m n))
 
@@ -71,35 +71,35 @@ pub record Genuine (bytes : List ℕ) (H : Ledger) (C : List Commit) : Type 0 wh
   pub vouched : GenuineAs bytes what H C
 
 -- by whatever message the bytes read as
-pub genuine-at : (bytes : List ℕ) (x : Message) (H : Ledger) (C : List Commit) → Genuine bytes H C → read bytes ≡ Ok x → GenuineAs bytes x H C
-genuine-at bytes x H C g reads = subst (λ (y : Message). GenuineAs bytes y H C) (ok-same (sym g.reads ∙ reads)) g.vouched
+pub genuine_at : (bytes : List ℕ) (x : Message) (H : Ledger) (C : List Commit) → Genuine bytes H C → read bytes ≡ Ok x → GenuineAs bytes x H C
+genuine_at bytes x H C g reads = subst (λ (y : Message). GenuineAs bytes y H C) (ok_same (sym g.reads ∙ reads)) g.vouched
 
-pub released-kept : (x : List ℕ) (k : Entry) (H : Ledger) → IsReleased x H → IsReleased x (k ∷ H)
-released-kept x (e.Released d p y) H h = inr h
-released-kept x _ H h = h
+pub released_kept : (x : List ℕ) (k : Entry) (H : Ledger) → IsReleased x H → IsReleased x (k ∷ H)
+released_kept x (e.Released d p y) H h = inr h
+released_kept x _ H h = h
 
-pub reply-kept : (p : ReplyMsg) (c : Commit) (C : List Commit) → GenuineReply p C → GenuineReply p (c ∷ C)
-reply-kept p c C g = record { note = g.note; ruled_as = ruling-kept p.device p.number (p.verdict, g.note) c C g.ruled_as; kind = g.kind; amount = g.amount; whole = ruled_reply-kept p.device p.number p c C g.whole }
+pub reply_kept : (p : ReplyMsg) (c : Commit) (C : List Commit) → GenuineReply p C → GenuineReply p (c ∷ C)
+reply_kept p c C g = record { note = g.note; ruled_as = ruling_kept p.device p.number (p.verdict, g.note) c C g.ruled_as; kind = g.kind; amount = g.amount; whole = ruled_reply_kept p.device p.number p c C g.whole }
 
-as-commit : (bytes : List ℕ) (x : Message) (H : Ledger) (c : Commit) (C : List Commit) → GenuineAs bytes x H C → GenuineAs bytes x H (c ∷ C)
-as-commit bytes (m.Request q) H c C g = note-kept q.device q.number bytes c C g
-as-commit bytes (m.Reply p) H c C g = reply-kept p c C g
-as-commit bytes (m.Done q) H c C g = (g.0, applied-kept q.device q.number g.0 c C g.1)
-as-commit bytes (m.Debit q) H c C g = g
-as-commit bytes (m.Release x) H c C g = g
+as_commit : (bytes : List ℕ) (x : Message) (H : Ledger) (c : Commit) (C : List Commit) → GenuineAs bytes x H C → GenuineAs bytes x H (c ∷ C)
+as_commit bytes (m.Request q) H c C g = note_kept q.device q.number bytes c C g
+as_commit bytes (m.Reply p) H c C g = reply_kept p c C g
+as_commit bytes (m.Done q) H c C g = (g.0, applied_kept q.device q.number g.0 c C g.1)
+as_commit bytes (m.Debit q) H c C g = g
+as_commit bytes (m.Release x) H c C g = g
 
-as-entry : (bytes : List ℕ) (x : Message) (k : Entry) (H : Ledger) (C : List Commit) → GenuineAs bytes x H C → GenuineAs bytes x (k ∷ H) C
-as-entry bytes (m.Request q) k H C g = g
-as-entry bytes (m.Reply p) k H C g = g
-as-entry bytes (m.Done q) k H C g = g
-as-entry bytes (m.Debit q) k H C g = g
-as-entry bytes (m.Release x) k H C g = released-kept x k H g
+as_entry : (bytes : List ℕ) (x : Message) (k : Entry) (H : Ledger) (C : List Commit) → GenuineAs bytes x H C → GenuineAs bytes x (k ∷ H) C
+as_entry bytes (m.Request q) k H C g = g
+as_entry bytes (m.Reply p) k H C g = g
+as_entry bytes (m.Done q) k H C g = g
+as_entry bytes (m.Debit q) k H C g = g
+as_entry bytes (m.Release x) k H C g = released_kept x k H g
 
-pub genuine-commit : (bytes : List ℕ) (H : Ledger) (c : Commit) (C : List Commit) → Genuine bytes H C → Genuine bytes H (c ∷ C)
-genuine-commit bytes H c C g = record { what = g.what; reads = g.reads; vouched = as-commit bytes g.what H c C g.vouched }
+pub genuine_commit : (bytes : List ℕ) (H : Ledger) (c : Commit) (C : List Commit) → Genuine bytes H C → Genuine bytes H (c ∷ C)
+genuine_commit bytes H c C g = record { what = g.what; reads = g.reads; vouched = as_commit bytes g.what H c C g.vouched }
 
-pub genuine-entry : (bytes : List ℕ) (k : Entry) (H : Ledger) (C : List Commit) → Genuine bytes H C → Genuine bytes (k ∷ H) C
-genuine-entry bytes k H C g = record { what = g.what; reads = g.reads; vouched = as-entry bytes g.what k H C g.vouched }
+pub genuine_entry : (bytes : List ℕ) (k : Entry) (H : Ledger) (C : List Commit) → Genuine bytes H C → Genuine bytes (k ∷ H) C
+genuine_entry bytes k H C g = record { what = g.what; reads = g.reads; vouched = as_entry bytes g.what k H C g.vouched }
 
 -- == what a commit rests on beside the commits: a mark that is held or accepted was released ==
 
@@ -113,18 +113,18 @@ abbrev pub NewestSure : Ledger → List Commit → Type 0
 NewestSure H [] = Unit {0}
 NewestSure H (c ∷ C) = Sure c H
 
-released_as-kept : (d p : ℕ) (k : Entry) (H : Ledger) → IsReleasedAs d p H → IsReleasedAs d p (k ∷ H)
-released_as-kept d p (e.Released f q y) H h = inr h
-released_as-kept d p _ H h = h
+released_as_kept : (d p : ℕ) (k : Entry) (H : Ledger) → IsReleasedAs d p H → IsReleasedAs d p (k ∷ H)
+released_as_kept d p (e.Released f q y) H h = inr h
+released_as_kept d p _ H h = h
 
-sure-kept : (c : Commit) (k : Entry) (H : Ledger) → Sure c H → Sure c (k ∷ H)
-sure-kept (Held j x) k H h = released-kept x k H h
-sure-kept (Accepted d p s) k H h = released_as-kept d p k H h
-sure-kept _ k H h = tt
+sure_kept : (c : Commit) (k : Entry) (H : Ledger) → Sure c H → Sure c (k ∷ H)
+sure_kept (Held j x) k H h = released_kept x k H h
+sure_kept (Accepted d p s) k H h = released_as_kept d p k H h
+sure_kept _ k H h = tt
 
-newest-kept : (k : Entry) (H : Ledger) (C : List Commit) → NewestSure H C → NewestSure (k ∷ H) C
-newest-kept k H [] h = tt
-newest-kept k H (c ∷ C) h = sure-kept c k H h
+newest_kept : (k : Entry) (H : Ledger) (C : List Commit) → NewestSure H C → NewestSure (k ∷ H) C
+newest_kept k H [] h = tt
+newest_kept k H (c ∷ C) h = sure_kept c k H h
 
 -- == the invariant ==
 
@@ -167,52 +167,52 @@ now P [] h = h
 now P (x ∷ xs) h = h.0
 
 module _ (ρ : Rules) where
-  pub inv-none : Inv ρ []
-  inv-none = record { good = tt; opens = λ n c h. absurd (none-some _ h); sents = λ x h. absurd h; told = record { releases = tt; prints = tt; sure = tt }; printed = λ j h. absurd h; dated = λ t h. absurd (none-some _ h) }
+  pub inv_none : Inv ρ []
+  inv_none = record { good = tt; opens = λ n c h. absurd (none-some _ h); sents = λ x h. absurd h; told = record { releases = tt; prints = tt; sure = tt }; printed = λ j h. absurd h; dated = λ t h. absurd (none-some _ h) }
 
   -- an entry that changes no more than what is told leaves open commits as they are
-  open-kept : (k : Entry) (H : Ledger) (n : Node) (c : Commit) (on : Bool) → OpenFits ρ n c on H (counted H) → OpenFits ρ n c on (k ∷ H) (counted H)
-  open-kept k H n c on o = record { node = o.node; off = o.off; fits = o.fits; range = o.range; sure = sure-kept c k H o.sure }
+  open_kept : (k : Entry) (H : Ledger) (n : Node) (c : Commit) (on : Bool) → OpenFits ρ n c on H (counted H) → OpenFits ρ n c on (k ∷ H) (counted H)
+  open_kept k H n c on o = record { node = o.node; off = o.off; fits = o.fits; range = o.range; sure = sure_kept c k H o.sure }
 
-  sure-of : (k : Entry) (H : Ledger) → Inv ρ H → NewestSure (k ∷ H) (counted H)
-  sure-of k H i = newest-kept k H (counted H) (now Told H i.told).sure
+  sure_of : (k : Entry) (H : Ledger) → Inv ρ H → NewestSure (k ∷ H) (counted H)
+  sure_of k H i = newest_kept k H (counted H) (now Told H i.told).sure
 
-  pub inv-day : (H : Ledger) (t : ℤ) → IsDay t → Inv ρ H → Inv ρ (e.Day t ∷ H)
-  inv-day H t day i = record {
+  pub inv_day : (H : Ledger) (t : ℤ) → IsDay t → Inv ρ H → Inv ρ (e.Day t ∷ H)
+  inv_day H t day i = record {
     good = i.good;
-    opens = λ n c h. open-kept (e.Day t) H n c (is_on n H) (i.opens n c h);
-    sents = λ x h. genuine-entry x (e.Day t) H (counted H) (i.sents x h);
-    told = (record { releases = tt; prints = tt; sure = sure-of (e.Day t) H i }, i.told);
+    opens = λ n c h. open_kept (e.Day t) H n c (is_on n H) (i.opens n c h);
+    sents = λ x h. genuine_entry x (e.Day t) H (counted H) (i.sents x h);
+    told = (record { releases = tt; prints = tt; sure = sure_of (e.Day t) H i }, i.told);
     printed = i.printed;
     dated = λ z h. subst IsDay (same_Some _ _ h) day;
   }
 
-  pub inv-rates : (H : Ledger) (text : List ℕ) → Inv ρ H → Inv ρ (e.Rates text ∷ H)
-  inv-rates H text i = record {
+  pub inv_rates : (H : Ledger) (text : List ℕ) → Inv ρ H → Inv ρ (e.Rates text ∷ H)
+  inv_rates H text i = record {
     good = i.good;
-    opens = λ n c h. open-kept (e.Rates text) H n c (is_on n H) (i.opens n c h);
-    sents = λ x h. genuine-entry x (e.Rates text) H (counted H) (i.sents x h);
-    told = (record { releases = tt; prints = tt; sure = sure-of (e.Rates text) H i }, i.told);
+    opens = λ n c h. open_kept (e.Rates text) H n c (is_on n H) (i.opens n c h);
+    sents = λ x h. genuine_entry x (e.Rates text) H (counted H) (i.sents x h);
+    told = (record { releases = tt; prints = tt; sure = sure_of (e.Rates text) H i }, i.told);
     printed = i.printed;
     dated = i.dated;
   }
 
-  pub inv-released : (H : Ledger) (d p : ℕ) (x : List ℕ) → IsSome (key_of d (counted H)) → marked d p (counted H) ≡ Some x → Inv ρ H → Inv ρ (e.Released d p x ∷ H)
-  inv-released H d p x made mark i = record {
+  pub inv_released : (H : Ledger) (d p : ℕ) (x : List ℕ) → IsSome (key_of d (counted H)) → marked d p (counted H) ≡ Some x → Inv ρ H → Inv ρ (e.Released d p x ∷ H)
+  inv_released H d p x made mark i = record {
     good = i.good;
-    opens = λ n c h. open-kept (e.Released d p x) H n c (is_on n H) (i.opens n c h);
-    sents = λ y h. genuine-entry y (e.Released d p x) H (counted H) (i.sents y h);
-    told = (record { releases = (made, mark); prints = tt; sure = sure-of (e.Released d p x) H i }, i.told);
+    opens = λ n c h. open_kept (e.Released d p x) H n c (is_on n H) (i.opens n c h);
+    sents = λ y h. genuine_entry y (e.Released d p x) H (counted H) (i.sents y h);
+    told = (record { releases = (made, mark); prints = tt; sure = sure_of (e.Released d p x) H i }, i.told);
     printed = i.printed;
     dated = i.dated;
   }
 
-  pub inv-begin : (H : Ledger) → Inv ρ H → Inv ρ (e.Begin ∷ H)
-  inv-begin H i = record {
+  pub inv_begin : (H : Ledger) → Inv ρ H → Inv ρ (e.Begin ∷ H)
+  inv_begin H i = record {
     good = i.good;
-    opens = λ n c h. let o = i.opens n c h in record { node = o.node; off = refl; fits = o.fits; range = o.range; sure = sure-kept c e.Begin H o.sure };
-    sents = λ x h. genuine-entry x e.Begin H (counted H) (i.sents x h);
-    told = (record { releases = tt; prints = tt; sure = sure-of e.Begin H i }, i.told);
+    opens = λ n c h. let o = i.opens n c h in record { node = o.node; off = refl; fits = o.fits; range = o.range; sure = sure_kept c e.Begin H o.sure };
+    sents = λ x h. genuine_entry x e.Begin H (counted H) (i.sents x h);
+    told = (record { releases = tt; prints = tt; sure = sure_of e.Begin H i }, i.told);
     printed = i.printed;
     dated = λ t h. absurd (none-some _ h);
   }
@@ -221,38 +221,38 @@ module _ (ρ : Rules) where
   either_off true b h = refl
   either_off false b h = h
 
-  pub inv-down : (H : Ledger) (k : Node) → Inv ρ H → Inv ρ (e.Down k ∷ H)
-  inv-down H k i = record {
+  pub inv_down : (H : Ledger) (k : Node) → Inv ρ H → Inv ρ (e.Down k ∷ H)
+  inv_down H k i = record {
     good = i.good;
-    opens = λ n c h. let o = i.opens n c h in record { node = o.node; off = either_off (same_node k n) (is_on n H) o.off; fits = o.fits; range = o.range; sure = sure-kept c (e.Down k) H o.sure };
-    sents = λ x h. genuine-entry x (e.Down k) H (counted H) (i.sents x h);
-    told = (record { releases = tt; prints = tt; sure = sure-of (e.Down k) H i }, i.told);
+    opens = λ n c h. let o = i.opens n c h in record { node = o.node; off = either_off (same_node k n) (is_on n H) o.off; fits = o.fits; range = o.range; sure = sure_kept c (e.Down k) H o.sure };
+    sents = λ x h. genuine_entry x (e.Down k) H (counted H) (i.sents x h);
+    told = (record { releases = tt; prints = tt; sure = sure_of (e.Down k) H i }, i.told);
     printed = i.printed;
     dated = i.dated;
   }
 
-  pub inv-sent : (H : Ledger) (bytes : List ℕ) → Genuine bytes H (counted H) → Inv ρ H → Inv ρ (e.Sent bytes ∷ H)
-  inv-sent H bytes g i = record {
+  pub inv_sent : (H : Ledger) (bytes : List ℕ) → Genuine bytes H (counted H) → Inv ρ H → Inv ρ (e.Sent bytes ∷ H)
+  inv_sent H bytes g i = record {
     good = i.good;
-    opens = λ n c h. open-kept (e.Sent bytes) H n c (is_on n H) (i.opens n c h);
-    sents = λ x h. genuine-entry x (e.Sent bytes) H (counted H) (⊎_elim (λ (s : bytes ≡ x). subst (λ y. Genuine y H (counted H)) s g) (λ (s : IsSent x H). i.sents x s) h);
-    told = (record { releases = tt; prints = tt; sure = sure-of (e.Sent bytes) H i }, i.told);
+    opens = λ n c h. open_kept (e.Sent bytes) H n c (is_on n H) (i.opens n c h);
+    sents = λ x h. genuine_entry x (e.Sent bytes) H (counted H) (⊎_elim (λ (s : bytes ≡ x). subst (λ y. Genuine y H (counted H)) s g) (λ (s : IsSent x H). i.sents x s) h);
+    told = (record { releases = tt; prints = tt; sure = sure_of (e.Sent bytes) H i }, i.told);
     printed = i.printed;
     dated = i.dated;
   }
 
-  pub inv-printed : (H : Ledger) (j : ℕ) (x : List ℕ) → held_of j (counted H) ≡ Some x → begun j (counted H) ≡ true → (IsPrinted j H → ⊥) → Inv ρ H → Inv ρ (e.Printed j x ∷ H)
-  inv-printed H j x held began new i = record {
+  pub inv_printed : (H : Ledger) (j : ℕ) (x : List ℕ) → held_of j (counted H) ≡ Some x → begun j (counted H) ≡ true → (IsPrinted j H → ⊥) → Inv ρ H → Inv ρ (e.Printed j x ∷ H)
+  inv_printed H j x held began new i = record {
     good = i.good;
-    opens = λ n c h. open-kept (e.Printed j x) H n c (is_on n H) (i.opens n c h);
-    sents = λ y h. genuine-entry y (e.Printed j x) H (counted H) (i.sents y h);
-    told = (record { releases = tt; prints = (held, began, new); sure = sure-of (e.Printed j x) H i }, i.told);
+    opens = λ n c h. open_kept (e.Printed j x) H n c (is_on n H) (i.opens n c h);
+    sents = λ y h. genuine_entry y (e.Printed j x) H (counted H) (i.sents y h);
+    told = (record { releases = tt; prints = (held, began, new); sure = sure_of (e.Printed j x) H i }, i.told);
     printed = λ k h. ⊎_elim (λ (s : j ≡ k). subst (λ z. begun z (counted H) ≡ true) s began) (λ (s : IsPrinted k H). i.printed k s) h;
     dated = i.dated;
   }
 
-  pub inv-commit : (H : Ledger) (c : Commit) → Fits ρ c (counted H) → is_on (node_of c) H ≡ true → InRange c → Sure c H → Inv ρ H → Inv ρ (e.Commit c ∷ H)
-  inv-commit H c f on range sure i = record {
+  pub inv_commit : (H : Ledger) (c : Commit) → Fits ρ c (counted H) → is_on (node_of c) H ≡ true → InRange c → Sure c H → Inv ρ H → Inv ρ (e.Commit c ∷ H)
+  inv_commit H c f on range sure i = record {
     good = (f, i.good, range);
     opens = λ n o h.
         let was = i.opens n o h in
@@ -262,31 +262,31 @@ module _ (ρ : Rules) where
           off = was.off;
           fits = frame ρ o c (counted H) (ap (same_node (node_of c)) was.node ∙ two) was.fits;
           range = was.range;
-          sure = sure-kept o (e.Commit c) H was.sure;
+          sure = sure_kept o (e.Commit c) H was.sure;
         };
-    sents = λ x h. genuine-entry x (e.Commit c) H (c ∷ counted H) (genuine-commit x H c (counted H) (i.sents x h));
-    told = (record { releases = tt; prints = tt; sure = sure-kept c (e.Commit c) H sure }, i.told);
-    printed = λ j h. begun-kept j c (counted H) (i.printed j h);
+    sents = λ x h. genuine_entry x (e.Commit c) H (c ∷ counted H) (genuine_commit x H c (counted H) (i.sents x h));
+    told = (record { releases = tt; prints = tt; sure = sure_kept c (e.Commit c) H sure }, i.told);
+    printed = λ j h. begun_kept j c (counted H) (i.printed j h);
     dated = i.dated;
   }
 
-  torn-case : (n : Node) (c o : Commit) (t b : Bool) (w : Option Commit) (H : Ledger) → (t ≡ true → node_of c ≡ n) → Fits ρ c (counted H) → InRange c → Sure c H
+  torn_case : (n : Node) (c o : Commit) (t b : Bool) (w : Option Commit) (H : Ledger) → (t ≡ true → node_of c ≡ n) → Fits ρ c (counted H) → InRange c → Sure c H
       → (w ≡ Some o → OpenFits ρ n o b H (counted H)) → cond t (Some c) w ≡ Some o → OpenFits ρ n o (cond t false b) (e.Torn (node_of c) c ∷ H) (counted H)
-  torn-case n c o true b w H same f range sure was h = record {
+  torn_case n c o true b w H same f range sure was h = record {
     node = ap node_of (sym (same_Some _ _ h)) ∙ same refl;
     off = refl;
     fits = subst (λ x. Fits ρ x (counted H)) (same_Some _ _ h) f;
     range = subst InRange (same_Some _ _ h) range;
-    sure = sure-kept o (e.Torn (node_of c) c) H (subst (λ x. Sure x H) (same_Some _ _ h) sure);
+    sure = sure_kept o (e.Torn (node_of c) c) H (subst (λ x. Sure x H) (same_Some _ _ h) sure);
   }
-  torn-case n c o false b w H same f range sure was h = open-kept (e.Torn (node_of c) c) H n o b (was h)
+  torn_case n c o false b w H same f range sure was h = open_kept (e.Torn (node_of c) c) H n o b (was h)
 
-  pub inv-torn : (H : Ledger) (c : Commit) → Fits ρ c (counted H) → InRange c → Sure c H → Inv ρ H → Inv ρ (e.Torn (node_of c) c ∷ H)
-  inv-torn H c f range sure i = record {
+  pub inv_torn : (H : Ledger) (c : Commit) → Fits ρ c (counted H) → InRange c → Sure c H → Inv ρ H → Inv ρ (e.Torn (node_of c) c ∷ H)
+  inv_torn H c f range sure i = record {
     good = i.good;
-    opens = λ n o h. torn-case n c o (same_node (node_of c) n) (is_on n H) (torn_of n H) H (λ t. same_node-true (node_of c) n t) f range sure (i.opens n o) h;
-    sents = λ x h. genuine-entry x (e.Torn (node_of c) c) H (counted H) (i.sents x h);
-    told = (record { releases = tt; prints = tt; sure = sure-of (e.Torn (node_of c) c) H i }, i.told);
+    opens = λ n o h. torn_case n c o (same_node (node_of c) n) (is_on n H) (torn_of n H) H (λ t. same_node_true (node_of c) n t) f range sure (i.opens n o) h;
+    sents = λ x h. genuine_entry x (e.Torn (node_of c) c) H (counted H) (i.sents x h);
+    told = (record { releases = tt; prints = tt; sure = sure_of (e.Torn (node_of c) c) H i }, i.told);
     printed = i.printed;
     dated = i.dated;
   }
@@ -297,53 +297,53 @@ module _ (ρ : Rules) where
   Next : Node → Ledger → List Commit → List Commit → Type 0
   Next k H C D = (D ≡ C) ⊎ ((c : Commit) × (D ≡ c ∷ C) × (node_of c ≡ k) × Fits ρ c C × InRange c × Sure c H)
 
-  next-if : (k : Node) (c : Commit) (t : Bool) (H : Ledger) (C : List Commit) → node_of c ≡ k → Fits ρ c C → InRange c → Sure c H → Next k H C (cond t (c ∷ C) C)
+  next_if : (k : Node) (c : Commit) (t : Bool) (H : Ledger) (C : List Commit) → node_of c ≡ k → Fits ρ c C → InRange c → Sure c H → Next k H C (cond t (c ∷ C) C)
   unfolding Next
-  next-if k c true H C n f r s = inr (c, refl, n, f, r, s)
-  next-if k c false H C n f r s = inl refl
+  next_if k c true H C n f r s = inr (c, refl, n, f, r, s)
+  next_if k c false H C n f r s = inl refl
 
   next : (k : Node) (count : ℕ) (w : Option Commit) (b : Bool) (H : Ledger) (C : List Commit) → ((c : Commit) → w ≡ Some c → OpenFits ρ k c b H C) → Next k H C (at_up w k count C)
   unfolding Next
   next k count None b H C was = inl refl
-  next k count (Some c) b H C was = let o = was c refl in next-if k c (count == count_of k C + 1) H C o.node o.fits o.range o.sure
+  next k count (Some c) b H C was = let o = was c refl in next_if k c (count == count_of k C + 1) H C o.node o.fits o.range o.sure
 
   -- what holds of the commits before, and of each that they may grow to, holds after the Up
-  by-next : (k : Node) (H : Ledger) (C D : List Commit) (P : List Commit → Type 0) → P C → ((c : Commit) → node_of c ≡ k → Fits ρ c C → InRange c → Sure c H → P (c ∷ C)) → Next k H C D → P D
+  by_next : (k : Node) (H : Ledger) (C D : List Commit) (P : List Commit → Type 0) → P C → ((c : Commit) → node_of c ≡ k → Fits ρ c C → InRange c → Sure c H → P (c ∷ C)) → Next k H C D → P D
   unfolding Next
-  by-next k H C D P here more x = ⊎_elim
+  by_next k H C D P here more x = ⊎_elim
       (λ (h : D ≡ C). subst P (sym h) here)
       (λ (h : (c : Commit) × (D ≡ c ∷ C) × (node_of c ≡ k) × Fits ρ c C × InRange c × Sure c H). subst P (sym h.1) (more h.0 h.2 h.3 h.4 h.5))
       x
 
-  up-case : (k n : Node) (o : Commit) (t b : Bool) (w : Option Commit) (u : Entry) (H : Ledger) (C D : List Commit) → same_node k n ≡ t → (w ≡ Some o → OpenFits ρ n o b H C) → Next k H C D → cond t None w ≡ Some o → OpenFits ρ n o (cond t true b) (u ∷ H) D
-  up-case k n o true b w u H C D is was x h = absurd (none-some _ h)
-  up-case k n o false b w u H C D is was x h =
+  up_case : (k n : Node) (o : Commit) (t b : Bool) (w : Option Commit) (u : Entry) (H : Ledger) (C D : List Commit) → same_node k n ≡ t → (w ≡ Some o → OpenFits ρ n o b H C) → Next k H C D → cond t None w ≡ Some o → OpenFits ρ n o (cond t true b) (u ∷ H) D
+  up_case k n o true b w u H C D is was x h = absurd (none-some _ h)
+  up_case k n o false b w u H C D is was x h =
       let it = was h in
       record {
         node = it.node;
         off = it.off;
-        fits = by-next k H C D (Fits ρ o) it.fits (λ c own f r s. frame ρ o c C (ap (λ y. same_node y (node_of o)) own ∙ (ap (same_node k) it.node ∙ is)) it.fits) x;
+        fits = by_next k H C D (Fits ρ o) it.fits (λ c own f r s. frame ρ o c C (ap (λ y. same_node y (node_of o)) own ∙ (ap (same_node k) it.node ∙ is)) it.fits) x;
         range = it.range;
-        sure = sure-kept o u H it.sure;
+        sure = sure_kept o u H it.sure;
       }
 
-  pub inv-up : (H : Ledger) (k : Node) (count : ℕ) → Inv ρ H → Inv ρ (e.Up k count ∷ H)
-  inv-up H k count i =
+  pub inv_up : (H : Ledger) (k : Node) (count : ℕ) → Inv ρ H → Inv ρ (e.Up k count ∷ H)
+  inv_up H k count i =
       let C = counted H in
       let D = at_up (torn_of k H) k count C in
       let x : Next k H C D = next k count (torn_of k H) (is_on k H) H C (i.opens k) in
       record {
-        good = by-next k H C D (Good ρ) i.good (λ c own f r s. (f, i.good, r)) x;
-        opens = λ n o h. up-case k n o (same_node k n) (is_on n H) (torn_of n H) (e.Up k count) H C D refl (i.opens n o) x h;
-        sents = λ y h. genuine-entry y (e.Up k count) H D (by-next k H C D (Genuine y H) (i.sents y h) (λ c own f r s. genuine-commit y H c C (i.sents y h)) x);
+        good = by_next k H C D (Good ρ) i.good (λ c own f r s. (f, i.good, r)) x;
+        opens = λ n o h. up_case k n o (same_node k n) (is_on n H) (torn_of n H) (e.Up k count) H C D refl (i.opens n o) x h;
+        sents = λ y h. genuine_entry y (e.Up k count) H D (by_next k H C D (Genuine y H) (i.sents y h) (λ c own f r s. genuine_commit y H c C (i.sents y h)) x);
         told = (
           record {
             releases = tt;
             prints = tt;
-            sure = by-next k H C D (NewestSure (e.Up k count ∷ H)) (sure-of (e.Up k count) H i) (λ c own f r s. sure-kept c (e.Up k count) H s) x;
+            sure = by_next k H C D (NewestSure (e.Up k count ∷ H)) (sure_of (e.Up k count) H i) (λ c own f r s. sure_kept c (e.Up k count) H s) x;
           },
           i.told,
         );
-        printed = λ j h. by-next k H C D (λ E. begun j E ≡ true) (i.printed j h) (λ c own f r s. begun-kept j c C (i.printed j h)) x;
+        printed = λ j h. by_next k H C D (λ E. begun j E ≡ true) (i.printed j h) (λ c own f r s. begun_kept j c C (i.printed j h)) x;
         dated = i.dated;
       }

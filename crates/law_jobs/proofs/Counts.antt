@@ -16,55 +16,55 @@ use Rattle.bench_base.specs.Cells.{Place, OfDevice, OfRow, OfCustomer, OfJob, Of
 use Rattle.bench_base.specs.Jobs.{cell_of}
 use Rattle.bench_base.specs.Scans.{block_of, block_place, with_block, blocks}
 use Rattle.bench_base.specs.Ranges.{InRange}
-use Rattle.bench_base.proofs.Facts.{same_node-true, same_node-self}
+use Rattle.bench_base.proofs.Facts.{same_node_true, same_node_self}
 use Rattle.law_jobs.specs.Places.{node_at, commits_in, Hold, PlacesAddUp, device_places, centre_places, host_places, block_cell, verifier_places, CellsAddUp}
 
 -- == places and nodes ==
 
-same-at : (x p : Place) → same_place x p ≡ true → node_at x ≡ node_at p
-same-at (OfDevice d) (OfDevice e) h = ap Device (eqb-true d e h)
-same-at (OfRow d) (OfRow e) h = refl
-same-at (OfCustomer d) (OfCustomer e) h = refl
-same-at (OfJob d) (OfJob e) h = refl
-same-at (OfTrust d) (OfTrust e) h = refl
-same-at (OfBlock d b) (OfBlock e k) h = refl
-same-at _ _ h = absurd (true≢false (sym h))
+same_at : (x p : Place) → same_place x p ≡ true → node_at x ≡ node_at p
+same_at (OfDevice d) (OfDevice e) h = ap Device (eqb-true d e h)
+same_at (OfRow d) (OfRow e) h = refl
+same_at (OfCustomer d) (OfCustomer e) h = refl
+same_at (OfJob d) (OfJob e) h = refl
+same_at (OfTrust d) (OfTrust e) h = refl
+same_at (OfBlock d b) (OfBlock e k) h = refl
+same_at _ _ h = absurd (true≢false (sym h))
 
-lies-at : (c : Commit) → node_at (place_of c) ≡ node_of c
-lies-at (Made d key) = refl
-lies-at (Asked d n note) = refl
-lies-at (Applied d n v) = refl
-lies-at (Debited d piece postage class day version) = refl
-lies-at (Registered d origin key) = refl
-lies-at (Opened c) = refl
-lies-at (Deposited c receipt amount) = refl
-lies-at (Flagged c suspended) = refl
-lies-at (Ruled d n v note) = refl
-lies-at (Settled d n) = refl
-lies-at (Ordered j d piece postage class) = refl
-lies-at (Held j mark) = refl
-lies-at (Began j) = refl
-lies-at (Closed j) = refl
-lies-at (Trusted d key) = refl
-lies-at (Accepted d piece scan) = refl
+lies_at : (c : Commit) → node_at (place_of c) ≡ node_of c
+lies_at (Made d key) = refl
+lies_at (Asked d n note) = refl
+lies_at (Applied d n v) = refl
+lies_at (Debited d piece postage class day version) = refl
+lies_at (Registered d origin key) = refl
+lies_at (Opened c) = refl
+lies_at (Deposited c receipt amount) = refl
+lies_at (Flagged c suspended) = refl
+lies_at (Ruled d n v note) = refl
+lies_at (Settled d n) = refl
+lies_at (Ordered j d piece postage class) = refl
+lies_at (Held j mark) = refl
+lies_at (Began j) = refl
+lies_at (Closed j) = refl
+lies_at (Trusted d key) = refl
+lies_at (Accepted d piece scan) = refl
 
 -- == the sum over places ==
 
-none-lies : (places : List Place) → commits_in places [] ≡ 0
-none-lies [] = refl
-none-lies (p ∷ places) =
+none_lies : (places : List Place) → commits_in places [] ≡ 0
+none_lies [] = refl
+none_lies (p ∷ places) =
     let step = sum_by-cons (λ (place : Place). commits_at place []) p places in
-    let rest = none-lies places in
+    let rest = none_lies places in
     omega (arith, step, rest)
 
 -- one commit more lies where its place stands in the list
-one-more : (c : Commit) (C : List Commit) (places : List Place) → commits_in places (c ∷ C) ≡ commits_in places C + count_by (same_place (place_of c)) places
-one-more c C [] = refl
-one-more c C (p ∷ places) =
+one_more : (c : Commit) (C : List Commit) (places : List Place) → commits_in places (c ∷ C) ≡ commits_in places C + count_by (same_place (place_of c)) places
+one_more c C [] = refl
+one_more c C (p ∷ places) =
     let after = sum_by-cons (λ (place : Place). commits_at place (c ∷ C)) p places in
     let before = sum_by-cons (λ (place : Place). commits_at place C) p places in
     let here = sum_by-cons (λ (place : Place). cond (same_place (place_of c) place) 1 0) p places in
-    let rest = one-more c C places in
+    let rest = one_more c C places in
     let first = at (same_place (place_of c) p) in
     omega (arith, after, before, here, rest, first)
   where
@@ -73,29 +73,29 @@ one-more c C (p ∷ places) =
     at false = omega arith
 
 -- a place of another node isn't among them
-not-there : (n : Node) (x : Place) (places : List Place) → All (λ place. node_at place ≡ n) places → (node_at x ≡ n → ⊥) → count_by (same_place x) places ≡ 0
-not-there n x [] own other = refl
-not-there n x (p ∷ places) own other =
+not_there : (n : Node) (x : Place) (places : List Place) → All (λ place. node_at place ≡ n) places → (node_at x ≡ n → ⊥) → count_by (same_place x) places ≡ 0
+not_there n x [] own other = refl
+not_there n x (p ∷ places) own other =
     let step = sum_by-cons (λ (place : Place). cond (same_place x place) 1 0) p places in
-    let rest = not-there n x places (All-tail (λ place. node_at place ≡ n) p places own) other in
+    let rest = not_there n x places (All-tail (λ place. node_at place ≡ n) p places own) other in
     let here = ⊎_elim
-    (λ (t : same_place x p ≡ true). absurd (other (same-at x p t ∙ All-head (λ place. node_at place ≡ n) p places own)))
+    (λ (t : same_place x p ≡ true). absurd (other (same_at x p t ∙ All-head (λ place. node_at place ≡ n) p places own)))
     (λ (t : same_place x p ≡ false). ap {B = ℕ} (λ b. cond b 1 0) t)
     (cases_Bool (same_place x p)) in
     omega (arith, step, rest, here)
 
-pub places-add_up : PlacesAddUp
-places-add_up n places [] h = none-lies places
-places-add_up n places (c ∷ C) h =
-    let rest = places-add_up n places C (record { own = h.own; once = h.once; each = All-tail (λ c. node_of c ≡ n → Contains places (place_of c)) c C h.each }) in
-    let more = one-more c C places in
+pub places_add_up : PlacesAddUp
+places_add_up n places [] h = none_lies places
+places_add_up n places (c ∷ C) h =
+    let rest = places_add_up n places C (record { own = h.own; once = h.once; each = All-tail (λ c. node_of c ≡ n → Contains places (place_of c)) c C h.each }) in
+    let more = one_more c C places in
     ⊎_elim
     (λ (t : same_node (node_of c) n ≡ true).
-    let there = All-head (λ c. node_of c ≡ n → Contains places (place_of c)) c C h.each (same_node-true (node_of c) n t) in
+    let there = All-head (λ c. node_of c ≡ n → Contains places (place_of c)) c C h.each (same_node_true (node_of c) n t) in
     let once = All-contains (λ place. count_by (same_place place) places ≡ 1) places (place_of c) h.once there in
     rw t (omega (arith, more, rest, once)))
     (λ (t : same_node (node_of c) n ≡ false).
-    let none = not-there n (place_of c) places h.own (λ e. true≢false (sym (same_node-self n) ∙ ap (λ m. same_node m n) (sym e ∙ lies-at c) ∙ t)) in
+    let none = not_there n (place_of c) places h.own (λ e. true≢false (sym (same_node_self n) ∙ ap (λ m. same_node m n) (sym e ∙ lies_at c) ∙ t)) in
     rw t (omega (arith, more, rest, none)))
     (cases_Bool (same_node (node_of c) n))
 
@@ -106,140 +106,140 @@ record IsRun (n : Node) (f : ℕ → Place) : Type 0 where
   apart : (i j : ℕ) → same_place (f i) (f j) ≡ (i == j)
 
 module _ (n : Node) (f : ℕ → Place) (run : IsRun n f) where
-  run-own : (a k : ℕ) → All (λ place. node_at place ≡ n) (map f (range_with_len a k))
-  run-own a k = All-map (λ place. node_at place ≡ n) f (range_with_len a k) (λ i d lt. run.own _)
+  run_own : (a k : ℕ) → All (λ place. node_at place ≡ n) (map f (range_with_len a k))
+  run_own a k = All-map (λ place. node_at place ≡ n) f (range_with_len a k) (λ i d lt. run.own _)
 
   step : (i a k : ℕ) → count_by (same_place (f i)) (map f (range_with_len a (suc k))) ≡ cond (i == a) 1 0 + count_by (same_place (f i)) (map f (range_with_len (a + 1) k))
   step i a k = sum_by-cons (λ (place : Place). cond (same_place (f i) place) 1 0) (f a) (map f (range_with_len (a + 1) k))
       ∙ ap {B = ℕ} (λ b. cond b 1 0 + count_by (same_place (f i)) (map f (range_with_len (a + 1) k))) (run.apart i a)
 
-  count-below : (i a k : ℕ) → i < a → count_by (same_place (f i)) (map f (range_with_len a k)) ≡ 0
-  count-below i a zero lt = refl
-  count-below i a (suc k) lt =
+  count_below : (i a k : ℕ) → i < a → count_by (same_place (f i)) (map f (range_with_len a k)) ≡ 0
+  count_below i a zero lt = refl
+  count_below i a (suc k) lt =
       let here = ap {B = ℕ} (λ b. cond b 1 0) (ne_eqb i a (λ e. omega arith)) in
-      let rest = count-below i (a + 1) k (omega arith) in
+      let rest = count_below i (a + 1) k (omega arith) in
       omega (arith, step i a k, here, rest)
 
-  count-once : (i a k : ℕ) → a ≤ i → i < a + k → count_by (same_place (f i)) (map f (range_with_len a k)) ≡ 1
-  count-once i a zero le lt = absurd (omega arith)
-  count-once i a (suc k) le lt = ⊎_elim
+  count_once : (i a k : ℕ) → a ≤ i → i < a + k → count_by (same_place (f i)) (map f (range_with_len a k)) ≡ 1
+  count_once i a zero le lt = absurd (omega arith)
+  count_once i a (suc k) le lt = ⊎_elim
       (λ (t : (i == a) ≡ true).
       let same = eqb-true i a t in
       let here = ap {B = ℕ} (λ b. cond b 1 0) t in
-      let rest = count-below i (a + 1) k (omega arith) in
+      let rest = count_below i (a + 1) k (omega arith) in
       omega (arith, step i a k, here, rest))
       (λ (t : (i == a) ≡ false).
       let other = eqb-false i a t in
       let here = ap {B = ℕ} (λ b. cond b 1 0) t in
-      let rest = count-once i (a + 1) k (omega arith) (omega arith) in
+      let rest = count_once i (a + 1) k (omega arith) (omega arith) in
       omega (arith, step i a k, here, rest))
       (cases_Bool (i == a))
 
   -- what holds of each place of the run, by its number
-  run-all : (P : Place → Type 0) (a k : ℕ) → ((i : ℕ) → a ≤ i → i < a + k → P (f i)) → All P (map f (range_with_len a k))
-  run-all P a k each = All-map P f (range_with_len a k) (λ i d lt.
+  run_all : (P : Place → Type 0) (a k : ℕ) → ((i : ℕ) → a ≤ i → i < a + k → P (f i)) → All P (map f (range_with_len a k))
+  run_all P a k each = All-map P f (range_with_len a k) (λ i d lt.
       let small : i < k = subst (λ z. i < z) (length-range_with_len a k) lt in
       subst (λ z. P (f z)) (sym (get_or-range_with_len a k i d small)) (each (a + i) (omega arith) (omega arith)))
 
-  run-has : (i a k : ℕ) → a ≤ i → i < a + k → Contains (map f (range_with_len a k)) (f i)
-  run-has i a k le lt = (
+  run_has : (i a k : ℕ) → a ≤ i → i < a + k → Contains (map f (range_with_len a k)) (f i)
+  run_has i a k le lt = (
     i - a,
     subst (λ z. i - a < z) (sym (length-map-range_with_len f a k)) (omega arith),
     get_or-map-range_with_len f a k (i - a) i (f i) (omega arith) (omega arith),
   )
 
 -- places that are none of the run
-apart-run : (x : Place) (f : ℕ → Place) (a k : ℕ) → ((i : ℕ) → same_place x (f i) ≡ false) → count_by (same_place x) (map f (range_with_len a k)) ≡ 0
-apart-run x f a zero apart = refl
-apart-run x f a (suc k) apart =
+apart_run : (x : Place) (f : ℕ → Place) (a k : ℕ) → ((i : ℕ) → same_place x (f i) ≡ false) → count_by (same_place x) (map f (range_with_len a k)) ≡ 0
+apart_run x f a zero apart = refl
+apart_run x f a (suc k) apart =
     let here = sum_by-cons (λ (place : Place). cond (same_place x place) 1 0) (f a) (map f (range_with_len (a + 1) k)) in
     let first = ap {B = ℕ} (λ b. cond b 1 0) (apart a) in
-    omega (arith, here, first, apart-run x f (a + 1) k apart)
+    omega (arith, here, first, apart_run x f (a + 1) k apart)
 
 -- == each node ==
 
-at-device : (d e : ℕ) → Device e ≡ Device d → Contains (OfDevice d ∷ []) (OfDevice e)
-at-device d e h = let same : e ≡ d = cc in (0, omega arith, ap OfDevice (sym same))
+at_device : (d e : ℕ) → Device e ≡ Device d → Contains (OfDevice d ∷ []) (OfDevice e)
+at_device d e h = let same : e ≡ d = cc in (0, omega arith, ap OfDevice (sym same))
 
-device-each : (d : ℕ) (c : Commit) → node_of c ≡ Device d → Contains (device_places d) (place_of c)
-device-each d (Made e key) h = at-device d e h
-device-each d (Asked e n note) h = at-device d e h
-device-each d (Applied e n v) h = at-device d e h
-device-each d (Debited e piece postage class day version) h = at-device d e h
-device-each d _ h = absurd (cc)
+device_each : (d : ℕ) (c : Commit) → node_of c ≡ Device d → Contains (device_places d) (place_of c)
+device_each d (Made e key) h = at_device d e h
+device_each d (Asked e n note) h = at_device d e h
+device_each d (Applied e n v) h = at_device d e h
+device_each d (Debited e piece postage class day version) h = at_device d e h
+device_each d _ h = absurd (cc)
 
-device-holds : (d : ℕ) (C : List Commit) → Hold (Device d) (device_places d) C
-device-holds d C = record {
+device_holds : (d : ℕ) (C : List Commit) → Hold (Device d) (device_places d) C
+device_holds d C = record {
   own = All-cons (λ place. node_at place ≡ Device d) (OfDevice d) [] refl (λ k x lt. absurd (omega arith));
   once = All-cons (λ place. count_by (same_place place) (device_places d) ≡ 1) (OfDevice d) [] (rw (eq-eqb d d refl) refl) (λ k x lt. absurd (omega arith));
-  each = λ k x lt. device-each d _;
+  each = λ k x lt. device_each d _;
 }
 
-jobs-run : IsRun Host OfJob
-jobs-run = record { own = λ i. refl; apart = λ i j. refl }
+jobs_run : IsRun Host OfJob
+jobs_run = record { own = λ i. refl; apart = λ i j. refl }
 
-rows-run : IsRun Centre OfRow
-rows-run = record { own = λ i. refl; apart = λ i j. refl }
+rows_run : IsRun Centre OfRow
+rows_run = record { own = λ i. refl; apart = λ i j. refl }
 
-customers-run : IsRun Centre OfCustomer
-customers-run = record { own = λ i. refl; apart = λ i j. refl }
+customers_run : IsRun Centre OfCustomer
+customers_run = record { own = λ i. refl; apart = λ i j. refl }
 
-job-cell : (j : ℕ) → Contains host_places (OfJob (cell_of j))
+job_cell : (j : ℕ) → Contains host_places (OfJob (cell_of j))
 unfolding host_places
-job-cell j = run-has Host OfJob jobs-run (cell_of j) 0 1024 (omega arith) (omega (arith, mod-lt (j - 1) {m = 1024} (omega arith)))
+job_cell j = run_has Host OfJob jobs_run (cell_of j) 0 1024 (omega arith) (omega (arith, mod-lt (j - 1) {m = 1024} (omega arith)))
 
-host-each : (c : Commit) → node_of c ≡ Host → Contains host_places (place_of c)
-host-each (Ordered j d piece postage class) h = job-cell j
-host-each (Held j mark) h = job-cell j
-host-each (Began j) h = job-cell j
-host-each (Closed j) h = job-cell j
-host-each _ h = absurd (cc)
+host_each : (c : Commit) → node_of c ≡ Host → Contains host_places (place_of c)
+host_each (Ordered j d piece postage class) h = job_cell j
+host_each (Held j mark) h = job_cell j
+host_each (Began j) h = job_cell j
+host_each (Closed j) h = job_cell j
+host_each _ h = absurd (cc)
 
-host-holds : (C : List Commit) → Hold Host host_places C
+host_holds : (C : List Commit) → Hold Host host_places C
 unfolding host_places
-host-holds C = record {
-  own = run-own Host OfJob jobs-run 0 1024;
-  once = run-all Host OfJob jobs-run (λ place. count_by (same_place place) host_places ≡ 1) 0 1024 (λ i le lt. count-once Host OfJob jobs-run i 0 1024 le lt);
-  each = λ k x lt. host-each _;
+host_holds C = record {
+  own = run_own Host OfJob jobs_run 0 1024;
+  once = run_all Host OfJob jobs_run (λ place. count_by (same_place place) host_places ≡ 1) 0 1024 (λ i le lt. count_once Host OfJob jobs_run i 0 1024 le lt);
+  each = λ k x lt. host_each _;
 }
 
-row-cell : (d : ℕ) → 1 ≤ d → d ≤ 8 → Contains centre_places (OfRow d)
+row_cell : (d : ℕ) → 1 ≤ d → d ≤ 8 → Contains centre_places (OfRow d)
 unfolding centre_places
-row-cell d low high = Contains-append_left (map OfRow (range_with_len 1 8)) (map OfCustomer (range_with_len 1 64)) (OfRow d) (run-has Centre OfRow rows-run d 1 8 low (omega arith))
+row_cell d low high = Contains-append_left (map OfRow (range_with_len 1 8)) (map OfCustomer (range_with_len 1 64)) (OfRow d) (run_has Centre OfRow rows_run d 1 8 low (omega arith))
 
-customer-cell : (c : ℕ) → 1 ≤ c → c ≤ 64 → Contains centre_places (OfCustomer c)
+customer_cell : (c : ℕ) → 1 ≤ c → c ≤ 64 → Contains centre_places (OfCustomer c)
 unfolding centre_places
-customer-cell c low high = Contains-append_right (map OfRow (range_with_len 1 8)) (map OfCustomer (range_with_len 1 64)) (OfCustomer c) (run-has Centre OfCustomer customers-run c 1 64 low (omega arith))
+customer_cell c low high = Contains-append_right (map OfRow (range_with_len 1 8)) (map OfCustomer (range_with_len 1 64)) (OfCustomer c) (run_has Centre OfCustomer customers_run c 1 64 low (omega arith))
 
-centre-each : (c : Commit) → InRange c → node_of c ≡ Centre → Contains centre_places (place_of c)
-centre-each (Registered d origin key) r h = row-cell d r.0.0 r.0.1
-centre-each (Opened c) r h = customer-cell c r.0 r.1
-centre-each (Deposited c receipt amount) r h = customer-cell c r.0.0 r.0.1
-centre-each (Flagged c suspended) r h = customer-cell c r.0 r.1
-centre-each (Ruled d n v note) r h = row-cell d r.0.0 r.0.1
-centre-each (Settled d n) r h = row-cell d r.0.0 r.0.1
-centre-each _ r h = absurd (cc)
+centre_each : (c : Commit) → InRange c → node_of c ≡ Centre → Contains centre_places (place_of c)
+centre_each (Registered d origin key) r h = row_cell d r.0.0 r.0.1
+centre_each (Opened c) r h = customer_cell c r.0 r.1
+centre_each (Deposited c receipt amount) r h = customer_cell c r.0.0 r.0.1
+centre_each (Flagged c suspended) r h = customer_cell c r.0 r.1
+centre_each (Ruled d n v note) r h = row_cell d r.0.0 r.0.1
+centre_each (Settled d n) r h = row_cell d r.0.0 r.0.1
+centre_each _ r h = absurd (cc)
 
-count-split : (x : Place) (ps qs : List Place) (m k : ℕ) → count_by (same_place x) ps ≡ m → count_by (same_place x) qs ≡ k → count_by (same_place x) (ps ++ qs) ≡ m + k
-count-split x ps qs m k a b = let both = sum_by-append (λ (place : Place). cond (same_place x place) 1 0) ps qs in omega (arith, both, a, b)
+count_split : (x : Place) (ps qs : List Place) (m k : ℕ) → count_by (same_place x) ps ≡ m → count_by (same_place x) qs ≡ k → count_by (same_place x) (ps ++ qs) ≡ m + k
+count_split x ps qs m k a b = let both = sum_by-append (λ (place : Place). cond (same_place x place) 1 0) ps qs in omega (arith, both, a, b)
 
-centre-once : All (λ place. count_by (same_place place) centre_places ≡ 1) centre_places
+centre_once : All (λ place. count_by (same_place place) centre_places ≡ 1) centre_places
 unfolding centre_places
-centre-once = All-append (λ place. count_by (same_place place) centre_places ≡ 1) (map OfRow (range_with_len 1 8)) (map OfCustomer (range_with_len 1 64))
-    (run-all Centre OfRow rows-run (λ place. count_by (same_place place) centre_places ≡ 1) 1 8
-    (λ i le lt. count-split (OfRow i) (map OfRow (range_with_len 1 8)) (map OfCustomer (range_with_len 1 64)) 1 0 (count-once Centre OfRow rows-run i 1 8 le lt) (apart-run (OfRow i) OfCustomer 1 64 (λ j. refl))))
-    (run-all Centre OfCustomer customers-run (λ place. count_by (same_place place) centre_places ≡ 1) 1 64
-    (λ i le lt. count-split (OfCustomer i) (map OfRow (range_with_len 1 8)) (map OfCustomer (range_with_len 1 64)) 0 1 (apart-run (OfCustomer i) OfRow 1 8 (λ j. refl)) (count-once Centre OfCustomer customers-run i 1 64 le lt)))
+centre_once = All-append (λ place. count_by (same_place place) centre_places ≡ 1) (map OfRow (range_with_len 1 8)) (map OfCustomer (range_with_len 1 64))
+    (run_all Centre OfRow rows_run (λ place. count_by (same_place place) centre_places ≡ 1) 1 8
+    (λ i le lt. count_split (OfRow i) (map OfRow (range_with_len 1 8)) (map OfCustomer (range_with_len 1 64)) 1 0 (count_once Centre OfRow rows_run i 1 8 le lt) (apart_run (OfRow i) OfCustomer 1 64 (λ j. refl))))
+    (run_all Centre OfCustomer customers_run (λ place. count_by (same_place place) centre_places ≡ 1) 1 64
+    (λ i le lt. count_split (OfCustomer i) (map OfRow (range_with_len 1 8)) (map OfCustomer (range_with_len 1 64)) 0 1 (apart_run (OfCustomer i) OfRow 1 8 (λ j. refl)) (count_once Centre OfCustomer customers_run i 1 64 le lt)))
 
-centre-own : All (λ place. node_at place ≡ Centre) centre_places
+centre_own : All (λ place. node_at place ≡ Centre) centre_places
 unfolding centre_places
-centre-own = All-append (λ place. node_at place ≡ Centre) (map OfRow (range_with_len 1 8)) (map OfCustomer (range_with_len 1 64)) (run-own Centre OfRow rows-run 1 8) (run-own Centre OfCustomer customers-run 1 64)
+centre_own = All-append (λ place. node_at place ≡ Centre) (map OfRow (range_with_len 1 8)) (map OfCustomer (range_with_len 1 64)) (run_own Centre OfRow rows_run 1 8) (run_own Centre OfCustomer customers_run 1 64)
 
-centre-holds : (C : List Commit) → All InRange C → Hold Centre centre_places C
-centre-holds C ranges = record {
-  own = centre-own;
-  once = centre-once;
-  each = All-weaker InRange (λ c. node_of c ≡ Centre → Contains centre_places (place_of c)) centre-each C ranges;
+centre_holds : (C : List Commit) → All InRange C → Hold Centre centre_places C
+centre_holds C ranges = record {
+  own = centre_own;
+  once = centre_once;
+  each = All-weaker InRange (λ c. node_of c ≡ Centre → Contains centre_places (place_of c)) centre_each C ranges;
 }
 
 -- == the verifier's blocks ==
@@ -248,13 +248,13 @@ centre-holds C ranges = record {
 times : ℕ → ℕ → List (ℕ × ℕ) → ℕ
 times d b xs = count_by (same_place (OfBlock d b)) (map block_cell xs)
 
-times-none : (d b : ℕ) → times d b [] ≡ 0
+times_none : (d b : ℕ) → times d b [] ≡ 0
 unfolding times
-times-none d b = refl
+times_none d b = refl
 
-times-cons : (d b : ℕ) (x : ℕ × ℕ) (xs : List (ℕ × ℕ)) → times d b (x ∷ xs) ≡ cond ((d == x.0) && (b == x.1)) 1 0 + times d b xs
+times_cons : (d b : ℕ) (x : ℕ × ℕ) (xs : List (ℕ × ℕ)) → times d b (x ∷ xs) ≡ cond ((d == x.0) && (b == x.1)) 1 0 + times d b xs
 unfolding times
-times-cons d b x xs = sum_by-cons (λ (place : Place). cond (same_place (OfBlock d b) place) 1 0) (block_cell x) (map block_cell xs)
+times_cons d b x xs = sum_by-cons (λ (place : Place). cond (same_place (OfBlock d b) place) 1 0) (block_cell x) (map block_cell xs)
 
 -- the tests of one block in either order
 turned : (d b e k : ℕ) → ((e == d) && (k == b)) ≡ false → ((d == e) && (b == k)) ≡ false
@@ -268,13 +268,13 @@ turned d b e k h = ⊎_elim
     (cases_Bool ((d == e) && (b == k)))
 
 unplaced : (d b : ℕ) (xs : List (ℕ × ℕ)) → block_place d b xs ≡ None → times d b xs ≡ 0
-unplaced d b [] h = times-none d b
+unplaced d b [] h = times_none d b
 unplaced d b (x ∷ xs) h = ⊎_elim
     (λ (t : ((x.0 == d) && (x.1 == b)) ≡ true). let no : Some (length xs) ≡ None = rw t at h in absurd (cc))
     (λ (t : ((x.0 == d) && (x.1 == b)) ≡ false).
     let rest = unplaced d b xs (rw t at h) in
     let here = ap {B = ℕ} (λ p. cond p 1 0) (turned d b x.0 x.1 t) in
-    omega (arith, times-cons d b x xs, rest, here))
+    omega (arith, times_cons d b x xs, rest, here))
     (cases_Bool ((x.0 == d) && (x.1 == b)))
 
 placed : (d b k : ℕ) (xs : List (ℕ × ℕ)) → block_place d b xs ≡ Some k → Contains (map block_cell xs) (OfBlock d b)
@@ -292,93 +292,93 @@ abbrev Once : List (ℕ × ℕ) → Type 0
 Once xs = All (λ x. times x.0 x.1 xs ≡ 1) xs
 
 -- a block that is there once is none that isn't there
-other-block : (d b : ℕ) (x : ℕ × ℕ) (xs : List (ℕ × ℕ)) → times d b xs ≡ 0 → times x.0 x.1 xs ≡ 1 → times x.0 x.1 ((d, b) ∷ xs) ≡ 1
-other-block d b x xs none one = ⊎_elim
+other_block : (d b : ℕ) (x : ℕ × ℕ) (xs : List (ℕ × ℕ)) → times d b xs ≡ 0 → times x.0 x.1 xs ≡ 1 → times x.0 x.1 ((d, b) ∷ xs) ≡ 1
+other_block d b x xs none one = ⊎_elim
     (λ (t : ((x.0 == d) && (x.1 == b)) ≡ true).
     let parts = and_parts (x.0 == d) (x.1 == b) t in
     let d_is = eqb-true x.0 d parts.0 in
     let b_is = eqb-true x.1 b parts.1 in
     let same : times x.0 x.1 xs ≡ times d b xs = λ i. times (d_is i) (b_is i) xs in
     absurd (omega (arith, same, none, one)))
-    (λ (t : ((x.0 == d) && (x.1 == b)) ≡ false). let here = ap {B = ℕ} (λ p. cond p 1 0) t in omega (arith, times-cons x.0 x.1 (d, b) xs, here, one))
+    (λ (t : ((x.0 == d) && (x.1 == b)) ≡ false). let here = ap {B = ℕ} (λ p. cond p 1 0) t in omega (arith, times_cons x.0 x.1 (d, b) xs, here, one))
     (cases_Bool ((x.0 == d) && (x.1 == b)))
 
-grown-once : (d b : ℕ) (xs : List (ℕ × ℕ)) (o : Option ℕ) → block_place d b xs ≡ o → Once xs → Once (with_block d b xs o)
-grown-once d b xs (Some k) h once = once
-grown-once d b xs None h once =
+grown_once : (d b : ℕ) (xs : List (ℕ × ℕ)) (o : Option ℕ) → block_place d b xs ≡ o → Once xs → Once (with_block d b xs o)
+grown_once d b xs (Some k) h once = once
+grown_once d b xs None h once =
     let none = unplaced d b xs h in
     let here = ap {B = ℕ} (λ p. cond (p && (b == b)) 1 0) (eq-eqb d d refl) ∙ ap {B = ℕ} (λ p. cond p 1 0) (eq-eqb b b refl) in
     All-cons (λ x. times x.0 x.1 ((d, b) ∷ xs) ≡ 1) (d, b) xs
-    (omega (arith, times-cons d b (d, b) xs, none, here))
-    (All-weaker (λ x. times x.0 x.1 xs ≡ 1) (λ x. times x.0 x.1 ((d, b) ∷ xs) ≡ 1) (λ x one. other-block d b x xs none one) xs once)
+    (omega (arith, times_cons d b (d, b) xs, none, here))
+    (All-weaker (λ x. times x.0 x.1 xs ≡ 1) (λ x. times x.0 x.1 ((d, b) ∷ xs) ≡ 1) (λ x one. other_block d b x xs none one) xs once)
 
-blocks-once : (C : List Commit) → Once (blocks C)
-blocks-once [] = λ k x lt. absurd (omega arith)
-blocks-once (Accepted d p scan ∷ C) = grown-once d (block_of p) (blocks C) (block_place d (block_of p) (blocks C)) refl (blocks-once C)
-blocks-once (_ ∷ C) = blocks-once C
+blocks_once : (C : List Commit) → Once (blocks C)
+blocks_once [] = λ k x lt. absurd (omega arith)
+blocks_once (Accepted d p scan ∷ C) = grown_once d (block_of p) (blocks C) (block_place d (block_of p) (blocks C)) refl (blocks_once C)
+blocks_once (_ ∷ C) = blocks_once C
 
-grown-keeps : (d b : ℕ) (xs : List (ℕ × ℕ)) (o : Option ℕ) (x : Place) → Contains (map block_cell xs) x → Contains (map block_cell (with_block d b xs o)) x
-grown-keeps d b xs (Some k) x h = h
-grown-keeps d b xs None x h = Contains-append_right (OfBlock d b ∷ []) (map block_cell xs) x h
+grown_keeps : (d b : ℕ) (xs : List (ℕ × ℕ)) (o : Option ℕ) (x : Place) → Contains (map block_cell xs) x → Contains (map block_cell (with_block d b xs o)) x
+grown_keeps d b xs (Some k) x h = h
+grown_keeps d b xs None x h = Contains-append_right (OfBlock d b ∷ []) (map block_cell xs) x h
 
-grown-has : (d b : ℕ) (xs : List (ℕ × ℕ)) (o : Option ℕ) → block_place d b xs ≡ o → Contains (map block_cell (with_block d b xs o)) (OfBlock d b)
-grown-has d b xs (Some k) h = placed d b k xs h
-grown-has d b xs None h = Contains-append_left (OfBlock d b ∷ []) (map block_cell xs) (OfBlock d b) (0, omega arith, refl)
+grown_has : (d b : ℕ) (xs : List (ℕ × ℕ)) (o : Option ℕ) → block_place d b xs ≡ o → Contains (map block_cell (with_block d b xs o)) (OfBlock d b)
+grown_has d b xs (Some k) h = placed d b k xs h
+grown_has d b xs None h = Contains-append_left (OfBlock d b ∷ []) (map block_cell xs) (OfBlock d b) (0, omega arith, refl)
 
 -- a further commit leaves the blocks that are there
-blocks-keep : (c : Commit) (C : List Commit) (x : Place) → Contains (map block_cell (blocks C)) x → Contains (map block_cell (blocks (c ∷ C))) x
-blocks-keep (Accepted d p scan) C x h = grown-keeps d (block_of p) (blocks C) (block_place d (block_of p) (blocks C)) x h
-blocks-keep _ C x h = h
+blocks_keep : (c : Commit) (C : List Commit) (x : Place) → Contains (map block_cell (blocks C)) x → Contains (map block_cell (blocks (c ∷ C))) x
+blocks_keep (Accepted d p scan) C x h = grown_keeps d (block_of p) (blocks C) (block_place d (block_of p) (blocks C)) x h
+blocks_keep _ C x h = h
 
-trust-run : IsRun Verifier OfTrust
-trust-run = record { own = λ i. refl; apart = λ i j. refl }
+trust_run : IsRun Verifier OfTrust
+trust_run = record { own = λ i. refl; apart = λ i j. refl }
 
 -- where the commit is the verifier's, it lies in a cell of a device or of a block
 abbrev Lies : List Place → Commit → Type 0
 Lies cells c = node_of c ≡ Verifier → Contains (map OfTrust (range_with_len 1 8) ++ cells) (place_of c)
 
-lies-more : (c : Commit) (C : List Commit) (x : Commit) → Lies (map block_cell (blocks C)) x → Lies (map block_cell (blocks (c ∷ C))) x
-lies-more c C x h is = ⊎_elim
+lies_more : (c : Commit) (C : List Commit) (x : Commit) → Lies (map block_cell (blocks C)) x → Lies (map block_cell (blocks (c ∷ C))) x
+lies_more c C x h is = ⊎_elim
     (λ (t : Contains (map OfTrust (range_with_len 1 8)) (place_of x)). Contains-append_left (map OfTrust (range_with_len 1 8)) (map block_cell (blocks (c ∷ C))) (place_of x) t)
-    (λ (t : Contains (map block_cell (blocks C)) (place_of x)). Contains-append_right (map OfTrust (range_with_len 1 8)) (map block_cell (blocks (c ∷ C))) (place_of x) (blocks-keep c C (place_of x) t))
+    (λ (t : Contains (map block_cell (blocks C)) (place_of x)). Contains-append_right (map OfTrust (range_with_len 1 8)) (map block_cell (blocks (c ∷ C))) (place_of x) (blocks_keep c C (place_of x) t))
     (Contains-append_cases (map OfTrust (range_with_len 1 8)) (map block_cell (blocks C)) (place_of x) (h is))
 
-lies-first : (c : Commit) (C : List Commit) → InRange c → Lies (map block_cell (blocks (c ∷ C))) c
-lies-first (Trusted d key) C r is = Contains-append_left (map OfTrust (range_with_len 1 8)) (map block_cell (blocks C)) (OfTrust d) (run-has Verifier OfTrust trust-run d 1 8 r.0.0 (let high = r.0.1 in omega arith))
-lies-first (Accepted d p scan) C r is = Contains-append_right (map OfTrust (range_with_len 1 8)) _ (OfBlock d (block_of p)) (grown-has d (block_of p) (blocks C) (block_place d (block_of p) (blocks C)) refl)
-lies-first _ C r is = absurd (cc)
+lies_first : (c : Commit) (C : List Commit) → InRange c → Lies (map block_cell (blocks (c ∷ C))) c
+lies_first (Trusted d key) C r is = Contains-append_left (map OfTrust (range_with_len 1 8)) (map block_cell (blocks C)) (OfTrust d) (run_has Verifier OfTrust trust_run d 1 8 r.0.0 (let high = r.0.1 in omega arith))
+lies_first (Accepted d p scan) C r is = Contains-append_right (map OfTrust (range_with_len 1 8)) _ (OfBlock d (block_of p)) (grown_has d (block_of p) (blocks C) (block_place d (block_of p) (blocks C)) refl)
+lies_first _ C r is = absurd (cc)
 
-lie-there : (C : List Commit) → All InRange C → All (Lies (map block_cell (blocks C))) C
-lie-there [] ranges = λ k x lt. absurd (omega arith)
-lie-there (c ∷ C) ranges = All-cons (Lies (map block_cell (blocks (c ∷ C)))) c C (lies-first c C (All-head InRange c C ranges))
-    (All-weaker (Lies (map block_cell (blocks C))) (Lies (map block_cell (blocks (c ∷ C)))) (lies-more c C) C (lie-there C (All-tail InRange c C ranges)))
+lie_there : (C : List Commit) → All InRange C → All (Lies (map block_cell (blocks C))) C
+lie_there [] ranges = λ k x lt. absurd (omega arith)
+lie_there (c ∷ C) ranges = All-cons (Lies (map block_cell (blocks (c ∷ C)))) c C (lies_first c C (All-head InRange c C ranges))
+    (All-weaker (Lies (map block_cell (blocks C))) (Lies (map block_cell (blocks (c ∷ C)))) (lies_more c C) C (lie_there C (All-tail InRange c C ranges)))
 
-apart-blocks : (d : ℕ) (xs : List (ℕ × ℕ)) → count_by (same_place (OfTrust d)) (map block_cell xs) ≡ 0
-apart-blocks d [] = refl
-apart-blocks d (x ∷ xs) = let here = sum_by-cons (λ (place : Place). cond (same_place (OfTrust d) place) 1 0) (block_cell x) (map block_cell xs) in omega (arith, here, apart-blocks d xs)
+apart_blocks : (d : ℕ) (xs : List (ℕ × ℕ)) → count_by (same_place (OfTrust d)) (map block_cell xs) ≡ 0
+apart_blocks d [] = refl
+apart_blocks d (x ∷ xs) = let here = sum_by-cons (λ (place : Place). cond (same_place (OfTrust d) place) 1 0) (block_cell x) (map block_cell xs) in omega (arith, here, apart_blocks d xs)
 
-verifier-once : (C : List Commit) → All (λ place. count_by (same_place place) (verifier_places C) ≡ 1) (verifier_places C)
+verifier_once : (C : List Commit) → All (λ place. count_by (same_place place) (verifier_places C) ≡ 1) (verifier_places C)
 unfolding verifier_places times
-verifier-once C = All-append (λ place. count_by (same_place place) (verifier_places C) ≡ 1) (map OfTrust (range_with_len 1 8)) (map block_cell (blocks C))
-    (run-all Verifier OfTrust trust-run (λ place. count_by (same_place place) (verifier_places C) ≡ 1) 1 8
-    (λ i le lt. count-split (OfTrust i) (map OfTrust (range_with_len 1 8)) (map block_cell (blocks C)) 1 0 (count-once Verifier OfTrust trust-run i 1 8 le lt) (apart-blocks i (blocks C))))
+verifier_once C = All-append (λ place. count_by (same_place place) (verifier_places C) ≡ 1) (map OfTrust (range_with_len 1 8)) (map block_cell (blocks C))
+    (run_all Verifier OfTrust trust_run (λ place. count_by (same_place place) (verifier_places C) ≡ 1) 1 8
+    (λ i le lt. count_split (OfTrust i) (map OfTrust (range_with_len 1 8)) (map block_cell (blocks C)) 1 0 (count_once Verifier OfTrust trust_run i 1 8 le lt) (apart_blocks i (blocks C))))
     (All-map (λ place. count_by (same_place place) (verifier_places C) ≡ 1) block_cell (blocks C)
     (All-weaker (λ x. times x.0 x.1 (blocks C) ≡ 1) (λ x. count_by (same_place (block_cell x)) (verifier_places C) ≡ 1)
-    (λ x one. count-split (block_cell x) (map OfTrust (range_with_len 1 8)) (map block_cell (blocks C)) 0 1 (apart-run (block_cell x) OfTrust 1 8 (λ j. refl)) one) (blocks C) (blocks-once C)))
+    (λ x one. count_split (block_cell x) (map OfTrust (range_with_len 1 8)) (map block_cell (blocks C)) 0 1 (apart_run (block_cell x) OfTrust 1 8 (λ j. refl)) one) (blocks C) (blocks_once C)))
 
-verifier-holds : (C : List Commit) → All InRange C → Hold Verifier (verifier_places C) C
+verifier_holds : (C : List Commit) → All InRange C → Hold Verifier (verifier_places C) C
 unfolding verifier_places
-verifier-holds C ranges = record {
-  own = All-append (λ place. node_at place ≡ Verifier) (map OfTrust (range_with_len 1 8)) (map block_cell (blocks C)) (run-own Verifier OfTrust trust-run 1 8)
+verifier_holds C ranges = record {
+  own = All-append (λ place. node_at place ≡ Verifier) (map OfTrust (range_with_len 1 8)) (map block_cell (blocks C)) (run_own Verifier OfTrust trust_run 1 8)
       (All-map (λ place. node_at place ≡ Verifier) block_cell (blocks C) (λ k x lt. refl));
-  once = verifier-once C;
-  each = lie-there C ranges;
+  once = verifier_once C;
+  each = lie_there C ranges;
 }
 
-pub cells-add_up : (C : List Commit) → All InRange C → CellsAddUp C
-cells-add_up C ranges = record {
-  devices = λ d. places-add_up (Device d) (device_places d) C (device-holds d C);
-  centre = places-add_up Centre centre_places C (centre-holds C ranges);
-  host = places-add_up Host host_places C (host-holds C);
-  verifier = places-add_up Verifier (verifier_places C) C (verifier-holds C ranges);
+pub cells_add_up : (C : List Commit) → All InRange C → CellsAddUp C
+cells_add_up C ranges = record {
+  devices = λ d. places_add_up (Device d) (device_places d) C (device_holds d C);
+  centre = places_add_up Centre centre_places C (centre_holds C ranges);
+  host = places_add_up Host host_places C (host_holds C);
+  verifier = places_add_up Verifier (verifier_places C) C (verifier_holds C ranges);
 }

@@ -13,8 +13,8 @@ use Rattle.law_good.proofs.Good.{Good}
 use Rattle.bench_base.specs.declared.words.JobState.{JobState}
 use Rattle.bench_base.specs.declared.words.JobState.TheVariants.{Ordered as OrderedJob, Held as HeldJob, Begun as BegunJob, Closed as ClosedJob}
 use Rattle.bench_base.specs.Jobs.{Job, last_job, job_of, state_of, held_of, open_job, unless_job, piece_at, top, begun}
-use Rattle.bench_base.proofs.Facts.{either, kept_first, first_of-none, first_of-some}
-use Rattle.host_jobs.proofs.JobFacts.{at-most}
+use Rattle.bench_base.proofs.Facts.{either, kept_first, first_of_none, first_of_some}
+use Rattle.host_jobs.proofs.JobFacts.{at_most}
 use Rattle.ledger_lawful.specs.Lawful.{is_of_piece, held_piece}
 
 -- what an open job of device d is
@@ -34,9 +34,9 @@ pub record Jobs (C : List Commit) : Type 0 where
   pub piece_le : (d p : ℕ) → held_piece d p C ≡ true → p ≤ top d C
 
 -- the job that stays open is another one
-pub unless-some : (i : ℕ) (w : Option ℕ) (j : ℕ) → unless_job i w ≡ Some j → (w ≡ Some j) × ((i == j) ≡ false)
-unless-some i None j h = cc
-unless-some i (Some k) j h = ⊎_elim
+pub unless_some : (i : ℕ) (w : Option ℕ) (j : ℕ) → unless_job i w ≡ Some j → (w ≡ Some j) × ((i == j) ≡ false)
+unless_some i None j h = cc
+unless_some i (Some k) j h = ⊎_elim
     (λ (t : (k == i) ≡ true). absurd (none (rw t at h)))
     (λ (t : (k == i) ≡ false).
     let is : k ≡ j = same_Some _ _ (rw t at h) in
@@ -46,9 +46,9 @@ unless-some i (Some k) j h = ⊎_elim
     none : None ≡ Some j → ⊥
     none e = cc
 
-piece-has : (d p : ℕ) (o : Option Job) → is_of_piece d p o ≡ true → piece_at d o ≡ p
-piece-has d p None h = absurd (true≢false (sym h))
-piece-has d p (Some b) h = let both = and_parts (b.device == d) (b.piece == p) h in rw both.0 (eqb-true b.piece p both.1)
+piece_has : (d p : ℕ) (o : Option Job) → is_of_piece d p o ≡ true → piece_at d o ≡ p
+piece_has d p None h = absurd (true≢false (sym h))
+piece_has d p (Some b) h = let both = and_parts (b.device == d) (b.piece == p) h in rw both.0 (eqb-true b.piece p both.1)
 
 module _ (ρ : Rules) where
   pub jobs : (C : List Commit) → Good ρ C → Jobs C
@@ -61,7 +61,7 @@ module _ (ρ : Rules) where
         open_is = λ d j o. either f d
             (λ t y.
             let is : i ≡ j = same_Some _ _ (rw t at o) in
-            let job : first_of (job_of j C) (Some (record { device = f; piece = q; postage = a; class = k })) ≡ Some (record { device = f; piece = q; postage = a; class = k }) = first_of-none (job_of j C) (Some (record { device = f; piece = q; postage = a; class = k })) (λ b e. let le = h.job_le j b e in omega arith) in
+            let job : first_of (job_of j C) (Some (record { device = f; piece = q; postage = a; class = k })) ≡ Some (record { device = f; piece = q; postage = a; class = k }) = first_of_none (job_of j C) (Some (record { device = f; piece = q; postage = a; class = k })) (λ b e. let le = h.job_le j b e in omega arith) in
             record {
               at = record { device = f; piece = q; postage = a; class = k };
               job_is = rw (eq-eqb i j is) job;
@@ -93,7 +93,7 @@ module _ (ρ : Rules) where
       let mine = h.open_is g.0.at.device i g.0.open_is in
       record {
         open_is = λ d j o.
-            let was = unless-some i (open_job d C) j o in
+            let was = unless_some i (open_job d C) j o in
             let it = h.open_is d j was.0 in
             record {
               at = it.at;
@@ -101,13 +101,13 @@ module _ (ρ : Rules) where
               device = it.device;
               fresh =
                   let lt = it.fresh in
-                  let is = at-most (job_of i C) g.0.at (top d C) d g.0.job_is (λ e. eqb-false i j was.1 (same_Some _ _ (sym (subst (λ z. open_job z C ≡ Some i) e g.0.open_is) ∙ was.0))) in
+                  let is = at_most (job_of i C) g.0.at (top d C) d g.0.job_is (λ e. eqb-false i j was.1 (same_Some _ _ (sym (subst (λ z. open_job z C ≡ Some i) e g.0.open_is) ∙ was.0))) in
                   omega arith;
               state = rw was.1 it.state;
             };
         state_le = λ j s o. either i j (λ t y. let le = h.state_le i OrderedJob mine.state in omega arith) (λ t. h.state_le j s (rw t at o));
         job_le = h.job_le;
-        held_is = λ j o. either i j (λ t y. rw t (first_of-some (held_of j C) x)) (λ t. rw t (h.held_is j (rw t at o)));
+        held_is = λ j o. either i j (λ t y. rw t (first_of_some (held_of j C) x)) (λ t. rw t (h.held_is j (rw t at o)));
         begun_is = λ j b. either i j
             (λ t y. let bad = h.begun_is j b in absurd (⊎_elim
             (λ (s : state_of j C ≡ Some BegunJob). apart (same_Some _ _ (sym (subst (λ z. state_of z C ≡ Some OrderedJob) y mine.state) ∙ s)))
@@ -115,7 +115,7 @@ module _ (ρ : Rules) where
             bad))
             (λ t. ⊎_elim (λ (s : state_of j C ≡ Some BegunJob). inl (rw t s)) (λ (s : state_of j C ≡ Some ClosedJob). inr (rw t s)) (h.begun_is j b));
         piece_le = λ d p o. ⊎_elim
-            (λ (t : is_of_piece d p (job_of i C) ≡ true). let is = piece-has d p (job_of i C) t in omega arith)
+            (λ (t : is_of_piece d p (job_of i C) ≡ true). let is = piece_has d p (job_of i C) t in omega arith)
             (λ (t : is_of_piece d p (job_of i C) ≡ false). let le = h.piece_le d p (rw t at o) in omega arith)
             (cases_Bool (is_of_piece d p (job_of i C)));
       }
@@ -144,7 +144,7 @@ module _ (ρ : Rules) where
       let h = jobs C g.1 in
       record {
         open_is = λ d j o.
-            let was = unless-some i (open_job d C) j o in
+            let was = unless_some i (open_job d C) j o in
             let it = h.open_is d j was.0 in
             record { at = it.at; job_is = it.job_is; device = it.device; fresh = it.fresh; state = rw was.1 it.state };
         state_le = λ j s o. either i j (λ t y. let le = h.state_le i g.0.0 g.0.1 in omega arith) (λ t. h.state_le j s (rw t at o));

@@ -22,20 +22,20 @@ use Rattle.bench_base.proofs.Rows.{AllFalse}
 use Rattle.law_good.proofs.Good.{Good}
 use Rattle.ledger_terms.specs.Centres.{enrolled, withdrawn, deposits, customer_sum, balance, is_some_at, device_numbers, sum_over, device_share}
 use Rattle.ledger_terms.specs.Rulings.{verdict, verdict_by, verdict_rows, account_of, own_customer, has_left, is_enrolled}
-use Rattle.centre_ledger.proofs.RuledBooks.{no-enrol}
-use Rattle.law_money.proofs.Asked.{note-reads}
+use Rattle.centre_ledger.proofs.RuledBooks.{no_enrol}
+use Rattle.law_money.proofs.Asked.{note_reads}
 
 unfoldable pub AllRefuse : List (Bool × (Verdict × ℕ)) → Type 0
 AllRefuse [] = Unit {0}
 AllRefuse (row ∷ rows) = (is_granted row.1.0 ≡ false) × AllRefuse rows
 
 -- the rows above a granted verdict are all false
-pub granted-rows : (rows : List (Bool × (Verdict × ℕ))) (a : ℕ) → AllRefuse rows → is_granted (first_holding rows (Granted, a)).0 ≡ true → AllFalse rows
+pub granted_rows : (rows : List (Bool × (Verdict × ℕ))) (a : ℕ) → AllRefuse rows → is_granted (first_holding rows (Granted, a)).0 ≡ true → AllFalse rows
 unfolding AllRefuse
-granted-rows [] a each h = tt
-granted-rows (row ∷ rows) a each h = ⊎_elim
+granted_rows [] a each h = tt
+granted_rows (row ∷ rows) a each h = ⊎_elim
     (λ (t : row.0 ≡ true). let g : is_granted row.1.0 ≡ true = rw t at h in absurd (true≢false (sym g ∙ each.0)))
-    (λ (t : row.0 ≡ false). (t, granted-rows rows a each.1 (rw t at h)))
+    (λ (t : row.0 ≡ false). (t, granted_rows rows a each.1 (rw t at h)))
     (cases_Bool row.0)
 
 pub record Grants (C : List Commit) (q : Request) : Type 0 where
@@ -55,10 +55,10 @@ none (Some c) h = absurd (true≢false h)
 pub grants : (C : List Commit) (q : Request) → is_granted (verdict C q).0 ≡ true → Grants C q
 unfolding verdict verdict_by AllRefuse
 grants C q h =
-    let rows = granted-rows (verdict_rows (account_of C q) q) q.amount (refl, (refl, (refl, (refl, (refl, (refl, tt)))))) h in
+    let rows = granted_rows (verdict_rows (account_of C q) q) q.amount (refl, (refl, (refl, (refl, (refl, (refl, tt)))))) h in
     record {
       reset = λ k.
-          let o = own (enrolled q.device C) (withdrawn q.device C) (and_false (not (same_kind q.kind Enrol)) _ rows.0 (no-enrol q.kind k)) in
+          let o = own (enrolled q.device C) (withdrawn q.device C) (and_false (not (same_kind q.kind Enrol)) _ rows.0 (no_enrol q.kind k)) in
           let le = ltb-false (balance (own_customer (enrolled q.device C)) C) q.amount (and_false (same_kind q.kind Reset) _ rows.1.1.1.1.1.0 k) in
           (o.0, o.1, subst (λ (z : Option ℕ). q.amount ≤ balance (own_customer z) C) o.1 le);
       enrol = λ k. none (enrolled q.device C) (and_false (same_kind q.kind Enrol) _ rows.1.0 k);
@@ -73,27 +73,27 @@ increasing b (x ∷ xs) = (b < x) × increasing x xs
 at : ℕ → ℕ → ℕ → ℕ
 at e a d = cond (e == d) a 0
 
-none-above : (e a b : ℕ) (L : List ℕ) → e ≤ b → increasing b L → sum_over (at e a) L ≡ 0
+none_above : (e a b : ℕ) (L : List ℕ) → e ≤ b → increasing b L → sum_over (at e a) L ≡ 0
 unfolding increasing at
-none-above e a b [] le h = refl
-none-above e a b (x ∷ xs) le h = either e x
+none_above e a b [] le h = refl
+none_above e a b (x ∷ xs) le h = either e x
     (λ t y. absurd (let lt = h.0 in omega arith))
-    (λ t. let lt = h.0 in rw t (let z = none-above e a x xs (omega arith) h.1 in omega arith))
+    (λ t. let lt = h.0 in rw t (let z = none_above e a x xs (omega arith) h.1 in omega arith))
 
 once : (e a b : ℕ) (L : List ℕ) → increasing b L → sum_over (at e a) L ≤ a
 unfolding increasing at
 once e a b [] h = omega arith
 once e a b (x ∷ xs) h = either e x
-    (λ t y. rw t (let z = none-above e a x xs (omega arith) h.1 in omega arith))
+    (λ t y. rw t (let z = none_above e a x xs (omega arith) h.1 in omega arith))
     (λ t. rw t (let z = once e a x xs h.1 in omega arith))
 
-sum-more : (f g h : ℕ → ℕ) (L : List ℕ) → ((d : ℕ) → f d ≤ g d + h d) → sum_over f L ≤ sum_over g L + sum_over h L
-sum-more f g h [] p = omega arith
-sum-more f g h (x ∷ xs) p = let a = p x in let b = sum-more f g h xs p in omega arith
+sum_more : (f g h : ℕ → ℕ) (L : List ℕ) → ((d : ℕ) → f d ≤ g d + h d) → sum_over f L ≤ sum_over g L + sum_over h L
+sum_more f g h [] p = omega arith
+sum_more f g h (x ∷ xs) p = let a = p x in let b = sum_more f g h xs p in omega arith
 
-sum-le : (f g : ℕ → ℕ) (L : List ℕ) → ((d : ℕ) → f d ≤ g d) → sum_over f L ≤ sum_over g L
-sum-le f g [] p = omega arith
-sum-le f g (x ∷ xs) p = let a = p x in let b = sum-le f g xs p in omega arith
+sum_le : (f g : ℕ → ℕ) (L : List ℕ) → ((d : ℕ) → f d ≤ g d) → sum_over f L ≤ sum_over g L
+sum_le f g [] p = omega arith
+sum_le f g (x ∷ xs) p = let a = p x in let b = sum_le f g xs p in omega arith
 
 devices : increasing 0 device_numbers
 unfolding increasing
@@ -101,21 +101,21 @@ devices = (omega arith, (omega arith, (omega arith, (omega arith, (omega arith, 
 
 -- == one device's part of a customer's sum ==
 
-adds-not : (v : Verdict) (q : Request) → is_granted v ≡ false → adds v q ≡ 0
+adds_not : (v : Verdict) (q : Request) → is_granted v ≡ false → adds v q ≡ 0
 unfolding adds
-adds-not v q h = rw h refl
+adds_not v q h = rw h refl
 
-adds-kind : (v : Verdict) (q : Request) → same_kind q.kind Reset ≡ false → adds v q ≡ 0
+adds_kind : (v : Verdict) (q : Request) → same_kind q.kind Reset ≡ false → adds v q ≡ 0
 unfolding adds
-adds-kind v q h = ⊎_elim
+adds_kind v q h = ⊎_elim
     (λ (t : is_granted v ≡ true). rw (t, h) refl)
-    (λ (t : is_granted v ≡ false). adds-not v q t)
+    (λ (t : is_granted v ≡ false). adds_not v q t)
     (cases_Bool (is_granted v))
 
-was-none : {A : Type 0} (t : Bool) (o : Option A) (a : A) → cond t (first_of o (Some a)) o ≡ None → o ≡ None
-was-none true None a h = refl
-was-none true (Some x) a h = h
-was-none false o a h = h
+was_none : {A : Type 0} (t : Bool) (o : Option A) (a : A) → cond t (first_of o (Some a)) o ≡ None → o ≡ None
+was_none true None a h = refl
+was_none true (Some x) a h = h
+was_none false o a h = h
 
 split : (s : Bool) (b a : ℕ) → cond s (b + a) 0 ≤ cond s b 0 + cond s a 0
 split true b a = omega arith
@@ -129,56 +129,56 @@ below : (s : Bool) (x : ℕ) → cond s x 0 ≤ x
 below true x = omega arith
 below false x = omega arith
 
-adds-plain : (o : Option ℕ) (t : Bool) (w c b a : ℕ) → (o ≡ None → (b ≡ 0) × (a ≡ 0)) → cond (is_some_at (cond t (first_of o (Some w)) o) c) (b + a) 0 ≤ cond (is_some_at o c) b 0 + cond (is_some_at o c) a 0
-adds-plain None t w c b a h = let z = h refl in let l = below (is_some_at (cond t (Some w) None) c) (b + a) in omega arith
-adds-plain (Some x) true w c b a h = split (x == c) b a
-adds-plain (Some x) false w c b a h = split (x == c) b a
+adds_plain : (o : Option ℕ) (t : Bool) (w c b a : ℕ) → (o ≡ None → (b ≡ 0) × (a ≡ 0)) → cond (is_some_at (cond t (first_of o (Some w)) o) c) (b + a) 0 ≤ cond (is_some_at o c) b 0 + cond (is_some_at o c) a 0
+adds_plain None t w c b a h = let z = h refl in let l = below (is_some_at (cond t (Some w) None) c) (b + a) in omega arith
+adds_plain (Some x) true w c b a h = split (x == c) b a
+adds_plain (Some x) false w c b a h = split (x == c) b a
 
-takes-plain : (o : Option ℕ) (t : Bool) (w c b a : ℕ) → cond (is_some_at o c) b 0 ≤ cond (is_some_at (cond t (first_of o (Some w)) o) c) (b + a) 0
-takes-plain None t w c b a = omega arith
-takes-plain (Some x) true w c b a = more (x == c) b a
-takes-plain (Some x) false w c b a = more (x == c) b a
+takes_plain : (o : Option ℕ) (t : Bool) (w c b a : ℕ) → cond (is_some_at o c) b 0 ≤ cond (is_some_at (cond t (first_of o (Some w)) o) c) (b + a) 0
+takes_plain None t w c b a = omega arith
+takes_plain (Some x) true w c b a = more (x == c) b a
+takes_plain (Some x) false w c b a = more (x == c) b a
 
 -- what a granted ruling that fits tells
 module _ (ρ : Rules) (f n : ℕ) (v : Verdict) (r : List ℕ) (C : List Commit) (g : Good ρ (Ruled f n v r ∷ C)) where
-  device-is : (request_in r).device ≡ f
-  device-is = (note-reads ρ f n r C g.1 g.0.asked_as).device
+  device_is : (request_in r).device ≡ f
+  device_is = (note_reads ρ f n r C g.1 g.0.asked_as).device
 
-  reset-is : is_granted v ≡ true → same_kind (request_in r).kind Reset ≡ true → (c : ℕ) × (enrolled f C ≡ Some c) × ((request_in r).amount ≤ balance c C)
-  reset-is h k =
+  reset_is : is_granted v ≡ true → same_kind (request_in r).kind Reset ≡ true → (c : ℕ) × (enrolled f C ≡ Some c) × ((request_in r).amount ≤ balance c C)
+  reset_is h k =
       let it = (grants C (request_in r) (ap is_granted (sym g.0.verdict) ∙ h)).reset k in
-      (it.0, subst (λ z. enrolled z C ≡ Some it.0) device-is it.1, it.2)
+      (it.0, subst (λ z. enrolled z C ≡ Some it.0) device_is it.1, it.2)
 
-  no-adds : enrolled f C ≡ None → adds v (request_in r) ≡ 0
-  no-adds none = ⊎_elim
+  no_adds : enrolled f C ≡ None → adds v (request_in r) ≡ 0
+  no_adds none = ⊎_elim
       (λ (h : is_granted v ≡ true). ⊎_elim
-      (λ (k : same_kind (request_in r).kind Reset ≡ true). let it = reset-is h k in absurd (none-some _ (sym none ∙ it.1)))
-      (λ (k : same_kind (request_in r).kind Reset ≡ false). adds-kind v (request_in r) k)
+      (λ (k : same_kind (request_in r).kind Reset ≡ true). let it = reset_is h k in absurd (none-some _ (sym none ∙ it.1)))
+      (λ (k : same_kind (request_in r).kind Reset ≡ false). adds_kind v (request_in r) k)
       (cases_Bool (same_kind (request_in r).kind Reset)))
-      (λ (h : is_granted v ≡ false). adds-not v (request_in r) h)
+      (λ (h : is_granted v ≡ false). adds_not v (request_in r) h)
       (cases_Bool (is_granted v))
 
 -- the sums of a device that was never enrolled
 zero : (ρ : Rules) (d : ℕ) (C : List Commit) → Good ρ C → enrolled d C ≡ None → ruled_sum adds d C ≡ 0
 zero ρ d [] g h = refl
 zero ρ d (Ruled f n v r ∷ C) g h =
-    let was = was-none ((f == d) && (is_granted v && same_kind (request_in r).kind Enrol)) (enrolled d C) (request_in r).customer h in
+    let was = was_none ((f == d) && (is_granted v && same_kind (request_in r).kind Enrol)) (enrolled d C) (request_in r).customer h in
     let z = zero ρ d C g.1 was in
     either f d
-    (λ t y. let none = no-adds ρ f n v r C g (subst (λ x. enrolled x C ≡ None) (sym y) was) in rw t (omega arith))
+    (λ t y. let none = no_adds ρ f n v r C g (subst (λ x. enrolled x C ≡ None) (sym y) was) in rw t (omega arith))
     (λ t. rw t z)
 zero ρ d (_ ∷ C) g h = zero ρ d C g.1 h
 
-adds-part : (ρ : Rules) (c f n : ℕ) (v : Verdict) (r : List ℕ) (C : List Commit) → Good ρ (Ruled f n v r ∷ C) → (d : ℕ) → device_share adds c (Ruled f n v r ∷ C) d ≤ device_share adds c C d + at f (cond (is_some_at (enrolled f C) c) (adds v (request_in r)) 0) d
+adds_part : (ρ : Rules) (c f n : ℕ) (v : Verdict) (r : List ℕ) (C : List Commit) → Good ρ (Ruled f n v r ∷ C) → (d : ℕ) → device_share adds c (Ruled f n v r ∷ C) d ≤ device_share adds c C d + at f (cond (is_some_at (enrolled f C) c) (adds v (request_in r)) 0) d
 unfolding at
-adds-part ρ c f n v r C g d = either f d
+adds_part ρ c f n v r C g d = either f d
     (λ t y. subst (λ z. device_share adds c (Ruled f n v r ∷ C) z ≤ device_share adds c C z + at f (cond (is_some_at (enrolled f C) c) (adds v (request_in r)) 0) z) y
-    (rw (eq-eqb f f refl) (adds-plain (enrolled f C) (is_granted v && same_kind (request_in r).kind Enrol) (request_in r).customer c (ruled_sum adds f C) (adds v (request_in r)) (λ none. (zero ρ f C g.1 none, no-adds ρ f n v r C g none)))))
+    (rw (eq-eqb f f refl) (adds_plain (enrolled f C) (is_granted v && same_kind (request_in r).kind Enrol) (request_in r).customer c (ruled_sum adds f C) (adds v (request_in r)) (λ none. (zero ρ f C g.1 none, no_adds ρ f n v r C g none)))))
     (λ t. rw t (omega arith))
 
-takes-part : (ρ : Rules) (c f n : ℕ) (v : Verdict) (r : List ℕ) (C : List Commit) → (d : ℕ) → device_share takes c C d ≤ device_share takes c (Ruled f n v r ∷ C) d
-takes-part ρ c f n v r C d = either f d
-    (λ t y. rw t (takes-plain (enrolled d C) (is_granted v && same_kind (request_in r).kind Enrol) (request_in r).customer c (ruled_sum takes d C) (takes v (request_in r))))
+takes_part : (ρ : Rules) (c f n : ℕ) (v : Verdict) (r : List ℕ) (C : List Commit) → (d : ℕ) → device_share takes c C d ≤ device_share takes c (Ruled f n v r ∷ C) d
+takes_part ρ c f n v r C d = either f d
+    (λ t y. rw t (takes_plain (enrolled d C) (is_granted v && same_kind (request_in r).kind Enrol) (request_in r).customer c (ruled_sum takes d C) (takes v (request_in r))))
     (λ t. rw t (omega arith))
 
 -- what a ruling adds to a customer's sum is within the balance
@@ -188,29 +188,29 @@ affords ρ x f n v r C g e = ⊎_elim
     (λ (h : adds v (request_in r) ≡ 0). omega arith)
     (λ (h : ((is_granted v && same_kind (request_in r).kind Reset) ≡ true) × (adds v (request_in r) ≡ (request_in r).amount)).
     let p = and_parts (is_granted v) (same_kind (request_in r).kind Reset) h.0 in
-    let it = reset-is ρ f n v r C g p.0 p.1 in
+    let it = reset_is ρ f n v r C g p.0 p.1 in
     let same : it.0 ≡ x = same_Some _ _ (sym it.1 ∙ e) in
     let le = subst (λ z. (request_in r).amount ≤ balance z C) same it.2 in
     let is = h.1 in
     omega arith)
     (when (is_granted v && same_kind (request_in r).kind Reset) (request_in r).amount)
 
-within-plain : (s : Bool) (a b d t : ℕ) → b ≤ d + t → (s ≡ true → a ≤ (d + t) - b) → b + cond s a 0 ≤ d + t
-within-plain true a b d t h f = let le = f refl in omega arith
-within-plain false a b d t h f = omega arith
+within_plain : (s : Bool) (a b d t : ℕ) → b ≤ d + t → (s ≡ true → a ≤ (d + t) - b) → b + cond s a 0 ≤ d + t
+within_plain true a b d t h f = let le = f refl in omega arith
+within_plain false a b d t h f = omega arith
 
 within : (ρ : Rules) (c f n : ℕ) (v : Verdict) (r : List ℕ) (C : List Commit) → Good ρ (Ruled f n v r ∷ C) → customer_sum adds c C ≤ deposits c C + customer_sum takes c C → (o : Option ℕ) → enrolled f C ≡ o → customer_sum adds c C + cond (is_some_at o c) (adds v (request_in r)) 0 ≤ deposits c C + customer_sum takes c C
 within ρ c f n v r C g ih None e = omega arith
-within ρ c f n v r C g ih (Some x) e = within-plain (x == c) (adds v (request_in r)) (customer_sum adds c C) (deposits c C) (customer_sum takes c C) ih
+within ρ c f n v r C g ih (Some x) e = within_plain (x == c) (adds v (request_in r)) (customer_sum adds c C) (deposits c C) (customer_sum takes c C) ih
     (λ t. subst (λ z. adds v (request_in r) ≤ balance z C) (eqb-true x c t) (affords ρ x f n v r C g e))
 
 pub solvent : (ρ : Rules) (c : ℕ) (C : List Commit) → Good ρ C → customer_sum adds c C ≤ deposits c C + customer_sum takes c C
 unfolding customer_sum
 solvent ρ c [] g = omega arith
 solvent ρ c (Ruled f n v r ∷ C) g =
-    let a = sum-more (device_share adds c (Ruled f n v r ∷ C)) (device_share adds c C) (at f (cond (is_some_at (enrolled f C) c) (adds v (request_in r)) 0)) device_numbers (adds-part ρ c f n v r C g) in
+    let a = sum_more (device_share adds c (Ruled f n v r ∷ C)) (device_share adds c C) (at f (cond (is_some_at (enrolled f C) c) (adds v (request_in r)) 0)) device_numbers (adds_part ρ c f n v r C g) in
     let o = once f (cond (is_some_at (enrolled f C) c) (adds v (request_in r)) 0) 0 device_numbers devices in
-    let t = sum-le (device_share takes c C) (device_share takes c (Ruled f n v r ∷ C)) device_numbers (takes-part ρ c f n v r C) in
+    let t = sum_le (device_share takes c C) (device_share takes c (Ruled f n v r ∷ C)) device_numbers (takes_part ρ c f n v r C) in
     let w = within ρ c f n v r C g (solvent ρ c C g.1) (enrolled f C) refl in
     omega arith
 solvent ρ c (Deposited e m a ∷ C) g =

@@ -42,76 +42,76 @@ module _ (ρ : Rules) where
 
   -- == numbers that are there ==
 
-  pub ruling-le : (d n : ℕ) (x : Verdict × List ℕ) (C : List Commit) → ruling_of d n C ≡ Some x → n ≤ ruled d C
-  ruling-le d n x [] e = cc
-  ruling-le d n x (Ruled f m v r ∷ C) e = ⊎_elim
+  pub ruling_le : (d n : ℕ) (x : Verdict × List ℕ) (C : List Commit) → ruling_of d n C ≡ Some x → n ≤ ruled d C
+  ruling_le d n x [] e = cc
+  ruling_le d n x (Ruled f m v r ∷ C) e = ⊎_elim
       (λ (t : (((f == d) && (m == n)) ≡ true) × ((v, r) ≡ x)).
       let p = and_parts (f == d) (m == n) t.0 in
       let same = eqb-true m n p.1 in
       rw p.0 (omega arith))
       (λ (o : ruling_of d n C ≡ Some x).
-      let h = ruling-le d n x C o in
+      let h = ruling_le d n x C o in
       either f d (λ t y. rw t (omega arith)) (λ t. rw t h))
       (found ((f == d) && (m == n)) (ruling_of d n C) (v, r) x e)
-  ruling-le d n x (_ ∷ C) e = ruling-le d n x C e
+  ruling_le d n x (_ ∷ C) e = ruling_le d n x C e
 
-  pub ruled_reply-le : (d n : ℕ) (p : ReplyMsg) (C : List Commit) → ruled_reply d n C ≡ Some p → n ≤ ruled d C
-  ruled_reply-le d n p [] e = cc
-  ruled_reply-le d n p (Ruled f m v r ∷ C) e = ⊎_elim
+  pub ruled_reply_le : (d n : ℕ) (p : ReplyMsg) (C : List Commit) → ruled_reply d n C ≡ Some p → n ≤ ruled d C
+  ruled_reply_le d n p [] e = cc
+  ruled_reply_le d n p (Ruled f m v r ∷ C) e = ⊎_elim
       (λ (t : (((f == d) && (m == n)) ≡ true) × (reply_to C (request_in r) ≡ p)).
       let both = and_parts (f == d) (m == n) t.0 in
       let same = eqb-true m n both.1 in
       rw both.0 (omega arith))
       (λ (o : ruled_reply d n C ≡ Some p).
-      let h = ruled_reply-le d n p C o in
+      let h = ruled_reply_le d n p C o in
       either f d (λ t y. rw t (omega arith)) (λ t. rw t h))
       (found ((f == d) && (m == n)) (ruled_reply d n C) (reply_to C (request_in r)) p e)
-  ruled_reply-le d n p (_ ∷ C) e = ruled_reply-le d n p C e
+  ruled_reply_le d n p (_ ∷ C) e = ruled_reply_le d n p C e
 
-  pub waits-some : (w : Option (ℕ × List ℕ)) (a k n : ℕ) (note : List ℕ) → w ≡ Some (n, note) → Waits w a k → (n ≡ a) × (a ≡ k + 1)
-  waits-some None a k n note e h = cc
-  waits-some (Some p) a k n note e h = let same : p.0 ≡ n = cc in (sym same ∙ h.0, h.1)
+  pub waits_some : (w : Option (ℕ × List ℕ)) (a k n : ℕ) (note : List ℕ) → w ≡ Some (n, note) → Waits w a k → (n ≡ a) × (a ≡ k + 1)
+  waits_some None a k n note e h = cc
+  waits_some (Some p) a k n note e h = let same : p.0 ≡ n = cc in (sym same ∙ h.0, h.1)
 
-  pub waits-none : (w : Option (ℕ × List ℕ)) (a k : ℕ) → w ≡ None → Waits w a k → a ≡ k
-  waits-none None a k e h = h
-  waits-none (Some p) a k e h = cc
+  pub waits_none : (w : Option (ℕ × List ℕ)) (a k : ℕ) → w ≡ None → Waits w a k → a ≡ k
+  waits_none None a k e h = h
+  waits_none (Some p) a k e h = cc
 
-  pub note-le : (d n : ℕ) (x : List ℕ) (C : List Commit) → Good ρ C → note_of d n C ≡ Some x → n ≤ asked d C
-  note-le d n x [] g e = cc
-  note-le d n x (Asked f m r ∷ C) g e = ⊎_elim
+  pub note_le : (d n : ℕ) (x : List ℕ) (C : List Commit) → Good ρ C → note_of d n C ≡ Some x → n ≤ asked d C
+  note_le d n x [] g e = cc
+  note_le d n x (Asked f m r ∷ C) g e = ⊎_elim
       (λ (t : (((f == d) && (m == n)) ≡ true) × (r ≡ x)).
       let p = and_parts (f == d) (m == n) t.0 in
       let same = eqb-true m n p.1 in
       rw p.0 (omega arith))
       (λ (o : note_of d n C ≡ Some x).
-      let h = note-le d n x C g.1 o in
+      let h = note_le d n x C g.1 o in
       either f d
       (λ t y.
       let fits = subst (λ z. Fits ρ (Asked z m r) C) y g.0 in
-      let w = waits-none (pending d C) (asked d C) (number d C) fits.idle (waits d C g.1) in
+      let w = waits_none (pending d C) (asked d C) (number d C) fits.idle (waits d C g.1) in
       let next = fits.next in
       rw t (omega arith))
       (λ t. rw t h))
       (found ((f == d) && (m == n)) (note_of d n C) r x e)
-  note-le d n x (_ ∷ C) g e = note-le d n x C g.1 e
+  note_le d n x (_ ∷ C) g e = note_le d n x C g.1 e
 
-  pub applied-le : (d n : ℕ) (x : Verdict) (C : List Commit) → Good ρ C → applied_of d n C ≡ Some x → n ≤ number d C
-  applied-le d n x [] g e = cc
-  applied-le d n x (Applied f m v ∷ C) g e = ⊎_elim
+  pub applied_le : (d n : ℕ) (x : Verdict) (C : List Commit) → Good ρ C → applied_of d n C ≡ Some x → n ≤ number d C
+  applied_le d n x [] g e = cc
+  applied_le d n x (Applied f m v ∷ C) g e = ⊎_elim
       (λ (t : (((f == d) && (m == n)) ≡ true) × (v ≡ x)).
       let p = and_parts (f == d) (m == n) t.0 in
       let same = eqb-true m n p.1 in
       rw p.0 (omega arith))
       (λ (o : applied_of d n C ≡ Some x).
-      let h = applied-le d n x C g.1 o in
+      let h = applied_le d n x C g.1 o in
       either f d
       (λ t y.
       let fits = subst (λ z. Fits ρ (Applied z m v) C) y g.0 in
-      let w = waits-some (pending d C) (asked d C) (number d C) m fits.note fits.waits (waits d C g.1) in
+      let w = waits_some (pending d C) (asked d C) (number d C) m fits.note fits.waits (waits d C g.1) in
       rw t (omega arith))
       (λ t. rw t h))
       (found ((f == d) && (m == n)) (applied_of d n C) v x e)
-  applied-le d n x (_ ∷ C) g e = applied-le d n x C g.1 e
+  applied_le d n x (_ ∷ C) g e = applied_le d n x C g.1 e
 
   -- == the link ==
 
@@ -132,7 +132,7 @@ module _ (ρ : Rules) where
       either e d
       (λ t x.
       let fits = subst (λ y. Fits ρ (Asked y n r) C) x g.0 in
-      let w = waits-none (pending d C) (asked d C) (number d C) fits.idle (waits d C g.1) in
+      let w = waits_none (pending d C) (asked d C) (number d C) fits.idle (waits d C g.1) in
       let next = fits.next in
       rw t (record { settled_le = h.settled_le; number_le = h.number_le; ruled_le = h.ruled_le; asked_ge = omega arith; asked_le = omega arith }))
       (λ t. rw t h)
@@ -141,8 +141,8 @@ module _ (ρ : Rules) where
       either e d
       (λ t x.
       let fits = subst (λ y. Fits ρ (Applied y n v) C) x g.0 in
-      let w = waits-some (pending d C) (asked d C) (number d C) n fits.note fits.waits (waits d C g.1) in
-      let le = ruling-le d n (v, fits.note) C fits.ruled_as in
+      let w = waits_some (pending d C) (asked d C) (number d C) n fits.note fits.waits (waits d C g.1) in
+      let le = ruling_le d n (v, fits.note) C fits.ruled_as in
       rw t (record { settled_le = omega arith; number_le = le; ruled_le = h.ruled_le; asked_ge = h.asked_ge; asked_le = omega arith }))
       (λ t. rw t h)
   link d (Ruled e n v r ∷ C) g =
@@ -151,7 +151,7 @@ module _ (ρ : Rules) where
       (λ t x.
       let fits = subst (λ y. Fits ρ (Ruled y n v r) C) x g.0 in
       let next = fits.next in
-      let le = note-le d n r C g.1 fits.asked_as in
+      let le = note_le d n r C g.1 fits.asked_as in
       rw t (record { settled_le = omega arith; number_le = omega arith; ruled_le = omega arith; asked_ge = omega arith; asked_le = h.asked_le }))
       (λ t. rw t h)
   link d (Settled e n ∷ C) g =
@@ -159,7 +159,7 @@ module _ (ρ : Rules) where
       either e d
       (λ t x.
       let fits = subst (λ y. Fits ρ (Settled y n) C) x g.0 in
-      let le = applied-le d n fits.v C g.1 fits.applied_as in
+      let le = applied_le d n fits.v C g.1 fits.applied_as in
       let known = fits.known in
       rw t (record { settled_le = omega arith; number_le = h.number_le; ruled_le = omega arith; asked_ge = h.asked_ge; asked_le = h.asked_le }))
       (λ t. rw t h)

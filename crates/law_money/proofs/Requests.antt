@@ -19,7 +19,7 @@ use Rattle.ledger_terms.specs.Devices.{asked, number, pending, unless_applied}
 use Rattle.ledger_terms.specs.Centres.{ruled}
 use Rattle.ledger_terms.specs.InFlight.{ruling_of}
 use Rattle.law_good.proofs.Good.{Good, Fits}
-use Rattle.law_money.proofs.Links.{link, waits, waits-some, note-le}
+use Rattle.law_money.proofs.Links.{link, waits, waits_some, note_le}
 use Rattle.std.specs.Prelude.{nat_lt}
 use Rattle.std.proofs.lemmas.Option.{same_Some}
 use Rattle.bench_base.specs.Rows.{any_true}
@@ -28,7 +28,7 @@ use Rattle.ledger_terms.specs.Rulings.{verdict, verdict_by, verdict_rows, accoun
 use Rattle.ledger_lawful.specs.Sane.{is_imbalance}
 use Rattle.law_money.proofs.Links.{Waits}
 use Rattle.law_money.proofs.Money.{funds, balance}
-use Rattle.law_money.proofs.Asked.{pending-asked, note-reads}
+use Rattle.law_money.proofs.Asked.{pending_asked, note_reads}
 
 pub record Shown (q : Request) (loaded cleared : ℕ) : Type 0 where
   pub total : q.ascending + q.descending + q.refunded ≡ loaded
@@ -43,9 +43,9 @@ Shows None loaded refunded = Unit {0}
 Shows (Some p) loaded refunded = Shown (request_in p.1) loaded refunded
 
 module _ (ρ : Rules) where
-  shows-applied : (n : ℕ) (w : Option (ℕ × List ℕ)) (p : ℕ × List ℕ) (a b : ℕ) → w ≡ Some p → p.0 ≡ n → Shows (unless_applied n w) a b
-  shows-applied n None p a b h e = cc
-  shows-applied n (Some q) p a b h e = let same : q.0 ≡ n = ap (λ (z : ℕ × List ℕ). z.0) (same_Some _ _ h) ∙ e in rw (eq-eqb q.0 n same) tt
+  shows_applied : (n : ℕ) (w : Option (ℕ × List ℕ)) (p : ℕ × List ℕ) (a b : ℕ) → w ≡ Some p → p.0 ≡ n → Shows (unless_applied n w) a b
+  shows_applied n None p a b h e = cc
+  shows_applied n (Some q) p a b h e = let same : q.0 ≡ n = ap (λ (z : ℕ × List ℕ). z.0) (same_Some _ _ h) ∙ e in rw (eq-eqb q.0 n same) tt
 
   shows : (d : ℕ) (C : List Commit) → Good ρ C → Shows (pending d C) (loaded d C) (refunded d C)
   shows d [] g = tt
@@ -62,7 +62,7 @@ module _ (ρ : Rules) where
   shows d (Applied f n v ∷ C) g = either f d
       (λ t y.
       let fits = subst (λ z. Fits ρ (Applied z n v) C) y g.0 in
-      rw t (shows-applied n (pending d C) (n, fits.note) _ _ fits.waits refl))
+      rw t (shows_applied n (pending d C) (n, fits.note) _ _ fits.waits refl))
       (λ t. rw t (shows d C g.1))
   shows d (_ ∷ C) g = shows d C g.1
 
@@ -70,19 +70,19 @@ module _ (ρ : Rules) where
   shown None p a b h s = cc
   shown (Some q) p a b h s = subst (λ (z : ℕ × List ℕ). Shown (request_in z.1) a b) (same_Some _ _ h) s
 
-  pub some-if : (w : Option (ℕ × List ℕ)) (a k : ℕ) → Waits ρ w a k → k < a → (p : ℕ × List ℕ) × (w ≡ Some p)
-  some-if None a k h lt = absurd (omega arith)
-  some-if (Some p) a k h lt = (p, refl)
+  pub some_if : (w : Option (ℕ × List ℕ)) (a k : ℕ) → Waits ρ w a k → k < a → (p : ℕ × List ℕ) × (w ≡ Some p)
+  some_if None a k h lt = absurd (omega arith)
+  some_if (Some p) a k h lt = (p, refl)
 
   -- a Request that the centre has not ruled shows what the centre holds of the device
-  pub new-shown : (d n : ℕ) (r : List ℕ) (C : List Commit) → Good ρ C → note_of d n C ≡ Some r → ruled d C < n → Shown (request_in r) (bought d C) (returned d C)
-  new-shown d n r C g at above =
+  pub new_shown : (d n : ℕ) (r : List ℕ) (C : List Commit) → Good ρ C → note_of d n C ≡ Some r → ruled d C < n → Shown (request_in r) (bought d C) (returned d C)
+  new_shown d n r C g at above =
       let l = link ρ d C g in
-      let le = note-le ρ d n r C g at in
-      let p = some-if (pending d C) (asked d C) (number d C) (waits ρ d C g) (omega arith) in
-      let w = waits-some ρ (pending d C) (asked d C) (number d C) p.0.0 p.0.1 p.1 (waits ρ d C g) in
+      let le = note_le ρ d n r C g at in
+      let p = some_if (pending d C) (asked d C) (number d C) (waits ρ d C g) (omega arith) in
+      let w = waits_some ρ (pending d C) (asked d C) (number d C) p.0.0 p.0.1 p.1 (waits ρ d C g) in
       let same : p.0.0 ≡ n = omega arith in
-      let there = subst (λ z. note_of d z C ≡ Some p.0.1) same (pending-asked ρ d p.0 C g p.1) in
+      let there = subst (λ z. note_of d z C ≡ Some p.0.1) same (pending_asked ρ d p.0 C g p.1) in
       let is : p.0.1 ≡ r = same_Some _ _ (sym there ∙ at) in
       let b = (balance ρ d C g).even (omega arith) in
       let s = shown (pending d C) p.0 (loaded d C) (refunded d C) p.1 (shows d C g) in
@@ -96,31 +96,31 @@ module _ (ρ : Rules) where
   AllNo [] = Unit {0}
   AllNo (b ∷ bs) = (b ≡ false) × AllNo bs
 
-  none-true : (bs : List Bool) → AllNo bs → any_true bs ≡ false
+  none_true : (bs : List Bool) → AllNo bs → any_true bs ≡ false
   unfolding AllNo
-  none-true [] h = refl
-  none-true (b ∷ bs) h = rw h.0 (none-true bs h.1)
+  none_true [] h = refl
+  none_true (b ∷ bs) h = rw h.0 (none_true bs h.1)
 
-  no-if : (a b : ℕ) → a ≡ b → not (a == b) ≡ false
-  no-if a b h = rw (eq-eqb a b h) refl
+  no_if : (a b : ℕ) → a ≡ b → not (a == b) ≡ false
+  no_if a b h = rw (eq-eqb a b h) refl
 
-  in-balance : (q : Request) (bought returned : ℕ) → Shown q bought returned → out_of_balance q bought returned ≡ false
+  in_balance : (q : Request) (bought returned : ℕ) → Shown q bought returned → out_of_balance q bought returned ≡ false
   unfolding AllNo adds
-  in-balance q bought returned s =
+  in_balance q bought returned s =
       let within = s.within in
       let size : same_kind q.kind Reset ≡ true → AllNo ((q.amount == 0) ∷ nat_lt 10000000 q.amount ∷ nat_lt (buys_limit q.version) (bought + q.amount) ∷ []) = λ h.
       let it = s.size h in
       let more : adds Granted q ≡ q.amount = rw h refl in
       (ne_eqb q.amount 0 (λ z. omega arith), (le-ltb 10000000 q.amount it.1, (le-ltb (buys_limit q.version) (bought + q.amount) (omega arith), tt))) in
-      none-true (imbalances q bought returned) (
-        no-if (q.ascending + q.descending + q.refunded) bought s.total,
+      none_true (imbalances q bought returned) (
+        no_if (q.ascending + q.descending + q.refunded) bought s.total,
         (
-          no-if q.refunded returned s.refunded,
+          no_if q.refunded returned s.refunded,
           (
-            and_zero (empties q.kind) (not (q.amount == q.descending)) (λ h. no-if q.amount q.descending (s.whole h)),
+            and_zero (empties q.kind) (not (q.amount == q.descending)) (λ h. no_if q.amount q.descending (s.whole h)),
             (
-              and_zero (same_kind q.kind Enrol || same_kind q.kind Audit) (not (q.amount == 0)) (λ h. no-if q.amount 0 (s.nothing h)),
-              (and_zero (same_kind q.kind Reset) (any_true ((q.amount == 0) ∷ nat_lt 10000000 q.amount ∷ nat_lt (buys_limit q.version) (bought + q.amount) ∷ [])) (λ h. none-true ((q.amount == 0) ∷ nat_lt 10000000 q.amount ∷ nat_lt (buys_limit q.version) (bought + q.amount) ∷ []) (size h)), tt),
+              and_zero (same_kind q.kind Enrol || same_kind q.kind Audit) (not (q.amount == 0)) (λ h. no_if q.amount 0 (s.nothing h)),
+              (and_zero (same_kind q.kind Reset) (any_true ((q.amount == 0) ∷ nat_lt 10000000 q.amount ∷ nat_lt (buys_limit q.version) (bought + q.amount) ∷ [])) (λ h. none_true ((q.amount == 0) ∷ nat_lt 10000000 q.amount ∷ nat_lt (buys_limit q.version) (bought + q.amount) ∷ []) (size h)), tt),
             ),
           ),
         ),
@@ -130,32 +130,32 @@ module _ (ρ : Rules) where
   RowsSane [] = Unit {0}
   RowsSane (row ∷ rows) = (row.0 ≡ true → is_imbalance row.1.0 ≡ false) × RowsSane rows
 
-  rows-sane : (rows : List (Bool × (Verdict × ℕ))) (x : Verdict × ℕ) → RowsSane rows → is_imbalance x.0 ≡ false → is_imbalance (first_holding rows x).0 ≡ false
+  rows_sane : (rows : List (Bool × (Verdict × ℕ))) (x : Verdict × ℕ) → RowsSane rows → is_imbalance x.0 ≡ false → is_imbalance (first_holding rows x).0 ≡ false
   unfolding RowsSane
-  rows-sane [] x each h = h
-  rows-sane (row ∷ rows) x each h = ⊎_elim
+  rows_sane [] x each h = h
+  rows_sane (row ∷ rows) x each h = ⊎_elim
       (λ (t : row.0 ≡ true). rw t (each.0 t))
-      (λ (t : row.0 ≡ false). rw t (rows-sane rows x each.1 h))
+      (λ (t : row.0 ≡ false). rw t (rows_sane rows x each.1 h))
       (cases_Bool row.0)
 
-  pub never-imbalance : (C : List Commit) (q : Request) → Shown q (bought q.device C) (returned q.device C) → is_imbalance (verdict C q).0 ≡ false
+  pub never_imbalance : (C : List Commit) (q : Request) → Shown q (bought q.device C) (returned q.device C) → is_imbalance (verdict C q).0 ≡ false
   unfolding verdict verdict_by RowsSane
-  never-imbalance C q s = rows-sane (verdict_rows (account_of C q) q) (Granted, q.amount)
-      ((λ _. refl), ((λ _. refl), ((λ t. absurd (true≢false (sym t ∙ in-balance q (bought q.device C) (returned q.device C) s))), ((λ _. refl), ((λ _. refl), ((λ _. refl), tt)))))) refl
+  never_imbalance C q s = rows_sane (verdict_rows (account_of C q) q) (Granted, q.amount)
+      ((λ _. refl), ((λ _. refl), ((λ t. absurd (true≢false (sym t ∙ in_balance q (bought q.device C) (returned q.device C) s))), ((λ _. refl), ((λ _. refl), ((λ _. refl), tt)))))) refl
 
-  pub sane-here : (d n : ℕ) (v : Verdict) (r : List ℕ) (C : List Commit) → Good ρ (Ruled d n v r ∷ C) → is_imbalance v ≡ false
-  sane-here d n v r C g =
-      let it = note-reads ρ d n r C g.1 g.0.asked_as in
+  pub sane_here : (d n : ℕ) (v : Verdict) (r : List ℕ) (C : List Commit) → Good ρ (Ruled d n v r ∷ C) → is_imbalance v ≡ false
+  sane_here d n v r C g =
+      let it = note_reads ρ d n r C g.1 g.0.asked_as in
       let next = g.0.next in
-      let shown = new-shown d n r C g.1 g.0.asked_as (omega arith) in
+      let shown = new_shown d n r C g.1 g.0.asked_as (omega arith) in
       let at = subst (λ z. Shown (request_in r) (bought z C) (returned z C)) (sym it.device) shown in
-      ap is_imbalance g.0.verdict ∙ never-imbalance C (request_in r) at
+      ap is_imbalance g.0.verdict ∙ never_imbalance C (request_in r) at
 
   -- a ruling that counts is not that the sums disagree
-  pub ruling-sane : (d n : ℕ) (x : Verdict × List ℕ) (C : List Commit) → Good ρ C → ruling_of d n C ≡ Some x → is_imbalance x.0 ≡ false
-  ruling-sane d n x [] g h = cc
-  ruling-sane d n x (Ruled f k v r ∷ C) g h = ⊎_elim
-      (λ (t : (((f == d) && (k == n)) ≡ true) × ((v, r) ≡ x)). subst (λ (z : Verdict × List ℕ). is_imbalance z.0 ≡ false) t.1 (sane-here f k v r C g))
-      (λ (o : ruling_of d n C ≡ Some x). ruling-sane d n x C g.1 o)
+  pub ruling_sane : (d n : ℕ) (x : Verdict × List ℕ) (C : List Commit) → Good ρ C → ruling_of d n C ≡ Some x → is_imbalance x.0 ≡ false
+  ruling_sane d n x [] g h = cc
+  ruling_sane d n x (Ruled f k v r ∷ C) g h = ⊎_elim
+      (λ (t : (((f == d) && (k == n)) ≡ true) × ((v, r) ≡ x)). subst (λ (z : Verdict × List ℕ). is_imbalance z.0 ≡ false) t.1 (sane_here f k v r C g))
+      (λ (o : ruling_of d n C ≡ Some x). ruling_sane d n x C g.1 o)
       (found ((f == d) && (k == n)) (ruling_of d n C) (v, r) x h)
-  ruling-sane d n x (_ ∷ C) g h = ruling-sane d n x C g.1 h
+  ruling_sane d n x (_ ∷ C) g h = ruling_sane d n x C g.1 h

@@ -12,7 +12,7 @@ use Rattle.bench_base.specs.declared.ledger.Commit.{Commit}
 use Rattle.bench_base.specs.declared.ledger.Commit.TheVariants.{Applied, Ruled}
 use Rattle.bench_base.specs.Rules.{Rules}
 use Rattle.bench_base.specs.Kinds.{same_kind, empties, is_granted}
-use Rattle.bench_base.proofs.Facts.{some-none, either}
+use Rattle.bench_base.proofs.Facts.{some_none, either}
 use Rattle.psd_wire.specs.declared.message.Request.{Request}
 use Rattle.ledger_terms.specs.Requests.{request_in, in_note, request_of}
 use Rattle.ledger_terms.specs.Sums.{adds, takes, buy_of, return_of, clears, loaded, refunded}
@@ -22,8 +22,8 @@ use Rattle.ledger_terms.specs.InFlight.{ruling_of}
 use Rattle.centre_ledger.specs.Records.{last_ruling}
 use Rattle.ledger_lawful.specs.Further.{Begins, IsCovered}
 use Rattle.law_good.proofs.Good.{Good, Fits}
-use Rattle.law_money.proofs.Links.{link, waits, waits-some, ruling-le}
-use Rattle.law_money.proofs.Money.{funds, loads-account, clears-account, last-is, last-some, ruling-asked, flight-last, flight-before}
+use Rattle.law_money.proofs.Links.{link, waits, waits_some, ruling_le}
+use Rattle.law_money.proofs.Money.{funds, loads_account, clears_account, last_is, last_some, ruling_asked, flight_last, flight_before}
 use Rattle.law_money.proofs.Lists.{trails}
 
 -- what was loaded and cleared before the last ruling
@@ -36,16 +36,16 @@ pub record Prior (loaded cleared added taken : ℕ) : Type 0 where
 
 module _ (ρ : Rules) where
   prior : (d : ℕ) (C : List Commit) → Good ρ C → number d C ≡ ruled d C → (x : Verdict × List ℕ) → last_ruling d C ≡ Some x → Prior (loaded d C) (refunded d C) (adds x.0 (request_in x.1)) (takes x.0 (request_in x.1))
-  prior d [] g same x h = absurd (some-none (sym h))
+  prior d [] g same x h = absurd (some_none (sym h))
   prior d (Applied e n v ∷ C) g same x h = either e d
       (λ t y.
       let fits = subst (λ z. Fits ρ (Applied z n v) C) y g.0 in
       let l = link ρ d C g.1 in
-      let w = waits-some ρ (pending d C) (asked d C) (number d C) n fits.note fits.waits (waits ρ d C g.1) in
-      let le : n ≤ ruled d C = ruling-le ρ d n (v, fits.note) C fits.ruled_as in
-      let is = subst (λ z. ruling_of d z C ≡ Some x) (rw t at (sym same)) (last-is ρ d x C g.1 h) in
+      let w = waits_some ρ (pending d C) (asked d C) (number d C) n fits.note fits.waits (waits ρ d C g.1) in
+      let le : n ≤ ruled d C = ruling_le ρ d n (v, fits.note) C fits.ruled_as in
+      let is = subst (λ z. ruling_of d z C ≡ Some x) (rw t at (sym same)) (last_is ρ d x C g.1 h) in
       let which : (v, fits.note) ≡ x = same_Some _ _ (sym fits.ruled_as ∙ is) in
-      let asked : request_of d n C ≡ request_in fits.note = ap in_note (ruling-asked ρ d n (v, fits.note) C g.1 fits.ruled_as) in
+      let asked : request_of d n C ≡ request_in fits.note = ap in_note (ruling_asked ρ d n (v, fits.note) C g.1 fits.ruled_as) in
       let add : adds v (request_of d n C) ≡ adds x.0 (request_in x.1) = ap (adds v) asked ∙ ap (λ (z : Verdict × List ℕ). adds z.0 (request_in z.1)) which in
       let take : takes v (request_of d n C) ≡ takes x.0 (request_in x.1) = ap (takes v) asked ∙ ap (λ (z : Verdict × List ℕ). takes z.0 (request_in z.1)) which in
       let f = funds ρ d C g.1 in
@@ -67,28 +67,28 @@ module _ (ρ : Rules) where
       let l = link ρ d C g in
       let f = funds ρ d C g in
       let covered = f.covered in
-      let loads_are = loads-account ρ d C g in
-      let clears_are = clears-account ρ d C g in
+      let loads_are = loads_account ρ d C g in
+      let clears_are = clears_account ρ d C g in
       ⊎_elim
       (λ (h : settled d C < number d C).
       let same : number d C ≡ ruled d C = omega arith in
-      let x = last-some ρ d C (omega arith) in
+      let x = last_some ρ d C (omega arith) in
       let p = prior d C g same x.0 x.1 in
       let loaded_is = p.loaded_is in
       let cleared_is = p.cleared_is in
       let before = p.covered in
-      let add = flight-last ρ adds d C g h x.0 x.1 in
-      let take = flight-last ρ takes d C g h x.0 x.1 in
+      let add = flight_last ρ adds d C g h x.0 x.1 in
+      let take = flight_last ρ takes d C g h x.0 x.1 in
       omega arith)
       (λ (h : number d C ≤ settled d C).
-      let add = flight-before ρ adds d C g h in
-      let take = flight-before ρ takes d C g h in
+      let add = flight_before ρ adds d C g h in
+      let take = flight_before ρ takes d C g h in
       omega arith)
       (cases_lt (settled d C) (number d C))
 
-  one-amount : (v : Verdict) (q : Request) → length (buy_of v q) + length (return_of v q) ≤ 1
+  one_amount : (v : Verdict) (q : Request) → length (buy_of v q) + length (return_of v q) ≤ 1
   unfolding buy_of return_of same_kind
-  one-amount v q = go (is_granted v) q.kind
+  one_amount v q = go (is_granted v) q.kind
     where
       go : (t : Bool) (k : Kind) → length (cond (t && same_kind k Reset) (q.amount ∷ []) []) + length (cond (t && empties k) (q.amount ∷ []) []) ≤ 1
       go false k = omega arith
@@ -113,7 +113,7 @@ module _ (ρ : Rules) where
         returned = return_of x.0.0 (request_in x.0.1);
         loads = x.2;
         clears = ap (λ (z : Verdict × List ℕ). return_of z.0 (request_in z.1) ++ clears d C) (sym same) ∙ y.2;
-        one = one-amount x.0.0 (request_in x.0.1);
+        one = one_amount x.0.0 (request_in x.0.1);
       })
       (λ (h : ruled d C ≤ number d C). record { bought = []; returned = []; loads = b.even (omega arith); clears = t.even (omega arith); one = omega arith })
       (cases_lt (number d C) (ruled d C))

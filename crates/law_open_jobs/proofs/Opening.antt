@@ -8,10 +8,10 @@ use Rattle.bench_base.specs.declared.ledger.Commit.TheVariants.{Ordered, Held, B
 use Rattle.bench_base.specs.declared.words.JobState.{JobState}
 use Rattle.bench_base.specs.declared.words.JobState.TheVariants as state
 use Rattle.bench_base.specs.Jobs.{Job, last_job, job_of, state_of, open_job, unless_job}
-use Rattle.bench_base.proofs.Facts.{either, kept_first, first_of-none}
+use Rattle.bench_base.proofs.Facts.{either, kept_first, first_of_none}
 use Rattle.host_jobs.specs.Turns.{InTurn}
 use Rattle.law_open_jobs.specs.States.{IsOrderedFor, OpenByStates}
-use Rattle.law_jobs.proofs.Jobs.{unless-some}
+use Rattle.law_jobs.proofs.Jobs.{unless_some}
 
 -- jobs are numbered from 1 up to the last, and what is open is what is ordered
 record AreOpen (C : List Commit) : Type 0 where
@@ -43,7 +43,7 @@ module _ (i : ℕ) (s : JobState) (other : s ≡ state.Ordered → ⊥) (c : Com
   closing : ((d : ℕ) → open_job d (c ∷ C) ≡ unless_job i (open_job d C)) → AreOpen (c ∷ C)
   closing at = record {
     job_le = le;
-    open_is = λ d j o. let kept = unless-some i (open_job d C) j (sym (at d) ∙ o) in is d j kept.1 (h.open_is d j kept.0);
+    open_is = λ d j o. let kept = unless_some i (open_job d C) j (sym (at d) ∙ o) in is d j kept.1 (h.open_is d j kept.0);
     is_open = λ d j o. let kept = was d j o in at d ∙ left_open i (open_job d C) j (h.is_open d j kept.1) kept.0;
   }
 
@@ -63,7 +63,7 @@ open_by_states (Ordered i f q a k ∷ C) g =
     let h = open_by_states C g.1 in
     let next = g.0.next in
     let at : Job = record { device = f; piece = q; postage = a; class = k } in
-    let fresh : (j : ℕ) → (i == j) ≡ true → job_of j (Ordered i f q a k ∷ C) ≡ Some at = λ j t. rw t (first_of-none (job_of j C) (Some at) (λ b e. let le = h.job_le j b e in let y = eqb-true i j t in omega arith)) in
+    let fresh : (j : ℕ) → (i == j) ≡ true → job_of j (Ordered i f q a k ∷ C) ≡ Some at = λ j t. rw t (first_of_none (job_of j C) (Some at) (λ b e. let le = h.job_le j b e in let y = eqb-true i j t in omega arith)) in
     record {
       job_le = λ j b e. either i j (λ t y. omega arith) (λ t. let le = h.job_le j b (rw t at e) in omega arith);
       open_is = λ d j o. either f d

@@ -3,7 +3,7 @@ use Rattle.std.proofs.Common.{if◌then◌else◌, ◌≡◌, ℕ, Bool, true, f
 use Rattle.std.specs.Prelude.{◌==◌}
 use Rattle.std.proofs.lemmas.Bool.{eqb-true}
 use Rattle.std.proofs.lemmas.Option.{same_Some}
-use Rattle.bench_base.proofs.Facts.{ok-same, unlike}
+use Rattle.bench_base.proofs.Facts.{ok_same, unlike}
 use Rattle.indicium.specs.Marks.{read_mark}
 use Rattle.indicium.proofs.Readings.{let_through}
 use Rattle.psd_wire.specs.declared.message.Message.{Message}
@@ -16,9 +16,9 @@ other : {A : Type 0} (b : Bool) (x y : A) (rest : Option A) → (x ≡ y → ⊥
 other true x y rest apart h = absurd (apart (same_Some _ _ h))
 other false x y rest apart h = (refl, h)
 
-release-tag : (v t : ℕ) (bytes : List ℕ) → size_of v t ≡ Some 66 → by_tag t bytes ≡ release_at bytes
+release_tag : (v t : ℕ) (bytes : List ℕ) → size_of v t ≡ Some 66 → by_tag t bytes ≡ release_at bytes
 unfolding size_of
-release-tag v t bytes h = go (v == 1) h
+release_tag v t bytes h = go (v == 1) h
   where
     first : Option ℕ
     first = if t == 1 then Some 71 else if t == 2 then Some 56 else if t == 3 then Some 42 else if t == 16 then Some 16 else if t == 17 then Some 66 else None
@@ -39,21 +39,21 @@ release-tag v t bytes h = go (v == 1) h
         absurd (cc)
 
 marked : {A F : Type 0} (o : Result A F) (bytes : List ℕ) (x : Message) → if_mark o bytes ≡ Ok x → x ≡ m.Release bytes
-marked (Ok a) bytes x h = sym (ok-same h)
+marked (Ok a) bytes x h = sym (ok_same h)
 marked (Err e) bytes x h = absurd (cc)
 
 -- a message of 66 bytes is a Release
-pub long-release : (bytes : List ℕ) (x : Message) → read bytes ≡ Ok x → length bytes ≡ 66 → x ≡ m.Release (drop 2 bytes)
+pub long_release : (bytes : List ℕ) (x : Message) → read bytes ≡ Ok x → length bytes ≡ 66 → x ≡ m.Release (drop 2 bytes)
 unfolding read release_at
-long-release bytes x h l =
+long_release bytes x h l =
     let some = held_back _ _ _ _ h in
     let version = let_through _ _ _ _ some.1 in
     let size = there _ _ _ _ version.1 in
     let fits = let_through _ _ _ _ size.2 in
     let is : size.0 ≡ 66 = sym (eqb-true (length bytes) size.0 fits.0) ∙ l in
     let tag : size_of (get_or bytes 0 0) (get_or bytes 1 0) ≡ Some 66 = size.1 ∙ ap (λ n. Some n) is in
-    marked (read_mark (drop 2 bytes)) (drop 2 bytes) x (sym (release-tag (get_or bytes 0 0) (get_or bytes 1 0) bytes tag) ∙ fits.1)
+    marked (read_mark (drop 2 bytes)) (drop 2 bytes) x (sym (release_tag (get_or bytes 0 0) (get_or bytes 1 0) bytes tag) ∙ fits.1)
 
 -- what is a mark from the third byte on has 66 bytes
-pub mark-behind : (bytes : List ℕ) → length (drop 2 bytes) ≡ 64 → length bytes ≡ 66
-mark-behind bytes h = omega (arith, length-drop 2 bytes)
+pub mark_behind : (bytes : List ℕ) → length (drop 2 bytes) ≡ 64 → length bytes ≡ 66
+mark_behind bytes h = omega (arith, length-drop 2 bytes)

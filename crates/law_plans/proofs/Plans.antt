@@ -15,12 +15,12 @@ use Rattle.bench_base.specs.Cells.{is_worn}
 use Rattle.bench_base.specs.Ledger.{Ledger, counted, is_on, day_in}
 use Rattle.ledger_lawful.specs.Sane.{IsSane}
 use Rattle.bench_base.specs.Replies.{Told, LostPower, Faulted, PrinterFailed, told_by}
-use Rattle.bench_base.proofs.Facts.{some-none}
+use Rattle.bench_base.proofs.Facts.{some_none}
 use Rattle.node_acts.specs.Plans.{with_commit, with_torn, after, after_told, MayFail, Fails, FailsTold}
 use Rattle.ledger_moves.specs.Moves.{OtherUp, FailsToRead, unless_worn, at_node}
 use Rattle.bench_base.proofs.Rows.{chosen}
 use Rattle.law_good.proofs.Good.{Fits}
-use Rattle.law_good.proofs.Grown.{Inv, Sure, inv-commit, inv-torn, inv-up}
+use Rattle.law_good.proofs.Grown.{Inv, Sure, inv_commit, inv_torn, inv_up}
 
 -- the commit may be made
 pub record IsFit (ρ : Rules) (H : Ledger) (c : Commit) : Type 0 where
@@ -36,41 +36,41 @@ pub record PlanOk (ρ : Rules) (H : Ledger) (p : Plan) : Type 0 where
   pub fit : (c : Commit) → p.commit ≡ Some c → IsFit ρ H c
   pub keeps : Inv ρ (with_commit p.commit H) → Inv ρ (p.after ++ with_commit p.commit H)
 
-pub ok-refuse : (ρ : Rules) (H : Ledger) (x : Reply) → after (refuse x) x H ≡ H → IsSane x → PlanOk ρ H (refuse x)
-ok-refuse ρ H x e s = record { sane = s; plain = e; no_up = λ n k h. refl; fit = λ c h. absurd (none-some _ h); keeps = λ i. i }
+pub ok_refuse : (ρ : Rules) (H : Ledger) (x : Reply) → after (refuse x) x H ≡ H → IsSane x → PlanOk ρ H (refuse x)
+ok_refuse ρ H x e s = record { sane = s; plain = e; no_up = λ n k h. refl; fit = λ c h. absurd (none-some _ h); keeps = λ i. i }
 
 -- a plan that commits and says no more than that
-pub ok-made : (ρ : Rules) (H : Ledger) (x : Reply) (c : Commit) → after (made x c []) x H ≡ with_commit (Some c) H → IsSane x → ((n : Node) (k : ℕ) → x ≡ r.Up n k → ⊥) → IsFit ρ H c → PlanOk ρ H (made x c [])
-ok-made ρ H x c e s no_up f = record { sane = s; plain = e; no_up = λ n k h. absurd (no_up n k h); fit = λ o h. subst (IsFit ρ H) (same_Some _ _ h) f; keeps = λ i. i }
+pub ok_made : (ρ : Rules) (H : Ledger) (x : Reply) (c : Commit) → after (made x c []) x H ≡ with_commit (Some c) H → IsSane x → ((n : Node) (k : ℕ) → x ≡ r.Up n k → ⊥) → IsFit ρ H c → PlanOk ρ H (made x c [])
+ok_made ρ H x c e s no_up f = record { sane = s; plain = e; no_up = λ n k h. absurd (no_up n k h); fit = λ o h. subst (IsFit ρ H) (same_Some _ _ h) f; keeps = λ i. i }
 
 -- a worn cell refuses what a right plan would commit
-pub ok-worn : (ρ : Rules) (H : Ledger) (p : Plan) → PlanOk ρ H p → PlanOk ρ H (unless_worn (counted H) p p.commit)
-ok-worn ρ H p ok = go p.commit
+pub ok_worn : (ρ : Rules) (H : Ledger) (p : Plan) → PlanOk ρ H p → PlanOk ρ H (unless_worn (counted H) p p.commit)
+ok_worn ρ H p ok = go p.commit
   where
     go : (w : Option Commit) → PlanOk ρ H (unless_worn (counted H) p w)
     go None = ok
-    go (Some c) = chosen (PlanOk ρ H) (is_worn c (counted H)) (refuse (r.Worn (node_of c))) p (λ _. ok-refuse ρ H (r.Worn (node_of c)) refl tt) (λ _. ok)
+    go (Some c) = chosen (PlanOk ρ H) (is_worn c (counted H)) (refuse (r.Worn (node_of c))) p (λ _. ok_refuse ρ H (r.Worn (node_of c)) refl tt) (λ _. ok)
 
-pub ok-at : (ρ : Rules) (H : Ledger) (n : Node) (p : Plan) → (is_on n H ≡ true → PlanOk ρ H p) → PlanOk ρ H (at_node n H p)
-ok-at ρ H n p f = chosen (PlanOk ρ H) (is_on n H) (unless_worn (counted H) p p.commit) (refuse (r.OffNode n)) (λ on. ok-worn ρ H p (f on)) (λ _. ok-refuse ρ H (r.OffNode n) refl tt)
+pub ok_at : (ρ : Rules) (H : Ledger) (n : Node) (p : Plan) → (is_on n H ≡ true → PlanOk ρ H p) → PlanOk ρ H (at_node n H p)
+ok_at ρ H n p f = chosen (PlanOk ρ H) (is_on n H) (unless_worn (counted H) p p.commit) (refuse (r.OffNode n)) (λ on. ok_worn ρ H p (f on)) (λ _. ok_refuse ρ H (r.OffNode n) refl tt)
 
 module _ (ρ : Rules) (H : Ledger) (i : Inv ρ H) where
   committed : (w : Option Commit) → ((c : Commit) → w ≡ Some c → IsFit ρ H c) → Inv ρ (with_commit w H)
   committed None f = i
-  committed (Some c) f = let h = f c refl in inv-commit ρ H c h.fits h.on h.range h.sure i
+  committed (Some c) f = let h = f c refl in inv_commit ρ H c h.fits h.on h.range h.sure i
 
   torn : (w : Option Commit) (n : Node) → ((c : Commit) → w ≡ Some c → IsFit ρ H c) → ((c : Commit) → w ≡ Some c → node_of c ≡ n) → Inv ρ (with_torn w n H)
   torn None n f own = i
-  torn (Some c) n f own = let h = f c refl in subst (λ (k : Node). Inv ρ (with_torn (Some c) k H)) (own c refl) (inv-torn ρ H c h.fits h.range h.sure i)
+  torn (Some c) n f own = let h = f c refl in subst (λ (k : Node). Inv ρ (with_torn (Some c) k H)) (own c refl) (inv_torn ρ H c h.fits h.range h.sure i)
 
   failed : (p : Plan) → PlanOk ρ H p → (n : Node) → MayFail p n → Inv ρ (with_torn p.commit n H)
   failed p ok n may = torn p.commit n ok.fit (λ c e. ⊎_elim
-      (λ (h : (k : ℕ) × (p.reply ≡ r.Up n k)). let none = ok.no_up n h.0 h.1 in absurd (some-none (sym e ∙ none)))
+      (λ (h : (k : ℕ) × (p.reply ≡ r.Up n k)). let none = ok.no_up n h.0 h.1 in absurd (some_none (sym e ∙ none)))
       (λ (h : (x : Commit) × (p.commit ≡ Some x) × (node_of x ≡ n)). ap node_of (same_Some _ _ (sym e ∙ h.1)) ∙ h.2)
       may)
 
   other_up : (p : Plan) (was x : Reply) → OtherUp was x H → Inv ρ (after p x H)
-  other_up p was x h = subst (λ (y : Reply). Inv ρ (after p y H)) (sym h.more) (inv-up ρ H h.node (h.count + 1) i)
+  other_up p was x h = subst (λ (y : Reply). Inv ρ (after p y H)) (sym h.more) (inv_up ρ H h.node (h.count + 1) i)
 
   fails_told : (p : Plan) → PlanOk ρ H p → (x : Told) → FailsTold p x → Inv ρ (after_told p x H)
   fails_told p ok (LostPower n) h = failed p ok n h

@@ -22,16 +22,16 @@ one_byte : (v : ℕ) → IsVersion v → v < 2 ^ 8
 one_byte v h = omega (arith, h.1)
 
 -- what a version's messages and marks hold: a sum within its limit, and any number of 32 bits
-pub sum-fits : (v n : ℕ) → n ≤ buys_limit v → IsNumber (sum_size v) n
-sum-fits v n h = go (v == 1) (v == 2) h
+pub sum_fits : (v n : ℕ) → n ≤ buys_limit v → IsNumber (sum_size v) n
+sum_fits v n h = go (v == 1) (v == 2) h
   where
     go : (a b : Bool) → n ≤ cond a 4294967295 (cond b 1000000000000 0) → IsNumber (cond a Four Eight) n
     go true b k = omega (arith, k)
     go false true k = omega (arith, k)
     go false false k = omega (arith, k)
 
-pub word-fits : (v n : ℕ) → IsWord n → IsNumber (sum_size v) n
-word-fits v n h = go (v == 1)
+pub word_fits : (v n : ℕ) → IsWord n → IsNumber (sum_size v) n
+word_fits v n h = go (v == 1)
   where
     go : (b : Bool) → IsNumber (cond b Four Eight) n
     go true = h
@@ -43,26 +43,26 @@ deadline_signed z h = search (arith, ints, h.0, h.1)
 pub no_deadline : FitsSigned w32 (pos 0)
 no_deadline = search (arith, ints)
 
-pub whole-request : (q : Request) → IsVersion q.version → IsWord q.device → IsWord q.number → IsWord q.customer → IsNumber (sum_size q.version) q.amount → IsNumber (sum_size q.version) q.ascending
+pub whole_request : (q : Request) → IsVersion q.version → IsWord q.device → IsWord q.number → IsWord q.customer → IsNumber (sum_size q.version) q.amount → IsNumber (sum_size q.version) q.ascending
     → IsNumber (sum_size q.version) q.descending → IsNumber (sum_size q.version) q.refunded → IsWord q.pieces → IsDay q.day → IsWhole (m.Request q)
-whole-request q v d n c a x y z p t =
+whole_request q v d n c a x y z p t =
     let small : Fits32 w32 (cast_unsigned w32 q.day) = Fits-of_z (day_fits q.day t) in
     (v, (one_byte q.version v, (lit< tt, (d, (n, (kind_byte q.kind, (c, (a, (x, (y, (z, (p, (omega (arith, small), tt)))))))))))), t)
 
-pub whole-reply : (p : ReplyMsg) → IsVersion p.version → IsWord p.device → IsWord p.number → IsNumber (sum_size p.version) p.amount → FitsSigned w32 p.deadline → IsWord p.origin → IsWhole (m.Reply p)
-whole-reply p v d n a t o =
+pub whole_reply : (p : ReplyMsg) → IsVersion p.version → IsWord p.device → IsWord p.number → IsNumber (sum_size p.version) p.amount → FitsSigned w32 p.deadline → IsWord p.origin → IsWhole (m.Reply p)
+whole_reply p v d n a t o =
     let small : Fits32 w32 (cast_unsigned w32 p.deadline) = Fits-of_z t in
     (v, (one_byte p.version v, (lit< tt, (d, (n, (kind_byte p.kind, (verdict_byte p.verdict, (a, (omega (arith, small), (o, tt))))))))), t)
 
-pub whole-done : (q : DoneMsg) → IsWord q.device → IsWord q.number → IsWhole (m.Done q)
-whole-done q d n = (lit< tt, (lit< tt, (d, (n, tt))))
+pub whole_done : (q : DoneMsg) → IsWord q.device → IsWord q.number → IsWhole (m.Done q)
+whole_done q d n = (lit< tt, (lit< tt, (d, (n, tt))))
 
-pub whole-debit : (q : DebitMsg) → IsWord q.device → IsWord q.piece → IsWord q.postage → q.class < 2 ^ 16 → IsWhole (m.Debit q)
-whole-debit q d p a k = (lit< tt, (lit< tt, (d, (p, (a, (k, tt))))))
+pub whole_debit : (q : DebitMsg) → IsWord q.device → IsWord q.piece → IsWord q.postage → q.class < 2 ^ 16 → IsWhole (m.Debit q)
+whole_debit q d p a k = (lit< tt, (lit< tt, (d, (p, (a, (k, tt))))))
 
-pub whole-mark : (k : Mark) → IsVersion k.version → IsDevice k.device → IsWord k.piece → IsWord k.postage → k.ascending ≤ buys_limit k.version → k.descending ≤ buys_limit k.version → IsDay k.day → IsWord k.origin
+pub whole_mark : (k : Mark) → IsVersion k.version → IsDevice k.device → IsWord k.piece → IsWord k.postage → k.ascending ≤ buys_limit k.version → k.descending ≤ buys_limit k.version → IsDay k.day → IsWord k.origin
     → k.class < 2 ^ 16 → marks.IsWhole k
-whole-mark k v d p a x y t o c =
+whole_mark k v d p a x y t o c =
     record {
       version = v;
       fit = (one_byte k.version v, (lit< tt, fields (k.version == 1) (k.version == 2) x y));

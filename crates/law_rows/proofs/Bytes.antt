@@ -8,7 +8,7 @@ abbrev pub all_below : List ℕ → Bool
 all_below [] = true
 all_below (x ∷ xs) = nat_lt x 256 && all_below xs
 
-pub bytes-below : (xs : List ℕ) → all_below xs ≡ true → IsBytes xs
-bytes-below [] h i = omega arith
-bytes-below (x ∷ xs) h zero = ltb-true x 256 (and_parts (nat_lt x 256) (all_below xs) h).0
-bytes-below (x ∷ xs) h (suc i) = bytes-below xs (and_parts (nat_lt x 256) (all_below xs) h).1 i
+pub bytes_below : (xs : List ℕ) → all_below xs ≡ true → IsBytes xs
+bytes_below [] h i = omega arith
+bytes_below (x ∷ xs) h zero = ltb-true x 256 (and_parts (nat_lt x 256) (all_below xs) h).0
+bytes_below (x ∷ xs) h (suc i) = bytes_below xs (and_parts (nat_lt x 256) (all_below xs) h).1 i

@@ -25,11 +25,11 @@ use Rattle.ledger_terms.specs.Franking.{mark_after}
 use Rattle.ledger_moves.specs.Moves.{plan}
 use Rattle.law_rows.specs.Runs.{IsRow, sample}
 use Rattle.law_rows.specs.Rows.{key1, rates1, enrol_1, enrol_granted, audit_2, audit_granted, reset_3, done_3, debit_1, mark_1, release_1, first_steps, ordinary_ledger, ordinary_steps, reply_lost_start, settled_ledger, settling_steps}
-use Rattle.law_rows.proofs.Bytes.{bytes-below}
-use Rattle.law_rows.proofs.Runs.{row-done, row-step}
+use Rattle.law_rows.proofs.Bytes.{bytes_below}
+use Rattle.law_rows.proofs.Runs.{row_done, row_step}
 
 key : IsKey key1
-key = (refl, bytes-below key1 refl)
+key = (refl, bytes_below key1 refl)
 
 -- == first ==
 
@@ -87,84 +87,84 @@ first_17 = e.Commit (c.Applied 1 2 Granted) ∷ first_16
 abbrev first_18 : Ledger
 first_18 = e.Sent reset_3 ∷ e.Commit (c.Asked 1 3 reset_3) ∷ first_17
 
-first-step_0 : IsRow sample first_rules (drop 1 first_steps) first_1 reply_lost_start → IsRow sample first_rules (drop 0 first_steps) [] reply_lost_start
+first_step_0 : IsRow sample first_rules (drop 1 first_steps) first_1 reply_lost_start → IsRow sample first_rules (drop 0 first_steps) [] reply_lost_start
 unfolding plan read spell body number spelled request_at reply_at done_at debit_at release_at kind_of verdict_of size_of day_of marks.body marks.spell marks.mark_at marks.read_mark has_code hmac first_words schedule rounds compress hash_after digest_bytes sha256 request_in adds takes verdict verdict_by reply_to mark_after customer_sum same_kind is_worn
-first-step_0 r = row-step sample first_rules _ _ [] first_1 reply_lost_start tt ((omega (arith, ints), omega (arith, ints)), inl refl) refl r
+first_step_0 r = row_step sample first_rules _ _ [] first_1 reply_lost_start tt ((omega (arith, ints), omega (arith, ints)), inl refl) refl r
 
-first-step_1 : IsRow sample first_rules (drop 2 first_steps) first_2 reply_lost_start → IsRow sample first_rules (drop 1 first_steps) first_1 reply_lost_start
+first_step_1 : IsRow sample first_rules (drop 2 first_steps) first_2 reply_lost_start → IsRow sample first_rules (drop 1 first_steps) first_1 reply_lost_start
 unfolding plan read spell body number spelled request_at reply_at done_at debit_at release_at kind_of verdict_of size_of day_of marks.body marks.spell marks.mark_at marks.read_mark has_code hmac first_words schedule rounds compress hash_after digest_bytes sha256 request_in adds takes verdict verdict_by reply_to mark_after customer_sum same_kind is_worn
-first-step_1 r = row-step sample first_rules _ _ first_1 first_2 reply_lost_start tt (tt, inl refl) refl r
+first_step_1 r = row_step sample first_rules _ _ first_1 first_2 reply_lost_start tt (tt, inl refl) refl r
 
-first-step_2 : IsRow sample first_rules (drop 3 first_steps) first_3 reply_lost_start → IsRow sample first_rules (drop 2 first_steps) first_2 reply_lost_start
+first_step_2 : IsRow sample first_rules (drop 3 first_steps) first_3 reply_lost_start → IsRow sample first_rules (drop 2 first_steps) first_2 reply_lost_start
 unfolding plan read spell body number spelled request_at reply_at done_at debit_at release_at kind_of verdict_of size_of day_of marks.body marks.spell marks.mark_at marks.read_mark has_code hmac first_words schedule rounds compress hash_after digest_bytes sha256 request_in adds takes verdict verdict_by reply_to mark_after customer_sum same_kind is_worn
-first-step_2 r = row-step sample first_rules _ _ first_2 first_3 reply_lost_start tt (tt, inl refl) refl r
+first_step_2 r = row_step sample first_rules _ _ first_2 first_3 reply_lost_start tt (tt, inl refl) refl r
 
-first-step_3 : IsRow sample first_rules (drop 4 first_steps) first_4 reply_lost_start → IsRow sample first_rules (drop 3 first_steps) first_3 reply_lost_start
+first_step_3 : IsRow sample first_rules (drop 4 first_steps) first_4 reply_lost_start → IsRow sample first_rules (drop 3 first_steps) first_3 reply_lost_start
 unfolding plan read spell body number spelled request_at reply_at done_at debit_at release_at kind_of verdict_of size_of day_of marks.body marks.spell marks.mark_at marks.read_mark has_code hmac first_words schedule rounds compress hash_after digest_bytes sha256 request_in adds takes verdict verdict_by reply_to mark_after customer_sum same_kind is_worn
-first-step_3 r = row-step sample first_rules _ _ first_3 first_4 reply_lost_start tt (tt, inl refl) refl r
+first_step_3 r = row_step sample first_rules _ _ first_3 first_4 reply_lost_start tt (tt, inl refl) refl r
 
-first-step_4 : IsRow sample first_rules (drop 5 first_steps) first_5 reply_lost_start → IsRow sample first_rules (drop 4 first_steps) first_4 reply_lost_start
+first_step_4 : IsRow sample first_rules (drop 5 first_steps) first_5 reply_lost_start → IsRow sample first_rules (drop 4 first_steps) first_4 reply_lost_start
 unfolding plan read spell body number spelled request_at reply_at done_at debit_at release_at kind_of verdict_of size_of day_of marks.body marks.spell marks.mark_at marks.read_mark has_code hmac first_words schedule rounds compress hash_after digest_bytes sha256 request_in adds takes verdict verdict_by reply_to mark_after customer_sum same_kind is_worn
-first-step_4 r = row-step sample first_rules _ _ first_4 first_5 reply_lost_start tt (tt, inl refl) refl r
+first_step_4 r = row_step sample first_rules _ _ first_4 first_5 reply_lost_start tt (tt, inl refl) refl r
 
-first-step_5 : IsRow sample first_rules (drop 6 first_steps) first_6 reply_lost_start → IsRow sample first_rules (drop 5 first_steps) first_5 reply_lost_start
+first_step_5 : IsRow sample first_rules (drop 6 first_steps) first_6 reply_lost_start → IsRow sample first_rules (drop 5 first_steps) first_5 reply_lost_start
 unfolding plan read spell body number spelled request_at reply_at done_at debit_at release_at kind_of verdict_of size_of day_of marks.body marks.spell marks.mark_at marks.read_mark has_code hmac first_words schedule rounds compress hash_after digest_bytes sha256 request_in adds takes verdict verdict_by reply_to mark_after customer_sum same_kind is_worn
-first-step_5 r = row-step sample first_rules _ _ first_5 first_6 reply_lost_start tt ((lit≤ tt, lit≤ tt), inl refl) refl r
+first_step_5 r = row_step sample first_rules _ _ first_5 first_6 reply_lost_start tt ((lit≤ tt, lit≤ tt), inl refl) refl r
 
-first-step_6 : IsRow sample first_rules (drop 7 first_steps) first_7 reply_lost_start → IsRow sample first_rules (drop 6 first_steps) first_6 reply_lost_start
+first_step_6 : IsRow sample first_rules (drop 7 first_steps) first_7 reply_lost_start → IsRow sample first_rules (drop 6 first_steps) first_6 reply_lost_start
 unfolding plan read spell body number spelled request_at reply_at done_at debit_at release_at kind_of verdict_of size_of day_of marks.body marks.spell marks.mark_at marks.read_mark has_code hmac first_words schedule rounds compress hash_after digest_bytes sha256 request_in adds takes verdict verdict_by reply_to mark_after customer_sum same_kind is_worn
-first-step_6 r = row-step sample first_rules _ _ first_6 first_7 reply_lost_start tt (((lit≤ tt, lit≤ tt), key), inl refl) refl r
+first_step_6 r = row_step sample first_rules _ _ first_6 first_7 reply_lost_start tt (((lit≤ tt, lit≤ tt), key), inl refl) refl r
 
-first-step_7 : IsRow sample first_rules (drop 8 first_steps) first_8 reply_lost_start → IsRow sample first_rules (drop 7 first_steps) first_7 reply_lost_start
+first_step_7 : IsRow sample first_rules (drop 8 first_steps) first_8 reply_lost_start → IsRow sample first_rules (drop 7 first_steps) first_7 reply_lost_start
 unfolding plan read spell body number spelled request_at reply_at done_at debit_at release_at kind_of verdict_of size_of day_of marks.body marks.spell marks.mark_at marks.read_mark has_code hmac first_words schedule rounds compress hash_after digest_bytes sha256 request_in adds takes verdict verdict_by reply_to mark_after customer_sum same_kind is_worn
-first-step_7 r = row-step sample first_rules _ _ first_7 first_8 reply_lost_start tt (((lit≤ tt, lit≤ tt), lit< tt, key), inl refl) refl r
+first_step_7 r = row_step sample first_rules _ _ first_7 first_8 reply_lost_start tt (((lit≤ tt, lit≤ tt), lit< tt, key), inl refl) refl r
 
-first-step_8 : IsRow sample first_rules (drop 9 first_steps) first_9 reply_lost_start → IsRow sample first_rules (drop 8 first_steps) first_8 reply_lost_start
+first_step_8 : IsRow sample first_rules (drop 9 first_steps) first_9 reply_lost_start → IsRow sample first_rules (drop 8 first_steps) first_8 reply_lost_start
 unfolding plan read spell body number spelled request_at reply_at done_at debit_at release_at kind_of verdict_of size_of day_of marks.body marks.spell marks.mark_at marks.read_mark has_code hmac first_words schedule rounds compress hash_after digest_bytes sha256 request_in adds takes verdict verdict_by reply_to mark_after customer_sum same_kind is_worn
-first-step_8 r = row-step sample first_rules _ _ first_8 first_9 reply_lost_start tt (((lit≤ tt, lit≤ tt), key), inl refl) refl r
+first_step_8 r = row_step sample first_rules _ _ first_8 first_9 reply_lost_start tt (((lit≤ tt, lit≤ tt), key), inl refl) refl r
 
-first-step_9 : IsRow sample first_rules (drop 10 first_steps) first_10 reply_lost_start → IsRow sample first_rules (drop 9 first_steps) first_9 reply_lost_start
+first_step_9 : IsRow sample first_rules (drop 10 first_steps) first_10 reply_lost_start → IsRow sample first_rules (drop 9 first_steps) first_9 reply_lost_start
 unfolding plan read spell body number spelled request_at reply_at done_at debit_at release_at kind_of verdict_of size_of day_of marks.body marks.spell marks.mark_at marks.read_mark has_code hmac first_words schedule rounds compress hash_after digest_bytes sha256 request_in adds takes verdict verdict_by reply_to mark_after customer_sum same_kind is_worn
-first-step_9 r = row-step sample first_rules _ _ first_9 first_10 reply_lost_start tt ((lit≤ tt, lit≤ tt), inl refl) refl r
+first_step_9 r = row_step sample first_rules _ _ first_9 first_10 reply_lost_start tt ((lit≤ tt, lit≤ tt), inl refl) refl r
 
-first-step_10 : IsRow sample first_rules (drop 11 first_steps) first_11 reply_lost_start → IsRow sample first_rules (drop 10 first_steps) first_10 reply_lost_start
+first_step_10 : IsRow sample first_rules (drop 11 first_steps) first_11 reply_lost_start → IsRow sample first_rules (drop 10 first_steps) first_10 reply_lost_start
 unfolding plan read spell body number spelled request_at reply_at done_at debit_at release_at kind_of verdict_of size_of day_of marks.body marks.spell marks.mark_at marks.read_mark has_code hmac first_words schedule rounds compress hash_after digest_bytes sha256 request_in adds takes verdict verdict_by reply_to mark_after customer_sum same_kind is_worn
-first-step_10 r = row-step sample first_rules _ _ first_10 first_11 reply_lost_start tt (((lit≤ tt, lit≤ tt), lit< tt, lit< tt), inl refl) refl r
+first_step_10 r = row_step sample first_rules _ _ first_10 first_11 reply_lost_start tt (((lit≤ tt, lit≤ tt), lit< tt, lit< tt), inl refl) refl r
 
-first-step_11 : IsRow sample first_rules (drop 12 first_steps) first_12 reply_lost_start → IsRow sample first_rules (drop 11 first_steps) first_11 reply_lost_start
+first_step_11 : IsRow sample first_rules (drop 12 first_steps) first_12 reply_lost_start → IsRow sample first_rules (drop 11 first_steps) first_11 reply_lost_start
 unfolding plan read spell body number spelled request_at reply_at done_at debit_at release_at kind_of verdict_of size_of day_of marks.body marks.spell marks.mark_at marks.read_mark has_code hmac first_words schedule rounds compress hash_after digest_bytes sha256 request_in adds takes verdict verdict_by reply_to mark_after customer_sum same_kind is_worn
-first-step_11 r = row-step sample first_rules _ _ first_11 first_12 reply_lost_start tt (((lit≤ tt, lit≤ tt), (lit< tt, refl)), inl refl) refl r
+first_step_11 r = row_step sample first_rules _ _ first_11 first_12 reply_lost_start tt (((lit≤ tt, lit≤ tt), (lit< tt, refl)), inl refl) refl r
 
-first-step_12 : IsRow sample first_rules (drop 13 first_steps) first_13 reply_lost_start → IsRow sample first_rules (drop 12 first_steps) first_12 reply_lost_start
+first_step_12 : IsRow sample first_rules (drop 13 first_steps) first_13 reply_lost_start → IsRow sample first_rules (drop 12 first_steps) first_12 reply_lost_start
 unfolding plan read spell body number spelled request_at reply_at done_at debit_at release_at kind_of verdict_of size_of day_of marks.body marks.spell marks.mark_at marks.read_mark has_code hmac first_words schedule rounds compress hash_after digest_bytes sha256 request_in adds takes verdict verdict_by reply_to mark_after customer_sum same_kind is_worn
-first-step_12 r = row-step sample first_rules _ _ first_12 first_13 reply_lost_start tt (lit< tt, inl refl) refl r
+first_step_12 r = row_step sample first_rules _ _ first_12 first_13 reply_lost_start tt (lit< tt, inl refl) refl r
 
-first-step_13 : IsRow sample first_rules (drop 14 first_steps) first_14 reply_lost_start → IsRow sample first_rules (drop 13 first_steps) first_13 reply_lost_start
+first_step_13 : IsRow sample first_rules (drop 14 first_steps) first_14 reply_lost_start → IsRow sample first_rules (drop 13 first_steps) first_13 reply_lost_start
 unfolding plan read spell body number spelled request_at reply_at done_at debit_at release_at kind_of verdict_of size_of day_of marks.body marks.spell marks.mark_at marks.read_mark has_code hmac first_words schedule rounds compress hash_after digest_bytes sha256 request_in adds takes verdict verdict_by reply_to mark_after customer_sum same_kind is_worn
-first-step_13 r = row-step sample first_rules _ _ first_13 first_14 reply_lost_start tt (lit< tt, inl refl) refl r
+first_step_13 r = row_step sample first_rules _ _ first_13 first_14 reply_lost_start tt (lit< tt, inl refl) refl r
 
-first-step_14 : IsRow sample first_rules (drop 15 first_steps) first_15 reply_lost_start → IsRow sample first_rules (drop 14 first_steps) first_14 reply_lost_start
+first_step_14 : IsRow sample first_rules (drop 15 first_steps) first_15 reply_lost_start → IsRow sample first_rules (drop 14 first_steps) first_14 reply_lost_start
 unfolding plan read spell body number spelled request_at reply_at done_at debit_at release_at kind_of verdict_of size_of day_of marks.body marks.spell marks.mark_at marks.read_mark has_code hmac first_words schedule rounds compress hash_after digest_bytes sha256 request_in adds takes verdict verdict_by reply_to mark_after customer_sum same_kind is_worn
-first-step_14 r = row-step sample first_rules _ _ first_14 first_15 reply_lost_start tt (((lit≤ tt, lit≤ tt), (refl, refl)), inl refl) refl r
+first_step_14 r = row_step sample first_rules _ _ first_14 first_15 reply_lost_start tt (((lit≤ tt, lit≤ tt), (refl, refl)), inl refl) refl r
 
-first-step_15 : IsRow sample first_rules (drop 16 first_steps) first_16 reply_lost_start → IsRow sample first_rules (drop 15 first_steps) first_15 reply_lost_start
+first_step_15 : IsRow sample first_rules (drop 16 first_steps) first_16 reply_lost_start → IsRow sample first_rules (drop 15 first_steps) first_15 reply_lost_start
 unfolding plan read spell body number spelled request_at reply_at done_at debit_at release_at kind_of verdict_of size_of day_of marks.body marks.spell marks.mark_at marks.read_mark has_code hmac first_words schedule rounds compress hash_after digest_bytes sha256 request_in adds takes verdict verdict_by reply_to mark_after customer_sum same_kind is_worn
-first-step_15 r = row-step sample first_rules _ _ first_15 first_16 reply_lost_start tt (lit< tt, inl refl) refl r
+first_step_15 r = row_step sample first_rules _ _ first_15 first_16 reply_lost_start tt (lit< tt, inl refl) refl r
 
-first-step_16 : IsRow sample first_rules (drop 17 first_steps) first_17 reply_lost_start → IsRow sample first_rules (drop 16 first_steps) first_16 reply_lost_start
+first_step_16 : IsRow sample first_rules (drop 17 first_steps) first_17 reply_lost_start → IsRow sample first_rules (drop 16 first_steps) first_16 reply_lost_start
 unfolding plan read spell body number spelled request_at reply_at done_at debit_at release_at kind_of verdict_of size_of day_of marks.body marks.spell marks.mark_at marks.read_mark has_code hmac first_words schedule rounds compress hash_after digest_bytes sha256 request_in adds takes verdict verdict_by reply_to mark_after customer_sum same_kind is_worn
-first-step_16 r = row-step sample first_rules _ _ first_16 first_17 reply_lost_start tt (lit< tt, inl refl) refl r
+first_step_16 r = row_step sample first_rules _ _ first_16 first_17 reply_lost_start tt (lit< tt, inl refl) refl r
 
-first-step_17 : IsRow sample first_rules (drop 18 first_steps) first_18 reply_lost_start → IsRow sample first_rules (drop 17 first_steps) first_17 reply_lost_start
+first_step_17 : IsRow sample first_rules (drop 18 first_steps) first_18 reply_lost_start → IsRow sample first_rules (drop 17 first_steps) first_17 reply_lost_start
 unfolding plan read spell body number spelled request_at reply_at done_at debit_at release_at kind_of verdict_of size_of day_of marks.body marks.spell marks.mark_at marks.read_mark has_code hmac first_words schedule rounds compress hash_after digest_bytes sha256 request_in adds takes verdict verdict_by reply_to mark_after customer_sum same_kind is_worn
-first-step_17 r = row-step sample first_rules _ _ first_17 first_18 reply_lost_start tt (((lit≤ tt, lit≤ tt), (refl, lit< tt)), inl refl) refl r
+first_step_17 r = row_step sample first_rules _ _ first_17 first_18 reply_lost_start tt (((lit≤ tt, lit≤ tt), (refl, lit< tt)), inl refl) refl r
 
-first-step_18 : IsRow sample first_rules (drop 19 first_steps) reply_lost_start reply_lost_start → IsRow sample first_rules (drop 18 first_steps) first_18 reply_lost_start
+first_step_18 : IsRow sample first_rules (drop 19 first_steps) reply_lost_start reply_lost_start → IsRow sample first_rules (drop 18 first_steps) first_18 reply_lost_start
 unfolding plan read spell body number spelled request_at reply_at done_at debit_at release_at kind_of verdict_of size_of day_of marks.body marks.spell marks.mark_at marks.read_mark has_code hmac first_words schedule rounds compress hash_after digest_bytes sha256 request_in adds takes verdict verdict_by reply_to mark_after customer_sum same_kind is_worn
-first-step_18 r = row-step sample first_rules _ _ first_18 reply_lost_start reply_lost_start tt (lit< tt, inl refl) refl r
+first_step_18 r = row_step sample first_rules _ _ first_18 reply_lost_start reply_lost_start tt (lit< tt, inl refl) refl r
 
-pub first-row : IsRow sample first_rules first_steps [] reply_lost_start
-first-row = first-step_0 (first-step_1 (first-step_2 (first-step_3 (first-step_4 (first-step_5 (first-step_6 (first-step_7 (first-step_8 (first-step_9 (first-step_10 (first-step_11 (first-step_12 (first-step_13 (first-step_14 (first-step_15 (first-step_16 (first-step_17 (first-step_18 (row-done sample first_rules reply_lost_start)))))))))))))))))))
+pub first_row : IsRow sample first_rules first_steps [] reply_lost_start
+first_row = first_step_0 (first_step_1 (first_step_2 (first_step_3 (first_step_4 (first_step_5 (first_step_6 (first_step_7 (first_step_8 (first_step_9 (first_step_10 (first_step_11 (first_step_12 (first_step_13 (first_step_14 (first_step_15 (first_step_16 (first_step_17 (first_step_18 (row_done sample first_rules reply_lost_start)))))))))))))))))))
 
 -- == settling ==
 
@@ -174,20 +174,20 @@ settling_1 = e.Commit (c.Applied 1 3 Granted) ∷ reply_lost_start
 abbrev settling_2 : Ledger
 settling_2 = e.Sent done_3 ∷ settling_1
 
-settling-step_0 : IsRow sample first_rules (drop 1 settling_steps) settling_1 settled_ledger → IsRow sample first_rules (drop 0 settling_steps) reply_lost_start settled_ledger
+settling_step_0 : IsRow sample first_rules (drop 1 settling_steps) settling_1 settled_ledger → IsRow sample first_rules (drop 0 settling_steps) reply_lost_start settled_ledger
 unfolding plan read spell body number spelled request_at reply_at done_at debit_at release_at kind_of verdict_of size_of day_of marks.body marks.spell marks.mark_at marks.read_mark has_code hmac first_words schedule rounds compress hash_after digest_bytes sha256 request_in adds takes verdict verdict_by reply_to mark_after customer_sum same_kind is_worn
-settling-step_0 r = row-step sample first_rules _ _ reply_lost_start settling_1 settled_ledger tt (lit< tt, inl refl) refl r
+settling_step_0 r = row_step sample first_rules _ _ reply_lost_start settling_1 settled_ledger tt (lit< tt, inl refl) refl r
 
-settling-step_1 : IsRow sample first_rules (drop 2 settling_steps) settling_2 settled_ledger → IsRow sample first_rules (drop 1 settling_steps) settling_1 settled_ledger
+settling_step_1 : IsRow sample first_rules (drop 2 settling_steps) settling_2 settled_ledger → IsRow sample first_rules (drop 1 settling_steps) settling_1 settled_ledger
 unfolding plan read spell body number spelled request_at reply_at done_at debit_at release_at kind_of verdict_of size_of day_of marks.body marks.spell marks.mark_at marks.read_mark has_code hmac first_words schedule rounds compress hash_after digest_bytes sha256 request_in adds takes verdict verdict_by reply_to mark_after customer_sum same_kind is_worn
-settling-step_1 r = row-step sample first_rules _ _ settling_1 settling_2 settled_ledger tt ((lit≤ tt, lit≤ tt), inl refl) refl r
+settling_step_1 r = row_step sample first_rules _ _ settling_1 settling_2 settled_ledger tt ((lit≤ tt, lit≤ tt), inl refl) refl r
 
-settling-step_2 : IsRow sample first_rules (drop 3 settling_steps) settled_ledger settled_ledger → IsRow sample first_rules (drop 2 settling_steps) settling_2 settled_ledger
+settling_step_2 : IsRow sample first_rules (drop 3 settling_steps) settled_ledger settled_ledger → IsRow sample first_rules (drop 2 settling_steps) settling_2 settled_ledger
 unfolding plan read spell body number spelled request_at reply_at done_at debit_at release_at kind_of verdict_of size_of day_of marks.body marks.spell marks.mark_at marks.read_mark has_code hmac first_words schedule rounds compress hash_after digest_bytes sha256 request_in adds takes verdict verdict_by reply_to mark_after customer_sum same_kind is_worn
-settling-step_2 r = row-step sample first_rules _ _ settling_2 settled_ledger settled_ledger tt (lit< tt, inl refl) refl r
+settling_step_2 r = row_step sample first_rules _ _ settling_2 settled_ledger settled_ledger tt (lit< tt, inl refl) refl r
 
-pub settling-row : IsRow sample first_rules settling_steps reply_lost_start settled_ledger
-settling-row = settling-step_0 (settling-step_1 (settling-step_2 (row-done sample first_rules settled_ledger)))
+pub settling_row : IsRow sample first_rules settling_steps reply_lost_start settled_ledger
+settling_row = settling_step_0 (settling_step_1 (settling_step_2 (row_done sample first_rules settled_ledger)))
 
 -- == ordinary ==
 
@@ -209,45 +209,45 @@ ordinary_5 = e.Printed 1 mark_1 ∷ e.Commit (c.Began 1) ∷ ordinary_4
 abbrev ordinary_6 : Ledger
 ordinary_6 = e.Commit (c.Closed 1) ∷ ordinary_5
 
-ordinary-step_0 : IsRow sample first_rules (drop 1 ordinary_steps) ordinary_1 ordinary_ledger → IsRow sample first_rules (drop 0 ordinary_steps) settled_ledger ordinary_ledger
+ordinary_step_0 : IsRow sample first_rules (drop 1 ordinary_steps) ordinary_1 ordinary_ledger → IsRow sample first_rules (drop 0 ordinary_steps) settled_ledger ordinary_ledger
 unfolding plan read spell body number spelled request_at reply_at done_at debit_at release_at kind_of verdict_of size_of day_of marks.body marks.spell marks.mark_at marks.read_mark has_code hmac first_words schedule rounds compress hash_after digest_bytes sha256 request_in adds takes verdict verdict_by reply_to mark_after customer_sum same_kind is_worn
-ordinary-step_0 r = row-step sample first_rules _ _ settled_ledger ordinary_1 ordinary_ledger tt (((lit≤ tt, lit≤ tt), lit< tt, lit< tt, lit< tt, lit< tt), inl refl) refl r
+ordinary_step_0 r = row_step sample first_rules _ _ settled_ledger ordinary_1 ordinary_ledger tt (((lit≤ tt, lit≤ tt), lit< tt, lit< tt, lit< tt, lit< tt), inl refl) refl r
 
-ordinary-step_1 : IsRow sample first_rules (drop 2 ordinary_steps) ordinary_2 ordinary_ledger → IsRow sample first_rules (drop 1 ordinary_steps) ordinary_1 ordinary_ledger
+ordinary_step_1 : IsRow sample first_rules (drop 2 ordinary_steps) ordinary_2 ordinary_ledger → IsRow sample first_rules (drop 1 ordinary_steps) ordinary_1 ordinary_ledger
 unfolding plan read spell body number spelled request_at reply_at done_at debit_at release_at kind_of verdict_of size_of day_of marks.body marks.spell marks.mark_at marks.read_mark has_code hmac first_words schedule rounds compress hash_after digest_bytes sha256 request_in adds takes verdict verdict_by reply_to mark_after customer_sum same_kind is_worn
-ordinary-step_1 r = row-step sample first_rules _ _ ordinary_1 ordinary_2 ordinary_ledger tt (lit< tt, inl refl) refl r
+ordinary_step_1 r = row_step sample first_rules _ _ ordinary_1 ordinary_2 ordinary_ledger tt (lit< tt, inl refl) refl r
 
-ordinary-step_2 : IsRow sample first_rules (drop 3 ordinary_steps) ordinary_3 ordinary_ledger → IsRow sample first_rules (drop 2 ordinary_steps) ordinary_2 ordinary_ledger
+ordinary_step_2 : IsRow sample first_rules (drop 3 ordinary_steps) ordinary_3 ordinary_ledger → IsRow sample first_rules (drop 2 ordinary_steps) ordinary_2 ordinary_ledger
 unfolding plan read spell body number spelled request_at reply_at done_at debit_at release_at kind_of verdict_of size_of day_of marks.body marks.spell marks.mark_at marks.read_mark has_code hmac first_words schedule rounds compress hash_after digest_bytes sha256 request_in adds takes verdict verdict_by reply_to mark_after customer_sum same_kind is_worn
-ordinary-step_2 r = row-step sample first_rules _ _ ordinary_2 ordinary_3 ordinary_ledger tt (lit< tt, inl refl) refl r
+ordinary_step_2 r = row_step sample first_rules _ _ ordinary_2 ordinary_3 ordinary_ledger tt (lit< tt, inl refl) refl r
 
-ordinary-step_3 : IsRow sample first_rules (drop 4 ordinary_steps) ordinary_4 ordinary_ledger → IsRow sample first_rules (drop 3 ordinary_steps) ordinary_3 ordinary_ledger
+ordinary_step_3 : IsRow sample first_rules (drop 4 ordinary_steps) ordinary_4 ordinary_ledger → IsRow sample first_rules (drop 3 ordinary_steps) ordinary_3 ordinary_ledger
 unfolding plan read spell body number spelled request_at reply_at done_at debit_at release_at kind_of verdict_of size_of day_of marks.body marks.spell marks.mark_at marks.read_mark has_code hmac first_words schedule rounds compress hash_after digest_bytes sha256 request_in adds takes verdict verdict_by reply_to mark_after customer_sum same_kind is_worn
-ordinary-step_3 r = row-step sample first_rules _ _ ordinary_3 ordinary_4 ordinary_ledger tt (lit< tt, inl refl) refl r
+ordinary_step_3 r = row_step sample first_rules _ _ ordinary_3 ordinary_4 ordinary_ledger tt (lit< tt, inl refl) refl r
 
-ordinary-step_4 : IsRow sample first_rules (drop 5 ordinary_steps) ordinary_5 ordinary_ledger → IsRow sample first_rules (drop 4 ordinary_steps) ordinary_4 ordinary_ledger
+ordinary_step_4 : IsRow sample first_rules (drop 5 ordinary_steps) ordinary_5 ordinary_ledger → IsRow sample first_rules (drop 4 ordinary_steps) ordinary_4 ordinary_ledger
 unfolding plan read spell body number spelled request_at reply_at done_at debit_at release_at kind_of verdict_of size_of day_of marks.body marks.spell marks.mark_at marks.read_mark has_code hmac first_words schedule rounds compress hash_after digest_bytes sha256 request_in adds takes verdict verdict_by reply_to mark_after customer_sum same_kind is_worn
-ordinary-step_4 r = row-step sample first_rules _ _ ordinary_4 ordinary_5 ordinary_ledger tt (lit< tt, inl refl) refl r
+ordinary_step_4 r = row_step sample first_rules _ _ ordinary_4 ordinary_5 ordinary_ledger tt (lit< tt, inl refl) refl r
 
-ordinary-step_5 : IsRow sample first_rules (drop 6 ordinary_steps) ordinary_6 ordinary_ledger → IsRow sample first_rules (drop 5 ordinary_steps) ordinary_5 ordinary_ledger
+ordinary_step_5 : IsRow sample first_rules (drop 6 ordinary_steps) ordinary_6 ordinary_ledger → IsRow sample first_rules (drop 5 ordinary_steps) ordinary_5 ordinary_ledger
 unfolding plan read spell body number spelled request_at reply_at done_at debit_at release_at kind_of verdict_of size_of day_of marks.body marks.spell marks.mark_at marks.read_mark has_code hmac first_words schedule rounds compress hash_after digest_bytes sha256 request_in adds takes verdict verdict_by reply_to mark_after customer_sum same_kind is_worn
-ordinary-step_5 r = row-step sample first_rules _ _ ordinary_5 ordinary_6 ordinary_ledger tt (lit< tt, inl refl) refl r
+ordinary_step_5 r = row_step sample first_rules _ _ ordinary_5 ordinary_6 ordinary_ledger tt (lit< tt, inl refl) refl r
 
-ordinary-step_6 : IsRow sample first_rules (drop 7 ordinary_steps) ordinary_ledger ordinary_ledger → IsRow sample first_rules (drop 6 ordinary_steps) ordinary_6 ordinary_ledger
+ordinary_step_6 : IsRow sample first_rules (drop 7 ordinary_steps) ordinary_ledger ordinary_ledger → IsRow sample first_rules (drop 6 ordinary_steps) ordinary_6 ordinary_ledger
 unfolding plan read spell body number spelled request_at reply_at done_at debit_at release_at kind_of verdict_of size_of day_of marks.body marks.spell marks.mark_at marks.read_mark has_code hmac first_words schedule rounds compress hash_after digest_bytes sha256 request_in adds takes verdict verdict_by reply_to mark_after customer_sum same_kind is_worn
-ordinary-step_6 r = row-step sample first_rules _ _ ordinary_6 ordinary_ledger ordinary_ledger tt ((lit≤ tt, lit< tt, lit< tt), inl refl) refl r
+ordinary_step_6 r = row_step sample first_rules _ _ ordinary_6 ordinary_ledger ordinary_ledger tt ((lit≤ tt, lit< tt, lit< tt), inl refl) refl r
 
-ordinary-step_7 : IsRow sample first_rules (drop 8 ordinary_steps) ordinary_ledger ordinary_ledger → IsRow sample first_rules (drop 7 ordinary_steps) ordinary_ledger ordinary_ledger
+ordinary_step_7 : IsRow sample first_rules (drop 8 ordinary_steps) ordinary_ledger ordinary_ledger → IsRow sample first_rules (drop 7 ordinary_steps) ordinary_ledger ordinary_ledger
 unfolding plan read spell body number spelled request_at reply_at done_at debit_at release_at kind_of verdict_of size_of day_of marks.body marks.spell marks.mark_at marks.read_mark has_code hmac first_words schedule rounds compress hash_after digest_bytes sha256 request_in adds takes verdict verdict_by reply_to mark_after customer_sum same_kind is_worn
-ordinary-step_7 r = row-step sample first_rules _ _ ordinary_ledger ordinary_ledger ordinary_ledger tt ((lit≤ tt, lit≤ tt), inl refl) refl r
+ordinary_step_7 r = row_step sample first_rules _ _ ordinary_ledger ordinary_ledger ordinary_ledger tt ((lit≤ tt, lit≤ tt), inl refl) refl r
 
-ordinary-step_8 : IsRow sample first_rules (drop 9 ordinary_steps) ordinary_ledger ordinary_ledger → IsRow sample first_rules (drop 8 ordinary_steps) ordinary_ledger ordinary_ledger
+ordinary_step_8 : IsRow sample first_rules (drop 9 ordinary_steps) ordinary_ledger ordinary_ledger → IsRow sample first_rules (drop 8 ordinary_steps) ordinary_ledger ordinary_ledger
 unfolding plan read spell body number spelled request_at reply_at done_at debit_at release_at kind_of verdict_of size_of day_of marks.body marks.spell marks.mark_at marks.read_mark has_code hmac first_words schedule rounds compress hash_after digest_bytes sha256 request_in adds takes verdict verdict_by reply_to mark_after customer_sum same_kind is_worn
-ordinary-step_8 r = row-step sample first_rules _ _ ordinary_ledger ordinary_ledger ordinary_ledger tt ((lit≤ tt, lit≤ tt), inl refl) refl r
+ordinary_step_8 r = row_step sample first_rules _ _ ordinary_ledger ordinary_ledger ordinary_ledger tt ((lit≤ tt, lit≤ tt), inl refl) refl r
 
-ordinary-step_9 : IsRow sample first_rules (drop 10 ordinary_steps) ordinary_ledger ordinary_ledger → IsRow sample first_rules (drop 9 ordinary_steps) ordinary_ledger ordinary_ledger
+ordinary_step_9 : IsRow sample first_rules (drop 10 ordinary_steps) ordinary_ledger ordinary_ledger → IsRow sample first_rules (drop 9 ordinary_steps) ordinary_ledger ordinary_ledger
 unfolding plan read spell body number spelled request_at reply_at done_at debit_at release_at kind_of verdict_of size_of day_of marks.body marks.spell marks.mark_at marks.read_mark has_code hmac first_words schedule rounds compress hash_after digest_bytes sha256 request_in adds takes verdict verdict_by reply_to mark_after customer_sum same_kind is_worn
-ordinary-step_9 r = row-step sample first_rules _ _ ordinary_ledger ordinary_ledger ordinary_ledger tt ((lit≤ tt, lit≤ tt), inl refl) refl r
+ordinary_step_9 r = row_step sample first_rules _ _ ordinary_ledger ordinary_ledger ordinary_ledger tt ((lit≤ tt, lit≤ tt), inl refl) refl r
 
-pub ordinary-row : IsRow sample first_rules ordinary_steps settled_ledger ordinary_ledger
-ordinary-row = ordinary-step_0 (ordinary-step_1 (ordinary-step_2 (ordinary-step_3 (ordinary-step_4 (ordinary-step_5 (ordinary-step_6 (ordinary-step_7 (ordinary-step_8 (ordinary-step_9 (row-done sample first_rules ordinary_ledger))))))))))
+pub ordinary_row : IsRow sample first_rules ordinary_steps settled_ledger ordinary_ledger
+ordinary_row = ordinary_step_0 (ordinary_step_1 (ordinary_step_2 (ordinary_step_3 (ordinary_step_4 (ordinary_step_5 (ordinary_step_6 (ordinary_step_7 (ordinary_step_8 (ordinary_step_9 (row_done sample first_rules ordinary_ledger))))))))))

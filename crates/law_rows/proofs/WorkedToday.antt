@@ -24,7 +24,7 @@ use Rattle.ledger_moves.specs.Moves.{plan}
 use Rattle.law_rows.specs.Runs.{IsRow, sample}
 use Rattle.law_rows.specs.Rows.{debit_1, settled_ledger}
 use Rattle.law_rows.specs.TodayRows.{new_mark_1, new_release_1, new_mark_2, new_audit_4, new_granted_4, today_steps, today_ledger}
-use Rattle.law_rows.proofs.Runs.{row-done, row-step}
+use Rattle.law_rows.proofs.Runs.{row_done, row_step}
 
 abbrev today_1 : Ledger
 today_1 = e.Commit (c.Ordered 1 1 1 550 1) ∷ settled_ledger
@@ -56,62 +56,62 @@ today_11 = e.Sent new_audit_4 ∷ e.Commit (c.Asked 1 4 new_audit_4) ∷ today_9
 abbrev today_12 : Ledger
 today_12 = e.Sent new_granted_4 ∷ e.Commit (c.Ruled 1 4 Granted new_audit_4) ∷ today_11
 
-today-step_0 : IsRow sample todays_rules (drop 1 today_steps) today_1 today_ledger → IsRow sample todays_rules (drop 0 today_steps) settled_ledger today_ledger
+today_step_0 : IsRow sample todays_rules (drop 1 today_steps) today_1 today_ledger → IsRow sample todays_rules (drop 0 today_steps) settled_ledger today_ledger
 unfolding plan read spell body number spelled request_at reply_at done_at debit_at release_at kind_of verdict_of size_of day_of marks.body marks.spell marks.mark_at marks.read_mark has_code hmac first_words schedule rounds compress hash_after digest_bytes sha256 request_in adds takes verdict verdict_by reply_to mark_after customer_sum same_kind is_worn
-today-step_0 r = row-step sample todays_rules _ _ settled_ledger today_1 today_ledger tt (((lit≤ tt, lit≤ tt), lit< tt, lit< tt, lit< tt, lit< tt), inl refl) refl r
+today_step_0 r = row_step sample todays_rules _ _ settled_ledger today_1 today_ledger tt (((lit≤ tt, lit≤ tt), lit< tt, lit< tt, lit< tt, lit< tt), inl refl) refl r
 
-today-step_1 : IsRow sample todays_rules (drop 2 today_steps) today_2 today_ledger → IsRow sample todays_rules (drop 1 today_steps) today_1 today_ledger
+today_step_1 : IsRow sample todays_rules (drop 2 today_steps) today_2 today_ledger → IsRow sample todays_rules (drop 1 today_steps) today_1 today_ledger
 unfolding plan read spell body number spelled request_at reply_at done_at debit_at release_at kind_of verdict_of size_of day_of marks.body marks.spell marks.mark_at marks.read_mark has_code hmac first_words schedule rounds compress hash_after digest_bytes sha256 request_in adds takes verdict verdict_by reply_to mark_after customer_sum same_kind is_worn
-today-step_1 r = row-step sample todays_rules _ _ today_1 today_2 today_ledger tt (lit< tt, inl refl) refl r
+today_step_1 r = row_step sample todays_rules _ _ today_1 today_2 today_ledger tt (lit< tt, inl refl) refl r
 
-today-step_2 : IsRow sample todays_rules (drop 3 today_steps) today_3 today_ledger → IsRow sample todays_rules (drop 2 today_steps) today_2 today_ledger
+today_step_2 : IsRow sample todays_rules (drop 3 today_steps) today_3 today_ledger → IsRow sample todays_rules (drop 2 today_steps) today_2 today_ledger
 unfolding plan read spell body number spelled request_at reply_at done_at debit_at release_at kind_of verdict_of size_of day_of marks.body marks.spell marks.mark_at marks.read_mark has_code hmac first_words schedule rounds compress hash_after digest_bytes sha256 request_in adds takes verdict verdict_by reply_to mark_after customer_sum same_kind is_worn
-today-step_2 r = row-step sample todays_rules _ _ today_2 today_3 today_ledger tt (lit< tt, inl refl) refl r
+today_step_2 r = row_step sample todays_rules _ _ today_2 today_3 today_ledger tt (lit< tt, inl refl) refl r
 
-today-step_3 : IsRow sample todays_rules (drop 4 today_steps) today_4 today_ledger → IsRow sample todays_rules (drop 3 today_steps) today_3 today_ledger
+today_step_3 : IsRow sample todays_rules (drop 4 today_steps) today_4 today_ledger → IsRow sample todays_rules (drop 3 today_steps) today_3 today_ledger
 unfolding plan read spell body number spelled request_at reply_at done_at debit_at release_at kind_of verdict_of size_of day_of marks.body marks.spell marks.mark_at marks.read_mark has_code hmac first_words schedule rounds compress hash_after digest_bytes sha256 request_in adds takes verdict verdict_by reply_to mark_after customer_sum same_kind is_worn
-today-step_3 r = row-step sample todays_rules _ _ today_3 today_4 today_ledger tt (lit< tt, inl refl) refl r
+today_step_3 r = row_step sample todays_rules _ _ today_3 today_4 today_ledger tt (lit< tt, inl refl) refl r
 
-today-step_4 : IsRow sample todays_rules (drop 5 today_steps) today_5 today_ledger → IsRow sample todays_rules (drop 4 today_steps) today_4 today_ledger
+today_step_4 : IsRow sample todays_rules (drop 5 today_steps) today_5 today_ledger → IsRow sample todays_rules (drop 4 today_steps) today_4 today_ledger
 unfolding plan read spell body number spelled request_at reply_at done_at debit_at release_at kind_of verdict_of size_of day_of marks.body marks.spell marks.mark_at marks.read_mark has_code hmac first_words schedule rounds compress hash_after digest_bytes sha256 request_in adds takes verdict verdict_by reply_to mark_after customer_sum same_kind is_worn
-today-step_4 r = row-step sample todays_rules _ _ today_4 today_5 today_ledger tt (lit< tt, inl refl) refl r
+today_step_4 r = row_step sample todays_rules _ _ today_4 today_5 today_ledger tt (lit< tt, inl refl) refl r
 
-today-step_5 : IsRow sample todays_rules (drop 6 today_steps) today_6 today_ledger → IsRow sample todays_rules (drop 5 today_steps) today_5 today_ledger
+today_step_5 : IsRow sample todays_rules (drop 6 today_steps) today_6 today_ledger → IsRow sample todays_rules (drop 5 today_steps) today_5 today_ledger
 unfolding plan read spell body number spelled request_at reply_at done_at debit_at release_at kind_of verdict_of size_of day_of marks.body marks.spell marks.mark_at marks.read_mark has_code hmac first_words schedule rounds compress hash_after digest_bytes sha256 request_in adds takes verdict verdict_by reply_to mark_after customer_sum same_kind is_worn
-today-step_5 r = row-step sample todays_rules _ _ today_5 today_6 today_ledger tt ((lit≤ tt, lit< tt, lit< tt), inl refl) refl r
+today_step_5 r = row_step sample todays_rules _ _ today_5 today_6 today_ledger tt ((lit≤ tt, lit< tt, lit< tt), inl refl) refl r
 
-today-step_6 : IsRow sample todays_rules (drop 7 today_steps) today_7 today_ledger → IsRow sample todays_rules (drop 6 today_steps) today_6 today_ledger
+today_step_6 : IsRow sample todays_rules (drop 7 today_steps) today_7 today_ledger → IsRow sample todays_rules (drop 6 today_steps) today_6 today_ledger
 unfolding plan read spell body number spelled request_at reply_at done_at debit_at release_at kind_of verdict_of size_of day_of marks.body marks.spell marks.mark_at marks.read_mark has_code hmac first_words schedule rounds compress hash_after digest_bytes sha256 request_in adds takes verdict verdict_by reply_to mark_after customer_sum same_kind is_worn
-today-step_6 r = row-step sample todays_rules _ _ today_6 today_7 today_ledger tt ((omega (arith, ints), omega (arith, ints)), inl refl) refl r
+today_step_6 r = row_step sample todays_rules _ _ today_6 today_7 today_ledger tt ((omega (arith, ints), omega (arith, ints)), inl refl) refl r
 
-today-step_7 : IsRow sample todays_rules (drop 8 today_steps) today_7 today_ledger → IsRow sample todays_rules (drop 7 today_steps) today_7 today_ledger
+today_step_7 : IsRow sample todays_rules (drop 8 today_steps) today_7 today_ledger → IsRow sample todays_rules (drop 7 today_steps) today_7 today_ledger
 unfolding plan read spell body number spelled request_at reply_at done_at debit_at release_at kind_of verdict_of size_of day_of marks.body marks.spell marks.mark_at marks.read_mark has_code hmac first_words schedule rounds compress hash_after digest_bytes sha256 request_in adds takes verdict verdict_by reply_to mark_after customer_sum same_kind is_worn
-today-step_7 r = row-step sample todays_rules _ _ today_7 today_7 today_ledger tt (((lit≤ tt, lit≤ tt), lit< tt, lit< tt, lit< tt), inl refl) refl r
+today_step_7 r = row_step sample todays_rules _ _ today_7 today_7 today_ledger tt (((lit≤ tt, lit≤ tt), lit< tt, lit< tt, lit< tt), inl refl) refl r
 
-today-step_8 : IsRow sample todays_rules (drop 9 today_steps) today_9 today_ledger → IsRow sample todays_rules (drop 8 today_steps) today_7 today_ledger
+today_step_8 : IsRow sample todays_rules (drop 9 today_steps) today_9 today_ledger → IsRow sample todays_rules (drop 8 today_steps) today_7 today_ledger
 unfolding plan read spell body number spelled request_at reply_at done_at debit_at release_at kind_of verdict_of size_of day_of marks.body marks.spell marks.mark_at marks.read_mark has_code hmac first_words schedule rounds compress hash_after digest_bytes sha256 request_in adds takes verdict verdict_by reply_to mark_after customer_sum same_kind is_worn
-today-step_8 r = row-step sample todays_rules _ _ today_7 today_9 today_ledger tt (((lit≤ tt, lit≤ tt), lit< tt, lit< tt, lit< tt), inl refl) refl r
+today_step_8 r = row_step sample todays_rules _ _ today_7 today_9 today_ledger tt (((lit≤ tt, lit≤ tt), lit< tt, lit< tt, lit< tt), inl refl) refl r
 
-today-step_9 : IsRow sample todays_rules (drop 10 today_steps) today_9 today_ledger → IsRow sample todays_rules (drop 9 today_steps) today_9 today_ledger
+today_step_9 : IsRow sample todays_rules (drop 10 today_steps) today_9 today_ledger → IsRow sample todays_rules (drop 9 today_steps) today_9 today_ledger
 unfolding plan read spell body number spelled request_at reply_at done_at debit_at release_at kind_of verdict_of size_of day_of marks.body marks.spell marks.mark_at marks.read_mark has_code hmac first_words schedule rounds compress hash_after digest_bytes sha256 request_in adds takes verdict verdict_by reply_to mark_after customer_sum same_kind is_worn
-today-step_9 r = row-step sample todays_rules _ _ today_9 today_9 today_ledger tt (((lit≤ tt, lit≤ tt), (refl, lit< tt)), inl refl) refl r
+today_step_9 r = row_step sample todays_rules _ _ today_9 today_9 today_ledger tt (((lit≤ tt, lit≤ tt), (refl, lit< tt)), inl refl) refl r
 
-today-step_10 : IsRow sample todays_rules (drop 11 today_steps) today_11 today_ledger → IsRow sample todays_rules (drop 10 today_steps) today_9 today_ledger
+today_step_10 : IsRow sample todays_rules (drop 11 today_steps) today_11 today_ledger → IsRow sample todays_rules (drop 10 today_steps) today_9 today_ledger
 unfolding plan read spell body number spelled request_at reply_at done_at debit_at release_at kind_of verdict_of size_of day_of marks.body marks.spell marks.mark_at marks.read_mark has_code hmac first_words schedule rounds compress hash_after digest_bytes sha256 request_in adds takes verdict verdict_by reply_to mark_after customer_sum same_kind is_worn
-today-step_10 r = row-step sample todays_rules _ _ today_9 today_11 today_ledger tt (((lit≤ tt, lit≤ tt), (refl, refl)), inl refl) refl r
+today_step_10 r = row_step sample todays_rules _ _ today_9 today_11 today_ledger tt (((lit≤ tt, lit≤ tt), (refl, refl)), inl refl) refl r
 
-today-step_11 : IsRow sample todays_rules (drop 12 today_steps) today_12 today_ledger → IsRow sample todays_rules (drop 11 today_steps) today_11 today_ledger
+today_step_11 : IsRow sample todays_rules (drop 12 today_steps) today_12 today_ledger → IsRow sample todays_rules (drop 11 today_steps) today_11 today_ledger
 unfolding plan read spell body number spelled request_at reply_at done_at debit_at release_at kind_of verdict_of size_of day_of marks.body marks.spell marks.mark_at marks.read_mark has_code hmac first_words schedule rounds compress hash_after digest_bytes sha256 request_in adds takes verdict verdict_by reply_to mark_after customer_sum same_kind is_worn
-today-step_11 r = row-step sample todays_rules _ _ today_11 today_12 today_ledger tt (lit< tt, inl refl) refl r
+today_step_11 r = row_step sample todays_rules _ _ today_11 today_12 today_ledger tt (lit< tt, inl refl) refl r
 
-today-step_12 : IsRow sample todays_rules (drop 13 today_steps) today_ledger today_ledger → IsRow sample todays_rules (drop 12 today_steps) today_12 today_ledger
+today_step_12 : IsRow sample todays_rules (drop 13 today_steps) today_ledger today_ledger → IsRow sample todays_rules (drop 12 today_steps) today_12 today_ledger
 unfolding plan read spell body number spelled request_at reply_at done_at debit_at release_at kind_of verdict_of size_of day_of marks.body marks.spell marks.mark_at marks.read_mark has_code hmac first_words schedule rounds compress hash_after digest_bytes sha256 request_in adds takes verdict verdict_by reply_to mark_after customer_sum same_kind is_worn
-today-step_12 r = row-step sample todays_rules _ _ today_12 today_ledger today_ledger tt (lit< tt, inl refl) refl r
+today_step_12 r = row_step sample todays_rules _ _ today_12 today_ledger today_ledger tt (lit< tt, inl refl) refl r
 
-today-step_13 : IsRow sample todays_rules (drop 14 today_steps) today_ledger today_ledger → IsRow sample todays_rules (drop 13 today_steps) today_ledger today_ledger
+today_step_13 : IsRow sample todays_rules (drop 14 today_steps) today_ledger today_ledger → IsRow sample todays_rules (drop 13 today_steps) today_ledger today_ledger
 unfolding plan read spell body number spelled request_at reply_at done_at debit_at release_at kind_of verdict_of size_of day_of marks.body marks.spell marks.mark_at marks.read_mark has_code hmac first_words schedule rounds compress hash_after digest_bytes sha256 request_in adds takes verdict verdict_by reply_to mark_after customer_sum same_kind is_worn
-today-step_13 r = row-step sample todays_rules _ _ today_ledger today_ledger today_ledger tt ((lit≤ tt, lit≤ tt), inl refl) refl r
+today_step_13 r = row_step sample todays_rules _ _ today_ledger today_ledger today_ledger tt ((lit≤ tt, lit≤ tt), inl refl) refl r
 
-pub today-row : IsRow sample todays_rules today_steps settled_ledger today_ledger
-today-row =
-    today-step_0 (today-step_1 (today-step_2 (today-step_3 (today-step_4 (today-step_5 (today-step_6 (today-step_7 (today-step_8 (today-step_9 (today-step_10 (today-step_11 (today-step_12 (today-step_13 (row-done sample todays_rules today_ledger))))))))))))))
+pub today_row : IsRow sample todays_rules today_steps settled_ledger today_ledger
+today_row =
+    today_step_0 (today_step_1 (today_step_2 (today_step_3 (today_step_4 (today_step_5 (today_step_6 (today_step_7 (today_step_8 (today_step_9 (today_step_10 (today_step_11 (today_step_12 (today_step_13 (row_done sample todays_rules today_ledger))))))))))))))

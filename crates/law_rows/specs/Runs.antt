@@ -34,14 +34,14 @@ abbrev is_price : Result ℕ RateRefusal → Bool
 is_price (Ok postage) = true
 is_price (Err x) = false
 
-pub one_price-bounds : (known : Bool) (postage : ℕ) → one_price known ≡ Ok postage → (1 ≤ postage) × (postage ≤ 100000)
-one_price-bounds true postage h = subst (λ n. (1 ≤ n) × (n ≤ 100000)) (ap price_in h) (lit≤ tt, lit≤ tt)
-one_price-bounds false postage h = absurd (true≢false (sym (ap is_price h)))
+pub one_price_bounds : (known : Bool) (postage : ℕ) → one_price known ≡ Ok postage → (1 ≤ postage) × (postage ≤ 100000)
+one_price_bounds true postage h = subst (λ n. (1 ≤ n) × (n ≤ 100000)) (ap price_in h) (lit≤ tt, lit≤ tt)
+one_price_bounds false postage h = absurd (true≢false (sym (ap is_price h)))
 
 -- a tariff of two classes and two zones, of which one price is known: class 1, up to 28 grams, zone 1
 abbrev pub sample : Tariff
 sample = record {
   reading = λ text. Ok (2, 2);
   price = λ text class grams zone. one_price ((class == 1) && (nat_le grams 28 && (zone == 1)));
-  bounds = λ text class grams zone postage. one_price-bounds ((class == 1) && (nat_le grams 28 && (zone == 1))) postage;
+  bounds = λ text class grams zone postage. one_price_bounds ((class == 1) && (nat_le grams 28 && (zone == 1))) postage;
 }

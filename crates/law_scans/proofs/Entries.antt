@@ -14,7 +14,7 @@ use Rattle.bench_base.specs.Ledger.{Ledger, IsReleased, count_of, torn_of, at_up
 use Rattle.bench_base.specs.Replies.{Told, Did, Refused, Armed, CameOn, WentOff, LostPower, Faulted, WasDamaged, PrinterFailed, RatesFailed}
 use Rattle.bench_base.specs.Scans.{accepted}
 use Rattle.bench_base.specs.Rows.{first_of}
-use Rattle.bench_base.proofs.Facts.{kept_first, some-none}
+use Rattle.bench_base.proofs.Facts.{kept_first, some_none}
 use Rattle.node_acts.specs.Plans.{with_commit, with_torn, after_told}
 use Rattle.law_scans.specs.Acceptances.{EachAccepted}
 
@@ -83,7 +83,7 @@ first_within false d p n e q scan C o same later is = more_within (Accepted e q 
 
 -- and it is among the commits
 pub accepted_within : (d p n : ℕ) (C : List Commit) → accepted d p C ≡ Some n → Contains C (Accepted d p n)
-accepted_within d p n [] is = absurd (some-none (sym is))
+accepted_within d p n [] is = absurd (some_none (sym is))
 accepted_within d p n (Accepted e q scan ∷ C) is =
     first_within ((e == d) && (q == p)) d p n e q scan C (accepted d p C) (λ both. let at = and_parts (e == d) (q == p) both in (eqb-true e d at.0, eqb-true q p at.1)) (accepted_within d p n C) is
 accepted_within d p n (c ∷ C) is = more_within c (Accepted d p n) C (accepted_within d p n C is)

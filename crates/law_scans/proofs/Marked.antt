@@ -10,7 +10,7 @@ use Rattle.bench_base.specs.Rows.{first_of}
 use Rattle.bench_base.specs.Rules.{Rules}
 use Rattle.bench_base.specs.Ledger.{Ledger, IsReleased, counted}
 use Rattle.bench_base.specs.Scans.{accepted}
-use Rattle.bench_base.proofs.Facts.{kept_first, ok-same}
+use Rattle.bench_base.proofs.Facts.{kept_first, ok_same}
 use Rattle.indicium.specs.declared.Mark.{Mark}
 use Rattle.indicium.specs.Marks.{read_mark}
 use Rattle.indicium.proofs.Readings as readings
@@ -23,8 +23,8 @@ use Rattle.ledger_moves.specs.Histories.{History}
 use Rattle.ledger_moves.specs.Tariffs.{Tariff}
 use Rattle.law_good.proofs.Good.{Good}
 use Rattle.law_good.proofs.Grown.{Inv, Told}
-use Rattle.law_plans.proofs.Franked.{mark-fits}
-use Rattle.ledger_laws.proofs.Histories.{histories, allows-same, carried-by}
+use Rattle.law_plans.proofs.Franked.{mark_fits}
+use Rattle.ledger_laws.proofs.Histories.{histories, allows_same, carried_by}
 use Rattle.law_scans.proofs.Entries.{Is, counted_kept}
 
 -- the bytes read as a mark of this device, piece and postage
@@ -58,7 +58,7 @@ unfolding indicium_after mark_after
 new_mark ρ carried d p a k t v C good = record {
   mark = mark_after d p a k t v C;
   code = _;
-  reads = readings.read-spell (mark_after d p a k t v C) (key_or_none (key_of d C)) (mark-fits ρ carried d p a k t v C good);
+  reads = readings.read_spell (mark_after d p a k t v C) (key_or_none (key_of d C)) (mark_fits ρ carried d p a k t v C good);
   device = refl;
   piece = refl;
   postage = refl;
@@ -100,15 +100,15 @@ released_marked x (_ ∷ H) told is = released_marked x H told.1 is
 
 module _ (τ : Tariff) (ρ : Rules) (ρs : List Rules) (H : Ledger) (E : Editions (ρ ∷ ρs)) (h : History τ (ρ ∷ ρs) H) where
   kept : Inv ρ H
-  kept = histories τ (ρ ∷ ρs) E H h ρ (carried-by ρs ρ E.0, allows-same ρ)
+  kept = histories τ (ρ ∷ ρs) E H h ρ (carried_by ρs ρ E.0, allows_same ρ)
 
   -- a released mark shows the postage of its debit
   pub released_postage : (x : List ℕ) (k : Mark) (code : List ℕ) → IsReleased x H → read_mark x ≡ Ok (k, code) → postage_of k.device k.piece (counted H) ≡ Some k.postage
   released_postage x k code released reads =
       let is = released_marked x H kept.told released in
-      let found = by_match is.0 is.1 _ _ x (mark_matches ρ (carried-by ρs ρ E.0) is.0 is.1 (counted H) kept.good) is.2 in
+      let found = by_match is.0 is.1 _ _ x (mark_matches ρ (carried_by ρs ρ E.0) is.0 is.1 (counted H) kept.good) is.2 in
       let of = found.2 in
-      let same : of.mark ≡ k = ap (λ (m : Mark × List ℕ). m.0) (ok-same (sym of.reads ∙ reads)) in
+      let same : of.mark ≡ k = ap (λ (m : Mark × List ℕ). m.0) (ok_same (sym of.reads ∙ reads)) in
       subst (λ (m : Mark). postage_of m.device m.piece (counted H) ≡ Some m.postage) same
       (subst (λ (a : ℕ). postage_of of.mark.device of.mark.piece (counted H) ≡ Some a) (sym of.postage)
       (subst (λ (p : ℕ). postage_of of.mark.device p (counted H) ≡ Some found.0) (sym of.piece)

@@ -7,7 +7,7 @@ use Rattle.bench_base.specs.declared.ledger.Commit.{Commit}
 use Rattle.bench_base.specs.declared.ledger.Commit.TheVariants.{Ordered}
 use Rattle.bench_base.specs.Jobs.{job_of}
 use Rattle.bench_base.specs.Rules.{Rules}
-use Rattle.bench_base.proofs.Facts.{none-if}
+use Rattle.bench_base.proofs.Facts.{none_if}
 use Rattle.law_good.proofs.Good.{Good}
 use Rattle.law_jobs.proofs.Jobs.{jobs}
 use Rattle.law_sends.specs.Orders.{ordered_postage}
@@ -22,7 +22,7 @@ module _ (ρ : Rules) where
   new_order : (c : Commit) (C : List Commit) → Good ρ (c ∷ C) → IsTheOrder (c ∷ C) c
   new_order (Ordered j d p a k) C good =
       let next = good.0.next in
-      let none : job_of j C ≡ None = none-if (job_of j C) (λ b is. let le = (jobs ρ C good.1).job_le j b is in omega (arith, le, next)) in
+      let none : job_of j C ≡ None = none_if (job_of j C) (λ b is. let le = (jobs ρ C good.1).job_le j b is in omega (arith, le, next)) in
       rw (eq-eqb j j refl, none) refl
   new_order _ C good = tt
 

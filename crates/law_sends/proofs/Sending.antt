@@ -19,13 +19,13 @@ use Rattle.node_acts.specs.Plans.{after, Fails}
 use Rattle.node_acts.specs.Said.{said_plan}
 use Rattle.psd_wire.specs.declared.message.Message.TheVariants as m
 use Rattle.psd_wire.specs.Grammar.{spell}
-use Rattle.psd_wire.proofs.Readings.{read-spell}
+use Rattle.psd_wire.proofs.Readings.{read_spell}
 use Rattle.host_jobs.specs.declared.rows.JobRow.{JobRow}
 use Rattle.host_jobs.specs.Answers.{send_answer, debit_of}
 use Rattle.host_jobs.specs.Acts.{HostAct, unless, debit_note, sent_act}
 use Rattle.host_jobs.specs.Plans as host
 use Rattle.host_jobs.specs.Rows.{job_in}
-use Rattle.host_jobs.proofs.ByRows.{shown-is}
+use Rattle.host_jobs.proofs.ByRows.{shown_is}
 use Rattle.ledger_lawful.specs.Editions.{Editions}
 use Rattle.ledger_moves.specs.Histories.{History}
 use Rattle.ledger_moves.specs.Moves as moves
@@ -34,10 +34,10 @@ use Rattle.ledger_moves.specs.Tariffs.{Tariff}
 use Rattle.bench_base.proofs.Rows.{chosen}
 use Rattle.law_good.proofs.Good.{Good}
 use Rattle.law_good.proofs.Grown.{Inv}
-use Rattle.law_plans.proofs.Franked.{device-word}
-use Rattle.law_plans.proofs.Whole.{whole-debit}
-use Rattle.law_host.proofs.HostPlans.{job-range}
-use Rattle.ledger_laws.proofs.Histories.{histories, allows-same, carried-by}
+use Rattle.law_plans.proofs.Franked.{device_word}
+use Rattle.law_plans.proofs.Whole.{whole_debit}
+use Rattle.law_host.proofs.HostPlans.{job_range}
+use Rattle.ledger_laws.proofs.Histories.{histories, allows_same, carried_by}
 use Rattle.law_sends.specs.Orders.{postage_in, ordered_postage, IsSentFor}
 use Rattle.law_sends.proofs.Once.{one_order}
 
@@ -70,15 +70,15 @@ module _ (ρ : Rules) (H : Ledger) (good : Good ρ (counted H)) (j : ℕ) where
       by : (o : Option HostRefusal) → TellsBy l (unless o (Tell (debit_note x)))
       by (Some y) = no_host y
       by None = λ i k same.
-          let is : job_of j (counted H) ≡ Some (job_in x) = (shown-is j (counted H) x at).job in
+          let is : job_of j (counted H) ≡ Some (job_in x) = (shown_is j (counted H) x at).job in
           let b = job_in x in
-          let it = job-range ρ j b (counted H) good is in
+          let it = job_range ρ j b (counted H) good is in
           let q = debit_of b in
           record {
             bytes = spell (m.Debit q) [];
             debit = q;
             only = refl;
-            reads = read-spell (m.Debit q) [] (whole-debit q (device-word b.device it.device) it.piece.1 (omega (arith, it.postage.1)) it.class);
+            reads = read_spell (m.Debit q) [] (whole_debit q (device_word b.device it.device) it.piece.1 (omega (arith, it.postage.1)) it.class);
             postage = ap (λ (o : Option Job). postage_in o) is;
           }
 
@@ -105,7 +105,7 @@ module _ (ρ : Rules) (H : Ledger) (good : Good ρ (counted H)) (j : ℕ) where
 
 module _ (τ : Tariff) (ρ : Rules) (ρs : List Rules) (H : Ledger) (E : Editions (ρ ∷ ρs)) (h : History τ (ρ ∷ ρs) H) where
   kept : Inv ρ H
-  kept = histories τ (ρ ∷ ρs) E H h ρ (carried-by ρs ρ E.0, allows-same ρ)
+  kept = histories τ (ρ ∷ ρs) E H h ρ (carried_by ρs ρ E.0, allows_same ρ)
 
   -- the message that was sent for a job
   pub sent_for : (j i k : ℕ) (text : List ℕ) → Moves τ ρ H (ev.Send j) text (r.SentDebit i k) → IsSentFor j (after (plan τ ρ H (ev.Send j) text) (r.SentDebit i k) []) H

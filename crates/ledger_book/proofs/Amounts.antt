@@ -4,14 +4,14 @@ use Rattle.bench_base.specs.Table.{Four, Eight, IsNumber, IsBytes}
 use Rattle.psd_wire.specs.declared.message.Request.{Request}
 use Rattle.psd_wire.specs.declared.message.Message.TheVariants as m
 use Rattle.psd_wire.specs.Grammar.{read, IsWhole}
-use Rattle.psd_wire.proofs.Readings.{read-found}
+use Rattle.psd_wire.proofs.Readings.{read_found}
 
-whole-amount : (q : Request) → IsWhole (m.Request q) → q.amount < 2 ^ 64
-whole-amount q h = go (q.version == 1) h.1.1.1.1.1.1.1.0
+whole_amount : (q : Request) → IsWhole (m.Request q) → q.amount < 2 ^ 64
+whole_amount q h = go (q.version == 1) h.1.1.1.1.1.1.1.0
   where
     go : (b : Bool) → IsNumber (cond b Four Eight) q.amount → q.amount < 2 ^ 64
     go true k = omega (arith, k)
     go false k = k
 
-pub read-amount : (bytes : List ℕ) (q : Request) → IsBytes bytes → read bytes ≡ Ok (m.Request q) → q.amount < 2 ^ 64
-read-amount bytes q h e = let found = read-found bytes (m.Request q) h e in whole-amount q found.1.whole
+pub read_amount : (bytes : List ℕ) (q : Request) → IsBytes bytes → read bytes ≡ Ok (m.Request q) → q.amount < 2 ^ 64
+read_amount bytes q h e = let found = read_found bytes (m.Request q) h e in whole_amount q found.1.whole

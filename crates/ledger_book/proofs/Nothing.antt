@@ -4,9 +4,9 @@ use Rattle.bench_base.specs.Rules.{Rules}
 use Rattle.ledger_terms.specs.Centres.{customer_sum}
 use Rattle.ledger_lawful.specs.Lawful.{LawfulAt}
 
-pub lawful-nothing : (ρ : Rules) → LawfulAt ρ []
+pub lawful_nothing : (ρ : Rules) → LawfulAt ρ []
 unfolding customer_sum
-lawful-nothing ρ = record {
+lawful_nothing ρ = record {
   numbering = tt;
   debits = (tt, λ d low high. record { covered = omega arith; within = omega arith });
   releases = tt;

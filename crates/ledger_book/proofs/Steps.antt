@@ -32,11 +32,11 @@ pub settled : (d n : ℕ) (C : List Commit) → of_centre d (Settled d n ∷ C) 
 settled d n C = let h = itself d in rw h (refl {a = centre_settled n (of_centre d C)})
 
 -- a ruling on another device changes nothing of this one
-pub other-registered : (e d origin : ℕ) (key : List ℕ) (C : List Commit) → eqb e d ≡ false → of_centre d (Registered e origin key ∷ C) ≡ of_centre d C
-other-registered e d origin key C h = rw h refl
+pub other_registered : (e d origin : ℕ) (key : List ℕ) (C : List Commit) → eqb e d ≡ false → of_centre d (Registered e origin key ∷ C) ≡ of_centre d C
+other_registered e d origin key C h = rw h refl
 
-pub other-ruled : (e d n : ℕ) (v : Verdict) (note : List ℕ) (C : List Commit) → eqb e d ≡ false → of_centre d (Ruled e n v note ∷ C) ≡ of_centre d C
-other-ruled e d n v note C h = rw h refl
+pub other_ruled : (e d n : ℕ) (v : Verdict) (note : List ℕ) (C : List Commit) → eqb e d ≡ false → of_centre d (Ruled e n v note ∷ C) ≡ of_centre d C
+other_ruled e d n v note C h = rw h refl
 
-pub other-settled : (e d n : ℕ) (C : List Commit) → eqb e d ≡ false → of_centre d (Settled e n ∷ C) ≡ of_centre d C
-other-settled e d n C h = rw h refl
+pub other_settled : (e d n : ℕ) (C : List Commit) → eqb e d ≡ false → of_centre d (Settled e n ∷ C) ≡ of_centre d C
+other_settled e d n C h = rw h refl

@@ -15,45 +15,45 @@ use Rattle.ledger_moves.specs.Moves.{plan, Moves, OtherUp, FailsToRead}
 use Rattle.ledger_moves.specs.Histories.{Unforged, History}
 use Rattle.ledger_lawful.specs.Sane.{IsSane}
 use Rattle.ledger_lawful.specs.Further.{IsAddressed, SentAreRead, RepliesAreRuled}
-use Rattle.law_money.proofs.Money.{ruling-asked}
-use Rattle.law_money.proofs.Asked.{note-reads, applied-asked}
-use Rattle.law_good.proofs.Grown.{Inv, GenuineAs, genuine-at}
-use Rattle.ledger_laws.proofs.Histories.{histories, plan-ok, allows-same, carried-by}
+use Rattle.law_money.proofs.Money.{ruling_asked}
+use Rattle.law_money.proofs.Asked.{note_reads, applied_asked}
+use Rattle.law_good.proofs.Grown.{Inv, GenuineAs, genuine_at}
+use Rattle.ledger_laws.proofs.Histories.{histories, plan_ok, allows_same, carried_by}
 
-other-sane : (was x : Reply) (H : Ledger) → OtherUp was x H → IsSane x
-other-sane was x H h = subst IsSane (sym h.more) tt
+other_sane : (was x : Reply) (H : Ledger) → OtherUp was x H → IsSane x
+other_sane was x H h = subst IsSane (sym h.more) tt
 
-fails-sane : (p : Plan) (x : Reply) → Fails p x → IsSane x
-fails-sane p (r.Power n) h = tt
-fails-sane p (r.Fault n) h = tt
-fails-sane p (r.PrinterFault j) h = tt
-fails-sane p _ h = absurd h
+fails_sane : (p : Plan) (x : Reply) → Fails p x → IsSane x
+fails_sane p (r.Power n) h = tt
+fails_sane p (r.Fault n) h = tt
+fails_sane p (r.PrinterFault j) h = tt
+fails_sane p _ h = absurd h
 
-unread-sane : (x : Event) (y : Reply) (day : Option ℤ) → FailsToRead x y day → IsSane y
-unread-sane x y day h = subst IsSane (sym h.reply_is) tt
+unread_sane : (x : Event) (y : Reply) (day : Option ℤ) → FailsToRead x y day → IsSane y
+unread_sane x y day h = subst IsSane (sym h.reply_is) tt
 
-pub moves-sane : (τ : Tariff) (ρ : Rules) (ρs : List Rules) (H : Ledger) → Editions (ρ ∷ ρs) → History τ (ρ ∷ ρs) H → (x : Event) (text : List ℕ) (reply : Reply) → Unforged x H → Moves τ ρ H x text reply → IsSane reply
-moves-sane τ ρ ρs H E h x text reply u v =
-    let carried = carried-by ρs ρ E.0 in
-    let i = histories τ (ρ ∷ ρs) E H h ρ (carried, allows-same ρ) in
+pub moves_sane : (τ : Tariff) (ρ : Rules) (ρs : List Rules) (H : Ledger) → Editions (ρ ∷ ρs) → History τ (ρ ∷ ρs) H → (x : Event) (text : List ℕ) (reply : Reply) → Unforged x H → Moves τ ρ H x text reply → IsSane reply
+moves_sane τ ρ ρs H E h x text reply u v =
+    let carried = carried_by ρs ρ E.0 in
+    let i = histories τ (ρ ∷ ρs) E H h ρ (carried, allows_same ρ) in
     let p = plan τ ρ H x text in
     ⊎_elim
-    (λ (same : reply ≡ p.reply). subst IsSane (sym same) (plan-ok τ ρ carried H i x text v.0 u).sane)
+    (λ (same : reply ≡ p.reply). subst IsSane (sym same) (plan_ok τ ρ carried H i x text v.0 u).sane)
     (λ (k : OtherUp p.reply reply H ⊎ (Fails p reply ⊎ FailsToRead x reply (day_in H))). ⊎_elim
-    (other-sane p.reply reply H)
-    (λ (l : Fails p reply ⊎ FailsToRead x reply (day_in H)). ⊎_elim (fails-sane p reply) (unread-sane x reply (day_in H)) l)
+    (other_sane p.reply reply H)
+    (λ (l : Fails p reply ⊎ FailsToRead x reply (day_in H)). ⊎_elim (fails_sane p reply) (unread_sane x reply (day_in H)) l)
     k)
     v.1
 
 addressed : (ρ : Rules) (H : Ledger) → Inv ρ H → (bytes : List ℕ) (x : Message) → GenuineAs bytes x H (counted H) → IsAddressed x
-addressed ρ H i bytes (m.Request q) g = (note-reads ρ q.device q.number bytes (counted H) i.good g).range.0
-addressed ρ H i bytes (m.Reply p) g = (note-reads ρ p.device p.number g.note (counted H) i.good (ruling-asked ρ p.device p.number (p.verdict, g.note) (counted H) i.good g.ruled_as)).range.0
-addressed ρ H i bytes (m.Done q) g = let note = applied-asked ρ q.device q.number g.0 (counted H) i.good g.1 in (note-reads ρ q.device q.number note.0 (counted H) i.good note.1).range.0
+addressed ρ H i bytes (m.Request q) g = (note_reads ρ q.device q.number bytes (counted H) i.good g).range.0
+addressed ρ H i bytes (m.Reply p) g = (note_reads ρ p.device p.number g.note (counted H) i.good (ruling_asked ρ p.device p.number (p.verdict, g.note) (counted H) i.good g.ruled_as)).range.0
+addressed ρ H i bytes (m.Done q) g = let note = applied_asked ρ q.device q.number g.0 (counted H) i.good g.1 in (note_reads ρ q.device q.number note.0 (counted H) i.good note.1).range.0
 addressed ρ H i bytes (m.Debit q) g = g.0
 addressed ρ H i bytes (m.Release x) g = tt
 
-pub sent-read : (ρ : Rules) (H : Ledger) → Inv ρ H → SentAreRead H
-sent-read ρ H i bytes s = let g = i.sents bytes s in (g.what, g.reads, addressed ρ H i bytes g.what g.vouched)
+pub sent_read : (ρ : Rules) (H : Ledger) → Inv ρ H → SentAreRead H
+sent_read ρ H i bytes s = let g = i.sents bytes s in (g.what, g.reads, addressed ρ H i bytes g.what g.vouched)
 
-pub replies-ruled : (ρ : Rules) (H : Ledger) → Inv ρ H → RepliesAreRuled H
-replies-ruled ρ H i bytes p s reads = (genuine-at bytes (m.Reply p) H (counted H) (i.sents bytes s) reads).whole
+pub replies_ruled : (ρ : Rules) (H : Ledger) → Inv ρ H → RepliesAreRuled H
+replies_ruled ρ H i bytes p s reads = (genuine_at bytes (m.Reply p) H (counted H) (i.sents bytes s) reads).whole

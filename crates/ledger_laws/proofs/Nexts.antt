@@ -15,24 +15,24 @@ use Rattle.ledger_moves.specs.Histories.{Unforged, History}
 use Rattle.law_orders.specs.Nexts.{AreOrdered, IsNext, IsOpen}
 use Rattle.law_good.proofs.Good.{Good}
 use Rattle.law_good.proofs.Grown.{Inv}
-use Rattle.ledger_laws.proofs.Histories.{histories, plan-ok, allows-same, carried-by}
-use Rattle.law_orders.proofs.Orders.{device-order, device-record, centre-order, host-order, host-turn, verifier-order}
+use Rattle.ledger_laws.proofs.Histories.{histories, plan_ok, allows_same, carried_by}
+use Rattle.law_orders.proofs.Orders.{device_order, device_record, centre_order, host_order, host_turn, verifier_order}
 use Rattle.law_jobs.proofs.Cells.{roomy}
 
 pub ordered : (ρ : Rules) (C : List Commit) → Good ρ C → AreOrdered C
-ordered ρ C g = record { devices = device-order ρ C g; records = device-record ρ C g; centre = centre-order ρ C g; host = host-order ρ C g; turns = host-turn ρ C g; verifier = verifier-order ρ C g; roomy = roomy ρ C g }
+ordered ρ C g = record { devices = device_order ρ C g; records = device_record ρ C g; centre = centre_order ρ C g; host = host_order ρ C g; turns = host_turn ρ C g; verifier = verifier_order ρ C g; roomy = roomy ρ C g }
 
-pub open-is : (ρ : Rules) (H : Ledger) → Inv ρ H → (n : Node) (c : Commit) → torn_of n H ≡ Some c → IsOpen n c H
-open-is ρ H i n c h = let o = i.opens n c h in record { node = o.node; off = o.off; range = o.range; ordered = ordered ρ (c ∷ counted H) (o.fits, i.good, o.range) }
+pub open_is : (ρ : Rules) (H : Ledger) → Inv ρ H → (n : Node) (c : Commit) → torn_of n H ≡ Some c → IsOpen n c H
+open_is ρ H i n c h = let o = i.opens n c h in record { node = o.node; off = o.off; range = o.range; ordered = ordered ρ (c ∷ counted H) (o.fits, i.good, o.range) }
 
-pub next-is : (τ : Tariff) (ρ : Rules) (ρs : List Rules) (H : Ledger) → Editions (ρ ∷ ρs) → History τ (ρ ∷ ρs) H → (x : Event) (text : List ℕ) → IsWholeEvent x → Unforged x H → (c : Commit) → (plan τ ρ H x text).commit ≡ Some c → IsNext c H
-next-is τ ρ ρs H E h x text w u c at =
-    let carried = carried-by ρs ρ E.0 in
-    let i = histories τ (ρ ∷ ρs) E H h ρ (carried, allows-same ρ) in
-    let f = (plan-ok τ ρ carried H i x text w u).fit c at in
+pub next_is : (τ : Tariff) (ρ : Rules) (ρs : List Rules) (H : Ledger) → Editions (ρ ∷ ρs) → History τ (ρ ∷ ρs) H → (x : Event) (text : List ℕ) → IsWholeEvent x → Unforged x H → (c : Commit) → (plan τ ρ H x text).commit ≡ Some c → IsNext c H
+next_is τ ρ ρs H E h x text w u c at =
+    let carried = carried_by ρs ρ E.0 in
+    let i = histories τ (ρ ∷ ρs) E H h ρ (carried, allows_same ρ) in
+    let f = (plan_ok τ ρ carried H i x text w u).fit c at in
     record { on = f.on; range = f.range; ordered = ordered ρ (c ∷ counted H) (f.fits, i.good, f.range) }
 
 -- the numbers of each counted commit are in range
-pub in-range : (ρ : Rules) (C : List Commit) → Good ρ C → All InRange C
-in-range ρ [] g = λ k x lt. absurd (omega arith)
-in-range ρ (c ∷ C) g = All-cons InRange c C g.2 (in-range ρ C g.1)
+pub in_range : (ρ : Rules) (C : List Commit) → Good ρ C → All InRange C
+in_range ρ [] g = λ k x lt. absurd (omega arith)
+in_range ρ (c ∷ C) g = All-cons InRange c C g.2 (in_range ρ C g.1)

@@ -17,12 +17,12 @@ use Rattle.line_runs.specs.Runs.{IsBadPlace, DidLast, RanOut, EndsIn, Replayed}
 use Rattle.line_runs.specs.Turns.{AreDone, DidLine, Refused, Wanted, LineEnd, Ended, Goes, Stops, Progress}
 
 -- one more at the end
-flat-push : {X : Type 0} (f : X → List ℕ) (xs : List X) (x : X) → flat_map f (xs ++ x ∷ []) ≡ flat_map f xs ++ f x
-flat-push f xs x = flat_map-append f xs (x ∷ []) ∙ ap (λ t. flat_map f xs ++ t) (append-nil (f x))
+flat_push : {X : Type 0} (f : X → List ℕ) (xs : List X) (x : X) → flat_map f (xs ++ x ∷ []) ≡ flat_map f xs ++ f x
+flat_push f xs x = flat_map-append f xs (x ∷ []) ∙ ap (λ t. flat_map f xs ++ t) (append-nil (f x))
 
-each-append : {X : Type 0} (P : X → Type 0) (a b : List X) → AllByRecursion P a → AllByRecursion P b → AllByRecursion P (a ++ b)
-each-append P [] b p q = q
-each-append P (d ∷ a) b p q = (p.0, each-append P a b p.1 q)
+each_append : {X : Type 0} (P : X → Type 0) (a b : List X) → AllByRecursion P a → AllByRecursion P b → AllByRecursion P (a ++ b)
+each_append P [] b p q = q
+each_append P (d ∷ a) b p q = (p.0, each_append P a b p.1 q)
 
 -- ---- one line
 
@@ -272,11 +272,11 @@ module _ {D : Type 0} (l : Lines D) where
     pub progress_more : (count : ℕ) (old mid new : B) (a b c t u v : Option (List ℕ)) → Progress l Does count old mid a b t u → Goes l Does mid new b c u v → Progress l Does (count + 1) old new a c t v
     progress_more count old mid new a b c t u v p n = record {
       deeds = p.deeds ++ n.deed ∷ [];
-      each = each-append (Reads l) p.deeds (n.deed ∷ []) p.each (n.reads, tt);
-      go_on = each-append l.GoesOn p.deeds (n.deed ∷ []) p.go_on (n.goes_on, tt);
+      each = each_append (Reads l) p.deeds (n.deed ∷ []) p.each (n.reads, tt);
+      go_on = each_append l.GoesOn p.deeds (n.deed ∷ []) p.go_on (n.goes_on, tt);
       number = length-append p.deeds (n.deed ∷ []) ∙ ap (λ x. x + 1) p.number;
-      consumed = subst (Consumes a c) (sym (flat-push (λ d. ended (l.line_in d)) p.deeds n.deed)) (Consumes-trans a b c _ _ p.consumed n.consumed);
-      appended = subst (Appends t v) (sym (flat-push l.text_for p.deeds n.deed)) (Appends-trans t u v _ _ p.appended n.appended);
+      consumed = subst (Consumes a c) (sym (flat_push (λ d. ended (l.line_in d)) p.deeds n.deed)) (Consumes-trans a b c _ _ p.consumed n.consumed);
+      appended = subst (Appends t v) (sym (flat_push l.text_for p.deeds n.deed)) (Appends-trans t u v _ _ p.appended n.appended);
       did = chain.both old mid new p.deeds (n.deed ∷ []) p.did n.did;
     }
 

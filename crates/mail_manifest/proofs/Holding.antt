@@ -11,7 +11,7 @@ use Rattle.bench_base.specs.declared.refusals.MarkFault.{MarkFault}
 use Rattle.bench_base.specs.Ledger.{Ledger, counted}
 use Rattle.bench_base.specs.Rules.{editions}
 use Rattle.bench_base.specs.Scans.{accepted}
-use Rattle.bench_base.proofs.Facts.{ok-same}
+use Rattle.bench_base.proofs.Facts.{ok_same}
 use Rattle.desk_runs.specs.Deeds.{Done, Skipped, Did}
 use Rattle.desk_runs.specs.SideDeeds.{SideDeed, Plain, Own, Broken, steps_in, steps_of}
 use Rattle.indicium.specs.declared.Mark.{Mark}
@@ -83,7 +83,7 @@ module _ (today : Editions editions) (τ : Tariff) (H : Ledger) (history : Histo
   -- the piece is accepted under that number and no other
   of_piece : (d p n : ℕ) (bytes : List ℕ) → IsMail n bytes H → IsOfPiece d p bytes → Contains (counted H) (Accepted d p n) × ((k : ℕ) → Contains (counted H) (Accepted d p k) → k ≡ n)
   of_piece d p n bytes is of =
-      let same : is.mark ≡ of.mark = ap (λ (m : Mark × List ℕ). m.0) (ok-same (sym is.reads ∙ of.reads)) in
+      let same : is.mark ≡ of.mark = ap (λ (m : Mark × List ℕ). m.0) (ok_same (sym is.reads ∙ of.reads)) in
       let device : is.mark.device ≡ d = ap (λ (k : Mark). k.device) same ∙ of.device in
       let piece : is.mark.piece ≡ p = ap (λ (k : Mark). k.piece) same ∙ of.piece in (
         subst (λ (e : ℕ). Contains (counted H) (Accepted e p n)) device (subst (λ (q : ℕ). Contains (counted H) (Accepted is.mark.device q n)) piece is.accepted),

@@ -3,7 +3,7 @@ use Rattle.std.proofs.Common.{◌≡◌, inl, inr, ℕ, ◌+◌, List, [], ◌�
 use Rattle.std.specs.Prelude.{codes, ◌↔◌}
 use Rattle.std.proofs.lemmas.Option.{same_Some}
 use Rattle.bench_base.specs.declared.events.Reply.{Reply}
-use Rattle.bench_base.proofs.Facts.{some-none, unlike}
+use Rattle.bench_base.proofs.Facts.{some_none, unlike}
 use Rattle.desk_runs.specs.Deeds.{Done}
 use Rattle.mail_manifest.specs.Answers.{AreScanned, IsJudged, AreAccepted, IsGood}
 use Rattle.mail_manifest.specs.Causes.{Either, Finds}
@@ -106,7 +106,7 @@ module _ (m : Listing) where
       either_any (length m.marks == m.opening.count)
       (λ complete coded. elim coded [
         | inl right ↦ elim right.1 [
-          | inl read ↦ either_any (postage_in_all m == m.opening.total) (λ total none. absurd (some-none none)) (λ other is. Summed (postage_in_all m) (same_Some cause _ is)) read.1
+          | inl read ↦ either_any (postage_in_all m == m.opening.total) (λ total none. absurd (some_none none)) (λ other is. Summed (postage_in_all m) (same_Some cause _ is)) read.1
           | inr unread ↦ Read unread.0 (same_Some cause _ unread.2)
         ]
         | inr wrong ↦ Coded (same_Some cause _ wrong.1)
@@ -132,12 +132,12 @@ module _ (m : Listing) where
       (λ complete coded. elim coded [
         | inl right ↦ elim right.1 [
           | inl read ↦ either_any (postage_in_all m == m.opening.total)
-              (λ total none. record { complete = eqb-true _ _ complete; coded = right.0; read = read.0; total = eqb-true _ _ total }) (λ other is. absurd (some-none (sym is))) read.1
-          | inr unread ↦ absurd (some-none (sym unread.2))
+              (λ total none. record { complete = eqb-true _ _ complete; coded = right.0; read = read.0; total = eqb-true _ _ total }) (λ other is. absurd (some_none (sym is))) read.1
+          | inr unread ↦ absurd (some_none (sym unread.2))
         ]
-        | inr wrong ↦ absurd (some-none (sym wrong.1))
+        | inr wrong ↦ absurd (some_none (sym wrong.1))
       ])
-      (λ other is. absurd (some-none (sym is))) finds
+      (λ other is. absurd (some_none (sym is))) finds
 
   none_by : (code : List ℕ) (cause : Option Said) → IsSound code → Finds m code cause → cause ≡ None
   none_by code cause sound finds =

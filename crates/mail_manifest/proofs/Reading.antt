@@ -3,7 +3,7 @@ use Rattle.std.proofs.Common.{◌≡◌, ℕ, ◌<◌, ◌^◌, List, [], ◌∷
 use Rattle.std.specs.Prelude.{codes, decimal}
 use Rattle.bench_base.specs.Table.{IsBytes}
 use Rattle.script_words.specs.Words.{words_in, hex_word, given_word}
-use Rattle.script_words.proofs.Splits.{HasFirst, words_in-some}
+use Rattle.script_words.proofs.Splits.{HasFirst, words_in_some}
 use Rattle.script_text.proofs.ReadBack.{number_in, number_again, given_in, given_again, given_is}
 use Rattle.mail_manifest.specs.ManifestLines.{IsInRange, line_words}
 use Rattle.mail_manifest.specs.declared.opening.ManifestLine.{ManifestLine}
@@ -21,7 +21,7 @@ one_mark ws g mark bytes bytes' long is is' =
 
 -- a line has a word
 pub some_word : (line : List ℕ) → words_in line ≡ [] → ⊥
-some_word line none = subst (λ (ws : List (List ℕ)). HasFirst ws) none (words_in-some line)
+some_word line none = subst (λ (ws : List (List ℕ)). HasFirst ws) none (words_in_some line)
 
 -- of more than one word none is but these three
 pub none_long : (word : List ℕ) (rest : List (List ℕ)) → (word ≡ codes "open" → ⊥) → (word ≡ codes "piece" → ⊥) → (word ≡ codes "check" → ⊥) → (rest ≡ [] → ⊥)

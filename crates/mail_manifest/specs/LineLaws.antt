@@ -3,14 +3,14 @@ use Rattle.std.proofs.Common.{◌≡◌, ℕ, List, ◌∷◌, get_or, arith, sy
 use Rattle.std.specs.Prelude.{codes}
 use Rattle.script_words.specs.Words.{joined, words_in}
 use Rattle.script_text.specs.Grammar.{IsSkipped}
-use Rattle.script_words.proofs.Splits.{joined-words_in}
+use Rattle.script_words.proofs.Splits.{joined_words_in}
 use Rattle.desk_runs.specs.Wants.{IsAlone}
 use Rattle.mail_manifest.specs.ManifestLines.{IsManifestLine, line_words}
 use Rattle.mail_manifest.specs.declared.opening.ManifestLine.{ManifestLine}
 
 -- it begins with m
 first_is : (line : List ℕ) (rest : List (List ℕ)) → words_in line ≡ codes "manifest" ∷ rest → (tail : List ℕ) × (line ≡ 109 ∷ tail)
-first_is line rest is = (_, sym (joined-words_in line) ∙ ap (λ (ws : List (List ℕ)). joined ws) is)
+first_is line rest is = (_, sym (joined_words_in line) ∙ ap (λ (ws : List (List ℕ)). joined ws) is)
 
 first_alone : (tail line : List ℕ) → line ≡ 109 ∷ tail → IsAlone line
 first_alone tail line is = record {

@@ -8,7 +8,7 @@ use Rattle.bench_base.specs.declared.events.Reply.TheVariants as r
 use Rattle.bench_base.specs.Nodes.{same_node}
 use Rattle.bench_base.specs.Plans.{Plan, refuse, told}
 use Rattle.bench_base.specs.Replies.{has_read, is_refusal, MayGet}
-use Rattle.bench_base.proofs.Facts.{same_node-self}
+use Rattle.bench_base.proofs.Facts.{same_node_self}
 use Rattle.nv_model.specs.declared.nv.Nv as nv
 use Rattle.nv_model.specs.declared.fuse.Fuse as fuse
 use Rattle.nv_model.specs.Meters.{Meters}
@@ -181,7 +181,7 @@ module _ (m : Node) where
       (record { cuts = omega arith; faults = omega arith; fuse = λ cut. absurd (own_cut m cut); power = λ e. no e; fault = λ e. no e })
     where
       own_cut : (i : Node) → same_node i i ≡ false → ⊥
-      own_cut i is = absurd (true≢false (sym (same_node-self i) ∙ is))
+      own_cut i is = absurd (true≢false (sym (same_node_self i) ∙ is))
 
 -- == a node in its place ==
 

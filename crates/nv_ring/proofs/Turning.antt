@@ -56,8 +56,8 @@ fills_turn start (suc n) i lt lt' = elim (cases_eq i (slot_after start (n + 1)))
     more = omega arith
 
 -- a slot's share of n commits
-pub fills_of-le : (start n i : ℕ) → start < 16 → i < 16 → fills_of start n i ≤ n / 16 + 1
-fills_of-le start n i lt lt' = turn_bound start n i (fills_of start n i) (fills_turn start n i lt lt')
+pub fills_of_le : (start n i : ℕ) → start < 16 → i < 16 → fills_of start n i ≤ n / 16 + 1
+fills_of_le start n i lt lt' = turn_bound start n i (fills_of start n i) (fills_turn start n i lt lt')
 
 -- the next slot is the one whose turn it is
 next_turn : (start n count place : ℕ) → (0 < count → place ≡ slot_after start n) → (count ≡ 0 → (start ≡ 15) × (n ≡ 0)) → next_of count place 16 ≡ slot_after start (n + 1)

@@ -7,8 +7,8 @@ use Rattle.nv_store.specs.Cells.{Known, Commits, shown}
 use Rattle.nv_store.specs.Store.{one_held, Shows, Between, cell_shown, count_of, after_commit}
 use Rattle.nv_store.specs.Knows.{known_shown, one_shows}
 
-pub count_of-one_held : (count : ℕ) (payload : List ℕ) → count_of (one_held count payload) ≡ count
-count_of-one_held count payload = elim (cases_eq count 0) [
+pub count_of_one_held : (count : ℕ) (payload : List ℕ) → count_of (one_held count payload) ≡ count
+count_of_one_held count payload = elim (cases_eq count 0) [
   | inl blank ↦ grind (arith, nat_tests)
   | inr filled ↦ grind (arith, nat_tests)
 ]
@@ -18,7 +18,7 @@ module _ (size n cell : ℕ) (first : cell < 1) (count place : ℕ) (gates : Lis
   front k lt = let is : k ≡ 0 = omega arith in ap (λ (j : ℕ). j * (n * (5 + size))) is ∙ grind arith
 
   after : after_commit (one_held count payload) new ≡ Some (count + 1, new)
-  after = ap (λ (c : ℕ). Some (c + 1, new)) (count_of-one_held count payload)
+  after = ap (λ (c : ℕ). Some (c + 1, new)) (count_of_one_held count payload)
 
   pub between_same : (c : List ℕ) → c ≡ old → Between size n 1 cell (λ k. one_held count payload) new c
   between_same c is =

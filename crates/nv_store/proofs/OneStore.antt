@@ -8,7 +8,7 @@ use Rattle.std.specs.Prelude.{is_ok}
 use Rattle.std.proofs.Math.Nat.{zero-mul}
 use Rattle.nv_store.specs.Fills.{Fills, FillsCell, fill, told}
 use Rattle.nv_store.specs.Store.{Between, CommitsCell, count_of, one_held, one_view}
-use Rattle.nv_store.proofs.Between.{count_of-one_held}
+use Rattle.nv_store.proofs.Between.{count_of_one_held}
 
 pub one_commits : {N : Type 0} (g : Ghosts N) (L n cell : ℕ) (before now : Parts N) (payload : List ℕ) (result : Result (Unit {0}) StoreFail) (had_failed : Bool) → had_failed ≡ false → (has_failed : Bool) → cell < 1 → has_failed ≡ ends_failed result
     → CommitsParts g L n before now payload result
@@ -35,4 +35,4 @@ one_fills g L n cell before now payload result had_failed has_failed inside did 
     let none : cell ≡ 0 = omega (arith, inside) in
     let front : 0 ≡ cell * (n * (5 + L)) = sym (ap (λ (k : ℕ). k * (n * (5 + L))) none ∙ zero-mul (n * (5 + L))) in
     subst (λ (at : ℕ). Fills (fill L n at (count_of (one_held before.head.count before.kept) + 1, payload)) (told g before.nv) (told g now.nv) (is_ok result)) front
-    (subst (λ (c : ℕ). Fills (fill L n 0 (c + 1, payload)) (told g before.nv) (told g now.nv) (is_ok result)) (sym (count_of-one_held before.head.count before.kept)) (did.fills tells (λ worn. fresh (inl worn))))
+    (subst (λ (c : ℕ). Fills (fill L n 0 (c + 1, payload)) (told g before.nv) (told g now.nv) (is_ok result)) (sym (count_of_one_held before.head.count before.kept)) (did.fills tells (λ worn. fresh (inl worn))))

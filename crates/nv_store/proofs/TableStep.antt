@@ -12,7 +12,7 @@ use Rattle.nv_store.specs.Store.{Shows, Between, one_held, count_of, after_commi
 use Rattle.nv_store.specs.Knows.{known_shown, some_held}
 use Rattle.nv_store.specs.Tables.{TableKnown, PlacesInside, table_held, row_held}
 use Rattle.nv_store.specs.TableKnows.{item_at, held_at}
-use Rattle.nv_store.proofs.Between.{count_of-one_held}
+use Rattle.nv_store.proofs.Between.{count_of_one_held}
 use Rattle.nv_store.specs.declared.head.Head.{Head}
 
 module _ (size n cell : ℕ) (old c : List ℕ) (others : SameOutside (cell * (n * (5 + size))) (n * (5 + size)) old c) where
@@ -65,7 +65,7 @@ held_other heads payloads cell head payload k differs =
     ∙ ap (λ (o : Option (List ℕ)). row_held (slice_get heads k) o) (get_set_other payloads cell k payload differs)
 
 pub next_held : (head : Head) (payload new : List ℕ) (held : Option Held) → held ≡ one_held head.count payload → Some (head.count + 1, new) ≡ after_commit held new
-next_held head payload new held is = ap (λ (k : ℕ). Some (k + 1, new)) (sym (count_of-one_held head.count payload)) ∙ ap (λ (o : Option Held). after_commit o new) (sym is)
+next_held head payload new held is = ap (λ (k : ℕ). Some (k + 1, new)) (sym (count_of_one_held head.count payload)) ∙ ap (λ (o : Option Held). after_commit o new) (sym is)
 
 module _ (size n cell : ℕ) (heads : List Head) (payloads : List (List ℕ)) (same : length payloads ≡ length heads) (head : Head) (payload : List ℕ) (inside : cell < length heads) (at : slice_get heads cell ≡ Some head) (at' : slice_get payloads cell ≡ Some payload) (old : List ℕ) (known : TableKnown size n (length heads) old heads payloads) where
   -- at every moment
@@ -151,7 +151,7 @@ err_weaker (Ok x) f p = tt
 err_weaker (Err e) f p = f p
 
 pub count_at : (heads : List Head) (payloads : List (List ℕ)) (k : ℕ) (head : Head) (payload : List ℕ) → slice_get heads k ≡ Some head → slice_get payloads k ≡ Some payload → count_of (table_held heads payloads k) ≡ head.count
-count_at heads payloads k head payload at at' = ap count_of (held_at heads payloads k head payload at at') ∙ count_of-one_held head.count payload
+count_at heads payloads k head payload at at' = ap count_of (held_at heads payloads k head payload at at') ∙ count_of_one_held head.count payload
 
 pub held_next : (count count' : ℕ) (p p' : List ℕ) → count' ≡ count + 1 → p' ≡ p → one_held count' p' ≡ Some (count + 1, p)
 held_next count count' p p' e e' = ap (λ (c : ℕ). one_held c p') e ∙ ap (λ (l : List ℕ). one_held (count + 1) l) e' ∙ some_held (count + 1) p (omega arith)

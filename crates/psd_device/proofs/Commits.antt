@@ -2,7 +2,7 @@
 use Rattle.std.proofs.Common.{◌≡◌, ◌⊎◌, inl, inr, ⊎_elim, ℕ, ◌+◌, List, Option, Some, refl, sym, ap, subst, arith, ◌∙◌}
 use Rattle.nv_store.specs.Slot.{Held}
 use Rattle.nv_store.specs.Store.{Between, one_held, after_commit}
-use Rattle.nv_store.proofs.Between.{count_of-one_held}
+use Rattle.nv_store.proofs.Between.{count_of_one_held}
 use Rattle.psd_state.specs.State.{State, Holds}
 use Rattle.psd_state.specs.Payload.{ReadsAs, Ranges, bytes_of}
 use Rattle.psd_device.specs.Shown.{IsHeld, IsShown}
@@ -19,7 +19,7 @@ module _ (count : ℕ) (payload : List ℕ) (state : Option State) (written : Is
       held n = Some (n + 1, bytes)
 
       after : after_commit (one_held count payload) bytes ≡ Some (count + 1, bytes)
-      after = ap held (count_of-one_held count payload)
+      after = ap held (count_of_one_held count payload)
 
 -- a spelling reads as its record
 pub reads_as_spelled : (s : State) (bytes : List ℕ) → Holds s → Ranges s → bytes ≡ bytes_of s → ReadsAs bytes s

@@ -10,7 +10,7 @@ use Rattle.nv_store.specs.declared.head.Head.{Head}
 use Rattle.nv_store.specs.Store.{one_held, cell_shown, Shows}
 use Rattle.nv_store.specs.Knows.{holds_shows, none_held, some_held}
 use Rattle.psd_state.specs.State.{State}
-use Rattle.psd_state.proofs.Parted.{one-reading}
+use Rattle.psd_state.proofs.Parted.{one_reading}
 use Rattle.psd_device.specs.Shown.{IsHeld, IsShown, IsKept, ShowsSeen, OnlyShown}
 use Rattle.psd_device.specs.Sound.{IsCurrent}
 use Rattle.nv_ring.specs.Turns.{slot_after, start_of}
@@ -74,7 +74,7 @@ one_shown a b o p image blank blank' shows shows' = by_held (cell_shown RECORD_B
     by_held (Some h) None p blank blank' held held' = absurd held
     by_held (Some h) (Some s) None blank blank' held held' = absurd held'
     by_held (Some h) (Some s) (Some t) blank blank' held held' =
-        (sym held.0 ∙ held'.0, ap (λ (x : State). Some x) (one-reading h.1 s t held.1 held'.1))
+        (sym held.0 ∙ held'.0, ap (λ (x : State). Some x) (one_reading h.1 s t held.1 held'.1))
 
 module _ {N : Type 0} {g : Ghosts N} (k : DeviceNode N g) where
   -- the only image is what a read gives, and it shows the device's commits and record

@@ -11,7 +11,7 @@ use Rattle.registers.specs.Sums.{Sums}
 use Rattle.nv_store.specs.Slot.{Held}
 use Rattle.psd_state.specs.State.{State, Holds, IsAmount, PendingOk, MarkOk}
 use Rattle.psd_state.specs.Payload.{ReadsAs, Ranges, IsOld, bytes_of, spelled}
-use Rattle.psd_state.proofs.Parted.{spells-old, spells-new, byte-old, byte-new}
+use Rattle.psd_state.proofs.Parted.{spells_old, spells_new, byte_old, byte_new}
 use Rattle.psd_device.specs.Shown.{IsHeld, IsKept}
 
 IsNumber-prop : (s : Size) (n : ℕ) → IsProp (IsNumber s n)
@@ -45,47 +45,47 @@ MarkOk-prop d s (Some k) = hlevel (props, Fit-prop)
 pub IsKept-prop : (s : State) → IsProp (IsKept s)
 IsKept-prop s = hlevel (props, Fit-prop, PendingOk-prop, MarkOk-prop)
 
-pub each_kept-prop : (o : Option State) → IsProp ((s : State) → o ≡ Some s → IsKept s)
-each_kept-prop o = hlevel (props, IsKept-prop)
+pub each_kept_prop : (o : Option State) → IsProp ((s : State) → o ≡ Some s → IsKept s)
+each_kept_prop o = hlevel (props, IsKept-prop)
 
 -- a payload is spelled in one version
 one_version : (payload : List ℕ) (s : State) → Holds s → Ranges s → bytes_of s ≡ payload → IsOld s → spelled 1 s ≡ payload → ⊥
 one_version payload s holds fits new is_old old =
-    let low = byte-old s payload (spells-old s holds fits is_old) old in
-    let high = byte-new s payload (spells-new s holds fits) new in
+    let low = byte_old s payload (spells_old s holds fits is_old) old in
+    let high = byte_new s payload (spells_new s holds fits) new in
     omega arith
 
 IsOld-prop : (s : State) → IsProp (IsOld s)
-IsOld-prop s = hlevel (props, some-prop s.pending, mark-prop s.mark)
+IsOld-prop s = hlevel (props, some_prop s.pending, mark_prop s.mark)
   where
-    some-prop : (o : Option Request) → IsProp (IfSome o (λ q. q.version ≡ 1))
-    some-prop None = hlevel props
-    some-prop (Some q) = hlevel props
+    some_prop : (o : Option Request) → IsProp (IfSome o (λ q. q.version ≡ 1))
+    some_prop None = hlevel props
+    some_prop (Some q) = hlevel props
 
-    mark-prop : (o : Option Mark) → IsProp (IfSome o (λ k. k.version ≡ 1))
-    mark-prop None = hlevel props
-    mark-prop (Some k) = hlevel props
+    mark_prop : (o : Option Mark) → IsProp (IfSome o (λ k. k.version ≡ 1))
+    mark_prop None = hlevel props
+    mark_prop (Some k) = hlevel props
 
-spelled-prop : (payload : List ℕ) (s : State) → Holds s → Ranges s → IsProp ((bytes_of s ≡ payload) ⊎ (IsOld s × (spelled 1 s ≡ payload)))
-spelled-prop payload s holds fits (inl a) (inl b) = ap inl (new-prop a b)
+spelled_prop : (payload : List ℕ) (s : State) → Holds s → Ranges s → IsProp ((bytes_of s ≡ payload) ⊎ (IsOld s × (spelled 1 s ≡ payload)))
+spelled_prop payload s holds fits (inl a) (inl b) = ap inl (new_prop a b)
   where
-    new-prop : IsProp (bytes_of s ≡ payload)
-    new-prop = hlevel props
-spelled-prop payload s holds fits (inl a) (inr b) = absurd (one_version payload s holds fits a b.0 b.1)
-spelled-prop payload s holds fits (inr a) (inl b) = absurd (one_version payload s holds fits b a.0 a.1)
-spelled-prop payload s holds fits (inr a) (inr b) = ap inr (old-prop a b)
+    new_prop : IsProp (bytes_of s ≡ payload)
+    new_prop = hlevel props
+spelled_prop payload s holds fits (inl a) (inr b) = absurd (one_version payload s holds fits a b.0 b.1)
+spelled_prop payload s holds fits (inr a) (inl b) = absurd (one_version payload s holds fits b a.0 a.1)
+spelled_prop payload s holds fits (inr a) (inr b) = ap inr (old_prop a b)
   where
-    old-prop : IsProp (IsOld s × (spelled 1 s ≡ payload))
-    old-prop = hlevel (props, IsOld-prop s)
+    old_prop : IsProp (IsOld s × (spelled 1 s ≡ payload))
+    old_prop = hlevel (props, IsOld-prop s)
 
 ReadsAs-prop : (payload : List ℕ) (s : State) → IsProp (ReadsAs payload s)
-ReadsAs-prop payload s = hlevel (props, Fit-prop, PendingOk-prop, MarkOk-prop, spelled-prop payload s)
+ReadsAs-prop payload s = hlevel (props, Fit-prop, PendingOk-prop, MarkOk-prop, spelled_prop payload s)
 
 pub IsHeld-prop : (count : ℕ) (s : Option State) (o : Option Held) → IsProp (IsHeld count s o)
 IsHeld-prop count None None = hlevel props
-IsHeld-prop count (Some s) None = absurd-prop
+IsHeld-prop count (Some s) None = absurd_prop
   where
-    absurd-prop : IsProp (◌≡◌ {A = Option State} (Some s) None)
-    absurd-prop a b = absurd (cc)
+    absurd_prop : IsProp (◌≡◌ {A = Option State} (Some s) None)
+    absurd_prop a b = absurd (cc)
 IsHeld-prop count None (Some held) = hlevel props
 IsHeld-prop count (Some s) (Some held) = hlevel (props, ReadsAs-prop held.1 s)

@@ -9,7 +9,7 @@ ghost use Rattle.node_seat.specs.Does.{Reads, Commits, Stores, Writes};
 ghost use Rattle.node_seat.specs.Ends.{begins, end_of_commit, leaves_running};
 ghost use Rattle.psd_state.specs.Seen.{counting};
 ghost use Rattle.psd_device.specs.Shown.{IsHeld, IsKept, ShowsSeen, fill_of};
-ghost use Rattle.psd_device.specs.Unique.{each_kept-prop, IsHeld-prop};
+ghost use Rattle.psd_device.specs.Unique.{each_kept_prop, IsHeld-prop};
 
 use bench_base::numbers::DevNo;
 use bench_base::refusals::StoreFail;
@@ -37,7 +37,7 @@ pub struct DeviceNode<N: Nv> {
     ghost inside: { 0 < head.count → head.place < SLOTS },
     ghost wears: { IsWearOf wear head },
     ghost written: { IsHeld head.count state (one_held head.count payload) } by { IsHeld-prop head.count state (one_held head.count payload) },
-    ghost kept: { ForSome state IsKept } by { each_kept-prop state },
+    ghost kept: { ForSome state IsKept } by { each_kept_prop state },
 }
 
 impl<N: Nv> DeviceNode<N> {

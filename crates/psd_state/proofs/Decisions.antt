@@ -7,11 +7,11 @@ use Rattle.bench_base.specs.declared.refusals.DevRefusal.TheVariants as no
 use Rattle.psd_state.specs.State.{State}
 use Rattle.psd_state.specs.Answers.{ask_answer, ask_rows, waiting_kind}
 use Rattle.bench_base.proofs.Rows.{passes}
-use Rattle.psd_state.proofs.Keeping.{unless-passes}
+use Rattle.psd_state.proofs.Keeping.{unless_passes}
 
 -- a request is numbered only below the last number
-pub asks-below : (ρ : Rules) (s : State) (k : Kind) (who a : ℕ) (today : ℤ) (x : State × List ℕ) → ask_answer ρ s k who a today ≡ Ok x → s.number < 4294967295
-asks-below ρ s k who a today x e =
-    let idle = unless-passes (waiting_kind s.pending) no.Busy _ x e in
+pub asks_below : (ρ : Rules) (s : State) (k : Kind) (who a : ℕ) (today : ℤ) (x : State × List ℕ) → ask_answer ρ s k who a today ≡ Ok x → s.number < 4294967295
+asks_below ρ s k who a today x e =
+    let idle = unless_passes (waiting_kind s.pending) no.Busy _ x e in
     let rows = passes (ask_rows ρ s k a today) _ x (refl, (refl, (refl, (refl, (refl, (refl, tt)))))) idle.1 in
     leb-false 4294967295 s.number rows.0.1.1.1.1.1.0

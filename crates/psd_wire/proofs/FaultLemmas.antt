@@ -6,7 +6,7 @@ use Rattle.bench_base.specs.Table.{One, Four, Eight, bytes_in, number}
 use Rattle.bench_base.specs.declared.refusals.Unread.{Unread}
 use Rattle.bench_base.specs.declared.refusals.Unread.TheVariants as unread
 use Rattle.bench_base.specs.Rules.{is_version}
-use Rattle.bench_base.proofs.Facts.{known, known_is, is-some, unlike}
+use Rattle.bench_base.proofs.Facts.{known, known_is, some_by, unlike}
 use Rattle.indicium.specs.Marks.{read_mark}
 use Rattle.psd_wire.specs.declared.message.Message.{Message}
 use Rattle.psd_wire.specs.Grammar.{kind_of, verdict_of, day_of, sum_size, size_of, given, request_at, reply_at, release_at, if_mark, by_tag, read}
@@ -57,7 +57,7 @@ request_fault bytes e framed h =
     missing unread.Kind _ _ (Err e)
     (λ kind r. told bytes unread.Kind e (inl framed, sym (kind_is bytes) ∙ kind) r)
     (λ k kind h. missing unread.Day _ _ (Err e)
-    (λ day r. told bytes unread.Day e (framed, is-some _ k (sym (kind_is bytes) ∙ kind), sym (day_is bytes) ∙ day) r)
+    (λ day r. told bytes unread.Day e (framed, some_by _ k (sym (kind_is bytes) ∙ kind), sym (day_is bytes) ∙ day) r)
     (λ t day r. absurd (cc)) h) h
 
 reply_fault : (bytes : List ℕ) (e : Unread) → IsFramed bytes 2 → reply_at bytes ≡ Err e → HasFault e bytes
@@ -66,7 +66,7 @@ reply_fault bytes e framed h =
     missing unread.Kind _ _ (Err e)
     (λ kind r. told bytes unread.Kind e (inr framed, sym (kind_is bytes) ∙ kind) r)
     (λ k kind h. missing unread.Verdict _ _ (Err e)
-    (λ verdict r. told bytes unread.Verdict e (framed, is-some _ k (sym (kind_is bytes) ∙ kind), sym (verdict_is bytes) ∙ verdict) r)
+    (λ verdict r. told bytes unread.Verdict e (framed, some_by _ k (sym (kind_is bytes) ∙ kind), sym (verdict_is bytes) ∙ verdict) r)
     (λ v verdict r. absurd (cc)) h) h
 
 unmarked : {A F : Type 0} (m : Result A F) (bytes : List ℕ) (e : Unread) → if_mark m bytes ≡ Err e → IsErr m × (unread.Mark ≡ e)
@@ -96,9 +96,9 @@ unknown_is : (v : ℕ) → v ≢ 1 → v ≢ 2 → is_version v ≡ false
 unknown_is v a b = grind arith
 
 -- what is answered holds
-pub fault-found : (bytes : List ℕ) (e : Unread) → read bytes ≡ Err e → HasFault e bytes
+pub fault_found : (bytes : List ℕ) (e : Unread) → read bytes ≡ Err e → HasFault e bytes
 unfolding read
-fault-found bytes e h =
+fault_found bytes e h =
     let v : ℕ = get_or bytes 0 0 in
     let t : ℕ = get_or bytes 1 0 in
     ways (nat_lt (length bytes) 2) _ _ _ (λ few r. told bytes unread.Length e (inl (ltb-true _ _ few)) r)
@@ -114,9 +114,9 @@ fault-found bytes e h =
 
 -- == what holds is answered ==
 
-framed-read : (bytes : List ℕ) (t : ℕ) → IsFramed bytes t → read bytes ≡ by_tag t bytes
+framed_read : (bytes : List ℕ) (t : ℕ) → IsFramed bytes t → read bytes ≡ by_tag t bytes
 unfolding read
-framed-read bytes t f =
+framed_read bytes t f =
     let two : nat_lt (length bytes) 2 ≡ false = grind (arith, f.two) in
     rw (two, known_is (get_or bytes 0 0) f.version, f.tag, f.size, eq-eqb (length bytes) (length bytes) refl) refl
 
@@ -154,19 +154,19 @@ releaseless : (bytes : List ℕ) → IsErr (read_mark (drop 2 bytes)) → releas
 unfolding release_at
 releaseless bytes h = markless (read_mark (drop 2 bytes)) (drop 2 bytes) h
 
-pub fault-read : (bytes : List ℕ) (e : Unread) → HasFault e bytes → read bytes ≡ Err e
+pub fault_read : (bytes : List ℕ) (e : Unread) → HasFault e bytes → read bytes ≡ Err e
 unfolding read
-fault-read bytes unread.Length (inl few) = let is : nat_lt (length bytes) 2 ≡ true = grind (arith, few) in rw is refl
-fault-read bytes unread.Length (inr (t, n, tagged, other)) = other_length bytes t n tagged other
-fault-read bytes unread.Version (two, one, other) =
+fault_read bytes unread.Length (inl few) = let is : nat_lt (length bytes) 2 ≡ true = grind (arith, few) in rw is refl
+fault_read bytes unread.Length (inr (t, n, tagged, other)) = other_length bytes t n tagged other
+fault_read bytes unread.Version (two, one, other) =
     let is : nat_lt (length bytes) 2 ≡ false = grind (arith, two) in rw (is, unknown_is (get_or bytes 0 0) one other) refl
-fault-read bytes unread.Tag (two, one, none) =
+fault_read bytes unread.Tag (two, one, none) =
     let is : nat_lt (length bytes) 2 ≡ false = grind (arith, two) in rw (is, known_is (get_or bytes 0 0) one, none) refl
-fault-read bytes unread.Kind (inl framed, none) = framed-read bytes 1 framed ∙ kindless_request bytes none
-fault-read bytes unread.Kind (inr framed, none) = framed-read bytes 2 framed ∙ kindless_reply bytes none
-fault-read bytes unread.Verdict (framed, kind, none) = framed-read bytes 2 framed ∙ verdictless bytes kind none
-fault-read bytes unread.Day (framed, kind, none) = framed-read bytes 1 framed ∙ dayless bytes kind none
-fault-read bytes unread.Mark (framed, bad) = framed-read bytes 17 framed ∙ releaseless bytes bad
+fault_read bytes unread.Kind (inl framed, none) = framed_read bytes 1 framed ∙ kindless_request bytes none
+fault_read bytes unread.Kind (inr framed, none) = framed_read bytes 2 framed ∙ kindless_reply bytes none
+fault_read bytes unread.Verdict (framed, kind, none) = framed_read bytes 2 framed ∙ verdictless bytes kind none
+fault_read bytes unread.Day (framed, kind, none) = framed_read bytes 1 framed ∙ dayless bytes kind none
+fault_read bytes unread.Mark (framed, bad) = framed_read bytes 17 framed ∙ releaseless bytes bad
 
 pub fault : (bytes : List ℕ) (e : Unread) → (read bytes ≡ Err e) ↔ HasFault e bytes
-fault bytes e = (fault-found bytes e, fault-read bytes e)
+fault bytes e = (fault_found bytes e, fault_read bytes e)

@@ -7,13 +7,13 @@ use Rattle.script_words.specs.Words.{spaced}
 pub record Built (start : List ℕ) (ws : List (List ℕ)) (line : List ℕ) : Type 0 where
   pub is : line ≡ start ++ spaced ws
 
-spaced-append : (ws vs : List (List ℕ)) → spaced (ws ++ vs) ≡ spaced ws ++ spaced vs
-spaced-append [] vs = refl
-spaced-append (w ∷ ws) vs = ap (λ (t : List ℕ). 32 ∷ (w ++ t)) (spaced-append ws vs) ∙ ap (λ (t : List ℕ). 32 ∷ t) (sym (append_assoc w (spaced ws) (spaced vs)))
+spaced_append : (ws vs : List (List ℕ)) → spaced (ws ++ vs) ≡ spaced ws ++ spaced vs
+spaced_append [] vs = refl
+spaced_append (w ∷ ws) vs = ap (λ (t : List ℕ). 32 ∷ (w ++ t)) (spaced_append ws vs) ∙ ap (λ (t : List ℕ). 32 ∷ t) (sym (append_assoc w (spaced ws) (spaced vs)))
 
 pub with_words : (start : List ℕ) (ws : List (List ℕ)) (line new : List ℕ) (vs : List (List ℕ)) → Built start ws line → new ≡ line ++ spaced vs → Built start (ws ++ vs) new
 with_words start ws line new vs h e = record {
-  is = e ∙ ap (λ (t : List ℕ). t ++ spaced vs) h.is ∙ append_assoc start (spaced ws) (spaced vs) ∙ ap (λ (t : List ℕ). start ++ t) (sym (spaced-append ws vs));
+  is = e ∙ ap (λ (t : List ℕ). t ++ spaced vs) h.is ∙ append_assoc start (spaced ws) (spaced vs) ∙ ap (λ (t : List ℕ). start ++ t) (sym (spaced_append ws vs));
 }
 
 pub one_spaced : (w : List ℕ) → 32 ∷ w ≡ spaced (w ∷ [])

@@ -50,34 +50,34 @@ keyword_in w =
     (cond (same w (codes "reconcile")) kw.Reconcile
     kw.End)))))))))))))))))))))))))
 
-keyword_in-word : (k : Keyword) → keyword_in (keyword_word k) ≡ k
-keyword_in-word kw.Day = refl
-keyword_in-word kw.Rates = refl
-keyword_in-word kw.Make = refl
-keyword_in-word kw.On = refl
-keyword_in-word kw.Off = refl
-keyword_in-word kw.Cut = refl
-keyword_in-word kw.Debit = refl
-keyword_in-word kw.Ask = refl
-keyword_in-word kw.Resend = refl
-keyword_in-word kw.Ack = refl
-keyword_in-word kw.Status = refl
-keyword_in-word kw.Register = refl
-keyword_in-word kw.Customer = refl
-keyword_in-word kw.Deposit = refl
-keyword_in-word kw.Suspend = refl
-keyword_in-word kw.Resume = refl
-keyword_in-word kw.Balance = refl
-keyword_in-word kw.Deliver = refl
-keyword_in-word kw.Give = refl
-keyword_in-word kw.Order = refl
-keyword_in-word kw.Send = refl
-keyword_in-word kw.Print = refl
-keyword_in-word kw.Close = refl
-keyword_in-word kw.Trust = refl
-keyword_in-word kw.Scan = refl
-keyword_in-word kw.Reconcile = refl
-keyword_in-word kw.End = refl
+keyword_in_word : (k : Keyword) → keyword_in (keyword_word k) ≡ k
+keyword_in_word kw.Day = refl
+keyword_in_word kw.Rates = refl
+keyword_in_word kw.Make = refl
+keyword_in_word kw.On = refl
+keyword_in_word kw.Off = refl
+keyword_in_word kw.Cut = refl
+keyword_in_word kw.Debit = refl
+keyword_in_word kw.Ask = refl
+keyword_in_word kw.Resend = refl
+keyword_in_word kw.Ack = refl
+keyword_in_word kw.Status = refl
+keyword_in_word kw.Register = refl
+keyword_in_word kw.Customer = refl
+keyword_in_word kw.Deposit = refl
+keyword_in_word kw.Suspend = refl
+keyword_in_word kw.Resume = refl
+keyword_in_word kw.Balance = refl
+keyword_in_word kw.Deliver = refl
+keyword_in_word kw.Give = refl
+keyword_in_word kw.Order = refl
+keyword_in_word kw.Send = refl
+keyword_in_word kw.Print = refl
+keyword_in_word kw.Close = refl
+keyword_in_word kw.Trust = refl
+keyword_in_word kw.Scan = refl
+keyword_in_word kw.Reconcile = refl
+keyword_in_word kw.End = refl
 
 -- the keyword with which an event's line begins
 abbrev pub keyword_of : Event → Keyword
@@ -208,7 +208,7 @@ each P ev.End h = h
 pub no_event : (k : Keyword) (ws : List (List ℕ)) → ForKeyword (λ e. IsWholeEvent e → AreWordsOf e (keyword_word k ∷ ws) → ⊥) k → AreNoWords (keyword_word k ∷ ws)
 no_event k ws h e whole are =
     let word : keyword_word k ≡ keyword_word (keyword_of e) = begins e (keyword_word k ∷ ws) are in
-    let same_key : k ≡ keyword_of e = sym (keyword_in-word k) ∙ ap keyword_in word ∙ keyword_in-word (keyword_of e) in
+    let same_key : k ≡ keyword_of e = sym (keyword_in_word k) ∙ ap keyword_in word ∙ keyword_in_word (keyword_of e) in
     each (λ f. IsWholeEvent f → AreWordsOf f (keyword_word k ∷ ws) → ⊥) e (subst (ForKeyword (λ f. IsWholeEvent f → AreWordsOf f (keyword_word k ∷ ws) → ⊥)) same_key h) whole are
 
 -- no event begins with the word

@@ -15,7 +15,7 @@ use Rattle.script_text.specs.Grammar.{AreWordsOf, words_of, ask_words, flag_word
 use Rattle.script_words.specs.Words.{words_in, joined, device_word, node_word, hex_word, given_word, kind_word}
 use Rattle.script_words.proofs.HexDigits.{AreLower-encode, Printed-are_lower}
 use Rattle.script_words.proofs.Numbers.{Printed-decimal}
-use Rattle.script_words.proofs.Splits.{Printed, ArePrinted, AreSolid-printed, HasFirst, words_in-joined, joined-words_in}
+use Rattle.script_words.proofs.Splits.{Printed, ArePrinted, AreSolid-printed, HasFirst, words_in_joined, joined_words_in}
 
 cell : (n : ℕ) → 32 < 48 + n
 cell n = omega arith
@@ -157,15 +157,15 @@ all_some (ev.ScanHex scan bytes) ws h are = subst AreSome (sym are) (told (ev.Sc
 all_some (ev.Reconcile d) ws h are = subst AreSome (sym are) (told (ev.Reconcile d) h)
 all_some ev.End ws h are = subst AreSome (sym are) (told ev.End h)
 
-words_in-some_joined : (ws : List (List ℕ)) → AreSome ws → words_in (joined ws) ≡ ws
-words_in-some_joined [] h = absurd h.0
-words_in-some_joined (w ∷ ws) h = words_in-joined w ws (AreSolid-printed (w ∷ ws) h.1)
+words_in_some_joined : (ws : List (List ℕ)) → AreSome ws → words_in (joined ws) ≡ ws
+words_in_some_joined [] h = absurd h.0
+words_in_some_joined (w ∷ ws) h = words_in_joined w ws (AreSolid-printed (w ∷ ws) h.1)
 
 -- a line's words are the event's that it spells
 pub words_spelled : (e : Event) (line : List ℕ) → IsWholeEvent e → Spells e line → AreWordsOf e (words_in line)
 words_spelled e line whole s =
-    let is = words_in-some_joined s.0 (all_some e s.0 whole s.1) in
+    let is = words_in_some_joined s.0 (all_some e s.0 whole s.1) in
     subst (AreWordsOf e) (sym (ap words_in s.2 ∙ is)) s.1
 
 pub spelled : (e : Event) (line : List ℕ) → AreWordsOf e (words_in line) → Spells e line
-spelled e line are = (words_in line, are, sym (joined-words_in line))
+spelled e line are = (words_in line, are, sym (joined_words_in line))

@@ -18,7 +18,7 @@ use Rattle.script_text.specs.Reading.{AreNoWords, IsEventOf, IsEventBehind}
 use Rattle.script_words.specs.Words.{words_in, node_word, given_word, byte_word, device_word, kind_word}
 use Rattle.script_text.proofs.ByKeyword.{no_event}
 use Rattle.script_words.proofs.Numbers.{same_number}
-use Rattle.script_words.proofs.Splits.{HasFirst, not_one, words_in-some}
+use Rattle.script_words.proofs.Splits.{HasFirst, not_one, words_in_some}
 
 behind : (v w : List ℕ) (vs ws : List (List ℕ)) → v ∷ vs ≡ w ∷ ws → vs ≡ ws
 behind v w vs ws e = cc
@@ -89,7 +89,7 @@ no_scan ws msg hex = no_event kw.Scan ws (
 
 -- words behind a keyword that stands alone
 pub no_rates : (line : List ℕ) → AreNoWords (codes "rates" ∷ words_in line)
-no_rates line = no_event kw.Rates (words_in line) (λ whole are. subst HasFirst (behind _ _ _ _ are) (words_in-some line))
+no_rates line = no_event kw.Rates (words_in line) (λ whole are. subst HasFirst (behind _ _ _ _ are) (words_in_some line))
 
 pub no_end : (line : List ℕ) → AreNoWords (codes "end" ∷ words_in line)
-no_end line = no_event kw.End (words_in line) (λ whole are. subst HasFirst (behind _ _ _ _ are) (words_in-some line))
+no_end line = no_event kw.End (words_in line) (λ whole are. subst HasFirst (behind _ _ _ _ are) (words_in_some line))

@@ -13,7 +13,7 @@ use Rattle.script_text.specs.Told.{IsFlight, IsWholeReply, told}
 use Rattle.script_words.specs.Words.{words_in}
 use Rattle.script_text.proofs.EventsBack.{node_is}
 use Rattle.script_text.proofs.ReadBack.{same, at, first_byte, number_in, device_in, node_in, hex_in, kind_in, again_in, signed_in, number_again, word_again, small_again, device_again, node_again, hex_again, again_again, signed_again}
-use Rattle.script_text.proofs.ReplyWords.{day_small, word_small, words_in-text_of}
+use Rattle.script_text.proofs.ReplyWords.{day_small, word_small, words_in_text_of}
 use Rattle.script_text.proofs.RefusalsBack.{phase_in, phase_again, dev_in, dev_again, centre_in, centre_again, host_in, host_again, scan_in, scan_again}
 
 abbrev verdict_of : ℕ → Verdict
@@ -180,5 +180,5 @@ reply_again (reply.ScanRefused r) h = ap reply.ScanRefused (scan_again r h)
 -- a text is that of one reply
 pub one_reply_of : (r s : Reply) → IsWholeReply r → IsWholeReply s → text_of r ≡ text_of s → told r ≡ told s
 one_reply_of r s h k e =
-    let words : reply_words r ≡ reply_words s = sym (words_in-text_of r h) ∙ ap words_in e ∙ words_in-text_of s k in
+    let words : reply_words r ≡ reply_words s = sym (words_in_text_of r h) ∙ ap words_in e ∙ words_in_text_of s k in
     sym (reply_again r h) ∙ ap reply_in words ∙ reply_again s k

@@ -37,7 +37,7 @@ use Rattle.script_words.specs.Words.{words_in, joined, spaced, new_word}
 use Rattle.script_text.proofs.EventWords.{dash, literal, is_printed, number, word, class_word, customer, device, node, digits, kind}
 use Rattle.script_words.proofs.Numbers.{Printed-decimal}
 use Rattle.script_text.proofs.ReadBack.{IsSmall}
-use Rattle.script_words.proofs.Splits.{Printed, ArePrinted, AreSolid-printed, words_in-joined}
+use Rattle.script_words.proofs.Splits.{Printed, ArePrinted, AreSolid-printed, words_in_joined}
 
 newness : (b : Bool) → Printed (new_word b)
 newness true = literal (codes "again") refl
@@ -220,11 +220,11 @@ reply_printed (reply.ScanRefused r) h = (literal (codes "refused") refl, (litera
 
 some_joined : (ws : List (List ℕ)) → AreWords ws → words_in (joined ws) ≡ ws
 some_joined [] h = absurd h
-some_joined (w ∷ ws) h = words_in-joined w ws (AreSolid-printed (w ∷ ws) h)
+some_joined (w ∷ ws) h = words_in_joined w ws (AreSolid-printed (w ∷ ws) h)
 
 -- the words of a reply's text
-pub words_in-text_of : (r : Reply) → IsWholeReply r → words_in (text_of r) ≡ reply_words r
-words_in-text_of r h = some_joined (reply_words r) (reply_printed r h)
+pub words_in_text_of : (r : Reply) → IsWholeReply r → words_in (text_of r) ≡ reply_words r
+words_in_text_of r h = some_joined (reply_words r) (reply_printed r h)
 
 -- == a text is one line ==
 

@@ -59,70 +59,70 @@ unfolding words_in
 at_byte c line other = cond-false (eqb c 32) ([] ∷ words_in line) (longer c (words_in line)) (ne_eqb c 32 other)
 
 -- a line without a space is its one word
-pub words_in-solid : (line : List ℕ) → Solid line → words_in line ≡ line ∷ []
+pub words_in_solid : (line : List ℕ) → Solid line → words_in line ≡ line ∷ []
 unfolding words_in
-words_in-solid [] h = refl
-words_in-solid (c ∷ line) h = at_byte c line h.0 ∙ ap (longer c) (words_in-solid line h.1)
+words_in_solid [] h = refl
+words_in_solid (c ∷ line) h = at_byte c line h.0 ∙ ap (longer c) (words_in_solid line h.1)
 
 -- the first word of a line
-pub words_in-first : (word line : List ℕ) → Solid word → words_in (word ++ 32 ∷ line) ≡ word ∷ words_in line
-words_in-first [] line h = at_space line
-words_in-first (c ∷ word) line h = at_byte c (word ++ 32 ∷ line) h.0 ∙ ap (longer c) (words_in-first word line h.1)
+pub words_in_first : (word line : List ℕ) → Solid word → words_in (word ++ 32 ∷ line) ≡ word ∷ words_in line
+words_in_first [] line h = at_space line
+words_in_first (c ∷ word) line h = at_byte c (word ++ 32 ∷ line) h.0 ∙ ap (longer c) (words_in_first word line h.1)
 
-pub words_in-split : (bytes : List ℕ) (i : ℕ) → i < length bytes → get_or bytes i 0 ≡ 32 → Solid (take i bytes)
+pub words_in_split : (bytes : List ℕ) (i : ℕ) → i < length bytes → get_or bytes i 0 ≡ 32 → Solid (take i bytes)
     → words_in bytes ≡ take i bytes ∷ words_in (take (length bytes - (i + 1)) (drop (i + 1) bytes))
-words_in-split bytes i inside is solid =
+words_in_split bytes i inside is solid =
     let cut = split_at bytes i 0 inside in
     let cell = ap (λ (c : ℕ). take i bytes ++ c ∷ drop (i + 1) bytes) is in
     let whole : bytes ≡ take i bytes ++ get_or bytes i 0 ∷ drop (i + 1) bytes = rw add-one cut in
     let rest = take_all (length bytes - (i + 1)) (drop (i + 1) bytes) (omega (arith, length-drop (i + 1) bytes)) in
-    ap words_in (whole ∙ cell) ∙ words_in-first (take i bytes) (drop (i + 1) bytes) solid ∙ ap (λ t. take i bytes ∷ words_in t) (sym rest)
+    ap words_in (whole ∙ cell) ∙ words_in_first (take i bytes) (drop (i + 1) bytes) solid ∙ ap (λ t. take i bytes ∷ words_in t) (sym rest)
 
-pub words_in-some : (line : List ℕ) → HasFirst (words_in line)
+pub words_in_some : (line : List ℕ) → HasFirst (words_in line)
 unfolding words_in
-words_in-some [] = tt
-words_in-some (c ∷ line) =
+words_in_some [] = tt
+words_in_some (c ∷ line) =
     elim (eqb_tells c 32) [
       | inl x ↦ subst HasFirst (sym (ap (λ (d : ℕ). words_in (d ∷ line)) x.1 ∙ at_space line)) tt
-      | inr x ↦ subst HasFirst (sym (at_byte c line x.1)) (longer-some c (words_in line) (words_in-some line))
+      | inr x ↦ subst HasFirst (sym (at_byte c line x.1)) (longer_some c (words_in line) (words_in_some line))
     ]
   where
-    longer-some : (c : ℕ) (ws : List (List ℕ)) → HasFirst ws → HasFirst (longer c ws)
-    longer-some c [] h = absurd h
-    longer-some c (w ∷ ws) h = tt
+    longer_some : (c : ℕ) (ws : List (List ℕ)) → HasFirst ws → HasFirst (longer c ws)
+    longer_some c [] h = absurd h
+    longer_some c (w ∷ ws) h = tt
 
-joined-space : (ws : List (List ℕ)) → HasFirst ws → joined ([] ∷ ws) ≡ 32 ∷ joined ws
-joined-space [] h = absurd h
-joined-space (w ∷ ws) h = refl
+joined_space : (ws : List (List ℕ)) → HasFirst ws → joined ([] ∷ ws) ≡ 32 ∷ joined ws
+joined_space [] h = absurd h
+joined_space (w ∷ ws) h = refl
 
-joined-longer : (c : ℕ) (ws : List (List ℕ)) → HasFirst ws → joined (longer c ws) ≡ c ∷ joined ws
-joined-longer c [] h = absurd h
-joined-longer c (w ∷ []) h = refl
-joined-longer c (w ∷ v ∷ ws) h = refl
+joined_longer : (c : ℕ) (ws : List (List ℕ)) → HasFirst ws → joined (longer c ws) ≡ c ∷ joined ws
+joined_longer c [] h = absurd h
+joined_longer c (w ∷ []) h = refl
+joined_longer c (w ∷ v ∷ ws) h = refl
 
 -- the words of a line, joined, are the line
-pub joined-words_in : (line : List ℕ) → joined (words_in line) ≡ line
+pub joined_words_in : (line : List ℕ) → joined (words_in line) ≡ line
 unfolding words_in
-joined-words_in [] = refl
-joined-words_in (c ∷ line) =
+joined_words_in [] = refl
+joined_words_in (c ∷ line) =
     elim (eqb_tells c 32) [
       | inl x ↦
-          ap (λ (d : ℕ). joined (words_in (d ∷ line))) x.1 ∙ ap joined (at_space line) ∙ joined-space (words_in line) (words_in-some line)
-          ∙ ap (λ (l : List ℕ). 32 ∷ l) (joined-words_in line) ∙ ap (λ (d : ℕ). d ∷ line) (sym x.1)
+          ap (λ (d : ℕ). joined (words_in (d ∷ line))) x.1 ∙ ap joined (at_space line) ∙ joined_space (words_in line) (words_in_some line)
+          ∙ ap (λ (l : List ℕ). 32 ∷ l) (joined_words_in line) ∙ ap (λ (d : ℕ). d ∷ line) (sym x.1)
       | inr x ↦
-          ap joined (at_byte c line x.1) ∙ joined-longer c (words_in line) (words_in-some line) ∙ ap (λ (l : List ℕ). c ∷ l) (joined-words_in line)
+          ap joined (at_byte c line x.1) ∙ joined_longer c (words_in line) (words_in_some line) ∙ ap (λ (l : List ℕ). c ∷ l) (joined_words_in line)
     ]
 
 -- a line whose first word begins with c begins with c
 pub begins_with : (c : ℕ) (word : List ℕ) (rest : List (List ℕ)) (line : List ℕ) → words_in line ≡ (c ∷ word) ∷ rest → (tail : List ℕ) × (line ≡ c ∷ tail)
-begins_with c word rest line is = (_, sym (joined-words_in line) ∙ ap (λ (ws : List (List ℕ)). joined ws) is)
+begins_with c word rest line is = (_, sym (joined_words_in line) ∙ ap (λ (ws : List (List ℕ)). joined ws) is)
 
 -- words without spaces, joined, have these words
-pub words_in-joined : (w : List ℕ) (ws : List (List ℕ)) → AreSolid (w ∷ ws) → words_in (joined (w ∷ ws)) ≡ w ∷ ws
-words_in-joined w [] h = ap words_in (append-nil w) ∙ words_in-solid w h.0
-words_in-joined w (v ∷ ws) h = words_in-first w (joined (v ∷ ws)) h.0 ∙ ap (λ (t : List (List ℕ)). w ∷ t) (words_in-joined v ws h.1)
+pub words_in_joined : (w : List ℕ) (ws : List (List ℕ)) → AreSolid (w ∷ ws) → words_in (joined (w ∷ ws)) ≡ w ∷ ws
+words_in_joined w [] h = ap words_in (append-nil w) ∙ words_in_solid w h.0
+words_in_joined w (v ∷ ws) h = words_in_first w (joined (v ∷ ws)) h.0 ∙ ap (λ (t : List (List ℕ)). w ∷ t) (words_in_joined v ws h.1)
 
 -- a line of more words than one
 pub not_one : (bytes word rest : List ℕ) → words_in bytes ≡ word ∷ words_in rest → (text : List ℕ) → words_in bytes ≢ text ∷ []
 not_one bytes word rest h text e =
-    let none : words_in rest ≡ [] = ap (λ (ws : List (List ℕ)). drop 1 ws) (sym h ∙ e) in subst HasFirst none (words_in-some rest)
+    let none : words_in rest ≡ [] = ap (λ (ws : List (List ℕ)). drop 1 ws) (sym h ∙ e) in subst HasFirst none (words_in_some rest)

@@ -12,7 +12,7 @@ use Rattle.bench_base.specs.Ledger.{Ledger, IsReleased, counted}
 use Rattle.bench_base.specs.Replies.{told_by}
 use Rattle.bench_base.specs.Rules.{todays_rules}
 use Rattle.bench_base.specs.Scans.{accepted}
-use Rattle.bench_base.proofs.Facts.{some-none}
+use Rattle.bench_base.proofs.Facts.{some_none}
 use Rattle.indicium.specs.declared.Mark.{Mark}
 use Rattle.indicium.specs.Marks.{read_mark}
 use Rattle.nv_model.specs.declared.nv.Nv as nv
@@ -61,7 +61,7 @@ either_any false f h either = h either
 inside : (rows : Claims) (x : ClaimRow) → IsHere rows x → x.claim - 1 < length rows
 inside rows x is = elim (cases_lt (x.claim - 1) (length rows)) [
   | inl lt ↦ lt
-  | inr le ↦ absurd (some-none (sym is.here ∙ ap (λ o. row_of o) (get_or_past rows (x.claim - 1) None le)))
+  | inr le ↦ absurd (some_none (sym is.here ∙ ap (λ o. row_of o) (get_or_past rows (x.claim - 1) None le)))
 ]
 
 module _ (rows : Claims) (x : ClaimRow) (lt : x.claim - 1 < length rows) where
@@ -87,7 +87,7 @@ module _ (rows : Claims) (x : ClaimRow) (lt : x.claim - 1 < length rows) where
 opened : (rows : Claims) (x : ClaimRow) (H : Ledger) → kept rows x.claim ≡ None → x.credited ≡ false → x.claim - 1 < length rows → AreBacked rows H → AreBacked (put rows (x.claim - 1) x) H
 opened rows x H none is_open lt b = record {
   reserved = weaker (Reserves rows) (Reserves (then rows x lt)) H
-      (λ d p n is gt. let of = is gt in still_claimed rows x lt d p n of (λ same. some-none (sym of.here.here ∙ ap (λ (j : ℕ). claim_at rows j) same ∙ none))) b.reserved;
+      (λ d p n is gt. let of = is gt in still_claimed rows x lt d p n of (λ same. some_none (sym of.here.here ∙ ap (λ (j : ℕ). claim_at rows j) same ∙ none))) b.reserved;
   credited = λ c y k is. elim (cases_eq (c - 1) (x.claim - 1)) [
     | inl same ↦ let row : x ≡ y = same_Some x y (sym (kept_here rows x lt c same) ∙ is.here) in absurd (true≢false (sym is.credited ∙ (ap (λ (z : ClaimRow). z.credited) (sym row) ∙ is_open)))
     | inr differs ↦ still_credited rows x lt H b c y k is differs

@@ -7,7 +7,7 @@ use Rattle.std.proofs.lemmas.List.{drop_at, take_at, take_all, length-drop, appe
 use Rattle.std.proofs.Math.Seq.{drop-length}
 use Rattle.bench_base.specs.Ranges.{IsCustomer}
 use Rattle.bench_base.specs.Table.{values, row, Fit}
-use Rattle.bench_base.proofs.Tables.{values-row, length-row}
+use Rattle.bench_base.proofs.Tables.{values_row, length_row}
 use Rattle.indicium.specs.Marks.{read_mark}
 use Rattle.spoil_claims.specs.Payload.{claim_table, state_byte, head, head_part, claim_from, is_claim_of, claim_in, decoded, IsFit, AreClaim}
 use Rattle.spoil_claims.specs.declared.claim.ClaimRow.{ClaimRow}
@@ -85,8 +85,8 @@ state_one true = inr refl
 pub written : (k : ℕ) (x : ClaimRow) → IsFit k x → Fit claim_table (head x) → (bytes : List ℕ) → bytes ≡ head_part x ++ x.mark → decoded k bytes ≡ Some x
 unfolding decoded head_part
 written k x fits fit bytes is =
-    let numbers : values 0 claim_table bytes ≡ head x = ap (values 0 claim_table) is ∙ values-row claim_table (head x) [] x.mark 0 refl fit in
-    let mark : drop 9 bytes ≡ x.mark = ap (drop 9) is ∙ drop_at (row claim_table (head x)) x.mark 9 (length-row claim_table (head x) fit) in
+    let numbers : values 0 claim_table bytes ≡ head x = ap (values 0 claim_table) is ∙ values_row claim_table (head x) [] x.mark 0 refl fit in
+    let mark : drop 9 bytes ≡ x.mark = ap (drop 9) is ∙ drop_at (row claim_table (head x)) x.mark 9 (length_row claim_table (head x) fit) in
     ap (λ (vs : List ℕ). claim_in k vs (drop 9 bytes)) numbers ∙ ap (λ (m : List ℕ). claim_in k (head x) m) mark
     ∙ some_where k (head x) x.mark (record { number = fits.number; customer = fits.customer; state = state_one x.credited; reads = fits.reads })
     ∙ ap (λ (b : Bool). Some (record x { credited = b })) (state_back x.credited)

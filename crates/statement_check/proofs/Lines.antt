@@ -7,7 +7,7 @@ use Rattle.std.proofs.lemmas.Fmt.{digits_value-decimal}
 use Rattle.psd_audit.specs.Dates.{read_on}
 use Rattle.line_runs.specs.Lines.{Without, IsOneLine}
 use Rattle.script_words.specs.Words.{words_in, joined, spaced, device_word}
-use Rattle.script_words.proofs.Splits.{ArePrinted, AreSolid-printed, Printed, joined-words_in, words_in-joined}
+use Rattle.script_words.proofs.Splits.{ArePrinted, AreSolid-printed, Printed, joined_words_in, words_in_joined}
 use Rattle.script_words.proofs.Numbers.{own, Printed-decimal}
 use Rattle.statement_check.proofs.Numbers.{short_digits}
 use Rattle.statement_check.specs.Lines.{IsMills, IsCauseInRange, IsInRange, cause_words, line_words, line_text, IsLineOf}
@@ -49,7 +49,7 @@ words_again line range = again (line_words line) (line_some line) (line_printed 
   where
     again : (ws : List (List ℕ)) → 0 < length ws → ArePrinted ws → words_in (joined ws) ≡ ws
     again [] some printed = absurd (omega (arith, some))
-    again (w ∷ ws) some printed = words_in-joined w ws (AreSolid-printed (w ∷ ws) printed)
+    again (w ∷ ws) some printed = words_in_joined w ws (AreSolid-printed (w ∷ ws) printed)
 
     line_some : (line : StatementLine) → 0 < length (line_words line)
     line_some (Opening c b) = omega arith
@@ -67,7 +67,7 @@ words_again line range = again (line_words line) (line_some line) (line_printed 
 pub line_found : (r : Option StatementLine) (bytes word : List ℕ) (rest : List (List ℕ)) → words_in bytes ≡ word ∷ rest
     → IfSome r (λ line. IsInRange line × (line_words line ≡ word ∷ rest)) → IfSome r (λ line. IsLineOf line bytes)
 line_found None bytes word rest split h = tt
-line_found (Some line) bytes word rest split h = record { ranges = h.0; text = sym (joined-words_in bytes) ∙ ap joined (split ∙ sym h.1) }
+line_found (Some line) bytes word rest split h = record { ranges = h.0; text = sym (joined_words_in bytes) ∙ ap joined (split ∙ sym h.1) }
 
 pub line_none : (r : Option StatementLine) (bytes word : List ℕ) (rest : List (List ℕ)) → words_in bytes ≡ word ∷ rest
     → IfNone r ((line : StatementLine) → IsInRange line → line_words line ≢ word ∷ rest) → IfNone r ((line : StatementLine) → IsLineOf line bytes → ⊥)

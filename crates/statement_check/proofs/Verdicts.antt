@@ -3,7 +3,7 @@ use Rattle.std.proofs.Common.{◌≡◌, ◌≢◌, ℕ, ℤ, pos, ◌+◌, ◌<
 use Rattle.std.proofs.lemmas.Bool.Decides.{eqb_tells}
 use Rattle.line_runs.specs.Ends.{lines_of}
 use Rattle.line_runs.specs.Lines.{IsOneLine, ended}
-use Rattle.line_runs.proofs.EndLaws.{lines_of-ended, line_first, lines_of-last}
+use Rattle.line_runs.proofs.EndLaws.{lines_of_ended, line_first, lines_of_last}
 use Rattle.statement_check.specs.Lines.{IsInRange, line_text}
 use Rattle.statement_check.specs.Places.{balance, due, IsRight, AreRight, place_behind, place_after}
 use Rattle.statement_check.specs.Runs.{script_of, TakesLast, TakesUnended, Takes}
@@ -109,11 +109,11 @@ one_verdict v w bytes a b =
 
 -- ---- the lines of the bytes
 
-lines_of-script : (place : Place) (lines : List StatementLine) (more : List ℕ) → AreRight place lines → lines_of (script_of lines ++ more) ≡ map line_text lines ++ lines_of more
-lines_of-script place [] more each = refl
-lines_of-script place (line ∷ lines) more each =
-    ap lines_of (append_assoc (ended (line_text line)) (script_of lines) more) ∙ lines_of-ended (line_text line) (script_of lines ++ more) (line_one line each.0.ranges)
-    ∙ ap (λ (ls : List (List ℕ)). line_text line ∷ ls) (lines_of-script (place_behind line) lines more each.1)
+lines_of_script : (place : Place) (lines : List StatementLine) (more : List ℕ) → AreRight place lines → lines_of (script_of lines ++ more) ≡ map line_text lines ++ lines_of more
+lines_of_script place [] more each = refl
+lines_of_script place (line ∷ lines) more each =
+    ap lines_of (append_assoc (ended (line_text line)) (script_of lines) more) ∙ lines_of_ended (line_text line) (script_of lines ++ more) (line_one line each.0.ranges)
+    ∙ ap (λ (ls : List (List ℕ)). line_text line ∷ ls) (lines_of_script (place_behind line) lines more each.1)
 
 -- where the first line of the bytes ends
 data FirstEnd (bytes : List ℕ) : Type 0 where
@@ -147,7 +147,7 @@ cut_first part left one some = at (first_end left)
         let w = line_first false (part ++ left) (part ++ left) [] (one_append part left one alone) (refl, omega (arith, some, length-append part left), refl) in
         (left, w.0, ap lines_of (sym (append-nil (part ++ left))) ∙ w.1)
     at (FirstEnd.there line more alone is) =
-        (line, lines_of more, ap (λ (l : List ℕ). lines_of (part ++ l)) is ∙ ap lines_of (end_behind part line more) ∙ lines_of-ended (part ++ line) more (one_append part line one alone))
+        (line, lines_of more, ap (λ (l : List ℕ). lines_of (part ++ l)) is ∙ ap lines_of (end_behind part line more) ∙ lines_of_ended (part ++ line) more (one_append part line one alone))
 
 -- ---- what was taken has the verdict
 
@@ -157,7 +157,7 @@ decided : (v : Verdict) (right : List StatementLine) (bytes : List ℕ) (rest : 
 decided v right bytes rest each are d = record {
   right = right;
   rest = rest;
-  are = lines_of-script First right bytes each ∙ ap (λ (ls : List (List ℕ)). map line_text right ++ ls) are;
+  are = lines_of_script First right bytes each ∙ ap (λ (ls : List (List ℕ)). map line_text right ++ ls) are;
   each = each;
   decides = d;
 }
@@ -192,13 +192,13 @@ module _ (right : List StatementLine) (rest left : List ℕ) (each : AreRight Fi
 
   alone : (line : StatementLine) → IsInRange line → rest ≡ line_text line → left ≡ [] → lines_of (rest ++ left) ≡ line_text line ∷ []
   alone line range text gone =
-      ap (λ (l : List ℕ). lines_of (rest ++ l)) gone ∙ ap lines_of (append-nil rest ∙ text) ∙ lines_of-last (line_text line) (line_one line range) (line_long line range)
+      ap (λ (l : List ℕ). lines_of (rest ++ l)) gone ∙ ap lines_of (append-nil rest ∙ text) ∙ lines_of_last (line_text line) (line_one line range) (line_long line range)
 
   unended_told : (v : Verdict) → TakesUnended v (length right) (place_after First right) rest (left ≡ []) → HasVerdict v (script_of right ++ (rest ++ left))
   unended_told v t = record {
     right = right ++ t.line ∷ [];
     rest = [];
-    are = lines_of-script First right (rest ++ left) each ∙ ap (λ (ls : List (List ℕ)). map line_text right ++ ls) (alone t.line t.right.ranges t.text t.at_end) ∙ pushed right t.line;
+    are = lines_of_script First right (rest ++ left) each ∙ ap (λ (ls : List (List ℕ)). map line_text right ++ ls) (alone t.line t.right.ranges t.text t.at_end) ∙ pushed right t.line;
     each = right_push First right t.line each t.right;
     decides = subst (λ (p : Place). Decides v (length (right ++ t.line ∷ [])) p []) (sym (after_push First right t.line))
         (subst (λ (n : ℕ). Decides v n (place_behind t.line) []) (sym (length-append right (t.line ∷ []))) t.last);

@@ -26,7 +26,7 @@ use Rattle.centre_ledger.specs.Records.{device_row_with}
 use Rattle.centre_ledger.specs.Seen as centre
 use Rattle.centre_ledger.specs.declared.rows.DeviceRow.{DeviceRow}
 use Rattle.verifier.specs.Seen as verifier
-use Rattle.verifier.proofs.After.{key-after}
+use Rattle.verifier.proofs.After.{key_after}
 use Rattle.ledger_terms.specs.Devices.{key_of}
 use Rattle.ledger_terms.specs.Centres.{registered}
 use Rattle.ledger_moves.specs.Devices.{record_with, record_in}
@@ -223,4 +223,4 @@ pub told_mark : (a : Audit) (H : Ledger) (sees : Sees a H) (bytes : List ℕ) (x
 told_mark a H sees bytes x range b is =
     subst (λ (t : Bool). TellsNot t (IsKnownMark bytes x H)) (sym is)
     (mark_tells bytes a.known.released (scan_cells.cells_of a.verifier.record) H (sees.known.released bytes)
-    (λ d. ap (λ (v : View verifier.Seen). verifier.key_at v.state d) sees.run.verifier ∙ key-after (counted H) d range) x)
+    (λ d. ap (λ (v : View verifier.Seen). verifier.key_at v.state d) sees.run.verifier ∙ key_after (counted H) d range) x)

@@ -11,9 +11,9 @@ use Rattle.told_device.specs.Records.{view_of}
 use Rattle.told_bench.specs.Seeing.{Audit, Sees}
 use Rattle.told_bench.specs.Telling.{OfDevice}
 
-pub is_some-map : {X Y : Type 0} (f : X → Y) (o : Option X) → is_some (option_map f o) ≡ is_some o
-is_some-map f None = refl
-is_some-map f (Some x) = refl
+pub is_some_map : {X Y : Type 0} (f : X → Y) (o : Option X) → is_some (option_map f o) ≡ is_some o
+is_some_map f None = refl
+is_some_map f (Some x) = refl
 
 -- what is said of the device in its place holds of the device as the ledger shows it
 pub device_shown : {B : Type 0} (a : Audit) (H : Ledger) → Sees a H → (d : ℕ) (f : View device.Seen → B) (b : B) → OfDevice d a (λ s. b ≡ f (view_of s))

@@ -7,7 +7,7 @@ use Rattle.line_runs.specs.declared.lines.LineRead.{LineRead}
 use Rattle.line_runs.specs.declared.lines.LineRead.TheVariants as read
 use Rattle.line_runs.specs.Ends.{lines_of}
 use Rattle.line_runs.specs.Lines.{IsOneLine, ended, IsLineIn, ReadsLine}
-use Rattle.line_runs.proofs.EndLaws.{lines_of-ended, lines_of-last, long_front}
+use Rattle.line_runs.proofs.EndLaws.{lines_of_ended, lines_of_last, long_front}
 use Rattle.told_runs.specs.Reads.{IsRead, OfBehind, OfTexts}
 
 -- == whatever stands behind ==
@@ -69,14 +69,14 @@ first_line_of left0 left1 line bytes true consumed one short is = record {
   last = refl;
   one = one;
   short = short;
-  first = λ lines. ap (λ (l : List ℕ). lines_of (l ++ lines)) is ∙ lines_of-ended line lines one;
+  first = λ lines. ap (λ (l : List ℕ). lines_of (l ++ lines)) is ∙ lines_of_ended line lines one;
 }
 first_line_of left0 left1 line bytes false consumed one short is = record {
   read = whole bytes consumed is.2;
   last = refl;
   one = one;
   short = short;
-  first = ap lines_of (append-nil bytes ∙ is.0) ∙ lines_of-last line one is.1;
+  first = ap lines_of (append-nil bytes ∙ is.0) ∙ lines_of_last line one is.1;
 }
 
 -- what was taken of a source for a line that was read so

@@ -9,7 +9,7 @@ use Rattle.node_acts.specs.RowLaws.{listed_long, listed_is}
 use Rattle.verifier.specs.declared.index.Entry.{Entry}
 use Rattle.verifier.specs.Index.{IsIndexOf}
 use Rattle.verifier.specs.Records.{seen_after, cell_after, trust_after, block_after, block_at}
-use Rattle.verifier.proofs.Found.{position-none}
+use Rattle.verifier.proofs.Found.{position_none}
 use Rattle.verifier.specs.Rows.{Row}
 use Rattle.verifier.specs.Seen.{Seen, AreSound, IsRowAt, row_in, block_in, holds}
 use Rattle.told_nodes.proofs.Blanks.{none_at, counts_none, few_none}
@@ -38,7 +38,7 @@ long = listed_long VERIFIER_CELLS (λ k. cell_after k [])
 -- == of rows that are all blank ==
 
 no_block : (d b : ℕ) (s : RowList Row) → ((k : ℕ) → row_at s k ≡ None) → position (λ x. holds d b (row_of x)) s ≡ None
-no_block d b s none = position-none (λ x. holds d b (row_of x)) s None (λ k lt. ap (λ (o : Option (ℕ × Row)). holds d b (row_of o)) (none k))
+no_block d b s none = position_none (λ x. holds d b (row_of x)) s None (λ k lt. ap (λ (o : Option (ℕ × Row)). holds d b (row_of o)) (none k))
 
 no_front : (s : RowList Row) → ((k : ℕ) → row_at s k ≡ None) → prefix_len is_some s ≡ 0
 no_front [] none = refl

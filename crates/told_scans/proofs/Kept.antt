@@ -15,7 +15,7 @@ use Rattle.verifier.specs.ActLaws.{IsFit}
 use Rattle.verifier.specs.Rows.{Row}
 use Rattle.verifier.specs.Seen.{Seen, cell_of, row_in, row_with, counting}
 use Rattle.verifier_node.specs.Indexes.{CanIndex, Indexes}
-use Rattle.verifier_node.proofs.Indexing.{can-index, index-after}
+use Rattle.verifier_node.proofs.Indexing.{can_index, index_after}
 use Rattle.told_scans.specs.declared.held.Held.{Held}
 use Rattle.told_scans.specs.Helds.{row_held, seen_cell, seen_by}
 use Rattle.told_scans.specs.Records.{AreIndexed, row_by}
@@ -76,7 +76,7 @@ module _ (cells : List (Option (ℕ × Held))) (cell : ℕ) (x : Change) (is : c
   some_at d fresh by so = ap is_some (at d) ∙ some_seen (get_or cells cell d) (sym by ∙ ap not so)
 
 pub may_index : (s : Seen) (es : List Entry) (total : ℕ) → AreIndexed s es total → (x : Change) → IsFit s x → (fresh : Bool) → (fresh ≡ true → row_at s (cell_of x) ≡ None) → CanIndex fresh es x
-may_index s es total kept x fits fresh blank = can-index s es kept.sound x fits kept.indexed fresh blank
+may_index s es total kept x fits fresh blank = can_index s es kept.sound x fits kept.indexed fresh blank
 
 pub indexed_put : (s : Seen) (old new : List Entry) (total : ℕ) → AreIndexed s old total → (x : Change) → IsFit s x → is_worn s (cell_of x) ≡ false → (fresh : Bool) → (fresh ≡ true → row_at s (cell_of x) ≡ None)
     → (fresh ≡ false → IsSome (row_at s (cell_of x))) → Indexes fresh old new x → AreIndexed (counting.after s x) new (total + 1)
@@ -84,7 +84,7 @@ indexed_put s old new total kept x fits worn fresh blank some made =
     let inside : cell_of x < length s = omega (arith, fits.inside, kept.sound.long) in
     record {
       sound = fits.sound;
-      indexed = index-after s old new kept.sound x fits kept.indexed fresh blank some made;
+      indexed = index_after s old new kept.sound x fits kept.indexed fresh blank some made;
       total_is = ap (λ (n : ℕ). n + 1) kept.total_is ∙ sym (put_counts s (cell_of x) (row_with s x) inside);
       few = few_put s x inside kept.few worn;
     }

@@ -16,13 +16,13 @@ module _ {X : Type 0} (p : X → Bool) (xs : List X) (other : X) where
   at : ℕ
   at = position_or_len p xs
 
-  pub position-is : (k : ℕ) → k < length xs → p (get_or xs k other) ≡ true → ((j : ℕ) → j < k → p (get_or xs j other) ≡ false) → position p xs ≡ Some k
-  position-is k lt passes before =
+  pub position_is : (k : ℕ) → k < length xs → p (get_or xs k other) ≡ true → ((j : ℕ) → j < k → p (get_or xs j other) ≡ false) → position p xs ≡ Some k
+  position_is k lt passes before =
       let first : position_or_len p xs ≡ k = position_or_len_is p xs k other (omega arith) before (λ less. passes) in
       ap (λ t. cond t (Some (position_or_len p xs)) None) (less (position_or_len p xs) (length xs) (omega (arith, first, lt))) ∙ ap (λ n. Some n) first
 
-  pub position-none : ((k : ℕ) → k < length xs → p (get_or xs k other) ≡ false) → position p xs ≡ None
-  position-none none =
+  pub position_none : ((k : ℕ) → k < length xs → p (get_or xs k other) ≡ false) → position p xs ≡ None
+  position_none none =
       let past : position_or_len p xs ≡ length xs = position_or_len_is p xs (length xs) other (omega arith) none (λ lt. absurd (omega arith)) in
       ap (λ t. cond t (Some (position_or_len p xs)) None) (not_under (position_or_len p xs) (length xs) (omega (arith, past)))
 
@@ -43,13 +43,13 @@ module _ {X : Type 0} (p : X → Bool) (xs : List X) (other : X) where
       some h = cc
   none_is n false h = refl
 
-  pub found-at : (k : ℕ) → position p xs ≡ Some k → (k < length xs) × (p (get_or xs k other) ≡ true)
-  found-at k is =
+  pub found_at : (k : ℕ) → position p xs ≡ Some k → (k < length xs) × (p (get_or xs k other) ≡ true)
+  found_at k is =
       let parts = some_is (position_or_len p xs) k (nat_lt (position_or_len p xs) (length xs)) is in
       let inside : position_or_len p xs < length xs = ltb-true (position_or_len p xs) (length xs) parts.0 in
       (omega (arith, inside, parts.1), subst (λ j. p (get_or xs j other) ≡ true) parts.1 (passes_at_first p xs other inside))
 
-  pub found-none : position p xs ≡ None → (k : ℕ) → k < length xs → p (get_or xs k other) ≡ false
-  found-none is k lt =
+  pub found_none : position p xs ≡ None → (k : ℕ) → k < length xs → p (get_or xs k other) ≡ false
+  found_none is k lt =
       let past = ltb-false (position_or_len p xs) (length xs) (none_is (position_or_len p xs) (nat_lt (position_or_len p xs) (length xs)) is) in
       fails_before_first p xs k other (omega (arith, past, lt))

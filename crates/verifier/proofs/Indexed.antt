@@ -21,22 +21,22 @@ not_more d b e lt = elim (cases_Bool (is_of d b e)) [ inl is ↦ absurd (omega (
 
 -- == what is found ==
 
-pub none-in : (es : List Entry) (d b : ℕ) → ((k : ℕ) → k < length es → is_of d b (get_or es k nothing) ≡ false) → cell_in es d b ≡ None
-none-in [] d b none = refl
-none-in (e ∷ es) d b none = rw (none 0 (omega arith)) (none-in es d b (λ k lt. none (suc k) (omega arith)))
+pub none_in : (es : List Entry) (d b : ℕ) → ((k : ℕ) → k < length es → is_of d b (get_or es k nothing) ≡ false) → cell_in es d b ≡ None
+none_in [] d b none = refl
+none_in (e ∷ es) d b none = rw (none 0 (omega arith)) (none_in es d b (λ k lt. none (suc k) (omega arith)))
 
-pub found-in : (es : List Entry) (d b k : ℕ) → k < length es → is_of d b (get_or es k nothing) ≡ true → ((j : ℕ) → j < k → is_of d b (get_or es j nothing) ≡ false)
+pub found_in : (es : List Entry) (d b k : ℕ) → k < length es → is_of d b (get_or es k nothing) ≡ true → ((j : ℕ) → j < k → is_of d b (get_or es j nothing) ≡ false)
     → cell_in es d b ≡ Some (get_or es k nothing).cell
-found-in [] d b k lt is before = absurd (omega arith)
-found-in (e ∷ es) d b zero lt is before = rw is refl
-found-in (e ∷ es) d b (suc k) lt is before = rw (before 0 (omega arith)) (found-in es d b k (omega arith) is (λ j less. before (suc j) (omega arith)))
+found_in [] d b k lt is before = absurd (omega arith)
+found_in (e ∷ es) d b zero lt is before = rw is refl
+found_in (e ∷ es) d b (suc k) lt is before = rw (before 0 (omega arith)) (found_in es d b k (omega arith) is (λ j less. before (suc j) (omega arith)))
 
 -- an entry of a block that is not found is another's
-pub not-found : (es : List Entry) (d b : ℕ) → cell_in es d b ≡ None → (k : ℕ) → k < length es → is_of d b (get_or es k nothing) ≡ false
-not-found [] d b none k lt = absurd (omega arith)
-not-found (e ∷ es) d b none k lt = elim (cases_Bool (is_of d b e)) [
+pub not_found : (es : List Entry) (d b : ℕ) → cell_in es d b ≡ None → (k : ℕ) → k < length es → is_of d b (get_or es k nothing) ≡ false
+not_found [] d b none k lt = absurd (omega arith)
+not_found (e ∷ es) d b none k lt = elim (cases_Bool (is_of d b e)) [
   | inl is ↦ absurd (some_none (sym (ap (λ (t : Bool). if t then Some e.cell else cell_in es d b) is) ∙ none))
-  | inr isnt ↦ by k lt isnt (λ i less. not-found es d b (sym (ap (λ (t : Bool). if t then Some e.cell else cell_in es d b) isnt) ∙ none) i less)
+  | inr isnt ↦ by k lt isnt (λ i less. not_found es d b (sym (ap (λ (t : Bool). if t then Some e.cell else cell_in es d b) isnt) ∙ none) i less)
 ]
   where
     some_none : ◌≡◌ {A = Option ℕ} (Some e.cell) None → ⊥
@@ -57,9 +57,9 @@ pub record IsPut (es new : List Entry) (place : ℕ) (e : Entry) : Type 0 where
   pub above : (k : ℕ) → place ≤ k → k < length es → get_or new (k + 1) nothing ≡ get_or es k nothing
 
 -- an array of which the first entries count, once those behind the place are copied one further and the entry is written
-pub copied-put : (xs ys : List Entry) (len place : ℕ) (e : Entry) → len < length xs → place ≤ len → length ys ≡ length xs → CopiedTo xs ys place (place + 1) (len - place) → SameBelow xs ys (place + 1)
+pub copied_put : (xs ys : List Entry) (len place : ℕ) (e : Entry) → len < length xs → place ≤ len → length ys ≡ length xs → CopiedTo xs ys place (place + 1) (len - place) → SameBelow xs ys (place + 1)
     → IsPut (take len xs) (take (len + 1) (set ys place e)) place e
-copied-put xs ys len place e room inside long copied same = record {
+copied_put xs ys len place e room inside long copied same = record {
   long = omega (arith, length-take len xs, length-take (len + 1) (set ys place e), length-set ys place e);
   inside = omega (arith, length-take len xs);
   below = λ k lt.
@@ -117,8 +117,8 @@ module _ (es new : List Entry) (place : ℕ) (e : Entry) (is : IsPut es new plac
       ]
     ]
 
-    pub put-ordered : AreOrdered new
-    put-ordered = record { rising = rises; words = words }
+    pub put_ordered : AreOrdered new
+    put_ordered = record { rising = rises; words = words }
 
   -- of the first entries of a list: one is the first of the block, or none is the block's
   search : (es : List Entry) (d b : ℕ) → ((k : ℕ) × ((k < length es) × ((is_of d b (get_or es k nothing) ≡ true) × ((j : ℕ) → j < k → is_of d b (get_or es j nothing) ≡ false))))
@@ -143,19 +143,19 @@ module _ (es new : List Entry) (place : ℕ) (e : Entry) (is : IsPut es new plac
       all x es d b isnt none (suc k) lt = none k (omega arith)
 
   -- a block that is not the entry's is found as before
-  other-put : (d b : ℕ) → is_of d b e ≡ false → cell_in new d b ≡ cell_in es d b
-  other-put d b other = elim (search es d b) [
+  other_put : (d b : ℕ) → is_of d b e ≡ false → cell_in new d b ≡ cell_in es d b
+  other_put d b other = elim (search es d b) [
     | inl f ↦ elim (cases_lt f.0 place) [
       | inl lt ↦
-          found-in new d b f.0 (omega (arith, f.1.0, is.long)) (subst (λ (x : Entry). is_of d b x ≡ true) (sym (is.below f.0 lt)) f.1.1.0)
+          found_in new d b f.0 (omega (arith, f.1.0, is.long)) (subst (λ (x : Entry). is_of d b x ≡ true) (sym (is.below f.0 lt)) f.1.1.0)
           (λ j less. subst (λ (x : Entry). is_of d b x ≡ false) (sym (is.below j (omega arith))) (f.1.1.1 j less))
-          ∙ ap (λ (x : Entry). Some x.cell) (is.below f.0 lt) ∙ sym (found-in es d b f.0 f.1.0 f.1.1.0 f.1.1.1)
+          ∙ ap (λ (x : Entry). Some x.cell) (is.below f.0 lt) ∙ sym (found_in es d b f.0 f.1.0 f.1.1.0 f.1.1.1)
       | inr le ↦
-          found-in new d b (f.0 + 1) (omega (arith, f.1.0, is.long)) (subst (λ (x : Entry). is_of d b x ≡ true) (sym (is.above f.0 le f.1.0)) f.1.1.0)
+          found_in new d b (f.0 + 1) (omega (arith, f.1.0, is.long)) (subst (λ (x : Entry). is_of d b x ≡ true) (sym (is.above f.0 le f.1.0)) f.1.1.0)
           (λ j less. not_before j (λ k le' at. f.1.1.1 k (omega arith)) (omega (arith, f.1.0, is.long)))
-          ∙ ap (λ (x : Entry). Some x.cell) (is.above f.0 le f.1.0) ∙ sym (found-in es d b f.0 f.1.0 f.1.1.0 f.1.1.1)
+          ∙ ap (λ (x : Entry). Some x.cell) (is.above f.0 le f.1.0) ∙ sym (found_in es d b f.0 f.1.0 f.1.1.0 f.1.1.1)
     ]
-    | inr none ↦ none-in new d b (λ k lt. not_before k (λ j le at. none j (omega (arith, is.long, is.inside))) lt) ∙ sym (none-in es d b none)
+    | inr none ↦ none_in new d b (λ k lt. not_before k (λ j le at. none j (omega (arith, is.long, is.inside))) lt) ∙ sym (none_in es d b none)
   ]
     where
       -- where those that it may come from are not the block's
@@ -167,23 +167,23 @@ module _ (es new : List Entry) (place : ℕ) (e : Entry) (is : IsPut es new plac
       ]
 
   -- the entry is found, and every other block as before
-  pub put-found : (before : (k : ℕ) → k < place → rank_of (get_or es k nothing) < rank_of e) → (d b : ℕ) → cell_in new d b ≡ with_cell e.device e.block e.cell es d b
-  put-found before d b = elim (cases_Bool (is_of d b e)) [
+  pub put_found : (before : (k : ℕ) → k < place → rank_of (get_or es k nothing) < rank_of e) → (d b : ℕ) → cell_in new d b ≡ with_cell e.device e.block e.cell es d b
+  put_found before d b = elim (cases_Bool (is_of d b e)) [
     | inl own ↦
-        (found-in new d b place (omega (arith, is.inside, is.long)) (subst (λ (x : Entry). is_of d b x ≡ true) (sym is.here) own)
+        (found_in new d b place (omega (arith, is.inside, is.long)) (subst (λ (x : Entry). is_of d b x ≡ true) (sym is.here) own)
         (λ j lt. subst (λ (x : Entry). is_of d b x ≡ false) (sym (is.below j lt)) (not_less d b (get_or es j nothing) (omega (arith, before j lt, ranked d b e own))))
         ∙ ap (λ (x : Entry). Some x.cell) is.here)
         ∙ sym (ap (λ (t : Bool). if t then Some e.cell else cell_in es d b) own)
-    | inr isnt ↦ other-put d b isnt ∙ sym (ap (λ (t : Bool). if t then Some e.cell else cell_in es d b) isnt)
+    | inr isnt ↦ other_put d b isnt ∙ sym (ap (λ (t : Bool). if t then Some e.cell else cell_in es d b) isnt)
   ]
 
 -- == by the place of a block in the order ==
 
 module _ (es : List Entry) (d b place : ℕ) where
   -- the entry in its place is another's
-  pub found-none : AreOrdered es → place < length es → is_of d b (get_or es place nothing) ≡ false → ((k : ℕ) → k < place → rank_of (get_or es k nothing) < rank d b)
+  pub found_none : AreOrdered es → place < length es → is_of d b (get_or es place nothing) ≡ false → ((k : ℕ) → k < place → rank_of (get_or es k nothing) < rank d b)
       → ((k : ℕ) → place ≤ k → k < length es → rank d b ≤ rank_of (get_or es k nothing)) → cell_in es d b ≡ None
-  found-none ordered inside other before behind = none-in es d b (λ k lt. elim (cases_lt k place) [
+  found_none ordered inside other before behind = none_in es d b (λ k lt. elim (cases_lt k place) [
     | inl less ↦ not_less d b (get_or es k nothing) (before k less)
     | inr le ↦ elim (cases_eq k place) [
       | inl is ↦ subst (λ (j : ℕ). is_of d b (get_or es j nothing) ≡ false) (sym is) other
@@ -192,20 +192,20 @@ module _ (es : List Entry) (d b place : ℕ) where
   ])
 
   -- all entries come before it
-  pub none-past : length es ≤ place → ((k : ℕ) → k < place → rank_of (get_or es k nothing) < rank d b) → cell_in es d b ≡ None
-  none-past past before = none-in es d b (λ k lt. not_less d b (get_or es k nothing) (before k (omega arith)))
+  pub none_past : length es ≤ place → ((k : ℕ) → k < place → rank_of (get_or es k nothing) < rank d b) → cell_in es d b ≡ None
+  none_past past before = none_in es d b (λ k lt. not_less d b (get_or es k nothing) (before k (omega arith)))
 
 -- where a block is not among the entries, those behind its place come after it
-pub fresh-behind : (es : List Entry) (place : ℕ) (e : Entry) → AreOrdered es → cell_in es e.device e.block ≡ None → e.block < 2 ^ 32
+pub fresh_behind : (es : List Entry) (place : ℕ) (e : Entry) → AreOrdered es → cell_in es e.device e.block ≡ None → e.block < 2 ^ 32
     → ((k : ℕ) → place ≤ k → k < length es → rank e.device e.block ≤ rank_of (get_or es k nothing)) → (k : ℕ) → place ≤ k → k < length es → rank_of e < rank_of (get_or es k nothing)
-fresh-behind es place e ordered none small behind k le lt = elim (cases_eq (rank_of e) (rank_of (get_or es k nothing))) [
+fresh_behind es place e ordered none small behind k le lt = elim (cases_eq (rank_of e) (rank_of (get_or es k nothing))) [
   | inr differs ↦ omega (arith, behind k le lt, differs)
   | inl same ↦
       let x : Entry = get_or es k nothing in
       let words : x.block < 2 ^ 32 = ordered.words k in
       let device : x.device ≡ e.device = omega (arith, same, words, small) in
       let block : x.block ≡ e.block = omega (arith, same, words, small) in
-      absurd (true≢false (sym (own x device block) ∙ not-found es e.device e.block none k lt))
+      absurd (true≢false (sym (own x device block) ∙ not_found es e.device e.block none k lt))
 ]
   where
     own : (x : Entry) → x.device ≡ e.device → x.block ≡ e.block → is_of e.device e.block x ≡ true

@@ -27,7 +27,7 @@ use Rattle.node_acts.specs.RowList.{row_at, row_of, commits_at, commits_in, list
 use Rattle.node_acts.specs.RowLaws.{put_counts}
 use Rattle.indicium.specs.declared.Mark.{Mark}
 use Rattle.indicium.specs.Marks.{read_mark, mark_values}
-use Rattle.indicium.proofs.Readings.{read_mark-found}
+use Rattle.indicium.proofs.Readings.{read_mark_found}
 use Rattle.psd_wire.specs.Codes.{has_code}
 use Rattle.verifier.specs.declared.acts.Change.TheVariants as change
 use Rattle.verifier.specs.declared.acts.Spot.{Spot}
@@ -39,11 +39,11 @@ use Rattle.verifier.specs.Plans.{spot_after, in_commits}
 use Rattle.verifier.specs.Records.{trust_after, block_after, cell_after, seen_after, IsRecorded}
 use Rattle.verifier.specs.Rows.{TrustRow}
 use Rattle.verifier.specs.Seen.{Seen, row_in, key_at, block_in, cell_of_block, used, spot_by, spot_in, counting, AreSound, IsRowAt}
-use Rattle.verifier.proofs.Basics.{no-pair}
-use Rattle.verifier.proofs.After.{after-long, after-at, trust-cell, block-cell, key-after, trusted-range, found-after, none-after, used-after, spot-after, trusts-more, accepts-known, accepts-new}
-use Rattle.verifier.proofs.Blocks.{place-at, blocks-kept, blocks-more, past-all, untrusted-blank, unused-blank, place-inside}
-use Rattle.verifier.proofs.Cells.{shown-some, shown-none}
-use Rattle.verifier.proofs.Fits.{CanAccept, trust-fits, accept-fits, block-accepts, next-accepts}
+use Rattle.verifier.proofs.Basics.{no_pair}
+use Rattle.verifier.proofs.After.{after_long, after_at, trust_cell, block_cell, key_after, trusted_range, found_after, none_after, used_after, spot_follows, trusts_more, accepts_known, accepts_new}
+use Rattle.verifier.proofs.Blocks.{place_at, blocks_kept, blocks_more, past_all, untrusted_blank, unused_blank, place_inside}
+use Rattle.verifier.proofs.Cells.{shown_some, shown_none}
+use Rattle.verifier.proofs.Fits.{CanAccept, trust_fits, accept_fits, block_accepts, next_accepts}
 
 is_most : (m n : ℕ) → nat_le m n ≡ false → n < m
 is_most m n is = grind (arith, nat_tests)
@@ -58,19 +58,19 @@ by_flag P true first second one two = one
 by_flag P false first second one two = two
 
 -- the piece of a mark that is read has 32 bits
-piece-word : (bytes : List ℕ) (k : Mark × List ℕ) → IsBytes bytes → read_mark bytes ≡ Ok k → k.0.piece < 2 ^ 32
-piece-word bytes k h is =
+piece_word : (bytes : List ℕ) (k : Mark × List ℕ) → IsBytes bytes → read_mark bytes ≡ Ok k → k.0.piece < 2 ^ 32
+piece_word bytes k h is =
     by_flag (λ fields. Fit fields (drop 2 (mark_values k.0)) → k.0.piece < 2 ^ 32) (k.0.version == 1) _ _ (λ fit. fit.1.0) (λ fit. fit.1.0)
-    ((read_mark-found bytes k h is).0.fit.1.1)
+    ((read_mark_found bytes k h is).0.fit.1.1)
 
 -- a mark whose piece is to be accepted was not accepted before, and there is room
-fresh-answer : (n : ℕ) (day today : ℤ) (full : Bool) (a : Option ℕ) → scan_answer n day today full a ≡ Ok false → (a ≡ None) × (full ≡ false)
-fresh-answer n day today full (Some first) is = absurd (by (first == n) is)
+fresh_answer : (n : ℕ) (day today : ℤ) (full : Bool) (a : Option ℕ) → scan_answer n day today full a ≡ Ok false → (a ≡ None) × (full ≡ false)
+fresh_answer n day today full (Some first) is = absurd (by (first == n) is)
   where
     by : (t : Bool) → (if t then Ok true else Err (no.Duplicate first)) ≡ Ok false → ⊥
     by true h = cc
     by false h = cc
-fresh-answer n day today full None is = (refl, by (lt_z today day) (lt_z (day +ℤ pos 30) today) full is)
+fresh_answer n day today full None is = (refl, by (lt_z today day) (lt_z (day +ℤ pos 30) today) full is)
   where
     by : (s t u : Bool) → first_holding ((s, Err (no.Future day)) ∷ ((t, Err (no.TooOld day)) ∷ ((u, Err no.BlocksFull) ∷ []))) (Ok false) ≡ Ok false → u ≡ false
     by true t u h = absurd (cc)
@@ -81,19 +81,19 @@ fresh-answer n day today full None is = (refl, by (lt_z today day) (lt_z (day +�
 -- == the rows stay sound ==
 
 module _ (s : Seen) (sound : AreSound s) where
-  leaves-trust : (d : ℕ) (key : List ℕ) (known : Bool) → IsDevice d → IsKey key → LeavesSound s (trusted_act d key known)
-  leaves-trust d key true device fits = tt
-  leaves-trust d key false device fits = (trust-fits s sound d key device fits, refl)
+  leaves_trust : (d : ℕ) (key : List ℕ) (known : Bool) → IsDevice d → IsKey key → LeavesSound s (trusted_act d key known)
+  leaves_trust d key true device fits = tt
+  leaves_trust d key false device fits = (trust_fits s sound d key device fits, refl)
 
   -- where there is room the cell of the piece can take it
-  can-accept : (d p : ℕ) (o : Option ℕ) → IsSome (key_at s d) → p < 2 ^ 32 → cell_of_block s d (block_of p) ≡ o → nat_le VERIFIER_CELLS (spot_by s p o).cell ≡ false
+  can_accept : (d p : ℕ) (o : Option ℕ) → IsSome (key_at s d) → p < 2 ^ 32 → cell_of_block s d (block_of p) ≡ o → nat_le VERIFIER_CELLS (spot_by s p o).cell ≡ false
       → CanAccept s (spot_by s p o).cell d (block_of p)
-  can-accept d p (Some cell) has small is room = block-accepts s sound d (block_of p) has (omega (arith, small)) cell is
-  can-accept d p None has small is room = next-accepts s sound d (block_of p) has (omega (arith, small)) is (is_most VERIFIER_CELLS (FIRST_BLOCK + used s) room)
+  can_accept d p (Some cell) has small is room = block_accepts s sound d (block_of p) has (omega (arith, small)) cell is
+  can_accept d p None has small is room = next_accepts s sound d (block_of p) has (omega (arith, small)) is (is_most VERIFIER_CELLS (FIRST_BLOCK + used s) room)
 
-  leaves-scan : (n : ℕ) (bytes : List ℕ) (today : ℤ) → IsCount n → IsBytes bytes → (x : Result (Mark × List ℕ) MarkFault) → read_mark bytes ≡ x → LeavesSound s (read_act n bytes today (in_rows s) x)
-  leaves-scan n bytes today count h (Err fault) is = tt
-  leaves-scan n bytes today count h (Ok k) is = marked (key_at s k.0.device) refl
+  leaves_scan : (n : ℕ) (bytes : List ℕ) (today : ℤ) → IsCount n → IsBytes bytes → (x : Result (Mark × List ℕ) MarkFault) → read_mark bytes ≡ x → LeavesSound s (read_act n bytes today (in_rows s) x)
+  leaves_scan n bytes today count h (Err fault) is = tt
+  leaves_scan n bytes today count h (Ok k) is = marked (key_at s k.0.device) refl
     where
       spot : Spot
       spot = spot_in s k.0.device k.0.piece
@@ -103,9 +103,9 @@ module _ (s : Seen) (sound : AreSound s) where
       answered has (Err y) a = tt
       answered has (Ok true) a = tt
       answered has (Ok false) a =
-          let room = (fresh-answer n k.0.day today (nat_le VERIFIER_CELLS (spot_in s k.0.device k.0.piece).cell) (spot_in s k.0.device k.0.piece).accepted a).1 in (
-            accept-fits s sound (spot_in s k.0.device k.0.piece).cell k.0.device (block_of k.0.piece) (k.0.piece % BLOCK_PIECES) n
-                (can-accept k.0.device k.0.piece (cell_of_block s k.0.device (block_of k.0.piece)) has (piece-word bytes k h is) refl room) (place-inside k.0.piece) count.0 count.1,
+          let room = (fresh_answer n k.0.day today (nat_le VERIFIER_CELLS (spot_in s k.0.device k.0.piece).cell) (spot_in s k.0.device k.0.piece).accepted a).1 in (
+            accept_fits s sound (spot_in s k.0.device k.0.piece).cell k.0.device (block_of k.0.piece) (k.0.piece % BLOCK_PIECES) n
+                (can_accept k.0.device k.0.piece (cell_of_block s k.0.device (block_of k.0.piece)) has (piece_word bytes k h is) refl room) (place_inside k.0.piece) count.0 count.1,
             refl,
           )
 
@@ -119,8 +119,8 @@ module _ (s : Seen) (sound : AreSound s) where
 
 pub leaves : ActsLeaveSound
 leaves s sound = record {
-  trusted = λ d key device fits. leaves-trust s sound d key (is_some (key_at s d)) device fits;
-  scanned = λ n bytes today count h. leaves-scan s sound n bytes today count h (read_mark bytes) refl;
+  trusted = λ d key device fits. leaves_trust s sound d key (is_some (key_at s d)) device fits;
+  scanned = λ n bytes today count h. leaves_scan s sound n bytes today count h (read_mark bytes) refl;
 }
 
 -- == the rows of commits ==
@@ -128,27 +128,27 @@ leaves s sound = record {
 -- at the start there are none
 blank : (k : ℕ) → row_at (seen_after []) k ≡ None
 blank k = elim (cases_lt k VERIFIER_CELLS) [
-  | inr past ↦ get_or_past (seen_after []) k None (omega (arith, past, after-long []))
-  | inl inside ↦ after-at [] k inside ∙ elim (cases_lt k FIRST_BLOCK) [
-    | inl lt ↦ trust-cell [] k lt
-    | inr le ↦ ap (λ j. cell_after j []) (back k le) ∙ block-cell [] (k - FIRST_BLOCK)
+  | inr past ↦ get_or_past (seen_after []) k None (omega (arith, past, after_long []))
+  | inl inside ↦ after_at [] k inside ∙ elim (cases_lt k FIRST_BLOCK) [
+    | inl lt ↦ trust_cell [] k lt
+    | inr le ↦ ap (λ j. cell_after j []) (back k le) ∙ block_cell [] (k - FIRST_BLOCK)
   ]
 ]
   where
     back : (k : ℕ) → FIRST_BLOCK ≤ k → k ≡ FIRST_BLOCK + (k - FIRST_BLOCK)
     back k le = omega (arith, le)
 
-blank-row : (k : ℕ) → row_in (seen_after []) k ≡ None
-blank-row k = ap (λ o. row_of o) (blank k)
+blank_row : (k : ℕ) → row_in (seen_after []) k ≡ None
+blank_row k = ap (λ o. row_of o) (blank k)
 
-none-sound : AreSound (seen_after [])
-none-sound = record {
-  long = after-long [];
-  each = λ k. subst (λ o. IfSome o (IsRowAt k)) (sym (blank-row k)) tt;
+none_sound : AreSound (seen_after [])
+none_sound = record {
+  long = after_long [];
+  each = λ k. subst (λ o. IfSome o (IsRowAt k)) (sym (blank_row k)) tt;
   together = record {
-    trusted = λ k d b is. absurd (no-pair d b (sym (ap (λ o. block_in o) (blank-row k)) ∙ is));
+    trusted = λ k d b is. absurd (no_pair d b (sym (ap (λ o. block_in o) (blank_row k)) ∙ is));
     packed = λ k from has. absurd (true≢false (sym has ∙ ap is_some (blank (k + 1))));
-    distinct = λ i j d b is is'. absurd (no-pair d b (sym (ap (λ o. block_in o) (blank-row i)) ∙ is));
+    distinct = λ i j d b is is'. absurd (no_pair d b (sym (ap (λ o. block_in o) (blank_row i)) ∙ is));
   };
 }
 
@@ -161,38 +161,38 @@ record Takes (C : List Commit) (d p n cell : ℕ) : Type 0 where
 
 module _ (C : List Commit) (rec : IsRecorded C) (sound : AreSound (seen_after C)) (d p n : ℕ) (trusted_is : IsSome (trusted d C)) (none : accepted d p C ≡ None) (small : p < 2 ^ 32) (count : IsCount n) where
   keyed : IsSome (key_at (seen_after C) d)
-  keyed = ap is_some (key-after C d rec.range) ∙ trusted_is
+  keyed = ap is_some (key_after C d rec.range) ∙ trusted_is
 
-  takes-known : (i : ℕ) → block_place d (block_of p) (blocks C) ≡ Some i → Takes C d p n (FIRST_BLOCK + i)
-  takes-known i is =
-      let at = place-at (blocks C) d (block_of p) i is in
+  takes_known : (i : ℕ) → block_place d (block_of p) (blocks C) ≡ Some i → Takes C d p n (FIRST_BLOCK + i)
+  takes_known i is =
+      let at = place_at (blocks C) d (block_of p) i is in
       record {
-        fit = accept-fits (seen_after C) sound (FIRST_BLOCK + i) d (block_of p) (p % BLOCK_PIECES) n
-            (block-accepts (seen_after C) sound d (block_of p) keyed (omega (arith, small)) (FIRST_BLOCK + i) (found-after C d (block_of p) i rec.roomy is)) (place-inside p) count.0 count.1;
-        seen = accepts-known C d p n none i rec.roomy is;
-        count = ap (λ o. commits_at o) (after-at C (FIRST_BLOCK + i) (omega (arith, at.0, rec.roomy)) ∙ block-cell C i ∙ ap (option_map (block_after C)) at.1);
-        roomy = subst (λ xs. length xs ≤ 1024) (sym (blocks-kept d p n C i is)) rec.roomy;
+        fit = accept_fits (seen_after C) sound (FIRST_BLOCK + i) d (block_of p) (p % BLOCK_PIECES) n
+            (block_accepts (seen_after C) sound d (block_of p) keyed (omega (arith, small)) (FIRST_BLOCK + i) (found_after C d (block_of p) i rec.roomy is)) (place_inside p) count.0 count.1;
+        seen = accepts_known C d p n none i rec.roomy is;
+        count = ap (λ o. commits_at o) (after_at C (FIRST_BLOCK + i) (omega (arith, at.0, rec.roomy)) ∙ block_cell C i ∙ ap (option_map (block_after C)) at.1);
+        roomy = subst (λ xs. length xs ≤ 1024) (sym (blocks_kept d p n C i is)) rec.roomy;
       }
 
-  takes-new : block_place d (block_of p) (blocks C) ≡ None → FIRST_BLOCK + length (blocks C) < VERIFIER_CELLS → Takes C d p n (FIRST_BLOCK + length (blocks C))
-  takes-new is lt = record {
-    fit = subst (λ m. IsFit (seen_after C) (change.Accept (FIRST_BLOCK + m) d (block_of p) (p % BLOCK_PIECES) n)) (used-after C rec.roomy)
-        (accept-fits (seen_after C) sound (FIRST_BLOCK + used (seen_after C)) d (block_of p) (p % BLOCK_PIECES) n
-        (next-accepts (seen_after C) sound d (block_of p) keyed (omega (arith, small)) (none-after C d (block_of p) is) (omega (arith, lt, used-after C rec.roomy))) (place-inside p) count.0 count.1);
-    seen = accepts-new C d p n none lt is;
-    count = ap (λ o. commits_at o) (after-at C (FIRST_BLOCK + length (blocks C)) lt ∙ block-cell C (length (blocks C)) ∙ ap (option_map (block_after C)) (past-all (blocks C) (length (blocks C)) (omega arith)))
-        ∙ sym (unused-blank d (block_of p) C is);
-    roomy = subst (λ xs. length xs ≤ 1024) (sym (blocks-more d p n C is)) (omega (arith, lt));
+  takes_new : block_place d (block_of p) (blocks C) ≡ None → FIRST_BLOCK + length (blocks C) < VERIFIER_CELLS → Takes C d p n (FIRST_BLOCK + length (blocks C))
+  takes_new is lt = record {
+    fit = subst (λ m. IsFit (seen_after C) (change.Accept (FIRST_BLOCK + m) d (block_of p) (p % BLOCK_PIECES) n)) (used_after C rec.roomy)
+        (accept_fits (seen_after C) sound (FIRST_BLOCK + used (seen_after C)) d (block_of p) (p % BLOCK_PIECES) n
+        (next_accepts (seen_after C) sound d (block_of p) keyed (omega (arith, small)) (none_after C d (block_of p) is) (omega (arith, lt, used_after C rec.roomy))) (place_inside p) count.0 count.1);
+    seen = accepts_new C d p n none lt is;
+    count = ap (λ o. commits_at o) (after_at C (FIRST_BLOCK + length (blocks C)) lt ∙ block_cell C (length (blocks C)) ∙ ap (option_map (block_after C)) (past_all (blocks C) (length (blocks C)) (omega arith)))
+        ∙ sym (unused_blank d (block_of p) C is);
+    roomy = subst (λ xs. length xs ≤ 1024) (sym (blocks_more d p n C is)) (omega (arith, lt));
   }
 
   -- in the cell of its block or the next, where there is room
   takes : (o : Option ℕ) → block_place d (block_of p) (blocks C) ≡ o → (spot_after (blocks C) o (accepted d p C)).cell < VERIFIER_CELLS → Takes C d p n (spot_after (blocks C) o (accepted d p C)).cell
-  takes (Some i) is lt = takes-known i is
-  takes None is lt = takes-new is lt
+  takes (Some i) is lt = takes_known i is
+  takes None is lt = takes_new is lt
 
   has_room : (o : Option ℕ) → block_place d (block_of p) (blocks C) ≡ o → IsRoomy (c.Accepted d p n ∷ C) → (spot_after (blocks C) o (accepted d p C)).cell < VERIFIER_CELLS
-  has_room (Some i) is roomy = omega (arith, (place-at (blocks C) d (block_of p) i is).0, rec.roomy)
-  has_room None is roomy = let long : suc (length (blocks C)) ≤ 1024 = subst (λ xs. length xs ≤ 1024) (blocks-more d p n C is) roomy in omega (arith, long)
+  has_room (Some i) is roomy = omega (arith, (place_at (blocks C) d (block_of p) i is).0, rec.roomy)
+  has_room None is roomy = let long : suc (length (blocks C)) ≤ 1024 = subst (λ xs. length xs ≤ 1024) (blocks_more d p n C is) roomy in omega (arith, long)
 
 -- the commits without the newest
 rest : (x : Commit) (C : List Commit) → IsRecorded (x ∷ C) → IsRoomy C → IsRecorded C
@@ -202,23 +202,23 @@ fewer : (e p n : ℕ) (C : List Commit) → IsRoomy (c.Accepted e p n ∷ C) →
 fewer e p n C roomy = by (block_place e (block_of p) (blocks C)) refl
   where
     by : (o : Option ℕ) → block_place e (block_of p) (blocks C) ≡ o → length (blocks C) ≤ 1024
-    by (Some i) is = subst (λ xs. length xs ≤ 1024) (blocks-kept e p n C i is) roomy
-    by None is = let long : suc (length (blocks C)) ≤ 1024 = subst (λ xs. length xs ≤ 1024) (blocks-more e p n C is) roomy in omega (arith, long)
+    by (Some i) is = subst (λ xs. length xs ≤ 1024) (blocks_kept e p n C i is) roomy
+    by None is = let long : suc (length (blocks C)) ≤ 1024 = subst (λ xs. length xs ≤ 1024) (blocks_more e p n C is) roomy in omega (arith, long)
 
-sound-after : (C : List Commit) → IsRecorded C → AreSound (seen_after C)
-sound-after [] rec = none-sound
-sound-after (c.Trusted d key ∷ C) rec =
+sound_after : (C : List Commit) → IsRecorded C → AreSound (seen_after C)
+sound_after [] rec = none_sound
+sound_after (c.Trusted d key ∷ C) rec =
     let fits = All-head InRange (c.Trusted d key) C rec.range in
-    subst AreSound (trusts-more C d key fits.0 rec.order.0)
-    (trust-fits (seen_after C) (sound-after C (rest (c.Trusted d key) C rec rec.roomy)) d key fits.0 fits.1).sound
-sound-after (c.Accepted d p n ∷ C) rec =
+    subst AreSound (trusts_more C d key fits.0 rec.order.0)
+    (trust_fits (seen_after C) (sound_after C (rest (c.Trusted d key) C rec rec.roomy)) d key fits.0 fits.1).sound
+sound_after (c.Accepted d p n ∷ C) rec =
     let before = rest (c.Accepted d p n) C rec (fewer d p n C rec.roomy) in
     let fits = All-head InRange (c.Accepted d p n) C rec.range in
-    let sound = sound-after C before in
+    let sound = sound_after C before in
     let o = block_place d (block_of p) (blocks C) in
     let made = takes C before sound d p n rec.order.0.0 rec.order.0.1 fits.1 fits.2 o refl (has_room C before sound d p n rec.order.0.0 rec.order.0.1 fits.1 fits.2 o refl rec.roomy) in
     subst AreSound made.seen made.fit.sound
-sound-after (x ∷ C) rec = sound-after C (rest x C rec rec.roomy)
+sound_after (x ∷ C) rec = sound_after C (rest x C rec rec.roomy)
 
 -- the other nodes' commits
 others : (x : Commit) (C : List Commit) → same_node (node_of x) Verifier ≡ false → seen_after (x ∷ C) ≡ seen_after C
@@ -235,21 +235,21 @@ none_sum {R} (suc n) item none =
     sum_by-cons commits_at (item 0) (listed n (λ k. item (suc k))) ∙ ap₂ (λ a b. a + b) (ap (λ (o : Option (ℕ × R)). commits_at o) (none 0 (omega arith))) (none_sum n (λ k. item (suc k)) (λ k lt. none (suc k) (omega arith)))
 
 counted : (C : List Commit) → IsRecorded C → commits_in (seen_after C) ≡ count_of Verifier C
-counted [] rec = none_sum VERIFIER_CELLS (λ k. cell_after k []) (λ k lt. sym (after-at [] k lt) ∙ blank k)
+counted [] rec = none_sum VERIFIER_CELLS (λ k. cell_after k []) (λ k lt. sym (after_at [] k lt) ∙ blank k)
 counted (c.Trusted d key ∷ C) rec =
     let before = rest (c.Trusted d key) C rec rec.roomy in
     let fits = All-head InRange (c.Trusted d key) C rec.range in
-    ap (λ t. commits_in t) (sym (trusts-more C d key fits.0 rec.order.0))
-    ∙ put_counts (seen_after C) (d - 1) _ (omega (arith, fits.0, after-long C)) ∙ ap (λ m. m + 1) (counted C before)
+    ap (λ t. commits_in t) (sym (trusts_more C d key fits.0 rec.order.0))
+    ∙ put_counts (seen_after C) (d - 1) _ (omega (arith, fits.0, after_long C)) ∙ ap (λ m. m + 1) (counted C before)
 counted (c.Accepted d p n ∷ C) rec =
     let before = rest (c.Accepted d p n) C rec (fewer d p n C rec.roomy) in
     let fits = All-head InRange (c.Accepted d p n) C rec.range in
-    let sound = sound-after C before in
+    let sound = sound_after C before in
     let o = block_place d (block_of p) (blocks C) in
     let room = has_room C before sound d p n rec.order.0.0 rec.order.0.1 fits.1 fits.2 o refl rec.roomy in
     let made = takes C before sound d p n rec.order.0.0 rec.order.0.1 fits.1 fits.2 o refl room in
     ap (λ t. commits_in t) (sym made.seen)
-    ∙ put_counts (seen_after C) (spot_after (blocks C) o (accepted d p C)).cell _ (omega (arith, room, after-long C)) ∙ ap (λ m. m + 1) (counted C before)
+    ∙ put_counts (seen_after C) (spot_after (blocks C) o (accepted d p C)).cell _ (omega (arith, room, after_long C)) ∙ ap (λ m. m + 1) (counted C before)
 counted (c.Made d key ∷ C) rec = counted C (rest (c.Made d key) C rec rec.roomy)
 counted (c.Asked d n note ∷ C) rec = counted C (rest (c.Asked d n note) C rec rec.roomy)
 counted (c.Applied d n v ∷ C) rec = counted C (rest (c.Applied d n v) C rec rec.roomy)
@@ -267,30 +267,30 @@ counted (c.Closed j ∷ C) rec = counted C (rest (c.Closed j) C rec rec.roomy)
 
 -- == each act's commit is the next ==
 
-all-cons : (x : Commit) (C : List Commit) → InRange x → All InRange C → All InRange (x ∷ C)
-all-cons x C here rest zero d lt = here
-all-cons x C here rest (suc k) d lt = rest k d (omega arith)
+all_cons : (x : Commit) (C : List Commit) → InRange x → All InRange C → All InRange (x ∷ C)
+all_cons x C here rest zero d lt = here
+all_cons x C here rest (suc k) d lt = rest k d (omega arith)
 
 module _ (C : List Commit) (rec : IsRecorded C) where
   sound : AreSound (seen_after C)
-  sound = sound-after C rec
+  sound = sound_after C rec
 
-  follows-trust : (d : ℕ) (key : List ℕ) → IsDevice d → IsKey key → (known : Bool) → is_some (key_at (seen_after C) d) ≡ known → FollowsCommits C (trusted_act d key known)
-  follows-trust d key device fits true is = tt
-  follows-trust d key device fits false is =
-      let none : trusted d C ≡ None = sym (key-after C d rec.range) ∙ shown-none (key_at (seen_after C) d) is in
+  follows_trust : (d : ℕ) (key : List ℕ) → IsDevice d → IsKey key → (known : Bool) → is_some (key_at (seen_after C) d) ≡ known → FollowsCommits C (trusted_act d key known)
+  follows_trust d key device fits true is = tt
+  follows_trust d key device fits false is =
+      let none : trusted d C ≡ None = sym (key_after C d rec.range) ∙ shown_none (key_at (seen_after C) d) is in
       record {
-        recorded = record { order = (none, rec.order); roomy = rec.roomy; range = all-cons (c.Trusted d key) C (device, fits) rec.range };
-        seen = trusts-more C d key device none;
-        count = ap (λ o. commits_at o) (after-at C (d - 1) (omega (arith, device)) ∙ trust-cell C (d - 1) (omega (arith, device)) ∙ blank_trust d none) ∙ sym (untrusted-blank d C none);
+        recorded = record { order = (none, rec.order); roomy = rec.roomy; range = all_cons (c.Trusted d key) C (device, fits) rec.range };
+        seen = trusts_more C d key device none;
+        count = ap (λ o. commits_at o) (after_at C (d - 1) (omega (arith, device)) ∙ trust_cell C (d - 1) (omega (arith, device)) ∙ blank_trust d none) ∙ sym (untrusted_blank d C none);
       }
     where
       blank_trust : (e : ℕ) → trusted d C ≡ None → trust_after (d - 1 + 1) C ≡ None
       blank_trust e none = ap (λ f. trust_after f C) (omega (arith, device)) ∙ ap (λ o. option_map (λ k. (cells.commits_at (OfTrust d) C, TrustRow d k)) o) none
 
-  follows-scan : (n : ℕ) (bytes : List ℕ) (today : ℤ) → IsCount n → IsBytes bytes → (x : Result (Mark × List ℕ) MarkFault) → read_mark bytes ≡ x → FollowsCommits C (read_act n bytes today (in_rows (seen_after C)) x)
-  follows-scan n bytes today count h (Err fault) is = tt
-  follows-scan n bytes today count h (Ok k) is = marked (key_at (seen_after C) k.0.device) refl
+  follows_scan : (n : ℕ) (bytes : List ℕ) (today : ℤ) → IsCount n → IsBytes bytes → (x : Result (Mark × List ℕ) MarkFault) → read_mark bytes ≡ x → FollowsCommits C (read_act n bytes today (in_rows (seen_after C)) x)
+  follows_scan n bytes today count h (Err fault) is = tt
+  follows_scan n bytes today count h (Ok k) is = marked (key_at (seen_after C) k.0.device) refl
     where
       d : ℕ
       d = k.0.device
@@ -302,55 +302,55 @@ module _ (C : List Commit) (rec : IsRecorded C) where
           → nat_le VERIFIER_CELLS (spot_after (blocks C) o (accepted k.0.device k.0.piece C)).cell ≡ false
           → IsNext C (c.Accepted k.0.device k.0.piece n) (change.Accept (spot_after (blocks C) o (accepted k.0.device k.0.piece C)).cell k.0.device (block_of k.0.piece) (k.0.piece % BLOCK_PIECES) n)
       next has none o place room =
-          let small = piece-word bytes k h is in
+          let small = piece_word bytes k h is in
           let made = takes C rec sound k.0.device k.0.piece n has none small count o place (is_most VERIFIER_CELLS _ room) in
           record {
-            recorded = record { order = ((has, none), rec.order); roomy = made.roomy; range = all-cons (c.Accepted k.0.device k.0.piece n) C (device has, small, count) rec.range };
+            recorded = record { order = ((has, none), rec.order); roomy = made.roomy; range = all_cons (c.Accepted k.0.device k.0.piece n) C (device has, small, count) rec.range };
             seen = made.seen;
             count = made.count;
           }
         where
           device : IsSome (trusted k.0.device C) → IsDevice k.0.device
-          device has = let key = shown-some (trusted k.0.device C) has in (trusted-range k.0.device C key.0 rec.range key.1).0
+          device has = let key = shown_some (trusted k.0.device C) has in (trusted_range k.0.device C key.0 rec.range key.1).0
 
       answered : IsSome (trusted k.0.device C) → (spot : Spot) → spot ≡ spot_after (blocks C) (block_place k.0.device (block_of k.0.piece) (blocks C)) (accepted k.0.device k.0.piece C)
           → (x : Result Bool ScanRefusal) → scan_answer n k.0.day today (nat_le VERIFIER_CELLS spot.cell) spot.accepted ≡ x → FollowsCommits C (answered_act n k.0 spot.cell x)
       answered has spot same (Err y) a = tt
       answered has spot same (Ok true) a = tt
       answered has spot same (Ok false) a =
-          let fresh = fresh-answer n k.0.day today (nat_le VERIFIER_CELLS spot.cell) spot.accepted a in
+          let fresh = fresh_answer n k.0.day today (nat_le VERIFIER_CELLS spot.cell) spot.accepted a in
           let o = block_place k.0.device (block_of k.0.piece) (blocks C) in
           subst (λ (x : Spot). IsNext C (c.Accepted k.0.device k.0.piece n) (change.Accept x.cell k.0.device (block_of k.0.piece) (k.0.piece % BLOCK_PIECES) n)) (sym same)
           (next has (ap (λ (x : Spot). x.accepted) (sym same) ∙ fresh.0) o refl (ap (λ (x : Spot). nat_le VERIFIER_CELLS x.cell) (sym same) ∙ fresh.1))
 
       coded : IsSome (trusted k.0.device C) → (t : Bool) → FollowsCommits C (if t then spot_act n k.0 today (spot_in (seen_after C) k.0.device k.0.piece) else Refuse no.BadCode)
-      coded has true = answered has (spot_in (seen_after C) k.0.device k.0.piece) (spot-after C k.0.device k.0.piece rec) (scan_answer n k.0.day today (nat_le VERIFIER_CELLS (spot_in (seen_after C) k.0.device k.0.piece).cell) (spot_in (seen_after C) k.0.device k.0.piece).accepted) refl
+      coded has true = answered has (spot_in (seen_after C) k.0.device k.0.piece) (spot_follows C k.0.device k.0.piece rec) (scan_answer n k.0.day today (nat_le VERIFIER_CELLS (spot_in (seen_after C) k.0.device k.0.piece).cell) (spot_in (seen_after C) k.0.device k.0.piece).accepted) refl
       coded has false = tt
 
       marked : (o : Option (List ℕ)) → key_at (seen_after C) k.0.device ≡ o → FollowsCommits C (marked_act n bytes k.0 today o (spot_in (seen_after C) k.0.device k.0.piece))
       marked None at = tt
-      marked (Some key) at = coded (ap is_some (sym (key-after C k.0.device rec.range) ∙ at)) (has_code key bytes)
+      marked (Some key) at = coded (ap is_some (sym (key_after C k.0.device rec.range) ∙ at)) (has_code key bytes)
 
 pub follows : ActsFollow
 follows = record {
   none = blank;
-  sound = sound-after;
+  sound = sound_after;
   counted = counted;
   others = others;
   each = λ C rec. record {
-    trusted = λ d key device fits. follows-trust C rec d key device fits (is_some (key_at (seen_after C) d)) refl;
-    scanned = λ n bytes today count h. follows-scan C rec n bytes today count h (read_mark bytes) refl;
+    trusted = λ d key device fits. follows_trust C rec d key device fits (is_some (key_at (seen_after C) d)) refl;
+    scanned = λ n bytes today count h. follows_scan C rec n bytes today count h (read_mark bytes) refl;
   };
 }
 
 -- == what is looked up ==
 
-read-alike : (C : List Commit) → IsRecorded C → (n : ℕ) (bytes : List ℕ) (today : ℤ) (x : Result (Mark × List ℕ) MarkFault) → read_act n bytes today (in_rows (seen_after C)) x ≡ read_act n bytes today (in_commits C) x
-read-alike C rec n bytes today (Err fault) = refl
-read-alike C rec n bytes today (Ok k) = ap₂ (λ o spot. marked_act n bytes k.0 today o spot) (key-after C k.0.device rec.range) (spot-after C k.0.device k.0.piece rec)
+read_alike : (C : List Commit) → IsRecorded C → (n : ℕ) (bytes : List ℕ) (today : ℤ) (x : Result (Mark × List ℕ) MarkFault) → read_act n bytes today (in_rows (seen_after C)) x ≡ read_act n bytes today (in_commits C) x
+read_alike C rec n bytes today (Err fault) = refl
+read_alike C rec n bytes today (Ok k) = ap₂ (λ o spot. marked_act n bytes k.0 today o spot) (key_after C k.0.device rec.range) (spot_follows C k.0.device k.0.piece rec)
 
 pub planned : ActsArePlanned
 planned C rec = record {
-  trusted = λ d key. ap (λ o. trusted_act d key (is_some o)) (key-after C d rec.range);
-  scanned = λ n bytes today. read-alike C rec n bytes today (read_mark bytes);
+  trusted = λ d key. ap (λ o. trusted_act d key (is_some o)) (key_after C d rec.range);
+  scanned = λ n bytes today. read_alike C rec n bytes today (read_mark bytes);
 }

@@ -14,10 +14,10 @@ use Rattle.verifier.specs.declared.index.Entry.{Entry}
 use Rattle.verifier.specs.Payload.{IsPayloadOf, row_bytes}
 use Rattle.verifier.specs.Rows.{Row, TrustRow, BlockRow}
 use Rattle.verifier.specs.Seen.{Seen, AreTogether, IsKnown, cell_of, row_with, counting}
-use Rattle.verifier.proofs.Laid.{payload-laws}
+use Rattle.verifier.proofs.Laid.{payload_laws}
 use Rattle.verifier_node.specs.Payloads.{rows_held, seen_held}
 use Rattle.verifier_node.specs.Boots.{AreJoined}
-use Rattle.verifier_node.specs.Held.{held-sound}
+use Rattle.verifier_node.specs.Held.{held_sound}
 use Rattle.verifier_node.specs.Sound.{HasCell}
 use Rattle.verifier_node.specs.declared.kept.VerifierRows.{VerifierRows}
 
@@ -48,12 +48,12 @@ verifier_table = record {
 
 -- the payload of a cell reads as one row
 reads_one : ReadsOne IsPayloadOf
-reads_one k x y p reads reads' = sym (payload-laws.one_row k x p reads) ∙ payload-laws.one_row k y p reads'
+reads_one k x y p reads reads' = sym (payload_laws.one_row k x p reads) ∙ payload_laws.one_row k y p reads'
 
 -- what is seen of cells that hold sound rows
 sound_found : (m : VerifierRows) (held : ℕ → Option Held) → Found verifier_table m held → IsKnown (seen_held held)
 sound_found m held found = record {
-  sound = held-sound held found.keeps.filled found.agree;
+  sound = held_sound held found.keeps.filled found.agree;
   few = few_found verifier_table m held found;
 }
 

@@ -1,5 +1,5 @@
-use Rattle.centre_ledger.proofs.OneRow.{payload-laws}
+use Rattle.centre_ledger.proofs.OneRow.{payload_laws}
 use Rattle.centre_ledger.proofs.laws.one_row.Goals as goal
 
 pub returns : goal.returns
-returns c = payload-laws
+returns c = payload_laws

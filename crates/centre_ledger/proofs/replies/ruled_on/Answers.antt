@@ -4,7 +4,7 @@ use Rattle.psd_wire.specs.declared.message.Message.TheVariants as m
 use Rattle.psd_wire.specs.Grammar.{IsWhole, spell}
 use Rattle.centre_ledger.specs.Soundness.{IsSoundDevice}
 use Rattle.centre_ledger.specs.Rows.{ruled_row}
-use Rattle.centre_ledger.proofs.Keeping.{names-customer, reply-whole, sums-after, ruled-sound}
+use Rattle.centre_ledger.proofs.Keeping.{names_customer, reply_whole, sums_after, ruled_sound}
 use Rattle.centre_ledger.proofs.replies.ruled_on.Goals as goal
 
 pub write_message_by-requires : goal.write_message_by-requires
@@ -13,10 +13,10 @@ write_message_by-requires c =
     let origin : c.reply_by.result.origin < 4294967296 = search rules in
     let same : c.reply_by.result.origin ≡ c.args.row.now.origin = ap (λ (p : ReplyMsg). p.origin) c.reply_by.ensures in
     subst (λ (p : ReplyMsg). IsWhole (m.Reply p)) (sym c.reply_by.ensures)
-    (reply-whole c.args.row.now c.args.verdict c.args.balance c.args.request.now c.requires.sound (omega arith) c.requires.whole c.requires.verdict)
+    (reply_whole c.args.row.now c.args.verdict c.args.balance c.args.request.now c.requires.sound (omega arith) c.requires.whole c.requires.verdict)
 
 pub enrolment_after-requires : goal.enrolment_after-requires
-enrolment_after-requires c = names-customer c.args.row.now c.args.verdict c.args.balance c.args.request.now c.requires.verdict
+enrolment_after-requires c = names_customer c.args.row.now c.args.verdict c.args.balance c.args.request.now c.requires.verdict
 
 pub returns-clause-sound : goal.returns-clause-sound
 returns-clause-sound c =
@@ -41,14 +41,14 @@ returns-clause-sound c =
       reply = sym reply i;
     } in
     subst IsSoundDevice same
-    (ruled-sound r c.args.verdict c.args.balance q c.args.bytes.now c.requires.sound (omega arith) c.requires.whole c.requires.spelled c.requires.device c.requires.number c.requires.verdict)
+    (ruled_sound r c.args.verdict c.args.balance q c.args.bytes.now c.requires.sound (omega arith) c.requires.whole c.requires.spelled c.requires.device c.requires.number c.requires.verdict)
 
 pub overflow_add-result : goal.overflow_add-result
 overflow_add-result c =
-    let sums = sums-after c.args.row.now c.args.verdict c.args.balance c.args.request.now c.requires.sound c.requires.verdict in
+    let sums = sums_after c.args.row.now c.args.verdict c.args.balance c.args.request.now c.requires.sound c.requires.verdict in
     record { fits = omega (arith, sums.limit, c.adds.ensures.exact) }
 
 pub overflow_add-result-2 : goal.overflow_add-result-2
 overflow_add-result-2 c =
-    let sums = sums-after c.args.row.now c.args.verdict c.args.balance c.args.request.now c.requires.sound c.requires.verdict in
+    let sums = sums_after c.args.row.now c.args.verdict c.args.balance c.args.request.now c.requires.sound c.requires.verdict in
     record { fits = omega (arith, sums.limit, sums.returns_le, c.takes.ensures.exact) }

@@ -1,6 +1,6 @@
 use Rattle.std.proofs.lemmas.List.{get_or-replicate}
 use Rattle.std.proofs.Common.{◌<◌, ◌+◌, ℕ, List, Option, None, length, refl, sym, subst, ◌∙◌, true≢false, arith}
-use Rattle.host_jobs.proofs.Walks.{Walked, walked-blank, walked-row, walked-fits, walked-all}
+use Rattle.host_jobs.proofs.Walks.{Walked, walked_blank, walked_row, walked_fits, walked_all}
 use Rattle.host_jobs.proofs.joined.open_jobs_of.Goals as goal
 use Rattle.host_jobs.proofs.joined.open_jobs_of.Goals.{in-Some+else-not-keep_open, in_default}
 
@@ -19,7 +19,7 @@ returns-then-not-keep_open-clause-joined c =
       λ t. absurd (true≢false (sym t)),
       λ agree.
           sym c.if-not-keep_open.true
-          ∙ c.keep_open.ensures.fits.1 (walked-fits rows c.loop-cell.cell inside c.loop-cell.open_jobs c.loop-cell.invariant c.in-Some.row.now (sym c.in-Some.ensures) c.keep_open.ensures.device c.args.tops.now c.requires.tops agree.0 agree.1),
+          ∙ c.keep_open.ensures.fits.1 (walked_fits rows c.loop-cell.cell inside c.loop-cell.open_jobs c.loop-cell.invariant c.in-Some.row.now (sym c.in-Some.ensures) c.keep_open.ensures.device c.args.tops.now c.requires.tops agree.0 agree.1),
     )
 
 pub loop-cell-preserved : goal.loop-cell-preserved
@@ -29,17 +29,17 @@ loop-cell-preserved c =
     elim c.match-get.branch [
       | in-Some+else-not-keep_open w ↦
           subst (λ (l : List (Option ℕ)). Walked rows (c.loop-cell.cell + 1) l) (sym w.open_jobs-is)
-          (walked-row rows c.loop-cell.cell inside c.loop-cell.open_jobs c.loop-cell.invariant w.in-Some.row.now (sym w.in-Some.ensures) w.keep_open.ensures.device c.args.tops.now c.requires.tops
+          (walked_row rows c.loop-cell.cell inside c.loop-cell.open_jobs c.loop-cell.invariant w.in-Some.row.now (sym w.in-Some.ensures) w.keep_open.ensures.device c.args.tops.now c.requires.tops
           w.keep_open.new.open_jobs w.keep_open.array_long (w.keep_open.ensures.kept w.if-not-keep_open.false) (w.keep_open.ensures.fits.0 w.if-not-keep_open.false))
       | in_default w ↦
           subst (λ (l : List (Option ℕ)). Walked rows (c.loop-cell.cell + 1) l) (sym w.open_jobs-is)
-          (walked-blank rows c.loop-cell.cell inside c.loop-cell.open_jobs c.loop-cell.invariant (sym w.in_default.ensures))
+          (walked_blank rows c.loop-cell.cell inside c.loop-cell.open_jobs c.loop-cell.invariant (sym w.in_default.ensures))
     ]
 
 pub returns-clause-joined : goal.returns-clause-joined
 returns-clause-joined c =
-    let all = walked-all c.args.rows.now c.loop-cell.cell c.loop-cell.open_jobs (omega (arith, c.requires.long, c.loop-cell-test.false)) c.loop-cell.invariant in
+    let all = walked_all c.args.rows.now c.loop-cell.cell c.loop-cell.open_jobs (omega (arith, c.requires.long, c.loop-cell-test.false)) c.loop-cell.invariant in
     (λ t. (all.0, all.1), λ agree. refl)
 
 pub returns-clause-value : goal.returns-clause-value
-returns-clause-value c = (walked-all c.args.rows.now c.loop-cell.cell c.loop-cell.open_jobs (omega (arith, c.requires.long, c.loop-cell-test.false)) c.loop-cell.invariant).2
+returns-clause-value c = (walked_all c.args.rows.now c.loop-cell.cell c.loop-cell.open_jobs (omega (arith, c.requires.long, c.loop-cell-test.false)) c.loop-cell.invariant).2

@@ -3,7 +3,7 @@ use Rattle.std.specs.Prelude.{max}
 use Rattle.std.proofs.lemmas.List.{take_all}
 use Rattle.host_jobs.specs.Rows.{Jobs, row_in, top_at, top_in}
 use Rattle.host_jobs.specs.declared.rows.JobRow.{JobRow}
-use Rattle.host_jobs.proofs.Walks.{greatest-more, tops-are}
+use Rattle.host_jobs.proofs.Walks.{greatest_more, tops_are}
 use Rattle.host_jobs.proofs.joined.tops_of.Goals as goal
 
 pub loop-cell-preserved : goal.loop-cell-preserved
@@ -15,11 +15,11 @@ loop-cell-preserved c =
       tops = λ i lt.
           c.raise.ensures i lt ∙ ap (λ (o : Option JobRow). max (get_or c.loop-cell.tops i 0) (top_at (i + 1) o)) c.get.ensures
           ∙ ap (λ (n : ℕ). max n (top_at (i + 1) (row_in rows c.loop-cell.cell))) (c.loop-cell.invariant.tops i lt)
-          ∙ sym (greatest-more rows c.loop-cell.cell inside (top_at (i + 1)));
+          ∙ sym (greatest_more rows c.loop-cell.cell inside (top_at (i + 1)));
     }
 
 pub returns : goal.returns
 returns c =
     let rows = c.args.rows.now in
-    tops-are rows c.loop-cell.tops c.loop-cell.invariant.long (λ i lt.
+    tops_are rows c.loop-cell.tops c.loop-cell.invariant.long (λ i lt.
     c.loop-cell.invariant.tops i lt ∙ ap (λ (l : Jobs). top_in (i + 1) l) (take_all c.loop-cell.cell rows (omega (arith, c.requires, c.loop-cell-test.false))))

@@ -1,5 +1,5 @@
-use Rattle.host_jobs.proofs.Seeing.{seen-laws}
+use Rattle.host_jobs.proofs.Seeing.{seen_laws}
 use Rattle.host_jobs.proofs.laws.cells_follow_the_commits.Goals as goal
 
 pub returns : goal.returns
-returns c = seen-laws
+returns c = seen_laws

@@ -1,5 +1,5 @@
-use Rattle.host_jobs.proofs.JobBytes.{payload-laws}
+use Rattle.host_jobs.proofs.JobBytes.{payload_laws}
 use Rattle.host_jobs.proofs.laws.one_job.Goals as goal
 
 pub returns : goal.returns
-returns c = payload-laws
+returns c = payload_laws

@@ -30,16 +30,16 @@ returns-clause-only c mark code h = c.fields_and_code.ensures.exact ∙ laws.onl
 
 pub returns-clause-length : goal.returns-clause-length
 returns-clause-length c =
-    at (λ r. IsErrOf r (Length (length c.args.bytes.now)) ↔ (length c.args.bytes.now ≢ 64)) _ _ c.fields_and_code.ensures.exact (laws.length-fault c.args.bytes.now)
+    at (λ r. IsErrOf r (Length (length c.args.bytes.now)) ↔ (length c.args.bytes.now ≢ 64)) _ _ c.fields_and_code.ensures.exact (laws.length_fault c.args.bytes.now)
 
 pub returns-clause-version : goal.returns-clause-version
 returns-clause-version c =
     at (λ r. IsErrOf r (Version (slice_index c.args.bytes.now 0))
     ↔ ((length c.args.bytes.now ≡ 64) × (slice_index c.args.bytes.now 0 ≢ 1) × (slice_index c.args.bytes.now 0 ≢ 2)))
-    _ _ c.fields_and_code.ensures.exact (laws.version-fault c.args.bytes.now)
+    _ _ c.fields_and_code.ensures.exact (laws.version_fault c.args.bytes.now)
 
 pub returns-clause-algorithm : goal.returns-clause-algorithm
 returns-clause-algorithm c =
     at (λ r. IsErrOf r (Algorithm (slice_index c.args.bytes.now 1))
     ↔ ((length c.args.bytes.now ≡ 64) × IsVersion (slice_index c.args.bytes.now 0) × (slice_index c.args.bytes.now 1 ≢ 1)))
-    _ _ c.fields_and_code.ensures.exact (laws.algorithm-fault c.args.bytes.now)
+    _ _ c.fields_and_code.ensures.exact (laws.algorithm_fault c.args.bytes.now)

@@ -16,12 +16,12 @@ returns-in-Ok c =
     let bytes : IsBytes c.args.bytes.now = λ i. omega (arith, c.type_inv.bytes i) in (
       λ right. laws.genuine c.args.bytes.now c.args.key.now c.in-Ok.field-0 bytes (sym c.read_indicium.ensures.exact ∙ c.in-Ok.is)
           (sym (rest c.args.bytes.now) ∙ c.matches.ensures.0 right),
-      λ spelled. c.matches.ensures.1 (rest c.args.bytes.now ∙ let code = laws.code-of c.args.bytes.now c.args.key.now spelled in code.1),
+      λ spelled. c.matches.ensures.1 (rest c.args.bytes.now ∙ let code = laws.code_of c.args.bytes.now c.args.key.now spelled in code.1),
     )
 
 pub returns-in-Err : goal.returns-in-Err
 returns-in-Err c = (
   λ never. absurd (cc),
-  λ spelled. let code = laws.code-of c.args.bytes.now c.args.key.now spelled in
+  λ spelled. let code = laws.code_of c.args.bytes.now c.args.key.now spelled in
       let read : Ok code.0.0 ≡ Err c.in-Err.field-0 = sym code.0.1 ∙ sym c.read_indicium.ensures.exact ∙ c.in-Err.is in absurd (cc),
 )

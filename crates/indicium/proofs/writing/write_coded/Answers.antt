@@ -2,7 +2,7 @@ use Rattle.std.proofs.Common.{◌≡◌, ◌++◌, ℕ, List, length, drop, repl
 use Rattle.std.proofs.lemmas.List.{take_at, drop_at}
 use borrow.Rule.Slice.PartMut.{put_mid}
 use Rattle.indicium.specs.Marks.{body}
-use Rattle.indicium.proofs.Readings.{length-body}
+use Rattle.indicium.proofs.Readings.{length_body}
 use Rattle.indicium.proofs.writing.write_coded.Goals as goal
 
 -- two halves written over zeros
@@ -16,5 +16,5 @@ joined x y long =
 pub returns : goal.returns
 returns c =
     let first = c.copy_from_slice.ensures.after ∙ c.body_of-body.ensures in
-    joined _ _ (ap length first ∙ length-body c.args.mark.now c.requires) ∙ ap (λ x. x ++ c.copy_from_slice-2.new.self) first
+    joined _ _ (ap length first ∙ length_body c.args.mark.now c.requires) ∙ ap (λ x. x ++ c.copy_from_slice-2.new.self) first
     ∙ ap (λ y. body c.args.mark.now ++ y) c.copy_from_slice-2.ensures.after

@@ -1,5 +1,5 @@
-use Rattle.ledger_book.proofs.Growing.{counted-grown}
+use Rattle.ledger_book.proofs.Growing.{counted_grown}
 use Rattle.ledger_book.proofs.laws.growth.Goals as goal
 
 pub returns : goal.returns
-returns c = counted-grown
+returns c = counted_grown

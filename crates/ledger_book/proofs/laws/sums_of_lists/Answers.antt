@@ -1,5 +1,5 @@
-use Rattle.ledger_book.proofs.WholeSums.{bought-sum, returned-sum, loaded-sum, refunded-sum, ascending-sum, descending-whole, account-whole, balance-whole}
+use Rattle.ledger_book.proofs.WholeSums.{bought_sum, returned_sum, loaded_sum, refunded_sum, ascending_sum, descending_whole, account_whole, balance_whole}
 use Rattle.ledger_book.proofs.laws.sums_of_lists.Goals as goal
 
 pub returns : goal.returns
-returns c = record { bought = bought-sum; returned = returned-sum; loaded = loaded-sum; refunded = refunded-sum; ascending = ascending-sum; descending = descending-whole; account = account-whole; balance = balance-whole }
+returns c = record { bought = bought_sum; returned = returned_sum; loaded = loaded_sum; refunded = refunded_sum; ascending = ascending_sum; descending = descending_whole; account = account_whole; balance = balance_whole }

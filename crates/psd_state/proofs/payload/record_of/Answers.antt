@@ -2,7 +2,7 @@ use Rattle.std.proofs.Common.{arith, rules, ap, sym, subst, refl}
 use borrow.Author.Gap.{read_sfits}
 use Rattle.std.specs.Int.{w32}
 use Rattle.registers.specs.Sums.{Sums, Sound}
-use Rattle.psd_state.proofs.Read.{ranges-made}
+use Rattle.psd_state.proofs.Read.{ranges_made}
 use Rattle.psd_state.proofs.payload.record_of.Goals as goal
 
 pub returns-clause-fits : goal.returns-clause-fits
@@ -10,4 +10,4 @@ returns-clause-fits c =
     let value = c.in-Some-registers_of.ensures.value in
     let sound : Sound c.in-Some-registers_of.registers = subst Sound (sym value) (c.in-Some-registers_of.ensures.valid.0 refl) in
     let pieces = ap (λ (r : Sums). r.pieces) value in
-    ranges-made _ c.in-Some.ensures.found.0 sound (omega (arith, c.get.ensures.range)) (search rules) (search rules) (search rules) (search rules) (search rules) (read_sfits w32 _) (read_sfits w32 _)
+    ranges_made _ c.in-Some.ensures.found.0 sound (omega (arith, c.get.ensures.range)) (search rules) (search rules) (search rules) (search rules) (search rules) (read_sfits w32 _) (read_sfits w32 _)

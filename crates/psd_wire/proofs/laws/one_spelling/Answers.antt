@@ -2,10 +2,10 @@ use Rattle.psd_wire.proofs.Readings as laws
 use Rattle.psd_wire.proofs.laws.one_spelling.Goals as goal
 
 pub returns-clause-one_spelling : goal.returns-clause-one_spelling
-returns-clause-one_spelling c = laws.one-spelling
+returns-clause-one_spelling c = laws.one_spelling
 
 pub returns-clause-one_reading : goal.returns-clause-one_reading
-returns-clause-one_reading c = laws.one-reading
+returns-clause-one_reading c = laws.one_reading
 
 pub returns-clause-one_body : goal.returns-clause-one_body
-returns-clause-one_body c = laws.one-body
+returns-clause-one_body c = laws.one_body

@@ -10,7 +10,7 @@ use Rattle.psd_wire.proofs.reading.read_body.Goals as goal
 pub returns-then-bytes-gt55-clause-none : goal.returns-then-bytes-gt55-clause-none
 returns-then-bytes-gt55-clause-none c x coded whole same =
     let long = c.if-bytes-gt55.true in
-    absurd (omega (arith, laws.length-coded_body x coded whole, ap length same, long))
+    absurd (omega (arith, laws.length_coded_body x coded whole, ap length same, long))
 
 -- what holds of the definition holds of the answer
 at : (P : Option Message → Type 0) (answer : Option Message) (x y : Result Message Unread) (a b : List ℕ) → answer ≡ coded_in x → x ≡ y → y ≡ read a → a ≡ b
@@ -23,11 +23,11 @@ returns-clause-found c =
     let short = c.if-bytes-gt55.false in
     at (λ o. IfSome o (λ x. IsCoded x × IsWhole x × (body x ≡ c.args.bytes.now))) _ _ _ _ _ c.coded_of.ensures refl c.read_message.ensures.exact
     (laws.filled c.args.bytes.now c.copy_from_slice.new.self (omega (arith, short)) c.copy_from_slice.ensures.after)
-    (laws.body-found c.args.bytes.now (IsBytes-append c.args.bytes.now (replicate 32 0) bytes (IsBytes-zeros 32)))
+    (laws.body_found c.args.bytes.now (IsBytes-append c.args.bytes.now (replicate 32 0) bytes (IsBytes-zeros 32)))
 
 pub returns-clause-none : goal.returns-clause-none
 returns-clause-none c =
     let short = c.if-bytes-gt55.false in
     at (λ o. IfNone o ((x : Message) → IsCoded x → IsWhole x → body x ≢ c.args.bytes.now)) _ _ _ _ _ c.coded_of.ensures refl c.read_message.ensures.exact
     (laws.filled c.args.bytes.now c.copy_from_slice.new.self (omega (arith, short)) c.copy_from_slice.ensures.after)
-    (laws.body-none c.args.bytes.now)
+    (laws.body_none c.args.bytes.now)

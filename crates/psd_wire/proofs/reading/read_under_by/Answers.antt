@@ -14,15 +14,15 @@ returns-then-code_matches_by-clause-found c =
     let bytes : IsBytes c.args.bytes.now = λ i. omega (arith, c.type_inv.bytes i) in
     at (λ o. IfSome o (λ x. IsCoded x × IsWhole x × (spell x c.args.key.now ≡ c.args.bytes.now))) _ (coded_in (read c.args.bytes.now))
     (c.coded_of.ensures ∙ ap coded_in c.read_message.ensures.exact)
-    (laws.under-found c.args.bytes.now c.args.key.now bytes (c.code_matches_by.ensures.0 c.if-code_matches_by.true))
+    (laws.under_found c.args.bytes.now c.args.key.now bytes (c.code_matches_by.ensures.0 c.if-code_matches_by.true))
 
 pub returns-then-code_matches_by-clause-none : goal.returns-then-code_matches_by-clause-none
 returns-then-code_matches_by-clause-none c =
     at (λ o. IfNone o ((x : Message) → IsCoded x → IsWhole x → spell x c.args.key.now ≢ c.args.bytes.now)) _ (coded_in (read c.args.bytes.now))
     (c.coded_of.ensures ∙ ap coded_in c.read_message.ensures.exact)
-    (laws.under-none c.args.bytes.now c.args.key.now)
+    (laws.under_none c.args.bytes.now c.args.key.now)
 
 pub returns-else-code_matches_by-clause-none : goal.returns-else-code_matches_by-clause-none
 returns-else-code_matches_by-clause-none c x coded whole spelled =
-    let right = c.code_matches_by.ensures.1 (laws.matches-spell x c.args.key.now c.args.bytes.now coded spelled) in
+    let right = c.code_matches_by.ensures.1 (laws.matches_spell x c.args.key.now c.args.bytes.now coded spelled) in
     let wrong = c.if-code_matches_by.false in absurd (cc)

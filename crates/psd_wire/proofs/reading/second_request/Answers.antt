@@ -5,7 +5,7 @@ use borrow.Author.Gap.{read_sfits}
 use Rattle.bench_base.proofs.Tables.{first_number}
 use Rattle.bench_base.specs.Table.{number, Four}
 use Rattle.psd_wire.specs.Grammar.{IsDay, day_of}
-use Rattle.psd_wire.proofs.Readings.{byte_of, day_of-day}
+use Rattle.psd_wire.proofs.Readings.{byte_of, day_of_day}
 use Rattle.psd_wire.proofs.reading.second_request.Goals as goal
 
 pub returns : goal.returns
@@ -17,7 +17,7 @@ returns c =
     let is : today ≡ cast_signed w32 (number Four (take 4 (drop 51 bytes))) =
     c.in-Some-new.ensures.value ∙ to_z-of_z w32 c.i32_at.result (subst (FitsSigned w32) (sym c.i32_at.ensures) (read_sfits w32 _)) ∙ c.i32_at.ensures in
     let range : IsDay today = subst IsDay (sym c.in-Some-new.ensures.value) (c.in-Some-new.ensures.valid.0 refl) in
-    let day : day_of (cast_signed w32 (number Four (take 4 (drop 51 bytes)))) ≡ Some today = ap day_of (sym is) ∙ day_of-day today range in
+    let day : day_of (cast_signed w32 (number Four (take 4 (drop 51 bytes)))) ≡ Some today = ap day_of (sym is) ∙ day_of_day today range in
     rw (
       c.u32_at.ensures,
       c.u32_at-2.ensures,

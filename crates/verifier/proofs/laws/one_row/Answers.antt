@@ -1,5 +1,5 @@
-use Rattle.verifier.proofs.Laid.{payload-laws}
+use Rattle.verifier.proofs.Laid.{payload_laws}
 use Rattle.verifier.proofs.laws.one_row.Goals as goal
 
 pub returns : goal.returns
-returns c = payload-laws
+returns c = payload_laws

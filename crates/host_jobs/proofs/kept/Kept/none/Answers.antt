@@ -1,5 +1,5 @@
-use Rattle.host_jobs.proofs.Keeping.{none-kept}
+use Rattle.host_jobs.proofs.Keeping.{none_kept}
 use Rattle.host_jobs.proofs.kept.Kept.none.Goals as goal
 
 pub returns : goal.returns
-returns c = none-kept
+returns c = none_kept

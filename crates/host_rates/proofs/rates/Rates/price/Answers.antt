@@ -2,7 +2,7 @@ use Rattle.std.proofs.Common.{rules, subst, sym, ap, ◌≡◌, ℕ, Result, ari
 use Rattle.std.specs.Prelude.{IfOk}
 use Rattle.bench_base.specs.declared.refusals.RateRefusal.{RateRefusal}
 use Rattle.host_rates.specs.Tables.{RateTable, IsPrice, IsClass, IsRates, class_numbered}
-use Rattle.host_rates.proofs.Sound.{IfSome-at, IfSome-find, price_in-bounds}
+use Rattle.host_rates.proofs.Sound.{IfSome-at, IfSome-find, price_in_bounds}
 use Rattle.host_rates.proofs.rates.Rates.price.Goals as goal
 use Rattle.host_rates.proofs.rates.Rates.price.Goals.{Else-zone-self}
 
@@ -27,4 +27,4 @@ returns-clause-exact c = search rules
 pub returns-clause-range : goal.returns-clause-range
 returns-clause-range c =
     subst (λ (r : Result ℕ RateRefusal). IfOk r IsPrice) (sym (returns-clause-exact c))
-    (price_in-bounds c.args.class c.args.grams c.args.zone c.args.self.now (subst IsRates c.self.view_is c.self.invariant))
+    (price_in_bounds c.args.class c.args.grams c.args.zone c.args.self.now (subst IsRates c.self.view_is c.self.invariant))
