@@ -7,7 +7,8 @@ use Rattle.psd_wire.proofs.Readings.{byte_of}
 use Rattle.centre_ledger.specs.declared.rows.DeviceRow.{DeviceRow}
 use Rattle.centre_ledger.specs.declared.rows.Enrolment.{Enrolment}
 use Rattle.centre_ledger.specs.declared.rows.Enrolment.TheVariants.{Registered, Enrolled, Withdrawn}
-use Rattle.centre_ledger.specs.Payload.{state_byte, state_number, customer_number, head_table}
+use Rattle.centre_ledger.specs.Rows.{customer_number}
+use Rattle.centre_ledger.specs.Payload.{state_byte, state_number, head_table}
 use Rattle.centre_ledger.specs.Parts.{state_from, enrolment_from, IsToldBy, HeadIs, bare_at, sum_at}
 use Rattle.centre_ledger.proofs.Parted.{state_again, state_is}
 

@@ -14,8 +14,9 @@ use Rattle.psd_wire.proofs.Readings.{byte_of, request_room, reply_room, request_
 use Rattle.centre_ledger.specs.declared.rows.DeviceRow.{DeviceRow}
 use Rattle.centre_ledger.specs.declared.rows.Enrolment.{Enrolment}
 use Rattle.centre_ledger.specs.declared.rows.Enrolment.TheVariants.{Registered, Enrolled, Withdrawn}
+use Rattle.centre_ledger.specs.Rows.{customer_number}
 use Rattle.centre_ledger.specs.Soundness.{IsRuling, IsSoundDevice}
-use Rattle.centre_ledger.specs.Payload.{state_byte, state_number, customer_number, head_table, head, sums_table, sums, request_size, reply_size, uncoded, kept, filled, message_part, head_part, sums_part, request_part, reply_part, end_part, device_spelled, DeviceFits, IsOld}
+use Rattle.centre_ledger.specs.Payload.{state_byte, state_number, head_table, head, sums_table, sums, request_size, reply_size, uncoded, kept, filled, message_part, head_part, sums_part, request_part, reply_part, end_part, device_spelled, DeviceFits, IsOld}
 use Rattle.centre_ledger.specs.Parts.{state_from, enrolment_from, HeadIs, bare, bare_from, bare_at, request_place, reply_place, Parts, IsKept, IsStored, request_front, reply_front}
 use Rattle.centre_ledger.proofs.Notes.{by_version, uncoded_spell, first_request, length_body_reply, length_filled, request_kept, reply_kept, kept_part, one_kept}
 

@@ -3,7 +3,7 @@ use Rattle.std.proofs.Common.{◌≡◌, ℕ, List, [], ◌∷◌, length, Optio
 use Rattle.bench_base.specs.Ranges.{IsCustomer}
 use Rattle.bench_base.specs.declared.ledger.Commit.{Commit}
 use Rattle.psd_wire.specs.declared.message.Request.{Request}
-use Rattle.ledger_terms.specs.Centres.{enrolled, device_numbers, device_share, is_some_at, sum_over, customer_sum, customer_returned, balance}
+use Rattle.ledger_terms.specs.Centres.{device_numbers, device_share, is_some_at, sum_over, customer_sum, customer_returned, balance}
 use Rattle.ledger_terms.specs.Sums.{takes, ruled_sum}
 use Rattle.ledger_terms.specs.Rulings.{payer, own_customer}
 use Rattle.centre_ledger.specs.declared.rows.DeviceRow.{DeviceRow}

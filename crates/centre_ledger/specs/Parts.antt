@@ -12,8 +12,9 @@ use Rattle.psd_wire.specs.Grammar.{IsCoded, IsWhole, spell, sum_size}
 use Rattle.centre_ledger.specs.declared.rows.DeviceRow.{DeviceRow}
 use Rattle.centre_ledger.specs.declared.rows.Enrolment.{Enrolment}
 use Rattle.centre_ledger.specs.declared.rows.Enrolment.TheVariants.{Registered, Enrolled, Withdrawn}
+use Rattle.centre_ledger.specs.Rows.{customer_number}
 use Rattle.centre_ledger.specs.Soundness.{IsSoundDevice}
-use Rattle.centre_ledger.specs.Payload.{state_number, customer_number, head_table, head, sums_table, request_size, reply_size, kept, request_part, reply_part, end_part, device_spelled, DeviceFits, IsOld}
+use Rattle.centre_ledger.specs.Payload.{state_number, head_table, head, sums_table, request_size, reply_size, kept, request_part, reply_part, end_part, device_spelled, DeviceFits, IsOld}
 
 -- == the parts ==
 

@@ -2,14 +2,13 @@
 use Rattle.std.specs.Prelude.{◌≡◌, ℕ, ◌+◌, ◌-◌, ◌<◌, ◌≤◌, ◌^◌, ◌⊎◌, Bool, List, [], ◌∷◌, ◌++◌, ◌==◌, if◌then◌else◌, length, take, get_or, replicate}
 use Rattle.bench_base.specs.Table.{Size, One, Four, Eight, row, Fit}
 use Rattle.psd_wire.specs.Grammar.{sum_size}
-use Rattle.ledger_terms.specs.Rulings.{own_customer}
 use Rattle.centre_ledger.specs.declared.rows.DeviceRow.{DeviceRow}
 use Rattle.centre_ledger.specs.declared.rows.CustomerRow.{CustomerRow}
 use Rattle.centre_ledger.specs.declared.rows.Enrolment.{Enrolment}
 use Rattle.centre_ledger.specs.declared.rows.Enrolment.TheVariants.{Registered, Enrolled, Withdrawn}
 use Rattle.centre_ledger.specs.declared.rows.Row.{Row}
 use Rattle.centre_ledger.specs.declared.rows.Row.TheVariants.{Device, Customer}
-use Rattle.centre_ledger.specs.Rows.{customer_of}
+use Rattle.centre_ledger.specs.Rows.{customer_number}
 use Rattle.centre_ledger.specs.Soundness.{IsSoundDevice, IsSoundCustomer}
 
 -- == the layout of a device's row ==
@@ -18,10 +17,6 @@ abbrev pub state_number : Enrolment → ℕ
 state_number Registered = 1
 state_number (Enrolled w) = 2
 state_number (Withdrawn w) = 3
-
--- 0 where the device was never enrolled
-abbrev pub customer_number : Enrolment → ℕ
-customer_number e = own_customer (customer_of e)
 
 -- in version 2 it is 16 more, so this byte tells the version
 abbrev pub state_byte : ℕ → ℕ → ℕ

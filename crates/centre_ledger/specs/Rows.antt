@@ -12,7 +12,7 @@ use Rattle.psd_wire.specs.Grammar.{spell}
 use Rattle.ledger_terms.specs.Centres.{is_some_at}
 use Rattle.ledger_terms.specs.Sums.{adds, takes}
 use Rattle.bench_base.specs.declared.refusals.CentreRefusal.{CentreRefusal}
-use Rattle.ledger_terms.specs.Rulings.{Account, written_amount}
+use Rattle.ledger_terms.specs.Rulings.{Account, own_customer, written_amount}
 use Rattle.centre_ledger.specs.declared.rows.DeviceRow.{DeviceRow}
 use Rattle.centre_ledger.specs.declared.rows.CustomerRow.{CustomerRow}
 use Rattle.centre_ledger.specs.declared.rows.Enrolment.{Enrolment}
@@ -25,6 +25,10 @@ abbrev pub customer_of : Enrolment → Option ℕ
 customer_of Registered = None
 customer_of (Enrolled w) = Some w
 customer_of (Withdrawn w) = Some w
+
+-- its number, and 0 where the device was never enrolled
+abbrev pub customer_number : Enrolment → ℕ
+customer_number e = own_customer (customer_of e)
 
 abbrev pub enrolled_in : DeviceRow → Option ℕ
 enrolled_in r = customer_of r.enrolment

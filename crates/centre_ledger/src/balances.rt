@@ -2,8 +2,7 @@
 ghost use Rattle.std.specs.Prelude.{◌≡◌, ◌+◌, ◌-◌, ◌*◌, ◌^◌, ◌<◌, ◌≤◌, ◌↔◌, All, IfSome, IsSome, MatchOption, length, replicate, set, sum_by};
 ghost use Rattle.centre_ledger.specs.Books as books;
 ghost use Rattle.centre_ledger.specs.Books.{IsCovered, balances_by, kept_at};
-ghost use Rattle.ledger_terms.specs.Centres.{is_some_at};
-ghost use Rattle.centre_ledger.specs.Rows.{buys_in, enrolled_in, returns_in};
+ghost use Rattle.centre_ledger.specs.Rows.{buys_in, returns_in};
 ghost use Rattle.centre_ledger.specs.Soundness.{IsSoundDevice, IsSoundCustomer};
 
 use crate::rows::{CustomerRow, DeviceRow};
@@ -24,16 +23,6 @@ impl Model for Balances {
     ghost view = { λ b. b.left };
 }
 
-// Whether the device was ever enrolled under the customer.
-fn is_under(row: &DeviceRow, customer: u32) -> bool
-    ensures { result ≡ is_some_at (enrolled_in row.now) customer }
-{
-    match row.enrolment.customer() {
-        Some(own) => own.get() == customer,
-        None => false,
-    }
-}
-
 // What the devices of a customer bought and gave back.
 fn sums_of(devices: &[Option<DeviceRow>], customer: u32) -> (u128, u128)
     requires count { length devices.now ≤ 8 }
@@ -47,7 +36,7 @@ fn sums_of(devices: &[Option<DeviceRow>], customer: u32) -> (u128, u128)
     let mut returned = 0;
     for slot in devices {
         if let Some(row) = slot {
-            if is_under(row, customer) {
+            if row.enrolment.is_under(customer) {
                 bought += u128::from(row.buys);
                 returned += u128::from(row.returns);
             }

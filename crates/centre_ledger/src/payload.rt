@@ -201,23 +201,13 @@ fn state_number(enrolment: Enrolment) -> u8
     }
 }
 
-// The customer's number, and 0 where there is none.
-fn customer_number(enrolment: Enrolment) -> u32
-    ensures { result ≡ layout.customer_number enrolment }
-{
-    match enrolment.customer() {
-        Some(customer) => customer.get(),
-        None => 0,
-    }
-}
-
 #[tactic(auto, unfolding(bench_base::specs::Table::spelled, crate::specs::Payload::head_part))]
 fn head_bytes(row: &DeviceRow) -> [u8; 13]
     ensures value { result ≡ layout.head_part 2 row.now }
     ensures fits { Fit layout.head_table (layout.head 2 row.now) }
 {
     let mut bytes = [0; 13];
-    let (customer, origin) = (customer_number(row.enrolment), row.origin);
+    let (customer, origin) = (row.enrolment.customer_number(), row.origin);
     put_u32(&mut bytes, 0, row.device.get());
     bytes[4] = state_number(row.enrolment) + 16;
     put_u32(&mut bytes, 5, customer);

@@ -1,5 +1,6 @@
 //! The rows that the centre keeps: one of each device, and one of each customer. Amounts are in mills.
 ghost use Rattle.std.specs.Prelude.{◌≡◌};
+ghost use Rattle.ledger_terms.specs.Centres.{is_some_at};
 ghost use Rattle.centre_ledger.specs.Rows as of_rows;
 
 use bench_base::bytes::Note;
@@ -25,6 +26,26 @@ impl Enrolment {
         match self {
             Enrolment::Registered => None,
             Enrolment::Enrolled(customer) | Enrolment::Withdrawn(customer) => Some(*customer),
+        }
+    }
+
+    /// The number of that customer, and 0 where there is none.
+    pub fn customer_number(&self) -> u32
+        ensures { result ≡ of_rows.customer_number self.now }
+    {
+        match self.customer() {
+            Some(customer) => customer.get(),
+            None => 0,
+        }
+    }
+
+    /// Whether the device was ever enrolled under the customer of this number.
+    pub fn is_under(&self, customer: u32) -> bool
+        ensures { result ≡ is_some_at (of_rows.customer_of self.now) customer }
+    {
+        match self.customer() {
+            Some(own) => own.get() == customer,
+            None => false,
         }
     }
 }

@@ -52,16 +52,6 @@ fn is_own_code(bytes: &[u8], key: &ReadyKey) -> bool
     code_matches_by(bytes, key)
 }
 
-// The customer under which the device is enrolled, and 0 where it never was.
-fn own_customer(row: &DeviceRow) -> u32
-    ensures { result ≡ rulings.own_customer (enrolled_in row.now) }
-{
-    match row.enrolment.customer() {
-        Some(customer) => customer.get(),
-        None => 0,
-    }
-}
-
 // The customer who pays: the one asked for at an enrolment, else the device's own.
 #[tactic(auto, unfolding(bench_base::specs::Kinds::same_kind))]
 fn payer(row: &DeviceRow, request: &Request) -> u32
@@ -69,7 +59,7 @@ fn payer(row: &DeviceRow, request: &Request) -> u32
 {
     match request.kind {
         Kind::Enrol => request.customer,
-        _ => own_customer(row),
+        _ => row.enrolment.customer_number(),
     }
 }
 
@@ -105,7 +95,7 @@ fn ruled_act(
     requires number { request.now.number ≡ row.now.ruled + 1 }
     ensures { result ≡ act_of.turn_act note.now request.now row.now (act_of.in_books accounts.now) (Ok false) }
 {
-    let left = accounts.left(own_customer(row));
+    let left = accounts.left(row.enrolment.customer_number());
     let verdict = verdict(row, accounts.customer(payer(row, request)), left, request);
     let next = ruled_on(row, key, request, note, verdict, left);
     let reply = next.reply;

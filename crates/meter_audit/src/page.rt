@@ -59,12 +59,9 @@ fn add_device(auditor: &Auditor, trade: &mut Trade, device: DevNo, customer: Cus
     let Some(row) = auditor.device_row(device) else {
         return;
     };
-    match row.enrolment.customer() {
-        Some(own) if own.get() == customer.get() => {
-            trade.bought = trade.bought.saturating_add(row.buys);
-            trade.returned = trade.returned.saturating_add(row.returns);
-        }
-        _ => {}
+    if row.enrolment.is_under(customer.get()) {
+        trade.bought = trade.bought.saturating_add(row.buys);
+        trade.returned = trade.returned.saturating_add(row.returns);
     }
 }
 
