@@ -3,7 +3,6 @@ ghost use Rattle.std.specs.Prelude.{◌≡◌};
 ghost use Rattle.ledger_terms.specs.Requests.{request_in};
 ghost use Rattle.centre_statement.specs.Changes.{change_in, change_of, granted_change, left_after};
 
-use bench_base::bytes::Note;
 use bench_base::ledger::Commit;
 use bench_base::numbers::{Customer, DevNo};
 use bench_base::words::{Kind, Verdict};

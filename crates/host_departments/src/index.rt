@@ -1,5 +1,5 @@
 //! Where jobs are kept: places for cells by the numbers of their jobs, so that no line walks the cells. They are memory alone, made at a boot.
-ghost use Rattle.std.specs.Prelude.{◌≡◌, ◌≢◌, ◌<◌, ◌≤◌, ℕ, get_or, IfSome, IfNone, IsTrue, ◌↔◌};
+ghost use Rattle.std.specs.Prelude.{◌≡◌, ◌<◌, ◌≤◌, ℕ, IfSome, IfNone, IsTrue, ◌↔◌};
 ghost use Rattle.nv_store.specs.RoomView.{cells_of};
 ghost use Rattle.host_departments.specs.Index.{place_of, IsFound, IsIndexed, Keep};
 ghost use Rattle.host_departments.specs.Kept.{AllFilled, rows_in};

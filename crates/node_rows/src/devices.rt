@@ -7,7 +7,7 @@ use bench_base::numbers::{DayNo, DevNo};
 use bench_base::refusals::{BootFail, DevFail, DevRefusal};
 use bench_base::words::{Kind, Verdict};
 use nv_model::{Fused, MemNv, Nv};
-use psd_device::{Device, Franked, Taken};
+use psd_device::{Device, Taken};
 use psd_wire::{DebitMsg, Message, ReplyMsg, write_message};
 use std::alloc::Global;
 use std::process::Abort;

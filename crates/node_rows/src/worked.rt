@@ -2,7 +2,7 @@
 ghost use Rattle.std.specs.Prelude.{◌≡◌, IfOk, false};
 ghost use Rattle.nv_model.specs.Fuses.{state_of};
 
-use bench_base::refusals::{BootFail, StoreFail};
+use bench_base::refusals::StoreFail;
 use bench_base::words::Key;
 use hmac_core::hmac256;
 use nv_model::{Fused, MemNv, Nv};

@@ -1,5 +1,5 @@
 //! A running device: its record in its storage, and the commit that failed.
-ghost use Rattle.std.specs.Prelude.{◌≡◌, ◌+◌, ◌/◌, ◌≤◌, ◌<◌, ◌^◌, Some, None, not, is_some, sum, slice_index};
+ghost use Rattle.std.specs.Prelude.{◌≡◌, ◌+◌, ◌/◌, ◌≤◌, ◌<◌, ◌^◌, None, not, is_some, sum, slice_index};
 ghost use Rattle.bench_base.specs.declared.sizes.TheConstants.{DEVICE_BYTES};
 ghost use Rattle.nv_ring.specs.Turns.{fills_of, slot_after};
 ghost use Rattle.psd_device.specs.Shown.{ShowsSeen};
@@ -9,7 +9,7 @@ ghost use Rattle.psd_device.specs.NodeView.{storage_in, is_on};
 use crate::node::DeviceNode;
 use bench_base::ledger::Commit;
 use bench_base::refusals::DevFail;
-use bench_base::sizes::{RECORD_BYTES, SLOTS};
+use bench_base::sizes::SLOTS;
 use node_seat::Running;
 use nv_model::{Fused, Nv};
 use psd_state::DeviceAct;
