@@ -1,5 +1,5 @@
 -- What is judged of a line by what is seen of the centre is so by the ledger.
-use Rattle.std.proofs.Common.{◌≢◌, ℕ, ℤ, List, Option, None, Result, Ok, Err, refl}
+use Rattle.std.proofs.Common.{◌≢◌, ℕ, ℤ, List, Option, Result, refl}
 use Rattle.std.specs.Prelude.{IfSome}
 use Rattle.bench_base.specs.declared.words.Node.TheVariants.{Centre}
 use Rattle.bench_base.specs.declared.events.Reply.{Reply}
@@ -11,9 +11,8 @@ use Rattle.bench_views.specs.declared.taken.Work.TheVariants as work
 use Rattle.bench_views.specs.Centre.{centre_kind, centre_act, AreBytes}
 use Rattle.bench_views.specs.Follows.{CentreFollows}
 use Rattle.bench_views.specs.Kinds.{bench_kinds}
-use Rattle.told_nodes.specs.Judged.{Judged}
-use Rattle.told_views.proofs.Lifted.{IsByActs, AreUnreleasing, asked_releases, lifts_so, lifts_never}
-use Rattle.told_centre.specs.Verdicts.{plan_in, commit_in, IsByLedger}
+use Rattle.told_views.proofs.Lifted.{IsByActs, AreUnreleasing, lifts}
+use Rattle.told_centre.specs.Verdicts.{commit_in, IsByView, IsByLedger}
 use Rattle.told_centre.proofs.Fitting.{call_plain, call_releases}
 
 by_acts : IsByActs counting centre_kind Centre tt
@@ -26,8 +25,5 @@ no_rates : (asked : Asked CentreCall) → work.Centre asked ≢ work.Rates
 no_rates asked is = cc
 
 pub by_ledger : (today : ℤ) (asked : Asked CentreCall) (line : List ℕ) (v w : View Seen) (result : Result (Option (List ℕ)) Reply) → CentreFollows counting bench_kinds IsKnown
-    → IsKnown v.state → IfSome (commit_in today asked v) (λ x. IsKnown x.1) → Judged counting Centre v (plan_in today asked v) (commit_in today asked v) line w result → IsByLedger today asked line v w result
-by_ledger today asked line v w (Ok sent) law known next judged τ H e history unforged day whole asks ranged seen =
-    (judged.0, lifts_so counting centre_kind Centre tt by_acts work.Centre no_rates AreBytes IsKnown law today asked line v w known next sent None judged.0 judged.1 (asked_releases counting centre_kind Centre tt unreleasing today asked v judged.0) τ H e history unforged day whole asks ranged seen)
-by_ledger today asked line v w (Err due) law known next judged τ H e history unforged day whole asks ranged seen =
-    lifts_never counting centre_kind Centre tt by_acts work.Centre no_rates AreBytes IsKnown law today asked line v w known next due judged τ H e history unforged day whole asks ranged seen
+    → IsKnown v.state → IfSome (commit_in today asked v) (λ x. IsKnown x.1) → IsByView today asked line v w result → IsByLedger today asked line v w result
+by_ledger today asked line v w result law known next judged = lifts counting centre_kind Centre tt by_acts work.Centre no_rates AreBytes IsKnown law today asked line v w known next unreleasing result judged

@@ -1,10 +1,9 @@
 -- What a line of the report tells of an event of the verifier, by what is seen of it, and by the ledger.
-use Rattle.std.specs.Prelude.{ℕ, ℤ, List, Option, None, Result, Ok, Err}
+use Rattle.std.specs.Prelude.{ℕ, ℤ, List, Option, Result}
 use Rattle.bench_base.specs.declared.words.Node.TheVariants.{Verifier}
 use Rattle.bench_base.specs.declared.ledger.Commit.{Commit}
 use Rattle.bench_base.specs.declared.events.Event.{Event}
 use Rattle.bench_base.specs.declared.events.Reply.{Reply}
-use Rattle.bench_base.specs.Plans.{Plan}
 use Rattle.bench_base.specs.Ledger.{Ledger}
 use Rattle.node_acts.specs.declared.asked.Asked.{Asked}
 use Rattle.node_acts.specs.Views.{View}
@@ -13,27 +12,17 @@ use Rattle.ledger_moves.specs.Tariffs.{Tariff}
 use Rattle.bench_views.specs.declared.calls.VerifierCall.{VerifierCall}
 use Rattle.bench_views.specs.declared.taken.Work.TheVariants as work
 use Rattle.bench_views.specs.Verifier.{verifier_kind, AreBytes}
-use Rattle.told_nodes.specs.Judged.{Judged}
 use Rattle.told_views.specs.Verdicts as views
-use Rattle.told_views.specs.Verdicts.{MovesSo, MovesNever, ByLedger}
 
--- the plan of what the verifier is asked on a day, and its commit, by what is seen of it
-abbrev pub plan_in : ℤ → Asked VerifierCall → View Seen → Plan
-plan_in today asked v = views.plan_in counting verifier_kind Verifier tt today asked v
-
+-- what the verifier's commit is of what it is asked on a day, by what is seen of it
 abbrev pub commit_in : ℤ → Asked VerifierCall → View Seen → Option (Commit × Seen)
-commit_in today asked v = views.commit_in counting verifier_kind Verifier tt today asked v
+commit_in = views.commit_in counting verifier_kind Verifier tt
 
--- the judgement of the line is that of what is seen of the verifier
 abbrev pub IsByView : ℤ → Asked VerifierCall → List ℕ → View Seen → View Seen → Result (Option (List ℕ)) Reply → Type 0
-IsByView today asked line v w result = Judged counting Verifier v (plan_in today asked v) (commit_in today asked v) line w result
+IsByView = views.IsByView counting verifier_kind Verifier tt
 
 abbrev pub MovesBy : Tariff → Ledger → Event → List ℕ → View Seen → Result (Option (List ℕ)) Reply → Type 0
-MovesBy τ H e line w (Ok sent) = (reply : Reply) × MovesSo counting verifier_kind Verifier tt τ H e line w sent None reply
-MovesBy τ H e line w (Err due) = MovesNever counting verifier_kind Verifier tt τ H e line w due
+MovesBy = views.MovesBy counting verifier_kind Verifier tt
 
--- At each history at which the verifier is seen so, and for each event that asks this of it on this day and brings nothing forged, the
--- judgement of the line is that of the ledger.
 abbrev pub IsByLedger : ℤ → Asked VerifierCall → List ℕ → View Seen → View Seen → Result (Option (List ℕ)) Reply → Type 0
-IsByLedger today asked line v w result =
-    ByLedger counting verifier_kind Verifier tt work.Verifier AreBytes today asked v (λ τ H e. MovesBy τ H e line w result)
+IsByLedger = views.IsByLedger counting verifier_kind Verifier tt work.Verifier AreBytes

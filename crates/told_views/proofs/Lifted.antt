@@ -1,5 +1,5 @@
 -- What is judged of a line by what is seen of a node is so by the ledger, where the two follow each other: for nodes of any kind.
-use Rattle.std.proofs.Common.{◌≡◌, ◌≢◌, ◌⊎◌, inl, inr, ℕ, ℤ, ◌+◌, List, [], ◌∷◌, ◌++◌, ◌↔◌, Option, Some, None, IsSome, option_map, Bool, true, false, if◌then◌else◌, refl, sym, ◌∙◌, ap, subst}
+use Rattle.std.proofs.Common.{◌≡◌, ◌≢◌, ◌⊎◌, inl, inr, ℕ, ℤ, ◌+◌, List, [], ◌∷◌, ◌++◌, ◌↔◌, Option, Some, None, Result, Ok, Err, IsSome, option_map, Bool, true, false, if◌then◌else◌, refl, sym, ◌∙◌, ap, subst}
 use Rattle.std.specs.Prelude.{IfSome}
 use Rattle.bench_base.specs.declared.words.Node.{Node}
 use Rattle.bench_base.specs.declared.ledger.Commit.{Commit}
@@ -35,7 +35,7 @@ use Rattle.told_nodes.specs.Judged.{TellsOf, TellsNone, newest_sent}
 use Rattle.told_nodes.specs.Giving.{IsOnlyRelease, ReleasesNone}
 use Rattle.told_nodes.proofs.Releasing.{IsUnreleasing, plan_releases, seen_unreleasing, on_unreleasing, off_unreleasing}
 use Rattle.told_nodes.proofs.Telling.{seen_due}
-use Rattle.told_views.specs.Verdicts.{plan_in, commit_in, listed, Adds, MovesSo, MovesNever, ByLedger}
+use Rattle.told_views.specs.Verdicts.{plan_in, commit_in, listed, Adds, MovesSo, MovesNever, ByLedger, IsByView, IsByLedger}
 use Rattle.bench_views.proofs.Sent.{sends_none}
 
 -- == what was sent ==
@@ -289,3 +289,9 @@ module _ {N S X C : Type 0} (n : Counting S X) (kind : Kind N S C) (m : Node) (d
         let at : NeverFrom due τ H e (view_in m (kind.seen d) H) =
         λ known more told. never today asked τ H e asks (law τ H e today asked history unforged day whole asks ranged known more) line w due told in
         subst (NeverFrom due τ H e) seen at fits next none
+
+    -- the same of a node that releases nothing, whatever is judged
+    pub lifts : AreUnreleasing n kind m d → (result : Result (Option (List ℕ)) Reply) → IsByView n kind m d today asked line v w result → IsByLedger n kind m d work_of IsWhole today asked line v w result
+    lifts none (Ok sent) judged τ H e history unforged day whole asks ranged seen =
+        (judged.0, lifts_so sent None judged.0 judged.1 (asked_releases n kind m d none today asked v judged.0) τ H e history unforged day whole asks ranged seen)
+    lifts none (Err due) judged τ H e history unforged day whole asks ranged seen = lifts_never due judged τ H e history unforged day whole asks ranged seen

@@ -1,5 +1,5 @@
 -- What a line of the report tells of an event of one node, by the ledger.
-use Rattle.std.specs.Prelude.{◌≡◌, ◌≢◌, ◌⊎◌, ◌↔◌, ℕ, ℤ, List, [], ◌∷◌, ◌++◌, Option, Some, None}
+use Rattle.std.specs.Prelude.{◌≡◌, ◌≢◌, ◌⊎◌, ◌↔◌, ℕ, ℤ, List, [], ◌∷◌, ◌++◌, Option, Some, None, Result, Ok, Err}
 use Rattle.bench_base.specs.declared.words.Node.{Node}
 use Rattle.bench_base.specs.declared.ledger.Commit.{Commit}
 use Rattle.bench_base.specs.declared.events.Event.{Event}
@@ -23,6 +23,7 @@ use Rattle.bench_views.specs.Tariff.{quote_in}
 use Rattle.bench_views.specs.Taken.{taken}
 use Rattle.script_text.specs.Texts.{text_of}
 use Rattle.script_text.specs.Told.{IsWholeReply}
+use Rattle.told_nodes.specs.Judged.{Judged}
 
 -- the message, if there is one
 abbrev pub listed : Option (List ℕ) → List (List ℕ)
@@ -72,3 +73,18 @@ module _ {N S X C : Type 0} (n : Counting S X) (kind : Kind N S C) (m : Node) (d
   ByLedger work_of IsWhole today asked v P = (τ : Tariff) (H : Ledger) (e : Event) → History τ editions H → Unforged e H
       → day_in H ≡ Some today → IsWholeEvent e
       → taken (sent_in H) (quote_in τ H) e ≡ Some (take.Work (work_of asked)) → IsWhole asked → view_in m (kind.seen d) H ≡ v → P τ H e
+
+  -- == of a node that releases nothing and prints nothing ==
+
+  -- the judgement of the line is that of what is seen of the node
+  abbrev pub IsByView : ℤ → Asked C → List ℕ → View S → View S → Result (Option (List ℕ)) Reply → Type 0
+  IsByView today asked line v w result = Judged n m v (plan_in today asked v) (commit_in today asked v) line w result
+
+  abbrev pub MovesBy : Tariff → Ledger → Event → List ℕ → View S → Result (Option (List ℕ)) Reply → Type 0
+  MovesBy τ H e line w (Ok sent) = (reply : Reply) × MovesSo τ H e line w sent None reply
+  MovesBy τ H e line w (Err due) = MovesNever τ H e line w due
+
+  -- At each history at which the node is seen so, and for each event that asks this of it on this day and brings nothing forged, the
+  -- judgement of the line is that of the ledger.
+  abbrev pub IsByLedger : (Asked C → Work) → (Asked C → Type 0) → ℤ → Asked C → List ℕ → View S → View S → Result (Option (List ℕ)) Reply → Type 0
+  IsByLedger work_of IsWhole today asked line v w result = ByLedger work_of IsWhole today asked v (λ τ H e. MovesBy τ H e line w result)
