@@ -9,6 +9,8 @@ pub record IsPadded (size len : ℕ) (bytes : List ℕ) : Type 0 where
   pub whole : length bytes ≡ size
   pub zeros : drop len bytes ≡ replicate (size - len) 0
 
+-- == laws ==
+
 -- the front and zeros are the bytes
 pub refill : {A : Type 0} (size len : ℕ) (bytes : List ℕ) (make : List ℕ → ℕ → A) → IsPadded size len bytes
     → make (take len bytes ++ replicate (size - length (take len bytes)) 0) (length (take len bytes)) ≡ make bytes len

@@ -32,6 +32,8 @@ abbrev pub IsSoundRow : Row → Type 0
 IsSoundRow (row.Device r) = IsSoundDevice r
 IsSoundRow (row.Customer r) = IsSoundCustomer r
 
+-- == laws: a row ==
+
 pub cell_inside : (x : Row) → HasCell x → cell_of x < CENTRE_CELLS
 cell_inside (row.Device r) has = omega arith
 cell_inside (row.Customer r) has = omega arith
@@ -40,7 +42,7 @@ pub is_in : (x : Row) → HasCell x → IsIn (cell_of x) x
 is_in (row.Device r) has = (omega arith, omega arith)
 is_in (row.Customer r) has = (omega arith, omega arith)
 
--- == by cells ==
+-- == laws: by cells ==
 
 pub device_below : (b : Books) (k : ℕ) → k < 8 → row_in b k ≡ option_map row.Device (get_or b.devices k None)
 device_below b k lt = if_true (nat_lt k 8) (option_map row.Device (get_or b.devices k None)) (option_map row.Customer (get_or b.customers (k - 8) None)) (lt-ltb k 8 lt)
@@ -102,7 +104,7 @@ books_kept b held places filled =
     row_is : (k : ℕ) → k < CENTRE_CELLS → row_of (row_at s k) ≡ row_in b k
     row_is k lt = seen_row CENTRE_CELLS IsPayloadOf (row_in b) held filled k lt
 
--- == a row that is put ==
+-- == laws: a row that is put ==
 
 -- the cells of the books with the row put
 pub cells_put : (s : Seen) (x : Row) → length s ≡ CENTRE_CELLS → HasCell x → books_in (put s (cell_of x) x) ≡ put_row (books_in s) x
@@ -181,7 +183,7 @@ row_other b (row.Customer r) k has differs =
     else_same true x y z same = refl
     else_same false x y z same = same refl
 
--- == no rows ==
+-- == laws: no rows ==
 
 abbrev nones : {A : Type 0} → ℕ → List (Option A)
 nones n = replicate n None

@@ -7,4 +7,5 @@ pub mod CentreView
 -- Bookkeeping: private calls and proofs alone name these.
 pub mod Places
 pub mod Boots
+-- Laws: lemmas that impls and clauses cite. They promise nothing.
 pub mod Table

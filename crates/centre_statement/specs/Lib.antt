@@ -10,5 +10,6 @@ pub mod StatementsDesk
 pub mod Ran
 pub mod Balances
 -- Bookkeeping: private calls and proofs alone name these.
-pub mod OwnLaws
 pub mod Room
+-- Laws: lemmas that impls and clauses cite. They promise nothing.
+pub mod OwnLaws

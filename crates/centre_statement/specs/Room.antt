@@ -24,6 +24,8 @@ HasRoom (Some w) said.NoneOpen room = IsCustomer w × (10000 ≤ room)
 HasRoom (Some w) said.Full room = IsCustomer w × (10000 ≤ room)
 HasRoom (Some w) (said.Balance reply) room = IsCustomer w × (10000 ≤ room)
 
+-- == laws ==
+
 -- that it is so has one proof at most
 pub room_prop : (current : Option ℕ) (s : Said) (room : ℕ) → IsProp (HasRoom current s room)
 room_prop None said.Nothing room = hlevel props

@@ -15,5 +15,5 @@ pub mod Ran
 pub mod Texts
 pub mod View
 pub mod Waits
--- Bookkeeping: private calls and proofs alone name these.
+-- Laws: lemmas that impls and clauses cite. They promise nothing.
 pub mod LineLaws

@@ -14,6 +14,8 @@ abbrev pub IsWaiting : Rows → Said → Type 0
 IsWaiting rows (said.Sending d j) = MayTake rows d j
 IsWaiting rows _ = Unit {0}
 
+-- == laws ==
+
 -- that it may has one proof at most
 pub waiting_prop : (rows : Rows) (s : Said) → IsProp (IsWaiting rows s)
 waiting_prop rows said.Nothing = hlevel props

@@ -4,7 +4,8 @@ pub mod Sound
 pub mod NodeView
 pub mod HostView
 -- Bookkeeping: private calls and proofs alone name these.
-pub mod Cells
 pub mod Boots
+-- Laws: lemmas that impls and clauses cite. They promise nothing.
+pub mod Cells
 pub mod Unique
 pub mod Table

@@ -12,5 +12,5 @@ pub mod Texts
 pub mod View
 pub mod Waits
 pub mod Wanting
--- Bookkeeping: private calls and proofs alone name these.
+-- Laws: lemmas that impls and clauses cite. They promise nothing.
 pub mod LineLaws

@@ -15,6 +15,13 @@ abbrev pub IsWaiting : Option Listing → Said → Type 0
 IsWaiting m (said.Scanning number) = IsListed number m
 IsWaiting m _ = Unit {0}
 
+-- how many pieces are still to be scanned behind that one
+abbrev pub pieces_left : Option Listing → Said → ℕ
+pieces_left (Some m) (said.Scanning number) = length m.marks - number
+pieces_left _ _ = 0
+
+-- == laws ==
+
 listed_prop : (number : ℕ) (m : Option Listing) → IsProp (IsListed number m)
 listed_prop number None = hlevel props
 listed_prop number (Some m) = hlevel props
@@ -34,8 +41,3 @@ waiting_prop m said.NoCode = hlevel props
 waiting_prop m (said.Unread number) = hlevel props
 waiting_prop m (said.NoTotal sum) = hlevel props
 waiting_prop m (said.NoPiece number reply) = hlevel props
-
--- how many pieces are still to be scanned behind that one
-abbrev pub pieces_left : Option Listing → Said → ℕ
-pieces_left (Some m) (said.Scanning number) = length m.marks - number
-pieces_left _ _ = 0

@@ -8,4 +8,5 @@ pub mod Acts
 pub mod Starts
 pub mod Kinds
 pub mod RowList
+-- Laws: lemmas that impls and clauses cite. They promise nothing.
 pub mod RowLaws

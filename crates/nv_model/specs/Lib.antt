@@ -10,5 +10,5 @@ pub mod Tallies
 pub mod Fuses
 pub mod Still
 pub mod Calls
--- Bookkeeping: private calls and proofs alone name these.
+-- Laws: lemmas that impls and clauses cite. They promise nothing.
 pub mod Laws

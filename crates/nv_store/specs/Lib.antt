@@ -15,7 +15,7 @@ pub mod Rooms
 pub mod TableView
 pub mod TableMounts
 pub mod Turns
--- Bookkeeping: private calls and proofs alone name these.
+-- Laws: lemmas that impls and clauses cite. They promise nothing.
 pub mod Current
 pub mod Knows
 pub mod TableKnows

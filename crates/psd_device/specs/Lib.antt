@@ -4,7 +4,7 @@ pub mod Boots
 pub mod Sound
 pub mod NodeView
 pub mod DeviceView
--- Bookkeeping: private calls and proofs alone name these.
+-- Laws: lemmas that impls and clauses cite. They promise nothing.
 pub mod Knows
 pub mod Finds
 pub mod NodeLaws

@@ -5,8 +5,9 @@ pub mod Boots
 pub mod NodeView
 pub mod RunningView
 -- Bookkeeping: private calls and proofs alone name these.
+pub mod Committed
+-- Laws: lemmas that impls and clauses cite. They promise nothing.
 pub mod Unique
 pub mod Knows
 pub mod NodeLaws
-pub mod Committed
 pub mod Counts

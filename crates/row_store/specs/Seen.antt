@@ -27,6 +27,8 @@ module _ {R : Type 0} (row : ℕ → List ℕ → Option R) where
   abbrev pub seen_in : ℕ → (ℕ → Option Held) → RowList R
   seen_in cells held = seen_by cells held (λ k. row_held k (held k))
 
+  -- == laws ==
+
   read_one : (k : ℕ) (o : Option Held) → IsProp (IsRead k o)
   read_one k None = hlevel props
   read_one k (Some h) = hlevel props

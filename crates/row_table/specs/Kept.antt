@@ -38,7 +38,9 @@ pub record HoldsForeign {R : Type 0} (cells : ℕ) (reads : ℕ → R → List �
   pub is : held cell ≡ Some kept
   pub reads_none : (x : R) → reads cell x kept.1 → ⊥
 
--- so does the image that shows what the memory keeps
+-- == laws: one or none ==
+
+-- the image that shows what the memory keeps holds one too
 pub foreign_shown : {R : Type 0} (size cells : ℕ) (reads : ℕ → R → List ℕ → Type 0) (held : ℕ → Option Held) (image : List ℕ)
     → Shows size 2 cells held image → HoldsForeign cells reads held → HasForeignCell size cells reads image
 foreign_shown size cells reads held image shows foreign = record {
@@ -56,7 +58,7 @@ filled_prop reads one None (Some h) = hlevel
 filled_prop reads one (Some x) None = hlevel
 filled_prop reads one (Some x) (Some h) = one x h.1
 
--- == one cell ==
+-- == laws: one cell ==
 
 module _ {R : Type 0} (reads : R → List ℕ → Type 0) where
   held_as : (o : Option R) (h : Option Held) → IsFilled reads o h → IsHeldAs reads (with_count h o) h
@@ -77,7 +79,7 @@ module _ {R : Type 0} (reads : R → List ℕ → Type 0) where
   count_kept (Some x) None filled = refl
   count_kept (Some x) (Some h) filled = refl
 
--- == all cells ==
+-- == laws: all cells ==
 
 module _ {R : Type 0} (cells : ℕ) (reads : ℕ → R → List ℕ → Type 0) (rows : ℕ → Option R) (held : ℕ → Option Held) where
   abbrev seen : RowList R
@@ -168,7 +170,7 @@ module _ {R : Type 0} (cells : ℕ) (reads : ℕ → R → List ℕ → Type 0) 
               (subst (λ (h : Option Held). IsHeldAs (reads cell) (Some (commits_at (row_at seen cell) + 1, x)) h) (sym new)
               (ap (λ (n : ℕ). n + 1) (sym (seen_count cell inside)), row))
 
--- == the number of all commits ==
+-- == laws: the number of all commits ==
 
 -- the first cell's count comes first
 sum_first : (n : ℕ) (held : ℕ → Option Held) → count_sum (suc n) held ≡ count_of (held 0) + count_sum n (λ k. held (suc k))

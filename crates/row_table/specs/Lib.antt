@@ -1,5 +1,5 @@
 -- Promised: contracts of other crates rest on these.
 pub mod Shows
 pub mod Kept
--- Bookkeeping: private calls and proofs alone name these.
+-- Laws: lemmas that impls and clauses cite. They promise nothing.
 pub mod ShowsLaws

@@ -12,7 +12,7 @@ pub mod Counts
 pub mod Generated
 pub mod Marks
 pub mod Undisturbed
--- Bookkeeping: private calls and proofs alone name these.
+-- Laws: lemmas that impls and clauses cite. They promise nothing.
 pub mod ScriptLaws
 pub mod Sent
 pub mod SideLaws

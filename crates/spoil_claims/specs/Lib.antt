@@ -11,5 +11,5 @@ pub mod Storage
 pub mod Texts
 pub mod View
 pub mod Waits
--- Bookkeeping: private calls and proofs alone name these.
+-- Laws: lemmas that impls and clauses cite. They promise nothing.
 pub mod LineLaws

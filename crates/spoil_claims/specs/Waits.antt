@@ -20,6 +20,8 @@ abbrev pub IsWaiting : Claims → Said → Type 0
 IsWaiting rows (said.Scanning c) = (1 ≤ c) × IsSome (kept rows c)
 IsWaiting rows _ = Unit {0}
 
+-- == laws ==
+
 -- that it is has one proof at most
 pub waiting_prop : (rows : Claims) (s : Said) → IsProp (IsWaiting rows s)
 waiting_prop rows said.Nothing = hlevel props

@@ -4,7 +4,8 @@ pub mod Sound
 pub mod NodeView
 pub mod VerifierView
 -- Bookkeeping: private calls and proofs alone name these.
-pub mod Held
 pub mod Indexes
 pub mod Boots
+-- Laws: lemmas that impls and clauses cite. They promise nothing.
+pub mod Held
 pub mod Table
