@@ -2,6 +2,7 @@
 -- sees: a message that nobody sent, and a device beside the centre.
 use Rattle.std.proofs.Common.{◌≡◌, ◌≢◌, inl, inr, ◌⊎◌, ⊎_elim, ℕ, ℤ, ◌+◌, ◌-◌, List, [], ◌∷◌, Option, Some, None, Bool, true, false, ◌↔◌, refl, sym, ◌∙◌, ap, subst, true≢false, arith}
 use Rattle.std.specs.Prelude.{slice_get, IsSome}
+use Rattle.std.proofs.lemmas.Option.{same_Some}
 use Rattle.bench_base.specs.declared.words.Node.{Node}
 use Rattle.bench_base.specs.declared.words.Node.TheVariants.{Device, Centre, Host, Verifier}
 use Rattle.bench_base.specs.declared.ledger.Entry.TheVariants as entry
@@ -34,7 +35,7 @@ use Rattle.bench_views.specs.declared.taken.Work.TheVariants as work
 use Rattle.bench_views.specs.Follows.{OthersAreQuiet, quiet_by}
 use Rattle.bench_views.specs.Tariff.{Quote, quote}
 use Rattle.bench_views.specs.Taken.{taken, as_given}
-use Rattle.bench_views.proofs.Events.{each_quiet, IsOfNone, same_work, some_same}
+use Rattle.bench_views.proofs.Events.{each_quiet, IsOfNone, same_work}
 use Rattle.bench.specs.Benches.{Nodes, OfState, Of, IsReady, Stands, BenchOf}
 use Rattle.bench.specs.Outside.{Outside, ReadsRates}
 use Rattle.bench.specs.Steps.{Steps, DoesAsked, ComparesViews}
@@ -291,7 +292,7 @@ module _ (n : Nodes) (old : BenchOf n) (ready : IsReady old) (out : Outside) whe
             stands = stands;
             still = λ k. refl;
           })
-          (λ tells. asking _ _ _ _ _ _ _ _ _ _ x taken_is (λ u day. subst (λ (t : ℤ). DoesAsked n t (turn_of reply []) old old out out x) (some_same (sym day_is ∙ day)) (on.does tells)) answers.not_read)
+          (λ tells. asking _ _ _ _ _ _ _ _ _ _ x taken_is (λ u day. subst (λ (t : ℤ). DoesAsked n t (turn_of reply []) old old out out x) (same_Some _ _ (sym day_is ∙ day)) (on.does tells)) answers.not_read)
 
     module _ (e : Event) (whole : IsWholeEvent e) where
       pub steps_missing : (k : ℕ) → taken old.messages (quote old.rates) e ≡ Some (take.Work (work.NoMessage k)) → Steps n e [] (turn_of (r.NoMessage k) []) old old out out

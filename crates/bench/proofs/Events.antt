@@ -2,6 +2,7 @@
 use Rattle.std.proofs.Common.{◌≡◌, ◌≢◌, ◌⊎◌, inl, inr, ⊎_elim, ℕ, ℤ, List, Option, Some, None, Result, Ok, Err, Bool, true, false, length, refl, sym, ◌∙◌, ap, subst, true≢false}
 use Rattle.std.specs.Prelude.{◌&&◌, nat_le, slice_get, if◌then◌else◌}
 use Rattle.std.proofs.lemmas.Bool.{cases_eq, false_from_ne_true}
+use Rattle.std.proofs.lemmas.Option.{same_Some}
 use Rattle.bench_base.specs.declared.words.Node.{Node}
 use Rattle.bench_base.specs.declared.words.Node.TheVariants.{Device, Centre, Host, Verifier}
 use Rattle.bench_base.specs.declared.refusals.Unread.{Unread}
@@ -33,7 +34,7 @@ use Rattle.bench_views.specs.declared.taken.Work.TheVariants as work
 use Rattle.bench_views.specs.Tariff.{Quote}
 use Rattle.bench_views.specs.Taken as takes
 use Rattle.bench_views.specs.Taken.{taken, as_given, as_given_by, as_scanned_by, addressee, IsPricedAsked}
-use Rattle.bench_views.proofs.Events.{each_asked, each_of_centre, each_of_host, each_of_verifier, some_same}
+use Rattle.bench_views.proofs.Events.{each_asked, each_of_centre, each_of_host, each_of_verifier}
 use Rattle.node_acts.specs.Kinds.{OfCall}
 use Rattle.bench.specs.Calls.{asked_event, device_event, centre_event, host_event, verifier_event, device_call_event, centre_call_event, host_call_event, verifier_call_event, IsRangedCall, IsRangedJob, IsRangedScan}
 
@@ -352,7 +353,7 @@ pub of_verifier : (asked : Asked VerifierCall) → IsOfNode Verifier (verifier_e
 of_verifier asked = asked_of Verifier verifier_call_event verifier_call_of asked
 
 pub node_is : (m : Node) (e : Event) (k : Node) → IsOfNode m e → node_for e ≡ Some k → m ≡ k
-node_is m e k of is = some_same (sym of.node ∙ is)
+node_is m e k of is = same_Some _ _ (sym of.node ∙ is)
 
 -- == whom a failure is told of ==
 

@@ -1,5 +1,6 @@
 -- The acts of the host's calls: what they change, how they are told, and what is printed of them.
 use Rattle.std.proofs.Common.{◌≢◌, ℕ, List, Option, Some, None, refl, inr, ap, subst, arith}
+use Rattle.std.proofs.lemmas.Option.{same_Some}
 use Rattle.bench_base.specs.declared.words.Node.TheVariants.{Host}
 use Rattle.bench_base.specs.declared.refusals.HostRefusal.{HostRefusal}
 use Rattle.bench_base.specs.declared.events.Event.TheVariants as ev
@@ -27,7 +28,6 @@ use Rattle.host_jobs.proofs.SoundActs.{leaves}
 use Rattle.bench_views.specs.declared.calls.HostCall.{HostCall}
 use Rattle.bench_views.specs.declared.calls.HostCall.TheVariants as call
 use Rattle.bench_views.specs.Host.{host_act}
-use Rattle.bench_views.proofs.Events.{some_same}
 use Rattle.bench.specs.Calls.{host_call_event, IsRangedJob}
 use Rattle.bench.proofs.Calls.{polite_says, CommitsNone, told_made, told_none}
 
@@ -103,7 +103,7 @@ so_says say so (Tell b) a of = subst PrintsSo of (so b)
 so_says say so (Commits c x b) a of = subst PrintsSo of (so b)
 
 printed_so : (j : ℕ) (mark : List ℕ) → PrintsSo (told_printed j mark)
-printed_so j mark = record { given = λ p is. ap (λ (q : Print). r.Printed q.job) (some_same is); says = λ job is. (record { job = j; mark = mark }, refl) }
+printed_so j mark = record { given = λ p is. ap (λ (q : Print). r.Printed q.job) (same_Some _ _ is); says = λ job is. (record { job = j; mark = mark }, refl) }
 
 -- a job is said to be printed where its mark is given to the printer
 pub call_prints : (c : HostCall) (rows : Jobs) (a : Said) → TellsOf a (host_act c rows) → PrintsSo a

@@ -1,7 +1,7 @@
 -- What an event of one node does to the bench, whatever the kind of the node.
 use Rattle.std.proofs.Common.{◌≡◌, ◌≢◌, ◌↔◌, ℕ, ℤ, ◌+◌, List, [], ◌++◌, length, Option, Some, None, refl, sym, ◌∙◌, ap, subst, arith, append-nil, true, false, true≢false}
 use Rattle.std.specs.Prelude.{slice_get, slice_set, IfSome}
-use Rattle.std.proofs.lemmas.Option.{slice_get_within}
+use Rattle.std.proofs.lemmas.Option.{slice_get_within, same_Some}
 use Rattle.std.proofs.lemmas.List.{length-set}
 use Rattle.bench_base.specs.declared.words.Node.{Node}
 use Rattle.bench_base.specs.declared.words.Node.TheVariants.{Device, Centre, Host, Verifier}
@@ -34,7 +34,7 @@ use Rattle.bench_views.specs.declared.taken.Work.TheVariants as work
 use Rattle.bench_views.specs.Tariff.{quote}
 use Rattle.bench_views.specs.Taken.{taken, as_given}
 use Rattle.bench_views.specs.Follows.{Follows, FollowsAlways}
-use Rattle.bench_views.proofs.Events.{same_work, some_same}
+use Rattle.bench_views.proofs.Events.{same_work}
 use Rattle.bench.specs.Benches.{Nodes, OneKind, OfChange, At, IsReady, Stands, devices, centre, host, verifier, BenchOf}
 use Rattle.bench.specs.Outside.{Outside}
 use Rattle.bench_base.specs.Replies.{tells_failure}
@@ -201,7 +201,7 @@ module _ (n : Nodes) (e x : Event) (today : ℤ) (old new : BenchOf n) (turn : T
     shown : n.storage.tells → StepsByViews n e turn old new before now
     shown tells = record {
       does = λ u y day taken_is.
-          let when : today ≡ u = some_same (sym is.dated ∙ day) in
+          let when : today ≡ u = same_Some _ _ (sym is.dated ∙ day) in
           let what : work_of asked ≡ y = same_work (sym is.taken_is ∙ taken_is) in
           subst (λ (j : ℤ). DoesAsked n j turn old new before now y) when (subst (λ (z : Work). DoesAsked n today turn old new before now z) what (is.does tells));
       unwritten = at_unwritten n m e x turn old new before now did tells;

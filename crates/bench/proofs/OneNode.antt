@@ -2,6 +2,7 @@
 -- meanwhile, and what is left of it where the process is stopped.
 use Rattle.std.proofs.Common.{◌≡◌, inl, inr, ⊎_elim, ℕ, ℤ, ◌+◌, List, [], ◌∷◌, ◌++◌, Option, Some, None, Bool, true, false, refl, sym, ◌∙◌, ap, subst, true≢false, ◌==◌, if◌then◌else◌}
 use Rattle.std.specs.Prelude.{option_map, IfSome}
+use Rattle.std.proofs.lemmas.Option.{same_Some}
 use Rattle.bench_base.specs.declared.words.Node.{Node}
 use Rattle.bench_base.specs.declared.ledger.Commit.{Commit}
 use Rattle.bench_base.specs.declared.ledger.Entry.TheVariants as entry
@@ -30,7 +31,6 @@ use Rattle.ledger_moves.specs.Tariffs.{Tariff}
 use Rattle.ledger_moves.specs.Moves.{plan, entries}
 use Rattle.bench_views.specs.Kinds.{Kinds}
 use Rattle.bench_views.specs.Follows.{OthersStay, Follows, Replied, plan_by, commit_by}
-use Rattle.bench_views.proofs.Events.{some_same}
 use Rattle.bench_views.proofs.Views.{same_node_self}
 use Rattle.bench_views.specs.Messages.{sent_in}
 use Rattle.bench.proofs.Notes.{few_notes}
@@ -154,7 +154,7 @@ module _ {K S N C R X : Type 0} (n : Ghosts K S N C R) (g : nv.Ghosts S) (f : fu
 
     -- the record after it
     record_is : kind.seen d (x.0 ∷ counted H) ≡ x.1
-    record_is = some_same (sym (ap (λ (o : Option Commit). option_map (λ (c : Commit). kind.seen d (c ∷ counted H)) o) (own_torn m x.0 H)) ∙ ap (λ (w : View n.Seen). w.next) open_here)
+    record_is = same_Some _ _ (sym (ap (λ (o : Option Commit). option_map (λ (c : Commit). kind.seen d (c ∷ counted H)) o) (own_torn m x.0 H)) ∙ ap (λ (w : View n.Seen). w.next) open_here)
 
   -- == at any moment ==
 

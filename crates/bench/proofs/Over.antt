@@ -1,7 +1,7 @@
 -- A bench that is made over storages, and taken apart.
 use Rattle.std.proofs.Common.{◌≡◌, ℕ, ℤ, zero, suc, [], ◌∷◌, List, Option, Some, None, Bool, false, refl, sym, ◌∙◌, subst, arith, true≢false}
 use Rattle.std.specs.Prelude.{slice_get}
-use Rattle.std.proofs.lemmas.Option.{slice_get_within}
+use Rattle.std.proofs.lemmas.Option.{slice_get_within, same_Some}
 use Rattle.bench_base.specs.declared.words.Node.{Node}
 use Rattle.bench_base.specs.declared.words.Node.TheVariants.{Device, Centre, Host, Verifier}
 use Rattle.bench_base.specs.declared.ledger.Entry.TheVariants.{Begin}
@@ -116,9 +116,6 @@ module _ (n : Nodes) (inside : n.Storage → n.Inner) (sizes : (s : n.Storage) �
   pub inside_stands : (n.inner.tells → n.storage.tells) → (bench : BenchOf n) (stores : benches.Places n.Inner) (L : Ledger) → NodesInside bench stores → Stands n bench L → StoresStand n stores (Begin ∷ L)
   inside_stands told bench stores L within stands = record { day = none_day L; nodes = each }
     where
-      same : (a b : n.Inner) → Some a ≡ Some b → a ≡ b
-      same a b is = cc
-
       each : (m : Node) (store : n.Inner) → store_of stores m ≡ Some store → StoreStandsOff n (Begin ∷ L) store m
       each (Device zero) store is = absurd (cc)
       each (Device (suc i)) store is =
@@ -127,6 +124,6 @@ module _ (n : Nodes) (inside : n.Storage → n.Inner) (sizes : (s : n.Storage) �
           kind_inside n.storage n.inner inside sizes times (benches.devices n) (Device (suc i)) (suc i) s.0 L store told
           (pairs_at (λ s store. store ≡ inside (n.devices.storage s)) bench.devices stores.devices within.devices i s.0 store s.1 is)
           (stands.nodes (Device (suc i)) i s.0 (omega arith) s.1)
-      each Centre store is = kind_inside n.storage n.inner inside sizes times (benches.centre n) Centre tt bench.centre L store told (sym (same stores.centre store is) ∙ within.centre) (stands.nodes Centre)
-      each Host store is = kind_inside n.storage n.inner inside sizes times (benches.host n) Host tt bench.host L store told (sym (same stores.host store is) ∙ within.host) (stands.nodes Host)
-      each Verifier store is = kind_inside n.storage n.inner inside sizes times (benches.verifier n) Verifier tt bench.verifier L store told (sym (same stores.verifier store is) ∙ within.verifier) (stands.nodes Verifier)
+      each Centre store is = kind_inside n.storage n.inner inside sizes times (benches.centre n) Centre tt bench.centre L store told (sym (same_Some stores.centre store is) ∙ within.centre) (stands.nodes Centre)
+      each Host store is = kind_inside n.storage n.inner inside sizes times (benches.host n) Host tt bench.host L store told (sym (same_Some stores.host store is) ∙ within.host) (stands.nodes Host)
+      each Verifier store is = kind_inside n.storage n.inner inside sizes times (benches.verifier n) Verifier tt bench.verifier L store told (sym (same_Some stores.verifier store is) ∙ within.verifier) (stands.nodes Verifier)

@@ -2,7 +2,7 @@
 use Rattle.std.proofs.Common.{◌≡◌, ℕ, ℤ, Bool, true, false, List, Option, Some, None, Result, Ok, Err, length, drop, refl, ap, subst, if◌then◌else◌, arith}
 use Rattle.std.specs.Prelude.{slice_get, ◌&&◌, nat_le}
 use Rattle.std.proofs.lemmas.Bool.Decides.{nat_tests}
-use Rattle.std.proofs.lemmas.Option.{none-some}
+use Rattle.std.proofs.lemmas.Option.{none-some, same_Some}
 use Rattle.bench_base.specs.Ranges.{IsDevice}
 use Rattle.bench_base.specs.declared.words.Kind.{Kind}
 use Rattle.bench_base.specs.declared.words.Node.TheVariants.{Device, Centre, Host, Verifier}
@@ -29,9 +29,6 @@ use Rattle.bench_views.specs.declared.taken.Work.TheVariants as work
 use Rattle.bench_views.specs.Tariff.{Quote}
 use Rattle.bench_views.specs.Taken as takes
 use Rattle.bench_views.specs.Taken.{taken, message_taken, scanned}
-
-pub some_same : {A : Type 0} {a b : A} → Some a ≡ Some b → a ≡ b
-some_same h = cc
 
 pub same_work : {x y : Work} → Some (take.Work x) ≡ Some (take.Work y) → x ≡ y
 same_work h = cc
@@ -151,7 +148,7 @@ module _ (pool : List (List ℕ)) (quote : Quote) where
     scanned_each n k (Some bytes) is = each.verifier.message n k bytes is
 
     found : (e : Event) (x y : Taken) → Some y ≡ Some x → ByNode R D C H V e y → ByNode R D C H V e x
-    found e x y is holds = subst (ByNode R D C H V e) (some_same is) holds
+    found e x y is holds = subst (ByNode R D C H V e) (same_Some _ _ is) holds
 
     pub each_taken : (e : Event) (x : Taken) → taken pool quote e ≡ Some x → ByNode R D C H V e x
     each_taken (ev.Day t) x h = found (ev.Day t) x (take.Day t) h (each.quiet.day t)
@@ -180,7 +177,7 @@ module _ (pool : List (List ℕ)) (quote : Quote) where
     each_taken (ev.Deposit w receipt amount) x h = found (ev.Deposit w receipt amount) x (take.Work (work.Centre (Call (call.Deposit (record { customer = w; receipt = receipt; amount = amount }))))) h (each.centre.deposit w receipt amount)
     each_taken (ev.Flag w suspended) x h = found (ev.Flag w suspended) x (take.Work (work.Centre (Call (call.Flag (record { customer = w; suspended = suspended }))))) h (each.centre.flag w suspended)
     each_taken (ev.Balance w) x h = found (ev.Balance w) x (take.Work (work.Centre (Call (call.Balance (record { customer = w }))))) h (each.centre.balance w)
-    each_taken (ev.Deliver k) x h = subst (ByNode R D C H V (ev.Deliver k)) (some_same h) (delivered_each k (slice_get pool k) refl)
+    each_taken (ev.Deliver k) x h = subst (ByNode R D C H V (ev.Deliver k)) (same_Some _ _ h) (delivered_each k (slice_get pool k) refl)
     each_taken (ev.Give (Device d) bytes) x h = found (ev.Give (Device d) bytes) x (take.Work (work.Device d (Call (device.Take (record { bytes = bytes; message = next }))))) h (each.devices.give d bytes)
     each_taken (ev.Give Centre bytes) x h = found (ev.Give Centre bytes) x (take.Work (work.Centre (Call (call.Take (record { bytes = bytes; message = next }))))) h (each.centre.give bytes)
     each_taken (ev.Give Host bytes) x h = found (ev.Give Host bytes) x (take.Work (work.Host (Call (host.Take (record { bytes = bytes }))))) h (each.host.give bytes)
@@ -190,7 +187,7 @@ module _ (pool : List (List ℕ)) (quote : Quote) where
     each_taken (ev.Print j) x h = found (ev.Print j) x (take.Work (work.Host (Call (host.Print (record { job = j }))))) h (each.host.print j)
     each_taken (ev.Close j) x h = found (ev.Close j) x (take.Work (work.Host (Call (host.Close (record { job = j }))))) h (each.host.close j)
     each_taken (ev.Trust d key) x h = found (ev.Trust d key) x (take.Work (work.Verifier (Call (verifier.Trust (record { device = d; key = key }))))) h (each.verifier.trust d key)
-    each_taken (ev.ScanMsg n k) x h = subst (ByNode R D C H V (ev.ScanMsg n k)) (some_same h) (scanned_each n k (slice_get pool k) refl)
+    each_taken (ev.ScanMsg n k) x h = subst (ByNode R D C H V (ev.ScanMsg n k)) (same_Some _ _ h) (scanned_each n k (slice_get pool k) refl)
     each_taken (ev.ScanHex n bytes) x h = found (ev.ScanHex n bytes) x (take.Work (work.Verifier (Call (verifier.Scan (record { number = n; bytes = bytes }))))) h (each.verifier.scan n bytes)
     each_taken (ev.Reconcile d) x h = found (ev.Reconcile d) x (take.Work (work.Reconcile d)) h (each.quiet.reconcile d)
 

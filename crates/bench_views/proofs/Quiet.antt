@@ -1,7 +1,7 @@
 -- An event of no node is answered by what is seen of the nodes.
 use Rattle.std.proofs.Common.{◌≡◌, ℕ, ℤ, ◌+◌, List, [], Option, Some, None, Bool, true, false, refl, sym, ◌∙◌, ap}
 use Rattle.std.specs.Prelude.{if◌then◌else◌}
-use Rattle.std.proofs.lemmas.Option.{none-some}
+use Rattle.std.proofs.lemmas.Option.{none-some, same_Some}
 use Rattle.bench_base.specs.declared.words.Node.{Node}
 use Rattle.bench_base.specs.declared.words.Node.TheVariants.{Device, Centre}
 use Rattle.bench_base.specs.declared.ledger.Commit.{Commit}
@@ -33,7 +33,7 @@ use Rattle.bench_views.specs.Devices as device_views
 use Rattle.bench_views.specs.Follows.{quiet_by}
 use Rattle.bench_views.specs.Kinds.{bench_kinds}
 use Rattle.bench_views.specs.Messages.{sent_in}
-use Rattle.bench_views.proofs.Events.{each_quiet, IsOfNone, some_same}
+use Rattle.bench_views.proofs.Events.{each_quiet, IsOfNone}
 use Rattle.bench_views.proofs.Sent.{sent_at}
 
 module _ (H : Ledger) (same : in_books (books_in (centre_views.view_of H).state) ≡ in_commits (counted H)) where
@@ -87,9 +87,9 @@ module _ (H : Ledger) (same : in_books (books_in (centre_views.view_of H).state)
     day = λ t wrong. absurd wrong;
     end = λ wrong. absurd wrong;
     rates = λ answers. absurd (none-some _ answers);
-    reconcile = λ d answers. rw day (compare_is d ∙ ap refuse (some_same answers));
-    deliver = λ k none answers. rw (day, sym (sent_at H k) ∙ none) (ap refuse (some_same answers));
-    scan = λ n k none answers. rw (day, sym (sent_at H k) ∙ none) (ap refuse (some_same answers));
+    reconcile = λ d answers. rw day (compare_is d ∙ ap refuse (same_Some _ _ answers));
+    deliver = λ k none answers. rw (day, sym (sent_at H k) ∙ none) (ap refuse (same_Some _ _ answers));
+    scan = λ n k none answers. rw (day, sym (sent_at H k) ∙ none) (ap refuse (same_Some _ _ answers));
   }) e (take.Work x) is (of_none x answers) answers
     where
       of_none : (y : Work) → Reply_of y ≡ Some reply → IsOfNone (sent_in H) quote (take.Work y)

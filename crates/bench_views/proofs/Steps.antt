@@ -2,7 +2,7 @@
 -- is m, of any kind; its record after some commits is as seen says.
 use Rattle.std.proofs.Common.{◌≡◌, ℕ, Bool, true, false, List, [], ◌∷◌, ◌++◌, Option, Some, None, cond, refl, sym, ap, subst, ◌∙◌, ◌⊎◌, inl, inr, ⊎_elim}
 use Rattle.std.specs.Prelude.{◌+◌}
-use Rattle.std.proofs.lemmas.Option.{none-some}
+use Rattle.std.proofs.lemmas.Option.{none-some, same_Some}
 use Rattle.bench_base.specs.declared.words.Node.{Node}
 use Rattle.bench_base.specs.declared.ledger.Commit.{Commit}
 use Rattle.bench_base.specs.declared.ledger.Entry.{Entry}
@@ -23,7 +23,6 @@ use Rattle.node_acts.specs.Views.{Counting, View, committed, torn}
 use Rattle.node_acts.specs.Acts.{commit_in, commit_of, OfCommit}
 use Rattle.node_acts.specs.Plans.{with_commit, after, after_told, Fails, FailsTold, MayFail, MayReply, done_plan, view_after, view_told}
 use Rattle.node_acts.specs.Kinds.{view_in}
-use Rattle.bench_views.proofs.Events.{some_same}
 
 -- entries that tell of what was done
 abbrev pub AreTold : List Entry → Type 0
@@ -171,7 +170,7 @@ module _ {S X : Type 0} (n : Counting S X) (m : Node) (seen : List Commit → S)
     where
       by : Failed (made y c T) x ⊎ PrinterFails x → Goes x (Some (c, s)) (after (made y c T) x H)
       by (inl g) =
-          let at : g.n ≡ m = sym g.own ∙ ap node_of (sym (some_same g.is)) ∙ own in
+          let at : g.n ≡ m = sym g.own ∙ ap node_of (sym (same_Some _ _ g.is)) ∙ own in
           subst (λ (new : Ledger). Goes x (Some (c, s)) new) (sym (torn_after (told_by x) g.n y c T at g.how)) (tears c s (λ v. torn_still (told_by x) g.n c s v g.how) own is)
       by (inr g) = subst (λ (t : Told). Goes x (Some (c, s)) (after_told (made y c T) t H)) (sym g.1) (does [] c s tt (λ v. ap (λ (t : Told). view_told n t (Some (c, s)) v) g.1) on own is)
 

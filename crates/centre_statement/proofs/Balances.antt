@@ -2,6 +2,7 @@
 use Rattle.std.proofs.Common.{◌≡◌, ◌≢◌, ◌⊎◌, inl, inr, ℕ, ◌+◌, Bool, true, false, List, [], ◌∷◌, Option, Some, None, refl, sym, subst, ◌∙◌, true≢false, arith, zero, suc, eqb}
 use Rattle.std.specs.Prelude.{◌==◌, ◌&&◌, if◌then◌else◌}
 use Rattle.std.proofs.lemmas.Bool.{cases_Bool, eqb-true, ne_eqb, eq-eqb}
+use Rattle.std.proofs.lemmas.Option.{same_Some}
 use Rattle.bench_base.specs.declared.words.Kind.{Kind}
 use Rattle.bench_base.specs.declared.words.Kind.TheVariants.{Enrol, Reset, Audit, Refund, Withdraw}
 use Rattle.bench_base.specs.declared.words.Verdict.{Verdict}
@@ -42,9 +43,6 @@ sum_one f g (suc (suc (suc (suc (suc (suc (suc (suc zero)))))))) x range rest is
 sum_one f g (suc (suc (suc (suc (suc (suc (suc (suc (suc d))))))))) x range rest is = absurd (omega (arith, range.1))
 
 -- == choices ==
-
-some_same : (x y : ℕ) → Some x ≡ Some y → x ≡ y
-some_same x y is = cc
 
 chosen_none : (s t : Bool) (b x : ℕ) → b ≡ 0 → x ≡ 0 → (if s then b + x else 0) ≡ 0 + (if t then x else 0)
 chosen_none true true b x zb zx = omega (arith, zb, zx)
@@ -119,7 +117,7 @@ share_by (Some y) true true q w b x none owner enrols tells = chosen_nothing (y 
 share_by (Some y) false true q w b x none owner enrols tells = chosen_nothing (y == w) (q == w) b x (enrols refl)
 share_by (Some y) true false q w b x none owner enrols tells = absurd (true≢false (sym (tells refl)))
 share_by (Some y) false false q w b x none owner enrols tells =
-    let same : y ≡ q = some_same y q (owner refl) in
+    let same : y ≡ q = same_Some y q (owner refl) in
     subst (λ (z : ℕ). (if y == w then b + x else 0) ≡ (if y == w then b else 0) + (if z == w then x else 0)) same (chosen_both (y == w) b x)
 
 both_true : (a b : Bool) → (a && b) ≡ true → b ≡ true

@@ -2,6 +2,7 @@
 use Rattle.std.proofs.Common.{◌≡◌, ◌⊎◌, inl, inr, ℕ, ◌+◌, ◌-◌, List, [], ◌∷◌, Option, Some, None, Result, Ok, Err, Bool, true, false, refl, sym, ap, ◌∙◌, subst}
 use Rattle.std.specs.Prelude.{codes, nat_lt}
 use Rattle.std.proofs.lemmas.Bool.{false_from_ne_true}
+use Rattle.std.proofs.lemmas.Option.{same_Some}
 use Rattle.bench_base.specs.declared.events.Event.TheVariants as ev
 use Rattle.bench_base.specs.declared.refusals.StoreFail.{StoreFail}
 use Rattle.bench_base.specs.declared.refusals.StoreFail.TheVariants as fail
@@ -41,9 +42,6 @@ use Rattle.host_departments.specs.declared.row.DepartmentRow.TheVariants as row
 use Rattle.host_departments.specs.declared.said.Said.{Said}
 use Rattle.host_departments.specs.declared.said.Said.TheVariants as said
 use Rattle.desk_runs.proofs.Wanting.{no_step, no_say, step_event, ends_at}
-
-one_limit : (a b : ℕ) → Some a ≡ Some b → a ≡ b
-one_limit a b is = cc
 
 -- the step was done, and this is its turn
 abbrev pub Tells : {B : Type 0} → (B → B → Done → Turn → Type 0) → Done → Turn → Type 0
@@ -189,7 +187,7 @@ module _ {N : Type 0} {g : nv.Ghosts N} (nested : (s : N) → g.tells → Nested
         heard : (turn : Turn) → Hears d j turn.reply (sent_in turn.entries) mid more m.desk → asked ≡ record { event = ev.Send j; turn = turn } ∷ []
             → Ended mid rest m new × IsSent d j q (rows_of mid) (answer_of asked new.desk)
         heard turn (inl did) only =
-            let same : did.2.limit ≡ q = one_limit did.2.limit q (sym did.2.is ∙ limit) in
+            let same : did.2.limit ≡ q = same_Some did.2.limit q (sym did.2.is ∙ limit) in
             let out = took did.0 (q - spent (rows_of mid) d) (subst (λ (n : ℕ). TakesBy d j did.0 (n - spent (rows_of mid) d) mid more m.desk) same did.2.takes) in
             (out.0, record { turn = turn; only = only; did = inl (did.0, did.1, out.1) })
         heard turn (inr did) only =
@@ -222,7 +220,7 @@ module _ {N : Type 0} {g : nv.Ghosts N} (nested : (s : N) → g.tells → Nested
 
         heard_none : (turn : Turn) → asked ≡ record { event = ev.Send j; turn = turn } ∷ [] → Hears d j turn.reply (sent_in turn.entries) mid more m.desk → IsCutHere
         heard_none turn only (inl did) =
-            let same : did.2.limit ≡ q = one_limit did.2.limit q (sym did.2.is ∙ limit) in
+            let same : did.2.limit ≡ q = same_Some did.2.limit q (sym did.2.is ∙ limit) in
             took_none turn only did.0 did.1 (nat_lt (q - spent (rows_of mid) d) did.0) refl (subst (λ (n : ℕ). TakesBy d j did.0 (n - spent (rows_of mid) d) mid more m.desk) same did.2.takes)
         heard_none turn only (inr did) = absurd (not_said (said.Sent turn.reply) did.1)
 

@@ -1,5 +1,6 @@
 -- Jobs that are backed by a history hold by it.
 use Rattle.std.proofs.Common.{◌≡◌, ℕ, ◌+◌, Option, Some, None, refl, sym, ap, ◌∙◌}
+use Rattle.std.proofs.lemmas.Option.{same_Some}
 use Rattle.bench_base.specs.Ledger.{Ledger, counted}
 use Rattle.bench_base.specs.Rules.{editions}
 use Rattle.ledger_lawful.specs.Editions.{Editions}
@@ -19,12 +20,9 @@ module _ (today : Editions editions) (τ : Tariff) (H : Ledger) (history : Histo
   cell_ordered k (Some (Quota q)) is = refl
   cell_ordered k (Some (Job j p)) is = sym (ap (λ (o : Option ℕ). or_zero o) (b k j p is))
 
-  one_postage : (a p : ℕ) → Some a ≡ Some p → a ≡ p
-  one_postage a p is = cc
-
   pub departments_hold : DepartmentsHold rows H
   departments_hold = record {
     spent = λ d is. sum_same 64 (postage_at rows d) (λ i. ordered_at (counted H) (row_in rows (first_cell d + i))) (λ i lt. cell_ordered (first_cell d + i) (row_in rows (first_cell d + i)) refl);
-    only = λ k j p is d piece a class within. one_postage a p (sym (order_of τ _ _ H today history j d piece a class within) ∙ b k j p is);
+    only = λ k j p is d piece a class within. same_Some a p (sym (order_of τ _ _ H today history j d piece a class within) ∙ b k j p is);
     backed = b;
   }

@@ -3,6 +3,7 @@ use Rattle.std.proofs.Common.{◌≡◌, ◌≢◌, ◌⊎◌, inl, inr, ℕ, �
 use Rattle.std.specs.Prelude.{IsSome, is_some}
 use Rattle.std.proofs.lemmas.Bool.{cases_eq, cases_lt}
 use Rattle.std.proofs.lemmas.List.{set_past}
+use Rattle.std.proofs.lemmas.Option.{same_Some}
 use Rattle.node_acts.specs.RowList.{put, row_of, row_at, commits_at}
 use Rattle.node_acts.specs.RowLaws.{put_here, put_other}
 use Rattle.host_departments.specs.Rows.{Rows, row_in, quota, quota_in, or_zero, spent, postage_at, postage_in, job_in, first_cell, Keeps, HasJobs, AreInOrder, IsDepartment, IsSound}
@@ -17,14 +18,11 @@ module _ (rows : Rows) (cell : ℕ) (x : DepartmentRow) where
   pub row_else : (k : ℕ) → k ≢ cell → row_in (put rows cell x) k ≡ row_in rows k
   row_else k differs = ap (λ o. row_of o) (put_other rows cell x k differs)
 
-one_row : (x y : DepartmentRow) → Some x ≡ Some y → x ≡ y
-one_row x y is = cc
-
 -- what a cell keeps after a commit is what was committed or was there before
 pub put_row : (rows : Rows) (k : ℕ) (x y : DepartmentRow) (l : ℕ) → row_in (put rows k x) l ≡ Some y → (x ≡ y) ⊎ (row_in rows l ≡ Some y)
 put_row rows k x y l is = elim (cases_eq l k) [
   | inl same ↦ elim (cases_lt k (length rows)) [
-    | inl lt ↦ inl (one_row x y (sym (row_put rows k x lt) ∙ (ap (λ (j : ℕ). row_in (put rows k x) j) (sym same) ∙ is)))
+    | inl lt ↦ inl (same_Some x y (sym (row_put rows k x lt) ∙ (ap (λ (j : ℕ). row_in (put rows k x) j) (sym same) ∙ is)))
     | inr past ↦ inr (subst (λ (r : Rows). row_in r l ≡ Some y) (set_past rows k (Some (commits_at (row_at rows k) + 1, x)) past) is)
   ]
   | inr differs ↦ inr (sym (row_else rows k x l differs) ∙ is)

@@ -1,6 +1,7 @@
 -- A verdict is good exactly where the bytes are a statement.
 use Rattle.std.proofs.Common.{◌≡◌, ℕ, ℤ, pos, ◌+◌, ◌≤◌, List, [], ◌∷◌, ◌++◌, length, map, Some, refl, sym, ap, subst, ◌∙◌, arith, append-nil}
 use Rattle.std.specs.List.{AllByRecursion}
+use Rattle.std.proofs.lemmas.Option.{same_Some}
 use Rattle.line_runs.specs.Ends.{lines_of}
 use Rattle.statement_check.specs.Lines.{IsMills, IsInRange, line_text}
 use Rattle.statement_check.specs.Places.{IsRight, AreRight, place_after}
@@ -14,9 +15,6 @@ use Rattle.statement_check.specs.declared.verdict.Verdict.TheVariants.{Good}
 
 pos_same : (a b : ℕ) → pos a ≡ pos b → a ≡ b
 pos_same a b is = cc
-
-some_same : (x y : ℤ) → Some x ≡ Some y → x ≡ y
-some_same x y is = cc
 
 -- what right lines behind this balance are, of which the last is the closing line
 record ClosesFrom (before closing : ℕ) (lines : List StatementLine) : Type 0 where
@@ -36,7 +34,7 @@ no_more b (Closing x ∷ lines) each = let told = each.0.told in cc
 
 closes_now : (before closing x : ℕ) (lines : List StatementLine) → lines ≡ [] → IsRight (Behind before) (Closing x) → place_after (Closed x) lines ≡ Closed closing → ClosesFrom before closing (Closing x ∷ lines)
 closes_now before closing x [] none right at =
-    let told : pos before ≡ pos x = some_same (pos before) (pos x) right.told in
+    let told : pos before ≡ pos x = same_Some (pos before) (pos x) right.told in
     let same : x ≡ before = pos_same x before (sym told) in
     let last : x ≡ closing = cc in
     record {
@@ -61,7 +59,7 @@ closes_from before closing (Moved m ∷ lines) each at =
       count = omega (arith, rest.count);
       each = (each.0.ranges, rest.each);
       last = rest.last;
-      follow = (some_same _ _ each.0.told, rest.follow);
+      follow = (same_Some _ _ each.0.told, rest.follow);
     }
 
 -- right lines up to the closing line are a statement
