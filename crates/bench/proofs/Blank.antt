@@ -1,18 +1,15 @@
 -- Blank storages, as the first run finds them: they stand for the empty ledger.
-use Rattle.std.proofs.Common.{◌≡◌, inl, inr, ℕ, zero, suc, ◌+◌, ◌*◌, ◌-◌, ◌≤◌, List, [], take, get_or, replicate, Option, Some, None, false, refl, sym, ◌∙◌, ap, subst, arith}
-use Rattle.std.proofs.lemmas.Bool.{cases_lt}
-use Rattle.std.proofs.lemmas.List.{drop-replicate, get_or_past}
+use Rattle.std.proofs.Common.{◌≡◌, inl, ℕ, zero, suc, ◌+◌, ◌*◌, ◌-◌, List, [], take, replicate, Option, Some, None, false, refl, sym, ◌∙◌, ap, subst}
+use Rattle.std.proofs.lemmas.List.{drop-replicate}
 use Rattle.bench_base.specs.declared.words.Node.{Node}
 use Rattle.bench_base.specs.declared.words.Node.TheVariants.{Device, Centre, Host, Verifier}
-use Rattle.bench_base.specs.declared.sizes.TheConstants.{MOST_COMMITS}
 use Rattle.bench_base.specs.Ledger.{is_on}
 use Rattle.nv_model.specs.declared.nv.Nv as nv
 use Rattle.nv_store.specs.Slot.{Held, slot, slots_at}
 use Rattle.nv_store.specs.Store.{Shows}
 use Rattle.nv_store.specs.Current.{current_none}
 use Rattle.node_acts.specs.Kinds.{view_in}
-use Rattle.node_acts.specs.RowList.{RowList, listed, row_at, commits_at}
-use Rattle.node_acts.specs.RowLaws.{listed_long, listed_at}
+use Rattle.node_acts.specs.RowList.{RowList, row_at}
 use Rattle.node_seat.specs.Stands.{StoreStands}
 use Rattle.row_table.specs.Shows.{IsHeldAs, ShowsRows}
 use Rattle.bench.specs.Benches.{Nodes, OneKind, IsBlank, AreBlank, StoreStandsOff, StoresStand, store_of, bytes_of}
@@ -47,17 +44,7 @@ zeros_show size n cells m = record {
 
 -- == cells of which nothing is seen ==
 
--- a list of nothings has nothing in any place
-pub nothing_at : {X : Type 0} (n : ℕ) (item : ℕ → Option X) → ((k : ℕ) → item k ≡ None) → (k : ℕ) → get_or (listed n item) k None ≡ None
-nothing_at n item none k = elim (cases_lt k n) [
-  | inl lt ↦ listed_at n item None k lt ∙ none k
-  | inr past ↦ get_or_past (listed n item) k None (omega (arith, past, listed_long n item))
-]
-
 module _ {R : Type 0} (s : RowList R) (none : (k : ℕ) → row_at s k ≡ None) where
-  pub no_commits : (k : ℕ) → commits_at (row_at s k) ≤ MOST_COMMITS
-  no_commits k = let no : commits_at (row_at s k) ≡ 0 = ap (λ (o : Option (ℕ × R)). commits_at o) (none k) in omega (arith, no)
-
   -- zeros show them
   pub blank_shown : (size cells bytes : ℕ) (reads : ℕ → R → List ℕ → Type 0) → ShowsRows size cells reads s (replicate bytes 0)
   blank_shown size cells bytes reads =

@@ -4,6 +4,7 @@ use Rattle.std.specs.Prelude.{nat_lt, IfSome}
 use Rattle.bench_base.specs.declared.sizes.TheConstants.{CENTRE_CELLS}
 use Rattle.node_acts.specs.RowList.{row_at, row_of}
 use Rattle.node_acts.specs.RowLaws.{listed_long, listed_is}
+use Rattle.node_acts.proofs.Blanks.{none_at, few_none}
 use Rattle.centre_ledger.specs.declared.rows.DeviceRow.{DeviceRow}
 use Rattle.centre_ledger.specs.declared.rows.CustomerRow.{CustomerRow}
 use Rattle.centre_ledger.specs.declared.rows.Row.{Row}
@@ -13,7 +14,6 @@ use Rattle.centre_ledger.proofs.Kept.{none_kept}
 use Rattle.centre_protocol.specs.Payloads.{IsIn}
 use Rattle.centre_protocol.specs.Sound.{IsSound}
 use Rattle.bench_views.specs.Centre.{cell_after, seen_in}
-use Rattle.bench.proofs.Blank.{nothing_at, no_commits}
 
 no_cell : (k : ℕ) → cell_after k [] ≡ None
 no_cell k = by (nat_lt k 8) refl
@@ -23,7 +23,7 @@ no_cell k = by (nat_lt k 8) refl
     by false is = rw is refl
 
 pub centre_nothing : (k : ℕ) → row_at (seen_in []) k ≡ None
-centre_nothing k = nothing_at CENTRE_CELLS (λ j. cell_after j []) no_cell k
+centre_nothing k = none_at CENTRE_CELLS (λ j. cell_after j []) no_cell k
 
 same_in : {X : Type 0} (x : X) (n k : ℕ) → get_or (replicate n x) k x ≡ x
 same_in x zero k = refl
@@ -38,6 +38,6 @@ no_books = λ i. record {
 
 pub centre_sound : IsSound (seen_in [])
 centre_sound = record {
-  known = record { long = listed_long CENTRE_CELLS (λ k. cell_after k []); few = no_commits (seen_in []) centre_nothing; sound = subst AreSound (sym no_books) none_kept.sound };
+  known = record { long = listed_long CENTRE_CELLS (λ k. cell_after k []); few = few_none (seen_in []) centre_nothing; sound = subst AreSound (sym no_books) none_kept.sound };
   placed = λ k. subst (λ (o : Option (ℕ × Row)). IfSome (row_of o) (IsIn k)) (sym (centre_nothing k)) tt;
 }

@@ -1,5 +1,5 @@
 -- The rows of the commits stay those of the commits.
-use Rattle.std.proofs.Common.{◌≡◌, ◌≢◌, ℕ, ◌+◌, ◌-◌, ◌<◌, Bool, true, false, List, ◌∷◌, length-set, get_or, Option, Some, None, Result, Ok, Err, refl, sym, ap, subst, ◌∙◌, ⊎_elim, arith}
+use Rattle.std.proofs.Common.{◌≡◌, ◌≢◌, ℕ, ◌+◌, ◌-◌, ◌<◌, Bool, true, false, List, ◌∷◌, length-set, get_or, Option, Some, None, Result, Ok, Err, refl, sym, ap, subst, ◌∙◌, ⊎_elim, arith, []}
 use Rattle.std.specs.Prelude.{max, if◌then◌else◌}
 use Rattle.std.proofs.lemmas.Bool.{cases_eq, eq-eqb, ne_eqb}
 use Rattle.std.proofs.lemmas.List.{get_or-set_same, get_or-set_other}
@@ -27,14 +27,16 @@ use Rattle.psd_wire.specs.Grammar.{read}
 use Rattle.host_jobs.specs.declared.rows.JobRow.{JobRow}
 use Rattle.host_jobs.specs.declared.sizes.TheConstants.{HOST_CELLS}
 use Rattle.host_jobs.specs.Answers.{is_open, order_rows, order_answer, print_answer, close_answer, hold_answer}
-use Rattle.host_jobs.specs.Rows.{Jobs, job_in, row_in, put_row, job_row, last_in, top_in, open_in, oldest_in, tops_in}
+use Rattle.host_jobs.specs.Rows.{Jobs, job_in, row_in, put_row, job_row, last_in, top_in, open_in, oldest_in, tops_in, no_jobs}
 use Rattle.host_jobs.specs.Soundness.{AreSound}
-use Rattle.host_jobs.specs.Records.{tops_after, record_by, record_of, job_no, cell_row, rows_after}
+use Rattle.host_jobs.specs.Records.{tops_after, record_by, record_of, job_no, cell_row, rows_after, seen_after}
+use Rattle.host_jobs.specs.Seen.{rows_in}
 use Rattle.host_jobs.specs.Acts.{HostAct, in_rows, shelf_in, ordered_row, ordered_act, order_act, moved, unless, begun_act, printed_act, closed_act, raised, held_row, held_act, open_act, mark_act, message_act}
 use Rattle.host_jobs.specs.ActLaws.{AreRowsOf, FollowsCommits, ActsFollow}
 use Rattle.host_jobs.proofs.Found.{found_row, opened, Waits, tops_at}
 use Rattle.host_jobs.proofs.Answered.{OrderOk, order_ok, HoldOk, hold_ok, is_closed, no_room}
 use Rattle.host_jobs.proofs.Puts.{put_here, put_other}
+use Rattle.host_jobs.proofs.Seeing.{seen_laws}
 use Rattle.host_jobs.proofs.SoundActs.{sound_row, held_mark}
 use Rattle.host_jobs.proofs.CellFacts.{IsRowOf}
 use Rattle.host_jobs.proofs.ByRows.{job_facts, row_is, last_is, top_is, tops_are, open_is, oldest_is, told}
@@ -256,3 +258,7 @@ follows = record {
     closed = λ j. close_follows rows C sound are j (job_row rows j) refl;
   };
 }
+
+-- before the first commit there are no jobs
+pub none_seen : rows_in (seen_after []) ≡ no_jobs
+none_seen = seen_laws.rows [] ∙ sym follows.none.are

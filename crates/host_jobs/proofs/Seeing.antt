@@ -12,8 +12,9 @@ use Rattle.bench_base.specs.Nodes.{node_of, same_node}
 use Rattle.bench_base.specs.Cells.{Place, OfJob, same_place, place_of}
 use Rattle.bench_base.specs.Cells as cells
 use Rattle.bench_base.specs.Jobs.{Job, cell_of, state_of}
-use Rattle.node_acts.specs.RowList.{row_of, commits_at, put}
+use Rattle.node_acts.specs.RowList.{row_at, row_of, commits_at, put}
 use Rattle.node_acts.specs.RowLaws.{listed_long, listed_at, listed_is, listed_same, put_listed}
+use Rattle.node_acts.proofs.Blanks.{none_at}
 use Rattle.host_jobs.specs.declared.rows.JobRow.{JobRow}
 use Rattle.host_jobs.specs.declared.sizes.TheConstants.{HOST_CELLS}
 use Rattle.host_jobs.specs.ActLaws.{AreRowsOf}
@@ -140,3 +141,7 @@ seen_laws = record {
   others = turn_stays;
   stays = λ c C other. listed_same HOST_CELLS (λ k. cell_after k (c ∷ C)) (λ k. cell_after k C) (λ k lt. cell_stays k c C other);
 }
+
+-- before the first commit nothing is seen of the cells
+pub blank : (k : ℕ) → row_at (seen_after []) k ≡ None
+blank k = none_at HOST_CELLS (λ i. cell_after i []) (λ i. refl) k

@@ -1,4 +1,3 @@
-pub mod Blanks
 mod Made
 mod Openings
 mod PrinterFaults

@@ -1,11 +1,8 @@
 -- The acts of the verifier leave sound rows, follow the commits, and are by their rows what they are by them.
-use Rattle.std.proofs.Common.{◌≡◌, inl, inr, ℕ, ℤ, zero, suc, ◌+◌, ◌-◌, ◌%◌, ◌<◌, ◌≤◌, ◌^◌, List, [], ◌∷◌, length, drop, option_map, Option, Some, None, Bool, true, false, Ok, Err, refl, sym, ap, ap₂, subst, ◌∙◌, arith, true≢false}
-use Rattle.std.specs.Prelude.{Result, pos, ◌+ℤ◌, ◌==◌, is_some, IsSome, IfSome, All, nat_le, if◌then◌else◌}
-use Rattle.std.proofs.lemmas.Bool.{cases_lt}
+use Rattle.std.proofs.Common.{◌≡◌, ℕ, ℤ, zero, suc, ◌+◌, ◌-◌, ◌%◌, ◌<◌, ◌≤◌, ◌^◌, List, [], ◌∷◌, length, drop, option_map, Option, Some, None, Bool, true, false, Ok, Err, refl, sym, ap, ap₂, subst, ◌∙◌, arith, true≢false}
+use Rattle.std.specs.Prelude.{Result, pos, ◌+ℤ◌, ◌==◌, is_some, IsSome, IfSome, All, nat_le, if◌then◌else◌, nat_lt}
 use Rattle.std.proofs.lemmas.Bool.Decides.{nat_tests}
-use Rattle.std.proofs.lemmas.List.{get_or_past}
 use Rattle.std.proofs.lemmas.List.Elements.{All-head, All-tail}
-use Rattle.std.proofs.lemmas.List.Sums.{sum_by-cons}
 use lib.Signed.{lt_z}
 use Rattle.bench_base.specs.declared.sizes.TheConstants.{VERIFIER_CELLS, FIRST_BLOCK, BLOCK_PIECES}
 use Rattle.bench_base.specs.declared.words.Node.TheVariants.{Verifier}
@@ -23,8 +20,9 @@ use Rattle.bench_base.specs.Rows.{first_holding}
 use Rattle.bench_base.specs.Scans.{trusted, accepted, block_of, block_place, blocks}
 use Rattle.bench_base.specs.Table.{IsBytes, Size, Fit}
 use Rattle.node_acts.specs.declared.act.Act.TheVariants.{Refuse}
-use Rattle.node_acts.specs.RowList.{row_at, row_of, commits_at, commits_in, listed}
+use Rattle.node_acts.specs.RowList.{row_at, row_of, commits_at, commits_in}
 use Rattle.node_acts.specs.RowLaws.{put_counts}
+use Rattle.node_acts.proofs.Blanks.{none_at, counts_none}
 use Rattle.indicium.specs.declared.Mark.{Mark}
 use Rattle.indicium.specs.Marks.{read_mark, mark_values}
 use Rattle.indicium.proofs.Readings.{read_mark_found}
@@ -36,7 +34,7 @@ use Rattle.verifier.specs.Order.{IsRoomy}
 use Rattle.verifier.specs.Acts.{in_rows, trusted_act, answered_act, spot_act, marked_act, read_act}
 use Rattle.verifier.specs.ActLaws.{IsFit, LeavesSound, ActsLeaveSound, IsNext, FollowsCommits, ActsFollow, ActsArePlanned}
 use Rattle.verifier.specs.Plans.{spot_after, in_commits}
-use Rattle.verifier.specs.Records.{trust_after, block_after, cell_after, seen_after, IsRecorded}
+use Rattle.verifier.specs.Records.{trust_after, block_after, cell_after, seen_after, IsRecorded, block_at}
 use Rattle.verifier.specs.Rows.{TrustRow}
 use Rattle.verifier.specs.Seen.{Seen, row_in, key_at, block_in, cell_of_block, used, spot_by, spot_in, counting, AreSound, IsRowAt}
 use Rattle.verifier.proofs.Basics.{no_pair}
@@ -126,22 +124,20 @@ leaves s sound = record {
 -- == the rows of commits ==
 
 -- at the start there are none
-blank : (k : ℕ) → row_at (seen_after []) k ≡ None
-blank k = elim (cases_lt k VERIFIER_CELLS) [
-  | inr past ↦ get_or_past (seen_after []) k None (omega (arith, past, after_long []))
-  | inl inside ↦ after_at [] k inside ∙ elim (cases_lt k FIRST_BLOCK) [
-    | inl lt ↦ trust_cell [] k lt
-    | inr le ↦ ap (λ j. cell_after j []) (back k le) ∙ block_cell [] (k - FIRST_BLOCK)
-  ]
-]
+pub no_cell : (k : ℕ) → cell_after k [] ≡ None
+no_cell k = by (nat_lt k FIRST_BLOCK)
   where
-    back : (k : ℕ) → FIRST_BLOCK ≤ k → k ≡ FIRST_BLOCK + (k - FIRST_BLOCK)
-    back k le = omega (arith, le)
+    by : (t : Bool) → (if t then trust_after (k + 1) [] else option_map (block_after []) (block_at (k - FIRST_BLOCK) [])) ≡ None
+    by true = refl
+    by false = refl
+
+pub blank : (k : ℕ) → row_at (seen_after []) k ≡ None
+blank k = none_at VERIFIER_CELLS (λ i. cell_after i []) no_cell k
 
 blank_row : (k : ℕ) → row_in (seen_after []) k ≡ None
 blank_row k = ap (λ o. row_of o) (blank k)
 
-none_sound : AreSound (seen_after [])
+pub none_sound : AreSound (seen_after [])
 none_sound = record {
   long = after_long [];
   each = λ k. subst (λ o. IfSome o (IsRowAt k)) (sym (blank_row k)) tt;
@@ -228,14 +224,8 @@ others _ C apart = refl
 
 -- == how many there are ==
 
-none_sum : {R : Type 0} (n : ℕ) (item : ℕ → Option (ℕ × R)) → ((k : ℕ) → k < n → item k ≡ None) → commits_in (listed n item) ≡ 0
-unfolding listed
-none_sum zero item none = refl
-none_sum {R} (suc n) item none =
-    sum_by-cons commits_at (item 0) (listed n (λ k. item (suc k))) ∙ ap₂ (λ a b. a + b) (ap (λ (o : Option (ℕ × R)). commits_at o) (none 0 (omega arith))) (none_sum n (λ k. item (suc k)) (λ k lt. none (suc k) (omega arith)))
-
 counted : (C : List Commit) → IsRecorded C → commits_in (seen_after C) ≡ count_of Verifier C
-counted [] rec = none_sum VERIFIER_CELLS (λ k. cell_after k []) (λ k lt. sym (after_at [] k lt) ∙ blank k)
+counted [] rec = counts_none (seen_after []) blank
 counted (c.Trusted d key ∷ C) rec =
     let before = rest (c.Trusted d key) C rec rec.roomy in
     let fits = All-head InRange (c.Trusted d key) C rec.range in

@@ -16,7 +16,8 @@ use Rattle.bench.specs.Places.{IsDeviceOver}
 use Rattle.bench.proofs.Making.{Moved, moved_start, moved_more, moved_some, moved_done, moved_from, moved_none, pairs_as, pairs_length}
 use Rattle.bench.proofs.Blank.{blank_stand, blank_shown, zeros_show}
 use Rattle.bench.proofs.BlankCentre.{centre_nothing, centre_sound}
-use Rattle.bench.proofs.BlankHost.{host_nothing, host_sound}
+use Rattle.host_jobs.proofs.Seeing as host_seeing
+use Rattle.bench.proofs.BlankHost.{host_sound}
 use Rattle.bench.proofs.BlankVerifier.{verifier_sound}
 use Rattle.bench.proofs.Over.{over_stands}
 use Rattle.bench.proofs.benches.Bench+N.new.Goals as goal
@@ -97,6 +98,6 @@ returns-clause-blank g c blank =
       shown = shown_as 0 None None (replicate DEVICE_BYTES 0) refl (zeros_show RECORD_BYTES SLOTS 1 DEVICE_BYTES);
     })
     (record { size = refl; sound = centre_sound; shown = blank_shown (seen_in []) centre_nothing ROW_BYTES CENTRE_CELLS CENTRE_BYTES centre.IsPayloadOf })
-    (record { size = refl; sound = host_sound; shown = blank_shown (jobs.seen_after []) host_nothing JOB_BYTES HOST_CELLS HOST_BYTES host.IsPayloadOf })
+    (record { size = refl; sound = host_sound; shown = blank_shown (jobs.seen_after []) host_seeing.blank JOB_BYTES HOST_CELLS HOST_BYTES host.IsPayloadOf })
     (record { size = refl; sound = verifier_sound; shown = blank_shown (scans.seen_after []) follows.none BLOCK_BYTES VERIFIER_CELLS VERIFIER_BYTES verifier.IsPayloadOf })
     blank)
