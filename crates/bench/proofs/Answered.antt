@@ -1,6 +1,6 @@
 -- Events that leave all as it is but the day: a day, the end, each event without a day, and those that the bench answers by what it
 -- sees: a message that nobody sent, and a device beside the centre.
-use Rattle.std.proofs.Common.{◌≡◌, ◌≢◌, inl, inr, ◌⊎◌, ⊎_elim, ℕ, ℤ, ◌+◌, ◌-◌, List, [], ◌∷◌, Option, Some, None, Bool, true, false, ◌↔◌, refl, sym, ◌∙◌, ap, subst, true≢false, arith}
+use Rattle.std.proofs.Common.{◌≡◌, ◌≢◌, inl, inr, ◌⊎◌, ⊎_elim, ℕ, ℤ, ◌+◌, ◌-◌, [], ◌∷◌, Option, Some, None, Bool, true, false, ◌↔◌, refl, sym, ◌∙◌, ap, subst, true≢false, arith}
 use Rattle.std.specs.Prelude.{slice_get, IsSome}
 use Rattle.std.proofs.lemmas.Option.{same_Some}
 use Rattle.bench_base.specs.declared.words.Node.{Node}
@@ -11,11 +11,11 @@ use Rattle.bench_base.specs.declared.events.Event.TheVariants as ev
 use Rattle.bench_base.specs.declared.events.Reply.{Reply}
 use Rattle.bench_base.specs.declared.events.Reply.TheVariants as r
 use Rattle.bench_base.specs.Events.{needs_day, day_after}
-use Rattle.bench_base.specs.Plans.{Plan, refuse, told}
+use Rattle.bench_base.specs.Plans.{Plan, refuse}
 use Rattle.bench_base.specs.Replies.{on_after, tells_power, tells_fault, has_read, MayGet}
 use Rattle.bench_base.specs.Rules.{todays_rules}
 use Rattle.bench_base.specs.Ranges.{IsWholeEvent}
-use Rattle.bench_base.specs.Ledger.{Ledger, day_in}
+use Rattle.bench_base.specs.Ledger.{Ledger}
 use Rattle.nv_model.specs.declared.nv.Nv as nv
 use Rattle.node_acts.specs.Kinds.{view_in}
 use Rattle.node_acts.specs.Plans.{after}
@@ -33,9 +33,10 @@ use Rattle.bench_views.specs.declared.taken.Taken.TheVariants as take
 use Rattle.bench_views.specs.declared.taken.Work.{Work}
 use Rattle.bench_views.specs.declared.taken.Work.TheVariants as work
 use Rattle.bench_views.specs.Follows.{OthersAreQuiet, quiet_by}
-use Rattle.bench_views.specs.Tariff.{Quote, quote}
+use Rattle.bench_views.specs.Tariff.{quote}
 use Rattle.bench_views.specs.Taken.{taken, as_given}
-use Rattle.bench_views.proofs.Events.{each_quiet, IsOfNone, same_work}
+use Rattle.bench_views.proofs.Events.{same_work}
+use Rattle.bench_views.proofs.OfNone.{IsQuietAs, quiet_is, plan_day, plan_end, plan_none}
 use Rattle.bench.specs.Benches.{Nodes, OfState, Of, IsReady, Stands, BenchOf}
 use Rattle.bench.specs.Outside.{Outside, ReadsRates}
 use Rattle.bench.specs.Steps.{Steps, DoesAsked, ComparesViews}
@@ -45,43 +46,6 @@ use Rattle.bench.proofs.Making.{get_some}
 use Rattle.bench_views.proofs.RatesPlans.{taken_by}
 use Rattle.bench.proofs.Quiet.{SwitchesIs, asking, quiet}
 use Rattle.bench.proofs.Unprinted.{IsUnprinted}
-
--- == which events they are ==
-
-abbrev pub IsQuietAs : List (List ℕ) → Event → Taken → Type 0
-IsQuietAs pool e (take.Day t) = e ≡ ev.Day t
-IsQuietAs pool e take.End = e ≡ ev.End
-IsQuietAs pool e (take.Work work.Rates) = e ≡ ev.Rates
-IsQuietAs pool e (take.Work (work.NoMessage k)) = (as_given pool e ≡ e) × ((e ≡ ev.Deliver k) ⊎ ((scan : ℕ) × (e ≡ ev.ScanMsg scan k)))
-IsQuietAs pool e (take.Work (work.Reconcile d)) = e ≡ ev.Reconcile d
-IsQuietAs pool e (take.Work (work.Device d asked)) = Unit {0}
-IsQuietAs pool e (take.Work (work.Centre asked)) = Unit {0}
-IsQuietAs pool e (take.Work (work.Host asked)) = Unit {0}
-IsQuietAs pool e (take.Work (work.Verifier asked)) = Unit {0}
-
-pub quiet_is : (pool : List (List ℕ)) (q : Quote) (e : Event) (x : Taken) → taken pool q e ≡ Some x → IsOfNone pool q x → IsQuietAs pool e x
-quiet_is pool q e x is of = each_quiet pool q (IsQuietAs pool) (record {
-  day = λ t. refl;
-  end = refl;
-  rates = refl;
-  reconcile = λ d. refl;
-  deliver = λ k none. (rw none refl, inl refl);
-  scan = λ j k none. (rw none refl, inr (j, refl));
-}) e x is of
-
--- == plans ==
-
-plan_day : (τ : Tariff) (H : Ledger) (t : ℤ) (text : List ℕ) → plan τ todays_rules H (ev.Day t) text ≡ told (r.Day t) (entry.Day t ∷ [])
-unfolding plan
-plan_day τ H t text = refl
-
-plan_end : (τ : Tariff) (H : Ledger) (text : List ℕ) → plan τ todays_rules H ev.End text ≡ refuse r.End
-unfolding plan
-plan_end τ H text = refl
-
-plan_none : (τ : Tariff) (H : Ledger) (e : Event) (text : List ℕ) → needs_day e ≡ true → None ≡ day_in H → plan τ todays_rules H e text ≡ refuse r.NoDay
-unfolding plan
-plan_none τ H e text needs none = rw (sym none, needs) refl
 
 -- == days ==
 

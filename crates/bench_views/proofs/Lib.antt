@@ -16,6 +16,7 @@ pub mod HostCalls
 mod HostCommits
 mod HostFrames
 mod HostStays
+pub mod OfNone
 mod Origins
 pub mod Plans
 mod Quiet

@@ -34,9 +34,9 @@ use Rattle.bench_views.specs.declared.taken.Taken.{Taken}
 use Rattle.bench_views.specs.declared.taken.Taken.TheVariants as take
 use Rattle.bench_views.specs.declared.taken.Work.{Work}
 use Rattle.bench_views.specs.declared.taken.Work.TheVariants as work
-use Rattle.bench_views.specs.Tariff.{IsOfTexts, Quote, quote}
+use Rattle.bench_views.specs.Tariff.{IsOfTexts, quote}
 use Rattle.bench_views.specs.Taken.{taken}
-use Rattle.bench_views.proofs.Events.{each_quiet, IsOfNone}
+use Rattle.bench_views.proofs.OfNone.{plan_day, plan_end, plan_none}
 use Rattle.bench.proofs.Making.{get_some}
 use Rattle.told_bench.specs.declared.judging.Heard.{Heard}
 use Rattle.told_bench.specs.declared.judging.Finding.{Finding}
@@ -52,43 +52,6 @@ use Rattle.told_bench.proofs.Keeping.{adds_none}
 use Rattle.told_bench.proofs.Lifting.{TakesNone, takes_none}
 use Rattle.told_bench.proofs.Nodes.{taken_there, not_for_rates}
 use Rattle.told_bench.proofs.Quiet.{IsSilent, heard_plainly}
-
--- == which events they are ==
-
-abbrev pub IsQuietAs : Event → Taken → Type 0
-IsQuietAs e (take.Day t) = e ≡ ev.Day t
-IsQuietAs e take.End = e ≡ ev.End
-IsQuietAs e (take.Work work.Rates) = e ≡ ev.Rates
-IsQuietAs e (take.Work (work.NoMessage k)) = Unit {0}
-IsQuietAs e (take.Work (work.Reconcile d)) = Unit {0}
-IsQuietAs e (take.Work (work.Device d asked)) = Unit {0}
-IsQuietAs e (take.Work (work.Centre asked)) = Unit {0}
-IsQuietAs e (take.Work (work.Host asked)) = Unit {0}
-IsQuietAs e (take.Work (work.Verifier asked)) = Unit {0}
-
-pub quiet_is : (pool : List (List ℕ)) (q : Quote) (e : Event) (x : Taken) → taken pool q e ≡ Some x → IsOfNone pool q x → IsQuietAs e x
-quiet_is pool q e x is of = each_quiet pool q IsQuietAs (record {
-  day = λ t. refl;
-  end = refl;
-  rates = refl;
-  reconcile = λ d. tt;
-  deliver = λ k none. tt;
-  scan = λ j k none. tt;
-}) e x is of
-
--- == plans ==
-
-plan_day : (τ : Tariff) (H : Ledger) (t : ℤ) → plan τ todays_rules H (ev.Day t) [] ≡ told (r.Day t) (entry.Day t ∷ [])
-unfolding plan
-plan_day τ H t = refl
-
-plan_end : (τ : Tariff) (H : Ledger) → plan τ todays_rules H ev.End [] ≡ refuse r.End
-unfolding plan
-plan_end τ H = refl
-
-pub plan_none : (τ : Tariff) (H : Ledger) (e : Event) → needs_day e ≡ true → None ≡ day_in H → plan τ todays_rules H e [] ≡ refuse r.NoDay
-unfolding plan
-plan_none τ H e needs none = rw (sym none, needs) refl
 
 -- == what is heard ==
 
@@ -145,7 +108,7 @@ day_adds t L = let none = adds_none L in record { sends = none.sends; releases =
 module _ (τ : Tariff) (H : Ledger) (left line : List ℕ) (old : Audit) (sees : SeesRun old H) where
   pub hears_day : (e : Event) (t : ℤ) → e ≡ ev.Day t → IsWholeEvent e → (heard : Heard) → IsPlainly (r.Day t) line (Ok heard) → IsHeard τ H e left line (record old { day = Some t }) (Ok heard)
   hears_day e t is whole heard plainly =
-      heard_plainly τ H e (told (r.Day t) (entry.Day t ∷ [])) (subst (λ (i : Event). plan τ todays_rules H i [] ≡ told (r.Day t) (entry.Day t ∷ [])) (sym is) (plan_day τ H t)) quiet
+      heard_plainly τ H e (told (r.Day t) (entry.Day t ∷ [])) (subst (λ (i : Event). plan τ todays_rules H i [] ≡ told (r.Day t) (entry.Day t ∷ [])) (sym is) (plan_day τ H t [])) quiet
       (λ reply reading. not reading.event) left line (takes_none e (day_in H) left not) whole old (record old { day = Some t }) (Ok heard) plainly sees
       (λ h same. record {
         day = record { day = refl; messages = sees.day.messages; rates = sees.day.rates };
@@ -164,7 +127,7 @@ module _ (τ : Tariff) (H : Ledger) (left line : List ℕ) (old : Audit) (sees :
 
   pub misses_day : (e : Event) (t : ℤ) → e ≡ ev.Day t → IsWholeEvent e → (finding : Finding) → IsPlainly (r.Day t) line (Err finding) → IsHeard τ H e left line old (Err finding)
   misses_day e t is whole finding plainly =
-      heard_plainly τ H e (told (r.Day t) (entry.Day t ∷ [])) (subst (λ (i : Event). plan τ todays_rules H i [] ≡ told (r.Day t) (entry.Day t ∷ [])) (sym is) (plan_day τ H t))
+      heard_plainly τ H e (told (r.Day t) (entry.Day t ∷ [])) (subst (λ (i : Event). plan τ todays_rules H i [] ≡ told (r.Day t) (entry.Day t ∷ [])) (sym is) (plan_day τ H t []))
       (record { silent = refl; no_up = λ m k named. cc; no_print = λ j named. cc; adds = day_adds t })
       (λ reply reading. not reading.event) left line (takes_none e (day_in H) left not) whole old old (Err finding) plainly sees (λ h wrong. cc) (λ due same. refl)
     where
@@ -174,7 +137,7 @@ module _ (τ : Tariff) (H : Ledger) (left line : List ℕ) (old : Audit) (sees :
   -- without a day
   pub hears_no_day : (e : Event) → needs_day e ≡ true → old.day ≡ None → IsWholeEvent e → (result : Result Heard Finding) → IsPlainly r.NoDay line result → IsHeard τ H e left line old result
   hears_no_day e needs none whole result plainly =
-      heard_plainly τ H e (refuse r.NoDay) (plan_none τ H e needs (sym none ∙ sees.day.day)) (record { silent = refl; no_up = λ m k is. cc; no_print = λ j is. cc; adds = λ L. adds_none L }) reads left line (takes_undated e (day_in H) left undated) whole
+      heard_plainly τ H e (refuse r.NoDay) (plan_none τ H e [] needs (sym none ∙ sees.day.day)) (record { silent = refl; no_up = λ m k is. cc; no_print = λ j is. cc; adds = λ L. adds_none L }) reads left line (takes_undated e (day_in H) left undated) whole
       old old result plainly sees (λ heard is. sees) (λ due is. refl)
     where
       undated : is_some (day_in H) ≡ false
@@ -189,7 +152,7 @@ module _ (τ : Tariff) (H : Ledger) (left line : List ℕ) (old : Audit) (sees :
       old old result plainly sees (λ heard is. subst (λ (K : Ledger). SeesRun old K) (sym (still.stays H)) sees) (λ due is. refl)
 
   pub hears_end : (e : Event) → e ≡ ev.End → IsWholeEvent e → (result : Result Heard Finding) → IsPlainly r.End line result → IsHeard τ H e left line old result
-  hears_end e is whole result plainly = hears_still e r.End (subst (λ (i : Event). plan τ todays_rules H i [] ≡ refuse r.End) (sym is) (plan_end τ H)) end_still (λ same. let wrong : ev.End ≡ ev.Rates = sym is ∙ same in cc) whole result plainly
+  hears_end e is whole result plainly = hears_still e r.End (subst (λ (i : Event). plan τ todays_rules H i [] ≡ refuse r.End) (sym is) (plan_end τ H [])) end_still (λ same. let wrong : ev.End ≡ ev.Rates = sym is ∙ same in cc) whole result plainly
 
   -- an event of no node that the bench answers by what it sees
   module _ (texts : IsOfTexts τ) (prices : KeptPrices) (history : History τ editions H) (quiet : OthersAreQuiet bench_kinds centre.IsKnown) (known : centre.IsKnown (centre_cells.view_of old.centre).state) where

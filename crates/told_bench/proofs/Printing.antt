@@ -14,11 +14,11 @@ use Rattle.told_host.specs.Records.{printing}
 use Rattle.told_host.specs.Cells as host
 use Rattle.told_host.specs.Verdicts.{AtHosts}
 use Rattle.told_bench.specs.Seeing.{Audit, Sees}
-use Rattle.told_bench.proofs.Days.{plan_none}
+use Rattle.bench_views.proofs.OfNone.{plan_none}
 
 module _ (a : Audit) (j : ℕ) (τ : Tariff) (H : Ledger) (sees : Sees a H) where
   pub undated_none : a.day ≡ None → print_of (plan τ todays_rules H (ev.Print j) []).after ≡ None
-  undated_none none = ap (λ (p : Plan). print_of p.after) (plan_none τ H (ev.Print j) refl (sym none ∙ sees.run.day.day))
+  undated_none none = ap (λ (p : Plan). print_of p.after) (plan_none τ H (ev.Print j) [] refl (sym none ∙ sees.run.day.day))
 
   pub dated_mark : (today : ℤ) (mark : Option (List ℕ)) → a.day ≡ Some today → History τ editions H → IsWholeEvent (ev.Print j)
       → ((t : ℤ) → AtHosts t (Call (printing j)) (host.view_of a.host) (λ υ K e. print_of (plan υ todays_rules K e []).after ≡ mark))

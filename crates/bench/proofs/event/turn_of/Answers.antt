@@ -34,7 +34,8 @@ use Rattle.bench.specs.Calls.{device_event, centre_event, host_event, verifier_e
 use Rattle.bench.specs.Comparing.{ShowsAt, running_device, running_centre}
 use Rattle.bench.specs.Outside.{Outside, beside}
 use Rattle.bench.specs.Steps.{Steps, ComparesViews, sending}
-use Rattle.bench.proofs.Answered.{Answers, quiet_is, steps_day, steps_end, steps_none, steps_missing, steps_compared}
+use Rattle.bench_views.proofs.OfNone.{quiet_is}
+use Rattle.bench.proofs.Answered.{Answers, steps_day, steps_end, steps_none, steps_missing, steps_compared}
 use Rattle.bench.proofs.AskedNodes.{device_asked, centre_asked, host_asked, verifier_asked}
 use Rattle.bench.proofs.Called.{told_event}
 use Rattle.bench.proofs.Compares.{compare_answers, compare_off, compare_off_centre, compare_leaves, compare_same}

@@ -11,7 +11,8 @@ use Rattle.told_bench.specs.declared.judging.Finding.{Finding}
 use Rattle.told_bench.specs.Judging.{IsHeard}
 use Rattle.told_bench.specs.Placed.{ComparesInPlace}
 use Rattle.told_bench.specs.Seeing.{audit_of}
-use Rattle.told_bench.proofs.Days.{quiet_is, hears_day, misses_day, hears_end, hears_no_day, hears_quiet, missing_still, compared_at}
+use Rattle.bench_views.proofs.OfNone.{quiet_is}
+use Rattle.told_bench.proofs.Days.{hears_day, misses_day, hears_end, hears_no_day, hears_quiet, missing_still, compared_at}
 use Rattle.told_bench.proofs.Nodes.{hears_device, hears_centre, hears_host, hears_verifier}
 use Rattle.told_bench.proofs.OfRates.{heard_rates}
 use Rattle.told_bench.proofs.judging.hear.Goals as goal
