@@ -1,12 +1,11 @@
 -- After the commit of a call of a device, its record is that of the commits and the new one.
-use Rattle.std.proofs.Common.{◌≡◌, ℕ, ℤ, Bool, true, false, List, ◌∷◌, Option, Some, None, Result, Ok, Err, refl, sym, subst, true≢false, if◌then◌else◌}
-use Rattle.std.specs.Prelude.{◌+◌, ◌==◌, not, IfSome}
-use Rattle.std.proofs.lemmas.Bool.{eq-eqb, eqb-true, not-false}
+use Rattle.std.proofs.Common.{◌≡◌, ℕ, ℤ, true, false, List, ◌∷◌, Option, Some, None, Result, Ok, Err, refl, sym, subst, rules}
+use Rattle.std.specs.Prelude.{◌+◌, IfSome}
+use Rattle.std.proofs.lemmas.Bool.{eq-eqb}
 use Rattle.bench_base.specs.declared.words.Kind.{Kind}
 use Rattle.bench_base.specs.declared.words.Verdict.{Verdict}
 use Rattle.bench_base.specs.declared.words.Node.TheVariants.{Device}
 use Rattle.bench_base.specs.declared.refusals.DevRefusal.{DevRefusal}
-use Rattle.bench_base.specs.declared.refusals.DevRefusal.TheVariants as no
 use Rattle.bench_base.specs.declared.refusals.Unread.{Unread}
 use Rattle.bench_base.specs.declared.ledger.Commit.{Commit}
 use Rattle.bench_base.specs.declared.ledger.Commit.TheVariants as c
@@ -20,18 +19,18 @@ use Rattle.psd_wire.specs.declared.message.ReplyMsg.{ReplyMsg}
 use Rattle.psd_wire.specs.declared.message.Message.{Message}
 use Rattle.psd_wire.specs.declared.message.Message.TheVariants as m
 use Rattle.psd_wire.specs.Grammar.{read}
-use Rattle.psd_wire.specs.Codes.{has_code}
 use Rattle.ledger_terms.specs.Devices.{key_of}
 use Rattle.ledger_terms.specs.Rulings.{ruled_reply}
 use Rattle.node_acts.specs.declared.act.Act.{Act}
-use Rattle.node_acts.specs.declared.act.Act.TheVariants.{Refuse}
 use Rattle.node_acts.proofs.OfCommits.{commit_says, said_commit}
+use Rattle.bench_base.proofs.Rows.{first, none_holds, passes}
+use Rattle.psd_state.proofs.Passed.{own_reply, may_apply}
 use Rattle.psd_state.proofs.Released.{commit_released}
 use Rattle.psd_state.specs.State.{State, Holds}
 use Rattle.psd_state.specs.Records.{IsRecordOf, IsRuled as HasRuling, state_of}
-use Rattle.psd_state.specs.Answers.{debit_answer, ask_answer, apply_answer, after_apply, is_stray, resend_answer, done_answer}
+use Rattle.psd_state.specs.Answers.{debit_answer, ask_answer, apply_answer, apply_rows, resend_answer, done_answer}
 use Rattle.psd_state.specs.Seen.{counting}
-use Rattle.psd_state.specs.Acts.{DeviceAct, make_act, franked_act, debit_act, asked_act, ask_act, applied_act, reply_act, message_act, take_act, told_act, resend_act, ack_act, status_act}
+use Rattle.psd_state.specs.Acts.{DeviceAct, make_act, franked_act, debit_act, asked_act, ask_act, applied_act, reply_rows, reply_act, message_act, take_act, told_act, resend_act, ack_act, status_act}
 use Rattle.psd_state.specs.Laws.{MakingStarts, DebitingKeeps, AskingKeeps, ApplyingKeeps}
 use Rattle.psd_state.specs.declared.debiting.Debited.{Debited}
 use Rattle.psd_state.specs.declared.debiting.Debited.TheVariants.{New, Again}
@@ -67,12 +66,6 @@ call_quiet d today Status s = quiet_says (r.DevRefused d) _ (refused_quiet d) (�
 call_quiet d today (Take c) s = quiet_says (r.DevRefused d) (took d c.message) (refused_quiet d) (took_said d c.message) (take_act todays_rules d c.bytes today s)
 
 -- == its record ==
-
--- what passes the checks of a Reply
-passed : {A F : Type 0} (stale stray : Bool) (x y : F) (a b : A) → (if stale then Err x else if stray then Err y else Ok a) ≡ Ok b → (stale ≡ false) × (a ≡ b)
-passed true stray x y a b is = cc
-passed false true x y a b is = cc
-passed false false x y a b is = (refl, cc)
 
 module _ (H : Ledger) (ordered : AreOrdered (counted H)) (making : MakingStarts) (debiting : DebitingKeeps) (asking : AskingKeeps) (applying : ApplyingKeeps) (d : ℕ) (known : IsKnown (seen_in d (counted H))) where
   abbrev C : List Commit
@@ -139,8 +132,7 @@ module _ (H : Ledger) (ordered : AreOrdered (counted H)) (making : MakingStarts)
   ended : (s after : State) (p : ReplyMsg) (o : Option Request) → apply_answer s o p ≡ Ok after → (q : Request) × (o ≡ Some q) × (p.number ≡ q.number)
   ended s after p None is = cc
   ended s after p (Some q) is =
-      let through = passed (not (p.number == q.number)) (is_stray p q) (no.Stale q.number) (no.Stray q.kind) (after_apply s q p) after is in
-      (q, refl, eqb-true p.number q.number (not-false (p.number == q.number) through.0))
+      (q, refl, (may_apply p q (passes (apply_rows p q) _ after (search rules) is).0).number)
 
   -- the Applied comes after a ruling of its number, with its verdict
   is_ruled : (n : ℕ) (v : Verdict) → AreOrdered (c.Applied d n v ∷ C) → HasRuling d n v C
@@ -158,29 +150,18 @@ module _ (H : Ledger) (ordered : AreOrdered (counted H)) (making : MakingStarts)
           let reply = subst (λ (n : ℕ). ruled_reply d n C ≡ Some p) q.2 whole in
           subst (λ (n : ℕ). IsRecordOf after d (c.Applied d n p.verdict ∷ C)) (sym q.2) (applying d C s after q.0 p (ordered.devices d) is holds q.1 ruled reply h).0
 
-  -- the rows before it
-  checked : {A : Type 0} (P : A → Type 0) (other bad : Bool) (x y act : A) → P x → P y → (other ≡ false → bad ≡ false → P act) → P (if other then x else if bad then y else act)
-  checked P true bad x y act p q f = p
-  checked P false true x y act p q f = q
-  checked P false false x y act p q f = f refl refl
-
   module _ (bytes : List ℕ) (genuine : IsRuled H d bytes) where
-    made_where : {A : Type 0} (other bad : Bool) (x y : DevRefusal) (act : DeviceAct A) → IsNextMade (if other then Refuse x else if bad then Refuse y else act) → other ≡ false → bad ≡ false → IsNextMade act
-    made_where true bad x y act made no_other no_bad = absurd (true≢false no_other)
-    made_where false true x y act made no_other no_bad = absurd (true≢false no_bad)
-    made_where false false x y act made no_other no_bad = made
-
     reply_right : (p : ReplyMsg) → read bytes ≡ Ok (m.Reply p) → (k : Option (List ℕ)) → key_of d C ≡ k → IsNextMade (reply_act d bytes p (record_with d C k)) → IsRightAct (reply_act d bytes p (record_with d C k))
     reply_right p reads None h made = tt
     reply_right p reads (Some key) h made =
         let s = state_of d key C in
         let act = applied_act d p (apply_answer s s.pending p) in
-        checked (λ (a : DeviceAct Taken). IsRightAct a) (not (p.device == d)) (not (has_code key bytes)) _ _ act tt tt
-        (λ own coded.
-        let same : p.device ≡ d = eqb-true p.device d (not-false (p.device == d) own) in
-        let whole = genuine p reads same key h (not-false (has_code key bytes) coded) in
-        applied_right p s (apply_answer s s.pending p) (ordered.records d key h) (holds_of key h) (subst (λ (e : ℕ). ruled_reply e p.number C ≡ Some p) same whole) refl
-        (made_where (not (p.device == d)) (not (has_code key bytes)) (no.WrongDevice p.device) no.BadCode act made own coded))
+        first (λ (a : DeviceAct Taken). IsRightAct a) (reply_rows d bytes p key) act (search rules)
+        (λ rows.
+        let own = own_reply d bytes p key rows in
+        let whole = genuine p reads own.device key h own.code in
+        applied_right p s (apply_answer s s.pending p) (ordered.records d key h) (holds_of key h) (subst (λ (e : ℕ). ruled_reply e p.number C ≡ Some p) own.device whole) refl
+        (subst (λ (a : DeviceAct Taken). IsNextMade a) (none_holds (reply_rows d bytes p key) act rows) made))
 
     message_right : (today : ℤ) (x : Result Message Unread) → read bytes ≡ x → IsNextMade (message_act todays_rules d bytes today (record_in d C) x) → IsRightAct (message_act todays_rules d bytes today (record_in d C) x)
     message_right today (Ok (m.Reply p)) reads made = reply_right p reads (key_of d C) refl made

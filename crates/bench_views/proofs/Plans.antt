@@ -1,12 +1,12 @@
 -- The plan of an event of a device follows from what is seen of the device.
-use Rattle.std.proofs.Common.{◌≡◌, ◌≢◌, ℕ, ℤ, ◌∷◌, true≢false, arith, List, [], Option, Some, None, Result, Ok, Err, Bool, true, false, refl, sym, ◌∙◌, ap, subst, if◌then◌else◌}
-use Rattle.std.specs.Prelude.{length, ◌+◌, ◌&&◌, not, nat_le, ◌==◌, IfSome}
+use Rattle.std.proofs.Common.{◌≡◌, ◌≢◌, ℕ, ℤ, ◌∷◌, arith, List, [], Option, Some, None, Result, Ok, Err, Bool, true, false, refl, sym, ◌∙◌, ap, subst, if◌then◌else◌, rules}
+use Rattle.bench_base.proofs.Rows.{first}
+use Rattle.std.specs.Prelude.{length, ◌+◌, ◌&&◌, nat_le, ◌==◌, IfSome}
 use Rattle.bench_base.specs.declared.words.Kind.{Kind}
 use Rattle.bench_base.specs.declared.words.Node.TheVariants.{Device}
 use Rattle.bench_base.specs.declared.refusals.DevRefusal.{DevRefusal}
-use Rattle.bench_base.specs.declared.refusals.DevRefusal.TheVariants as no
 use Rattle.bench_base.specs.declared.ledger.Entry.TheVariants as entry
-use Rattle.std.proofs.lemmas.Bool.{le-leb, ne_eqb}
+use Rattle.std.proofs.lemmas.Bool.{ne_eqb}
 use Rattle.std.proofs.lemmas.Option.{same_Some}
 use Rattle.bench_base.specs.declared.refusals.Unread.{Unread}
 use Rattle.bench_base.specs.declared.ledger.Commit.{Commit}
@@ -24,19 +24,17 @@ use Rattle.psd_wire.specs.declared.message.ReplyMsg.{ReplyMsg}
 use Rattle.psd_wire.specs.declared.message.Message.{Message}
 use Rattle.psd_wire.specs.declared.message.Message.TheVariants as m
 use Rattle.psd_wire.specs.Grammar.{read}
-use Rattle.psd_wire.specs.Codes.{has_code}
 use Rattle.ledger_terms.specs.Devices.{key_of, pending, number, waiting}
 use Rattle.psd_state.specs.State.{State, Holds, PendingOk}
 use Rattle.psd_state.specs.Records.{IsRecordOf, IsOutstanding, state_of}
-use Rattle.psd_state.specs.Answers.{debit_answer, ask_answer, ask_rows, waiting_kind, apply_answer, resend_answer, done_answer}
-use Rattle.bench_base.proofs.Rows.{passes}
-use Rattle.psd_state.proofs.Keeping.{unless_passes}
+use Rattle.psd_state.specs.Answers.{debit_answer, ask_answer, apply_answer, resend_answer, done_answer}
+use Rattle.psd_state.proofs.Decisions.{asks_below}
 use Rattle.psd_state.specs.Laws.{ResendingRepeats}
 use Rattle.psd_state.specs.declared.debiting.Debited.{Debited}
 use Rattle.psd_state.specs.declared.debiting.Debited.TheVariants.{New, Again}
 use Rattle.psd_state.specs.declared.acts.Taken.{Taken}
 use Rattle.psd_state.specs.declared.acts.Taken.TheVariants as taken_as
-use Rattle.psd_state.specs.Acts.{DeviceAct, make_act, franked_act, debit_act, asked_act, ask_act, applied_act, reply_act, message_act, take_act, told_act, resend_act, ack_act, status_act}
+use Rattle.psd_state.specs.Acts.{DeviceAct, make_act, franked_act, debit_act, asked_act, ask_act, applied_act, reply_rows, reply_act, message_act, take_act, told_act, resend_act, ack_act, status_act}
 use Rattle.node_acts.specs.declared.act.Act.{Act}
 use Rattle.node_acts.specs.declared.asked.Asked.{Asked as AskedOf}
 use Rattle.node_acts.specs.declared.asked.Asked.TheVariants.{Call}
@@ -66,10 +64,6 @@ use Rattle.bench_views.proofs.Frames.{one_device}
 use Rattle.bench_views.proofs.Sent.{sent_many, sent_at}
 
 -- == whose the commit is ==
-
-either : {A : Type 0} (P : A → Type 0) (b : Bool) (x y : A) → P x → P y → P (if b then x else y)
-either P true x y p q = p
-either P false x y p q = q
 
 module _ (d : ℕ) where
   make_own : (key : List ℕ) (s : Option State) → IsOfNode (Device d) (make_act d key s)
@@ -116,9 +110,8 @@ module _ (d : ℕ) where
   reply_own : (bytes : List ℕ) (p : ReplyMsg) (s : Option State) → IsOfNode (Device d) (reply_act d bytes p s)
   reply_own bytes p None = tt
   reply_own bytes p (Some s) =
-      let act = applied_act d p (apply_answer s s.pending p) in
-      either (λ (a : DeviceAct Taken). IsOfNode (Device d) a) (not (p.device == d)) _ _ tt
-      (either (λ (a : DeviceAct Taken). IsOfNode (Device d) a) (not (has_code s.key bytes)) _ act tt (applied_own p (apply_answer s s.pending p)))
+      first (λ (a : DeviceAct Taken). IsOfNode (Device d) a) (reply_rows d bytes p s.key) (applied_act d p (apply_answer s s.pending p)) (search rules)
+      (λ _. applied_own p (apply_answer s s.pending p))
 
   message_own : (bytes : List ℕ) (today : ℤ) (s : Option State) (x : Result Message Unread) → IsOfNode (Device d) (message_act todays_rules d bytes today s x)
   message_own bytes today s (Ok (m.Reply p)) = reply_own bytes p s
@@ -152,10 +145,8 @@ counts_on {n} fits = rw (ne_eqb n 4294967295 fits) refl
 -- a device with the last number asks for nothing
 not_full : (s : State) (kind : Kind) (who amount : ℕ) (today : ℤ) (x : State × List ℕ) → ask_answer todays_rules s kind who amount today ≡ Ok x → s.number ≢ 4294967295
 not_full s kind who amount today x is full =
-    let idle = unless_passes (waiting_kind s.pending) no.Busy _ x is in
-    let through = passes (ask_rows todays_rules s kind amount today) _ x (refl, (refl, (refl, (refl, (refl, (refl, tt)))))) idle.1 in
-    let not_last : nat_le 4294967295 s.number ≡ false = through.0.1.1.1.1.1.0 in
-    true≢false (sym (le-leb 4294967295 s.number (omega (arith, full))) ∙ not_last)
+    let below = asks_below todays_rules s kind who amount today x is in
+    omega (arith, below, full)
 
 module _ (H : Ledger) (resending : ResendingRepeats) where
   module _ (d : ℕ) (known : IsKnown (seen_in d (counted H))) (records : (key : List ℕ) → key_of d (counted H) ≡ Some key → IsRecordOf (state_of d key (counted H)) d (counted H)) where

@@ -1,32 +1,34 @@
 -- What one commit does to the rows of the centre, and what the rows say of a ruling and of a balance.
 use Rattle.std.proofs.Common.{◌≡◌, ℕ, pos, ◌+ℤ◌, ◌+◌, Bool, true, false, List, [], ◌∷◌, Option, Some, None, Ok, Err, cond, refl, sym, ap, ap₂, subst, ◌∙◌, true≢false, arith}
-use Rattle.std.specs.Prelude.{◌==◌, ◌&&◌, ◌||◌, not, nat_lt, nat_le, IsSome, sum_by}
+use Rattle.std.specs.Prelude.{◌==◌, ◌&&◌, not, nat_le, IsSome, sum_by}
 use Rattle.std.proofs.lemmas.List.Sums.{sum_by-cons}
 use Rattle.std.proofs.lemmas.Bool.{eqb-true, eq-eqb}
 use Rattle.bench_base.specs.declared.words.Kind.{Kind}
 use Rattle.bench_base.specs.declared.words.Kind.TheVariants.{Enrol, Reset, Audit, Refund, Withdraw}
 use Rattle.bench_base.specs.declared.words.Verdict.{Verdict}
-use Rattle.bench_base.specs.declared.words.Verdict.TheVariants.{Granted, NotEnrolled, EnrolledAlready, NoCustomer, Suspended, NoFunds, Imbalance}
+use Rattle.bench_base.specs.declared.words.Verdict.TheVariants.{Granted}
 use Rattle.bench_base.specs.Kinds.{same_kind, is_granted, is_dated}
-use Rattle.bench_base.specs.Rows.{first_holding, first_of}
+use Rattle.bench_base.specs.Rows.{first_of}
 use Rattle.psd_wire.specs.declared.message.Message.TheVariants as m
 use Rattle.psd_wire.specs.Grammar.{spell}
 use Rattle.bench_base.specs.declared.refusals.CentreRefusal.TheVariants as no
 use Rattle.bench_base.specs.declared.ledger.Commit.{Commit}
 use Rattle.bench_base.specs.declared.ledger.Commit.TheVariants.{Registered, Opened, Deposited, Flagged, Ruled, Settled}
 use Rattle.bench_base.proofs.Facts.{some_none, not_none, either}
+use Rattle.bench_base.proofs.Rows.{first}
 use Rattle.psd_wire.specs.declared.message.Request.{Request}
 use Rattle.ledger_terms.specs.Requests.{request_in}
 use Rattle.ledger_terms.specs.Sums.{adds, takes, ruled_sum, bought, returned}
 use Rattle.ledger_terms.specs.Centres.{registered, origin_in, key_in, enrolled, withdrawn, ruled, done, settled, opened, suspended, deposits, receipt, is_some_at, device_numbers, sum_over, device_share, customer_sum}
-use Rattle.ledger_terms.specs.Rulings.{Account, account_of, verdict, verdict_by, stored_reply, has_left, is_enrolled, out_of_balance, reply_to, written_amount}
+use Rattle.ledger_terms.specs.Rulings.{Account, account_of, verdict, verdict_by, verdict_rows, stored_reply, has_left, is_enrolled, reply_to, written_amount}
 use Rattle.centre_ledger.specs.declared.rows.DeviceRow.{DeviceRow}
 use Rattle.centre_ledger.specs.declared.rows.Enrolment.{Enrolment}
 use Rattle.centre_ledger.specs.declared.rows.Enrolment.TheVariants.{Registered as NeverEnrolled, Enrolled, Withdrawn}
-use Rattle.centre_ledger.specs.Answers.{settle_answer, deposit_answer}
+use Rattle.centre_ledger.specs.Answers.{settle_answer}
 use Rattle.centre_ledger.specs.Order.{InOrder}
 use Rattle.centre_ledger.specs.Rows.{customer_of, is_withdrawn, withdrawn_of, enrolled_in, account, amount_shown, reply_by, buys_in, returns_in}
 use Rattle.centre_ledger.specs.Records.{last_ruling, stored_note, note_or_none, IsRowOf}
+use Rattle.centre_ledger.proofs.Passed.{deposit_taken, granted}
 use Rattle.centre_ledger.specs.Laws.{RegisteringStarts, SettlingKeeps, OtherDevicesKeep, OpeningStarts, DepositingKeeps, FlaggingKeeps, OtherCustomersKeep, RulingByRows, RulingKeeps, IsSlotOf, AreSlots, BalancingByRows}
 
 -- == devices ==
@@ -152,21 +154,9 @@ opening c C o h =
     let n = no_money c C o h in
     record { opened = rw (eq-eqb c c refl) refl; suspended = n.suspended; deposits = n.deposits; receipt = n.receipt }
 
--- the deposits after a new one are one amount more
-deposits_are : (last : ℕ × ℕ) (total n a after : ℕ) → deposit_answer last total n a ≡ Ok (Some after) → after ≡ total + a
-deposits_are last total n a after h = go ((n == last.0) && nat_lt 0 n) (a == last.1) (not (n == last.0 + 1)) ((a == 0) || nat_lt 1000000000 a) (nat_lt 1000000000000000 (total + a)) h
-  where
-    go : (t u x y z : Bool) → cond t (cond u (Ok None) (Err (no.Conflict last.1))) (cond x (Err (no.WrongReceipt last.0)) (cond y (Err (no.BadAmount a)) (cond z (Err (no.DepositsFull total)) (Ok (Some (total + a)))))) ≡ Ok (Some after) → after ≡ total + a
-    go true true x y z k = absurd (cc)
-    go true false x y z k = absurd (cc)
-    go false u true y z k = absurd (cc)
-    go false u false true z k = absurd (cc)
-    go false u false false true k = absurd (cc)
-    go false u false false false k = cc
-
 pub depositing : DepositingKeeps
 depositing r C n a after is h =
-    let sum = deposits_are (r.receipt, r.amount) r.deposits n a after h in
+    let sum = (deposit_taken (r.receipt, r.amount) r.deposits n a after h).sum in
     let was = is.deposits in
     let own : (r.customer == r.customer) ≡ true = eq-eqb r.customer r.customer refl in
     record { opened = is.opened; suspended = is.suspended; deposits = rw own (omega arith); receipt = rw own refl }
@@ -203,43 +193,15 @@ ruling r o left q C is device pays =
 -- the amount in the Reply follows from the verdict
 pub shown : (a : Account) (q : Request) → (verdict_by a q).1 ≡ amount_shown (verdict_by a q).0 q.amount a.bought a.balance
 unfolding verdict_by
-shown a q = go (not (same_kind q.kind Enrol) && has_left a.enrolled a.withdrawn) (same_kind q.kind Enrol && is_enrolled a.enrolled) (out_of_balance q a.bought a.returned) (same_kind q.kind Enrol && not a.opened) ((same_kind q.kind Enrol || same_kind q.kind Reset) && a.suspended) (same_kind q.kind Reset && nat_lt a.balance q.amount)
-  where
-    given : (s t u x y z : Bool) → Verdict × ℕ
-    given s t u x y z = cond s (NotEnrolled, 0) (cond t (EnrolledAlready, 0) (cond u (Imbalance, a.bought) (cond x (NoCustomer, 0) (cond y (Suspended, 0) (cond z (NoFunds, a.balance) (Granted, q.amount))))))
+shown a q = first (λ (x : Verdict × ℕ). x.1 ≡ amount_shown x.0 q.amount a.bought a.balance) (verdict_rows a q) (Granted, q.amount) (refl, (refl, (refl, (refl, (refl, (refl, tt)))))) (λ _. refl)
 
-    go : (s t u x y z : Bool) → (given s t u x y z).1 ≡ amount_shown (given s t u x y z).0 q.amount a.bought a.balance
-    go true t u x y z = refl
-    go false true u x y z = refl
-    go false false true x y z = refl
-    go false false false true y z = refl
-    go false false false false true z = refl
-    go false false false false false true = refl
-    go false false false false false false = refl
-
--- what is granted is no enrolment of a device that was enrolled, and nothing else of one that isn't
-granted_standing : (a : Account) (q : Request) → is_granted (verdict_by a q).0 ≡ true → ((not (same_kind q.kind Enrol) && has_left a.enrolled a.withdrawn) ≡ false) × ((same_kind q.kind Enrol && is_enrolled a.enrolled) ≡ false)
-unfolding verdict_by
-granted_standing a q h = go (not (same_kind q.kind Enrol) && has_left a.enrolled a.withdrawn) (same_kind q.kind Enrol && is_enrolled a.enrolled) h
-  where
-    rest : Verdict × ℕ
-    rest = first_holding ((out_of_balance q a.bought a.returned, (Imbalance, a.bought)) ∷ (same_kind q.kind Enrol && not a.opened, (NoCustomer, 0)) ∷ ((same_kind q.kind Enrol || same_kind q.kind Reset) && a.suspended, (Suspended, 0)) ∷ (same_kind q.kind Reset && nat_lt a.balance q.amount, (NoFunds, a.balance)) ∷ []) (Granted, q.amount)
-
-    given : Bool → Bool → Verdict × ℕ
-    given s t = cond s (NotEnrolled, 0) (cond t (EnrolledAlready, 0) rest)
-
-    go : (s t : Bool) → is_granted (given s t).0 ≡ true → (s ≡ false) × (t ≡ false)
-    go true t k = absurd (true≢false (sym k))
-    go false true k = absurd (true≢false (sym k))
-    go false false k = (refl, refl)
-
-enrolled_after : (k : Kind) (g : Bool) (e : Enrolment) (c : ℕ) → (g ≡ true → (same_kind k Enrol && is_enrolled (customer_of e)) ≡ false)
+enrolled_after : (k : Kind) (g : Bool) (e : Enrolment) (c : ℕ) → (g ≡ true → same_kind k Enrol ≡ true → is_enrolled (customer_of e) ≡ false)
     → cond (g && same_kind k Enrol) (first_of (customer_of e) (Some c)) (customer_of e) ≡ customer_of (cond (g && same_kind k Enrol) (Enrolled c) (cond (g && same_kind k Withdraw) (withdrawn_of e) e))
 unfolding same_kind
 enrolled_after k false e c new = refl
 enrolled_after Enrol true NeverEnrolled c new = refl
-enrolled_after Enrol true (Enrolled w) c new = absurd (true≢false (new refl))
-enrolled_after Enrol true (Withdrawn w) c new = absurd (true≢false (new refl))
+enrolled_after Enrol true (Enrolled w) c new = absurd (true≢false (new refl refl))
+enrolled_after Enrol true (Withdrawn w) c new = absurd (true≢false (new refl refl))
 enrolled_after Withdraw true NeverEnrolled c new = refl
 enrolled_after Withdraw true (Enrolled w) c new = refl
 enrolled_after Withdraw true (Withdrawn w) c new = refl
@@ -247,26 +209,27 @@ enrolled_after Reset true e c new = refl
 enrolled_after Audit true e c new = refl
 enrolled_after Refund true e c new = refl
 
-withdrawn_after : (k : Kind) (g : Bool) (e : Enrolment) (c : ℕ) → (g ≡ true → ((not (same_kind k Enrol) && has_left (customer_of e) (is_withdrawn e)) ≡ false) × ((same_kind k Enrol && is_enrolled (customer_of e)) ≡ false))
+withdrawn_after : (k : Kind) (g : Bool) (e : Enrolment) (c : ℕ) → (g ≡ true → not (same_kind k Enrol) ≡ true → has_left (customer_of e) (is_withdrawn e) ≡ false)
+    → (g ≡ true → same_kind k Enrol ≡ true → is_enrolled (customer_of e) ≡ false)
     → cond (g && same_kind k Withdraw) true (is_withdrawn e) ≡ is_withdrawn (cond (g && same_kind k Enrol) (Enrolled c) (cond (g && same_kind k Withdraw) (withdrawn_of e) e))
 unfolding same_kind
-withdrawn_after k false e c stands = refl
-withdrawn_after Withdraw true NeverEnrolled c stands = absurd (true≢false (stands refl).0)
-withdrawn_after Withdraw true (Enrolled w) c stands = refl
-withdrawn_after Withdraw true (Withdrawn w) c stands = refl
-withdrawn_after Enrol true NeverEnrolled c stands = refl
-withdrawn_after Enrol true (Enrolled w) c stands = refl
-withdrawn_after Enrol true (Withdrawn w) c stands = absurd (true≢false (stands refl).1)
-withdrawn_after Reset true e c stands = refl
-withdrawn_after Audit true e c stands = refl
-withdrawn_after Refund true e c stands = refl
+withdrawn_after k false e c left new = refl
+withdrawn_after Withdraw true NeverEnrolled c left new = absurd (true≢false (left refl refl))
+withdrawn_after Withdraw true (Enrolled w) c left new = refl
+withdrawn_after Withdraw true (Withdrawn w) c left new = refl
+withdrawn_after Enrol true NeverEnrolled c left new = refl
+withdrawn_after Enrol true (Enrolled w) c left new = refl
+withdrawn_after Enrol true (Withdrawn w) c left new = absurd (true≢false (new refl refl))
+withdrawn_after Reset true e c left new = refl
+withdrawn_after Audit true e c left new = refl
+withdrawn_after Refund true e c left new = refl
 
 pub ruling_keeps : RulingKeeps
 unfolding reply_to
 ruling_keeps r o left note C sound is device number pays v verdict_is =
     let q = request_in note in
     let own : (r.device == r.device) ≡ true = eq-eqb r.device r.device refl in
-    let stands = λ (h : is_granted v ≡ true). granted_standing (account r o left) q (sym (ap is_granted verdict_is) ∙ h) in
+    let may = λ (h : is_granted v ≡ true). granted (account r o left) q (sym (ap is_granted verdict_is) ∙ h) in
     let same = ruling r o left q C is device pays in
     let was_ruled = is.ruled in
     let was_settled = is.settled in
@@ -286,8 +249,8 @@ ruling_keeps r o left note C sound is device number pays v verdict_is =
     } in
     record {
       registered = is.registered;
-      enrolled = rw own (rw is.enrolled (enrolled_after q.kind (is_granted v) r.enrolment q.customer (λ h. (stands h).1)));
-      withdrawn = rw own (rw is.withdrawn (withdrawn_after q.kind (is_granted v) r.enrolment q.customer stands));
+      enrolled = rw own (rw is.enrolled (enrolled_after q.kind (is_granted v) r.enrolment q.customer (λ h. (may h).new)));
+      withdrawn = rw own (rw is.withdrawn (withdrawn_after q.kind (is_granted v) r.enrolment q.customer (λ h. (may h).left) (λ h. (may h).new)));
       ruled = rw own (omega arith);
       settled = rw own (omega arith);
       bought = rw own (ap (λ n. n + adds v q) is.bought);

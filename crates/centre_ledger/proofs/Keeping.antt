@@ -14,82 +14,30 @@ use Rattle.bench_base.specs.declared.words.Verdict.{Verdict}
 use Rattle.bench_base.specs.declared.words.Verdict.TheVariants.{Granted, NotEnrolled, EnrolledAlready, NoCustomer, Suspended, NoFunds, Imbalance}
 use Rattle.bench_base.specs.Kinds.{same_kind, empties, is_granted, is_dated}
 use Rattle.bench_base.specs.Ranges.{IsWord, IsDay, IsCustomer}
-use Rattle.bench_base.specs.Rows.{first_holding, any_true}
+use Rattle.bench_base.specs.Rows.{any_true}
+use Rattle.bench_base.proofs.Facts.{and_false}
+use Rattle.bench_base.proofs.Rows.{first_that}
 use Rattle.psd_wire.specs.declared.message.Request.{Request}
 use Rattle.psd_wire.specs.declared.message.Message.TheVariants as m
 use Rattle.psd_wire.specs.Grammar.{IsWhole, HasCode, ReadsAs, body, spell, sum_size}
 use Rattle.bench_base.specs.Table.{Four, Eight, IsNumber}
 use Rattle.ledger_terms.specs.Sums.{adds, takes}
-use Rattle.ledger_terms.specs.Rulings.{Account, verdict_by, own_customer, has_left, is_enrolled, out_of_balance, is_past_limits, buys_limit, written_amount}
+use Rattle.ledger_terms.specs.Rulings.{Account, verdict_by, verdict_rows, own_customer, has_left, out_of_balance, is_past_limits, buys_limit, written_amount}
 use Rattle.psd_wire.proofs.Readings.{cut, kind_byte, verdict_byte}
 use Rattle.centre_ledger.specs.declared.rows.DeviceRow.{DeviceRow}
 use Rattle.centre_ledger.specs.declared.rows.CustomerRow.{CustomerRow}
 use Rattle.centre_ledger.specs.declared.rows.Enrolment.{Enrolment}
 use Rattle.centre_ledger.specs.declared.rows.Enrolment.TheVariants.{Registered, Enrolled, Withdrawn}
 use Rattle.centre_ledger.specs.Soundness.{IsSoundDevice, IsPayer, IsVerdict}
+use Rattle.centre_ledger.proofs.Passed.{granted}
 use Rattle.centre_ledger.specs.Rows.{customer_of, is_withdrawn, withdrawn_of, enrolled_in, account, amount_shown, deadline_after, reply_by, enrolment_after, NamesCustomer, ruled_row}
-
--- == what a granted Request was found to be ==
-
-pub and_then : (a b : Bool) → a ≡ true → (a && b) ≡ false → b ≡ false
-and_then a b t h = ap (λ x. x && b) (sym t) ∙ h
-
-pub record WasGranted (a : Account) (q : Request) : Type 0 where
-  pub left : (not (same_kind q.kind Enrol) && has_left a.enrolled a.withdrawn) ≡ false
-  pub new : (same_kind q.kind Enrol && is_enrolled a.enrolled) ≡ false
-  pub sums : out_of_balance q a.bought a.returned ≡ false
-  pub opened : (same_kind q.kind Enrol && not a.opened) ≡ false
-
-pub granted : (a : Account) (q : Request) → is_granted (verdict_by a q).0 ≡ true → WasGranted a q
-unfolding verdict_by
-granted a q h = go (not (same_kind q.kind Enrol) && has_left a.enrolled a.withdrawn) (same_kind q.kind Enrol && is_enrolled a.enrolled) (out_of_balance q a.bought a.returned) (same_kind q.kind Enrol && not a.opened) refl refl refl refl h
-  where
-    rest : Verdict × ℕ
-    rest = first_holding (((same_kind q.kind Enrol || same_kind q.kind Reset) && a.suspended, (Suspended, 0)) ∷ (same_kind q.kind Reset && nat_lt a.balance q.amount, (NoFunds, a.balance)) ∷ []) (Granted, q.amount)
-
-    given : Bool → Bool → Bool → Bool → Verdict × ℕ
-    given s t u x = cond s (NotEnrolled, 0) (cond t (EnrolledAlready, 0) (cond u (Imbalance, a.bought) (cond x (NoCustomer, 0) rest)))
-
-    go : (s t u x : Bool) → (not (same_kind q.kind Enrol) && has_left a.enrolled a.withdrawn) ≡ s → (same_kind q.kind Enrol && is_enrolled a.enrolled) ≡ t → out_of_balance q a.bought a.returned ≡ u → (same_kind q.kind Enrol && not a.opened) ≡ x → is_granted (given s t u x).0 ≡ true → WasGranted a q
-    go true t u x e f g i k = absurd (true≢false (sym k))
-    go false true u x e f g i k = absurd (true≢false (sym k))
-    go false false true x e f g i k = absurd (true≢false (sym k))
-    go false false false true e f g i k = absurd (true≢false (sym k))
-    go false false false false e f g i k = record { left = e; new = f; sums = g; opened = i }
 
 -- a refusal for want of funds shows a balance below the amount
 short_of : (a : Account) (q : Request) → (verdict_by a q).0 ≡ NoFunds → a.balance < q.amount
 unfolding verdict_by
-short_of a q h = go (not (same_kind q.kind Enrol) && has_left a.enrolled a.withdrawn) (same_kind q.kind Enrol && is_enrolled a.enrolled) (out_of_balance q a.bought a.returned) (same_kind q.kind Enrol && not a.opened) ((same_kind q.kind Enrol || same_kind q.kind Reset) && a.suspended) (same_kind q.kind Reset && nat_lt a.balance q.amount) refl h
-  where
-    given : (s t u x y z : Bool) → Verdict × ℕ
-    given s t u x y z = cond s (NotEnrolled, 0) (cond t (EnrolledAlready, 0) (cond u (Imbalance, a.bought) (cond x (NoCustomer, 0) (cond y (Suspended, 0) (cond z (NoFunds, a.balance) (Granted, q.amount))))))
-
-    go : (s t u x y z : Bool) → (same_kind q.kind Reset && nat_lt a.balance q.amount) ≡ z → (given s t u x y z).0 ≡ NoFunds → a.balance < q.amount
-    go true t u x y z e k = absurd (cc)
-    go false true u x y z e k = absurd (cc)
-    go false false true x y z e k = absurd (cc)
-    go false false false true y z e k = absurd (cc)
-    go false false false false true z e k = absurd (cc)
-    go false false false false false true e k = ltb-true a.balance q.amount (and_parts (same_kind q.kind Reset) (nat_lt a.balance q.amount) e).1
-    go false false false false false false e k = absurd (cc)
-
--- a granted reset is within the balance
-pub funded : (a : Account) (q : Request) → is_granted (verdict_by a q).0 ≡ true → same_kind q.kind Reset ≡ true → q.amount ≤ a.balance
-unfolding verdict_by
-funded a q h reset = go (not (same_kind q.kind Enrol) && has_left a.enrolled a.withdrawn) (same_kind q.kind Enrol && is_enrolled a.enrolled) (out_of_balance q a.bought a.returned) (same_kind q.kind Enrol && not a.opened) ((same_kind q.kind Enrol || same_kind q.kind Reset) && a.suspended) (same_kind q.kind Reset && nat_lt a.balance q.amount) refl h
-  where
-    given : (s t u x y z : Bool) → Verdict × ℕ
-    given s t u x y z = cond s (NotEnrolled, 0) (cond t (EnrolledAlready, 0) (cond u (Imbalance, a.bought) (cond x (NoCustomer, 0) (cond y (Suspended, 0) (cond z (NoFunds, a.balance) (Granted, q.amount))))))
-
-    go : (s t u x y z : Bool) → (same_kind q.kind Reset && nat_lt a.balance q.amount) ≡ z → is_granted (given s t u x y z).0 ≡ true → q.amount ≤ a.balance
-    go true t u x y z e k = absurd (true≢false (sym k))
-    go false true u x y z e k = absurd (true≢false (sym k))
-    go false false true x y z e k = absurd (true≢false (sym k))
-    go false false false true y z e k = absurd (true≢false (sym k))
-    go false false false false true z e k = absurd (true≢false (sym k))
-    go false false false false false true e k = absurd (true≢false (sym k))
-    go false false false false false false e k = ltb-false a.balance q.amount (and_then (same_kind q.kind Reset) (nat_lt a.balance q.amount) reset e)
+short_of a q = first_that (λ (x : Verdict × ℕ). x.0 ≡ NoFunds → a.balance < q.amount) (verdict_rows a q) (Granted, q.amount)
+    ((λ _ k. absurd (cc)), ((λ _ k. absurd (cc)), ((λ _ k. absurd (cc)), ((λ _ k. absurd (cc)), ((λ _ k. absurd (cc)), ((λ t _. ltb-true a.balance q.amount (and_parts (same_kind q.kind Reset) (nat_lt a.balance q.amount) t).1), tt))))))
+    (λ _ k. absurd (cc))
 
 -- == the Reply ==
 
@@ -175,8 +123,8 @@ agrees q b t h =
     record {
       bought = eqb-true (q.ascending + q.descending + q.refunded) b (not-false _ all.0);
       returned = eqb-true q.refunded t (not-false _ all.1);
-      emptied = λ e. eqb-true q.amount q.descending (not-false _ (and_then (empties q.kind) (not (q.amount == q.descending)) e all.2));
-      limited = λ e. and_then (same_kind q.kind Reset) (is_past_limits q.version b q.amount) e all.3;
+      emptied = λ e. eqb-true q.amount q.descending (not-false _ (and_false (empties q.kind) (not (q.amount == q.descending)) all.2 e));
+      limited = and_false (same_kind q.kind Reset) (is_past_limits q.version b q.amount) all.3;
     }
 
 limit_long : (version : ℕ) → buys_limit version < 2 ^ 64
@@ -257,7 +205,7 @@ customer_after has Audit true e c was named = was
 customer_after has Refund true e c was named = was
 
 -- a device that is not enrolled then has bought nothing then
-bought_after : (k : Kind) (g : Bool) (e : Enrolment) (c bought amount : ℕ) → (customer_of e ≡ None → bought ≡ 0) → (g ≡ true → (not (same_kind k Enrol) && has_left (customer_of e) (is_withdrawn e)) ≡ false)
+bought_after : (k : Kind) (g : Bool) (e : Enrolment) (c bought amount : ℕ) → (customer_of e ≡ None → bought ≡ 0) → (g ≡ true → not (same_kind k Enrol) ≡ true → has_left (customer_of e) (is_withdrawn e) ≡ false)
     → customer_of (cond (g && same_kind k Enrol) (Enrolled c) (cond (g && same_kind k Withdraw) (withdrawn_of e) e)) ≡ None → bought + cond (g && same_kind k Reset) amount 0 ≡ 0
 unfolding same_kind
 bought_after k false e c b a was left none = let before = was none in omega arith
@@ -265,19 +213,19 @@ bought_after Enrol true e c b a was left none = absurd (none-some _ (sym none))
 bought_after Withdraw true Registered c b a was left none = let before = was refl in omega arith
 bought_after Withdraw true (Enrolled w) c b a was left none = absurd (none-some _ (sym none))
 bought_after Withdraw true (Withdrawn w) c b a was left none = absurd (none-some _ (sym none))
-bought_after Reset true e c b a was left none = absurd (left_of e (left refl) none)
+bought_after Reset true e c b a was left none = absurd (left_of e (left refl refl) none)
 bought_after Audit true e c b a was left none = let before = was none in omega arith
 bought_after Refund true e c b a was left none = let before = was none in omega arith
 
 -- a granted enrolment names a customer
-enrols_customer : (r : DeviceRow) (q : Request) (o : Option CustomerRow) → IsPayer r q o → same_kind q.kind Enrol ≡ true → not (is_some o) ≡ false → IsCustomer q.customer
-enrols_customer r q None paid k h = absurd (true≢false h)
+enrols_customer : (r : DeviceRow) (q : Request) (o : Option CustomerRow) → IsPayer r q o → same_kind q.kind Enrol ≡ true → is_some o ≡ true → IsCustomer q.customer
+enrols_customer r q None paid k h = absurd (true≢false (sym h))
 enrols_customer r q (Some c) paid k h = subst IsCustomer (paid.0 ∙ ap (λ b. cond b q.customer (own_customer (enrolled_in r))) k) paid.1
 
 pub names_customer : (r : DeviceRow) (v : Verdict) (balance : ℕ) (q : Request) → IsVerdict r balance q v → NamesCustomer v q
 names_customer r v balance q (o, paid, says) g enrol =
     let was = granted (account r o balance) q (sym (ap is_granted says) ∙ g) in
-    enrols_customer r q o paid enrol (and_then (same_kind q.kind Enrol) (not (is_some o)) enrol was.opened)
+    enrols_customer r q o paid enrol (was.opened enrol)
 
 bought_then : (r : DeviceRow) (v : Verdict) (balance : ℕ) (q : Request) → IsSoundDevice r → IsVerdict r balance q v → customer_of (enrolment_after r.enrolment v q) ≡ None → r.buys + adds v q ≡ 0
 unfolding adds

@@ -12,6 +12,7 @@ pub mod Notes
 pub mod OneRow
 pub mod Own
 pub mod Parted
+pub mod Passed
 pub mod Payers
 pub mod Paying
 pub mod Places

@@ -1,7 +1,7 @@
 -- The row with a ruling is one whose customer can pay.
 use Rattle.std.proofs.Common.{◌≡◌, ℕ, ◌+◌, ◌≤◌, Bool, true, false, List, Option, Some, None, cond, refl, sym, ap, subst, ⊎_elim, true≢false, arith}
-use Rattle.std.specs.Prelude.{◌&&◌, not, IsSome, is_some}
-use Rattle.std.proofs.lemmas.Bool.{cases_Bool, eqb-true, and_parts, not-false}
+use Rattle.std.specs.Prelude.{◌&&◌, not, IsSome}
+use Rattle.std.proofs.lemmas.Bool.{cases_Bool, eqb-true, and_parts}
 use Rattle.bench_base.specs.declared.words.Kind.{Kind}
 use Rattle.bench_base.specs.declared.words.Kind.TheVariants.{Enrol, Reset, Audit, Refund, Withdraw}
 use Rattle.bench_base.specs.declared.words.Verdict.{Verdict}
@@ -17,7 +17,8 @@ use Rattle.centre_ledger.specs.Rows.{account, customer_of, enrolled_in, withdraw
 use Rattle.centre_ledger.specs.Soundness.{IsSoundDevice}
 use Rattle.centre_ledger.specs.Books.{Books, device_at, customer_at, left_in, AreSound}
 use Rattle.centre_ledger.specs.Acts.{in_books, payer_in, own_left, verdict_in, ruled_in}
-use Rattle.centre_ledger.proofs.Keeping.{WasGranted, granted, funded, customer_after, and_then}
+use Rattle.centre_ledger.proofs.Keeping.{customer_after}
+use Rattle.centre_ledger.proofs.Passed.{WasGranted, granted}
 use Rattle.centre_ledger.proofs.Payers.{found_device, found_owned}
 use Rattle.centre_ledger.proofs.Puts.{CanPay}
 use Rattle.bench_base.proofs.Facts.{no_reset}
@@ -28,7 +29,7 @@ was_granted b r q h = granted (account r (payer_in (in_books b) r q) (own_left (
 -- the customer that a granted enrolment names is open
 named_open : (b : Books) (r : DeviceRow) (q : Request) → is_granted (verdict_in (in_books b) r q) ≡ true → same_kind q.kind Enrol ≡ true → IsSome (customer_at b q.customer)
 named_open b r q g enrol =
-    let open_so : IsSome (payer_in (in_books b) r q) = not-false _ (and_then (same_kind q.kind Enrol) (not (is_some (payer_in (in_books b) r q))) enrol (was_granted b r q g).opened) in
+    let open_so : IsSome (payer_in (in_books b) r q) = (was_granted b r q g).opened enrol in
     subst (λ w. IsSome (customer_at b w)) (ap (λ t. cond t q.customer (own_customer (enrolled_in r))) enrol) open_so
 
 -- a reset is no enrolment
@@ -46,7 +47,7 @@ unfolding adds
 adds_most b r q = ⊎_elim
     (λ (t : (is_granted (verdict_in (in_books b) r q) && same_kind q.kind Reset) ≡ true).
     let parts = and_parts (is_granted (verdict_in (in_books b) r q)) (same_kind q.kind Reset) t in
-    rw t (funded (account r (payer_in (in_books b) r q) (own_left (in_books b) r)) q parts.0 parts.1))
+    rw t ((was_granted b r q parts.0).funded parts.1))
     (λ (t : (is_granted (verdict_in (in_books b) r q) && same_kind q.kind Reset) ≡ false). rw t (omega arith))
     (cases_Bool (is_granted (verdict_in (in_books b) r q) && same_kind q.kind Reset))
 
@@ -58,7 +59,7 @@ record Fresh (r : DeviceRow) (v : Verdict) (q : Request) : Type 0 where
 fresh : (b : Books) (r : DeviceRow) (q : Request) → IsSoundDevice r → is_granted (verdict_in (in_books b) r q) ≡ true → same_kind q.kind Enrol ≡ true → Fresh r (verdict_in (in_books b) r q) q
 unfolding adds
 fresh b r q sound g enrol =
-    let buys = sound.registered (never (enrolled_in r) (and_then (same_kind q.kind Enrol) (is_enrolled (enrolled_in r)) enrol (was_granted b r q g).new)) in
+    let buys = sound.registered (never (enrolled_in r) ((was_granted b r q g).new enrol)) in
     let least = sound.returns_le in
     let none : same_kind q.kind Reset ≡ false = no_reset q.kind enrol in
     record { bought = rw (g, none) (omega arith); returned = omega arith }

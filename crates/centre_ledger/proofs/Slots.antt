@@ -1,10 +1,8 @@
 -- Which rows there are, that the commit of each call comes in order, and that each new row meets the conditions of a row.
-use Rattle.std.proofs.Common.{◌≡◌, ℕ, ◌+◌, ◌≤◌, Bool, true, false, List, ◌∷◌, Option, Some, None, Ok, Err, cond, refl, sym, ap, ◌∙◌, true≢false, arith}
-use Rattle.std.specs.Prelude.{◌==◌, ◌&&◌, ◌||◌, not, nat_lt, is_some}
-use Rattle.std.proofs.lemmas.Bool.{eqb-true, ltb-false, not-false, or_parts}
+use Rattle.std.proofs.Common.{◌≡◌, ℕ, false, List, ◌∷◌, Option, Some, None, Ok, refl, sym, ap, ◌∙◌, true≢false, arith}
+use Rattle.std.specs.Prelude.{is_some}
 use Rattle.bench_base.specs.declared.words.Verdict.{Verdict}
 use Rattle.bench_base.specs.declared.words.Node.TheVariants.{Centre}
-use Rattle.bench_base.specs.declared.refusals.CentreRefusal.TheVariants as no
 use Rattle.bench_base.specs.declared.ledger.Commit.{Commit}
 use Rattle.bench_base.specs.declared.ledger.Commit.TheVariants.{Registered, Opened, Deposited, Flagged, Ruled, Settled}
 use Rattle.bench_base.specs.Nodes.{node_of, same_node}
@@ -25,6 +23,7 @@ use Rattle.centre_ledger.specs.Rows.{account, enrolled_in, is_suspended, ruled_r
 use Rattle.centre_ledger.specs.Records.{IsRowOf, IsCustomerOf, registered_row, PaysBy}
 use Rattle.centre_ledger.specs.Laws.{touches_device, touches_customer, IsSlotOf, IsCustomerSlotOf, SlotLaws, OrderLaws, SoundLaws, PayingByRows, BalanceByRows}
 use Rattle.centre_ledger.proofs.Keeping.{ruled_sound}
+use Rattle.centre_ledger.proofs.Passed.{deposit_taken}
 use Rattle.centre_ledger.proofs.Following.{ruling, balancing, no_money, settles, other_devices, other_customers}
 
 -- == which rows there are ==
@@ -64,36 +63,6 @@ slots = record {
 }
 
 -- == the order ==
-
-pub record IsDeposit (last total n a after : ℕ) : Type 0 where
-  pub receipt : n ≡ last + 1
-  pub from_1 : 1 ≤ a
-  pub most : a ≤ 1000000000
-  pub room : total + a ≤ 1000000000000000
-  pub sum : after ≡ total + a
-
--- what a deposit that is taken was found to be
-pub deposit_taken : (last : ℕ × ℕ) (total n a after : ℕ) → deposit_answer last total n a ≡ Ok (Some after) → IsDeposit last.0 total n a after
-deposit_taken last total n a after h = go ((n == last.0) && nat_lt 0 n) (a == last.1) (not (n == last.0 + 1)) ((a == 0) || nat_lt 1000000000 a) (nat_lt 1000000000000000 (total + a)) refl refl refl h
-  where
-    go : (t u x y z : Bool) → not (n == last.0 + 1) ≡ x → ((a == 0) || nat_lt 1000000000 a) ≡ y → nat_lt 1000000000000000 (total + a) ≡ z
-        → cond t (cond u (Ok None) (Err (no.Conflict last.1))) (cond x (Err (no.WrongReceipt last.0)) (cond y (Err (no.BadAmount a)) (cond z (Err (no.DepositsFull total)) (Ok (Some (total + a)))))) ≡ Ok (Some after) → IsDeposit last.0 total n a after
-    go true true x y z e f g k = absurd (cc)
-    go true false x y z e f g k = absurd (cc)
-    go false u true y z e f g k = absurd (cc)
-    go false u false true z e f g k = absurd (cc)
-    go false u false false true e f g k = absurd (cc)
-    go false u false false false e f g k =
-        let amounts = or_parts (a == 0) (nat_lt 1000000000 a) f in
-        let some_amount = Rattle.std.proofs.lemmas.Bool.eqb-false a 0 amounts.0 in
-        let same : total + a ≡ after = cc in
-        record {
-          receipt = eqb-true n (last.0 + 1) (not-false _ e);
-          from_1 = omega (arith, some_amount);
-          most = omega (arith, ltb-false 1000000000 a amounts.1);
-          room = omega (arith, ltb-false 1000000000000000 (total + a) g);
-          sum = sym same;
-        }
 
 others_in_order : (c : Commit) (C : List Commit) → same_node (node_of c) Centre ≡ false → InOrder C → InOrder (c ∷ C)
 others_in_order (Registered d origin key) C h o = absurd (true≢false h)

@@ -31,7 +31,8 @@ use Rattle.centre_ledger.proofs.Keeping.{ruled_sound}
 use Rattle.centre_ledger.proofs.RuledBooks.{ruled_can_pay}
 use Rattle.centre_ledger.proofs.Payers.{found_device, found_owned, found_customer, payer_is}
 use Rattle.centre_ledger.proofs.Puts.{CanPay, device_put, customer_put}
-use Rattle.centre_ledger.proofs.Slots.{deposit_taken, sound}
+use Rattle.centre_ledger.proofs.Passed.{deposit_taken}
+use Rattle.centre_ledger.proofs.Slots.{sound}
 
 -- == customers ==
 

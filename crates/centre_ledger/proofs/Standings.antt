@@ -1,13 +1,11 @@
 -- What the row of a device tells of its last ruling, of the ruling in flight, and of what is acknowledged.
-use Rattle.std.proofs.Common.{◌≡◌, ℕ, ◌+◌, ◌-◌, ◌<◌, ◌≤◌, true, false, List, [], ◌∷◌, ◌++◌, take, drop, get_or, Bool, Option, Some, None, Ok, cond, refl, sym, ap, subst, ◌∙◌, true≢false, ⊎_elim, arith}
-use Rattle.std.specs.Prelude.{nat_lt, max, not, ◌&&◌, ◌||◌, ◌==◌}
+use Rattle.std.proofs.Common.{◌≡◌, ℕ, ◌+◌, ◌-◌, ◌<◌, ◌≤◌, true, false, List, [], ◌∷◌, ◌++◌, take, drop, get_or, Bool, Option, Some, None, Ok, cond, refl, sym, ap, subst, ◌∙◌, ⊎_elim, arith}
+use Rattle.std.specs.Prelude.{nat_lt, max, ◌==◌}
 use Rattle.std.proofs.lemmas.Bool.{cases_Bool, cases_lt, eq-eqb, ne_eqb, le-leb, lt-leb, ltb-true, ltb-false}
 use Rattle.std.proofs.lemmas.Option.{same_Some}
 use Rattle.std.proofs.Math.Nat.{min-eq_left}
-use Rattle.bench_base.specs.declared.words.Kind.TheVariants.{Enrol, Reset}
 use Rattle.bench_base.specs.declared.words.Verdict.{Verdict}
-use Rattle.bench_base.specs.declared.words.Verdict.TheVariants.{Granted, NotEnrolled, EnrolledAlready, NoCustomer, Suspended, NoFunds, Imbalance}
-use Rattle.bench_base.specs.Kinds.{same_kind, is_granted}
+use Rattle.bench_base.specs.Kinds.{is_granted}
 use Rattle.bench_base.specs.declared.ledger.Commit.{Commit}
 use Rattle.bench_base.specs.declared.ledger.Commit.TheVariants.{Ruled}
 use Rattle.bench_base.specs.Table.{Size, One, Two, Four, Five, Eight, IsNumber, bytes_in, number, row, spelled}
@@ -23,7 +21,8 @@ use Rattle.ledger_terms.specs.Requests.{request_in, request_or_none}
 use Rattle.ledger_terms.specs.Sums.{adds, takes, ruled_sum}
 use Rattle.ledger_terms.specs.Centres.{registered, key_in, ruled, settled}
 use Rattle.ledger_terms.specs.InFlight.{ruling_of, ruled_sum_to, in_flight, acknowledged_resets, acknowledged_refunds}
-use Rattle.ledger_terms.specs.Rulings.{Account, account_of, has_left, is_enrolled, out_of_balance, verdict, verdict_by, written_amount, stored_reply, reply_to}
+use Rattle.ledger_terms.specs.Rulings.{account_of, verdict, written_amount, stored_reply, reply_to}
+use Rattle.centre_ledger.proofs.Passed.{granted_amount}
 use Rattle.centre_ledger.specs.declared.rows.DeviceRow.{DeviceRow}
 use Rattle.centre_ledger.specs.Order.{InOrder}
 use Rattle.centre_ledger.specs.Soundness.{IsRuling, IsSoundDevice}
@@ -143,23 +142,6 @@ keeps_reply d (_ ∷ C) x o h = let was = keeps_reply d C x o.1 h in record { ke
 
 -- == what was granted ==
 
--- a granted Request has its own amount in the Reply
-amount_granted : (a : Account) (q : Request) → is_granted (verdict_by a q).0 ≡ true → (verdict_by a q).1 ≡ q.amount
-unfolding verdict_by
-amount_granted a q h = go (not (same_kind q.kind Enrol) && has_left a.enrolled a.withdrawn) (same_kind q.kind Enrol && is_enrolled a.enrolled) (out_of_balance q a.bought a.returned) (same_kind q.kind Enrol && not a.opened) ((same_kind q.kind Enrol || same_kind q.kind Reset) && a.suspended) (same_kind q.kind Reset && nat_lt a.balance q.amount) h
-  where
-    given : (s t u x y z : Bool) → Verdict × ℕ
-    given s t u x y z = cond s (NotEnrolled, 0) (cond t (EnrolledAlready, 0) (cond u (Imbalance, a.bought) (cond x (NoCustomer, 0) (cond y (Suspended, 0) (cond z (NoFunds, a.balance) (Granted, q.amount))))))
-
-    go : (s t u x y z : Bool) → is_granted (given s t u x y z).0 ≡ true → (given s t u x y z).1 ≡ q.amount
-    go true t u x y z k = absurd (true≢false (sym k))
-    go false true u x y z k = absurd (true≢false (sym k))
-    go false false true x y z k = absurd (true≢false (sym k))
-    go false false false true y z k = absurd (true≢false (sym k))
-    go false false false false true z k = absurd (true≢false (sym k))
-    go false false false false false true k = absurd (true≢false (sym k))
-    go false false false false false false k = refl
-
 -- an amount that fits its version is written as it is
 written_as : (q : Request) → IsNumber (sum_size q.version) q.amount → written_amount q.version q.amount ≡ q.amount
 written_as q fits = by_size (q.version == 1) refl fits
@@ -170,7 +152,7 @@ written_as q fits = by_size (q.version == 1) refl fits
 
 granted_reply : (before : List Commit) (q : Request) → IsNumber (sum_size q.version) q.amount → is_granted (verdict before q).0 ≡ true → (reply_to before q).amount ≡ q.amount
 unfolding verdict reply_to
-granted_reply before q fits granted = ap (written_amount q.version) (amount_granted (account_of before q) q granted) ∙ written_as q fits
+granted_reply before q fits granted = ap (written_amount q.version) (granted_amount (account_of before q) q granted) ∙ written_as q fits
 
 -- what f gives of a Request that was not granted doesn't turn on its amount
 abbrev OfGranted : {A : Type 0} → (Verdict → Request → A) → Type 0

@@ -3,7 +3,7 @@
 use Rattle.std.proofs.Common.{◌≡◌, ℕ, pos, ◌+◌, ◌<◌, ◌≤◌, ◌+ℤ◌, Bool, true, false, List, [], ◌∷◌, Option, Some, None, Result, Ok, Err, cond, refl, sym, ap, subst, ◌∙◌, true≢false, arith, FitsSigned}
 use Rattle.std.specs.Prelude.{◌==◌, ◌&&◌, ◌||◌, nat_lt, nat_le, bytes_eq, option_map, if◌then◌else◌}
 use Rattle.std.specs.Int.{w32}
-use Rattle.std.proofs.lemmas.Bool.{eqb-true, eqb-false, ltb-false, ltb-true, leb-false, not-false, eq-eqb, and_parts, or_parts}
+use Rattle.std.proofs.lemmas.Bool.{eqb-true, eqb-false, ltb-false, ltb-true, leb-false, eq-eqb, and_parts, or_parts}
 use Rattle.std.proofs.lemmas.Slice.Eq.{bytes_eq-Decides}
 use Rattle.bench_base.specs.declared.words.Node.TheVariants.{Centre}
 use Rattle.bench_base.specs.declared.words.Kind.TheVariants.{Reset}
@@ -20,8 +20,7 @@ use Rattle.bench_base.specs.declared.events.Reply.{Reply}
 use Rattle.bench_base.specs.declared.events.Reply.TheVariants as r
 use Rattle.bench_base.specs.Rules.{Rules}
 use Rattle.bench_base.specs.Plans.{refuse, made, told}
-use Rattle.bench_base.specs.Rows.{first_holding}
-use Rattle.bench_base.specs.Kinds.{is_granted, is_dated, same_kind}
+use Rattle.bench_base.specs.Kinds.{is_dated, same_kind}
 use Rattle.bench_base.specs.Ranges.{IsDevice, IsCustomer, IsWord, IsDay, IsKey}
 use Rattle.bench_base.specs.Ledger.{Ledger, counted, is_on, IsSent}
 use Rattle.node_acts.specs.declared.said.Said.{Said}
@@ -51,9 +50,10 @@ use Rattle.centre_ledger.specs.Records.{last_ruling, stored_note, note_or_none, 
 use Rattle.centre_ledger.specs.Rows.{deposited_row, settled_row}
 use Rattle.centre_ledger.specs.Standing.{ruling_in, ruling_read}
 use Rattle.centre_ledger.proofs.ByCommits.{verdict_is, reply_is}
+use Rattle.centre_ledger.proofs.Passed.{may_deposit, granted_amount}
 use Rattle.ledger_moves.specs.Histories.{IsKnown}
 use Rattle.ledger_lawful.specs.Sane.{IsSane, IsSaneCentre, is_imbalance}
-use Rattle.bench_base.proofs.Rows.{chosen, first, first_that, none_holds}
+use Rattle.bench_base.proofs.Rows.{chosen, first, first_that}
 use Rattle.std.specs.Prelude.{min}
 use Rattle.std.proofs.Math.Nat.{min-le_right, min-eq_left}
 use Rattle.std.proofs.lemmas.Option.{same_Some, none-some}
@@ -67,7 +67,6 @@ use Rattle.law_money.proofs.Links.{link, note_le, applied_le}
 use Rattle.law_money.proofs.Money.{added, reply_added, last_is, last_some, ruling_asked}
 use Rattle.law_money.proofs.Asked.{note_reads, applied_asked}
 use Rattle.law_plans.proofs.Franked.{registered_word}
-use Rattle.law_money.proofs.Customers.{granted_rows, AllRefuse}
 use Rattle.law_money.proofs.Requests.{Shown, new_shown, never_imbalance, ruling_sane}
 use Rattle.law_good.proofs.Grown.{Inv, GenuineReply, genuine_at, reply_kept, inv_sent}
 use Rattle.law_orders.proofs.Orders.{centre_order}
@@ -79,10 +78,6 @@ request_in_read note q h = ap request_or_none h
 
 bytes_eq_same : (xs : List ℕ) → bytes_eq xs xs ≡ true
 bytes_eq_same xs = (bytes_eq-Decides xs xs).1 refl
-
--- where the verdict is granted, the amount is the Request's
-granted_amount : (rows : List (Bool × (Verdict × ℕ))) (a : ℕ) → AllRefuse rows → is_granted (first_holding rows (Granted, a)).0 ≡ true → (first_holding rows (Granted, a)).1 ≡ a
-granted_amount rows a each h = ap (λ (z : Verdict × ℕ). z.1) (none_holds rows (Granted, a) (granted_rows rows a each h))
 
 -- an amount in a Reply is 0, the Request's, or a balance below it; but for a disagreement of the sums
 amount_le : (a : Account) (q : Request) → is_imbalance (verdict_by a q).0 ≡ false → (verdict_by a q).1 ≤ q.amount
@@ -129,7 +124,7 @@ module _ (ρ : Rules) where
 
   -- and says what the ruling says
   reply_vouched : (d n : ℕ) (v : Verdict) (note : List ℕ) (q : Request) (C : List Commit) → request_in note ≡ q → IsWhole (m.Request q) → q.device ≡ d → q.number ≡ n → v ≡ (verdict C q).0 → ruled d C < n → GenuineReply (reply_to C q) (c.Ruled d n v note ∷ C)
-  unfolding reply_to verdict verdict_by AllRefuse
+  unfolding reply_to verdict
   reply_vouched d n v note q C is_note fits same number says above =
       let at = added ρ d d n v note C (eq-eqb d d refl) above in
       let there : ruling_of q.device q.number (c.Ruled d n v note ∷ C) ≡ Some (v, note) = subst (λ (z : ℕ × ℕ). ruling_of z.0 z.1 (c.Ruled d n v note ∷ C) ≡ Some (v, note)) (λ j. (sym same j, sym number j)) at in
@@ -137,7 +132,7 @@ module _ (ρ : Rules) where
         note = note;
         ruled_as = there ∙ ap (λ (z : Verdict). Some (z, note)) says;
         kind = ap (λ (z : Request). z.kind) (sym is_note);
-        amount = λ h. ap (written_amount q.version) (granted_amount (verdict_rows (account_of C q) q) q.amount (refl, (refl, (refl, (refl, (refl, (refl, tt)))))) h) ∙ written_same q.version q.amount fits.1.1.1.1.1.1.1.0 ∙ ap (λ (z : Request). z.amount) (sym is_note);
+        amount = λ h. ap (written_amount q.version) (granted_amount (account_of C q) q h) ∙ written_same q.version q.amount fits.1.1.1.1.1.1.1.0 ∙ ap (λ (z : Request). z.amount) (sym is_note);
         whole = subst (λ (z : ℕ × ℕ). ruled_reply z.0 z.1 (c.Ruled d n v note ∷ C) ≡ Some (reply_to C q)) (λ j. (sym same j, sym number j))
             (reply_added ρ d d n v note C (eq-eqb d d refl) above ∙ ap (λ (z : Request). Some (reply_to C z)) is_note);
       }
@@ -224,18 +219,17 @@ module _ (ρ : Rules) (H : Ledger) (i : Inv ρ H) (on : is_on Centre H ≡ true)
       (λ _. first P (deposit_rows last sum n a) (Ok (Some (sum + a)))
       (no_ok (no.WrongReceipt last.0) tt, (no_ok (no.BadAmount a) tt, (no_ok (no.DepositsFull sum) tt, tt)))
       (λ rows.
-      let amount = or_parts (a == 0) (nat_lt 1000000000 a) rows.1.0 in
-      let some : a ≡ 0 → ⊥ = eqb-false a 0 amount.0 in
+      let may = may_deposit last sum n a rows in
       ok_made ρ H (r.Deposited w n false (sum + a)) (c.Deposited w n a) refl tt (λ l k h. absurd (cc)) (record {
         fits = record {
           known = has;
-          next = eqb-true n (last.0 + 1) (not-false (n == last.0 + 1) rows.0);
-          low = omega arith;
-          high = ltb-false 1000000000 a amount.1;
-          room = ltb-false 1000000000000000 (sum + a) rows.1.1.0;
+          next = may.receipt;
+          low = may.from_1;
+          high = may.most;
+          room = may.room;
         };
         on = on;
-        range = (range, (omega (arith, eqb-true n (last.0 + 1) (not-false (n == last.0 + 1) rows.0)), receipts), (omega arith, ltb-false 1000000000 a amount.1));
+        range = (range, (omega (arith, may.receipt), receipts), (may.from_1, may.most));
         sure = tt;
       })))
 

@@ -1,15 +1,13 @@
 -- The device's part of a plan is right: what it commits fits, what it sends is genuine, and it never answers `stray`.
-use Rattle.std.proofs.Common.{◌≡◌, ℕ, ℤ, pos, ◌+◌, ◌<◌, ◌≤◌, ◌≤ℤ◌, ◌+ℤ◌, Bool, true, false, List, [], ◌∷◌, ◌++◌, Option, Some, None, Result, Ok, Err, cond, refl, sym, ap, subst, ◌∙◌, true≢false, inl, ⊎_elim, not, arith}
-use Rattle.std.specs.Prelude.{◌==◌, ◌&&◌, ◌||◌, nat_lt, nat_le}
-use lib.Signed.{lt_z}
-use Rattle.std.proofs.lemmas.Bool.{eqb-true, eqb-false, ltb-false, leb-false, not-false, cases_Bool, eq-eqb, or_parts}
+use Rattle.std.proofs.Common.{◌≡◌, ℕ, ℤ, ◌+◌, ◌<◌, ◌≤◌, ◌≤ℤ◌, Bool, true, false, List, [], ◌∷◌, ◌++◌, Option, Some, None, Result, Ok, Err, cond, refl, sym, ap, subst, ◌∙◌, true≢false, inl, ⊎_elim, not, arith}
+use Rattle.std.specs.Prelude.{◌==◌, ◌&&◌, ◌||◌}
+use Rattle.std.proofs.lemmas.Bool.{eqb-true, eqb-false, not-false, cases_Bool, eq-eqb}
 use Rattle.std.proofs.lemmas.Option.{same_Some, none-some}
 use Rattle.bench_base.specs.declared.words.Node.{Node}
 use Rattle.bench_base.specs.declared.words.Node.TheVariants.{Device}
 use Rattle.bench_base.specs.declared.words.Kind.{Kind}
 use Rattle.bench_base.specs.declared.words.Kind.TheVariants.{Enrol, Reset, Audit, Refund, Withdraw}
 use Rattle.bench_base.specs.declared.words.Phase.{Phase}
-use Rattle.bench_base.specs.declared.words.Phase.TheVariants.{InService}
 use Rattle.bench_base.specs.declared.words.Verdict.TheVariants.{Granted}
 use Rattle.bench_base.specs.declared.refusals.Unread.{Unread}
 use Rattle.bench_base.specs.declared.refusals.Unread.TheVariants as unread
@@ -33,7 +31,6 @@ use Rattle.psd_wire.specs.declared.message.Message.{Message}
 use Rattle.psd_wire.specs.declared.message.Message.TheVariants as m
 use Rattle.psd_wire.specs.Grammar.{read, spell, IsWhole}
 use Rattle.psd_wire.proofs.Readings.{read_spell}
-use Rattle.psd_wire.specs.Codes.{has_code}
 use Rattle.ledger_terms.specs.Requests.{request_in, request_or_none, note_of}
 use Rattle.ledger_terms.specs.Sums.{adds, loaded, refunded, ascending, descending, pieces}
 use Rattle.ledger_terms.specs.Devices.{key_of, asked, number, pending, waiting, frozen, phase, deadline, last_day, customer}
@@ -50,16 +47,15 @@ use Rattle.psd_state.specs.Acts as acts
 use Rattle.psd_state.specs.Acts.{DeviceAct}
 use Rattle.psd_state.specs.declared.acts.Franked.{Franked}
 use Rattle.psd_state.specs.Answers as answers
-use Rattle.psd_state.specs.Answers.{request_made, mark_made, amount_for, customer_for, in_service, is_stray}
+use Rattle.psd_state.specs.Answers.{request_made, mark_made, amount_for, customer_for, is_stray}
 use Rattle.psd_state.specs.declared.debiting.Debited.{Debited}
 use Rattle.psd_state.specs.declared.debiting.Debited.TheVariants.{New, Again}
 use Rattle.ledger_lawful.specs.Editions.{IsCarried}
 use Rattle.ledger_moves.specs.Histories.{IsKnown}
 use Rattle.node_acts.specs.Plans.{with_commit, after}
 use Rattle.ledger_lawful.specs.Sane.{IsSane, IsSaneDevice}
-use Rattle.bench_base.proofs.Facts.{and_false}
-use Rattle.bench_base.proofs.Rows.{AllFalse, chosen, first}
-use Rattle.law_device.proofs.Dates.{not_before, before}
+use Rattle.bench_base.proofs.Rows.{chosen, first}
+use Rattle.psd_state.proofs.Passed.{MayMark, may_mark, MayDebit, may_debit, MayAsk, may_ask, own_reply}
 use Rattle.bench_base.specs.Table.{IsNumber}
 use Rattle.law_plans.proofs.Whole.{sum_fits, word_fits, whole_request, whole_done}
 use Rattle.law_good.proofs.Good.{Fits}
@@ -71,10 +67,6 @@ use Rattle.law_money.proofs.Requests.{ruling_sane}
 use Rattle.psd_wire.specs.Grammar.{sum_size}
 use Rattle.law_good.proofs.Grown.{IsCommand, Inv, Genuine, GenuineReply, genuine_at, inv_sent, inv_released}
 use Rattle.law_plans.proofs.Plans.{PlanOk, IsFit, ok_refuse, ok_made}
-
-serves : (p : Phase) → in_service p ≡ true → p ≡ InService
-serves InService h = refl
-serves _ h = absurd (true≢false (sym h))
 
 pub request_in_spell : (q : Request) (key : List ℕ) → IsWhole (m.Request q) → request_in (spell (m.Request q) key) ≡ q
 unfolding request_in
@@ -187,38 +179,36 @@ module _ (ρ : Rules) (carried : IsCarried ρ) (H : Ledger) (i : Inv ρ H) where
 
   -- == ask ==
 
-  request_whole : (d : ℕ) (key : List ℕ) (k : Kind) (who a : ℕ) (t : ℤ) → IsDevice d → IsAsk k who a → IsDay t → nat_le 4294967295 (number d (counted H)) ≡ false → IsWhole (m.Request (request_made ρ (state_of d key (counted H)) k who a t))
-  request_whole d key k who a t device ask day row =
+  request_whole : (d : ℕ) (key : List ℕ) (k : Kind) (who a : ℕ) (t : ℤ) → IsDevice d → IsAsk k who a → IsDay t → number d (counted H) < 4294967295 → IsWhole (m.Request (request_made ρ (state_of d key (counted H)) k who a t))
+  request_whole d key k who a t device ask day below =
       let C = counted H in
       let f = funds ρ d C i.good in
       let covered = f.covered in
       let within = f.within in
       let top = carried.total in
-      let below : number d C < 4294967295 = leb-false 4294967295 (number d C) row in
       let left = sum_fits ρ.version (descending d C) (omega arith) in
       whole_request _ carried.version (device_word d device) (omega arith) (customer_for_word k who a (customer d C) ask (customer_word ρ d C i.good)) (amount_fits ρ.version k who a (descending d C) ask left)
       (sum_fits ρ.version (ascending d C) (omega arith)) left (sum_fits ρ.version (refunded d C) (omega arith)) (pieces_word ρ d C i.good) day
 
-  ask_fits : (d : ℕ) (k : Kind) (who a : ℕ) (t : ℤ) (key : List ℕ) → IsDevice d → IsAsk k who a → IsDay t → key_of d (counted H) ≡ Some key → pending d (counted H) ≡ None → AllFalse (answers.ask_rows ρ (state_of d key (counted H)) k a t)
+  ask_fits : (d : ℕ) (k : Kind) (who a : ℕ) (t : ℤ) (key : List ℕ) → IsDevice d → IsAsk k who a → IsDay t → key_of d (counted H) ≡ Some key → pending d (counted H) ≡ None → MayAsk ρ (state_of d key (counted H)) k a t
       → Fits ρ (c.Asked d (number d (counted H) + 1) (spell (m.Request (request_made ρ (state_of d key (counted H)) k who a t)) key)) (counted H)
   unfolding adds
-  ask_fits d k who a t key device ask day has idle rows =
+  ask_fits d k who a t key device ask day has idle may =
       let C = counted H in
       let q = request_made ρ (state_of d key C) k who a t in
       let note = spell (m.Request q) key in
-      let whole = request_whole d key k who a t device ask day rows.1.1.1.1.1.0 in
+      let whole = request_whole d key k who a t device ask day may.number in
       let is : request_in note ≡ q = request_in_spell q key whole in
       let f = funds ρ d C i.good in
       let covered = f.covered in
       let within = f.within in
       let sum : ℕ = ascending d C + descending d C + refunded d C in
       let size : same_kind k Reset ≡ true → (1 ≤ amount_for k a (descending d C)) × (amount_for k a (descending d C) ≤ 10000000) = λ h.
-      let amount = or_parts (a == 0) (nat_lt 10000000 a) (and_false (same_kind k Reset) _ rows.1.1.1.0 h) in
-      let some : a ≡ 0 → ⊥ = eqb-false a 0 amount.0 in
-      let most = ltb-false 10000000 a amount.1 in
+      let low = may.low h in
+      let high = may.high h in
       let it = size_amount k a (descending d C) h in
       (omega arith, omega arith) in
-      let in_total : loaded d C + adds Granted q ≤ ρ.total = reset_amount k a (descending d C) (loaded d C) ρ.total within (λ h. let le = ltb-false ρ.total (sum + a) (and_false (same_kind k Reset) (nat_lt ρ.total (sum + a)) rows.1.1.1.1.0 h) in omega arith) in
+      let in_total : loaded d C + adds Granted q ≤ ρ.total = reset_amount k a (descending d C) (loaded d C) ρ.total within (λ h. let le : sum + a ≤ ρ.total = may.within h in omega arith) in
       let limit = carried.total in
       let in_version : loaded d C + adds Granted q ≤ buys_limit ρ.version = omega arith in
       record {
@@ -232,12 +222,12 @@ module _ (ρ : Rules) (carried : IsCarried ρ) (H : Ledger) (i : Inv ρ H) where
         ascending = ap (λ (z : Request). z.ascending) is;
         descending = ap (λ (z : Request). z.descending) is;
         refunded = ap (λ (z : Request). z.refunded) is;
-        day = subst (λ (z : Request). last_day d C ≤ℤ z.day) (sym is) (not_before t (last_day d C) rows.1.0);
+        day = subst (λ (z : Request). last_day d C ≤ℤ z.day) (sym is) may.day;
         all = subst (λ (z : Request). empties z.kind ≡ true → z.amount ≡ descending d C) (sym is) (all_amount k a (descending d C));
         within = subst (λ (z : Request). loaded d C + adds Granted z ≤ ρ.total) (sym is) in_total;
         bound = subst (λ (z : Request). loaded d C + adds Granted z ≤ buys_limit z.version) (sym is) in_version;
         size = subst (λ (z : Request). same_kind z.kind Reset ≡ true → (1 ≤ z.amount) × (z.amount ≤ 10000000)) (sym is) size;
-        allowed = subst (λ (z : Request). is_allowed z.kind (phase d C) ≡ true) (sym is) (not-false (is_allowed k (phase d C)) rows.0);
+        allowed = subst (λ (z : Request). is_allowed z.kind (phase d C) ≡ true) (sym is) may.allowed;
         owner = subst (λ (z : Request). same_kind z.kind Enrol ≡ false → z.customer ≡ customer d C) (sym is) (own_customer k who (customer d C));
         nothing = subst (λ (z : Request). (same_kind z.kind Enrol || same_kind z.kind Audit) ≡ true → z.amount ≡ 0) (sym is) (no_amount k a (descending d C));
       }
@@ -254,21 +244,21 @@ module _ (ρ : Rules) (carried : IsCarried ρ) (H : Ledger) (i : Inv ρ H) where
       }
 
   asked_ok : (d : ℕ) (k : Kind) (who a : ℕ) (t : ℤ) (l : ℕ) (key : List ℕ) → is_on (Device d) H ≡ true → IsDevice d → IsAsk k who a → IsDay t → key_of d (counted H) ≡ Some key → pending d (counted H) ≡ None
-      → AllFalse (answers.ask_rows ρ (state_of d key (counted H)) k a t)
+      → MayAsk ρ (state_of d key (counted H)) k a t
       → PlanOk ρ H (Devices.asked_plan d (number d (counted H) + 1) l (acts.asked_act d (number d (counted H) + 1) (Ok (answers.after_ask (state_of d key (counted H)) (request_made ρ (state_of d key (counted H)) k who a t), spell (m.Request (request_made ρ (state_of d key (counted H)) k who a t)) key))))
-  asked_ok d k who a t l key on device ask day has idle rows =
+  asked_ok d k who a t l key on device ask day has idle may =
       let C = counted H in
       let q = request_made ρ (state_of d key C) k who a t in
       let note = spell (m.Request q) key in
-      let f = ask_fits d k who a t key device ask day has idle rows in
-      let below : number d C < 4294967295 = leb-false 4294967295 (number d C) rows.1.1.1.1.1.0 in
+      let f = ask_fits d k who a t key device ask day has idle may in
+      let below : number d C < 4294967295 = may.number in
       record {
         sane = tt;
         plain = refl;
         no_up = λ n j h. absurd (cc);
         fit = λ x h. subst (IsFit ρ H) (same_Some _ _ h) (record { fits = f; on = on; range = (device, omega arith); sure = tt });
         keeps = λ j. inv_sent ρ (e.Commit (c.Asked d (number d C + 1) note) ∷ H) note
-            (asked_sent d (number d C + 1) key q (request_whole d key k who a t device ask day rows.1.1.1.1.1.0) refl refl (λ x s.
+            (asked_sent d (number d C + 1) key q (request_whole d key k who a t device ask day below) refl refl (λ x s.
             let le = note_le ρ d (number d C + 1) x C i.good s in
             let none = waits_none ρ (pending d C) (asked d C) (number d C) idle (waits ρ d C i.good) in
             omega arith)) j;
@@ -304,29 +294,26 @@ module _ (ρ : Rules) (carried : IsCarried ρ) (H : Ledger) (i : Inv ρ H) where
           ),
         ),
       )
-          (λ rows. asked_ok d k who a t l key on device ask day has h rows)
+          (λ rows. asked_ok d k who a t l key on device ask day has h (may_ask ρ S k a t rows))
 
   -- == debit ==
 
   debit_fits : (d : ℕ) (q : DebitMsg) (t : ℤ) (key : List ℕ) → key_of d (counted H) ≡ Some key → frozen (pending d (counted H)) ≡ false
-      → AllFalse (answers.piece_rows (state_of d key (counted H)) q) → AllFalse (answers.debit_rows ρ (state_of d key (counted H)) q t) → Fits ρ (c.Debited d q.piece q.postage q.class t ρ.version) (counted H)
-  debit_fits d q t key has free pieces_rows rows =
+      → MayMark (state_of d key (counted H)) q → MayDebit ρ (state_of d key (counted H)) q t → Fits ρ (c.Debited d q.piece q.postage q.class t ρ.version) (counted H)
+  debit_fits d q t key has free piece may =
       let C = counted H in
-      let amount = or_parts (q.postage == 0) (nat_lt 100000 q.postage) rows.1.1.0 in
-      let over = or_parts (lt_z (deadline d C +ℤ pos ρ.grace) t) (lt_z (deadline d C) t && nat_lt ρ.small q.postage) rows.1.0 in
-      let some : q.postage ≡ 0 → ⊥ = eqb-false q.postage 0 amount.0 in
       let sums = funds ρ d C i.good in
       record {
         made = (key, has);
         free = free;
-        next = eqb-true q.piece (pieces d C + 1) (not-false (q.piece == pieces d C + 1) pieces_rows.0);
-        low = omega arith;
-        high = ltb-false 100000 q.postage amount.1;
-        funded = ltb-false (descending d C) q.postage rows.1.1.1.0;
-        serves = serves (phase d C) (not-false (in_service (phase d C)) pieces_rows.1.0);
-        day = not_before t (last_day d C) rows.0;
-        due = not_before (deadline d C +ℤ pos ρ.grace) t over.0;
-        small = λ h. ltb-false ρ.small q.postage (and_false (lt_z (deadline d C) t) (nat_lt ρ.small q.postage) over.1 (before (deadline d C) t h));
+        next = piece.next;
+        low = may.low;
+        high = may.high;
+        funded = may.funded;
+        serves = piece.serves;
+        day = may.day;
+        due = may.due;
+        small = may.small;
         from_1 = carried.version.0;
         known = omega arith;
         bound = omega (arith, carried.total, sums.within);
@@ -338,12 +325,12 @@ module _ (ρ : Rules) (carried : IsCarried ρ) (H : Ledger) (i : Inv ρ H) where
   same_mark d q t key has = ap (λ o. marks.spell (mark_after d q.piece q.postage q.class t ρ.version (counted H)) (key_or_none o)) has
 
   franked_ok : (T : Teller) (d : ℕ) (q : DebitMsg) (t : ℤ) (key : List ℕ) → TellerOk ρ T d q.piece → is_on (Device d) H ≡ true → IsDevice d → IsCommand q → IsDay t → key_of d (counted H) ≡ Some key → frozen (pending d (counted H)) ≡ false
-      → AllFalse (answers.piece_rows (state_of d key (counted H)) q) → AllFalse (answers.debit_rows ρ (state_of d key (counted H)) q t)
+      → MayMark (state_of d key (counted H)) q → MayDebit ρ (state_of d key (counted H)) q t
       → PlanOk ρ H (Devices.franked_plan T d (acts.franked_act ρ d q t (Ok (New (answers.after_debit ρ (state_of d key (counted H)) q t) (marks.spell (mark_made ρ (state_of d key (counted H)) q t) key)))))
-  franked_ok T d q t key ok on device class day has free pieces_rows rows =
+  franked_ok T d q t key ok on device class day has free piece may =
       let C = counted H in
       let x = marks.spell (mark_made ρ (state_of d key C) q t) key in
-      let f = debit_fits d q t key has free pieces_rows rows in
+      let f = debit_fits d q t key has free piece may in
       let next = f.next in
       let low = f.low in
       let high = f.high in
@@ -366,7 +353,7 @@ module _ (ρ : Rules) (carried : IsCarried ρ) (H : Ledger) (i : Inv ρ H) where
   new_ok T d q t key ok on device class day has =
       first P (answers.piece_rows S q) _
       (refuse_ok d (no.WrongPiece (pieces d (counted H))) tt, (refuse_ok d (no.Phase (phase d (counted H))) tt, tt))
-      (λ pieces_rows. by_pending pieces_rows (pending d (counted H)) refl)
+      (λ rows. by_pending (may_mark S q rows) (pending d (counted H)) refl)
     where
       P : Result Debited DevRefusal → Type 0
       P z = PlanOk ρ H (Devices.franked_plan T d (acts.franked_act ρ d q t z))
@@ -377,8 +364,8 @@ module _ (ρ : Rules) (carried : IsCarried ρ) (H : Ledger) (i : Inv ρ H) where
       act : Result Debited DevRefusal
       act = Ok (New (answers.after_debit ρ S q t) (marks.spell (mark_made ρ S q t) key))
 
-      free_ok : AllFalse (answers.piece_rows S q) → frozen (pending d (counted H)) ≡ false → P (first_holding (answers.debit_rows ρ S q t) act)
-      free_ok pieces_rows free = first P (answers.debit_rows ρ S q t) act (
+      free_ok : MayMark S q → frozen (pending d (counted H)) ≡ false → P (first_holding (answers.debit_rows ρ S q t) act)
+      free_ok piece free = first P (answers.debit_rows ρ S q t) act (
         refuse_ok d (no.ClockBack (last_day d (counted H))) tt,
         (
           refuse_ok d (no.Due (deadline d (counted H))) tt,
@@ -388,13 +375,13 @@ module _ (ρ : Rules) (carried : IsCarried ρ) (H : Ledger) (i : Inv ρ H) where
           ),
         ),
       )
-          (λ rows. franked_ok T d q t key ok on device class day has free pieces_rows rows)
+          (λ rows. franked_ok T d q t key ok on device class day has free piece (may_debit ρ S q t rows))
 
-      by_pending : AllFalse (answers.piece_rows S q) → (o : Option (ℕ × List ℕ)) → pending d (counted H) ≡ o → P (answers.unless (answers.frozen_kind (waiting o)) no.Frozen (first_holding (answers.debit_rows ρ S q t) act))
-      by_pending pieces_rows None h = free_ok pieces_rows (ap frozen h)
-      by_pending pieces_rows (Some p) h = chosen (λ (z : Option Kind). P (answers.unless z no.Frozen (first_holding (answers.debit_rows ρ S q t) act))) (empties (request_in p.1).kind) (Some (request_in p.1).kind) None
+      by_pending : MayMark S q → (o : Option (ℕ × List ℕ)) → pending d (counted H) ≡ o → P (answers.unless (answers.frozen_kind (waiting o)) no.Frozen (first_holding (answers.debit_rows ρ S q t) act))
+      by_pending piece None h = free_ok piece (ap frozen h)
+      by_pending piece (Some p) h = chosen (λ (z : Option Kind). P (answers.unless z no.Frozen (first_holding (answers.debit_rows ρ S q t) act))) (empties (request_in p.1).kind) (Some (request_in p.1).kind) None
           (λ _. refuse_ok d (no.Frozen (request_in p.1).kind) tt)
-          (λ free. free_ok pieces_rows (ap frozen h ∙ free))
+          (λ free. free_ok piece (ap frozen h ∙ free))
 
   again_ok : (T : Teller) (d : ℕ) (q : DebitMsg) (t : ℤ) (k : Mark) (key : List ℕ) → TellerOk ρ T d q.piece → marked d q.piece (counted H) ≡ Some (marks.spell k key) → PlanOk ρ H (Devices.franked_plan T d (acts.franked_act ρ d q t (answers.again q key k)))
   again_ok T d q t k key ok there =
@@ -542,9 +529,9 @@ module _ (ρ : Rules) (carried : IsCarried ρ) (H : Ledger) (i : Inv ρ H) where
       keyed (Some key) has = first (λ act. PlanOk ρ H (Devices.taken_plan d k act)) (acts.reply_rows d bytes p key) (acts.applied_act d p (answers.apply_answer (state_of d key (counted H)) (state_of d key (counted H)).pending p))
           (refuse_ok d (no.WrongDevice p.device) tt, (refuse_ok d no.BadCode tt, tt))
           (λ rows.
-          let same : p.device ≡ d = eqb-true p.device d (not-false (p.device == d) rows.0) in
-          let sent = known same key has (not-false (has_code key bytes) rows.1.0) in
-          apply_ok d k p (state_of d key (counted H)) on same (genuine_at bytes (m.Reply p) H (counted H) (i.sents bytes sent) reads) (pending d (counted H)) refl)
+          let own = own_reply d bytes p key rows in
+          let sent = known own.device key has own.code in
+          apply_ok d k p (state_of d key (counted H)) on own.device (genuine_at bytes (m.Reply p) H (counted H) (i.sents bytes sent) reads) (pending d (counted H)) refl)
   device_ok d k t bytes on device day (Ok (m.Debit q)) reads known fits =
       subst (PlanOk ρ H) (released_plan d k q.piece (acts.debit_act ρ d q t (Devices.record_in d (counted H))))
       (debit_ok (Devices.sent d q.piece k) d q t (ok_sent ρ carried d q.piece k) on device (fits q refl) day (key_of d (counted H)) refl)

@@ -1,2 +1,1 @@
-pub mod Dates
 pub mod DevicePlans

@@ -2,7 +2,7 @@
 -- and what the host sends fits its fields.
 use Rattle.std.proofs.Common.{◌≡◌, ℕ, ℤ, ◌+◌, ◌-◌, ◌<◌, ◌^◌, Bool, true, false, List, [], ◌∷◌, Option, Some, None, Result, Ok, Err, cond, refl, sym, ap, subst, ◌∙◌, inl, inr, ⊎_elim, true≢false, arith}
 use Rattle.std.specs.Prelude.{◌==◌, ◌&&◌, length, unwrap_or, is_some, is_none, nat_le}
-use Rattle.std.proofs.lemmas.Bool.{eqb-true, leb-true, leb-false, le-leb, eq-eqb, not-false}
+use Rattle.std.proofs.lemmas.Bool.{eqb-true, leb-true, le-leb, eq-eqb}
 use Rattle.std.proofs.Math.Bool.{and-false}
 use Rattle.std.proofs.lemmas.Option.{same_Some, none-some}
 use Rattle.bench_base.specs.declared.sizes.TheConstants.{VERIFIER_CELLS, FIRST_BLOCK}
@@ -47,6 +47,7 @@ use Rattle.host_jobs.specs.Acts.{HostAct, unless, ordered_act, moved, debit_note
 use Rattle.host_jobs.specs.Plans as host
 use Rattle.host_jobs.specs.Records.{tops_after}
 use Rattle.host_jobs.specs.Rows.{job_in}
+use Rattle.host_jobs.proofs.Answered.{may_order, may_hold}
 use Rattle.host_jobs.proofs.ByRows.{shown_is}
 use Rattle.host_jobs.proofs.CellFacts.{IsRowOf}
 use Rattle.verifier.specs.declared.acts.Accepted.{Accepted}
@@ -54,6 +55,7 @@ use Rattle.verifier.specs.declared.acts.Spot.{Spot}
 use Rattle.verifier.specs.Answers.{scan_rows, scan_answer}
 use Rattle.verifier.specs.Acts.{ScanAct, trusted_act, answered_act, marked_act, read_act}
 use Rattle.verifier.specs.Plans as scans
+use Rattle.verifier.proofs.Passed.{may_accept}
 use Rattle.ledger_lawful.specs.Editions.{IsCarried}
 use Rattle.ledger_moves.specs.Histories.{IsKnown, IsKnownMark}
 use Rattle.bench_base.proofs.Rows.{chosen, first}
@@ -143,11 +145,12 @@ module _ (ρ : Rules) (carried : IsCarried ρ) (H : Ledger) (i : Inv ρ H) where
       first (λ (z : Result ℕ HostRefusal). OkTold host.told_ordered (ordered_act d p k a tops z)) (order_rows p h) (Ok (last_job C + 1))
       (no_host (no.Used (top d C)), (no_host no.NumberFull, (no_host (no.JobsFull (last_job C - 1023)), tt)))
       (λ rows.
-      let below : last_job C < 4294967295 = leb-false 4294967295 (last_job C) rows.1.0 in
+      let may = may_order p h rows in
+      let below : last_job C < 4294967295 = may.number in
       ok_made ρ H (r.Ordered (last_job C + 1) a) (c.Ordered (last_job C + 1) d p a k) refl tt (λ n l x. absurd (cc)) (record {
-        fits = record { next = refl; idle = has; fresh = leb-false p (top d C) rows.0; room = rows.1.1.0 };
+        fits = record { next = refl; idle = has; fresh = may.fresh; room = may.room };
         on = on;
-        range = ((omega arith, omega arith), device, (omega (arith, leb-false p (top d C) rows.0), piece), postage, class);
+        range = ((omega arith, omega arith), device, (omega (arith, may.fresh), piece), postage, class);
         sure = tt;
       }))
 
@@ -202,7 +205,7 @@ module _ (ρ : Rules) (carried : IsCarried ρ) (H : Ledger) (i : Inv ρ H) where
           let device : k.0.device ≡ b.device = sym it.device ∙ ap (λ (z : Job). z.device) same in
           first (λ (z : Option HostRefusal). OkTold host.told_held (unless z (Commits (c.Held y.job x) (held_row y x (tops_after (counted H))) y.job))) (hold_rows k.0 y.piece y.postage y.class) None
           (no_host (no.OtherPiece y.piece), (no_host (no.OtherPostage y.postage), (no_host (no.OtherClass y.class), tt)))
-          (λ rows. subst (λ (n : ℕ). PlanOk ρ H (made (r.Held n) (c.Held n x) [])) (sym is.number) (ok_made ρ H (r.Held j) (c.Held j x) refl tt (λ n l h. absurd (cc)) (record {
+          (λ rows. let may = may_hold k.0 b.piece b.postage b.class rows in subst (λ (n : ℕ). PlanOk ρ H (made (r.Held n) (c.Held n x) [])) (sym is.number) (ok_made ρ H (r.Held j) (c.Held j x) refl tt (λ n l h. absurd (cc)) (record {
             fits = record {
               at = b;
               job_is = is.job;
@@ -212,9 +215,9 @@ module _ (ρ : Rules) (carried : IsCarried ρ) (H : Ledger) (i : Inv ρ H) where
                 code = k.1;
                 reads = reads;
                 device = device;
-                piece = eqb-true k.0.piece b.piece (not-false (k.0.piece == b.piece) rows.0);
-                postage = eqb-true k.0.postage b.postage (not-false (k.0.postage == b.postage) rows.1.0);
-                class = eqb-true k.0.class b.class (not-false (k.0.class == b.class) rows.1.1.0);
+                piece = may.piece_is;
+                postage = may.postage_is;
+                class = may.class_is;
               };
             };
             on = on;
@@ -326,7 +329,7 @@ module _ (ρ : Rules) (carried : IsCarried ρ) (H : Ledger) (i : Inv ρ H) where
   accept_ok n k today on device piece scan sure key trust None has cell room = first (λ (z : Result Bool ScanRefusal). Scanned n (answered_act n k cell z)) (scan_rows k.day today (nat_le VERIFIER_CELLS cell)) (Ok false)
       (no_scan (not_v.Future k.day), (no_scan (not_v.TooOld k.day), (no_scan not_v.BlocksFull, tt)))
       (λ rows. ok_made ρ H (r.Accepted k.device k.piece n false) (c.Accepted k.device k.piece n) refl tt (λ l j h. absurd (cc))
-      (record { fits = record { new = has; known = (key, trust); room = room rows.1.1.0 }; on = on; range = (device, piece, scan); sure = sure }))
+      (record { fits = record { new = has; known = (key, trust); room = room (may_accept k.day today (nat_le VERIFIER_CELLS cell) rows).room }; on = on; range = (device, piece, scan); sure = sure }))
 
   pub scan_ok : (n : ℕ) (bytes : List ℕ) (today : ℤ) → is_on Verifier H ≡ true → IsCount n → (o : Result (Mark × List ℕ) MarkFault) → read_mark bytes ≡ o → IsKnownMark bytes o H
       → Scanned n (read_act n bytes today (scans.in_commits (counted H)) o)

@@ -2,41 +2,27 @@
 -- enrolled; a ruling changes the sums of one device alone; and a device that isn't enrolled has no buys, so its enrolment
 -- brings none to its customer.
 
-use Rattle.std.proofs.Common.{◌≡◌, ℕ, ◌+◌, ◌-◌, ◌<◌, ◌≤◌, Bool, true, false, List, [], ◌∷◌, Option, Some, None, cond, ⊎_elim, refl, sym, ap, subst, ◌∙◌, true≢false, not, arith}
+use Rattle.std.proofs.Common.{◌≡◌, ℕ, ◌+◌, ◌-◌, ◌<◌, ◌≤◌, Bool, true, false, List, [], ◌∷◌, Option, Some, None, cond, ⊎_elim, refl, sym, ap, subst, ◌∙◌, true≢false, arith}
 use Rattle.std.specs.Prelude.{◌==◌, ◌&&◌}
-use Rattle.std.proofs.lemmas.Bool.{eqb-true, cases_Bool, eq-eqb, and_parts, ltb-false}
+use Rattle.std.proofs.lemmas.Bool.{eqb-true, cases_Bool, eq-eqb, and_parts}
 use Rattle.std.proofs.lemmas.Option.{same_Some, none-some}
 use Rattle.bench_base.specs.declared.words.Kind.TheVariants.{Enrol, Reset}
 use Rattle.bench_base.specs.declared.words.Verdict.{Verdict}
-use Rattle.bench_base.specs.declared.words.Verdict.TheVariants.{Granted}
 use Rattle.bench_base.specs.declared.ledger.Commit.{Commit}
 use Rattle.bench_base.specs.declared.ledger.Commit.TheVariants.{Deposited, Ruled}
 use Rattle.bench_base.specs.Rules.{Rules}
-use Rattle.bench_base.specs.Rows.{first_of, first_holding}
+use Rattle.bench_base.specs.Rows.{first_of}
 use Rattle.bench_base.specs.Kinds.{same_kind, is_granted}
-use Rattle.bench_base.proofs.Facts.{either, and_false, when}
+use Rattle.bench_base.proofs.Facts.{either, when}
 use Rattle.psd_wire.specs.declared.message.Request.{Request}
 use Rattle.ledger_terms.specs.Requests.{request_in}
 use Rattle.ledger_terms.specs.Sums.{adds, takes, ruled_sum}
-use Rattle.bench_base.proofs.Rows.{AllFalse}
 use Rattle.law_good.proofs.Good.{Good}
 use Rattle.ledger_terms.specs.Centres.{enrolled, withdrawn, deposits, customer_sum, balance, is_some_at, device_numbers, sum_over, device_share}
-use Rattle.ledger_terms.specs.Rulings.{verdict, verdict_by, verdict_rows, account_of, own_customer, has_left, is_enrolled}
+use Rattle.ledger_terms.specs.Rulings.{verdict, account_of, own_customer, has_left, is_enrolled}
+use Rattle.centre_ledger.proofs.Passed.{granted}
 use Rattle.centre_ledger.proofs.RuledBooks.{no_enrol}
 use Rattle.law_money.proofs.Asked.{note_reads}
-
-unfoldable pub AllRefuse : List (Bool × (Verdict × ℕ)) → Type 0
-AllRefuse [] = Unit {0}
-AllRefuse (row ∷ rows) = (is_granted row.1.0 ≡ false) × AllRefuse rows
-
--- the rows above a granted verdict are all false
-pub granted_rows : (rows : List (Bool × (Verdict × ℕ))) (a : ℕ) → AllRefuse rows → is_granted (first_holding rows (Granted, a)).0 ≡ true → AllFalse rows
-unfolding AllRefuse
-granted_rows [] a each h = tt
-granted_rows (row ∷ rows) a each h = ⊎_elim
-    (λ (t : row.0 ≡ true). let g : is_granted row.1.0 ≡ true = rw t at h in absurd (true≢false (sym g ∙ each.0)))
-    (λ (t : row.0 ≡ false). (t, granted_rows rows a each.1 (rw t at h)))
-    (cases_Bool row.0)
 
 pub record Grants (C : List Commit) (q : Request) : Type 0 where
   -- a reset is of a device that is enrolled, within the balance
@@ -53,15 +39,14 @@ none None h = refl
 none (Some c) h = absurd (true≢false h)
 
 pub grants : (C : List Commit) (q : Request) → is_granted (verdict C q).0 ≡ true → Grants C q
-unfolding verdict verdict_by AllRefuse
+unfolding verdict
 grants C q h =
-    let rows = granted_rows (verdict_rows (account_of C q) q) q.amount (refl, (refl, (refl, (refl, (refl, (refl, tt)))))) h in
+    let may = granted (account_of C q) q h in
     record {
       reset = λ k.
-          let o = own (enrolled q.device C) (withdrawn q.device C) (and_false (not (same_kind q.kind Enrol)) _ rows.0 (no_enrol q.kind k)) in
-          let le = ltb-false (balance (own_customer (enrolled q.device C)) C) q.amount (and_false (same_kind q.kind Reset) _ rows.1.1.1.1.1.0 k) in
-          (o.0, o.1, subst (λ (z : Option ℕ). q.amount ≤ balance (own_customer z) C) o.1 le);
-      enrol = λ k. none (enrolled q.device C) (and_false (same_kind q.kind Enrol) _ rows.1.0 k);
+          let o = own (enrolled q.device C) (withdrawn q.device C) (may.left (no_enrol q.kind k)) in
+          (o.0, o.1, subst (λ (z : Option ℕ). q.amount ≤ balance (own_customer z) C) o.1 (may.funded k));
+      enrol = λ k. none (enrolled q.device C) (may.new k);
     }
 
 -- == a sum that changes at one place ==

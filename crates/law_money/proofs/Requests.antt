@@ -3,14 +3,13 @@
 
 use Rattle.std.proofs.Common.{◌≡◌, ℕ, ◌+◌, ◌<◌, ◌≤◌, Bool, true, false, List, [], ◌∷◌, Option, Some, None, ⊎_elim, refl, sym, ap, subst, ◌∙◌, true≢false, not, arith}
 use Rattle.std.specs.Prelude.{◌==◌, ◌&&◌, ◌||◌}
-use Rattle.std.proofs.lemmas.Bool.{cases_Bool, eq-eqb, ne_eqb, le-ltb}
+use Rattle.std.proofs.lemmas.Bool.{eq-eqb, ne_eqb, le-ltb}
 use Rattle.bench_base.specs.declared.words.Kind.TheVariants.{Enrol, Reset, Audit}
 use Rattle.bench_base.specs.declared.words.Verdict.{Verdict}
 use Rattle.bench_base.specs.declared.words.Verdict.TheVariants.{Granted}
 use Rattle.bench_base.specs.declared.ledger.Commit.{Commit}
 use Rattle.bench_base.specs.declared.ledger.Commit.TheVariants.{Asked, Applied, Ruled}
 use Rattle.bench_base.specs.Rules.{Rules}
-use Rattle.bench_base.specs.Rows.{first_holding}
 use Rattle.bench_base.specs.Kinds.{same_kind, empties}
 use Rattle.psd_wire.specs.declared.message.Request.{Request}
 use Rattle.ledger_terms.specs.Requests.{request_in, note_of}
@@ -24,6 +23,7 @@ use Rattle.std.specs.Prelude.{nat_lt}
 use Rattle.std.proofs.lemmas.Option.{same_Some}
 use Rattle.bench_base.specs.Rows.{any_true}
 use Rattle.bench_base.proofs.Facts.{either, found}
+use Rattle.bench_base.proofs.Rows.{first_that}
 use Rattle.ledger_terms.specs.Rulings.{verdict, verdict_by, verdict_rows, account_of, out_of_balance, imbalances, buys_limit}
 use Rattle.ledger_lawful.specs.Sane.{is_imbalance}
 use Rattle.law_money.proofs.Links.{Waits}
@@ -126,22 +126,10 @@ module _ (ρ : Rules) where
         ),
       )
 
-  RowsSane : List (Bool × (Verdict × ℕ)) → Type 0
-  RowsSane [] = Unit {0}
-  RowsSane (row ∷ rows) = (row.0 ≡ true → is_imbalance row.1.0 ≡ false) × RowsSane rows
-
-  rows_sane : (rows : List (Bool × (Verdict × ℕ))) (x : Verdict × ℕ) → RowsSane rows → is_imbalance x.0 ≡ false → is_imbalance (first_holding rows x).0 ≡ false
-  unfolding RowsSane
-  rows_sane [] x each h = h
-  rows_sane (row ∷ rows) x each h = ⊎_elim
-      (λ (t : row.0 ≡ true). rw t (each.0 t))
-      (λ (t : row.0 ≡ false). rw t (rows_sane rows x each.1 h))
-      (cases_Bool row.0)
-
   pub never_imbalance : (C : List Commit) (q : Request) → Shown q (bought q.device C) (returned q.device C) → is_imbalance (verdict C q).0 ≡ false
-  unfolding verdict verdict_by RowsSane
-  never_imbalance C q s = rows_sane (verdict_rows (account_of C q) q) (Granted, q.amount)
-      ((λ _. refl), ((λ _. refl), ((λ t. absurd (true≢false (sym t ∙ in_balance q (bought q.device C) (returned q.device C) s))), ((λ _. refl), ((λ _. refl), ((λ _. refl), tt)))))) refl
+  unfolding verdict verdict_by
+  never_imbalance C q s = first_that (λ (x : Verdict × ℕ). is_imbalance x.0 ≡ false) (verdict_rows (account_of C q) q) (Granted, q.amount)
+      ((λ _. refl), ((λ _. refl), ((λ t. absurd (true≢false (sym t ∙ in_balance q (bought q.device C) (returned q.device C) s))), ((λ _. refl), ((λ _. refl), ((λ _. refl), tt)))))) (λ _. refl)
 
   pub sane_here : (d n : ℕ) (v : Verdict) (r : List ℕ) (C : List Commit) → Good ρ (Ruled d n v r ∷ C) → is_imbalance v ≡ false
   sane_here d n v r C g =

@@ -1,5 +1,5 @@
 -- For every list of commits whose record it is: the record afterwards is that of the list and the commit.
-use Rattle.std.proofs.Common.{◌≡◌, ℕ, pos, ◌+◌, ◌≤◌, ◌+ℤ◌, refl, rules, arith, Option, Some, None, Result, Ok, Err, Bool, true, false, cond, List, [], ◌∷◌, ap, sym, ◌∙◌, subst, eq-eqb, ◌==◌, if◌then◌else◌, ◌&&◌, ltb-false, inl, inr}
+use Rattle.std.proofs.Common.{◌≡◌, ℕ, pos, ◌+◌, ◌≤◌, ◌+ℤ◌, refl, rules, arith, Option, Some, None, Result, Ok, Err, Bool, true, false, cond, List, [], ◌∷◌, ap, sym, ◌∙◌, subst, eq-eqb, ◌==◌, if◌then◌else◌, ◌&&◌, inl, inr}
 use Rattle.std.proofs.lemmas.Int.{ints}
 use Rattle.std.proofs.lemmas.Option.{none-some, same_Some}
 use Rattle.bench_base.specs.declared.words.Kind.{Kind}
@@ -11,7 +11,7 @@ use Rattle.bench_base.specs.declared.refusals.DevRefusal.TheVariants as no
 use Rattle.bench_base.specs.declared.ledger.Commit.{Commit}
 use Rattle.bench_base.specs.declared.ledger.Commit.TheVariants.{Made, Asked, Applied, Debited, Registered}
 use Rattle.bench_base.specs.Kinds.{same_kind, empties, is_granted, is_dated, is_allowed}
-use Rattle.bench_base.proofs.Rows.{AllFalse, passes}
+use Rattle.bench_base.proofs.Rows.{passes}
 use Rattle.bench_base.proofs.Facts.{not_none, some_by, either, ok_same, err_ok}
 use Rattle.indicium.specs.declared.Mark.{Mark}
 use Rattle.indicium.specs.Marks as marks
@@ -30,21 +30,11 @@ use Rattle.psd_state.specs.State.{State, Holds, PendingOk, IsAmount}
 use Rattle.psd_state.specs.Answers.{unless, waiting_kind, frozen_kind, made_state, ask_rows, request_made, after_ask, note_for, piece_rows, debit_rows, after_debit, repeated, unless_again, again, apply_answer, apply_rows, after_apply, resend_answer}
 use Rattle.psd_state.specs.Records.{state_of, IsOutstanding, IsRecordOf, asks, InOrder}
 use Rattle.psd_state.specs.Laws.{MakingStarts, AskingKeeps, DebitingKeeps, ApplyingKeeps, OthersKeep, ResendingRepeats}
+use Rattle.psd_state.proofs.Passed.{may_debit}
 use Rattle.psd_state.proofs.Steps.{request_in_spell, asked_state, debited_state, applied_state, other_state, other_rest}
 use Rattle.psd_state.proofs.Ordered.{last, asked_asks, pending_note, pending_unapplied, reply_of, quiet}
 
 -- == an answer that is no refusal ==
-
--- the test of the last row
-abbrev last_test : {A F : Type 0} → List (Bool × Result A F) → Bool
-last_test [] = false
-last_test (row ∷ []) = row.0
-last_test (row ∷ next ∷ rows) = last_test (next ∷ rows)
-
-last_passed : {A F : Type 0} (rows : List (Bool × Result A F)) → AllFalse rows → last_test rows ≡ false
-last_passed [] p = refl
-last_passed (row ∷ []) p = p.0
-last_passed (row ∷ next ∷ rows) p = last_passed (next ∷ rows) p.1
 
 pub unless_passes : {A : Type 0} (o : Option Kind) (refusal : Kind → DevRefusal) (x : Result A DevRefusal) (y : A) → unless o refusal x ≡ Ok y → (o ≡ None) × (x ≡ Ok y)
 unless_passes None refusal x y h = (refl, h)
@@ -136,7 +126,7 @@ debiting_keeps ρ d C s after c today mark order of e =
     let free = unless_passes (frozen_kind s.pending) no.Frozen _ (New after mark) piece.1 in
     let through = passes (debit_rows ρ s c today) _ (New after mark) (search rules) free.1 in
     let is : after_debit ρ s c today ≡ after = new_same (ok_same through.1) in
-    let within : c.postage ≤ s.registers.descending = ltb-false s.registers.descending c.postage (last_passed (debit_rows ρ s c today) through.0) in
+    let within : c.postage ≤ s.registers.descending = (may_debit ρ s c today through.0).funded in
     let left : s.registers.descending ≡ descending d C = ap (λ (x : State). x.registers.descending) of.state in
     let funds = funds_of d s C of.descending in
     let own : (d == d) ≡ true = eq-eqb d d refl in

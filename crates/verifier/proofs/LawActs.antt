@@ -1,9 +1,8 @@
 -- The acts of the verifier leave sound rows, follow the commits, and are by their rows what they are by them.
-use Rattle.std.proofs.Common.{◌≡◌, ℕ, ℤ, zero, suc, ◌+◌, ◌-◌, ◌%◌, ◌<◌, ◌≤◌, ◌^◌, List, [], ◌∷◌, length, drop, option_map, Option, Some, None, Bool, true, false, Ok, Err, refl, sym, ap, ap₂, subst, ◌∙◌, arith, true≢false}
-use Rattle.std.specs.Prelude.{Result, pos, ◌+ℤ◌, ◌==◌, is_some, IsSome, IfSome, All, nat_le, if◌then◌else◌, nat_lt}
+use Rattle.std.proofs.Common.{◌≡◌, ℕ, ℤ, zero, suc, ◌+◌, ◌-◌, ◌%◌, ◌<◌, ◌≤◌, ◌^◌, List, [], ◌∷◌, length, drop, option_map, Option, Some, None, Bool, true, false, Ok, Err, refl, sym, ap, ap₂, subst, ◌∙◌, arith, true≢false, rules}
+use Rattle.std.specs.Prelude.{Result, ◌==◌, is_some, IsSome, IfSome, All, nat_le, if◌then◌else◌, nat_lt}
 use Rattle.std.proofs.lemmas.Bool.Decides.{nat_tests}
 use Rattle.std.proofs.lemmas.List.Elements.{All-head, All-tail}
-use lib.Signed.{lt_z}
 use Rattle.bench_base.specs.declared.sizes.TheConstants.{VERIFIER_CELLS, FIRST_BLOCK, BLOCK_PIECES}
 use Rattle.bench_base.specs.declared.words.Node.TheVariants.{Verifier}
 use Rattle.bench_base.specs.declared.ledger.Commit.{Commit}
@@ -16,7 +15,6 @@ use Rattle.bench_base.specs.Cells as cells
 use Rattle.bench_base.specs.Ledger.{count_of}
 use Rattle.bench_base.specs.Nodes.{node_of, same_node}
 use Rattle.bench_base.specs.Ranges.{InRange, IsDevice, IsKey, IsCount}
-use Rattle.bench_base.specs.Rows.{first_holding}
 use Rattle.bench_base.specs.Scans.{trusted, accepted, block_of, block_place, blocks}
 use Rattle.bench_base.specs.Table.{IsBytes, Size, Fit}
 use Rattle.node_acts.specs.declared.act.Act.TheVariants.{Refuse}
@@ -29,7 +27,7 @@ use Rattle.indicium.proofs.Readings.{read_mark_found}
 use Rattle.psd_wire.specs.Codes.{has_code}
 use Rattle.verifier.specs.declared.acts.Change.TheVariants as change
 use Rattle.verifier.specs.declared.acts.Spot.{Spot}
-use Rattle.verifier.specs.Answers.{scan_answer}
+use Rattle.verifier.specs.Answers.{scan_rows, scan_answer}
 use Rattle.verifier.specs.Order.{IsRoomy}
 use Rattle.verifier.specs.Acts.{in_rows, trusted_act, answered_act, spot_act, marked_act, read_act}
 use Rattle.verifier.specs.ActLaws.{IsFit, LeavesSound, ActsLeaveSound, IsNext, FollowsCommits, ActsFollow, ActsArePlanned}
@@ -41,6 +39,8 @@ use Rattle.verifier.proofs.Basics.{no_pair}
 use Rattle.verifier.proofs.After.{after_long, after_at, trust_cell, block_cell, key_after, trusted_range, found_after, none_after, used_after, spot_follows, trusts_more, accepts_known, accepts_new}
 use Rattle.verifier.proofs.Blocks.{place_at, blocks_kept, blocks_more, past_all, untrusted_blank, unused_blank, place_inside}
 use Rattle.verifier.proofs.Cells.{shown_some, shown_none}
+use Rattle.bench_base.proofs.Rows.{passes}
+use Rattle.verifier.proofs.Passed.{may_accept}
 use Rattle.verifier.proofs.Fits.{CanAccept, trust_fits, accept_fits, block_accepts, next_accepts}
 
 is_most : (m n : ℕ) → nat_le m n ≡ false → n < m
@@ -68,13 +68,7 @@ fresh_answer n day today full (Some first) is = absurd (by (first == n) is)
     by : (t : Bool) → (if t then Ok true else Err (no.Duplicate first)) ≡ Ok false → ⊥
     by true h = cc
     by false h = cc
-fresh_answer n day today full None is = (refl, by (lt_z today day) (lt_z (day +ℤ pos 30) today) full is)
-  where
-    by : (s t u : Bool) → first_holding ((s, Err (no.Future day)) ∷ ((t, Err (no.TooOld day)) ∷ ((u, Err no.BlocksFull) ∷ []))) (Ok false) ≡ Ok false → u ≡ false
-    by true t u h = absurd (cc)
-    by false true u h = absurd (cc)
-    by false false true h = absurd (cc)
-    by false false false h = refl
+fresh_answer n day today full None is = (refl, (may_accept day today full (passes (scan_rows day today full) (Ok false) false (search rules) is).0).room)
 
 -- == the rows stay sound ==
 

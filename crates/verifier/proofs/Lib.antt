@@ -7,4 +7,5 @@ pub mod Found
 pub mod Indexed
 pub mod Laid
 pub mod LawActs
+pub mod Passed
 pub mod Words
