@@ -1,6 +1,6 @@
 -- The centre's part of a plan is right: a Request that it rules on was asked and not ruled before, and shows what the centre
 -- holds; what it settles was applied; and it never answers `ahead` or `changed`.
-use Rattle.std.proofs.Common.{◌≡◌, ℕ, pos, ◌+◌, ◌<◌, ◌≤◌, ◌+ℤ◌, Bool, true, false, List, [], ◌∷◌, Option, Some, None, Result, Ok, Err, cond, refl, sym, ap, subst, ◌∙◌, true≢false, arith, FitsSigned}
+use Rattle.std.proofs.Common.{◌≡◌, ℕ, pos, ◌+◌, ◌<◌, ◌≤◌, ◌+ℤ◌, Bool, true, false, List, [], ◌∷◌, Option, Some, None, Result, Ok, Err, cond, refl, sym, ap, subst, ◌∙◌, true≢false, arith, FitsSigned, rules}
 use Rattle.std.specs.Prelude.{◌==◌, ◌&&◌, ◌||◌, nat_lt, nat_le, bytes_eq, option_map, if◌then◌else◌}
 use Rattle.std.specs.Int.{w32}
 use Rattle.std.proofs.lemmas.Bool.{eqb-true, eqb-false, ltb-false, ltb-true, leb-false, eq-eqb, and_parts, or_parts}
@@ -53,7 +53,7 @@ use Rattle.centre_ledger.proofs.ByCommits.{verdict_is, reply_is}
 use Rattle.centre_ledger.proofs.Passed.{may_deposit, granted_amount}
 use Rattle.ledger_moves.specs.Histories.{IsKnown}
 use Rattle.ledger_lawful.specs.Sane.{IsSane, IsSaneCentre, is_imbalance}
-use Rattle.bench_base.proofs.Rows.{chosen, first, first_that}
+use Rattle.bench_base.proofs.Rows.{chosen, first_that}
 use Rattle.std.specs.Prelude.{min}
 use Rattle.std.proofs.Math.Nat.{min-le_right, min-eq_left}
 use Rattle.std.proofs.lemmas.Option.{same_Some, none-some}
@@ -70,7 +70,7 @@ use Rattle.law_plans.proofs.Franked.{registered_word}
 use Rattle.law_money.proofs.Requests.{Shown, new_shown, never_imbalance, ruling_sane}
 use Rattle.law_good.proofs.Grown.{Inv, GenuineReply, genuine_at, reply_kept, inv_sent}
 use Rattle.law_orders.proofs.Orders.{centre_order}
-use Rattle.law_plans.proofs.Plans.{PlanOk, IsFit, ok_refuse, ok_made}
+use Rattle.law_plans.proofs.Plans.{PlanOk, IsFit, first_refusal, ok_refuse, ok_made}
 
 request_in_read : (note : List ℕ) (q : Request) → read note ≡ Ok (m.Request q) → request_in note ≡ q
 unfolding request_in
@@ -216,8 +216,7 @@ module _ (ρ : Rules) (H : Ledger) (i : Inv ρ H) (on : is_on Centre H ≡ true)
       (λ _. chosen P (a == last.1) (Ok None) (Err (no.Conflict last.1))
       (λ _. told_ok (r.Deposited w n true sum) tt refl)
       (λ _. no_ok (no.Conflict last.1) tt))
-      (λ _. first P (deposit_rows last sum n a) (Ok (Some (sum + a)))
-      (no_ok (no.WrongReceipt last.0) tt, (no_ok (no.BadAmount a) tt, (no_ok (no.DepositsFull sum) tt, tt)))
+      (λ _. first_refusal P IsSaneCentre (deposit_rows last sum n a) (Ok (Some (sum + a))) (search rules) no_ok
       (λ rows.
       let may = may_deposit last sum n a rows in
       ok_made ρ H (r.Deposited w n false (sum + a)) (c.Deposited w n a) refl tt (λ l k h. absurd (cc)) (record {

@@ -1,5 +1,5 @@
 -- The device's part of a plan is right: what it commits fits, what it sends is genuine, and it never answers `stray`.
-use Rattle.std.proofs.Common.{◌≡◌, ℕ, ℤ, ◌+◌, ◌<◌, ◌≤◌, ◌≤ℤ◌, Bool, true, false, List, [], ◌∷◌, ◌++◌, Option, Some, None, Result, Ok, Err, cond, refl, sym, ap, subst, ◌∙◌, true≢false, inl, ⊎_elim, not, arith}
+use Rattle.std.proofs.Common.{◌≡◌, ℕ, ℤ, ◌+◌, ◌<◌, ◌≤◌, ◌≤ℤ◌, Bool, true, false, List, [], ◌∷◌, ◌++◌, Option, Some, None, Result, Ok, Err, cond, refl, sym, ap, subst, ◌∙◌, true≢false, inl, ⊎_elim, not, arith, rules}
 use Rattle.std.specs.Prelude.{◌==◌, ◌&&◌, ◌||◌}
 use Rattle.std.proofs.lemmas.Bool.{eqb-true, eqb-false, not-false, cases_Bool, eq-eqb}
 use Rattle.std.proofs.lemmas.Option.{same_Some, none-some}
@@ -7,7 +7,6 @@ use Rattle.bench_base.specs.declared.words.Node.{Node}
 use Rattle.bench_base.specs.declared.words.Node.TheVariants.{Device}
 use Rattle.bench_base.specs.declared.words.Kind.{Kind}
 use Rattle.bench_base.specs.declared.words.Kind.TheVariants.{Enrol, Reset, Audit, Refund, Withdraw}
-use Rattle.bench_base.specs.declared.words.Phase.{Phase}
 use Rattle.bench_base.specs.declared.words.Verdict.TheVariants.{Granted}
 use Rattle.bench_base.specs.declared.refusals.Unread.{Unread}
 use Rattle.bench_base.specs.declared.refusals.Unread.TheVariants as unread
@@ -32,8 +31,8 @@ use Rattle.psd_wire.specs.declared.message.Message.TheVariants as m
 use Rattle.psd_wire.specs.Grammar.{read, spell, IsWhole}
 use Rattle.psd_wire.proofs.Readings.{read_spell}
 use Rattle.ledger_terms.specs.Requests.{request_in, request_or_none, note_of}
-use Rattle.ledger_terms.specs.Sums.{adds, loaded, refunded, ascending, descending, pieces}
-use Rattle.ledger_terms.specs.Devices.{key_of, asked, number, pending, waiting, frozen, phase, deadline, last_day, customer}
+use Rattle.ledger_terms.specs.Sums.{adds, loaded, refunded, ascending, descending}
+use Rattle.ledger_terms.specs.Devices.{key_of, asked, number, pending, waiting, frozen, phase, last_day, customer}
 use Rattle.ledger_terms.specs.InFlight.{ruling_of}
 use Rattle.ledger_terms.specs.Rulings.{buys_limit}
 use Rattle.ledger_terms.specs.Franking.{key_or_none, mark_after, indicium_after, kept, marked}
@@ -66,7 +65,7 @@ use Rattle.law_plans.proofs.Franked.{device_word, pieces_word, marked_made, cust
 use Rattle.law_money.proofs.Requests.{ruling_sane}
 use Rattle.psd_wire.specs.Grammar.{sum_size}
 use Rattle.law_good.proofs.Grown.{IsCommand, Inv, Genuine, GenuineReply, genuine_at, inv_sent, inv_released}
-use Rattle.law_plans.proofs.Plans.{PlanOk, IsFit, ok_refuse, ok_made}
+use Rattle.law_plans.proofs.Plans.{PlanOk, IsFit, first_refusal, ok_refuse, ok_made}
 
 pub request_in_spell : (q : Request) (key : List ℕ) → IsWhole (m.Request q) → request_in (spell (m.Request q) key) ≡ q
 unfolding request_in
@@ -278,22 +277,7 @@ module _ (ρ : Rules) (carried : IsCarried ρ) (H : Ledger) (i : Inv ρ H) where
       by_pending : (o : Option (ℕ × List ℕ)) → pending d (counted H) ≡ o
           → P (answers.unless (answers.waiting_kind (waiting o)) no.Busy (first_holding (answers.ask_rows ρ S k a t) (Ok (answers.after_ask S (request_made ρ S k who a t), spell (m.Request (request_made ρ S k who a t)) key))))
       by_pending (Some p) h = refuse_ok d (no.Busy (request_in p.1).kind) tt
-      by_pending None h = first P (answers.ask_rows ρ S k a t) (Ok (answers.after_ask S (request_made ρ S k who a t), spell (m.Request (request_made ρ S k who a t)) key)) (
-        refuse_ok d (no.Phase (phase d (counted H))) tt,
-        (
-          refuse_ok d (no.ClockBack (last_day d (counted H))) tt,
-          (
-            refuse_ok d (no.Due (deadline d (counted H))) tt,
-            (
-              refuse_ok d (no.BadAmount a) tt,
-              (
-                refuse_ok d (no.TotalFull (total S.registers)) tt,
-                (refuse_ok d no.NumberFull tt, tt),
-              ),
-            ),
-          ),
-        ),
-      )
+      by_pending None h = first_refusal P IsSaneDevice (answers.ask_rows ρ S k a t) (Ok (answers.after_ask S (request_made ρ S k who a t), spell (m.Request (request_made ρ S k who a t)) key)) (search rules) (refuse_ok d)
           (λ rows. asked_ok d k who a t l key on device ask day has h (may_ask ρ S k a t rows))
 
   -- == debit ==
@@ -351,8 +335,7 @@ module _ (ρ : Rules) (carried : IsCarried ρ) (H : Ledger) (i : Inv ρ H) where
   new_ok : (T : Teller) (d : ℕ) (q : DebitMsg) (t : ℤ) (key : List ℕ) → TellerOk ρ T d q.piece → is_on (Device d) H ≡ true → IsDevice d → IsCommand q → IsDay t → key_of d (counted H) ≡ Some key
       → PlanOk ρ H (Devices.franked_plan T d (acts.franked_act ρ d q t (answers.new_answer ρ (state_of d key (counted H)) q t)))
   new_ok T d q t key ok on device class day has =
-      first P (answers.piece_rows S q) _
-      (refuse_ok d (no.WrongPiece (pieces d (counted H))) tt, (refuse_ok d (no.Phase (phase d (counted H))) tt, tt))
+      first_refusal P IsSaneDevice (answers.piece_rows S q) _ (search rules) (refuse_ok d)
       (λ rows. by_pending (may_mark S q rows) (pending d (counted H)) refl)
     where
       P : Result Debited DevRefusal → Type 0
@@ -365,16 +348,7 @@ module _ (ρ : Rules) (carried : IsCarried ρ) (H : Ledger) (i : Inv ρ H) where
       act = Ok (New (answers.after_debit ρ S q t) (marks.spell (mark_made ρ S q t) key))
 
       free_ok : MayMark S q → frozen (pending d (counted H)) ≡ false → P (first_holding (answers.debit_rows ρ S q t) act)
-      free_ok piece free = first P (answers.debit_rows ρ S q t) act (
-        refuse_ok d (no.ClockBack (last_day d (counted H))) tt,
-        (
-          refuse_ok d (no.Due (deadline d (counted H))) tt,
-          (
-            refuse_ok d (no.BadAmount q.postage) tt,
-            (refuse_ok d (no.NoFunds (descending d (counted H))) tt, tt),
-          ),
-        ),
-      )
+      free_ok piece free = first_refusal P IsSaneDevice (answers.debit_rows ρ S q t) act (search rules) (refuse_ok d)
           (λ rows. franked_ok T d q t key ok on device class day has free piece (may_debit ρ S q t rows))
 
       by_pending : MayMark S q → (o : Option (ℕ × List ℕ)) → pending d (counted H) ≡ o → P (answers.unless (answers.frozen_kind (waiting o)) no.Frozen (first_holding (answers.debit_rows ρ S q t) act))

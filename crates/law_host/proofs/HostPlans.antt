@@ -1,6 +1,6 @@
 -- The host's and the verifier's parts of a plan are right: a mark that is held or accepted was released, a job is begun once,
 -- and what the host sends fits its fields.
-use Rattle.std.proofs.Common.{◌≡◌, ℕ, ℤ, ◌+◌, ◌-◌, ◌<◌, ◌^◌, Bool, true, false, List, [], ◌∷◌, Option, Some, None, Result, Ok, Err, cond, refl, sym, ap, subst, ◌∙◌, inl, inr, ⊎_elim, true≢false, arith}
+use Rattle.std.proofs.Common.{◌≡◌, ℕ, ℤ, ◌+◌, ◌-◌, ◌<◌, ◌^◌, Bool, true, false, List, [], ◌∷◌, Option, Some, None, Result, Ok, Err, cond, refl, sym, ap, subst, ◌∙◌, inl, inr, ⊎_elim, true≢false, arith, rules}
 use Rattle.std.specs.Prelude.{◌==◌, ◌&&◌, length, unwrap_or, is_some, is_none, nat_le}
 use Rattle.std.proofs.lemmas.Bool.{eqb-true, leb-true, le-leb, eq-eqb}
 use Rattle.std.proofs.Math.Bool.{and-false}
@@ -27,7 +27,7 @@ use Rattle.bench_base.specs.Rules.{Rules}
 use Rattle.bench_base.specs.Plans.{refuse, made, told}
 use Rattle.bench_base.specs.Ranges.{IsDevice, IsWord, IsCount, IsPostage, IsKey}
 use Rattle.bench_base.specs.Ledger.{Ledger, counted, is_on, torn_of, at_up, count_of, IsReleased, IsReleasedAs}
-use Rattle.bench_base.specs.Jobs.{Job, last_job, job_of, state_of, open_job, top, begun}
+use Rattle.bench_base.specs.Jobs.{Job, last_job, job_of, state_of, open_job, begun}
 use Rattle.bench_base.specs.Scans.{trusted, accepted, block_of, block_place, blocks}
 use Rattle.bench_base.proofs.Facts.{ok_same, either, found}
 use Rattle.node_acts.specs.declared.act.Act.TheVariants.{Tell, Commits}
@@ -64,7 +64,7 @@ use Rattle.law_good.proofs.Good.{Good, is_full}
 use Rattle.law_plans.proofs.Franked.{marked_reads, MarkOf, device_word}
 use Rattle.law_jobs.proofs.Jobs.{jobs}
 use Rattle.law_good.proofs.Grown.{Inv, Told, inv_sent, inv_printed}
-use Rattle.law_plans.proofs.Plans.{PlanOk, IsFit, ok_refuse, ok_made}
+use Rattle.law_plans.proofs.Plans.{PlanOk, IsFit, first_refusal, ok_refuse, ok_made}
 
 -- a ledger's counted commits are those of any ledger that it grows to, without the last
 at_up_good : (ρ : Rules) (w : Option Commit) (n : Node) (k : ℕ) (C : List Commit) → Good ρ (at_up w n k C) → Good ρ C
@@ -142,8 +142,7 @@ module _ (ρ : Rules) (carried : IsCarried ρ) (H : Ledger) (i : Inv ρ H) where
   priced_ok d p a k tops on device piece postage class None has =
       let C = counted H in
       let h = host.shelf_of d C in
-      first (λ (z : Result ℕ HostRefusal). OkTold host.told_ordered (ordered_act d p k a tops z)) (order_rows p h) (Ok (last_job C + 1))
-      (no_host (no.Used (top d C)), (no_host no.NumberFull, (no_host (no.JobsFull (last_job C - 1023)), tt)))
+      first_refusal (λ (z : Result ℕ HostRefusal). OkTold host.told_ordered (ordered_act d p k a tops z)) (λ x. Unit {0}) (order_rows p h) (Ok (last_job C + 1)) (search rules) (λ x s. no_host x)
       (λ rows.
       let may = may_order p h rows in
       let below : last_job C < 4294967295 = may.number in
@@ -326,8 +325,8 @@ module _ (ρ : Rules) (carried : IsCarried ρ) (H : Ledger) (i : Inv ρ H) where
   accept_ok n k today on device piece scan sure key trust (Some s) has cell room = chosen (λ (z : Result Bool ScanRefusal). Scanned n (answered_act n k cell z)) (s == n) _ _
       (λ _. record { sane = tt; plain = refl; no_up = λ l j h. refl; fit = λ y h. absurd (none-some _ h); keeps = λ j. j })
       (λ _. no_scan (not_v.Duplicate s))
-  accept_ok n k today on device piece scan sure key trust None has cell room = first (λ (z : Result Bool ScanRefusal). Scanned n (answered_act n k cell z)) (scan_rows k.day today (nat_le VERIFIER_CELLS cell)) (Ok false)
-      (no_scan (not_v.Future k.day), (no_scan (not_v.TooOld k.day), (no_scan not_v.BlocksFull, tt)))
+  accept_ok n k today on device piece scan sure key trust None has cell room =
+      first_refusal (λ (z : Result Bool ScanRefusal). Scanned n (answered_act n k cell z)) (λ x. Unit {0}) (scan_rows k.day today (nat_le VERIFIER_CELLS cell)) (Ok false) (search rules) (λ x s. no_scan x)
       (λ rows. ok_made ρ H (r.Accepted k.device k.piece n false) (c.Accepted k.device k.piece n) refl tt (λ l j h. absurd (cc))
       (record { fits = record { new = has; known = (key, trust); room = room (may_accept k.day today (nat_le VERIFIER_CELLS cell) rows).room }; on = on; range = (device, piece, scan); sure = sure }))
 

@@ -1,6 +1,6 @@
 -- What a plan adds keeps the invariant, whatever reply the event gets. A plan is right where its commit fits and its node is on,
 -- where what it tells afterwards keeps the invariant, and where its answer is one that honest devices and centres give.
-use Rattle.std.proofs.Common.{◌≡◌, ◌+◌, ℕ, ℤ, true, [], ◌++◌, Option, Some, None, refl, sym, ap, subst, ◌∙◌, ◌⊎◌, ⊎_elim}
+use Rattle.std.proofs.Common.{◌≡◌, ◌+◌, ℕ, ℤ, Bool, true, List, [], ◌∷◌, ◌++◌, Option, Some, None, Result, Ok, Err, refl, sym, ap, subst, ◌∙◌, ◌⊎◌, ⊎_elim}
 use Rattle.std.proofs.lemmas.Option.{same_Some, none-some}
 use Rattle.bench_base.specs.declared.words.Node.{Node}
 use Rattle.bench_base.specs.declared.ledger.Commit.{Commit}
@@ -18,7 +18,8 @@ use Rattle.bench_base.specs.Replies.{Told, LostPower, Faulted, PrinterFailed, to
 use Rattle.bench_base.proofs.Facts.{some_none}
 use Rattle.node_acts.specs.Plans.{with_commit, with_torn, after, after_told, MayFail, Fails, FailsTold}
 use Rattle.ledger_moves.specs.Moves.{OtherUp, FailsToRead, unless_worn, at_node}
-use Rattle.bench_base.proofs.Rows.{chosen}
+use Rattle.bench_base.specs.Rows.{first_holding}
+use Rattle.bench_base.proofs.Rows.{chosen, AllFalse, AllRows, first}
 use Rattle.law_good.proofs.Good.{Fits}
 use Rattle.law_good.proofs.Grown.{Inv, Sure, inv_commit, inv_torn, inv_up}
 
@@ -38,6 +39,24 @@ pub record PlanOk (ρ : Rules) (H : Ledger) (p : Plan) : Type 0 where
 
 pub ok_refuse : (ρ : Rules) (H : Ledger) (x : Reply) → after (refuse x) x H ≡ H → IsSane x → PlanOk ρ H (refuse x)
 ok_refuse ρ H x e s = record { sane = s; plain = e; no_up = λ n k h. refl; fit = λ c h. absurd (none-some _ h); keeps = λ i. i }
+
+-- == tables whose rows refuse ==
+
+-- it refuses, with a refusal of which this holds
+abbrev pub RefusesBy : {A F : Type 0} → (F → Type 0) → Result A F → Type 0
+RefusesBy Sane (Err x) = Sane x
+RefusesBy Sane (Ok a) = ⊥
+
+all_refuse : {A F : Type 0} (P : Result A F → Type 0) (Sane : F → Type 0) (rows : List (Bool × Result A F)) → ((x : F) → Sane x → P (Err x)) → AllRows (RefusesBy Sane) rows → AllRows P rows
+all_refuse P Sane [] right each = tt
+all_refuse P Sane ((b, Err x) ∷ rows) right each = (right x each.0, all_refuse P Sane rows right each.1)
+all_refuse P Sane ((b, Ok a) ∷ rows) right each = absurd each.0
+
+-- what holds of each such refusal, and of the last value where no row holds, holds of what a table of refusals gives
+pub first_refusal : {A F : Type 0} (P : Result A F → Type 0) (Sane : F → Type 0) (rows : List (Bool × Result A F)) (a : Result A F) → AllRows (RefusesBy Sane) rows → ((x : F) → Sane x → P (Err x)) → (AllFalse rows → P a) → P (first_holding rows a)
+first_refusal P Sane rows a each right last = first P rows a (all_refuse P Sane rows right each) last
+
+-- == plans that commit, and nodes that are on ==
 
 -- a plan that commits and says no more than that
 pub ok_made : (ρ : Rules) (H : Ledger) (x : Reply) (c : Commit) → after (made x c []) x H ≡ with_commit (Some c) H → IsSane x → ((n : Node) (k : ℕ) → x ≡ r.Up n k → ⊥) → IsFit ρ H c → PlanOk ρ H (made x c [])
