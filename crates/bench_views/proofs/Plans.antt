@@ -60,7 +60,6 @@ use Rattle.bench_views.specs.Messages.{sent_in}
 use Rattle.bench_views.proofs.Calling.{plan_says, at_seen, IsWornAlike}
 use Rattle.bench_views.proofs.Counts.{worn_is}
 use Rattle.bench_views.proofs.Events.{each_asked}
-use Rattle.bench_views.proofs.Frames.{one_device}
 use Rattle.bench_views.proofs.Sent.{sent_many, sent_at}
 
 -- == whose the commit is ==
@@ -132,10 +131,7 @@ module _ (d : ℕ) where
 
   -- a device's commit goes into its one cell
   own_cell : (c : Commit) → node_of c ≡ Device d → place_of c ≡ OfDevice d
-  own_cell (c.Made e key) own = ap OfDevice (one_device e d own)
-  own_cell (c.Asked e n note) own = ap OfDevice (one_device e d own)
-  own_cell (c.Applied e n v) own = ap OfDevice (one_device e d own)
-  own_cell (c.Debited e piece postage class day version) own = ap OfDevice (one_device e d own)
+  own_cell (c.Made e key) own = cc
   own_cell _ own = cc
 
 -- the next number, where it fits

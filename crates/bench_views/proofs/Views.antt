@@ -19,23 +19,12 @@ use Rattle.node_acts.specs.Kinds.{view_in}
 use Rattle.bench_views.specs.Follows.{Rests}
 use Rattle.bench_views.proofs.Steps.{AreTold, Step, does_tell, does, tears, boots, stops}
 
-pub same_apart : (m i : Node) → i ≢ m → same_node m i ≡ false
+same_apart : (m i : Node) → i ≢ m → same_node m i ≡ false
 same_apart (Device d) (Device e) ne = ne_eqb d e (λ is. ne (ap Device (sym is)))
-same_apart (Device d) Centre ne = refl
-same_apart (Device d) Host ne = refl
-same_apart (Device d) Verifier ne = refl
-same_apart Centre (Device e) ne = refl
 same_apart Centre Centre ne = absurd (ne refl)
-same_apart Centre Host ne = refl
-same_apart Centre Verifier ne = refl
-same_apart Host (Device e) ne = refl
-same_apart Host Centre ne = refl
 same_apart Host Host ne = absurd (ne refl)
-same_apart Host Verifier ne = refl
-same_apart Verifier (Device e) ne = refl
-same_apart Verifier Centre ne = refl
-same_apart Verifier Host ne = refl
 same_apart Verifier Verifier ne = absurd (ne refl)
+same_apart _ _ ne = refl
 
 -- what is seen of a node by these commits and its open one
 abbrev seen_by : {S : Type 0} → (List Commit → S) → List Commit → Option Commit → Bool → View S
@@ -56,10 +45,10 @@ told_rests (entry.Sent note ∷ T) old H h r = let is = told_rests T old H h r i
 told_rests (entry.Printed job mark ∷ T) old H h r = let is = told_rests T old H h r in record { day = is.day; rates = is.rates }
 told_rests (_ ∷ T) old H h r = absurd h
 
--- a commit of node m, in order, leaves what is seen of node i as it is, also under an open commit of its own
-pub record Apart {S : Type 0} (m i : Node) (seen : List Commit → S) : Type 0 where
-  pub frame : (c : Commit) (C : List Commit) → node_of c ≡ m → AreOrdered (c ∷ C) → seen (c ∷ C) ≡ seen C
-  pub under : (x c : Commit) (C : List Commit) → node_of x ≡ i → node_of c ≡ m → AreOrdered (c ∷ C) → AreOrdered (x ∷ C) → seen (x ∷ c ∷ C) ≡ seen (x ∷ C)
+-- a commit of another node, in order, leaves what is seen of node i as it is, also under an open commit of node i
+pub record Apart {S : Type 0} (i : Node) (seen : List Commit → S) : Type 0 where
+  pub frame : (c : Commit) (C : List Commit) → same_node (node_of c) i ≡ false → AreOrdered (c ∷ C) → seen (c ∷ C) ≡ seen C
+  pub under : (x c : Commit) (C : List Commit) → same_node (node_of x) i ≡ true → same_node (node_of c) i ≡ false → AreOrdered (c ∷ C) → AreOrdered (x ∷ C) → seen (x ∷ c ∷ C) ≡ seen (x ∷ C)
 
 module _ (H : Ledger) (opens : (n : Node) (c : Commit) → torn_of n H ≡ Some c → IsOpen n c H) where
   -- a node that is on has no open commit
@@ -91,17 +80,17 @@ module _ (H : Ledger) (opens : (n : Node) (c : Commit) → torn_of n H ≡ Some 
 
     -- == another node ==
 
-    module _ {T : Type 0} (i : Node) (ne : i ≢ m) (other : List Commit → T) (apart : Apart m i other) where
+    module _ {T : Type 0} (i : Node) (ne : i ≢ m) (other : List Commit → T) (apart : Apart i other) where
       -- the commit of one counts, and is not seen of the other
-      other_with : (c : Commit) (t : Option Commit) → node_of c ≡ m → AreOrdered (c ∷ counted H) → ((y : Commit) → t ≡ Some y → IsOpen i y H)
+      other_with : (c : Commit) (t : Option Commit) → same_node (node_of c) i ≡ false → AreOrdered (c ∷ counted H) → ((y : Commit) → t ≡ Some y → IsOpen i y H)
           → option_map (λ y. other (y ∷ c ∷ counted H)) t ≡ option_map (λ y. other (y ∷ counted H)) t
-      other_with c None own next its = refl
-      other_with c (Some y) own next its = let torn_is = its y refl in ap (λ (s : T). Some s) (apart.under y c (counted H) torn_is.node own next torn_is.ordered)
+      other_with c None differs next its = refl
+      other_with c (Some y) differs next its = let torn_is = its y refl in ap (λ (s : T). Some s) (apart.under y c (counted H) (rw torn_is.node (same_node_self i)) differs next torn_is.ordered)
 
       other_commit : (c : Commit) → node_of c ≡ m → AreOrdered (c ∷ counted H) → seen_by other (c ∷ counted H) (torn_of i H) (is_on i H) ≡ view_in i other H
-      other_commit c own next = λ k. record {
-        state = apart.frame c (counted H) own next k;
-        next = other_with c (torn_of i H) own next (λ y h. opens i y h) k;
+      other_commit c own next = let differs : same_node (node_of c) i ≡ false = rw own (same_apart m i ne) in λ k. record {
+        state = apart.frame c (counted H) differs next k;
+        next = other_with c (torn_of i H) differs next (λ y h. opens i y h) k;
         on = is_on i H;
       }
 

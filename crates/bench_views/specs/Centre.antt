@@ -14,7 +14,7 @@ use Rattle.node_acts.specs.Views.{View}
 use Rattle.node_acts.specs.declared.said.Said.{Said}
 use Rattle.node_acts.specs.Said.{kind_by}
 use Rattle.node_acts.specs.Kinds.{Kind, view_in, OfCall}
-use Rattle.node_acts.specs.RowList.{listed, commits_at}
+use Rattle.node_acts.specs.RowList.{listed}
 use Rattle.centre_ledger.specs.Books.{Books}
 use Rattle.centre_ledger.specs.declared.rows.Row.{Row}
 use Rattle.centre_ledger.specs.declared.rows.Row.TheVariants as row

@@ -1,4 +1,4 @@
-use Rattle.std.proofs.Common.{◌≡◌, [], Option, Some, refl, subst}
+use Rattle.std.proofs.Common.{◌≡◌, [], Option, Some, subst}
 use Rattle.bench_base.specs.declared.words.Node.TheVariants.{Host}
 use Rattle.bench_base.specs.declared.ledger.Commit.{Commit}
 use Rattle.bench_base.specs.declared.events.Reply.{Reply}
@@ -19,15 +19,12 @@ use Rattle.bench_views.specs.declared.taken.Taken.TheVariants as take
 use Rattle.bench_views.specs.declared.taken.Work.TheVariants as work
 use Rattle.bench_views.specs.Taken.{taken}
 use Rattle.bench_views.specs.Host as views
-use Rattle.bench_views.specs.Kinds.{bench_kinds}
 use Rattle.bench_views.specs.Tariff.{quote_in}
 use Rattle.bench_views.specs.Messages.{sent_in}
 use Rattle.bench_views.proofs.Asked.{plan_alike, commit_own, stepped, plan_tame, said_tame}
 use Rattle.bench_views.proofs.Following.{followed}
 use Rattle.bench_views.proofs.HostCalls as calls
 use Rattle.bench_views.proofs.HostCommits as commits
-use Rattle.bench_views.proofs.HostStays.{devices_stay, centre_stays}
-use Rattle.bench_views.proofs.VerifierFrames.{verifier_apart}
 use Rattle.bench_views.proofs.Steps as steps
 use Rattle.bench_views.proofs.laws.host_follows.Goals as goal
 
@@ -47,15 +44,10 @@ returns c τ H e today asked h unforged day whole of fits known next_known =
     let counts = commits.counts laws (counted H) turn (c.counts.ensures.cells τ todays_rules _ H editions h) in
     let whole_call : (k : HostCall) → asked ≡ Call k → calls.IsWholeCall k =
     λ k is. calls.whole_call H (quote_in τ H) e k (subst (λ a. taken (sent_in H) (quote_in τ H) e ≡ Some (take.Work (work.Host a))) is of) whole in
-    followed n views.host_kind Host tt bench_kinds τ H e today asked
+    followed n views.host_kind Host tt τ H e today asked
     (c.orders.ensures.torn τ todays_rules _ H editions h)
     (c.orders.ensures.next τ todays_rules _ H editions h e [] whole unforged)
-    counts (record {
-      devices = λ i differs. devices_stay i;
-      centre = λ differs. centre_stays;
-      host = λ differs. absurd (differs refl);
-      verifier = λ differs. verifier_apart Host (λ same. cc);
-    })
+    counts
     (calls.planned_call H known turn laws leave follow are_planned τ today day counts e asked of whole)
     (plan_alike n Host call_plan call_commit v (λ k. seen_commit n Host v (act k)) asked)
     (commit_own n Host call_plan call_commit v asked (λ k is x made. seen_own n Host v (act k) x (calls.call_own H known turn laws leave follow are_planned k (whole_call k is)) made))

@@ -27,7 +27,6 @@ use Rattle.bench_views.specs.Taken.{taken}
 use Rattle.bench_views.specs.Devices as devices
 use Rattle.bench_views.specs.Centre as views
 use Rattle.bench_views.specs.Centre.{AreBytes}
-use Rattle.bench_views.specs.Kinds.{bench_kinds}
 use Rattle.bench_views.specs.Tariff.{quote_in}
 use Rattle.bench_views.specs.Messages.{sent_in}
 use Rattle.bench_views.proofs.Acts as acts
@@ -35,14 +34,9 @@ use Rattle.bench_views.proofs.Asked.{plan_alike, commit_own, stepped, plan_tame,
 use Rattle.bench_views.proofs.Calling.{made_by}
 use Rattle.bench_views.proofs.CentreCalls as calls
 use Rattle.bench_views.proofs.CentreCounts as counting
-use Rattle.bench_views.proofs.CentreFrames.{device_apart}
 use Rattle.bench_views.proofs.CentreRows.{books_of}
 use Rattle.bench_views.proofs.Following.{followed}
-use Rattle.bench_views.proofs.Frames.{devices_apart}
-use Rattle.bench_views.proofs.HostFrames.{host_apart}
-use Rattle.bench_views.proofs.VerifierFrames.{verifier_apart}
 use Rattle.bench_views.proofs.Genuine.{genuine, OfAsked}
-use Rattle.bench_views.proofs.Origins.{centre_apart}
 use Rattle.bench_views.proofs.Plans.{planned, call_own}
 use Rattle.bench_views.proofs.Quiet.{planned_quiet}
 use Rattle.bench_views.proofs.Steps as steps
@@ -61,14 +55,9 @@ returns-clause-devices c d τ H e today asked h unforged day whole of ready know
     let call_commit : DeviceCall → Option (Commit × device.Seen) = λ k. commit_of n v (act k) in
     let plan_is = planned H laws.resent τ today (quote_in τ H) day e d asked of (known, ordered.records d) in
     let real = genuine H (c.histories.ensures.holds τ todays_rules _ H editions h).replied (quote_in τ H) e d asked of unforged in
-    followed n devices.device_kind (Device d) d bench_kinds τ H e today asked
+    followed n devices.device_kind (Device d) d τ H e today asked
     (c.orders.ensures.torn τ todays_rules _ H editions h) nexts
-    refl (record {
-      devices = λ i differs. devices_apart d i (λ same. differs (ap Device same));
-      centre = λ differs. device_apart d;
-      host = λ differs. host_apart (Device d) (λ same. cc);
-      verifier = λ differs. verifier_apart (Device d) (λ same. cc);
-    })
+    refl
     plan_is
     (plan_alike n (Device d) call_plan call_commit v (λ k. seen_commit n (Device d) v (act k)) asked)
     (commit_own n (Device d) call_plan call_commit v asked (λ k is x made. seen_own n (Device d) v (act k) x (call_own d today k v.state.state) made))
@@ -98,15 +87,10 @@ returns-clause-centre c τ H e today asked h unforged day whole of bytes known n
     let counts = counting.counts (counted H) ordered.centre (c.counts.ensures.cells τ todays_rules _ H editions h) in
     let whole_call : (k : CentreCall) → asked ≡ Call k → calls.IsWholeCall k =
     λ k is. calls.whole_call H (quote_in τ H) e k (subst (λ a. taken (sent_in H) (quote_in τ H) e ≡ Some (take.Work (work.Centre a))) is of) whole (subst AreBytes is bytes) in
-    followed n views.centre_kind Centre tt bench_kinds τ H e today asked
+    followed n views.centre_kind Centre tt τ H e today asked
     (c.orders.ensures.torn τ todays_rules _ H editions h)
     (c.orders.ensures.next τ todays_rules _ H editions h e [] whole unforged)
-    counts (record {
-      devices = λ i differs. centre_apart i;
-      centre = λ differs. absurd (differs refl);
-      host = λ differs. host_apart Centre (λ same. cc);
-      verifier = λ differs. verifier_apart Centre (λ same. cc);
-    })
+    counts
     (calls.planned_call H known are follow are_planned sent τ today (quote_in τ H) day counts e asked of whole bytes)
     (plan_alike n Centre call_plan call_commit v (λ k. seen_commit n Centre v (act k)) asked)
     (commit_own n Centre call_plan call_commit v asked (λ k is x made. seen_own n Centre v (act k) x (calls.call_own H known are follow are_planned sent k (whole_call k is)) made))

@@ -1,4 +1,4 @@
-use Rattle.std.proofs.Common.{◌≡◌, [], Option, Some, refl, subst}
+use Rattle.std.proofs.Common.{◌≡◌, [], Option, Some, subst}
 use Rattle.bench_base.specs.declared.words.Node.TheVariants.{Verifier}
 use Rattle.bench_base.specs.declared.ledger.Commit.{Commit}
 use Rattle.bench_base.specs.declared.events.Reply.{Reply}
@@ -19,15 +19,12 @@ use Rattle.bench_views.specs.declared.taken.Taken.TheVariants as take
 use Rattle.bench_views.specs.declared.taken.Work.TheVariants as work
 use Rattle.bench_views.specs.Taken.{taken}
 use Rattle.bench_views.specs.Verifier as views
-use Rattle.bench_views.specs.Kinds.{bench_kinds}
 use Rattle.bench_views.specs.Tariff.{quote_in}
 use Rattle.bench_views.specs.Messages.{sent_in}
 use Rattle.bench_views.proofs.Asked.{plan_alike, commit_own, stepped, plan_tame, said_tame}
 use Rattle.bench_views.proofs.Following.{followed}
-use Rattle.bench_views.proofs.HostFrames.{host_apart}
 use Rattle.bench_views.proofs.Steps as steps
 use Rattle.bench_views.proofs.VerifierCalls as calls
-use Rattle.bench_views.proofs.VerifierStays.{devices_stay, centre_stays}
 use Rattle.bench_views.proofs.laws.verifier_follows.Goals as goal
 
 pub returns : goal.returns
@@ -46,15 +43,10 @@ returns c τ H e today asked h unforged day whole of bytes known next_known =
     let counts = follow.counted (counted H) recorded in
     let whole_call : (k : VerifierCall) → asked ≡ Call k → calls.IsWholeCall k =
     λ k is. calls.whole_call H (quote_in τ H) e k (subst (λ a. taken (sent_in H) (quote_in τ H) e ≡ Some (take.Work (work.Verifier a))) is of) whole (subst views.AreBytes is bytes) in
-    followed n views.verifier_kind Verifier tt bench_kinds τ H e today asked
+    followed n views.verifier_kind Verifier tt τ H e today asked
     (c.orders.ensures.torn τ todays_rules _ H editions h)
     (c.orders.ensures.next τ todays_rules _ H editions h e [] whole unforged)
-    counts (record {
-      devices = λ i differs. devices_stay i;
-      centre = λ differs. centre_stays;
-      host = λ differs. host_apart Verifier (λ same. cc);
-      verifier = λ differs. absurd (differs refl);
-    })
+    counts
     (calls.planned_call H recorded known sound follow are_planned τ today (quote_in τ H) day counts e asked of whole bytes)
     (plan_alike n Verifier call_plan call_commit v (λ k. seen_commit n Verifier v (act k)) asked)
     (commit_own n Verifier call_plan call_commit v asked
