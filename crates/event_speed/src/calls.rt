@@ -1,7 +1,7 @@
 //! The calls of commits and reads, and nothing else.
 ghost use Rattle.std.specs.Prelude.{◌≡◌, ◌≤◌, ◌<◌, ◌+◌, ◌^◌, length};
 
-use crate::stores::{self, Made, Place};
+use crate::stores::{self, Made, Place, Store};
 use crate::tell::tell;
 use anyhow::{Context, Result, bail, ensure};
 use nv_file::FileNv;
@@ -43,7 +43,7 @@ fn commits<N: Nv>(nv: &mut N, payload: &[u8], count: u32) -> Result<(), NvFail>
 fn commits_over<N: Made>(rt: &HostRuntime, slots: u32, bytes: u32, count: u32) -> Result<()> {
     let slot = bytes.checked_add(GATE_AND_COUNT).context("too long")?;
     let size = slots.checked_mul(slot).context("too long")?;
-    let mut nv = N::make(rt, stores::ALONE, size, bytes, count)?;
+    let mut nv = N::make(rt, Store::Alone, size, bytes, count)?;
     let payload = vec![in rt.alloc(); 7; bytes as usize + 4]?;
     ensure!(
         payload.len() < nv.size() as usize,
@@ -85,7 +85,7 @@ fn reads<N: Nv>(nv: &mut N, bytes: &mut [u8], count: u32) -> Result<(), NvFail>
 
 /// Times so many reads of a whole storage of so many bytes in memory, each in one call.
 pub fn measure_reads(rt: &HostRuntime, bytes: u32, count: u32) -> Result<()> {
-    let mut nv = MemNv::make(rt, stores::ALONE, bytes, 0, 1)?;
+    let mut nv = MemNv::make(rt, Store::Alone, bytes, 0, 1)?;
     let mut content = vec![in rt.alloc(); 0; bytes as usize]?;
     ensure!(
         content.len() <= nv.size() as usize,

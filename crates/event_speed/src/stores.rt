@@ -23,20 +23,22 @@ pub enum Place {
     Files,
 }
 
-/// The numbers of storages: 1 to 8 are those of the devices.
-const CENTRE: u32 = 9;
-
-const HOST: u32 = 10;
-
-const VERIFIER: u32 = 11;
-
-/// A storage that no bench has.
-pub const ALONE: u32 = 12;
+/// Which storage it is.
+#[derive(Clone, Copy)]
+pub enum Store {
+    /// The one of the device of this number, 1 to 8.
+    Device(u32),
+    Centre,
+    Host,
+    Verifier,
+    /// One that no bench has.
+    Alone,
+}
 
 /// Storage that is made to be timed.
 pub trait Made: Nv + Drop + Sized {
-    /// The storage of this number: so many bytes, all zero, with room for so many commits of payloads of so many bytes.
-    fn make(rt: &HostRuntime, number: u32, size: u32, payload: u32, commits: u32) -> Result<Self>
+    /// This storage: so many bytes, all zero, with room for so many commits of payloads of so many bytes.
+    fn make(rt: &HostRuntime, store: Store, size: u32, payload: u32, commits: u32) -> Result<Self>
         ensures works { IfOk result (λ nv. Works (Self.meters nv)) };
 }
 
@@ -44,7 +46,7 @@ impl Made for MemNv {
     // A commit makes six calls, and writes its gate twice and its count.
     fn make(
         rt: &HostRuntime,
-        _number: u32,
+        _store: Store,
         size: u32,
         payload: u32,
         commits: u32,
@@ -60,12 +62,12 @@ impl Made for MemNv {
 impl Made for FileNv {
     fn make(
         rt: &HostRuntime,
-        number: u32,
+        store: Store,
         size: u32,
         _payload: u32,
         _commits: u32,
     ) -> Result<FileNv> {
-        let name = file_name(rt.alloc(), number)?;
+        let name = file_name(rt.alloc(), store)?;
         match FileNv::start(rt, name.as_str(), size) {
             Ok(nv) => Ok(nv),
             Err(_) => bail!("a file can't be used"),
@@ -73,17 +75,31 @@ impl Made for FileNv {
     }
 }
 
-fn file_name(alloc: Global, number: u32) -> Result<String, AllocError> {
-    format!(in alloc; "event_speed-{number}.nv")
+fn file_name(alloc: Global, store: Store) -> Result<String, AllocError> {
+    match store {
+        Store::Device(number) => format!(in alloc; "event_speed-d{number}.nv"),
+        Store::Centre => format!(in alloc; "event_speed-centre.nv"),
+        Store::Host => format!(in alloc; "event_speed-host.nv"),
+        Store::Verifier => format!(in alloc; "event_speed-verifier.nv"),
+        Store::Alone => format!(in alloc; "event_speed-alone.nv"),
+    }
+}
+
+fn remove_file(rt: &HostRuntime, store: Store) {
+    if let Ok(name) = file_name(rt.alloc(), store) {
+        let _removed = fs::remove_file(rt, name.as_str());
+    }
 }
 
 /// Removes the files, where they are there.
 pub fn remove_files(rt: &HostRuntime) {
-    for number in 1..=ALONE {
-        if let Ok(name) = file_name(rt.alloc(), number) {
-            let _removed = fs::remove_file(rt, name.as_str());
-        }
+    for number in 1..9 {
+        remove_file(rt, Store::Device(number));
     }
+    remove_file(rt, Store::Centre);
+    remove_file(rt, Store::Host);
+    remove_file(rt, Store::Verifier);
+    remove_file(rt, Store::Alone);
 }
 
 fn devices<N: Made>(rt: &HostRuntime, commits: u32) -> Result<Vec<N>>
@@ -92,7 +108,13 @@ fn devices<N: Made>(rt: &HostRuntime, commits: u32) -> Result<Vec<N>>
 {
     let mut devices = Vec::new(rt.alloc());
     for i in 0..8_u32 {
-        devices.push(N::make(rt, i + 1, DEVICE_BYTES, RECORD_BYTES as u32, commits)?)?;
+        devices.push(N::make(
+            rt,
+            Store::Device(i + 1),
+            DEVICE_BYTES,
+            RECORD_BYTES as u32,
+            commits,
+        )?)?;
     }
     Ok(devices)
 }
@@ -103,9 +125,15 @@ pub fn new_bench<N: Made>(rt: &HostRuntime, commits: u32) -> Result<Bench<N>>
 {
     let stores = Stores {
         devices: devices(rt, commits)?,
-        centre: N::make(rt, CENTRE, CENTRE_BYTES, ROW_BYTES as u32, commits)?,
-        host: N::make(rt, HOST, HOST_BYTES, JOB_BYTES as u32, commits)?,
-        verifier: N::make(rt, VERIFIER, VERIFIER_BYTES, BLOCK_BYTES as u32, commits)?,
+        centre: N::make(rt, Store::Centre, CENTRE_BYTES, ROW_BYTES as u32, commits)?,
+        host: N::make(rt, Store::Host, HOST_BYTES, JOB_BYTES as u32, commits)?,
+        verifier: N::make(
+            rt,
+            Store::Verifier,
+            VERIFIER_BYTES,
+            BLOCK_BYTES as u32,
+            commits,
+        )?,
     };
     match Bench::new(rt.alloc(), stores) {
         Ok(bench) => Ok(bench),
