@@ -8,7 +8,7 @@ use bench_base::words::Node as NodeNo;
 use bench_calls::compared;
 use centre_ledger::standing_act;
 use centre_protocol::CentreNode;
-use node_records::BooksOf;
+use centre_ledger::BooksOf;
 use node_seat::Node;
 use nv_model::Fuse;
 use psd_device::DeviceNode;

@@ -1,7 +1,7 @@
 -- What an act changes, by what the rules say that it leaves.
 use Rattle.std.proofs.Common.{◌≡◌, sym, subst}
 use Rattle.node_acts.proofs.OfCommits.{of_commit}
-use Rattle.node_calls.specs.Changes.{ChangesBy}
+use Rattle.node_acts.specs.Changes.{ChangesBy}
 use Rattle.centre_ledger.specs.Acts.{CentreAct}
 use Rattle.centre_ledger.specs.ActLaws as centre
 use Rattle.centre_ledger.specs.Books.{Books, AreSound, put_row}

@@ -20,8 +20,8 @@ use centre_ledger::{
     register_act, take_act,
 };
 use node_acts::Said;
-use node_calls::{Call, Callee, Holds};
-use node_records::BooksOf;
+use node_acts::{Call, Callee, Holds};
+use centre_ledger::BooksOf;
 
 /// The centre, where it is called.
 #[derive(Drop)]

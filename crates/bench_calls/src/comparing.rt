@@ -7,7 +7,7 @@ use bench_base::numbers::DevNo;
 use bench_base::refusals::DevRefusal;
 use centre_ledger::{CentreAct, Standing};
 use node_acts::Act;
-use node_records::DeviceState;
+use psd_state::DeviceState;
 
 fn stood(device: DevNo, held: u64, act: CentreAct<Standing>) -> Reply
     ensures { result ≡ compares.stood device held act }

@@ -19,8 +19,8 @@ use bench_base::refusals::DevRefusal;
 use bench_base::words::Node as NodeNo;
 use bench_views::{AckCall, AskCall, DebitCall, MakeCall, ResendCall, TakeReplyCall};
 use node_acts::{Act, GivenOut, Released, Said};
-use node_calls::{Call, Callee};
-use node_records::{DeviceState, StateOf};
+use node_acts::{Call, Callee};
+use psd_state::{DeviceState, StateOf};
 use psd_state::DevRec;
 use psd_state::acts::{
     DeviceAct, Franked, Taken, ack_act, ask_act, debit_act, make_act, resend_act, status_act,

@@ -16,8 +16,8 @@ use host_jobs::{
     HostAct, JobRow, Ordered, begin_print_act, close_act, debit_message_act, order_act, take_act,
 };
 use node_acts::{GivenOut, Printed, Said};
-use node_calls::{Call, Callee, Holds};
-use node_records::JobsOf;
+use node_acts::{Call, Callee, Holds};
+use host_jobs::JobsOf;
 
 /// The host, where it is called.
 #[derive(Drop)]

@@ -14,8 +14,8 @@ use bench_base::refusals::ScanRefusal;
 use bench_base::words::Node as NodeNo;
 use bench_views::{ScanCall, TrustCall, VerifierCall};
 use node_acts::Said;
-use node_calls::{Call, Callee, Holds};
-use node_records::RowsOf;
+use node_acts::{Call, Callee, Holds};
+use verifier::RowsOf;
 use verifier::{Accepted, Change, ScanAct};
 
 /// The verifier, where it is called on this day.

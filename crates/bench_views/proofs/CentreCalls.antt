@@ -28,7 +28,7 @@ use Rattle.psd_wire.specs.declared.message.Message.{Message}
 use Rattle.psd_wire.specs.declared.message.Message.TheVariants as m
 use Rattle.psd_wire.specs.Grammar.{read}
 use Rattle.psd_wire.specs.Codes.{has_code}
-use Rattle.ledger_lawful.specs.Further.{SentAreRead, IsAddressed}
+use Rattle.ledger_terms.specs.Further.{SentAreRead, IsAddressed}
 use Rattle.ledger_laws.proofs.Histories.{message_sent}
 use Rattle.ledger_moves.specs.Tariffs.{Tariff}
 use Rattle.ledger_moves.specs.Moves.{plan, at_node, centre_plan, deliver_to, deliver_plan}

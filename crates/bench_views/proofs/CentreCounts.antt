@@ -9,8 +9,8 @@ use Rattle.bench_base.specs.Cells.{Place}
 use Rattle.bench_base.specs.Cells as cells
 use Rattle.bench_base.specs.Ledger.{count_of}
 use Rattle.node_acts.specs.RowList.{commits_at, commits_in, listed}
-use Rattle.law_jobs.specs.Places.{centre_places, CellsAddUp}
-use Rattle.law_jobs.specs.Places as places
+use Rattle.ledger_laws.specs.Places.{centre_places, CellsAddUp}
+use Rattle.ledger_laws.specs.Places as places
 use Rattle.centre_ledger.specs.Order.{InOrder}
 use Rattle.bench_views.specs.Centre.{place_in, cell_after, seen_in}
 use Rattle.bench_views.proofs.CentreCommits.{counted_at}

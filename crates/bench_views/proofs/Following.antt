@@ -15,7 +15,7 @@ use Rattle.node_acts.specs.declared.asked.Asked.{Asked}
 use Rattle.node_acts.specs.Views.{Counting}
 use Rattle.node_acts.specs.Plans.{MayReply, after}
 use Rattle.node_acts.specs.Kinds.{Kind, view_in}
-use Rattle.law_orders.specs.Nexts.{AreOrdered, IsOpen, IsNext}
+use Rattle.ledger_laws.specs.Nexts.{AreOrdered, IsOpen, IsNext}
 use Rattle.ledger_moves.specs.Tariffs.{Tariff}
 use Rattle.ledger_moves.specs.Moves.{plan}
 use Rattle.bench_views.specs.Kinds.{bench_kinds}

@@ -15,7 +15,7 @@ use Rattle.psd_wire.specs.Grammar.{read}
 use Rattle.psd_wire.specs.Codes.{has_code}
 use Rattle.ledger_terms.specs.Devices.{key_of}
 use Rattle.ledger_terms.specs.Rulings.{ruled_reply}
-use Rattle.ledger_lawful.specs.Further.{RepliesAreRuled}
+use Rattle.ledger_terms.specs.Further.{RepliesAreRuled}
 use Rattle.ledger_laws.proofs.Histories.{message_sent}
 use Rattle.ledger_moves.specs.Histories.{Unforged, IsKnown}
 use Rattle.bench_views.specs.declared.calls.DeviceCall.{DeviceCall}

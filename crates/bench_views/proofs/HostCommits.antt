@@ -11,8 +11,8 @@ use Rattle.bench_base.specs.Ledger.{count_of}
 use Rattle.node_acts.specs.RowList.{row_at, commits_at, commits_in, listed}
 use Rattle.node_acts.specs.RowList as rows
 use Rattle.node_acts.specs.RowLaws.{listed_at, listed_is}
-use Rattle.law_jobs.specs.Places.{host_places, CellsAddUp}
-use Rattle.law_jobs.specs.Places as places
+use Rattle.ledger_laws.specs.Places.{host_places, CellsAddUp}
+use Rattle.ledger_laws.specs.Places as places
 use Rattle.host_jobs.specs.declared.rows.JobRow.{JobRow}
 use Rattle.host_jobs.specs.declared.sizes.TheConstants.{HOST_CELLS}
 use Rattle.host_jobs.specs.Records.{cell_after, seen_after}

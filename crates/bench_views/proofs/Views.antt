@@ -14,7 +14,7 @@ use Rattle.bench_base.specs.Ledger.{Ledger, is_on, count_of, torn_of, at_up, cou
 pub use Rattle.bench_base.proofs.Facts.{same_node_self}
 use Rattle.node_acts.specs.Views.{Counting, View, up_with, started}
 use Rattle.node_acts.specs.Plans.{view_after}
-use Rattle.law_orders.specs.Nexts.{AreOrdered, IsOpen}
+use Rattle.ledger_laws.specs.Nexts.{AreOrdered, IsOpen}
 use Rattle.node_acts.specs.Kinds.{view_in}
 use Rattle.bench_views.specs.Follows.{Rests}
 use Rattle.bench_views.proofs.Steps.{AreTold, Step, does_tell, does, tears, boots, stops}

@@ -4,6 +4,7 @@
 mod accounts;
 mod acts;
 mod balances;
+mod books_of;
 mod customers;
 mod laws;
 mod messages;
@@ -23,6 +24,7 @@ pub use acts::{
     CentreAct, Deposit, balance_act, deposit_act, flag_act, open_act, register_act, standing_act,
 };
 pub use balances::{Balances, balance_of};
+pub use books_of::BooksOf;
 pub use laws::{acts_follow_the_commits, one_row, rows_follow_the_commits};
 pub use ready_row::ReadyRow;
 pub use replies::ruled;

@@ -8,8 +8,8 @@ use Rattle.bench_base.specs.declared.sizes.TheConstants.{ROW_BYTES, CENTRE_CELLS
 use Rattle.nv_store.specs.Slot.{Held}
 use Rattle.node_acts.specs.RowList.{row_at, row_of, commits_at, put}
 use Rattle.node_acts.specs.RowLaws.{put_long, put_here, put_other}
-use Rattle.row_table.specs.ShowsLaws.{ReadsOne}
-use Rattle.row_table.specs.Kept.{IsFilled, seen_long, seen_row}
+use Rattle.row_node.specs.ShowsLaws.{ReadsOne}
+use Rattle.row_node.specs.Kept.{IsFilled, seen_long, seen_row}
 use Rattle.row_node.specs.Tables.{Table, seen_of}
 use Rattle.row_node.specs.Boots.{Found}
 use Rattle.row_node.specs.Counts.{few_found, few_after}

@@ -2,7 +2,7 @@
 ghost use Rattle.std.specs.Prelude.{◌≡◌, ◌+◌, ◌<◌, IfOk, IfErr, length};
 ghost use Rattle.bench_base.specs.declared.sizes.TheConstants.{CENTRE_CELLS};
 ghost use Rattle.nv_store.specs.RoomView.{cells_of, kept_in};
-ghost use Rattle.row_table.specs.Kept.{HoldsForeign};
+ghost use Rattle.row_node.specs.Kept.{HoldsForeign};
 ghost use Rattle.centre_protocol.specs.Payloads.{IsPayloadOf};
 ghost use Rattle.centre_protocol.specs.Boots.{DeviceRead, DevicesRead, CustomerRead, CustomersRead};
 

@@ -16,7 +16,7 @@ use bench_base::ledger::Commit;
 use bench_base::refusals::{BootFail, CentreFail};
 use bench_base::sizes::{CENTRE_CELLS, ROW_BYTES};
 use centre_ledger::{Accounts, Balances, CentreAct};
-use node_records::BooksOf;
+use centre_ledger::BooksOf;
 use nv_model::{Fused, Nv};
 use nv_store::Room;
 use row_node::{RowRoom, RunningRows};

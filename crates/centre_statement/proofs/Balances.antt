@@ -15,7 +15,7 @@ use Rattle.psd_wire.specs.declared.message.Request.{Request}
 use Rattle.ledger_terms.specs.Requests.{request_in}
 use Rattle.ledger_terms.specs.Sums.{adds, takes, ruled_sum}
 use Rattle.ledger_terms.specs.Centres.{enrolled, customer_sum, is_some_at, device_numbers, sum_over, device_share}
-use Rattle.ledger_lawful.specs.Further.{HasOwner}
+use Rattle.ledger_terms.specs.Further.{HasOwner}
 use Rattle.bench_base.proofs.Facts.{no_reset}
 
 -- each ruling of the list has the owner of its device

@@ -17,8 +17,8 @@ use Rattle.psd_wire.specs.declared.message.Request.{Request}
 use Rattle.ledger_terms.specs.Requests.{request_in}
 use Rattle.ledger_terms.specs.Sums.{adds, takes}
 use Rattle.ledger_terms.specs.Centres.{deposits, customer_sum, customer_bought, customer_returned, balance}
-use Rattle.ledger_lawful.specs.Further.{HasOwner, IsFitting}
-use Rattle.ledger_lawful.specs.Lawful.{Always, Lawful, LawfulAt, Balances, Solvent}
+use Rattle.ledger_terms.specs.Further.{HasOwner, IsFitting}
+use Rattle.ledger_terms.specs.Lawful.{Always, Lawful, LawfulAt, Balances, Solvent}
 use Rattle.ledger_laws.specs.Laws.{OfCounted}
 use Rattle.centre_statement.specs.Balances.{Follows, BalancesFollow}
 use Rattle.centre_statement.specs.Changes.{change_of, granted_change, change_in}

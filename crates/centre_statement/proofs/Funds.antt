@@ -13,13 +13,13 @@ use Rattle.psd_wire.specs.declared.message.Request.{Request}
 use Rattle.ledger_terms.specs.Requests.{request_in}
 use Rattle.ledger_terms.specs.Sums.{adds, takes, bought, returned, descending}
 use Rattle.ledger_terms.specs.Centres.{enrolled, is_some_at, deposits, customer_sum, customer_bought, customer_returned, device_numbers, device_share, sum_over}
-use Rattle.ledger_lawful.specs.Editions.{Editions}
-use Rattle.ledger_lawful.specs.Lawful.{Always, Lawful, LawfulAt, Balances, Refunds}
+use Rattle.ledger_terms.specs.Editions.{Editions}
+use Rattle.ledger_terms.specs.Lawful.{Always, Lawful, LawfulAt, Balances, Refunds}
 use Rattle.ledger_moves.specs.Histories.{History}
 use Rattle.ledger_moves.specs.Tariffs.{Tariff}
-use Rattle.law_good.proofs.Good.{Good, Fits}
-use Rattle.law_money.proofs.Links.{link, note_le}
-use Rattle.law_money.proofs.Money as money
+use Rattle.ledger_laws.proofs.Good.{Good, Fits}
+use Rattle.ledger_laws.proofs.Links.{link, note_le}
+use Rattle.ledger_laws.proofs.Money as money
 use Rattle.ledger_laws.proofs.Histories.{histories, allows_same, carried_by}
 use Rattle.centre_statement.specs.Balances.{BalancesFit}
 use Rattle.centre_statement.proofs.Following.{always_map, counted_always}

@@ -25,13 +25,13 @@ use Rattle.desk_runs.specs.SideDeeds.{SideDeed, Plain, Own, Broken, IsBroken, st
 use Rattle.desk_runs.specs.Wants.{IsStep}
 use Rattle.desk_runs.specs.declared.desk.Next.{Next}
 use Rattle.desk_runs.specs.declared.desk.Next.TheVariants.{Step, Say, Stop}
-use Rattle.ledger_lawful.specs.Editions.{Editions}
+use Rattle.ledger_terms.specs.Editions.{Editions}
 use Rattle.ledger_laws.specs.Laws.{ForHistories}
 use Rattle.ledger_moves.specs.Histories.{History}
 use Rattle.ledger_moves.specs.Moves.{Moves, plan, entries}
 use Rattle.ledger_moves.specs.Tariffs.{Tariff}
 use Rattle.ledger_terms.specs.Centres.{balance}
-use Rattle.law_orders.specs.Nexts.{IsOpen}
+use Rattle.ledger_laws.specs.Nexts.{IsOpen}
 use Rattle.bench.specs.Benches.{Nodes, Stands}
 use Rattle.bench.specs.Steps.{StepsOn}
 use Rattle.bench_views.specs.Tariff.{IsOfTexts}

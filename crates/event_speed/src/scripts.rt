@@ -7,7 +7,7 @@ use bench_base::memory::MemSource;
 use bench_base::stream::IoSink;
 use nv_file::FileNv;
 use nv_model::MemNv;
-use read_ahead::ReadAhead;
+use text_streams::ReadAhead;
 use script_replay::run::run;
 use script_replay::status::Status;
 use std::fs;

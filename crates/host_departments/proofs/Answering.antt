@@ -19,9 +19,9 @@ use Rattle.desk_runs.specs.SideDeeds.{SideDeed, Plain, Own, Broken}
 use Rattle.desk_runs.specs.declared.desk.Desk.{Ghosts}
 use Rattle.desk_runs.specs.declared.desk.Next.{Next}
 use Rattle.desk_runs.specs.declared.desk.Next.TheVariants.{Step, Say, Stop}
-use Rattle.desk_stops.specs.Stops.{HasBroken, IsUntouched}
-use Rattle.desk_stops.proofs.Lines.{BrokenLast}
-use Rattle.desk_stops.proofs.Stores.{Goes, Breaks, Ends, goes_rests, goes_same, goes_on, breaks_later, breaks_before, came_by}
+use Rattle.desk_runs.specs.Stops.{HasBroken, IsUntouched}
+use Rattle.desk_runs.proofs.Lines.{BrokenLast}
+use Rattle.desk_runs.proofs.Stores.{Goes, Breaks, Ends, goes_rests, goes_same, goes_on, breaks_later, breaks_before, came_by}
 use Rattle.row_store.specs.Commits.{CommitsRow}
 use Rattle.host_departments.specs.Answers.{Asked, Answer, IsTold, IsCommitted, IsTakenIn, IsLimited, IsSent, IsAssignTold, ByQuota, IsAnswered, CellCommit, IsCutJob, AreDone, IsOwnTold, IsOwnCut, AreAnswered}
 use Rattle.host_departments.specs.Heard.{IsTaken}

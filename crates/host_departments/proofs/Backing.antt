@@ -17,7 +17,7 @@ use Rattle.node_turns.specs.declared.turn.Turn.{Turn}
 use Rattle.psd_wire.specs.declared.message.Message.{Message}
 use Rattle.bench_base.specs.declared.refusals.Unread.{Unread}
 use Rattle.std.specs.Prelude.{Result}
-use Rattle.ledger_lawful.specs.Editions.{Editions}
+use Rattle.ledger_terms.specs.Editions.{Editions}
 use Rattle.ledger_moves.specs.Moves as moves
 use Rattle.ledger_moves.specs.Moves.{plan}
 use Rattle.ledger_moves.specs.Tariffs.{Tariff}
@@ -28,7 +28,7 @@ use Rattle.bench_views.specs.Tariff.{IsOfTexts}
 use Rattle.bench.specs.Benches.{Nodes}
 use Rattle.desk_runs.specs.Deeds.{Done, Skipped, Did}
 use Rattle.desk_runs.specs.SideDeeds.{SideDeed, Plain, Own, Broken, steps_of}
-use Rattle.desk_stops.specs.Stops.{with_commit}
+use Rattle.desk_runs.specs.Stops.{with_commit}
 use Rattle.script_replay.specs.Chains.{SceneOf, DidEvents}
 use Rattle.script_replay.specs.Deeds.{ledger_by, ledger_after, AreUnforged}
 use Rattle.script_replay.specs.Run.{Unforged}

@@ -5,7 +5,7 @@ use Rattle.std.proofs.lemmas.List.{get_or_past}
 use Rattle.nv_store.specs.RoomView.{cells_of, kept_in}
 use Rattle.nv_store.specs.declared.room.Room.{Room}
 use Rattle.node_acts.specs.RowList.{row_of}
-use Rattle.row_table.specs.Kept.{seen_long}
+use Rattle.row_node.specs.Kept.{seen_long}
 use Rattle.row_store.specs.Seen.{ReadsAs, row_held}
 use Rattle.row_store.proofs.Kept.{row_read}
 use Rattle.host_departments.specs.Kept.{AllFilled, rows_in}

@@ -6,7 +6,7 @@ use Rattle.bench_base.specs.Ledger.{Ledger}
 use Rattle.bench_base.specs.Rules.{editions}
 use Rattle.nv_model.specs.declared.nv.Nv as nv
 use Rattle.nv_model.specs.Moments.{Nested}
-use Rattle.ledger_lawful.specs.Editions.{Editions}
+use Rattle.ledger_terms.specs.Editions.{Editions}
 use Rattle.ledger_moves.specs.Tariffs.{Tariff}
 use Rattle.bench.specs.Benches.{Nodes, BenchOf}
 use Rattle.line_runs.specs.Deeds.{Reads}
@@ -16,8 +16,8 @@ use Rattle.line_runs.specs.declared.status.SideStatus.TheVariants.{Run}
 use Rattle.desk_runs.specs.Deeds.{Done}
 use Rattle.desk_runs.specs.Desks.{World, world, side_lines}
 use Rattle.desk_runs.specs.SideDeeds.{SideDeed, steps_of}
-use Rattle.desk_stops.proofs.Lines.{AtLast}
-use Rattle.desk_stops.proofs.Stores.{Ends, leaves}
+use Rattle.desk_runs.proofs.Lines.{AtLast}
+use Rattle.desk_runs.proofs.Stores.{Ends, leaves}
 use Rattle.script_replay.specs.Chains.{SceneOf, scene, DidEvents}
 use Rattle.script_replay.specs.Run.{Leaves}
 use Rattle.script_replay.specs.Sides.{StepsBy, DidSide}

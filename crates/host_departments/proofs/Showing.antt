@@ -4,8 +4,8 @@ use Rattle.nv_model.specs.Moments.{Image}
 use Rattle.nv_model.specs.declared.nv.Nv as nv
 use Rattle.nv_store.specs.RoomView.{cells_of, kept_in}
 use Rattle.nv_store.specs.TableKnows.{table_only}
-use Rattle.row_table.specs.Kept.{seen_shown}
-use Rattle.row_table.specs.Shows.{ShowsRows}
+use Rattle.row_node.specs.Kept.{seen_shown}
+use Rattle.row_node.specs.Shows.{ShowsRows}
 use Rattle.row_store.specs.Seen.{ReadsAs, row_held}
 use Rattle.row_store.proofs.Kept.{filled_of}
 use Rattle.host_departments.specs.Payload.{decoded}

@@ -11,7 +11,7 @@ use Rattle.line_runs.specs.declared.status.SideStatus.{SideStatus}
 use Rattle.desk_runs.specs.Deeds.{Done}
 use Rattle.desk_runs.specs.Desks.{World}
 use Rattle.desk_runs.specs.SideDeeds.{SideDeed, steps_of}
-use Rattle.desk_stops.specs.Stops.{LeavesStorage, with_commit}
+use Rattle.desk_runs.specs.Stops.{LeavesStorage, with_commit}
 use Rattle.script_replay.specs.Chains.{SceneOf, scene}
 use Rattle.script_replay.specs.Deeds.{ledger_after, AreUnforged}
 use Rattle.script_replay.specs.Run.{Unforged}

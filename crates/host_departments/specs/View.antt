@@ -3,7 +3,7 @@ use Rattle.std.specs.Prelude.{◌≡◌, Bool}
 use Rattle.nv_model.specs.declared.nv.Nv.{Ghosts}
 use Rattle.nv_store.specs.RoomView.{cells_of, kept_in}
 use Rattle.row_store.specs.Commits.{RowView}
-use Rattle.desk_stops.specs.Stops.{DeskView}
+use Rattle.desk_runs.specs.Stops.{DeskView}
 use Rattle.host_departments.specs.Kept.{rows_in}
 use Rattle.host_departments.specs.Rows.{Rows}
 use Rattle.host_departments.specs.declared.desk.Departments.{Departments}

@@ -5,7 +5,7 @@ ghost use Rattle.nv_store.specs.Mounts.{Mounts};
 ghost use Rattle.nv_store.specs.RoomView.{cells_of};
 ghost use Rattle.row_store.specs.Boots.{BootCauses};
 ghost use Rattle.row_store.specs.Seen.{ReadsAs};
-ghost use Rattle.row_table.specs.Shows.{ShowsRows, IsDamagedTable};
+ghost use Rattle.row_node.specs.Shows.{ShowsRows, IsDamagedTable};
 ghost use Rattle.host_departments.specs.Payload.{decoded};
 ghost use Rattle.host_departments.specs.Rows.{IsSound};
 ghost use Rattle.host_departments.specs.View.{storage_of, has_failed, rows_of};

@@ -2,7 +2,7 @@
 ghost use Rattle.std.specs.Prelude.{◌≡◌, ℕ, List, None, length};
 ghost use Rattle.bench_base.specs.Ledger.{Ledger};
 ghost use Rattle.row_store.specs.Seen.{ReadsAs};
-ghost use Rattle.row_table.specs.Shows.{ShowsRows};
+ghost use Rattle.row_node.specs.Shows.{ShowsRows};
 ghost use Rattle.host_departments.specs.Holds.{AreBacked};
 ghost use Rattle.host_departments.specs.Isolation.{AreIsolated};
 ghost use Rattle.host_departments.specs.Payload.{decoded};

@@ -2,6 +2,7 @@
 #![tactic(auto)]
 
 mod acts;
+mod jobs_of;
 mod joined;
 mod kept;
 mod laws;
@@ -15,6 +16,7 @@ mod states;
 pub use acts::{
     HostAct, Ordered, begin_print_act, close_act, debit_message_act, order_act, take_act,
 };
+pub use jobs_of::JobsOf;
 pub use kept::{JobRows, Kept, cell_of, put};
 pub use laws::{acts_follow_the_commits, cells_follow_the_commits, one_job};
 pub use orders::{Shelf, hold, order};

@@ -3,7 +3,7 @@ use Rattle.std.specs.Prelude.{ℕ, ◌<◌, ◌≤◌, Option, IfSome}
 use Rattle.bench_base.specs.declared.sizes.TheConstants.{MOST_COMMITS}
 use Rattle.nv_store.specs.Slot.{Held}
 use Rattle.nv_store.specs.Store.{count_of}
-use Rattle.row_table.specs.Kept.{IsFilled}
+use Rattle.row_node.specs.Kept.{IsFilled}
 use Rattle.host_jobs.specs.declared.rows.JobRow.{JobRow}
 use Rattle.host_jobs.specs.Rows.{Jobs, row_in}
 use Rattle.host_jobs.specs.Soundness.{IsJobAt}

@@ -2,8 +2,8 @@
 use Rattle.std.specs.Prelude.{◌≡◌, ℕ, List, Option}
 use Rattle.nv_model.specs.declared.nv.Nv.{Ghosts}
 use Rattle.nv_store.specs.Slot.{Held}
-use Rattle.row_table.specs.Shows.{IsDamagedTable}
-use Rattle.row_table.specs.Kept.{AreFilled}
+use Rattle.row_node.specs.Shows.{IsDamagedTable}
+use Rattle.row_node.specs.Kept.{AreFilled}
 use Rattle.host_jobs.specs.declared.rows.JobRow.{JobRow}
 use Rattle.host_jobs.specs.declared.sizes.TheConstants.{JOB_BYTES, HOST_CELLS}
 use Rattle.host_jobs.specs.Payload.{JobReadsAs}

@@ -4,8 +4,8 @@ use Rattle.std.proofs.Props.{props}
 use Rattle.std.proofs.Math.Logic.{∥∥₁_elim}
 use Rattle.nv_store.specs.Slot.{Held}
 use Rattle.node_acts.specs.RowLaws.{put_long}
-use Rattle.row_table.specs.ShowsLaws.{ReadsOne}
-use Rattle.row_table.specs.Kept.{seen_long}
+use Rattle.row_node.specs.ShowsLaws.{ReadsOne}
+use Rattle.row_node.specs.Kept.{seen_long}
 use Rattle.row_node.specs.Tables.{Table, seen_of}
 use Rattle.row_node.specs.Boots.{Found}
 use Rattle.row_node.specs.Counts.{few_found, few_after}

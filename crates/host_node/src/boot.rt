@@ -2,7 +2,7 @@
 ghost use Rattle.std.specs.Prelude.{◌≡◌, ◌<◌, OnOk, IfOk, IfErr, length};
 ghost use Rattle.host_jobs.specs.declared.sizes.TheConstants.{HOST_CELLS};
 ghost use Rattle.nv_store.specs.RoomView.{cells_of, kept_in};
-ghost use Rattle.row_table.specs.Kept.{HoldsForeign};
+ghost use Rattle.row_node.specs.Kept.{HoldsForeign};
 ghost use Rattle.host_node.specs.Payloads.{IsPayloadOf};
 ghost use Rattle.host_node.specs.Boots.{JobRead, JobsRead};
 

@@ -14,7 +14,7 @@ use crate::kept::{HostRoom, HostRows};
 use bench_base::ledger::Commit;
 use bench_base::refusals::{BootFail, HostFail};
 use host_jobs::{HostAct, JobRows, Kept};
-use node_records::JobsOf;
+use host_jobs::JobsOf;
 use nv_model::{Fused, Nv};
 use row_node::RunningRows;
 

@@ -1,7 +1,7 @@
 //! What the host lends to its calls.
 use crate::kept::{HostNode, HostRows};
 use host_jobs::{JobRows, Kept};
-use node_records::JobsOf;
+use host_jobs::JobsOf;
 use nv_model::Nv;
 
 impl<N: Nv> JobsOf<HostRows> for HostNode<N> {

@@ -16,14 +16,14 @@ use Rattle.indicium.specs.Marks.{read_mark}
 use Rattle.indicium.proofs.Readings as readings
 use Rattle.ledger_terms.specs.Devices.{key_of}
 use Rattle.ledger_terms.specs.Franking.{key_or_none, mark_after, indicium_after, marked}
-use Rattle.ledger_lawful.specs.Editions.{Editions, IsCarried}
-use Rattle.ledger_lawful.specs.Further.{postage_of}
-use Rattle.ledger_lawful.specs.Lawful.{Always}
+use Rattle.ledger_terms.specs.Editions.{Editions, IsCarried}
+use Rattle.ledger_terms.specs.Further.{postage_of}
+use Rattle.ledger_terms.specs.Lawful.{Always}
 use Rattle.ledger_moves.specs.Histories.{History}
 use Rattle.ledger_moves.specs.Tariffs.{Tariff}
-use Rattle.law_good.proofs.Good.{Good}
-use Rattle.law_good.proofs.Grown.{Inv, Told}
-use Rattle.law_plans.proofs.Franked.{mark_fits}
+use Rattle.ledger_laws.proofs.Good.{Good}
+use Rattle.ledger_laws.proofs.Grown.{Inv, Told}
+use Rattle.ledger_laws.proofs.Franked.{mark_fits}
 use Rattle.ledger_laws.proofs.Histories.{histories, allows_same, carried_by}
 use Rattle.law_scans.proofs.Entries.{Is, counted_kept}
 

@@ -10,7 +10,7 @@ ghost use Rattle.bench_base.specs.Rules.{todays_rules};
 ghost use Rattle.bench_base.specs.Scans.{accepted};
 ghost use Rattle.indicium.specs.declared.Mark.{Mark};
 ghost use Rattle.indicium.specs.Marks.{read_mark};
-ghost use Rattle.ledger_lawful.specs.Further.{postage_of};
+ghost use Rattle.ledger_terms.specs.Further.{postage_of};
 ghost use Rattle.ledger_laws.specs.Laws.{ForHistories};
 ghost use Rattle.ledger_moves.specs.Moves.{Moves, entries};
 ghost use Rattle.ledger_moves.specs.Tariffs.{Tariff};

@@ -1,3 +1,4 @@
 pub mod Kept
 pub mod Once
 pub mod Sending
+pub mod Opening

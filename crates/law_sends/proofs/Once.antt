@@ -8,8 +8,8 @@ use Rattle.bench_base.specs.declared.ledger.Commit.TheVariants.{Ordered}
 use Rattle.bench_base.specs.Jobs.{job_of}
 use Rattle.bench_base.specs.Rules.{Rules}
 use Rattle.bench_base.proofs.Facts.{none_if}
-use Rattle.law_good.proofs.Good.{Good}
-use Rattle.law_jobs.proofs.Jobs.{jobs}
+use Rattle.ledger_laws.proofs.Good.{Good}
+use Rattle.ledger_laws.proofs.Jobs.{jobs}
 use Rattle.law_sends.specs.Orders.{ordered_postage}
 use Rattle.law_sends.proofs.Kept.{ordered_more}
 

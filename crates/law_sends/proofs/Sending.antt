@@ -26,17 +26,17 @@ use Rattle.host_jobs.specs.Acts.{HostAct, unless, debit_note, sent_act}
 use Rattle.host_jobs.specs.Plans as host
 use Rattle.host_jobs.specs.Rows.{job_in}
 use Rattle.host_jobs.proofs.ByRows.{shown_is}
-use Rattle.ledger_lawful.specs.Editions.{Editions}
+use Rattle.ledger_terms.specs.Editions.{Editions}
 use Rattle.ledger_moves.specs.Histories.{History}
 use Rattle.ledger_moves.specs.Moves as moves
 use Rattle.ledger_moves.specs.Moves.{Moves, plan, at_node, unless_worn, OtherUp, FailsToRead}
 use Rattle.ledger_moves.specs.Tariffs.{Tariff}
 use Rattle.bench_base.proofs.Rows.{chosen}
-use Rattle.law_good.proofs.Good.{Good}
-use Rattle.law_good.proofs.Grown.{Inv}
-use Rattle.law_plans.proofs.Franked.{device_word}
-use Rattle.law_plans.proofs.Whole.{whole_debit}
-use Rattle.law_host.proofs.HostPlans.{job_range}
+use Rattle.ledger_laws.proofs.Good.{Good}
+use Rattle.ledger_laws.proofs.Grown.{Inv}
+use Rattle.ledger_laws.proofs.Franked.{device_word}
+use Rattle.ledger_laws.proofs.Whole.{whole_debit}
+use Rattle.ledger_laws.proofs.HostPlans.{job_range}
 use Rattle.ledger_laws.proofs.Histories.{histories, allows_same, carried_by}
 use Rattle.law_sends.specs.Orders.{postage_in, ordered_postage, IsSentFor}
 use Rattle.law_sends.proofs.Once.{one_order}

@@ -1,9 +1,10 @@
-//! The laws of orders, as the contract of a function that takes and answers nothing.
+//! The laws of orders and of open jobs, each as the contract of a function that takes and answers nothing.
 ghost use Rattle.std.specs.Prelude.{◌≡◌, ℕ, List, [], Some, Contains};
 ghost use Rattle.bench_base.specs.declared.events.Event.{Event};
 ghost use Rattle.bench_base.specs.declared.events.Event.TheVariants as ev;
 ghost use Rattle.bench_base.specs.declared.events.Reply.{Reply};
 ghost use Rattle.bench_base.specs.declared.events.Reply.TheVariants as r;
+ghost use Rattle.bench_base.specs.declared.ledger.Commit.{Commit};
 ghost use Rattle.bench_base.specs.declared.ledger.Commit.TheVariants.{Ordered};
 ghost use Rattle.bench_base.specs.Ledger.{Ledger, counted};
 ghost use Rattle.bench_base.specs.Rules.{todays_rules};
@@ -11,7 +12,11 @@ ghost use Rattle.node_acts.specs.Plans.{after};
 ghost use Rattle.ledger_laws.specs.Laws.{ForHistories};
 ghost use Rattle.ledger_moves.specs.Moves.{Moves, plan, entries};
 ghost use Rattle.ledger_moves.specs.Tariffs.{Tariff};
+ghost use Rattle.host_jobs.specs.Turns.{InTurn};
 ghost use Rattle.law_sends.specs.Orders.{ordered_postage, IsSentFor};
+ghost use Rattle.law_sends.specs.States.{OpenByStates};
+
+use ledger_laws::laws::orders;
 
 /// Orders and what is sent for them:
 ///
@@ -26,3 +31,14 @@ pub fn sends()
     ensures one { ForHistories (λ τ ρ ρs H. (j d p a k : ℕ) → Contains (counted H) (Ordered j d p a k)
         → ordered_postage j (counted H) ≡ Some a) }
 {}
+
+/// The open job of a device is the one whose state is Ordered, and there is one at most:
+///
+/// - `turns`: wherever the host's own calls made its commits, whatever the other nodes did;
+/// - `histories`: so in every history.
+pub fn open_jobs()
+    ensures turns { (C : List Commit) → InTurn C → OpenByStates C }
+    ensures histories { ForHistories (λ τ ρ ρs H. OpenByStates (counted H)) }
+{
+    orders();
+}

@@ -6,7 +6,7 @@ use Rattle.bench_base.specs.declared.ledger.Entry.{Entry}
 use Rattle.bench_base.specs.declared.ledger.Entry.TheVariants.{Commit as Counts, Up}
 use Rattle.bench_base.specs.Ledger.{Ledger, counted, count_of, torn_of, at_up}
 use Rattle.ledger_book.specs.Growth.{newest, grown, settled_by}
-use Rattle.ledger_lawful.specs.Lawful.{Always}
+use Rattle.ledger_terms.specs.Lawful.{Always}
 
 -- one more entry adds the commit that counts by it, and nothing else
 at_up_grown : (o : Option Commit) (n : Node) (k : ℕ) (C : List Commit) → at_up o n k C ≡ grown (settled_by o n k C) C

@@ -13,7 +13,7 @@ use Rattle.bench_base.specs.declared.ledger.Commit.{Commit}
 use Rattle.bench_base.specs.declared.ledger.Commit.TheVariants.{Debited}
 use Rattle.bench_base.specs.Rules.{todays_rules, IsVersion}
 use Rattle.ledger_terms.specs.Sums.{ascending, descending}
-use Rattle.ledger_lawful.specs.Lawful.{Debits}
+use Rattle.ledger_terms.specs.Lawful.{Debits}
 
 -- a debit of a after the sums x and y, with a mark of version w
 pub record FitsMark (a w x y : ℕ) : Type 0 where

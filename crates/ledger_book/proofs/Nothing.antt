@@ -2,7 +2,7 @@
 use Rattle.std.proofs.Common.{[], refl, arith}
 use Rattle.bench_base.specs.Rules.{Rules}
 use Rattle.ledger_terms.specs.Centres.{customer_sum}
-use Rattle.ledger_lawful.specs.Lawful.{LawfulAt}
+use Rattle.ledger_terms.specs.Lawful.{LawfulAt}
 
 pub lawful_nothing : (ρ : Rules) → LawfulAt ρ []
 unfolding customer_sum

@@ -1,7 +1,7 @@
 -- What always holds of a list holds of each list that it grew from: of each front of a slice.
 use Rattle.std.proofs.Common.{◌≡◌, ℕ, ◌+◌, ◌<◌, List, [], ◌∷◌, ◌++◌, length, get_or, take, drop, reverse, ap, sym, ◌∙◌, subst, take-append-drop}
 use Rattle.std.proofs.lemmas.List.{reverse-append, take_more}
-use Rattle.ledger_lawful.specs.Lawful.{Always}
+use Rattle.ledger_terms.specs.Lawful.{Always}
 
 pub always_now : {A : Type 0} (P : List A → Type 0) (xs : List A) → Always P xs → P xs
 always_now P [] h = h

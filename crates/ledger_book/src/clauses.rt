@@ -7,7 +7,7 @@ ghost use Rattle.ledger_terms.specs.Requests.{request_in, note_of, request_of};
 ghost use Rattle.ledger_terms.specs.Sums.{pieces, descending};
 ghost use Rattle.ledger_terms.specs.Devices.{applied_of};
 ghost use Rattle.ledger_terms.specs.InFlight.{ruling_of};
-ghost use Rattle.ledger_lawful.specs.Lawful.{asks, Numbering, NextDebit, Totals, AllDevices, Debits, debited_since, Refunds, AfterApplied, Accounts, Registers, Solvent, Balances, Days};
+ghost use Rattle.ledger_terms.specs.Lawful.{asks, Numbering, NextDebit, Totals, AllDevices, Debits, debited_since, Refunds, AfterApplied, Accounts, Registers, Solvent, Balances, Days};
 
 use crate::centres::{customer_sum, deposits, device_at, ruled, settled};
 use crate::devices::{applied_of, deadline, is_frozen, last_day, phase};

@@ -7,7 +7,7 @@ ghost use Rattle.ledger_terms.specs.Devices.{origin};
 ghost use Rattle.ledger_terms.specs.Franking.{marked, mark_after, key_or_none};
 ghost use Rattle.bench_base.specs.declared.ledger.Commit.TheVariants.{Debited};
 ghost use Rattle.indicium.specs.Marks.{IsWhole, spell};
-ghost use Rattle.ledger_lawful.specs.Lawful.{Always, Debits};
+ghost use Rattle.ledger_terms.specs.Lawful.{Always, Debits};
 ghost use Rattle.ledger_book.specs.Carried.{carried, carried_sum};
 
 use crate::centres::registered;

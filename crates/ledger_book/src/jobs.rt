@@ -2,7 +2,7 @@
 ghost use Rattle.std.specs.Prelude.{◌≡◌, ◌||◌, [], ◌∷◌, reverse};
 ghost use Rattle.bench_base.specs.Jobs.{job_of, held_of, begun};
 ghost use Rattle.bench_base.specs.Scans.{accepted};
-ghost use Rattle.ledger_lawful.specs.Lawful.{held_piece};
+ghost use Rattle.ledger_terms.specs.Lawful.{held_piece};
 ghost use Rattle.ledger_book.specs.Named.{named};
 
 use bench_base::ledger::Commit;

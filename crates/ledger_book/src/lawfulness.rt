@@ -2,7 +2,7 @@
 ghost use Rattle.std.specs.Prelude.{◌↔◌, ◌+◌, ◌<◌, length, take, reverse, IsTrue, IfOk};
 ghost use Rattle.bench_base.specs.Rules.{todays_rules};
 ghost use Rattle.bench_base.specs.Ledger.{counted};
-ghost use Rattle.ledger_lawful.specs.Lawful.{Always, LawfulAt, Lawful, Numbering, Debits, Refunds, Registers, Balances, Days};
+ghost use Rattle.ledger_terms.specs.Lawful.{Always, LawfulAt, Lawful, Numbering, Debits, Refunds, Registers, Balances, Days};
 
 use crate::clauses::{balances, days, debits, numbering, refunds, registers};
 use crate::counting::counted;

@@ -5,7 +5,7 @@ ghost use Rattle.bench_base.specs.Ledger.{Ledger, counted, IsReleased, IsRelease
 ghost use Rattle.bench_base.specs.Jobs.{Job, job_of, held_of};
 ghost use Rattle.ledger_terms.specs.Devices.{key_of};
 ghost use Rattle.ledger_terms.specs.Franking.{marked};
-ghost use Rattle.ledger_lawful.specs.Lawful.{held_piece, Always, Debits, Releases, AcceptedOnce, PrintedOnce, HeldOnce};
+ghost use Rattle.ledger_terms.specs.Lawful.{held_piece, Always, Debits, Releases, AcceptedOnce, PrintedOnce, HeldOnce};
 
 use crate::devices::key_of;
 use crate::franking::marked;

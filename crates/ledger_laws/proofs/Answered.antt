@@ -9,15 +9,15 @@ use Rattle.bench_base.specs.Ledger.{Ledger, day_in, counted}
 use Rattle.psd_wire.specs.declared.message.Message.{Message}
 use Rattle.psd_wire.specs.declared.message.Message.TheVariants as m
 use Rattle.ledger_moves.specs.Tariffs.{Tariff}
-use Rattle.ledger_lawful.specs.Editions.{Editions}
+use Rattle.ledger_terms.specs.Editions.{Editions}
 use Rattle.node_acts.specs.Plans.{Fails}
 use Rattle.ledger_moves.specs.Moves.{plan, Moves, OtherUp, FailsToRead}
 use Rattle.ledger_moves.specs.Histories.{Unforged, History}
-use Rattle.ledger_lawful.specs.Sane.{IsSane}
-use Rattle.ledger_lawful.specs.Further.{IsAddressed, SentAreRead, RepliesAreRuled}
-use Rattle.law_money.proofs.Money.{ruling_asked}
-use Rattle.law_money.proofs.Asked.{note_reads, applied_asked}
-use Rattle.law_good.proofs.Grown.{Inv, GenuineAs, genuine_at}
+use Rattle.ledger_terms.specs.Sane.{IsSane}
+use Rattle.ledger_terms.specs.Further.{IsAddressed, SentAreRead, RepliesAreRuled}
+use Rattle.ledger_laws.proofs.Money.{ruling_asked}
+use Rattle.ledger_laws.proofs.Asked.{note_reads, applied_asked}
+use Rattle.ledger_laws.proofs.Grown.{Inv, GenuineAs, genuine_at}
 use Rattle.ledger_laws.proofs.Histories.{histories, plan_ok, allows_same, carried_by}
 
 other_sane : (was x : Reply) (H : Ledger) → OtherUp was x H → IsSane x

@@ -12,7 +12,7 @@ use Rattle.bench_base.specs.Kinds.{same_kind, is_granted}
 use Rattle.bench_base.proofs.Facts.{some_by}
 use Rattle.ledger_terms.specs.Requests.{request_in}
 use Rattle.ledger_terms.specs.Centres.{enrolled, withdrawn}
-use Rattle.law_good.proofs.Good.{Good}
+use Rattle.ledger_laws.proofs.Good.{Good}
 use Rattle.ledger_laws.proofs.Lawfulness.{has_owner}
 
 no_enrolment : (k : Kind) → same_kind k Withdraw ≡ true → same_kind k Enrol ≡ false

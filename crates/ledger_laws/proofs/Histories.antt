@@ -34,22 +34,22 @@ use Rattle.node_acts.specs.Said.{said_plan}
 use Rattle.host_jobs.specs.Acts.{message_act}
 use Rattle.host_jobs.specs.Plans as host
 use Rattle.ledger_moves.specs.Tariffs.{Tariff, TextFault, NoToml, NoForm}
-use Rattle.ledger_lawful.specs.Editions.{IsCarried, Allows, Follows, Editions}
+use Rattle.ledger_terms.specs.Editions.{IsCarried, Allows, Follows, Editions}
 use Rattle.bench_base.specs.Events.{needs_day}
 use Rattle.bench_base.proofs.Facts.{ok_same}
 use Rattle.ledger_moves.specs.Moves
 use Rattle.ledger_moves.specs.Moves.{plan}
 use Rattle.ledger_moves.specs.Histories.{IsKnown, IsKnownMark, Unforged, History, nothing, begins, moves, earlier}
 use Rattle.bench_base.proofs.Rows.{chosen}
-use Rattle.law_good.proofs.Good.{Fits, Good}
-use Rattle.law_money.proofs.Money.{ruling_asked}
-use Rattle.law_money.proofs.Asked.{note_reads}
-use Rattle.law_plans.proofs.Lengths.{mark_behind, long_release}
-use Rattle.law_good.proofs.Grown.{Inv, IsCommand, GenuineAs, genuine_at, inv_none, inv_begin, inv_day, inv_rates, inv_down, inv_up}
-use Rattle.law_plans.proofs.Plans.{PlanOk, ok_refuse, ok_at, moved}
-use Rattle.law_device.proofs.DevicePlans.{ask_ok, debit_ok, ok_shown, make_ok, resend_ok, ack_ok, status_ok, device_ok}
-use Rattle.law_centre.proofs.CentrePlans.{register_ok, open_ok, flag_ok, balance_ok, deposit_ok, centre_ok, reconcile_ok}
-use Rattle.law_host.proofs.HostPlans.{order_ok, send_ok, host_ok, print_ok, close_ok, trust_ok, scan_ok}
+use Rattle.ledger_laws.proofs.Good.{Fits, Good}
+use Rattle.ledger_laws.proofs.Money.{ruling_asked}
+use Rattle.ledger_laws.proofs.Asked.{note_reads}
+use Rattle.ledger_laws.proofs.Lengths.{mark_behind, long_release}
+use Rattle.ledger_laws.proofs.Grown.{Inv, IsCommand, GenuineAs, genuine_at, inv_none, inv_begin, inv_day, inv_rates, inv_down, inv_up}
+use Rattle.ledger_laws.proofs.Plans.{PlanOk, ok_refuse, ok_at, moved}
+use Rattle.ledger_laws.proofs.DevicePlans.{ask_ok, debit_ok, ok_shown, make_ok, resend_ok, ack_ok, status_ok, device_ok}
+use Rattle.ledger_laws.proofs.CentrePlans.{register_ok, open_ok, flag_ok, balance_ok, deposit_ok, centre_ok, reconcile_ok}
+use Rattle.ledger_laws.proofs.HostPlans.{order_ok, send_ok, host_ok, print_ok, close_ok, trust_ok, scan_ok}
 
 pub message_sent : (k : ℕ) (bytes : List ℕ) (H : Ledger) → message k H ≡ Some bytes → IsSent bytes H
 message_sent k bytes [] h = absurd (none-some _ h)

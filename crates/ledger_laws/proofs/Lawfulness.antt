@@ -20,19 +20,19 @@ use Rattle.ledger_terms.specs.Devices.{asked, number, applied_of, pending}
 use Rattle.ledger_terms.specs.Centres.{ruled, deposits, stored_request}
 use Rattle.ledger_terms.specs.InFlight.{ruling_of}
 use Rattle.centre_ledger.specs.Records.{last_ruling}
-use Rattle.ledger_lawful.specs.Lawful.{Always, asks, Numbering, NextDebit, Totals, Refunds, AfterApplied, Accounts, Solvent, Days, AcceptedOnce, HeldOnce, held_piece, LawfulAt, Lawful}
-use Rattle.ledger_lawful.specs.Links.{Link}
-use Rattle.ledger_lawful.specs.Further.{HasOwner, NoImbalance, IsFitting}
-use Rattle.law_good.proofs.Good.{Good, Fits}
-use Rattle.law_money.proofs.Links.{link, waits, waits_none, waits_some, ruling_le, note_le, applied_le}
-use Rattle.law_money.proofs.Money.{Keeps, funds, account, applied_some, ruling_asked, last_is, last_some}
-use Rattle.law_money.proofs.Asked.{pending_asked, since_asked}
-use Rattle.law_money.proofs.Requests.{sane_here, some_if}
-use Rattle.law_money.proofs.Customers.{solvent}
-use Rattle.law_money.proofs.Owners.{owner}
-use Rattle.law_jobs.proofs.Jobs.{jobs}
-use Rattle.law_host.proofs.HostPlans.{good_before}
-use Rattle.law_good.proofs.Grown.{Inv, Told, NewestSure}
+use Rattle.ledger_terms.specs.Lawful.{Always, asks, Numbering, NextDebit, Totals, Refunds, AfterApplied, Accounts, Solvent, Days, AcceptedOnce, HeldOnce, held_piece, LawfulAt, Lawful}
+use Rattle.ledger_terms.specs.Links.{Link}
+use Rattle.ledger_terms.specs.Further.{HasOwner, NoImbalance, IsFitting}
+use Rattle.ledger_laws.proofs.Good.{Good, Fits}
+use Rattle.ledger_laws.proofs.Links.{link, waits, waits_none, waits_some, ruling_le, note_le, applied_le}
+use Rattle.ledger_laws.proofs.Money.{Keeps, funds, account, applied_some, ruling_asked, last_is, last_some}
+use Rattle.ledger_laws.proofs.Asked.{pending_asked, since_asked}
+use Rattle.ledger_laws.proofs.Requests.{sane_here, some_if}
+use Rattle.ledger_laws.proofs.Customers.{solvent}
+use Rattle.ledger_laws.proofs.Owners.{owner}
+use Rattle.ledger_laws.proofs.Jobs.{jobs}
+use Rattle.ledger_laws.proofs.HostPlans.{good_before}
+use Rattle.ledger_laws.proofs.Grown.{Inv, Told, NewestSure}
 
 not_reset : (k : Kind) → empties k ≡ true → same_kind k Reset ≡ false
 unfolding same_kind

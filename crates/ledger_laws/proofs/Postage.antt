@@ -13,12 +13,12 @@ use Rattle.bench_base.specs.Scans.{accepted}
 use Rattle.bench_base.proofs.Facts.{some_none, either, kept_first, none_if, first_of_some, found}
 use Rattle.ledger_terms.specs.Sums.{ascending, pieces}
 use Rattle.ledger_terms.specs.Franking.{marked}
-use Rattle.ledger_lawful.specs.Lawful.{Always}
-use Rattle.ledger_lawful.specs.Further.{postage_of, sum_of, accepted_postage, Paid}
-use Rattle.law_good.proofs.Good.{Good, Fits}
-use Rattle.law_good.proofs.Grown.{Inv, Told, Sure, NewestSure}
-use Rattle.law_money.proofs.Money.{account}
-use Rattle.law_host.proofs.HostPlans.{good_before}
+use Rattle.ledger_terms.specs.Lawful.{Always}
+use Rattle.ledger_terms.specs.Further.{postage_of, sum_of, accepted_postage, Paid}
+use Rattle.ledger_laws.proofs.Good.{Good, Fits}
+use Rattle.ledger_laws.proofs.Grown.{Inv, Told, Sure, NewestSure}
+use Rattle.ledger_laws.proofs.Money.{account}
+use Rattle.ledger_laws.proofs.HostPlans.{good_before}
 
 -- == what was accepted was debited before ==
 

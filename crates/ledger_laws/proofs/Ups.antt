@@ -12,7 +12,7 @@ use Rattle.bench_base.specs.Nodes.{node_of}
 use Rattle.bench_base.specs.Ranges.{IsNode, InRange}
 use Rattle.bench_base.specs.Ledger.{Ledger, day_in, is_on, count_of, torn_of, counted}
 use Rattle.ledger_moves.specs.Tariffs.{Tariff}
-use Rattle.ledger_lawful.specs.Editions.{Editions}
+use Rattle.ledger_terms.specs.Editions.{Editions}
 use Rattle.ledger_moves.specs.Moves.{plan, OtherUp}
 use Rattle.ledger_moves.specs.Histories.{History, moves}
 use Rattle.ledger_laws.proofs.Histories.{histories, allows_same, carried_by}

@@ -7,11 +7,11 @@ use Rattle.bench_base.specs.declared.events.Event.{Event}
 use Rattle.bench_base.specs.declared.events.Reply.{Reply}
 use Rattle.bench_base.specs.Rules.{Rules}
 use Rattle.bench_base.specs.Ledger.{Ledger, day_in, count_of, torn_of, counted}
-use Rattle.ledger_lawful.specs.Lawful.{Always, Lawful}
-use Rattle.ledger_lawful.specs.Links.{Link}
-use Rattle.ledger_lawful.specs.Sane.{IsSane}
-use Rattle.ledger_lawful.specs.Further.{HasOwner, NoImbalance, IsFitting, SentAreRead, RepliesAreRuled, Begins, IsCovered, Paid}
-use Rattle.ledger_lawful.specs.Editions.{Editions}
+use Rattle.ledger_terms.specs.Lawful.{Always, Lawful}
+use Rattle.ledger_terms.specs.Links.{Link}
+use Rattle.ledger_terms.specs.Sane.{IsSane}
+use Rattle.ledger_terms.specs.Further.{HasOwner, NoImbalance, IsFitting, SentAreRead, RepliesAreRuled, Begins, IsCovered, Paid}
+use Rattle.ledger_terms.specs.Editions.{Editions}
 use Rattle.ledger_moves.specs.Tariffs.{Tariff}
 use Rattle.ledger_moves.specs.Moves.{Moves}
 use Rattle.ledger_moves.specs.Histories.{Unforged, History}

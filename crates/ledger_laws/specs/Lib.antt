@@ -1,2 +1,6 @@
 -- Promised: public contracts name these.
 pub mod Laws
+-- Promised: public contracts name these.
+pub mod Places
+-- Promised: public contracts name these.
+pub mod Nexts

@@ -7,12 +7,12 @@ ghost use Rattle.bench_base.specs.Rules.{first_rules, editions};
 ghost use Rattle.bench_base.specs.Ranges.{IsWholeEvent, InRange};
 ghost use Rattle.bench_base.specs.Ledger.{Ledger, torn_of, counted};
 ghost use Rattle.ledger_terms.specs.Centres.{enrolled, withdrawn};
-ghost use Rattle.ledger_lawful.specs.Editions.{Editions};
+ghost use Rattle.ledger_terms.specs.Editions.{Editions};
 ghost use Rattle.ledger_moves.specs.Moves.{plan};
 ghost use Rattle.ledger_moves.specs.Histories.{Unforged, History};
 ghost use Rattle.ledger_moves.specs.Tariffs.{Tariff};
-ghost use Rattle.law_jobs.specs.Places.{CellsAddUp};
-ghost use Rattle.law_orders.specs.Nexts.{AreOrdered, IsNext, IsOpen};
+ghost use Rattle.ledger_laws.specs.Places.{PlacesAddUp, CellsAddUp};
+ghost use Rattle.ledger_laws.specs.Nexts.{AreOrdered, IsNext, IsOpen};
 ghost use Rattle.ledger_laws.specs.Laws.{ForHistories, Holds};
 
 /// What holds of every history, for every reading of rates and all editions of the rules of which each
@@ -58,4 +58,14 @@ pub fn counts()
 /// After every history a device that is withdrawn was enrolled.
 pub fn withdrawals()
     ensures { ForHistories (λ τ ρ ρs H. (d : ℕ) → withdrawn d (counted H) ≡ true → IsSome (enrolled d (counted H))) }
+{}
+
+/// What lies in the cells of a node adds up to its commits, in every list of commits:
+///
+/// - `places`: for each list that has the place of each of the node's commits, each place once;
+/// - `cells`: so for the cells of a device, of the centre, of the host and of the verifier, where each commit's numbers
+///   are in range.
+pub fn cells()
+    ensures places { PlacesAddUp }
+    ensures cells { (C : List Commit) → All InRange C → CellsAddUp C }
 {}

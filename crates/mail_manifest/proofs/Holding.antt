@@ -16,7 +16,7 @@ use Rattle.desk_runs.specs.Deeds.{Done, Skipped, Did}
 use Rattle.desk_runs.specs.SideDeeds.{SideDeed, Plain, Own, Broken, steps_in, steps_of}
 use Rattle.indicium.specs.declared.Mark.{Mark}
 use Rattle.indicium.specs.Marks.{read_mark}
-use Rattle.ledger_lawful.specs.Editions.{Editions}
+use Rattle.ledger_terms.specs.Editions.{Editions}
 use Rattle.ledger_moves.specs.Histories.{History}
 use Rattle.ledger_moves.specs.Tariffs.{Tariff}
 use Rattle.law_deeds.specs.Deeds.{AllMoved, IsAcceptedAs}

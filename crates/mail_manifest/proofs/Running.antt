@@ -3,7 +3,7 @@ use Rattle.std.proofs.Common.{◌≡◌, ℕ, List, [], ◌∷◌, ◌++◌, ◌
 use Rattle.std.specs.Io.KnownBytes.{IsAtEnd}
 use Rattle.bench_base.specs.declared.ledger.Entry.TheVariants.{Begin}
 use Rattle.bench_base.specs.Rules.{editions}
-use Rattle.ledger_lawful.specs.Editions.{Editions}
+use Rattle.ledger_terms.specs.Editions.{Editions}
 use Rattle.law_deeds.proofs.Going.{all_moved}
 use Rattle.bench.specs.Benches.{Nodes}
 use Rattle.line_runs.specs.declared.status.Status.TheVariants as status

@@ -8,7 +8,7 @@ use Rattle.desk_runs.specs.Deeds.{Done}
 use Rattle.desk_runs.specs.SideDeeds.{SideDeed, Own}
 use Rattle.indicium.specs.declared.Mark.{Mark}
 use Rattle.indicium.specs.Marks.{read_mark}
-use Rattle.ledger_lawful.specs.Further.{postage_of}
+use Rattle.ledger_terms.specs.Further.{postage_of}
 use Rattle.law_scans.specs.Acceptances.{IsOfPiece}
 use Rattle.mail_manifest.specs.Answers.{AreAnswered}
 use Rattle.mail_manifest.specs.Listings.{Listing, mark_at}

@@ -1,7 +1,7 @@
 //! The files of a run: NAME.script, NAME.report and NAME.rates, which is empty where it is missing, as the meter takes it.
 use crate::Fault;
 use bench_base::stream::IoSource;
-use read_ahead::ReadAhead;
+use text_streams::ReadAhead;
 use std::fs::{self, File};
 use std::io;
 

@@ -3,7 +3,7 @@ ghost use Rattle.std.specs.Prelude.{◌≤◌};
 
 use bench_base::stream::Source;
 use line_runs::lines::LineRead;
-use read_ahead::ReadAhead;
+use text_streams::ReadAhead;
 use script_text::is_skipped;
 use std::alloc::{AllocError, Global};
 use told_runs::read_line;

@@ -17,7 +17,7 @@ use nv_file::{FileNv, Starting, StoreFile};
 use nv_model::Fused;
 use nv_store::Room;
 use rates_file::RatesFile;
-use read_ahead::ReadAhead;
+use text_streams::ReadAhead;
 use script_replay::run::run;
 use script_replay::status::{SideStatus, Status};
 use script_text::read_words;

@@ -10,3 +10,5 @@ pub mod Kinds
 pub mod RowList
 -- Laws: lemmas that impls and clauses cite. They promise nothing.
 pub mod RowLaws
+-- Promised: public contracts name this.
+pub mod Changes

@@ -4,8 +4,12 @@
 
 mod act;
 mod asked;
+mod call;
+mod holds;
 mod said;
 
 pub use act::{Act, Outcome, Started};
 pub use asked::Asked;
+pub use call::{Call, Callee};
+pub use holds::Holds;
 pub use said::{GivenOut, Printed, Released, Said};

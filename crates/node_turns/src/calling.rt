@@ -16,7 +16,7 @@ use bench_base::events::Reply;
 use bench_base::ledger::{Commit, Entry};
 use bench_base::stream::Sink;
 use node_acts::{Act, GivenOut, Outcome, Printed};
-use node_calls::{Call, Callee};
+use node_acts::{Call, Callee};
 use node_seat::{Node, perform};
 use text_streams::print_mark;
 

@@ -1,6 +1,6 @@
 //! What a device lends to its calls.
 use crate::node::DeviceNode;
-use node_records::{DeviceState, StateOf};
+use psd_state::{DeviceState, StateOf};
 use nv_model::Nv;
 
 impl<N: Nv> StateOf for DeviceNode<N> {

@@ -11,6 +11,7 @@ mod parts;
 mod payload;
 mod ready_record;
 mod record;
+mod state_of;
 mod words;
 
 pub use acts::{DeviceAct, Franked, Taken};
@@ -19,3 +20,4 @@ pub use debiting::Debited;
 pub use laws::{one_payload, record_follows_the_commits};
 pub use ready_record::{ReadyRecord, keep, ready};
 pub use record::DevRec;
+pub use state_of::{DeviceState, StateOf};

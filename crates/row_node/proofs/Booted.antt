@@ -6,8 +6,8 @@ use Rattle.nv_store.specs.RoomView.{cells_of, kept_in}
 use Rattle.nv_store.specs.Rooms.{RoomRuns}
 use Rattle.nv_store.specs.TableKnows.{table_only}
 use Rattle.nv_store.specs.declared.room.Room.{Room}
-use Rattle.row_table.specs.Shows.{HasMixedCell, HasForeignCell, BreaksTogether}
-use Rattle.row_table.specs.Kept.{foreign_shown, seen_by, seen_long, seen_shown}
+use Rattle.row_node.specs.Shows.{HasMixedCell, HasForeignCell, BreaksTogether}
+use Rattle.row_node.specs.Kept.{foreign_shown, seen_by, seen_long, seen_shown}
 use Rattle.row_node.specs.Tables.{Table, IsDamaged}
 use Rattle.row_node.specs.Boots.{HoldNone}
 

@@ -14,7 +14,7 @@ use Rattle.node_acts.specs.RowList.{RowList, is_worn}
 use Rattle.node_seat.specs.Does.{Commits, Stores, Spends, Writes}
 use Rattle.node_seat.specs.Ends.{begins, end_of_commit, leaves_running}
 use Rattle.node_seat.proofs.Fails.{ends_running, spent_failed, writes_as}
-use Rattle.row_table.specs.Kept.{seen_fills, still_filled, seen_put, between_seen}
+use Rattle.row_node.specs.Kept.{seen_fills, still_filled, seen_put, between_seen}
 use Rattle.row_node.specs.Tables.{Table, Filled, Keeps, IsShown, counting, fill_of, seen_of}
 use Rattle.row_node.specs.Laws.{Laws, IsBlank, IsNext, IsCommitted, Takes}
 use Rattle.row_node.proofs.Worn.{full}

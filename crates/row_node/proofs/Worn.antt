@@ -6,7 +6,7 @@ use Rattle.nv_store.specs.Slot.{Held}
 use Rattle.nv_store.specs.Store.{count_of}
 use Rattle.node_acts.specs.RowList.{RowList, row_at, commits_at, is_worn}
 use Rattle.node_acts.specs.RowLaws.{worn_is}
-use Rattle.row_table.specs.Kept.{seen_count}
+use Rattle.row_node.specs.Kept.{seen_count}
 use Rattle.row_node.specs.Tables.{Table, Keeps, seen_of}
 
 module _ {S X : Type 0} {t : Table S X} {m : S} {held : ℕ → Option Held} (keeps : Keeps t m held) (cell : ℕ) (inside : cell < t.cells) where

@@ -6,7 +6,7 @@ use Rattle.nv_model.specs.Moments.{Image}
 use Rattle.nv_store.specs.Slot.{Held}
 use Rattle.nv_store.specs.Store.{count_of}
 use Rattle.node_acts.specs.RowList.{RowList}
-use Rattle.row_table.specs.Kept.{AreFilled, HoldsForeign, seen_by}
+use Rattle.row_node.specs.Kept.{AreFilled, HoldsForeign, seen_by}
 use Rattle.row_node.specs.Tables.{Table, IsShown, Keeps}
 
 module _ {S X : Type 0} (t : Table S X) where

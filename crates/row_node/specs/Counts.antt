@@ -7,7 +7,7 @@ use Rattle.bench_base.proofs.Facts.{few_more}
 use Rattle.nv_store.specs.Slot.{Held}
 use Rattle.node_acts.specs.RowList.{RowList, row_at, commits_at, is_worn, put}
 use Rattle.node_acts.specs.RowLaws.{put_here, put_other}
-use Rattle.row_table.specs.Kept.{seen_long, seen_count}
+use Rattle.row_node.specs.Kept.{seen_long, seen_count}
 use Rattle.row_node.specs.Tables.{Table, seen_of}
 use Rattle.row_node.specs.Boots.{Found}
 

@@ -5,7 +5,7 @@ use Rattle.nv_model.specs.Moments.{Image, Only}
 use Rattle.nv_store.specs.RoomView.{cells_of}
 use Rattle.nv_store.specs.Store.{Shows, OnlyShows}
 use Rattle.nv_store.specs.TableKnows.{table_only}
-use Rattle.row_table.specs.Kept.{seen_shown}
+use Rattle.row_node.specs.Kept.{seen_shown}
 use Rattle.row_node.specs.Tables.{IsShown, Keeps, bytes_of}
 use Rattle.row_node.specs.NodeView.{storage_in, held_in, seen_in, is_on}
 use Rattle.row_node.specs.declared.cells.Cells as cells

@@ -4,7 +4,7 @@ use Rattle.nv_store.specs.declared.TheConstants.{MOST_BYTES}
 use Rattle.nv_store.specs.Slot.{Held}
 use Rattle.nv_store.specs.Store.{after_commit}
 use Rattle.node_acts.specs.RowList.{RowList}
-use Rattle.row_table.specs.ShowsLaws.{ReadsOne}
+use Rattle.row_node.specs.ShowsLaws.{ReadsOne}
 use Rattle.row_node.specs.Tables.{Table, Keeps, seen_of, counting}
 use Rattle.row_node.specs.Boots.{Found}
 

@@ -3,7 +3,7 @@ use Rattle.std.proofs.Common.{◌≡◌, ℕ, ◌+◌, List, arith}
 use Rattle.nv_model.specs.declared.nv.Nv.{Ghosts}
 use Rattle.node_acts.specs.RowList.{RowList}
 use Rattle.node_acts.specs.RowLaws.{put_counts}
-use Rattle.row_table.specs.ShowsLaws as table
+use Rattle.row_node.specs.ShowsLaws as table
 use Rattle.row_node.specs.Tables.{Table, IsShown, IsDamaged, bytes_of, counting}
 use Rattle.row_node.specs.Laws.{Laws}
 

@@ -5,8 +5,8 @@ use Rattle.nv_store.specs.Slot.{Held}
 use Rattle.nv_store.specs.Fills.{Fill}
 use Rattle.node_acts.specs.RowList.{RowList, commits_in, is_worn, put}
 use Rattle.node_acts.specs.Views.{Counting}
-use Rattle.row_table.specs.Shows.{ShowsRows, IsDamagedTable, row_fill}
-use Rattle.row_table.specs.Kept.{AreFilled, seen_by}
+use Rattle.row_node.specs.Shows.{ShowsRows, IsDamagedTable, row_fill}
+use Rattle.row_node.specs.Kept.{AreFilled, seen_by}
 
 -- S is what the node keeps beside the memory of its cells, and X a change of a row
 pub record Table (S X : Type 0) : Type 1 where

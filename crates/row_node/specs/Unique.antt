@@ -2,7 +2,7 @@
 use Rattle.std.proofs.Common.{ℕ, Option}
 use Rattle.std.proofs.Props.{props}
 use Rattle.nv_store.specs.Slot.{Held}
-use Rattle.row_table.specs.Kept.{IsFilled, filled_prop}
+use Rattle.row_node.specs.Kept.{IsFilled, filled_prop}
 use Rattle.row_node.specs.Tables.{Table, Filled}
 
 module _ {S X : Type 0} (t : Table S X) (m : S) (held : ℕ → Option Held) where

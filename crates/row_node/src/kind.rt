@@ -8,7 +8,7 @@ use crate::node::RowNode;
 use crate::room::RowRoom;
 use crate::rows::Rows;
 use bench_base::refusals::{BootFail, StoreFail};
-use node_calls::Holds;
+use node_acts::Holds;
 use node_seat::{Arms, Node};
 use nv_model::{Fuse, Nv, NvFail};
 

@@ -9,9 +9,9 @@ use Rattle.nv_store.specs.Store.{Shows, OnlyShows}
 use Rattle.nv_store.specs.declared.causes.MountCause.{MountCause}
 use Rattle.nv_store.specs.declared.causes.MountCause.TheVariants as mount
 use Rattle.node_acts.specs.RowList.{RowList}
-use Rattle.row_table.specs.Kept.{HoldsForeign, seen_shown, seen_long, foreign_shown}
-use Rattle.row_table.specs.Shows.{ShowsRows, IsDamagedTable}
-use Rattle.row_table.specs.ShowsLaws.{ReadsOne, intact}
+use Rattle.row_node.specs.Kept.{HoldsForeign, seen_shown, seen_long, foreign_shown}
+use Rattle.row_node.specs.Shows.{ShowsRows, IsDamagedTable}
+use Rattle.row_node.specs.ShowsLaws.{ReadsOne, intact}
 use Rattle.row_store.specs.Boots.{boot_fail}
 use Rattle.row_store.specs.Seen.{ReadsAs, AllRead, row_held, seen_in}
 use Rattle.row_store.proofs.Kept.{filled_of}

@@ -13,8 +13,8 @@ use Rattle.nv_store.specs.Store.{Between, after_commit, count_of, payload_of}
 use Rattle.nv_store.specs.declared.room.Room.{Room}
 use Rattle.node_acts.specs.RowList.{row_at, row_of, commits_at, is_worn, put}
 use Rattle.node_acts.specs.RowLaws.{listed_same, worn_is}
-use Rattle.row_table.specs.Kept.{IsFilled, AreFilled, with_count, seen_row, seen_count, seen_put, between_seen}
-use Rattle.row_table.specs.Shows.{ShowsRows}
+use Rattle.row_node.specs.Kept.{IsFilled, AreFilled, with_count, seen_row, seen_count, seen_put, between_seen}
+use Rattle.row_node.specs.Shows.{ShowsRows}
 use Rattle.row_store.specs.Seen.{ReadsAs, row_held, IsRead, AllRead, seen_in}
 use Rattle.row_store.specs.Commits.{RowView, CommitsRow}
 

@@ -7,7 +7,7 @@ use Rattle.nv_model.specs.Meters.{Meters, WasCut, Uses}
 use Rattle.nv_model.specs.Moments.{Times, Elapses}
 use Rattle.nv_store.specs.Slot.{Held}
 use Rattle.node_acts.specs.RowList.{RowList, is_worn, put}
-use Rattle.row_table.specs.Shows.{ShowsRows}
+use Rattle.row_node.specs.Shows.{ShowsRows}
 use Rattle.row_store.specs.Seen.{ReadsAs, seen_in}
 
 -- cells as contracts see them: what is kept of each, and their storage

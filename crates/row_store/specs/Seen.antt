@@ -3,7 +3,7 @@ use Rattle.std.specs.Prelude.{◌≡◌, ℕ, ◌<◌, List, Option, Some, None,
 use Rattle.std.proofs.Props.{props}
 use Rattle.nv_store.specs.Slot.{Held}
 use Rattle.node_acts.specs.RowList.{RowList}
-use Rattle.row_table.specs.Kept.{seen_by}
+use Rattle.row_node.specs.Kept.{seen_by}
 
 module _ {R : Type 0} (row : ℕ → List ℕ → Option R) where
   abbrev pub ReadsAs : ℕ → R → List ℕ → Type 0

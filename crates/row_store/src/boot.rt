@@ -5,8 +5,8 @@ ghost use Rattle.nv_store.specs.declared.TheConstants.{MOST_BYTES};
 ghost use Rattle.nv_store.specs.Mounts.{Mounts};
 ghost use Rattle.nv_store.specs.RoomView.{cells_of, kept_in};
 ghost use Rattle.nv_store.specs.Rooms.{RoomRuns};
-ghost use Rattle.row_table.specs.Kept.{HoldsForeign};
-ghost use Rattle.row_table.specs.Shows.{ShowsRows, IsDamagedTable};
+ghost use Rattle.row_node.specs.Kept.{HoldsForeign};
+ghost use Rattle.row_node.specs.Shows.{ShowsRows, IsDamagedTable};
 ghost use Rattle.row_store.specs.Seen.{IsRead, AllRead, ReadsAs, seen_in};
 ghost use Rattle.row_store.specs.Boots.{boot_fail, fail_in, BootCauses};
 

@@ -2,7 +2,7 @@
 use Rattle.std.proofs.Common.{List, [], ◌∷◌}
 use Rattle.bench_base.specs.Ledger.{Ledger}
 use Rattle.bench_base.specs.Rules.{todays_rules, editions}
-use Rattle.ledger_lawful.specs.Editions.{Editions}
+use Rattle.ledger_terms.specs.Editions.{Editions}
 use Rattle.ledger_laws.specs.Laws.{ForHistories, Holds}
 use Rattle.ledger_moves.specs.Tariffs.{Tariff}
 use Rattle.ledger_moves.specs.Histories.{History}

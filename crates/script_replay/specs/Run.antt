@@ -7,8 +7,8 @@ use Rattle.bench_base.specs.Rules.{todays_rules}
 use Rattle.bench_base.specs.declared.events.Event.{Event}
 use Rattle.bench_base.specs.declared.events.Event.TheVariants as ev
 use Rattle.node_turns.specs.Printing.{print_of}
-use Rattle.ledger_lawful.specs.Sane.{IsSane}
-use Rattle.ledger_lawful.specs.Lawful.{Lawful}
+use Rattle.ledger_terms.specs.Sane.{IsSane}
+use Rattle.ledger_terms.specs.Lawful.{Lawful}
 use Rattle.ledger_moves.specs.Tariffs.{Tariff}
 use Rattle.ledger_moves.specs.Moves as moves
 use Rattle.ledger_moves.specs.Moves.{plan}

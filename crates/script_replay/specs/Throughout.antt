@@ -4,8 +4,8 @@ use Rattle.std.specs.Prelude.{ℕ, List, [], ◌∷◌}
 use Rattle.bench_base.specs.declared.ledger.Entry.TheVariants.{Begin}
 use Rattle.bench_base.specs.Ledger.{Ledger, counted}
 use Rattle.bench_base.specs.Rules.{todays_rules, editions}
-use Rattle.ledger_lawful.specs.Further.{Paid}
-use Rattle.ledger_lawful.specs.Lawful.{Always, Lawful}
+use Rattle.ledger_terms.specs.Further.{Paid}
+use Rattle.ledger_terms.specs.Lawful.{Always, Lawful}
 use Rattle.ledger_moves.specs.Tariffs.{Tariff}
 use Rattle.ledger_moves.specs.Histories.{History, Unforged}
 use Rattle.bench.specs.Benches.{Nodes, BenchOf, Stands}

@@ -9,8 +9,8 @@ use Rattle.bench_base.specs.Scans.{accepted}
 use Rattle.indicium.specs.declared.Mark.{Mark}
 use Rattle.indicium.specs.Marks.{read_mark}
 use Rattle.node_acts.specs.RowList.{row_at, row_of}
-use Rattle.ledger_lawful.specs.Editions.{Editions}
-use Rattle.ledger_lawful.specs.Further.{postage_of}
+use Rattle.ledger_terms.specs.Editions.{Editions}
+use Rattle.ledger_terms.specs.Further.{postage_of}
 use Rattle.ledger_moves.specs.Histories.{History}
 use Rattle.ledger_moves.specs.Tariffs.{Tariff}
 use Rattle.law_scans.proofs.Marked.{released_postage, one_number}

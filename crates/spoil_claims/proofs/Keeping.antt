@@ -9,7 +9,7 @@ use Rattle.nv_store.specs.Slot.{Held}
 use Rattle.nv_store.specs.Store.{payload_of}
 use Rattle.node_acts.specs.RowList.{row_of, put}
 use Rattle.node_acts.specs.RowLaws.{put_here, put_other}
-use Rattle.row_table.specs.Kept.{seen_long}
+use Rattle.row_node.specs.Kept.{seen_long}
 use Rattle.row_store.specs.Seen.{ReadsAs, row_held, AllRead, seen_in}
 use Rattle.row_store.proofs.Kept.{row_read, some_held}
 use Rattle.spoil_claims.specs.Claims.{Claims, claim_at, kept, HasNoGaps, one_in, last_claim, credit_of, credits}

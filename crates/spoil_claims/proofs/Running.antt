@@ -10,7 +10,7 @@ use Rattle.script_replay.specs.Deeds.{ledger_after, RunWhile, AreUnforged}
 use Rattle.std.specs.List.{AllByRecursion}
 use Rattle.bench_base.specs.Rules.{editions}
 use Rattle.nv_model.specs.declared.nv.Nv as nv
-use Rattle.ledger_lawful.specs.Editions.{Editions}
+use Rattle.ledger_terms.specs.Editions.{Editions}
 use Rattle.bench.specs.Benches.{Nodes}
 use Rattle.line_runs.specs.Deeds.{Lines, Reads}
 use Rattle.line_runs.specs.declared.status.Status.TheVariants as status
@@ -27,8 +27,8 @@ use Rattle.spoil_claims.specs.Claims.{Claims}
 use Rattle.spoil_claims.specs.ClaimsDesk.{claims_desk}
 use Rattle.spoil_claims.specs.Ran.{DidClaims}
 use Rattle.spoil_claims.specs.Holds.{AreBacked}
-use Rattle.desk_stops.specs.Stops.{HasBroken}
-use Rattle.desk_stops.proofs.Lines.{AtLast}
+use Rattle.desk_runs.specs.Stops.{HasBroken}
+use Rattle.desk_runs.proofs.Lines.{AtLast}
 use Rattle.spoil_claims.specs.Storage.{with_torn, LeavesStorage}
 use Rattle.spoil_claims.specs.View.{has_failed, rows_of}
 use Rattle.spoil_claims.specs.declared.claim.ClaimLine.{ClaimLine}

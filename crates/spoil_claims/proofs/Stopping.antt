@@ -12,8 +12,8 @@ use Rattle.nv_store.specs.RoomView.{cells_of, kept_in}
 use Rattle.nv_store.specs.TableKnows.{table_only}
 use Rattle.node_acts.specs.RowList.{put}
 use Rattle.node_turns.specs.declared.turn.Turn.{Turn}
-use Rattle.row_table.specs.Kept.{seen_shown}
-use Rattle.row_table.specs.Shows.{ShowsRows}
+use Rattle.row_node.specs.Kept.{seen_shown}
+use Rattle.row_node.specs.Shows.{ShowsRows}
 use Rattle.row_store.specs.Commits.{CommitsRow}
 use Rattle.row_store.specs.Seen.{ReadsAs, row_held}
 use Rattle.row_store.proofs.Kept.{filled_of}
@@ -23,9 +23,9 @@ use Rattle.desk_runs.specs.SideDeeds.{SideDeed, Plain, Own, Broken, steps_in, st
 use Rattle.desk_runs.specs.Wants.{IsStep}
 use Rattle.desk_runs.specs.declared.desk.Next.{Next}
 use Rattle.desk_runs.specs.declared.desk.Next.TheVariants.{Say, Stop}
-use Rattle.desk_stops.specs.Stops.{HasBroken, RowCommit}
-use Rattle.desk_stops.proofs.Stores as stores
-use Rattle.desk_stops.proofs.Lines.{BrokenLast}
+use Rattle.desk_runs.specs.Stops.{HasBroken, RowCommit}
+use Rattle.desk_runs.proofs.Stores as stores
+use Rattle.desk_runs.proofs.Lines.{BrokenLast}
 use Rattle.spoil_claims.specs.Answers.{IsCutCredit}
 use Rattle.spoil_claims.specs.Claims.{Claims, kept, last_claim, credits}
 use Rattle.spoil_claims.specs.ClaimsDesk.{claims_desk}

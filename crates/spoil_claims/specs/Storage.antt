@@ -7,11 +7,11 @@ use Rattle.nv_model.specs.declared.nv.Nv.{Ghosts}
 use Rattle.line_runs.specs.declared.status.SideStatus.{SideStatus}
 use Rattle.line_runs.specs.declared.status.SideStatus.TheVariants.{Stopped}
 use Rattle.desk_runs.specs.SideDeeds.{SideDeed}
-use Rattle.desk_stops.specs.Stops as stops
-use Rattle.desk_stops.specs.Stops.{HasBroken}
+use Rattle.desk_runs.specs.Stops as stops
+use Rattle.desk_runs.specs.Stops.{HasBroken}
 use Rattle.node_acts.specs.RowList.{put}
 use Rattle.row_store.specs.Seen.{ReadsAs}
-use Rattle.row_table.specs.Shows.{ShowsRows}
+use Rattle.row_node.specs.Shows.{ShowsRows}
 use Rattle.spoil_claims.specs.Claims.{Claims}
 use Rattle.spoil_claims.specs.Payload.{decoded}
 use Rattle.spoil_claims.specs.View.{storage_of, has_failed, rows_of, view_of}

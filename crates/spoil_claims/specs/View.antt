@@ -3,7 +3,7 @@ use Rattle.std.specs.Prelude.{◌≡◌, Bool}
 use Rattle.nv_model.specs.declared.nv.Nv.{Ghosts}
 use Rattle.nv_store.specs.RoomView.{cells_of, kept_in}
 use Rattle.row_store.specs.Commits.{RowView}
-use Rattle.desk_stops.specs.Stops.{DeskView}
+use Rattle.desk_runs.specs.Stops.{DeskView}
 use Rattle.row_store.specs.Seen.{seen_in}
 use Rattle.spoil_claims.specs.Claims.{Claims}
 use Rattle.spoil_claims.specs.Payload.{decoded}

@@ -5,7 +5,7 @@ ghost use Rattle.nv_store.specs.Mounts.{Mounts};
 ghost use Rattle.nv_store.specs.RoomView.{cells_of};
 ghost use Rattle.row_store.specs.Boots.{BootCauses};
 ghost use Rattle.row_store.specs.Seen.{ReadsAs};
-ghost use Rattle.row_table.specs.Shows.{ShowsRows, IsDamagedTable};
+ghost use Rattle.row_node.specs.Shows.{ShowsRows, IsDamagedTable};
 ghost use Rattle.spoil_claims.specs.Claims.{HasNoGaps};
 ghost use Rattle.spoil_claims.specs.Payload.{decoded};
 ghost use Rattle.spoil_claims.specs.View.{storage_of, has_failed, rows_of};

@@ -4,7 +4,7 @@ ghost use Rattle.bench_base.specs.Ledger.{Ledger};
 ghost use Rattle.law_scans.specs.Acceptances.{EachAccepted};
 ghost use Rattle.spoil_claims.specs.Claims.{Claims, kept};
 ghost use Rattle.row_store.specs.Seen.{ReadsAs};
-ghost use Rattle.row_table.specs.Shows.{ShowsRows};
+ghost use Rattle.row_node.specs.Shows.{ShowsRows};
 ghost use Rattle.spoil_claims.specs.Holds.{AreBacked};
 ghost use Rattle.spoil_claims.specs.Payload.{decoded};
 ghost use Rattle.spoil_claims.specs.declared.claim.TheConstants.{CLAIM_CELLS};

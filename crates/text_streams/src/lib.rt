@@ -1,8 +1,10 @@
-//! Whole texts into sinks and out of sources, which take and give their bytes in pieces of any size.
+//! Whole texts into sinks and out of sources, which take and give their bytes in pieces of any size; and a source that reads ahead of another.
 #![tactic(auto)]
 
+mod ahead;
 mod reading;
 mod writing;
 
+pub use ahead::{Piece, ReadAhead};
 pub use reading::{TakeFail, take_text};
 pub use writing::{print_mark, put_text};

@@ -22,7 +22,7 @@ use bench_views::laws::nodes_follow;
 use bench_views::{BalanceCall, CentreCall, DeviceCall};
 use centre_ledger::{CustomerRow, DeviceRow, standing_act};
 use node_acts::{Act, Said};
-use node_records::JobsOf;
+use host_jobs::JobsOf;
 use psd_state::{DevRec, ReadyRecord};
 use told_centre::{CentreRecord, centre_act};
 use told_device::{DeviceRecord, device_act, is_known};

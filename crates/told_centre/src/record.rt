@@ -8,8 +8,8 @@ ghost use Rattle.told_centre.specs.Records.{AreKept, IsFit};
 
 use bench_base::sizes::MOST_COMMITS;
 use centre_ledger::{Accounts, Row};
-use node_calls::Holds;
-use node_records::BooksOf;
+use node_acts::Holds;
+use centre_ledger::BooksOf;
 use told_nodes::Record;
 
 /// How many cells the centre has.

@@ -14,7 +14,7 @@ use bench_views::HostCall;
 use bench_views::laws::host_follows;
 use host_jobs::{JobRow, acts_follow_the_commits};
 use node_acts::Asked;
-use node_records::JobsOf;
+use host_jobs::JobsOf;
 use told_nodes::{Seat, Told, judge_cut, judge_off, judge_on, judge_printing, unprinted};
 
 // A record is one that storage can show.

@@ -9,8 +9,8 @@ ghost use Rattle.told_host.specs.Records.{AreJoined, IsFit};
 
 use bench_base::sizes::MOST_COMMITS;
 use host_jobs::{HOST_CELLS, JobRow, JobRows, Kept};
-use node_calls::Holds;
-use node_records::JobsOf;
+use node_acts::Holds;
+use host_jobs::JobsOf;
 use std::alloc::{AllocError, Global};
 use told_nodes::Record;
 

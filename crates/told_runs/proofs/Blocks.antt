@@ -10,8 +10,8 @@ use Rattle.line_runs.specs.declared.lines.LineRead.{LineRead}
 use Rattle.line_runs.specs.declared.lines.LineRead.TheVariants as read
 use Rattle.line_runs.specs.Lines.{IsOneLine, ReadsLine}
 use Rattle.line_runs.proofs.Held.{Held, Without-push}
-use Rattle.read_ahead.specs.Pieces.{GivesPiece}
-use Rattle.read_ahead.specs.declared.Piece.{Piece}
+use Rattle.text_streams.specs.Pieces.{GivesPiece}
+use Rattle.text_streams.specs.declared.ahead.Piece.{Piece}
 use Rattle.told_runs.specs.Reads.{ReadsFull}
 use Rattle.told_runs.proofs.Comparing.{from_all}
 

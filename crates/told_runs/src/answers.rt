@@ -19,7 +19,7 @@ use bench_base::events::Event;
 use bench_base::stream::Source;
 use desk_runs::ended_by;
 use line_runs::lines::LineRead;
-use read_ahead::ReadAhead;
+use text_streams::ReadAhead;
 use script_text::laws::one_reply;
 use std::alloc::Global;
 use told_bench::{Auditor, Finding, index, is_forged, judge};

@@ -14,7 +14,7 @@ use crate::reading::read_line;
 use crate::verdict::{Ending, Input, Verdict};
 use bench_base::stream::Source;
 use line_runs::lines::LineRead;
-use read_ahead::ReadAhead;
+use text_streams::ReadAhead;
 use script_text::{is_skipped, read_event};
 use std::alloc::Global;
 use told_bench::Auditor;

@@ -11,7 +11,7 @@ use crate::reading::read_line;
 use crate::verdict::{Ending, Input, Verdict};
 use bench_base::stream::Source;
 use line_runs::lines::LineRead;
-use read_ahead::ReadAhead;
+use text_streams::ReadAhead;
 
 /// The most lines of a script that are looked at.
 pub const LINES: u32 = 1_000_000;

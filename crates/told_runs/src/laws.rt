@@ -3,7 +3,7 @@ ghost use Rattle.std.specs.Prelude.{◌≡◌, ℕ, List, ◌∷◌, Option, Som
 ghost use Rattle.bench_base.specs.declared.ledger.Entry.TheVariants.{Begin};
 ghost use Rattle.bench_base.specs.Ledger.{Ledger};
 ghost use Rattle.bench_base.specs.Rules.{todays_rules, editions};
-ghost use Rattle.ledger_lawful.specs.Lawful.{Lawful};
+ghost use Rattle.ledger_terms.specs.Lawful.{Lawful};
 ghost use Rattle.ledger_moves.specs.Tariffs.{Tariff};
 ghost use Rattle.ledger_moves.specs.Histories.{History};
 ghost use Rattle.desk_runs.specs.Deeds.{Done};

@@ -7,7 +7,7 @@ ghost use Rattle.told_runs.specs.Reads.{ReadsFull};
 
 use bench_base::stream::Source;
 use line_runs::lines::{LONGEST, LineRead, next_byte};
-use read_ahead::ReadAhead;
+use text_streams::ReadAhead;
 
 // What stands behind 600 bytes of a line.
 fn behind_full<S: Source>(source: &mut ReadAhead<S>) -> LineRead

@@ -4,7 +4,7 @@ ghost use Rattle.told_bench.specs.Seeing.{IsReady, audit_of};
 use crate::{Ending, Imprint, Input, Taken, Verdict, audit_run};
 use bench_base::events::Reply;
 use bench_base::memory::MemSource;
-use read_ahead::ReadAhead;
+use text_streams::ReadAhead;
 use script_text::{Line, put_reply};
 use std::alloc::{AllocError, Global};
 use std::process::Abort;

@@ -6,6 +6,7 @@ mod index;
 mod keys;
 mod laws;
 mod payload;
+mod rows_of;
 mod scans;
 
 pub use acts::{Accepted, Change, ScanAct, Spot, scan_act, trust_act};
@@ -15,4 +16,5 @@ pub use laws::{acts_follow_the_commits, one_row};
 pub use payload::{
     accept_payload, block_in, key_in, read_block, read_trust, scan_in, trust_payload,
 };
+pub use rows_of::RowsOf;
 pub use scans::scan;

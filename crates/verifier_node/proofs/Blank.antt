@@ -3,7 +3,7 @@ use Rattle.std.proofs.Common.{◌≡◌, ℕ, List, [], option_map, Option, None
 use Rattle.bench_base.specs.declared.sizes.TheConstants.{FIRST_BLOCK}
 use Rattle.nv_store.specs.Slot.{Held}
 use Rattle.nv_store.specs.Store.{payload_of}
-use Rattle.row_table.specs.Kept.{IsFilled}
+use Rattle.row_node.specs.Kept.{IsFilled}
 use Rattle.verifier.specs.declared.index.Entry.{Entry}
 use Rattle.verifier.specs.Payload.{IsPayloadOf, row_of as row_from}
 use Rattle.verifier_node.specs.Payloads.{HoldRows}

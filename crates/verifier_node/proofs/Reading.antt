@@ -8,7 +8,7 @@ use Rattle.bench_base.proofs.Facts.{some_none}
 use Rattle.node_acts.specs.RowList.{row_at}
 use Rattle.nv_store.specs.Slot.{Held}
 use Rattle.nv_store.specs.Store.{count_of, payload_of}
-use Rattle.row_table.specs.Kept.{IsFilled, with_count, seen_at}
+use Rattle.row_node.specs.Kept.{IsFilled, with_count, seen_at}
 use Rattle.verifier.specs.declared.acts.Change.TheVariants as change
 use Rattle.verifier.specs.ActLaws.{IsFit}
 use Rattle.verifier.specs.Payload.{block_bytes, word_at, key_of, scans_of, scans_before, no_scans, row_of, RowReadsAs, IsPayloadOf}

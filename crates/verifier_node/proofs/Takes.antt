@@ -5,7 +5,7 @@ use Rattle.bench_base.specs.declared.sizes.TheConstants.{VERIFIER_CELLS}
 use Rattle.nv_store.specs.Slot.{Held}
 use Rattle.nv_store.specs.Store.{payload_of}
 use Rattle.node_acts.specs.RowList.{row_at}
-use Rattle.row_table.specs.Kept.{seen_put}
+use Rattle.row_node.specs.Kept.{seen_put}
 use Rattle.row_node.specs.Tables.{Filled, Keeps}
 use Rattle.row_node.specs.Laws.{IsNext, IsCommitted, Takes}
 use Rattle.verifier.specs.declared.acts.Change.{Change}

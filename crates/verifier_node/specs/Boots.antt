@@ -4,7 +4,7 @@ use Rattle.bench_base.specs.declared.sizes.TheConstants.{MOST_COMMITS, VERIFIER_
 use Rattle.nv_store.specs.Slot.{Held}
 use Rattle.nv_store.specs.Store.{count_of}
 use Rattle.node_acts.specs.RowList.{row_at}
-use Rattle.row_table.specs.Kept.{IsFilled, HoldsForeign}
+use Rattle.row_node.specs.Kept.{IsFilled, HoldsForeign}
 use Rattle.verifier.specs.declared.index.Entry.{Entry}
 use Rattle.verifier.specs.Index.{cell_in, IsIndexOf}
 use Rattle.verifier.specs.Payload.{IsPayloadOf}

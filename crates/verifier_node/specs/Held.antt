@@ -5,7 +5,7 @@ use Rattle.std.proofs.lemmas.List.{get_or_past}
 use Rattle.bench_base.specs.declared.sizes.TheConstants.{VERIFIER_CELLS}
 use Rattle.node_acts.specs.RowList.{row_of}
 use Rattle.nv_store.specs.Slot.{Held}
-use Rattle.row_table.specs.Kept.{IsFilled, seen_long, seen_row}
+use Rattle.row_node.specs.Kept.{IsFilled, seen_long, seen_row}
 use Rattle.verifier.specs.Payload.{IsPayloadOf}
 use Rattle.verifier.specs.Rows.{Row}
 use Rattle.verifier.specs.Seen.{AreTogether, AreSound, IsRowAt, row_in}

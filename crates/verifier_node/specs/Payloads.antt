@@ -4,8 +4,8 @@ use Rattle.bench_base.specs.declared.sizes.TheConstants.{BLOCK_BYTES, VERIFIER_C
 use Rattle.nv_model.specs.declared.nv.Nv.{Ghosts}
 use Rattle.nv_store.specs.Slot.{Held}
 use Rattle.nv_store.specs.Store.{payload_of}
-use Rattle.row_table.specs.Shows.{IsDamagedTable}
-use Rattle.row_table.specs.Kept.{AreFilled, seen_by}
+use Rattle.row_node.specs.Shows.{IsDamagedTable}
+use Rattle.row_node.specs.Kept.{AreFilled, seen_by}
 use Rattle.verifier.specs.Payload.{IsPayloadOf, row_of}
 use Rattle.verifier.specs.Rows.{Row}
 use Rattle.verifier.specs.Seen.{Seen, AreTogether}

@@ -3,7 +3,7 @@ use Rattle.std.proofs.Common.{◌≡◌, ℕ, List, Option, false, sym, ◌∙�
 use Rattle.std.proofs.Props.{props}
 use Rattle.bench_base.specs.declared.sizes.TheConstants.{BLOCK_BYTES, VERIFIER_CELLS}
 use Rattle.nv_store.specs.Slot.{Held}
-use Rattle.row_table.specs.ShowsLaws.{ReadsOne}
+use Rattle.row_node.specs.ShowsLaws.{ReadsOne}
 use Rattle.row_node.specs.Tables.{Table}
 use Rattle.row_node.specs.Boots.{Found}
 use Rattle.row_node.specs.Counts.{few_found, few_after}

@@ -3,7 +3,7 @@ use crate::kept::{VerifierNode, VerifierRows};
 use crate::lookups::{scanning, trusting};
 use bench_base::numbers::{DayNo, DevNo};
 use bench_base::words::Key;
-use node_records::RowsOf;
+use verifier::RowsOf;
 use nv_model::Nv;
 use verifier::{Accepted, ScanAct};
 

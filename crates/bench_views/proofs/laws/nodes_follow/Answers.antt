@@ -18,7 +18,7 @@ use Rattle.psd_state.specs.State.{State}
 use Rattle.psd_state.specs.Seen as device
 use Rattle.centre_ledger.specs.Seen as centre
 use Rattle.centre_ledger.specs.declared.rows.Row.{Row}
-use Rattle.law_orders.specs.Nexts.{AreOrdered}
+use Rattle.ledger_laws.specs.Nexts.{AreOrdered}
 use Rattle.bench_views.specs.declared.calls.DeviceCall.{DeviceCall}
 use Rattle.bench_views.specs.declared.calls.CentreCall.{CentreCall}
 use Rattle.bench_views.specs.declared.taken.Taken.TheVariants as take

@@ -1,5 +1,5 @@
 use Rattle.std.proofs.Common.{ℕ, ◌≤◌, ◌<◌, reverse}
-use Rattle.ledger_lawful.specs.Lawful.{Accounts}
+use Rattle.ledger_terms.specs.Lawful.{Accounts}
 use Rattle.ledger_book.proofs.clauses.accounts.Given as goal
 
 abbrev pub invariant-loop-number : goal.invariant-loop-number

@@ -1,5 +1,5 @@
 use Rattle.std.proofs.Common.{◌≡◌, ◌≤◌, take, reverse}
-use Rattle.ledger_lawful.specs.Lawful.{asks}
+use Rattle.ledger_terms.specs.Lawful.{asks}
 use Rattle.ledger_book.proofs.clauses.asks.Given as goal
 
 abbrev pub invariant-loop-commit : goal.invariant-loop-commit

@@ -1,5 +1,5 @@
 use Rattle.std.proofs.Common.{ℕ, ◌≤◌, ◌<◌, reverse}
-use Rattle.ledger_lawful.specs.Lawful.{Totals}
+use Rattle.ledger_terms.specs.Lawful.{Totals}
 use Rattle.bench_base.specs.Rules.{todays_rules}
 use Rattle.ledger_book.proofs.clauses.totals.Given as goal
 

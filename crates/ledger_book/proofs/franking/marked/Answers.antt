@@ -1,6 +1,6 @@
 use Rattle.std.proofs.Common.{arith}
 use Rattle.bench_base.specs.Rules.{todays_rules}
-use Rattle.ledger_lawful.specs.Lawful.{Debits}
+use Rattle.ledger_terms.specs.Lawful.{Debits}
 use Rattle.ledger_book.proofs.Prefixes.{always_at}
 use Rattle.ledger_book.proofs.franking.marked.Goals as goal
 

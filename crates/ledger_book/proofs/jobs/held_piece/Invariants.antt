@@ -1,5 +1,5 @@
 use Rattle.std.proofs.Common.{◌≡◌, take, reverse}
-use Rattle.ledger_lawful.specs.Lawful.{held_piece}
+use Rattle.ledger_terms.specs.Lawful.{held_piece}
 use Rattle.ledger_book.proofs.jobs.held_piece.Given as goal
 
 abbrev pub invariant-loop-i : goal.invariant-loop-i

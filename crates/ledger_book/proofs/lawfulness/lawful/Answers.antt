@@ -1,7 +1,7 @@
 use Rattle.std.proofs.Common.{◌+◌, arith, sym, ◌∙◌, true≢false}
 use Rattle.bench_base.specs.Rules.{todays_rules}
 use Rattle.bench_base.specs.declared.ledger.Entry.TheVariants.{Begin}
-use Rattle.ledger_lawful.specs.Lawful.{LawfulAt}
+use Rattle.ledger_terms.specs.Lawful.{LawfulAt}
 use Rattle.ledger_book.proofs.Prefixes.{always_now, always_front, always_more}
 use Rattle.ledger_book.proofs.Nothing.{lawful_nothing}
 use Rattle.ledger_book.proofs.lawfulness.lawful.Goals as goal

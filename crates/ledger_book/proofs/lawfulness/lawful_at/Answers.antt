@@ -1,7 +1,7 @@
 use Rattle.std.proofs.Common.{◌≡◌, ◌∙◌, sym, ap, subst, reverse, take}
 use Rattle.bench_base.specs.Rules.{todays_rules}
 use Rattle.bench_base.specs.Ledger.{counted}
-use Rattle.ledger_lawful.specs.Lawful.{Always, LawfulAt, Debits}
+use Rattle.ledger_terms.specs.Lawful.{Always, LawfulAt, Debits}
 use Rattle.ledger_book.proofs.Prefixes.{always_weaker}
 use Rattle.ledger_book.proofs.Growing.{always_counted}
 use Rattle.ledger_book.proofs.lawfulness.lawful_at.Goals as goal

@@ -3,7 +3,7 @@ use Rattle.bench_base.specs.Ledger.{counted}
 use Rattle.ledger_moves.specs.Histories.{earlier}
 use Rattle.ledger_laws.proofs.Histories.{histories, allows_same, carried_by}
 use Rattle.ledger_laws.proofs.Lawfulness.{everywhere, lawful, has_owner, no_imbalance, is_fitting, linked}
-use Rattle.law_money.proofs.Standing.{standing, begins}
+use Rattle.ledger_laws.proofs.Standing.{standing, begins}
 use Rattle.ledger_laws.proofs.Postage.{all_paid}
 use Rattle.ledger_laws.proofs.Answered.{moves_sane, sent_read, replies_ruled}
 use Rattle.ledger_laws.proofs.Ups.{either_up}

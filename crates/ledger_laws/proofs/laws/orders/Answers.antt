@@ -1,7 +1,7 @@
 use Rattle.std.proofs.Common.{◌∷◌}
 use Rattle.bench_base.specs.Ledger.{counted}
 use Rattle.ledger_laws.proofs.Histories.{histories, allows_same, carried_by}
-use Rattle.ledger_laws.proofs.Nexts.{ordered, open_is, next_is}
+use Rattle.ledger_laws.proofs.NextCommits.{ordered, open_is, next_is}
 use Rattle.ledger_laws.proofs.laws.orders.Goals as goal
 
 pub returns-clause-ordered : goal.returns-clause-ordered

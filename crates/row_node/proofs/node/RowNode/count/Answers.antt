@@ -1,6 +1,6 @@
 use Rattle.std.proofs.Common.{ℕ, sym, ◌∙◌, ap}
 use Rattle.nv_store.specs.Store.{count_sum}
-use Rattle.row_table.specs.Kept.{seen_counts}
+use Rattle.row_node.specs.Kept.{seen_counts}
 use Rattle.row_node.specs.NodeView.{held_in}
 use Rattle.row_node.proofs.node.RowNode.count.Goals as goal
 

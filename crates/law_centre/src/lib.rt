@@ -1,2 +1,0 @@
-//! The plans of the centre keep a good list.
-#![tactic(auto)]

@@ -1,2 +1,0 @@
-//! The plans of a device keep a good list.
-#![tactic(auto)]

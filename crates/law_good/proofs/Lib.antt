@@ -1,4 +1,0 @@
-pub mod Frame
-pub mod Good
-pub mod Grown
-pub mod Kept

@@ -1,2 +1,0 @@
-//! The plans of the host and the verifier keep a good list.
-#![tactic(auto)]

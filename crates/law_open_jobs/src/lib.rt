@@ -1,4 +1,0 @@
-//! Which job of a device is open, by the states of all jobs.
-#![tactic(auto)]
-
-pub mod laws;

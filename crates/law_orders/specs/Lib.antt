@@ -1,2 +1,0 @@
--- Promised: public contracts name these.
-pub mod Nexts

@@ -1,2 +1,0 @@
-//! A good list is in the order of each node.
-#![tactic(auto)]

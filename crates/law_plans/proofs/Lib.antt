@@ -1,4 +1,0 @@
-pub mod Franked
-pub mod Lengths
-pub mod Plans
-pub mod Whole

@@ -1,2 +1,0 @@
--- Promised: public contracts name this.
-pub mod Changes
