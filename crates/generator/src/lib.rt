@@ -6,8 +6,6 @@ mod generated;
 pub mod laws;
 mod opening;
 mod parts;
-#[cfg(test)]
-mod tests;
 mod turns;
 
 pub use generated::Generator;

@@ -242,35 +242,3 @@ impl Nv for FileNv {
         self.sync()
     }
 }
-
-#[cfg(test)]
-mod tests {
-    use super::*;
-    use std::fs::OpenOptions;
-    use std::test::Fail;
-
-    /// A device takes what is written and can't be synced, so it shows that a sync asks the system.
-    #[test]
-    fn a_failed_sync_is_not_forgotten(rt: HostRuntime) -> Result<(), Fail> {
-        let file = OpenOptions::new()
-            .read(true)
-            .write(true)
-            .open(&rt, "/dev/null")?;
-        let mut nv = FileNv {
-            file,
-            size: 8,
-            faults: 0,
-            range: None,
-            failed: false,
-            ahead: Ahead::new(rt.alloc(), 8)?,
-        };
-        assert_eq!(rt; nv.write(2, b"abc"), Ok(()));
-        assert_eq!(rt; nv.range, Some((2, 5)));
-        assert_eq!(rt; nv.sync(), Err(NvFail::Fault));
-        assert_eq!(rt; nv.write(0, b"a"), Err(NvFail::Fault));
-        assert_eq!(rt; nv.restart(), Err(NvFail::Fault));
-        assert_eq!(rt; nv.range, Some((2, 5)));
-        assert_eq!(rt; nv.faults, 3);
-        Ok(())
-    }
-}

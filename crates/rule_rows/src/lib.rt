@@ -8,6 +8,10 @@ mod centre_payloads;
 #[cfg(test)]
 mod checks;
 #[cfg(test)]
+mod codes;
+#[cfg(test)]
+mod days;
+#[cfg(test)]
 mod device;
 #[cfg(test)]
 mod jobs;
@@ -17,3 +21,7 @@ mod marks;
 mod messages;
 #[cfg(test)]
 mod rates;
+#[cfg(test)]
+mod streams;
+#[cfg(test)]
+mod sums;
