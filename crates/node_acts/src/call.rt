@@ -3,9 +3,9 @@ ghost use Rattle.std.specs.Prelude.{◌≡◌};
 ghost use Rattle.bench_base.specs.declared.events.Reply.{Reply};
 ghost use Rattle.node_acts.specs.declared.act.Act.{Act};
 
+use crate::{Act, Said};
 use bench_base::events::Reply;
 use bench_base::words::Node as NodeNo;
-use crate::{Act, Said};
 
 /// A node that is called: its name, and how its refusals are replied.
 pub trait Callee {

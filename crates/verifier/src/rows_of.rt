@@ -3,9 +3,9 @@ ghost use Rattle.std.specs.Prelude.{◌≡◌};
 ghost use Rattle.verifier.specs.Acts as acts;
 ghost use Rattle.verifier.specs.Seen.{AreSound};
 
+use crate::acts::{Accepted, ScanAct};
 use bench_base::numbers::{DayNo, DevNo};
 use bench_base::words::Key;
-use crate::acts::{Accepted, ScanAct};
 
 /// What has the rows of the verifier, as B lays them out, and looks them up.
 pub trait RowsOf<B> {
