@@ -1,6 +1,6 @@
 //! The ordinary path where one call of device 1's storage fails: the line that failed is done again, and all comes out as ever.
 use crate::ordinary_path::{RATES, SCRIPT};
-use crate::worked::{BLANK, RunEnd, Start, run_once, told_rates};
+use crate::worked::{RunEnd, Start, run_once, told_rates};
 use nv_model::{Failure, NvFail};
 use script_replay::status::Status;
 use std::alloc::{AllocError, Global};
@@ -25,10 +25,7 @@ fn run_failing(alloc: Global, script: &str, call: u64) -> Result<RunEnd, Fail> {
         keep: 0,
         byte: 0,
     };
-    let start = Start {
-        plan: &[failure],
-        ..BLANK
-    };
+    let start = Start { plan: &[failure] };
     run_once(
         alloc,
         &start,

@@ -2,13 +2,9 @@
 #![tactic(auto)]
 
 #[cfg(test)]
-mod bench_rows;
-#[cfg(test)]
 mod fault_rows;
 #[cfg(test)]
 mod ordinary_path;
-#[cfg(test)]
-mod printer_rows;
 #[cfg(test)]
 mod stream_rows;
 #[cfg(test)]

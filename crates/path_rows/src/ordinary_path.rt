@@ -1,6 +1,5 @@
 //! The ordinary path: a device is made, enrolled and loaded, marks a letter that the host prints, and the verifier accepts it.
-use crate::worked::{BLANK, FIRST_MARK, answer, run_blank, run_once, told_rates};
-use bench_base::events::Event;
+use crate::worked::{BLANK, run_blank, run_once, told_rates};
 use script_replay::status::Status;
 use std::test::Fail;
 
@@ -82,17 +81,6 @@ const REPORT: &str = "day 20513\n\
     end\n";
 
 #[test]
-fn the_ordinary_path_runs_whole(rt: HostRuntime) -> Result<(), Fail> {
-    let given = told_rates(SCRIPT.as_bytes(), RATES.as_bytes(), 600);
-    let got = run_once(rt.alloc(), &BLANK, &given)?;
-    assert!(rt; got.status == Status::Done);
-    assert_eq!(rt; got.report.as_slice(), REPORT.as_bytes());
-    let prints = format!(in rt.alloc(); "{FIRST_MARK}\n")?;
-    assert_eq!(rt; got.prints.as_slice(), prints.as_bytes());
-    Ok(())
-}
-
-#[test]
 fn a_fresh_bench_runs_the_ordinary_path(rt: HostRuntime) -> Result<(), Fail> {
     let given = told_rates(SCRIPT.as_bytes(), RATES.as_bytes(), 600);
     let got = run_blank(rt.alloc(), &given)?;
@@ -110,12 +98,5 @@ fn ample_memory_is_enough_for_rates(rt: HostRuntime) -> Result<(), Fail> {
         got.report.as_slice(),
         b"day 20513\nrates 2 2\nend\n".as_slice()
     );
-    Ok(())
-}
-
-#[test]
-fn rates_without_a_day_are_not_read(rt: HostRuntime) -> Result<(), Fail> {
-    let got = answer(rt.alloc(), &Event::Rates, RATES.as_bytes())?;
-    assert_eq!(rt; got.as_slice(), b"no day".as_slice());
     Ok(())
 }

@@ -10,7 +10,7 @@ use bench_base::events::Event;
 use bench_base::memory::{MemSink, MemSource};
 use bench_base::sizes::{CENTRE_BYTES, DEVICE_BYTES, VERIFIER_BYTES};
 use host_jobs::HOST_BYTES;
-use nv_model::{Failure, Fused, MemNv, Nv};
+use nv_model::{Failure, MemNv, Nv};
 use script_replay::fresh::run_fresh;
 use script_replay::run::run;
 use script_replay::status::Status;
@@ -18,95 +18,20 @@ use script_text::write_reply;
 use std::alloc::{AllocError, Global};
 use std::test::Fail;
 
-/// A piece of a storage: from byte `at` on these bytes stand. What no piece has is zero.
-#[derive(Clone, Copy)]
-pub struct Piece {
-    pub at: usize,
-    pub bytes: &'static [u8],
-}
-
-pub const KEY: [u8; 32] = [1; 32];
-
-/// The mark of piece 1 with 550 mills on 2026-03-01, by a device that was loaded with 50,000. The code was computed by another program.
-pub const FIRST_MARK: &str =
-    "0201000100000001000002260000000226000000c12a0000502100016f990001972e89bbe5ef7c7d7d3378dfbc37e9c0d7c88b86b38857353dfe8a25eef5f2c0";
-
-/// Device 1 in service with 50,000 mills, as seven commits on two slots leave it. The first four pieces are the record after
-/// the last commit, and the others are the one before it.
-pub const SEVEN_COMMITS: &[Piece] = &[
-    Piece {
-        at: 0,
-        bytes: b"\xa5\0\0\0\x07\0\0\0\x01\x03",
-    },
-    Piece {
-        at: 10,
-        bytes: &KEY,
-    },
-    Piece {
-        at: 48,
-        bytes: b"\xc3\x50",
-    },
-    Piece {
-        at: 61,
-        bytes: b"\x03\0\0\x50\x7d\0\0\x50\x21\0\0\0\x01\0\x01\x6f\x99",
-    },
-    Piece {
-        at: 214,
-        bytes: b"\xa5\0\0\0\x06\0\0\0\x01\x03",
-    },
-    Piece {
-        at: 224,
-        bytes: &KEY,
-    },
-    Piece {
-        at: 275,
-        bytes: b"\x02\0\0\x50\x7d\0\0\x50\x21\0\0\0\x01\0\x01\x6f\x99\x01\x01\x01\0\0\0\x01\0\0\0\x03\x02\0\0\0\x01\0\0\xc3\x50",
-    },
-    Piece {
-        at: 330,
-        bytes: b"\x50\x21\x4f\xcb\x60\x45\x68\xd2\x4c\x5f\xa6\x30\xf7\x04\xd8\x2a\x23\xf3\x53\x57\xef\xea\xb4\x20\x65\xb9\xdd\x00\x9d\x62\xfc\xe3\xca\xa1",
-    },
-];
-
-/// What the storages of a bench hold when it is made: that of device 1 has these pieces, and all others are blank. The calls of device 1's
-/// storage that are to fail stand beside it.
+/// What a bench is made over: blank storages, and the calls of device 1's storage that are to fail.
 #[derive(Clone, Copy)]
 pub struct Start<'a> {
-    pub first: &'a [Piece],
     pub plan: &'a [Failure],
 }
 
 /// All storages are blank.
-pub const BLANK: Start<'static> = Start {
-    first: &[],
-    plan: &[],
-};
+pub const BLANK: Start<'static> = Start { plan: &[] };
 
-/// Device 1 was loaded with 50,000 mills.
-pub const LOADED: Start<'static> = Start {
-    first: SEVEN_COMMITS,
-    ..BLANK
-};
-
-fn lay(content: &mut [u8], pieces: &[Piece]) {
-    for piece in pieces {
-        for (cell, byte) in content.iter_mut().skip(piece.at).zip(piece.bytes) {
-            *cell = *byte;
-        }
-    }
-}
-
-/// A storage of so many bytes with this content, and the calls of it that are to fail.
-fn storage(
-    alloc: Global,
-    bytes: u32,
-    pieces: &[Piece],
-    plan: &[Failure],
-) -> Result<MemNv, AllocError>
+/// A blank storage of so many bytes, and the calls of it that are to fail.
+fn storage(alloc: Global, bytes: u32, plan: &[Failure]) -> Result<MemNv, AllocError>
     ensures { IfOk result (λ nv. Works (⟦<MemNv as Nv>⟧.meters nv)) }
 {
-    let mut content = vec![in alloc; 0; bytes as usize]?;
-    lay(&mut content, pieces);
+    let content = vec![in alloc; 0; bytes as usize]?;
     let nv = MemNv::new(alloc, content, Vec::from_slice(alloc, plan)?, 400, 40_000)?;
     Ok(nv)
 }
@@ -116,9 +41,9 @@ fn device_storage(alloc: Global, start: &Start, i: u32) -> Result<MemNv, AllocEr
     ensures { IfOk result (λ nv. Works (⟦<MemNv as Nv>⟧.meters nv)) }
 {
     if i == 0 {
-        storage(alloc, DEVICE_BYTES, start.first, start.plan)
+        storage(alloc, DEVICE_BYTES, start.plan)
     } else {
-        storage(alloc, DEVICE_BYTES, &[], &[])
+        storage(alloc, DEVICE_BYTES, &[])
     }
 }
 
@@ -134,9 +59,9 @@ fn stores(alloc: Global, start: &Start) -> Result<Stores<MemNv>, AllocError>
     for i in 0..8_u32 {
         devices.push(device_storage(alloc, start, i)?)?;
     }
-    let centre = storage(alloc, CENTRE_BYTES, &[], &[])?;
-    let host = storage(alloc, HOST_BYTES, &[], &[])?;
-    let verifier = storage(alloc, VERIFIER_BYTES, &[], &[])?;
+    let centre = storage(alloc, CENTRE_BYTES, &[])?;
+    let host = storage(alloc, HOST_BYTES, &[])?;
+    let verifier = storage(alloc, VERIFIER_BYTES, &[])?;
     Ok(Stores {
         devices,
         centre,
@@ -159,49 +84,6 @@ fn bench_of_stores(alloc: Global, stores: Stores<MemNv>) -> Result<Bench<MemNv>,
         Ok(bench) => Ok(bench),
         Err(_) => Err(Fail::from(AllocError)),
     }
-}
-
-/// A storage that begins again, as a new bench wants it.
-fn restarted(nv: MemNv) -> Result<MemNv, Fail>
-    ensures { IfOk result (λ nv. Works (⟦<MemNv as Nv>⟧.meters nv)) }
-{
-    let mut nv = nv;
-    nv.restart()?;
-    Ok(nv)
-}
-
-/// The storages of a bench, each of which begins again.
-fn left(alloc: Global, bench: Bench<MemNv>) -> Result<Stores<MemNv>, Fail>
-    requires ready { IsReady (bench_of bench) }
-    ensures eight { IfOk result (λ stores. length stores.devices.items ≡ 8) }
-    ensures fresh { IfOk result (λ stores. All (λ nv. Works (⟦<MemNv as Nv>⟧.meters nv)) stores.devices.items) }
-    ensures fresh_centre { IfOk result (λ stores. Works (⟦<MemNv as Nv>⟧.meters stores.centre)) }
-    ensures fresh_host { IfOk result (λ stores. Works (⟦<MemNv as Nv>⟧.meters stores.host)) }
-    ensures fresh_verifier { IfOk result (λ stores. Works (⟦<MemNv as Nv>⟧.meters stores.verifier)) }
-{
-    let Stores {
-        devices: mut storages,
-        centre,
-        host,
-        verifier,
-    } = bench.into_stores();
-    storages.reverse();
-    let mut devices = Vec::with_capacity(alloc, 8)?;
-    for _ in 0..8_u32 {
-        let Some(nv) = storages.pop() else {
-            return Err(Fail::from("fewer than eight storages"));
-        };
-        devices.push(restarted(nv)?)?;
-    }
-    let centre = restarted(centre)?;
-    let host = restarted(host)?;
-    let verifier = restarted(verifier)?;
-    Ok(Stores {
-        devices,
-        centre,
-        host,
-        verifier,
-    })
 }
 
 /// A sink: the bytes that it takes, and the numbers of the writes that fail and of those that take nothing.
@@ -381,21 +263,6 @@ pub fn run_both(
     let mut bench = bench_of_stores(alloc, stores(alloc, start)?)?;
     let got = outcome(alloc, first, &mut bench)?;
     Ok((got, outcome(alloc, then, &mut bench)?))
-}
-
-/// Runs one thing, and then another on another bench, over the storages of the first.
-pub fn run_again(
-    alloc: Global,
-    start: &Start,
-    first: &Given,
-    then: &Given,
-) -> Result<(RunEnd, RunEnd), Fail>
-    requires some { 1 ≤ first.now.piece }
-    requires more { 1 ≤ then.now.piece }
-{
-    let mut bench = bench_of_stores(alloc, stores(alloc, start)?)?;
-    let got = outcome(alloc, first, &mut bench)?;
-    Ok((got, run_over(alloc, left(alloc, bench)?, then)?))
 }
 
 /// The reply to one event on a new bench over blank storages, as a line of the report.

@@ -6,8 +6,6 @@ mod checks;
 mod cuts;
 #[cfg(test)]
 mod storages;
-#[cfg(test)]
-mod stores;
 mod tried;
 
 use cuts::{Cut, Kind, Seen, seen_after};

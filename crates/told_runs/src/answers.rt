@@ -19,9 +19,9 @@ use bench_base::events::Event;
 use bench_base::stream::Source;
 use desk_runs::ended_by;
 use line_runs::lines::LineRead;
-use text_streams::ReadAhead;
 use script_text::laws::one_reply;
 use std::alloc::Global;
+use text_streams::ReadAhead;
 use told_bench::{Auditor, Finding, index, is_forged, judge};
 
 // Judges the line that the report has for the event of the line of this number: how much of the rates the event took, in bytes. What is left of the report

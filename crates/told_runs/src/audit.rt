@@ -14,9 +14,9 @@ use crate::reading::read_line;
 use crate::verdict::{Ending, Input, Verdict};
 use bench_base::stream::Source;
 use line_runs::lines::LineRead;
-use text_streams::ReadAhead;
 use script_text::{is_skipped, read_event};
 use std::alloc::Global;
+use text_streams::ReadAhead;
 use told_bench::Auditor;
 
 // What a line took of the rates, in bytes; and whether the script has ended behind it, without a line end.

@@ -9,8 +9,6 @@ pub mod laws;
 pub mod prints;
 mod reading;
 mod stopping;
-#[cfg(test)]
-mod tests;
 pub mod verdict;
 
 pub use audit::{audit_run, behind};
