@@ -9,18 +9,18 @@ use Rattle.program_calls.specs.declared.exit.Fault.{Fault}
 use Rattle.program_calls.specs.declared.exit.Fault.TheVariants as says
 use Rattle.program_calls.specs.declared.exit.Exit.{Exit}
 
-abbrev with : ℕ → Option Fault → Exit
-with status line = record { status = status; line = line }
+abbrev ends_with : ℕ → Option Fault → Exit
+ends_with status line = record { status = status; line = line }
 
 -- Each ending of a run has its status and its line; so has a start that could not begin one.
 abbrev pub exit_of : Result SideStatus OpenFault → Exit
-exit_of (Ok (Run Done)) = with 0 None
-exit_of (Ok (Run Words)) = with 1 (Some says.Words)
-exit_of (Ok (Run (Script line))) = with 2 (Some (says.Script line))
-exit_of (Ok (Run ReadFault)) = with 3 (Some says.Read)
-exit_of (Ok (Run WriteFault)) = with 4 (Some says.Write)
-exit_of (Ok (Run Memory)) = with 5 (Some says.Memory)
-exit_of (Err unopened.Memory) = with 5 (Some says.Memory)
-exit_of (Ok (Run TooLong)) = with 6 (Some says.TooLong)
-exit_of (Err (unopened.File name)) = with 7 (Some (says.File name))
-exit_of (Ok Stopped) = with 8 (Some says.Stopped)
+exit_of (Ok (Run Done)) = ends_with 0 None
+exit_of (Ok (Run Words)) = ends_with 1 (Some says.Words)
+exit_of (Ok (Run (Script line))) = ends_with 2 (Some (says.Script line))
+exit_of (Ok (Run ReadFault)) = ends_with 3 (Some says.Read)
+exit_of (Ok (Run WriteFault)) = ends_with 4 (Some says.Write)
+exit_of (Ok (Run Memory)) = ends_with 5 (Some says.Memory)
+exit_of (Err unopened.Memory) = ends_with 5 (Some says.Memory)
+exit_of (Ok (Run TooLong)) = ends_with 6 (Some says.TooLong)
+exit_of (Err (unopened.File name)) = ends_with 7 (Some (says.File name))
+exit_of (Ok Stopped) = ends_with 8 (Some says.Stopped)
