@@ -5,7 +5,8 @@ use bench::Stores;
 use bench_base::sizes::{CENTRE_BYTES, DEVICE_BYTES, VERIFIER_BYTES};
 use host_departments::DEPARTMENT_BYTES;
 use host_jobs::HOST_BYTES;
-use nv_file::{FileNv, StoreFile};
+use nv_file::{FileNv, PART, StoreFile};
+use program_calls::OpenFault;
 use spoil_claims::CLAIM_BYTES;
 use std::fs;
 use std::fs::Metadata;
@@ -84,16 +85,31 @@ pub fn with_own(own: StoreFile) -> [StoreFile; 12] {
     files
 }
 
-/// Whether a file is one of the storages, by whatever name it was found.
-pub fn is_store(rt: &HostRuntime, found: &Metadata) -> bool {
+// Whether this name is there, and names that file.
+fn is_named(rt: &HostRuntime, found: &Metadata, name: &str) -> bool {
+    match fs::symlink_metadata(rt, name) {
+        Ok(named) => named.dev() == found.dev() && named.ino() == found.ino(),
+        Err(_) => false,
+    }
+}
+
+/// Whether a file is one of the storages, or one in the making, by whatever name it was found.
+pub fn is_store(rt: &HostRuntime, found: &Metadata) -> Result<bool, OpenFault> {
     for file in STORES {
-        if let Ok(store) = fs::symlink_metadata(rt, file.name) {
-            if store.dev() == found.dev() && store.ino() == found.ino() {
-                return true;
-            }
+        let Ok(part) = format!(in rt.alloc(); "{}{PART}", file.name) else {
+            return Err(OpenFault::Memory);
+        };
+        if is_named(rt, found, file.name) || is_named(rt, found, part.as_str()) {
+            return Ok(true);
         }
     }
-    false
+    Ok(false)
+}
+
+/// Whether a name is one that a storage has, or one in the making.
+pub fn is_store_name(name: &str) -> bool {
+    let name = name.strip_suffix(PART).unwrap_or(name);
+    STORES.iter().any(|file| file.name == name)
 }
 
 /// The storages by what they are of, where they come in the order of `STORES`.

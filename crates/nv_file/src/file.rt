@@ -14,7 +14,8 @@ use std::os::unix::fs::FileExt;
 const PIECE: u32 = 4096;
 
 /// A call on the file or its folder failed, want of memory in it included; the name is that of a link or of something else
-/// that is no file; the file has more than 4,294,967,295 bytes; or it belongs to a user or a group that a new file can't be given.
+/// that is no file; the file has a second name, or more than 4,294,967,295 bytes; or it belongs to a user or a group that a new
+/// file can't be given.
 #[derive(Clone, Copy, Debug, PartialEq, Eq)]
 pub struct StartFault;
 
@@ -59,7 +60,7 @@ impl FileNv {
         ensures unharmed { IfOk result (λ nv. ⟦<FileNv as Nv>⟧.meters nv ≡ unharmed) }
         ensures synced { IfOk result (λ nv. unsynced nv ≡ nothing_unsynced) }
     {
-        let store = FileNv::prepare(rt, path, size)?;
+        let (store, _) = FileNv::prepare(rt, path, size)?;
         if whole::give_name(rt, path).is_err() {
             whole::discard(rt, path);
             return Err(StartFault);
@@ -70,24 +71,25 @@ impl FileNv {
         }
     }
 
-    /// The storage of a path in its new file, on the disk, which has not taken the name yet.
+    /// The storage of a path in its new file, on the disk, which has not taken the name yet, and whether no file had that name.
     pub(crate) fn prepare<R: Files<File = File> + AllocGlobal>(
         rt: &R,
         path: &str,
         size: u32,
-    ) -> Result<FileNv, StartFault>
-        ensures unharmed { IfOk result (λ nv. ⟦<FileNv as Nv>⟧.meters nv ≡ unharmed) }
-        ensures synced { IfOk result (λ nv. unsynced nv ≡ nothing_unsynced) }
+    ) -> Result<(FileNv, bool), StartFault>
+        ensures unharmed { IfOk result (λ made. ⟦<FileNv as Nv>⟧.meters made.0 ≡ unharmed) }
+        ensures synced { IfOk result (λ made. unsynced made.0 ≡ nothing_unsynced) }
     {
-        let (file, size) = whole::prepare(rt, path, size).map_err(|_| StartFault)?;
-        Ok(FileNv {
-            file,
-            size,
+        let part = whole::prepare(rt, path, size).map_err(|_| StartFault)?;
+        let store = FileNv {
+            ahead: Ahead::new(rt.alloc(), part.size).map_err(|_| StartFault)?,
+            file: part.file,
+            size: part.size,
             faults: 0,
             range: None,
             failed: false,
-            ahead: Ahead::new(rt.alloc(), size).map_err(|_| StartFault)?,
-        })
+        };
+        Ok((store, part.is_first))
     }
 
     /// Answers for a call on the file, and counts it where it failed.

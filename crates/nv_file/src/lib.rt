@@ -7,4 +7,5 @@ mod starting;
 mod whole;
 
 pub use file::{FileNv, StartFault};
-pub use starting::{Starting, StoreFile};
+pub use starting::{Starting, StoreFile, remove_part};
+pub use whole::PART;

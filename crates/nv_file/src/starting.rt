@@ -1,5 +1,5 @@
 //! Storages that start together: none takes its name before the bytes of all are on the disk.
-ghost use Rattle.std.specs.Prelude.{◌≡◌, IfOk, length};
+ghost use Rattle.std.specs.Prelude.{◌≡◌, ◌↔◌, ◌++◌, ◌<◌, IfOk, IsSome, length, option_to_list};
 ghost use Rattle.std.specs.List.{All};
 ghost use Rattle.nv_model.specs.Meters.{unharmed};
 ghost use Rattle.nv_file.specs.Files.{unsynced, nothing_unsynced};
@@ -8,7 +8,7 @@ ghost use Rattle.nv_file.specs.Starts.{stores_of};
 use crate::file::FileNv;
 use crate::whole;
 use nv_model::Nv;
-use std::fs::{File, Files};
+use std::fs::{self, File, Files};
 
 /// A storage that a start uses: the path of its file, and how many bytes it is made with where it is missing.
 #[derive(Clone, Copy, Debug, PartialEq, Eq)]
@@ -22,6 +22,8 @@ pub struct StoreFile {
 pub struct Starting<'a> {
     files: &'a [StoreFile],
     stores: Vec<FileNv>,
+    /// Of each file, whether there was none of its name.
+    firsts: Vec<bool>,
 }
 
 impl Starting<'_> {
@@ -36,9 +38,12 @@ impl Starting<'_> {
         ensures synced { IfOk result (λ starting. All (λ nv. unsynced nv ≡ nothing_unsynced) (stores_of starting)) }
     {
         let mut stores = Vec::new(rt.alloc());
+        let mut firsts = Vec::new(rt.alloc());
         for file in files {
             let ready = match FileNv::prepare(rt, file.name, file.bytes) {
-                Ok(store) => stores.push(store).is_ok(),
+                Ok((store, is_first)) => {
+                    stores.push(store).is_ok() && firsts.push(is_first).is_ok()
+                }
                 Err(_) => false,
             };
             if !ready {
@@ -46,25 +51,40 @@ impl Starting<'_> {
                 return Err(file.name);
             }
         }
-        Ok(Starting { files, stores })
+        Ok(Starting {
+            files,
+            stores,
+            firsts,
+        })
     }
 
-    /// Gives each storage its name, and makes sure of the names. Where that fails at one its name is answered; those before it
-    /// have theirs, and hold what they held.
+    /// Hands out the last storage, so that it can be read before any takes its name; it takes its name with the others. None if
+    /// there is none left.
+    pub fn take_last(&mut self) -> Option<FileNv>
+        ensures last { stores_of self.old ≡ stores_of self.new ++ option_to_list result }
+        ensures some { IsSome result ↔ (0 < length (stores_of self.old)) }
+    {
+        self.stores.pop()
+    }
+
+    /// Gives each storage its name, and makes sure of the names. If that fails at one its name is answered: those that were
+    /// there hold what they held, and those that were made are removed again, if they can be.
     pub fn settle<R: Files<File = File> + AllocGlobal>(
         self,
         rt: &R,
     ) -> Result<Vec<FileNv>, &'static str>
         ensures kept { IfOk result (λ stores. stores.items ≡ stores_of self.entry) }
     {
-        for file in self.files {
+        for (named, file) in self.files.iter().enumerate() {
             if whole::give_name(rt, file.name).is_err() {
+                remove_firsts(rt, self.files, &self.firsts, named);
                 discard_all(rt, self.files);
                 return Err(file.name);
             }
         }
         for file in self.files {
             if whole::sync_folder(rt, file.name).is_err() {
+                remove_firsts(rt, self.files, &self.firsts, self.files.len());
                 return Err(file.name);
             }
         }
@@ -74,6 +94,25 @@ impl Starting<'_> {
     /// Removes what was prepared. The storages are as they were before.
     pub fn discard<R: Files<File = File> + AllocGlobal>(self, rt: &R) {
         discard_all(rt, self.files);
+    }
+}
+
+/// Removes what a start that was stopped left in the making for the storage of a name.
+pub fn remove_part<R: Files<File = File> + AllocGlobal>(rt: &R, name: &str) {
+    whole::discard(rt, name);
+}
+
+// Removes those of the first files, so many, of whose names there were none.
+fn remove_firsts<R: Files<File = File>>(
+    rt: &R,
+    files: &[StoreFile],
+    firsts: &[bool],
+    named: usize,
+) {
+    for (file, is_first) in files.iter().zip(firsts).take(named) {
+        if *is_first {
+            let _ = fs::remove_file(rt, file.name);
+        }
     }
 }
 

@@ -5,24 +5,44 @@ use std::os::unix::fs::{MetadataExt, OpenOptionsExt, fchown};
 use std::path::Path;
 use std::{fs, io};
 
-/// Writes the bytes of the file of a name, or `size` zero bytes where there is none, to a new file beside its place, whose name
-/// ends in `.part`, and answers that file with its number of bytes. They are on the disk then; where that fails no part is left.
-/// What was there may be bytes that the system shows and the disk hasn't got, and what may be on the disk is never written over.
+/// What the name of a file in the making ends in.
+pub const PART: &str = ".part";
+
+/// A new file whose bytes are on the disk, beside the place whose name it is to take.
+#[derive(Drop)]
+pub struct Part {
+    pub file: File,
+    pub size: u32,
+    /// Whether no file had the name before.
+    pub is_first: bool,
+}
+
+/// Writes the bytes of the file of a name, or `size` zero bytes if there is none, to a new file beside its place, whose name
+/// ends in `PART`. They are on the disk then; if that fails no part is left. What was there may be bytes that the system shows
+/// and the disk hasn't got, and what may be on the disk is never written over.
 pub fn prepare<R: Files<File = File> + AllocGlobal>(
     rt: &R,
     path: &str,
     size: u32,
-) -> io::Result<(File, u32)> {
+) -> io::Result<Part> {
     let found = find(rt, path)?;
+    let is_first = found.is_none();
     let part = part_of(rt, path)?;
     let made = match found {
         Some(old) => copy(rt, part.as_str(), old),
         None => make(rt, part.as_str(), size),
     };
-    if made.is_err() {
-        let _ = fs::remove_file(rt, part.as_str());
+    match made {
+        Ok((file, size)) => Ok(Part {
+            file,
+            size,
+            is_first,
+        }),
+        Err(error) => {
+            let _ = fs::remove_file(rt, part.as_str());
+            Err(error)
+        }
     }
-    made
 }
 
 /// Gives what was prepared for a name that name. It is there after a cut of power only once the folder is on the disk.
@@ -30,7 +50,7 @@ pub fn give_name<R: Files<File = File> + AllocGlobal>(rt: &R, path: &str) -> io:
     fs::rename(rt, part_of(rt, path)?.as_str(), path)
 }
 
-/// Removes what was prepared for a name, as far as it can be removed.
+/// Removes what was prepared for a name, or what a start that was stopped left there, if it can be removed.
 pub fn discard<R: Files<File = File> + AllocGlobal>(rt: &R, path: &str) {
     if let Ok(part) = part_of(rt, path) {
         let _ = fs::remove_file(rt, part.as_str());
@@ -47,15 +67,15 @@ pub fn sync_folder<R: Files<File = File>>(rt: &R, path: &str) -> io::Result<()> 
 }
 
 fn part_of<R: AllocGlobal>(rt: &R, path: &str) -> io::Result<String> {
-    Ok(format!(in rt.alloc(); "{path}.part")?)
+    Ok(format!(in rt.alloc(); "{path}{PART}")?)
 }
 
 fn refused() -> io::Error {
     io::Error::from(io::ErrorKind::InvalidInput)
 }
 
-/// The file of a name, None where there is none. A link is refused, also one that leads nowhere, and so is all else that is
-/// no file.
+/// The file of a name, None if there is none. A symbolic link is refused, also one that leads nowhere, and so is whatever is
+/// no file. So is a file with another name: that would keep the old bytes, and whoever starts over it has the same money again.
 fn find<R: Files<File = File>>(rt: &R, path: &str) -> io::Result<Option<File>> {
     let named = match fs::symlink_metadata(rt, path) {
         Ok(named) => named,
@@ -68,7 +88,7 @@ fn find<R: Files<File = File>>(rt: &R, path: &str) -> io::Result<Option<File>> {
     let file = OpenOptions::new().read(true).write(true).open(rt, path)?;
     // Opening follows a link that took the name meanwhile.
     let opened = file.metadata()?;
-    if opened.dev() != named.dev() || opened.ino() != named.ino() {
+    if opened.dev() != named.dev() || opened.ino() != named.ino() || opened.nlink() > 1 {
         return Err(refused());
     }
     Ok(Some(file))

@@ -1,0 +1,4 @@
+-- Promised: public contracts name it.
+pub mod Calls
+-- Promised: public contracts name it.
+pub mod Exits
