@@ -16,12 +16,10 @@ use bench_views::{
     BalanceCall, CentreCall, DepositCall, FlagCall, OpenCall, RegisterCall, TakeRequestCall,
 };
 use centre_ledger::{
-    CentreAct, CentreAnswer, Deposit, Row, balance_act, deposit_act, flag_act, open_act,
+    BooksOf, CentreAct, CentreAnswer, Deposit, Row, balance_act, deposit_act, flag_act, open_act,
     register_act, take_act,
 };
-use node_acts::Said;
-use node_acts::{Call, Callee, Holds};
-use centre_ledger::BooksOf;
+use node_acts::{Call, Callee, Holds, Said};
 
 /// The centre, where it is called.
 #[derive(Drop)]

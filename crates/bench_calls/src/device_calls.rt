@@ -18,14 +18,12 @@ use bench_base::numbers::{DayNo, DevNo};
 use bench_base::refusals::DevRefusal;
 use bench_base::words::Node as NodeNo;
 use bench_views::{AckCall, AskCall, DebitCall, MakeCall, ResendCall, TakeReplyCall};
-use node_acts::{Act, GivenOut, Released, Said};
-use node_acts::{Call, Callee};
-use psd_state::{DeviceState, StateOf};
-use psd_state::DevRec;
+use node_acts::{Act, Call, Callee, GivenOut, Released, Said};
 use psd_state::acts::{
     DeviceAct, Franked, Taken, ack_act, ask_act, debit_act, make_act, resend_act, status_act,
     take_act,
 };
+use psd_state::{DevRec, DeviceState, StateOf};
 use psd_wire::DebitMsg;
 
 /// The device of this number, where it is called on this day.

@@ -13,11 +13,10 @@ use bench_base::refusals::HostRefusal;
 use bench_base::words::Node as NodeNo;
 use bench_views::{CloseCall, OrderCall, PrintCall, SendCall, TakeReleaseCall};
 use host_jobs::{
-    HostAct, JobRow, Ordered, begin_print_act, close_act, debit_message_act, order_act, take_act,
+    HostAct, JobRow, JobsOf, Ordered, begin_print_act, close_act, debit_message_act, order_act,
+    take_act,
 };
-use node_acts::{GivenOut, Printed, Said};
-use node_acts::{Call, Callee, Holds};
-use host_jobs::JobsOf;
+use node_acts::{Call, Callee, GivenOut, Holds, Printed, Said};
 
 /// The host, where it is called.
 #[derive(Drop)]

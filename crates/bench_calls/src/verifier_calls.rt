@@ -13,10 +13,8 @@ use bench_base::numbers::DayNo;
 use bench_base::refusals::ScanRefusal;
 use bench_base::words::Node as NodeNo;
 use bench_views::{ScanCall, TrustCall, VerifierCall};
-use node_acts::Said;
-use node_acts::{Call, Callee, Holds};
-use verifier::RowsOf;
-use verifier::{Accepted, Change, ScanAct};
+use node_acts::{Call, Callee, Holds, Said};
+use verifier::{Accepted, Change, RowsOf, ScanAct};
 
 /// The verifier, where it is called on this day.
 #[derive(Drop)]

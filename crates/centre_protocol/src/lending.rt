@@ -1,7 +1,6 @@
 //! What the centre lends to its calls.
 use crate::kept::{CentreNode, CentreRows};
-use centre_ledger::Accounts;
-use centre_ledger::BooksOf;
+use centre_ledger::{Accounts, BooksOf};
 use nv_model::Nv;
 
 impl<N: Nv> BooksOf<CentreRows> for CentreNode<N> {

@@ -7,12 +7,12 @@ use bench_base::memory::MemSource;
 use bench_base::stream::IoSink;
 use nv_file::FileNv;
 use nv_model::MemNv;
-use text_streams::ReadAhead;
 use script_replay::run::run;
 use script_replay::status::Status;
 use std::fs;
 use std::io::{self, Read};
 use std::time::Instant;
+use text_streams::ReadAhead;
 
 /// How much of a script is read ahead, in bytes.
 const AHEAD: u32 = 8192;

@@ -13,8 +13,7 @@ ghost use Rattle.row_node.specs.Boots.{AllShowSound};
 use crate::kept::{HostRoom, HostRows};
 use bench_base::ledger::Commit;
 use bench_base::refusals::{BootFail, HostFail};
-use host_jobs::{HostAct, JobRows, Kept};
-use host_jobs::JobsOf;
+use host_jobs::{HostAct, JobRows, JobsOf, Kept};
 use nv_model::{Fused, Nv};
 use row_node::RunningRows;
 

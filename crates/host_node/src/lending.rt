@@ -1,7 +1,6 @@
 //! What the host lends to its calls.
 use crate::kept::{HostNode, HostRows};
-use host_jobs::{JobRows, Kept};
-use host_jobs::JobsOf;
+use host_jobs::{JobRows, JobsOf, Kept};
 use nv_model::Nv;
 
 impl<N: Nv> JobsOf<HostRows> for HostNode<N> {

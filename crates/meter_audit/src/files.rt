@@ -1,9 +1,9 @@
 //! The files of a run: NAME.script, NAME.report and NAME.rates, which is empty where it is missing, as the meter takes it.
 use crate::Fault;
 use bench_base::stream::IoSource;
-use text_streams::ReadAhead;
 use std::fs::{self, File};
 use std::io;
+use text_streams::ReadAhead;
 
 /// How much of a file is read at once, in bytes.
 const AHEAD: usize = 65_536;

@@ -3,9 +3,9 @@ ghost use Rattle.std.specs.Prelude.{◌≤◌};
 
 use bench_base::stream::Source;
 use line_runs::lines::LineRead;
-use text_streams::ReadAhead;
 use script_text::is_skipped;
 use std::alloc::{AllocError, Global};
+use text_streams::ReadAhead;
 use told_runs::read_line;
 
 /// The digits of a byte that is no text.

@@ -15,8 +15,7 @@ use crate::tell::Tell;
 use bench_base::events::Reply;
 use bench_base::ledger::{Commit, Entry};
 use bench_base::stream::Sink;
-use node_acts::{Act, GivenOut, Outcome, Printed};
-use node_acts::{Call, Callee};
+use node_acts::{Act, Call, Callee, GivenOut, Outcome, Printed};
 use node_seat::{Node, perform};
 use text_streams::print_mark;
 

@@ -1,7 +1,7 @@
 //! What a device lends to its calls.
 use crate::node::DeviceNode;
-use psd_state::{DeviceState, StateOf};
 use nv_model::Nv;
+use psd_state::{DeviceState, StateOf};
 
 impl<N: Nv> StateOf for DeviceNode<N> {
     ghost use Rattle.psd_device.specs.NodeView.{seen_in};

@@ -13,9 +13,8 @@ use bench_base::numbers::DayNo;
 use bench_base::words::Node;
 use bench_views::CentreCall;
 use bench_views::laws::nodes_follow;
-use centre_ledger::{Row, acts_follow_the_commits};
+use centre_ledger::{BooksOf, Row, acts_follow_the_commits};
 use node_acts::Asked;
-use centre_ledger::BooksOf;
 use told_nodes::{Seat, judge_call, judge_cut, judge_off, judge_on};
 
 /// A record is one that storage can show.

@@ -7,9 +7,8 @@ ghost use Rattle.bench_views.specs.Centre.{seen_in};
 ghost use Rattle.told_centre.specs.Records.{AreKept, IsFit};
 
 use bench_base::sizes::MOST_COMMITS;
-use centre_ledger::{Accounts, Row};
+use centre_ledger::{Accounts, BooksOf, Row};
 use node_acts::Holds;
-use centre_ledger::BooksOf;
 use told_nodes::Record;
 
 /// How many cells the centre has.

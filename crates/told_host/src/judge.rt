@@ -12,9 +12,8 @@ use bench_base::numbers::DayNo;
 use bench_base::words::Node;
 use bench_views::HostCall;
 use bench_views::laws::host_follows;
-use host_jobs::{JobRow, acts_follow_the_commits};
+use host_jobs::{JobRow, JobsOf, acts_follow_the_commits};
 use node_acts::Asked;
-use host_jobs::JobsOf;
 use told_nodes::{Seat, Told, judge_cut, judge_off, judge_on, judge_printing, unprinted};
 
 // A record is one that storage can show.

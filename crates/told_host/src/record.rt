@@ -8,9 +8,8 @@ ghost use Rattle.host_node.specs.Unique.{kept_prop};
 ghost use Rattle.told_host.specs.Records.{AreJoined, IsFit};
 
 use bench_base::sizes::MOST_COMMITS;
-use host_jobs::{HOST_CELLS, JobRow, JobRows, Kept};
+use host_jobs::{HOST_CELLS, JobRow, JobRows, JobsOf, Kept};
 use node_acts::Holds;
-use host_jobs::JobsOf;
 use std::alloc::{AllocError, Global};
 use told_nodes::Record;
 

@@ -3,8 +3,7 @@ ghost use Rattle.std.specs.Prelude.{◌≡◌};
 ghost use Rattle.node_acts.specs.Said.{saying};
 
 use bench_base::events::Reply;
-use node_acts::{Act, Said};
-use node_acts::{Call, Callee};
+use node_acts::{Act, Call, Callee, Said};
 
 /// What a call does by the record that it is asked of, with what the node says of it.
 pub fn said_act<E: Callee, R, X: Copy, C: Call<E, R, X>>(

@@ -17,12 +17,10 @@ use bench_base::sizes::{BLOCK_PIECES, FIRST_BLOCK, MOST_COMMITS, VERIFIER_CELLS}
 use bench_base::words::Key;
 use hmac_core::ReadyKey;
 use indicium::read_indicium;
-use node_acts::Act;
-use node_acts::Holds;
-use verifier::RowsOf;
+use node_acts::{Act, Holds};
 use std::alloc::{AllocError, Global};
 use told_nodes::Record;
-use verifier::{Accepted, BlockIndex, Change, ScanAct, Spot, scan_act, trust_act};
+use verifier::{Accepted, BlockIndex, Change, RowsOf, ScanAct, Spot, scan_act, trust_act};
 
 /// The rows of the verifier in their cells, with the commits of each, and the index of the blocks beside.
 #[derive(Drop)]

@@ -3,9 +3,8 @@ use crate::kept::{VerifierNode, VerifierRows};
 use crate::lookups::{scanning, trusting};
 use bench_base::numbers::{DayNo, DevNo};
 use bench_base::words::Key;
-use verifier::RowsOf;
 use nv_model::Nv;
-use verifier::{Accepted, ScanAct};
+use verifier::{Accepted, RowsOf, ScanAct};
 
 impl<N: Nv> RowsOf<VerifierRows> for VerifierNode<N> {
     ghost use Rattle.row_node.specs.NodeView.{seen_in};
