@@ -10,33 +10,34 @@ meter=                  # its process, while it runs
 nodes=                  # the nodes that are on
 unclean=                # the earlier runs without a noted end
 left_open=              # whether this run can't have one
+all_done=               # whether it has one
 came_on=
 
 # --- The kept runs and the notes ---
 
 kept() { ls runs 2> /dev/null | sed -n 's/^\([0-9]\{6\}-.*\)\.script$/\1/p'; }
-# The lines of a file that have their ends: the front of one was never given, or is no answer.
-whole_lines() { if [ -z "$(tail -c 1 "$1" 2> /dev/null)" ]; then cat "$1"; else sed '$d' "$1"; fi; }
 noted() { sed -n "s/^$1 //p" "$notes"; }
 
-# Notes that run $1 has begun, or, behind all that it left, the end of this run and its commits.
-write_notes() { { cat > "$notes.new" && sync "$notes.new" && mv "$notes.new" "$notes" && sync "$(dirname "$notes")"; } 2> /dev/null; }
-note_begin() { { echo "run $1"; grep -v '^run ' "$notes"; } | write_notes; }
+# Notes these lines in place of the old ones, or leaves those as they are.
+write_notes() { { echo "$1" > "$notes.new" && sync "$notes.new" && mv "$notes.new" "$notes" && sync "$(dirname "$notes")"; } 2> /dev/null; }
+# Run $1 has begun.
+note_begin() { old=$(grep -v '^run ' "$notes") && write_notes "run $1
+$old"; }
+# This run has ended, and left nothing: of the nodes that were on these are the commits, of the others the old ones.
 note_end() {
-    {
-        printf 'run %s\nended %s\n%s' "$run_number" "$run_number" "$counts"
-        sed '/^run /d; /^ended /d' "$notes" | while read -r node count; do
-            case " $nodes " in *" $node "*) ;; *) echo "$node $count" ;; esac
-        done
-    } | write_notes
+    others=$(awk -v nodes="$nodes " '$1 != "run" && $1 != "ended" && !index(nodes, " " $1 " ")' "$notes") &&
+        write_notes "run $run_number
+ended $run_number
+$counts$others"
 }
 
 # What the runs without a noted end have left: the facts of tools/left.awk.
 left_by() {
+    set -- "$notes"
     for left in $unclean; do
-        whole_lines "runs/$left.report" > "$pipes/report.whole"
-        whole_lines "runs/$left.script" | grep -v -e '^#' -e '^$' | paste "$pipes/report.whole" -
-    done | awk -f "$top/tools/left.awk" "$notes" -
+        for file in "runs/$left.script" "runs/$left.report"; do set -- "$@" "lines=$(wc -l < "$file")" "$file"; done
+    done
+    awk -f "$top/tools/left.awk" "$@"
 }
 
 # --- How a call ends ---
@@ -64,27 +65,32 @@ finish() {
         counts="$counts$node $(last)
 "
     done
-    [ -n "$left_open" ] || note_end || echo "post: $notes cannot be written: make room there, and call again" >&2
+    if [ -z "$left_open" ]; then
+        if note_end; then all_done=yes; else echo "post: $notes cannot be written: make room there, and call again" >&2; fi
+    fi
     ask end
     sync -d "$run.report"
     exec 3>&-
     wait "$meter"
 }
 # The same, behind what the operator has to be told; of a reply what it asks of him.
-stop() { echo "post: $*" >&2; finish; exit 1; }
+stop() { echo "post: $*" >&2; result=1; finish; exit 1; }
 refuse() {
     sentence=$(sense_of "${1:-$reply}")
     case $sentence in 'ALARM: '*) give_up "$sentence" ;; esac
     stop "$sentence"
 }
 
-# The run can't be kept: the meter is given nothing more.
-lost() {
-    echo "post: $run cannot be kept: nothing more is done. Make room or mend the disk, and call again: that finishes what is left" >&2
+# The end of a call whose run ended too soon: if its own end was noted, nothing of it is left.
+cut_off() {
     exec 3>&-
     wait "$meter"
+    [ -z "$all_done" ] || { echo "post: all of this call is done; its run has no end ($*)" >&2; exit "$result"; }
+    echo "post: $*. What is left is finished by the next call" >&2
     exit 2
 }
+# The run can't be kept: the meter is given nothing more.
+lost() { cut_off "$run cannot be kept, and nothing more is done: make room, or look at the disk"; }
 # The meter has ended. If it had not begun, it is as if the call had not been made.
 ended() {
     exec 3>&-
@@ -94,8 +100,7 @@ ended() {
         note_begin "$last_run" && rm -f "$run.script" "$run.report" "$run.rates" "$run.word"
     fi
     case $told in 'cannot use '*) told="$told (no room for all storages once more, another program in the folder, or docs/OPERATING.md)" ;; esac
-    echo "post: the meter has ended: ${told:-it was stopped}. Call again: that finishes what is left" >&2
-    exit 2
+    cut_off "the meter has ended: ${told:-it was stopped}"
 }
 
 # --- Lines and replies ---
@@ -158,7 +163,8 @@ look_first() {
     if [ ! -e "$notes" ]; then
         [ "$last_run" -eq 0 ] ||
             alarm "$notes is missing, where the commits are noted. If it alone was lost, docs/OPERATING.md says how it is made anew"
-        printf 'run 0\nended 0\n' > "$notes" || die "cannot write $notes: POST_NOTES may name another file outside of the folder"
+        write_notes 'run 0
+ended 0' || die "cannot write $notes: POST_NOTES may name another file outside of the folder"
     fi
     [ "$last_run" -ge "$(noted run)" ] || alarm "the folder is an older copy: its last run is $last_run, and run $(noted run) was begun"
     unclean=$(kept | awk -v ended="$(noted ended)" '{ number = $0; sub(/-.*/, "", number); if (number + 0 > ended) print }')
@@ -177,7 +183,7 @@ begin() {
     pipes=$(mktemp -d) && mkfifo "$pipes/script" "$pipes/report" || exit 2
     trap 'rm -rf "$pipes"' EXIT
     trap 'exit 130' HUP INT TERM
-    facts=$(left_by)
+    facts=$(left_by) || die "cannot read the runs in $folder/runs: nothing is done"
     run_number=$((last_run + 1)) run=runs/$(printf '%06d' $((last_run + 1)))-$day-$word
     { echo "# post $call" > "$run.script" && true > "$run.report" && echo replay > "$run.word" &&
         if [ -e rates.toml ]; then cat rates.toml; fi > "$run.rates" &&
