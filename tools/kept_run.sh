@@ -9,6 +9,7 @@ notes=${POST_NOTES:-$folder.notes}
 meter=                  # its process, while it runs
 nodes=                  # the nodes that are on
 unclean=                # the earlier runs without a noted end
+all_on=                 # whether they are, and something may be done
 left_open=              # whether this run can't have one
 all_done=               # whether it has one
 came_on=
@@ -145,15 +146,27 @@ sense_of() {
 
 # --- How a run begins ---
 
-# A node comes on with the commits that are due, or with one more behind a run that was stopped.
+# A node comes on with the commits that are due, or with so many more behind a run that was stopped.
 on() {
     case " $nodes " in *" $1 "*) return ;; esac
     surely "on $1"
     want "up $1 commits *"
     due=$(echo "$facts" | sed -n "s/^count $1 //p") due=${due:-0}
-    [ "$(last)" -eq "$due" ] || { [ -n "$unclean" ] && [ "$(last)" -eq $((due + 1)) ]; } ||
+    if [ "$(last)" -lt "$due" ] || [ "$(last)" -gt $((due + more)) ]; then
+        (ask end) 2> /dev/null
+        [ -n "$all_on" ] || set_aside
         alarm "$1 comes on with $(last) commits, and $due are due: its storage was lost, is an older copy, or was used without post"
+    fi
     nodes="$nodes $1"
+}
+# A run in which nothing was done is none of those that are judged.
+set_aside() {
+    aside=runs/alarm-$(date +%s)-${run#runs/}
+    for part in script report rates word; do mv "$run.$part" "$aside.$part"; done
+    note_begin "$last_run"
+    exec 3>&-
+    wait "$meter"
+    meter=
 }
 
 # What must be so before a run is begun.
@@ -168,6 +181,12 @@ ended 0' || die "cannot write $notes: POST_NOTES may name another file outside o
     fi
     [ "$last_run" -ge "$(noted run)" ] || alarm "the folder is an older copy: its last run is $last_run, and run $(noted run) was begun"
     unclean=$(kept | awk -v ended="$(noted ended)" '{ number = $0; sub(/-.*/, "", number); if (number + 0 > ended) print }')
+    # A commit whose answer is missing; how many a run with lines of its own makes is not known here.
+    more=0
+    for name in $unclean; do
+        [ "$more" -gt 1 ] || more=1
+        [ "$(cat "runs/$name.word" 2> /dev/null)" = replay ] || more=4294967295
+    done
     day_before=$(echo "$last_name" | cut -c 8-17)
     ! expr "$day" \< "$day_before" > /dev/null || [ -z "$day_before" ] ||
         die "the last run was on $day_before, and this day is $day: set the clock right, or type --day"
@@ -182,11 +201,11 @@ begin() {
     program=${METER:-$("$top/meter" --program)} || exit 2
     pipes=$(mktemp -d) && mkfifo "$pipes/script" "$pipes/report" || exit 2
     trap 'rm -rf "$pipes"' EXIT
-    trap 'exit 130' HUP INT TERM
+    trap 'echo "post: stopped. What is left is finished by the next call" >&2; exit 130' HUP INT TERM
     facts=$(left_by) || die "cannot read the runs in $folder/runs: nothing is done"
     run_number=$((last_run + 1)) run=runs/$(printf '%06d' $((last_run + 1)))-$day-$word
     { echo "# post $call" > "$run.script" && true > "$run.report" && echo replay > "$run.word" &&
-        if [ -e rates.toml ]; then cat rates.toml; fi > "$run.rates" &&
+        if [ -f rates.toml ]; then cat rates.toml; fi > "$run.rates" &&
         sync "$run.rates" "$run.word" runs . && note_begin "$run_number"; } 2> /dev/null || {
         rm -f "$run.script" "$run.report" "$run.rates" "$run.word"
         echo "post: cannot keep a run in $folder/runs, or write $notes: nothing is done" >&2
@@ -199,6 +218,8 @@ begin() {
     echo "# post $call" >&3
     ask "day $day"
     want 'day *'
+    # All nodes, before anything is done.
+    for node in "$@" $(echo "$facts" | sed -n 's/^node //p'); do on "$node"; done
+    all_on=yes
     [ -z "$unclean" ] || mend
-    for node; do on "$node"; done
 }
