@@ -13,7 +13,7 @@ use crate::journal::Form;
 use crate::kinds::doing_of;
 use bench::MOST_MESSAGES;
 use bench_base::events::{Event, Reply};
-use script_text::{is_skipped, read_event};
+use script_text::{Line, is_skipped, put_reply, read_event};
 use std::alloc::{AllocError, Global};
 use told_bench::{Auditor, Finding, due_to, judge, stop};
 use told_runs::{LINES, behind};
@@ -67,14 +67,14 @@ fn judged(
     judge(alloc, auditor, event, rates, line)
 }
 
-// What judgements say of a line whose answer was found to be missing.
+// What judgements say of a line whose answer was found to be missing, or to be begun: the reply with which its event was done, or none where that is in doubt.
 fn broken_off(
     alloc: Global,
     auditor: &mut Auditor,
     event: &Event,
     rates: &[u8],
     front: &[u8],
-) -> Result<(), Fault>
+) -> Result<Option<Reply>, Fault>
     requires whole { IsWholeEvent event.now }
     requires ready { IsReady (audit_of auditor.old) }
     ensures ready { IsReady (audit_of auditor.new) }
@@ -84,7 +84,7 @@ fn broken_off(
         return Err(Fault::Memory);
     }
     match stop(alloc, auditor, event, rates, front) {
-        Ok(()) => Ok(()),
+        Ok(told) => Ok(told),
         Err(Finding::Memory) => Err(Fault::Memory),
         Err(Finding::Wrong(_)) => Err(Fault::Counted),
     }
@@ -189,7 +189,7 @@ impl Clerk {
         Ok(taken)
     }
 
-    // Takes an event in which the run was stopped: its commit is open, if it makes one.
+    // Takes an event in which the run was stopped: it was done with the reply that begins so, or its commit is open, if it makes one.
     fn break_off(
         &mut self,
         rt: &HostRuntime,
@@ -206,13 +206,19 @@ impl Clerk {
         let due = due(rt.alloc(), &mut self.auditor, event, left.rates)?;
         let made = self.book.expected(place, &doing, &due);
         let before = known(&self.auditor, &made);
-        broken_off(
+        let told = broken_off(
             rt.alloc(),
             &mut self.auditor,
             event,
             left.rates,
             left.report,
         )?;
+        if let Some(reply) = told {
+            let mut line = Line::new();
+            put_reply(&mut line, &reply);
+            self.book.date(self.auditor.day());
+            self.book.hear(place, &doing, &due, line.as_slice())?;
+        }
         settle(rt, names, &self.auditor, &mut self.book, &made, &before)
     }
 

@@ -1,7 +1,9 @@
 -- Which replies may come for an event, and so which bytes may be the front of one.
-use Rattle.std.proofs.Common.{◌≡◌, inl, inr, ℕ, ◌+◌, ◌≤◌, List, [], Bool, true, false, Result, Ok, Err, IfOk, true≢false, ◌≢◌, ⊎_elim, refl, sym, ◌∙◌, ap, subst, arith}
-use Rattle.std.specs.Prelude.{◌&&◌, not, take, is_some, if◌then◌else◌}
+use Rattle.std.proofs.Common.{◌≡◌, ◌⊎◌, inl, inr, ℕ, ◌+◌, ◌≤◌, List, [], length, Bool, true, false, Some, Result, Ok, Err, IfOk, true≢false, ◌≢◌, ⊎_elim, refl, sym, ◌∙◌, ap, subst, arith}
+use Rattle.std.specs.Prelude.{◌&&◌, ◌==◌, not, take, is_some, if◌then◌else◌}
 use Rattle.std.proofs.lemmas.Bool.{cases_eq}
+use Rattle.std.proofs.lemmas.Bool.Decides.{Decides-eqb}
+use Rattle.std.proofs.lemmas.List.{nil_from_length}
 use Rattle.bench_base.specs.declared.words.Node.{Node}
 use Rattle.bench_base.specs.declared.words.Node.TheVariants.{Device, Centre, Host, Verifier}
 use Rattle.bench_base.specs.declared.events.Event.{Event}
@@ -19,8 +21,8 @@ use Rattle.script_text.specs.Told.{IsWholeReply, told}
 use Rattle.bench_base.specs.Events.{takes_rates}
 use Rattle.told_bench.specs.Judging.{taken_by, text_with, MayGet, ledger_with, IsTold}
 use Rattle.told_bench.specs.Seeing.{Audit, Sees}
-use Rattle.told_bench.specs.Stopping.{IsFrontOf, MayBegin, MayLose, torn, rests, IsBegun, IsUnbegun}
-use Rattle.told_bench.specs.Fronts.{number_of, BeginsOtherUp, BeginsCutPrint, BeginsRatesFault, Asks, IsFailure, IsDue, OnlyFails, Comes, LosesAt, LosesThere, NoneBelow, Loses}
+use Rattle.told_bench.specs.Stopping.{IsFrontOf, MayBegin, MayFail, MayComeOn, IsInDoubt, unanswered, failed, either_up, done, torn, rests, IsDoneWith, IsBegun, IsUnbegun}
+use Rattle.told_bench.specs.Fronts.{number_of, BeginsOtherUp, BeginsCutPrint, BeginsRatesFault, BeginsBothUps, BeginsFailure, IsFailure, IsDue, OnlyFails, Comes, MayLose, LosesAt, LosesThere, NoneBelow, Loses}
 use Rattle.told_bench.proofs.OnlyPrint.{only_print, is_failure}
 
 -- two nodes of one number are one
@@ -58,6 +60,13 @@ pub power_back : (x : Reply) (m : Node) → told x ≡ r.Power m → x ≡ r.Pow
 power_back (r.Power n) m is = is
 power_back _ m is = cc
 
+-- whether there are no bytes
+pub empty_is : (b : Bool) (front : List ℕ) → b ≡ (length front == 0) → b ≡ true → front ≡ []
+empty_is b front is empty = nil_from_length front ((Decides-eqb (length front) 0).0 (sym is ∙ empty))
+
+pub some_is : (b : Bool) (front : List ℕ) → b ≡ (length front == 0) → b ≡ false → front ≡ [] → ⊥
+some_is b front is some none = true≢false (sym (is ∙ ap (λ (l : List ℕ). length l == 0) none) ∙ some)
+
 -- what follows where all went well
 pub then_ok : {A E : Type 0} (P Q : A → Type 0) → ((x : A) → P x → Q x) → (r : Result A E) → IfOk r P → IfOk r Q
 then_ok P Q follows (Ok x) is = follows x is
@@ -73,22 +82,27 @@ module _ (τ : Tariff) (H : Ledger) (e : Event) (left : List ℕ) (m : Node) (na
         subst (λ (x : Reply). Sees a (ledger_with τ H e left [] x)) is t.sees,
       )
 
-  pub loses_asked : (front : List ℕ) (comes : Bool) (now : Audit) → Asks front comes m → (b : Bool) → LosesAt τ H e left m now b → LosesThere τ H e left front comes m now b
-  loses_asked front comes now asked true lost = ((named, lost.0), asked, lost.1)
-  loses_asked front comes now asked false lost = (λ may asks. lost.0 may.1, lost.1)
+  pub loses_there : (front : List ℕ) (now : Audit) → BeginsFailure front m → (b : Bool) → LosesAt τ H e left m now b → LosesThere τ H e left front m now b
+  loses_there front now begins true lost = ((named, lost.0), begins, lost.1)
+  loses_there front now begins false lost = (λ may begun. lost.0 may.1, lost.1)
 
   -- one node more
-  pub one_more : (front : List ℕ) (comes : Bool) (now : Audit) (number : ℕ) → number_of m ≡ number → NoneBelow τ H e left number front comes → LosesThere τ H e left front comes m now false
-      → NoneBelow τ H e left (number + 1) front comes
-  one_more front comes now number number_is below lost n before may asks = ⊎_elim
+  pub one_more : (front : List ℕ) (now : Audit) (number : ℕ) → number_of m ≡ number → NoneBelow τ H e left number front → LosesThere τ H e left front m now false
+      → NoneBelow τ H e left (number + 1) front
+  one_more front now number number_is below lost n before may begins = ⊎_elim
       (λ (same : number_of n ≡ number).
       let is : n ≡ m = one_node n m may.0 named (same ∙ sym number_is) in
-      lost.0 (subst (λ (x : Node). MayLose τ H e left front x) is may) (subst (λ (x : Node). Asks front comes x) is asks))
-      (λ (differs : number_of n ≢ number). below n (omega (arith, before, differs)) may asks)
+      lost.0 (subst (λ (x : Node). MayLose τ H e left front x) is may) (subst (λ (x : Node). BeginsFailure front x) is begins))
+      (λ (differs : number_of n ≢ number). below n (omega (arith, before, differs)) may begins)
       (cases_eq (number_of n) number)
 
-pub all_below : (τ : Tariff) (H : Ledger) (e : Event) (left front : List ℕ) (comes : Bool) (now : Audit) → NoneBelow τ H e left 12 front comes → Sees now H → Loses τ H e left front comes now false
-all_below τ H e left front comes now below sees = (λ m may asks. let w = numbered m may.0 in below m (omega (arith, w.1)) may asks, sees)
+pub all_below : (τ : Tariff) (H : Ledger) (e : Event) (left front : List ℕ) (now : Audit) → NoneBelow τ H e left 12 front → Sees now H → Loses τ H e left front now false
+all_below τ H e left front now below sees = (λ m may begins. let w = numbered m may.0 in below m (omega (arith, w.1)) may begins, sees)
+
+-- the number of commits that an `up` shows
+abbrev up_count : Reply → ℕ
+up_count (r.Up m k) = k
+up_count _ = 0
 
 module _ (τ : Tariff) (H : Ledger) (e : Event) (left front : List ℕ) where
   abbrev text : Reply → List ℕ
@@ -132,24 +146,29 @@ module _ (τ : Tariff) (H : Ledger) (e : Event) (left front : List ℕ) where
     answered : (reply : Reply) → fails_to_read (told_by reply) ≡ false → due ≡ answer τ todays_rules H e (text reply)
     answered reply fine = due_is ∙ ap (λ (t : List ℕ). answer τ todays_rules H e t) (sym (fine_text reply fine))
 
-    pub by_answer : IsWholeReply due → IsFrontOf front (text_of due) → Comes τ H e left front true
-    by_answer ranged is = (due, record { moves = (whole, inl (answered due due_fine)); whole = ranged; begins = is })
+    pub by_answer : IsWholeReply due → IsFrontOf front (text_of due) → Comes τ H e left front (Some due)
+    by_answer ranged is = record { moves = (whole, inl (answered due due_fine)); whole = ranged; begins = is }
 
     up_fine : (up : Reply) (m : Node) (k : ℕ) → up ≡ r.Up m k → fails_to_read (told_by up) ≡ false
     up_fine up m k is = ap (λ (x : Reply). fails_to_read (told_by x)) is
 
-    pub by_up : BeginsOtherUp due H front → Comes τ H e left front true
-    by_up b =
-        let same = answered b.reply (up_fine b.reply b.up.node (b.up.count + 1) b.up.more) in
-        (b.reply, record { moves = (whole, inr (inl (subst (λ (x : Reply). OtherUp x b.reply H) same b.up))); whole = b.whole; begins = b.begins })
+    pub by_up : (x : Reply) → BeginsOtherUp due H front x → Comes τ H e left front (Some x)
+    by_up x b =
+        let same = answered x (up_fine x b.0.node (b.0.count + 1) b.0.more) in
+        record { moves = (whole, inr (inl (subst (λ (y : Reply). OtherUp y x H) same b.0))); whole = b.1.0; begins = b.1.1 }
 
-    pub by_print : BeginsCutPrint due front → Comes τ H e left front true
-    by_print b = (r.PrinterFault b.job, record { moves = (whole, inr (inr (inl (sym (answered (r.PrinterFault b.job) refl) ∙ b.due_is)))); whole = b.whole; begins = b.begins })
+    pub by_print : (x : Reply) → BeginsCutPrint due front x → Comes τ H e left front (Some x)
+    by_print x b = subst (λ (y : Reply). MayBegin τ H e left front y) (sym b.0.2) (record {
+      moves = (whole, inr (inr (inl (sym (answered (r.PrinterFault b.0.0) refl) ∙ b.0.1))));
+      whole = subst IsWholeReply b.0.2 b.1.0;
+      begins = subst (λ (y : Reply). IsFrontOf front (text_of y)) b.0.2 b.1.1;
+    })
 
-    pub by_rates : BeginsRatesFault e (day_in H) front → Comes τ H e left front true
-    by_rates b = (r.RatesFault, record { moves = (whole, inr (inr (inr b.reads))); whole = tt; begins = b.begins })
+    pub by_rates : (x : Reply) → BeginsRatesFault e (day_in H) front x → Comes τ H e left front (Some x)
+    by_rates x b = record { moves = (whole, inr (inr (inr b.0))); whole = b.1.0; begins = b.1.1 }
 
-    pub by_none : (IsFrontOf front (text_of due) → ⊥) → (BeginsOtherUp due H front → ⊥) → (BeginsCutPrint due front → ⊥) → (BeginsRatesFault e (day_in H) front → ⊥) → OnlyFails τ H e left front
+    pub by_none : (IsFrontOf front (text_of due) → ⊥) → ((x : Reply) → BeginsOtherUp due H front x → ⊥) → ((x : Reply) → BeginsCutPrint due front x → ⊥)
+        → ((x : Reply) → BeginsRatesFault e (day_in H) front x → ⊥) → OnlyFails τ H e left front
     by_none no_answer no_up no_print no_rates reply may = elim may.moves.1 [
       | inl is ↦
           let fine = read_fine reply (ap is_failure is ∙ answers_fine (text reply)) in
@@ -157,45 +176,111 @@ module _ (τ : Tariff) (H : Ledger) (e : Event) (left front : List ℕ) where
           absurd (no_answer (subst (λ (x : Reply). IsFrontOf front (text_of x)) same may.begins))
       | inr (inl up) ↦
           let same = answered reply (up_fine reply up.node (up.count + 1) up.more) in
-          absurd (no_up (record { reply = reply; up = subst (λ (x : Reply). OtherUp x reply H) (sym same) up; whole = may.whole; begins = may.begins }))
-      | inr (inr (inl fails)) ↦ failed reply may fails
-      | inr (inr (inr reads)) ↦ absurd (no_rates (record {
-        reads = record { event = reads.event; reply_is = refl; dated = reads.dated };
-        begins = subst (λ (x : Reply). IsFrontOf front (text_of x)) reads.reply_is may.begins;
-      }))
+          absurd (no_up reply (subst (λ (x : Reply). OtherUp x reply H) (sym same) up, (may.whole, may.begins)))
+      | inr (inr (inl fails)) ↦ fails_alone reply may fails
+      | inr (inr (inr reads)) ↦ absurd (no_rates reply (reads, (may.whole, may.begins)))
     ]
       where
-        failed : (x : Reply) → MayBegin τ H e left front x → Fails (plan τ todays_rules H e (text x)) x → (m : Node) × IsFailure x m
-        failed (r.Power m) begun fails = (m, inl refl)
-        failed (r.Fault m) begun fails = (m, inr refl)
-        failed (r.PrinterFault j) begun fails = absurd (no_print (record { job = j; due_is = answered (r.PrinterFault j) refl ∙ fails; whole = begun.whole; begins = begun.begins }))
-        failed _ begun fails = absurd fails
+        fails_alone : (x : Reply) → MayBegin τ H e left front x → Fails (plan τ todays_rules H e (text x)) x → (m : Node) × IsFailure x m
+        fails_alone (r.Power m) begun fails = (m, inl refl)
+        fails_alone (r.Fault m) begun fails = (m, inr refl)
+        fails_alone (r.PrinterFault j) begun fails = absurd (no_print (r.PrinterFault j) ((j, answered (r.PrinterFault j) refl ∙ fails, refl), (begun.whole, begun.begins)))
+        fails_alone _ begun fails = absurd fails
+
+    -- == both `up`s ==
+
+    pub both_come : BeginsBothUps due H front → IsInDoubt τ H e left front
+    both_come b =
+        let up = b.2.0 in
+        let without = by_answer b.0.0 b.0.1 in
+        let counted = by_up b.1 b.2 in
+        either_up (up.node, up.count, subst (λ (x : Reply). MayBegin τ H e left front x) up.answer_is without, subst (λ (x : Reply). MayBegin τ H e left front x) up.more counted)
+
+    up_by : (m : Node) (k : ℕ) → MayBegin τ H e left front (r.Up m k) → (due ≡ r.Up m k) ⊎ OtherUp due (r.Up m k) H
+    up_by m k may = elim may.moves.1 [
+      | inl is ↦ inl (answered (r.Up m k) refl ∙ sym is)
+      | inr (inl up) ↦ inr (subst (λ (x : Reply). OtherUp x (r.Up m k) H) (sym (answered (r.Up m k) refl)) up)
+      | inr (inr (inl fails)) ↦ absurd fails
+      | inr (inr (inr reads)) ↦ let wrong : r.Up m k ≡ r.RatesFault = reads.reply_is in cc
+    ]
+
+    -- of two `up`s that may come the first is the answer
+    both_begin : (m : Node) (k : ℕ) → MayBegin τ H e left front (r.Up m k) → MayBegin τ H e left front (r.Up m (k + 1)) → BeginsBothUps due H front
+    both_begin m k without counted = by (up_by m k without) (up_by m (k + 1) counted)
+      where
+        by : (due ≡ r.Up m k) ⊎ OtherUp due (r.Up m k) H → (due ≡ r.Up m (k + 1)) ⊎ OtherUp due (r.Up m (k + 1)) H → BeginsBothUps due H front
+        by (inl is) (inl other) =
+            let wrong : k ≡ k + 1 = ap up_count (sym is ∙ other) in
+            absurd (omega (arith, wrong))
+        by (inl is) (inr up) = (
+          (subst IsWholeReply (sym is) without.whole, subst (λ (x : Reply). IsFrontOf front (text_of x)) (sym is) without.begins),
+          r.Up m (k + 1),
+          (up, (counted.whole, counted.begins)),
+        )
+        by (inr up) (inl is) =
+            let more : k ≡ up.count + 1 = ap up_count up.more in
+            let same : k + 1 ≡ up.count = ap up_count (sym is ∙ up.answer_is) in
+            absurd (omega (arith, more, same))
+        by (inr up) (inr other) =
+            let more : k ≡ up.count + 1 = ap up_count up.more in
+            let most : k + 1 ≡ other.count + 1 = ap up_count other.more in
+            let same : up.count ≡ other.count = ap up_count (sym up.answer_is ∙ other.answer_is) in
+            absurd (omega (arith, more, most, same))
+
+    pub none_come : (BeginsBothUps due H front → ⊥) → MayComeOn τ H e left front → ⊥
+    none_come none ups = none (both_begin ups.0 ups.1 ups.2 ups.3)
 
   -- == what is found ==
 
+  -- a failure of the node may come, and begins so
+  may_fail : (m : Node) → MayLose τ H e left front m → BeginsFailure front m → MayFail τ H e left front m
+  may_fail m may (inl power) = inl (record { moves = may.1; whole = may.0; begins = power })
+  may_fail m may (inr fault) = inr (record { moves = power_faults m may.1; whole = may.0; begins = fault })
+
+  may_lose : (m : Node) → MayFail τ H e left front m → MayLose τ H e left front m × BeginsFailure front m
+  may_lose m (inl power) = ((power.whole, power.moves), inl power.begins)
+  may_lose m (inr fault) = ((fault.whole, fault_powers m fault.moves), inr fault.begins)
+
+  failure_of : (m : Node) → MayFail τ H e left front m → (reply : Reply) × MayBegin τ H e left front reply
+  failure_of m (inl power) = (r.Power m, power)
+  failure_of m (inr fault) = (r.Fault m, fault)
+
   module _ (now : Audit) where
-    -- a reply comes that is no failure of a node
-    pub comes_begun : Comes τ H e left front true → (b : Bool) → Loses τ H e left front true now b → IsBegun τ H e left front now
-    comes_begun come true lost = record { reply = come.0; may = come.1; leaves = torn lost.0 lost.1 lost.3 }
-    comes_begun come false lost = record { reply = come.0; may = come.1; leaves = rests (λ m may. lost.0 m may (inl refl)) lost.1 }
+    pub lost_begun : Loses τ H e left front now true → IsBegun τ H e left front now × IsInDoubt τ H e left front
+    lost_begun (m, may, begins, sees) =
+        let fails = may_fail m may begins in
+        let come = failure_of m fails in
+        (record { reply = come.0; may = come.1; leaves = torn m fails sees }, failed m fails)
 
-    -- a failure of a node begins so
-    pub fails_begun : Loses τ H e left front false now true → IsBegun τ H e left front now
-    fails_begun (m, may, asked, sees) = elim asked [
-      | inl wrong ↦ absurd (true≢false (sym wrong))
-      | inr (inl power) ↦ record { reply = r.Power m; may = record { moves = may.1; whole = may.0; begins = power }; leaves = torn m may sees }
-      | inr (inr fault) ↦ record { reply = r.Fault m; may = record { moves = power_faults m may.1; whole = may.0; begins = fault }; leaves = torn m may sees }
-    ]
+    -- no node may have failed
+    none_fails : Loses τ H e left front now false → (m : Node) → MayFail τ H e left front m → ⊥
+    none_fails lost m fails = let w = may_lose m fails in lost.0 m w.0 w.1
 
-    pub none_begun : (due : Reply) → IsDue τ H e left due → OnlyFails τ H e left front → Loses τ H e left front false now false → IsUnbegun τ H e left front now due
+    pub rests_begun : (reply : Reply) → MayBegin τ H e left front reply → IsInDoubt τ H e left front → Loses τ H e left front now false → IsBegun τ H e left front now × IsInDoubt τ H e left front
+    rests_begun reply may doubt lost = (record { reply = reply; may = may; leaves = rests doubt (none_fails lost) lost.1 }, doubt)
+
+    pub no_doubt : (front ≡ [] → ⊥) → (MayComeOn τ H e left front → ⊥) → Loses τ H e left front now false → IsInDoubt τ H e left front → ⊥
+    no_doubt some up lost (unanswered is) = some is
+    no_doubt some up lost (failed m fails) = none_fails lost m fails
+    no_doubt some up lost (either_up ups) = up ups
+
+    pub none_begun : (due : Reply) → IsDue τ H e left due → OnlyFails τ H e left front → Loses τ H e left front now false → IsUnbegun τ H e left front now due
     none_begun due due_is only lost = record { due_is = due_is; none = none; rests = lost.1 }
       where
         none : (reply : Reply) → MayBegin τ H e left front reply → ⊥
         none reply may = let w = only reply may in elim w.1 [
-          | inl power ↦
-              let it = subst (λ (x : Reply). MayBegin τ H e left front x) power may in
-              lost.0 w.0 (it.whole, it.moves) (inr (inl it.begins))
-          | inr fault ↦
-              let it = subst (λ (x : Reply). MayBegin τ H e left front x) fault may in
-              lost.0 w.0 (it.whole, fault_powers w.0 it.moves) (inr (inr it.begins))
+          | inl power ↦ none_fails lost w.0 (inl (subst (λ (x : Reply). MayBegin τ H e left front x) power may))
+          | inr fault ↦ none_fails lost w.0 (inr (subst (λ (x : Reply). MayBegin τ H e left front x) fault may))
         ]
+
+  -- the event was done with this reply, and told with one of the same text
+  pub done_begun : (now : Audit) (reply : Reply) → MayBegin τ H e left front reply → (IsInDoubt τ H e left front → ⊥) → (x : Reply) × IsTold τ H e left (text_of reply) now x
+      → IsBegun τ H e left front now × IsDoneWith τ H e left front (Some reply)
+  done_begun now reply may certain (x, it) = (
+    record {
+      reply = reply;
+      may = may;
+      leaves = done x (record { moves = it.moves; whole = it.whole; begins = subst (λ (t : List ℕ). IsFrontOf front t) (sym it.text) may.begins }) certain it.sees;
+    },
+    (may, certain),
+  )

@@ -1,10 +1,11 @@
 -- Which replies begin with bytes, of those that may come for an event.
-use Rattle.std.specs.Prelude.{◌≡◌, ℕ, ℤ, ◌<◌, List, [], Bool, true, false, ◌⊎◌, Option}
+use Rattle.std.specs.Prelude.{◌≡◌, ℕ, ℤ, ◌<◌, List, [], Bool, true, false, ◌⊎◌, Option, Some, None}
 use Rattle.bench_base.specs.declared.words.Node.{Node}
 use Rattle.bench_base.specs.declared.words.Node.TheVariants.{Device, Centre, Host, Verifier}
 use Rattle.bench_base.specs.declared.events.Event.{Event}
 use Rattle.bench_base.specs.declared.events.Reply.{Reply}
 use Rattle.bench_base.specs.declared.events.Reply.TheVariants as r
+use Rattle.bench_base.specs.Ranges.{IsNode}
 use Rattle.bench_base.specs.Replies.{Did}
 use Rattle.bench_base.specs.Rules.{todays_rules}
 use Rattle.bench_base.specs.Ledger.{Ledger, day_in}
@@ -14,7 +15,7 @@ use Rattle.script_text.specs.Texts.{text_of}
 use Rattle.script_text.specs.Told.{IsWholeReply}
 use Rattle.told_bench.specs.Judging.{MayGet, ledger_with, taken_by}
 use Rattle.told_bench.specs.Seeing.{Audit, Sees}
-use Rattle.told_bench.specs.Stopping.{IsFrontOf, MayBegin, MayLose}
+use Rattle.told_bench.specs.Stopping.{IsFrontOf, MayBegin}
 
 -- the number of a node among all
 abbrev pub number_of : Node → ℕ
@@ -25,24 +26,30 @@ number_of Verifier = 11
 
 -- == beside the answer ==
 
+-- a reply that has P; or none has it
+abbrev pub IsFound : (Reply → Type 0) → Option Reply → Type 0
+IsFound P (Some reply) = P reply
+IsFound P None = (reply : Reply) → P reply → ⊥
+
+-- this reply begins so, and its numbers are in range
+abbrev pub Begins : List ℕ → Reply → Type 0
+Begins front reply = IsWholeReply reply × IsFrontOf front (text_of reply)
+
 -- the answer with one commit more, where one is open
-pub record BeginsOtherUp (due : Reply) (H : Ledger) (front : List ℕ) : Type 0 where
-  pub reply : Reply
-  pub up : OtherUp due reply H
-  pub whole : IsWholeReply reply
-  pub begins : IsFrontOf front (text_of reply)
+abbrev pub BeginsOtherUp : Reply → Ledger → List ℕ → Reply → Type 0
+BeginsOtherUp due H front reply = OtherUp due reply H × Begins front reply
 
 -- that the printer failed, in the place of a print
-pub record BeginsCutPrint (due : Reply) (front : List ℕ) : Type 0 where
-  pub job : ℕ
-  pub due_is : due ≡ r.Printed job
-  pub whole : IsWholeReply (r.PrinterFault job)
-  pub begins : IsFrontOf front (text_of (r.PrinterFault job))
+abbrev pub BeginsCutPrint : Reply → List ℕ → Reply → Type 0
+BeginsCutPrint due front reply = ((job : ℕ) × (due ≡ r.Printed job) × (reply ≡ r.PrinterFault job)) × Begins front reply
 
 -- that the rates can't be read
-pub record BeginsRatesFault (e : Event) (day : Option ℤ) (front : List ℕ) : Type 0 where
-  pub reads : FailsToRead e r.RatesFault day
-  pub begins : IsFrontOf front (text_of r.RatesFault)
+abbrev pub BeginsRatesFault : Event → Option ℤ → List ℕ → Reply → Type 0
+BeginsRatesFault e day front reply = FailsToRead e reply day × Begins front reply
+
+-- both `up`s of the node, without its open commit and with it
+abbrev pub BeginsBothUps : Reply → Ledger → List ℕ → Type 0
+BeginsBothUps due H front = Begins front due × (reply : Reply) × BeginsOtherUp due H front reply
 
 -- a failure of this node
 abbrev pub BeginsFailure : List ℕ → Node → Type 0
@@ -51,10 +58,6 @@ BeginsFailure front m = IsFrontOf front (text_of (r.Power m)) ⊎ IsFrontOf fron
 -- the reply is a failure of this node
 abbrev pub IsFailure : Reply → Node → Type 0
 IsFailure reply m = (reply ≡ r.Power m) ⊎ (reply ≡ r.Fault m)
-
--- the loss of power is asked for: another reply comes, or the bytes begin a failure of the node
-abbrev pub Asks : List ℕ → Bool → Node → Type 0
-Asks front comes m = (comes ≡ true) ⊎ BeginsFailure front m
 
 -- == by the ledger ==
 
@@ -67,26 +70,30 @@ module _ (τ : Tariff) (H : Ledger) (e : Event) (left : List ℕ) where
   abbrev pub OnlyFails : List ℕ → Type 0
   OnlyFails front = (reply : Reply) → MayBegin τ H e left front reply → (m : Node) × IsFailure reply m
 
-  -- a reply that is no failure of a node may begin so, or none does
-  abbrev pub Comes : List ℕ → Bool → Type 0
-  Comes front true = (reply : Reply) × MayBegin τ H e left front reply
-  Comes front false = OnlyFails front
+  -- a reply that is no failure of a node, and that may begin so; or none does
+  abbrev pub Comes : List ℕ → Option Reply → Type 0
+  Comes front (Some reply) = MayBegin τ H e left front reply
+  Comes front None = OnlyFails front
+
+  -- the node may lose its power in the event
+  abbrev pub MayLose : List ℕ → Node → Type 0
+  MayLose front m = IsNode m × MayGet τ H e left front (r.Power m)
 
   -- the event was told as one in which the node lost its power; or it may not be told so, and the auditor has what it had
   abbrev pub LosesAt : Node → Audit → Bool → Type 0
   LosesAt m a true = MayGet τ H e left [] (r.Power m) × Sees a (ledger_with τ H e left [] (r.Power m))
   LosesAt m a false = (MayGet τ H e left [] (r.Power m) → ⊥) × Sees a H
 
-  -- the event was told as one in which the node, for which that is asked, lost its power; or it is not asked for or may not be told so, and the auditor has what it had
-  abbrev pub LosesThere : List ℕ → Bool → Node → Audit → Bool → Type 0
-  LosesThere front comes m a true = MayLose τ H e left front m × Asks front comes m × Sees a (ledger_with τ H e left front (r.Power m))
-  LosesThere front comes m a false = (MayLose τ H e left front m → Asks front comes m → ⊥) × Sees a H
+  -- the event was told as one in which the node, a failure of which begins so, lost its power; or none does or it may not be told so, and the auditor has what it had
+  abbrev pub LosesThere : List ℕ → Node → Audit → Bool → Type 0
+  LosesThere front m a true = MayLose front m × BeginsFailure front m × Sees a (ledger_with τ H e left front (r.Power m))
+  LosesThere front m a false = (MayLose front m → BeginsFailure front m → ⊥) × Sees a H
 
-  -- no node whose number is below this loses its power where it is asked for
-  abbrev pub NoneBelow : ℕ → List ℕ → Bool → Type 0
-  NoneBelow number front comes = (m : Node) → number_of m < number → MayLose τ H e left front m → Asks front comes m → ⊥
+  -- no node whose number is below this may lose its power, where its failure begins so
+  abbrev pub NoneBelow : ℕ → List ℕ → Type 0
+  NoneBelow number front = (m : Node) → number_of m < number → MayLose front m → BeginsFailure front m → ⊥
 
-  -- the event was told as one in which some node, for which that is asked, lost its power; or there is none that may be told so, and the auditor has what it had
-  abbrev pub Loses : List ℕ → Bool → Audit → Bool → Type 0
-  Loses front comes a true = (m : Node) × MayLose τ H e left front m × Asks front comes m × Sees a (ledger_with τ H e left front (r.Power m))
-  Loses front comes a false = ((m : Node) → MayLose τ H e left front m → Asks front comes m → ⊥) × Sees a H
+  -- the event was told as one in which some node, a failure of which begins so, lost its power; or there is none that may be told so, and the auditor has what it had
+  abbrev pub Loses : List ℕ → Audit → Bool → Type 0
+  Loses front a true = (m : Node) × MayLose front m × BeginsFailure front m × Sees a (ledger_with τ H e left front (r.Power m))
+  Loses front a false = ((m : Node) → MayLose front m → BeginsFailure front m → ⊥) × Sees a H

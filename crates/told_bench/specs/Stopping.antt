@@ -1,10 +1,9 @@
 -- Where a report ends before the line end of the answer to an event: what may stand there of one, and what the auditor has behind it.
-use Rattle.std.specs.Prelude.{◌≡◌, ℕ, List, ◌++◌, Result, Ok, Err}
+use Rattle.std.specs.Prelude.{◌≡◌, ◌⊎◌, ℕ, ◌+◌, List, [], ◌++◌, Option, Some, None, Result, Ok, Err}
 use Rattle.bench_base.specs.declared.words.Node.{Node}
 use Rattle.bench_base.specs.declared.events.Event.{Event}
 use Rattle.bench_base.specs.declared.events.Reply.{Reply}
 use Rattle.bench_base.specs.declared.events.Reply.TheVariants as r
-use Rattle.bench_base.specs.Ranges.{IsNode}
 use Rattle.bench_base.specs.Replies.{Did}
 use Rattle.bench_base.specs.Rules.{todays_rules}
 use Rattle.bench_base.specs.Ledger.{Ledger, day_in}
@@ -29,15 +28,32 @@ module _ (τ : Tariff) (H : Ledger) (e : Event) (left front : List ℕ) where
     pub whole : IsWholeReply reply
     pub begins : IsFrontOf front (text_of reply)
 
-  -- the event may be told as one in which this node lost its power
-  abbrev pub MayLose : Node → Type 0
-  MayLose m = IsNode m × MayGet τ H e left front (r.Power m)
+  -- this node may have failed in the event
+  abbrev pub MayFail : Node → Type 0
+  MayFail m = MayBegin (r.Power m) ⊎ MayBegin (r.Fault m)
 
-  -- What the auditor has behind the stop: what the ledger shows in which a node lost its power in the event, so that it is off, and a commit is open until it comes on;
-  -- or, where no node may lose it, what it had.
+  -- a node may have come on without its open commit, or with it
+  abbrev pub MayComeOn : Type 0
+  MayComeOn = (m : Node) × (commits : ℕ) × MayBegin (r.Up m commits) × MayBegin (r.Up m (commits + 1))
+
+  -- WHETHER THE EVENT WAS DONE IS IN DOUBT: nothing of the answer stands there; or what stands there may be a failure of a node, or either of two `up`s.
+  pub data IsInDoubt : Type 0 where
+    unanswered : front ≡ [] → IsInDoubt
+    failed : (m : Node) → MayFail m → IsInDoubt
+    either_up : MayComeOn → IsInDoubt
+
+  -- WHAT THE AUDITOR HAS BEHIND THE STOP is what the ledger shows in which the event was done with a reply that begins so, and so what it sent and released.
+  -- Where that is in doubt, and a node may have failed, it is that in which the node lost its power: it is off, and its commit is open until it comes on. Where none
+  -- may have, the event commits nothing, and the auditor has what it had.
   pub data Leaves (a : Audit) : Type 0 where
-    torn : (m : Node) → MayLose m → Sees a (ledger_with τ H e left front (r.Power m)) → Leaves a
-    rests : ((m : Node) → MayLose m → ⊥) → Sees a H → Leaves a
+    done : (reply : Reply) → MayBegin reply → (IsInDoubt → ⊥) → Sees a (ledger_with τ H e left front reply) → Leaves a
+    torn : (m : Node) → MayFail m → Sees a (ledger_with τ H e left front (r.Power m)) → Leaves a
+    rests : IsInDoubt → ((m : Node) → MayFail m → ⊥) → Sees a H → Leaves a
+
+  -- the reply with which the event was done, or none where that is in doubt
+  abbrev pub IsDoneWith : Option Reply → Type 0
+  IsDoneWith (Some reply) = MayBegin reply × (IsInDoubt → ⊥)
+  IsDoneWith None = IsInDoubt
 
   -- they are the front of the line of a reply that the event may get
   pub record IsBegun (a : Audit) : Type 0 where
@@ -52,7 +68,7 @@ module _ (τ : Tariff) (H : Ledger) (e : Event) (left front : List ℕ) where
     pub rests : Sees a H
 
   -- what is found of them
-  abbrev pub IsStopped : Audit → Result (Unit {0}) Finding → Type 0
-  IsStopped a (Ok done) = IsBegun a
+  abbrev pub IsStopped : Audit → Result (Option Reply) Finding → Type 0
+  IsStopped a (Ok told) = IsBegun a × IsDoneWith told
   IsStopped a (Err (Wrong due)) = IsUnbegun a due
   IsStopped a (Err Memory) = Unit {0}

@@ -15,4 +15,4 @@ pub use auditor::Auditor;
 pub use forging::{index, is_forged};
 pub use judging::{Finding, judge};
 pub use printed::mark_due;
-pub use stopping::{due_to, stop};
+pub use stopping::{begins, due_to, stop};

@@ -1,18 +1,19 @@
 //! Where a report ends before the line end of an answer: whether what stands there of it can be the front of a reply, and how the event is told then.
-ghost use Rattle.std.specs.Prelude.{◌≡◌, ◌↔◌, ◌+◌, ◌<◌, ◌≤◌, ℕ, List, IsTrue, IsOk, MatchBool, IfOk, Ok, length, true, false};
+ghost use Rattle.std.specs.Prelude.{◌≡◌, ◌↔◌, ◌+◌, ◌<◌, ◌≤◌, ℕ, List, IsTrue, IsOk, IsSome, MatchBool, IfOk, OnOk, Ok, length, true, false};
+ghost use Rattle.bench_base.specs.declared.events.Reply.{Reply};
 ghost use Rattle.bench_base.specs.Ledger.{Ledger};
 ghost use Rattle.bench_base.specs.Ranges.{IsNode, IsWholeEvent};
 ghost use Rattle.bench.specs.declared.benches.TheConstants.{MOST_MESSAGES};
 ghost use Rattle.ledger_moves.specs.Tariffs.{Tariff};
 ghost use Rattle.script_text.specs.Texts.{text_of};
 ghost use Rattle.script_text.specs.Told.{IsWholeReply};
-ghost use Rattle.told_bench.specs.Fronts.{number_of, BeginsOtherUp, BeginsCutPrint, BeginsRatesFault, Asks, IsDue, Comes, LosesAt, LosesThere, Loses};
-ghost use Rattle.told_bench.specs.Judging.{AtEach};
+ghost use Rattle.told_bench.specs.Fronts.{number_of, IsFound, BeginsOtherUp, BeginsCutPrint, BeginsRatesFault, BeginsBothUps, BeginsFailure, IsDue, Comes, LosesAt, LosesThere, Loses};
+ghost use Rattle.told_bench.specs.Judging.{AtEach, IsTold};
 ghost use Rattle.told_bench.specs.Seeing.{IsReady, Sees, audit_of};
 ghost use Rattle.told_bench.specs.Stopping.{IsFrontOf, IsStopped};
 
 use crate::auditor::Auditor;
-use crate::judging::{Finding, hear, send};
+use crate::judging::{Finding, hear, judge, send};
 use bench_base::events::{Event, Reply};
 use bench_base::numbers::{DayNo, DevNo};
 use bench_base::words::Node;
@@ -20,8 +21,8 @@ use script_text::laws::{one_line, one_reply};
 use script_text::{Line, put_reply};
 use std::alloc::{AllocError, Global};
 
-// Whether the line of this reply begins so, or is so.
-fn begins(reply: &Reply, front: &[u8]) -> bool
+/// Whether the line of this reply begins so, or is so.
+pub fn begins(reply: &Reply, front: &[u8]) -> bool
     ensures exact { IsTrue result ↔ IsFrontOf front.now (text_of reply.now) }
     ensures whole { IsWholeReply reply.now }
     ensures short { result ≡ true → length front.now ≤ 256 }
@@ -31,67 +32,84 @@ fn begins(reply: &Reply, front: &[u8]) -> bool
     text.as_slice().starts_with(front)
 }
 
-// Whether the node's other `up` begins so, with its open commit, where this is the answer.
-fn begins_other_up(auditor: &Auditor, due: &Reply, front: &[u8]) -> bool
+// The node's other `up`, with its open commit, where this is the answer, if it begins so.
+fn other_up(auditor: &Auditor, due: &Reply, front: &[u8]) -> Option<Reply>
     requires ready { IsReady (audit_of auditor.now) }
-    ensures exact { (H : Ledger) → Sees (audit_of auditor.now) H → MatchBool result (BeginsOtherUp due.now H front.now) (BeginsOtherUp due.now H front.now → ⊥) }
-    ensures short { result ≡ true → length front.now ≤ 256 }
+    ensures exact { (H : Ledger) → Sees (audit_of auditor.now) H → IsFound (BeginsOtherUp due.now H front.now) result }
+    ensures short { IsSome result → length front.now ≤ 256 }
 {
     let Reply::Up { node, commits } = due else {
-        return false;
+        return None;
     };
     let Some(more) = commits.checked_add(1) else {
-        return false;
+        return None;
     };
-    auditor.is_open(node)
-        && begins(
-            &Reply::Up {
-                node: *node,
-                commits: more,
-            },
-            front,
-        )
+    if !auditor.is_open(node) {
+        return None;
+    }
+    let up = Reply::Up {
+        node: *node,
+        commits: more,
+    };
+    if begins(&up, front) { Some(up) } else { None }
 }
 
-// Whether a failure of the printer begins so, where this is the answer.
-fn begins_cut_print(due: &Reply, front: &[u8]) -> bool
-    ensures exact { MatchBool result (BeginsCutPrint due.now front.now) (BeginsCutPrint due.now front.now → ⊥) }
-    ensures short { result ≡ true → length front.now ≤ 256 }
+// A failure of the printer, where this is the answer, if it begins so.
+fn cut_print(due: &Reply, front: &[u8]) -> Option<Reply>
+    ensures exact { IsFound (BeginsCutPrint due.now front.now) result }
+    ensures short { IsSome result → length front.now ≤ 256 }
 {
     let Reply::Printed(job) = due else {
-        return false;
+        return None;
     };
-    begins(&Reply::PrinterFault(*job), front)
+    let fault = Reply::PrinterFault(*job);
+    if begins(&fault, front) {
+        Some(fault)
+    } else {
+        None
+    }
 }
 
-// Whether a failure of the rates begins so.
-fn begins_rates_fault(event: &Event, day: Option<DayNo>, front: &[u8]) -> bool
-    ensures exact { MatchBool result (BeginsRatesFault event.now day front.now) (BeginsRatesFault event.now day front.now → ⊥) }
-    ensures short { result ≡ true → length front.now ≤ 256 }
+// A failure of the rates, if it begins so.
+fn rates_fault(event: &Event, day: Option<DayNo>, front: &[u8]) -> Option<Reply>
+    ensures exact { IsFound (BeginsRatesFault event.now day front.now) result }
+    ensures short { IsSome result → length front.now ≤ 256 }
 {
     let Event::Rates = event else {
-        return false;
+        return None;
     };
-    day.is_some() && begins(&Reply::RatesFault, front)
+    if day.is_some() && begins(&Reply::RatesFault, front) {
+        Some(Reply::RatesFault)
+    } else {
+        None
+    }
 }
 
-// Whether a reply begins so that is no failure of a node, where this is the answer.
-fn comes(auditor: &Auditor, event: &Event, due: &Reply, front: &[u8]) -> bool
+// A reply that begins so and is no failure of a node, where this is the answer.
+fn begun(auditor: &Auditor, event: &Event, due: &Reply, front: &[u8]) -> Option<Reply>
     requires whole { IsWholeEvent event.now }
     requires ready { IsReady (audit_of auditor.now) }
     ensures exact { (τ : Tariff) (H : Ledger) (left : List ℕ) → Sees (audit_of auditor.now) H → IsDue τ H event.now left due.now → Comes τ H event.now left front.now result }
-    ensures short { result ≡ true → length front.now ≤ 256 }
+    ensures short { IsSome result → length front.now ≤ 256 }
 {
     if begins(due, front) {
-        return true;
+        return Some(*due);
     }
-    if begins_other_up(auditor, due, front) {
-        return true;
+    if let Some(up) = other_up(auditor, due, front) {
+        return Some(up);
     }
-    if begins_cut_print(due, front) {
-        return true;
+    if let Some(fault) = cut_print(due, front) {
+        return Some(fault);
     }
-    begins_rates_fault(event, auditor.day, front)
+    rates_fault(event, auditor.day, front)
+}
+
+// Whether both `up`s of the node begin so, where this is the answer: it may have come on with its open commit, or without.
+fn begins_both_ups(auditor: &Auditor, due: &Reply, front: &[u8]) -> bool
+    requires ready { IsReady (audit_of auditor.now) }
+    ensures exact { (H : Ledger) → Sees (audit_of auditor.now) H → MatchBool result (BeginsBothUps due.now H front.now) (BeginsBothUps due.now H front.now → ⊥) }
+{
+    begins(due, front) && other_up(auditor, due, front).is_some()
 }
 
 /// The answer that is due to the event, which the auditor leaves as it was: no reply has a line end in its line. AllocError is want of memory, for rates or a message.
@@ -161,23 +179,21 @@ fn node_at(number: u32) -> Node
     }
 }
 
-// Whether a reply comes that begins so, or a failure of this node does.
-fn asks(comes: bool, node: &Node, front: &[u8]) -> bool
-    ensures exact { MatchBool result (Asks front.now comes node.now) (Asks front.now comes node.now → ⊥) }
-    ensures short { result ≡ true → comes ≡ false → length front.now ≤ 256 }
+// Whether a failure of this node begins so.
+fn begins_failure(node: &Node, front: &[u8]) -> bool
+    ensures exact { MatchBool result (BeginsFailure front.now node.now) (BeginsFailure front.now node.now → ⊥) }
+    ensures short { result ≡ true → length front.now ≤ 256 }
 {
-    comes || begins(&Reply::Power(*node), front) || begins(&Reply::Fault(*node), front)
+    begins(&Reply::Power(*node), front) || begins(&Reply::Fault(*node), front)
 }
 
-// Tells the event as one in which this node lost its power, if a reply comes that begins so or a failure of the node does, and it may be told so. True
-// exactly where both hold.
+// Tells the event as one in which this node lost its power, if a failure of the node begins so, and it may be told so. True exactly where both hold.
 fn lose_power_there(
     alloc: Global,
     auditor: &mut Auditor,
     event: &Event,
     left: &[u8],
     front: &[u8],
-    comes: bool,
     node: &Node,
 ) -> Result<bool, AllocError>
     requires whole { IsWholeEvent event.now }
@@ -187,53 +203,78 @@ fn lose_power_there(
     ensures ready { IsReady (audit_of auditor.new) }
     ensures few { length (audit_of auditor.new).messages ≤ length (audit_of auditor.old).messages + 1 }
     ensures unsent { IfOk result (λ b. b ≡ false → (audit_of auditor.new).messages ≡ (audit_of auditor.old).messages) }
-    ensures lost { AtEach (audit_of auditor.old) event.now (λ τ H. IfOk result (λ b. LosesThere τ H event.now left.now front.now comes node.now (audit_of auditor.new) b)) }
-    ensures short { result ≡ Ok true → comes ≡ false → length front.now ≤ 256 }
+    ensures lost { AtEach (audit_of auditor.old) event.now (λ τ H. IfOk result (λ b. LosesThere τ H event.now left.now front.now node.now (audit_of auditor.new) b)) }
+    ensures short { result ≡ Ok true → length front.now ≤ 256 }
 {
-    if asks(comes, node, front) {
+    if begins_failure(node, front) {
         lose_power_at(alloc, auditor, event, left, node)
     } else {
         Ok(false)
     }
 }
 
-// Tells the event as one in which a node lost its power: the first of all for which that is asked and may be told. True exactly where there is one.
+// Tells the event as one in which a node lost its power: the first of all a failure of which begins so, and that may be told so. True exactly where there is one.
 fn lose_power(
     alloc: Global,
     auditor: &mut Auditor,
     event: &Event,
     left: &[u8],
     front: &[u8],
-    comes: bool,
 ) -> Result<bool, AllocError>
     requires whole { IsWholeEvent event.now }
     requires ready { IsReady (audit_of auditor.old) }
     requires few { length (audit_of auditor.old).messages < MOST_MESSAGES }
     ensures ready { IsReady (audit_of auditor.new) }
     ensures few { length (audit_of auditor.new).messages ≤ length (audit_of auditor.old).messages + 1 }
-    ensures lost { AtEach (audit_of auditor.old) event.now (λ τ H. IfOk result (λ b. Loses τ H event.now left.now front.now comes (audit_of auditor.new) b)) }
-    ensures short { result ≡ Ok true → comes ≡ false → length front.now ≤ 256 }
+    ensures unsent { IfOk result (λ b. b ≡ false → (audit_of auditor.new).messages ≡ (audit_of auditor.old).messages) }
+    ensures lost { AtEach (audit_of auditor.old) event.now (λ τ H. IfOk result (λ b. Loses τ H event.now left.now front.now (audit_of auditor.new) b)) }
+    ensures short { result ≡ Ok true → length front.now ≤ 256 }
 {
     for number in 1..12 {
         let node = node_at(number);
-        if lose_power_there(alloc, auditor, event, left, front, comes, &node)? {
+        if lose_power_there(alloc, auditor, event, left, front, &node)? {
             return Ok(true);
         }
     }
     Ok(false)
 }
 
+// Tells the event as one that was done with this reply, which it may get.
+fn tell_done(
+    alloc: Global,
+    auditor: &mut Auditor,
+    event: &Event,
+    left: &[u8],
+    reply: &Reply,
+) -> Result<(), AllocError>
+    requires whole { IsWholeEvent event.now }
+    requires ready { IsReady (audit_of auditor.old) }
+    requires few { length (audit_of auditor.old).messages < MOST_MESSAGES }
+    ensures ready { IsReady (audit_of auditor.new) }
+    ensures few { length (audit_of auditor.new).messages ≤ length (audit_of auditor.old).messages + 1 }
+    ensures done { AtEach (audit_of auditor.old) event.now (λ τ H. OnOk result ((x : Reply) × IsTold τ H event.now left.now (text_of reply.now) (audit_of auditor.new) x)) }
+{
+    let mut line = Line::new();
+    put_reply(&mut line, reply);
+    match judge(alloc, auditor, event, left, line.as_slice()) {
+        Ok(_) => Ok(()),
+        Err(_) => Err(AllocError),
+    }
+}
+
 /// Judges bytes that a report ends with, where the line of this event should stand: none, some or all of it, without its line end. `Ok` exactly where they are
-/// the front of the line of a reply that the event may get. Whether the event is done is open then, so it is told as one in which its node lost its power, where
-/// it may be told so: the next `up` says whether its commit counts. `Wrong`, with the answer that was due, exactly where they are the front of none; the auditor
-/// has what it had. More than 256 bytes are never the front of one, whatever the auditor has. `Memory` is want of memory, for rates, a message or a mark.
+/// the front of the line of a reply that the event may get. A reply comes after its event, so the event was done, and is told with a reply that begins so: this one.
+/// None is where that is in doubt, since nothing stands there, or a failure of a node begins so, or either of its `up`s. The event is then told as one in which
+/// its node lost its power, where it may be told so: the next `up` says whether its commit counts. `Wrong`, with the answer that was due, exactly where they are the
+/// front of none; the auditor has what it had. More than 256 bytes are never the front of one, whatever the auditor has. `Memory` is want of memory, for rates, a
+/// message or a mark.
 pub fn stop(
     alloc: Global,
     auditor: &mut Auditor,
     event: &Event,
     left: &[u8],
     front: &[u8],
-) -> Result<(), Finding>
+) -> Result<Option<Reply>, Finding>
     requires whole { IsWholeEvent event.now }
     requires ready { IsReady (audit_of auditor.old) }
     requires few { length (audit_of auditor.old).messages < MOST_MESSAGES }
@@ -245,15 +286,20 @@ pub fn stop(
     let Ok(due) = due_to(alloc, auditor, event, left) else {
         return Err(Finding::Memory);
     };
-    let comes = comes(auditor, event, &due, front);
-    let Ok(is_lost) = lose_power(alloc, auditor, event, left, front, comes) else {
+    let Ok(is_lost) = lose_power(alloc, auditor, event, left, front) else {
         return Err(Finding::Memory);
     };
-    if comes {
-        return Ok(());
-    }
     if is_lost {
-        return Ok(());
+        return Ok(None);
     }
-    Err(Finding::Wrong(due))
+    let Some(reply) = begun(auditor, event, &due, front) else {
+        return Err(Finding::Wrong(due));
+    };
+    if front.is_empty() || begins_both_ups(auditor, &due, front) {
+        return Ok(None);
+    }
+    match tell_done(alloc, auditor, event, left, &reply) {
+        Ok(()) => Ok(Some(reply)),
+        Err(_) => Err(Finding::Memory),
+    }
 }

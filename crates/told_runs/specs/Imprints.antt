@@ -1,5 +1,5 @@
 -- What the printer was given in the events of a run.
-use Rattle.std.specs.Prelude.{◌≡◌, ◌≢◌, ℕ, List, [], ◌∷◌, Option, Some, None, option_map}
+use Rattle.std.specs.Prelude.{◌≡◌, ◌≢◌, ◌↔◌, ℕ, List, [], ◌∷◌, Option, Some, None, option_map}
 use Rattle.bench_base.specs.declared.events.Event.{Event}
 use Rattle.bench_base.specs.declared.events.Event.TheVariants as ev
 use Rattle.bench_base.specs.declared.events.Reply.{Reply}
@@ -12,19 +12,18 @@ use Rattle.ledger_moves.specs.Moves.{plan}
 use Rattle.node_turns.specs.Printing.{print_of}
 use Rattle.script_text.specs.Texts.{text_of}
 use Rattle.told_bench.specs.Seeing.{Audit, Sees}
+use Rattle.told_bench.specs.Stopping.{IsFrontOf}
 use Rattle.told_runs.specs.declared.imprint.Given.{Given}
 use Rattle.told_runs.specs.declared.imprint.Imprint.{Imprint}
+use Rattle.told_runs.specs.declared.imprint.Taken.{Taken}
 use Rattle.told_runs.specs.declared.imprint.Taken.TheVariants.{Whole, Failed, Stopped}
 
--- a mark whose whole line was taken, in whose line the printer failed, or at which the run was stopped
+-- a mark whose whole line was taken, or in whose line the printer failed
 abbrev pub taken_whole : List ℕ → Given
 taken_whole mark = record { mark = mark; taken = Whole }
 
 abbrev pub failed_in : List ℕ → Given
 failed_in mark = record { mark = mark; taken = Failed }
-
-abbrev pub stopped_at : List ℕ → Given
-stopped_at mark = record { mark = mark; taken = Stopped }
 
 -- In an event with this reply, whose plan prints this mark, the printer was given this: the mark that is told as printed, or in whose line the printer failed,
 -- and else nothing.
@@ -33,10 +32,21 @@ pub record IsGiven (reply : Reply) (mark : Option (List ℕ)) (given : Option Gi
   pub cut : (job : ℕ) → reply ≡ r.PrinterFault job → (x : List ℕ) × (mark ≡ Some x) × (given ≡ Some (failed_in x))
   pub none : ((job : ℕ) → reply ≢ r.Printed job) → ((job : ℕ) → reply ≢ r.PrinterFault job) → given ≡ None
 
--- What is open where the line of the event is missing: in a `print` whose plan prints a mark, the run was stopped at that mark, and the printer may have taken none, some or
--- all of its line; and nothing is open in any other event.
-pub record IsLeftOpen (τ : Tariff) (H : Ledger) (e : Event) (given : Option Given) : Type 0 where
-  pub print : (j : ℕ) → e ≡ ev.Print j → given ≡ option_map stopped_at (print_of (plan τ todays_rules H (ev.Print j) []).after)
+-- What the printer took in a `print` of this job, where the report ends with this front of its answer: the whole line of the mark, if it begins `printed` alone; not all of it,
+-- if it begins `printer fault` alone; and none, some or all of it, if it begins both or none.
+pub data IsTaken (j : ℕ) (front : List ℕ) : Taken → Type 0 where
+  whole : IsFrontOf front (text_of (r.Printed j)) → (IsFrontOf front (text_of (r.PrinterFault j)) → ⊥) → IsTaken j front Whole
+  failed : (IsFrontOf front (text_of (r.Printed j)) → ⊥) → IsFrontOf front (text_of (r.PrinterFault j)) → IsTaken j front Failed
+  stopped : IsFrontOf front (text_of (r.Printed j)) ↔ IsFrontOf front (text_of (r.PrinterFault j)) → IsTaken j front Stopped
+
+-- the printer was given this mark there, of which it took so much; or nothing, where no mark is due
+abbrev pub IsGivenAt : ℕ → List ℕ → Option (List ℕ) → Option Given → Type 0
+IsGivenAt j front None given = given ≡ None
+IsGivenAt j front (Some mark) given = (taken : Taken) × IsTaken j front taken × (given ≡ Some (record { mark = mark; taken = taken }))
+
+-- What the printer was given where the report ends with this front of the event's line: in a `print` the mark that its plan prints, if it prints one; and nothing in any other event.
+pub record IsLeftOpen (τ : Tariff) (H : Ledger) (e : Event) (front : List ℕ) (given : Option Given) : Type 0 where
+  pub print : (j : ℕ) → e ≡ ev.Print j → IsGivenAt j front (print_of (plan τ todays_rules H (ev.Print j) []).after) given
   pub other : ((j : ℕ) → e ≢ ev.Print j) → given ≡ None
 
 -- what was given for the line of this number
@@ -56,7 +66,7 @@ pub record GivesSo (e : Event) (due : Option (List ℕ)) (line : List ℕ) (give
   pub cut : (j : ℕ) → e ≡ ev.Print j → text_of (r.PrinterFault j) ≡ line → text_of (r.Printed j) ≢ line → given ≡ option_map failed_in due
   pub none : ((j : ℕ) → e ≡ ev.Print j → (text_of (r.Printed j) ≢ line) × (text_of (r.PrinterFault j) ≢ line)) → given ≡ None
 
--- a `print` whose plan prints this mark leaves this open, where its line is missing; any other event leaves nothing open
-pub record LeavesOpen (e : Event) (due : Option (List ℕ)) (given : Option Given) : Type 0 where
-  pub print : (j : ℕ) → e ≡ ev.Print j → given ≡ option_map stopped_at due
+-- a `print` whose plan prints this mark gave this, where the report ends with this front of its line; any other event gave nothing
+pub record LeavesOpen (e : Event) (due : Option (List ℕ)) (front : List ℕ) (given : Option Given) : Type 0 where
+  pub print : (j : ℕ) → e ≡ ev.Print j → IsGivenAt j front due given
   pub other : ((j : ℕ) → e ≢ ev.Print j) → given ≡ None

@@ -19,7 +19,7 @@ module _ (number : ℕ) (e : Event) (report rates : List ℕ) (old new : Audit) 
   -- the run was stopped there, and this is open of what was printed
   pub record IsStop (given : Option Given) : Type 0 where
     pub begun : AtEach old e (λ τ H. IsBegun τ H e rates report new)
-    pub left_open : (τ : Tariff) (H : Ledger) → History τ editions H → Sees old H → IsLeftOpen τ H e given
+    pub left_open : (τ : Tariff) (H : Ledger) → History τ editions H → Sees old H → IsLeftOpen τ H e report given
     pub prints : after ≡ before ++ imprint_at number given
 
   abbrev pub StopsSo : Verdict → Type 0

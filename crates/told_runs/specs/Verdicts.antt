@@ -160,12 +160,12 @@ module _ (τ : Tariff) (H : Ledger) (left : List ℕ) (now : Audit) where
   IsWrong e due told (has_front front behind is one) = IsUnbegun τ H e left front now due
 
   -- What the verdict says where it falls: the end may be so; the next event brings nothing forged, and what the report ends with may be the front of the line of a
-  -- reply, and the auditor sees the ledger in which a node lost its power in the event, if one may; it brings nothing forged, and may not get what the report
+  -- reply, and the auditor sees a ledger that the event may have left, as `Leaves` says; it brings nothing forged, and may not get what the report
   -- has; or it brings something forged.
   abbrev pub IsSo : (number : ℕ) (rest : List (List ℕ)) (told : List ℕ) (v : Verdict) → FallsAt number rest told v → Type 0
   IsSo number rest told (Lawful end) at = MayEnd end told [] at.report
   IsSo number rest told (More n) at = MayEnd at.1 told at.2 at.3.report
-  IsSo number rest told (Stopped n) at = Unforged at.1 H × IsBegun τ H at.1 left told now × IsLeftOpen τ H at.1 at.2
+  IsSo number rest told (Stopped n) at = Unforged at.1 H × IsBegun τ H at.1 left told now × IsLeftOpen τ H at.1 told at.2
   IsSo number rest told (Wrong n due) at = Unforged at.1 H × IsWrong at.1 due told at.3
   IsSo number rest told (Forged n) at = (Unforged at.1 H → ⊥) × Sees now H
   IsSo number rest told Memory at = Unit {0}

@@ -97,9 +97,9 @@ fn turn<S: Source, R: Source>(
 /// Script and report are read once, a line at a time, and no further than the verdict asks for: what it says holds whatever stands behind that. `Unread` comes only where a
 /// source's count of faults rose.
 ///
-/// What the printer was given in the lines that were paired is put behind the imprints, and what is open of it where the run was stopped. A stop is told as one in
-/// which a node lost its power, where that may come, so that a run over what was kept may be audited next. No answer is judged of an event that brings forged
-/// bytes: the audit ends there.
+/// What the printer was given in the lines that were paired is put behind the imprints, and what is open of it where the run was stopped. An event whose answer is
+/// begun was done; where that is in doubt a stop is told as one in which a node lost its power, if it may have. So a run over what was kept may be audited next. No
+/// answer is judged of an event that brings forged bytes: the audit ends there.
 pub fn audit_run<S: Source, R: Source>(
     alloc: Global,
     auditor: &mut Auditor,

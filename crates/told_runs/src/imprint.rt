@@ -2,11 +2,11 @@
 ghost use Rattle.std.specs.Prelude.{◌≡◌, ◌++◌, OnOk, OnErr};
 ghost use Rattle.bench_base.specs.Ranges.{IsWholeEvent};
 ghost use Rattle.told_bench.specs.Seeing.{audit_of};
-ghost use Rattle.told_runs.specs.Imprints.{GivesSo, IsDueMark, LeavesOpen, imprint_at};
+ghost use Rattle.told_runs.specs.Imprints.{GivesSo, IsDueMark, IsTaken, LeavesOpen, imprint_at};
 
 use bench_base::events::{Event, Reply};
 use std::alloc::AllocError;
-use told_bench::{Auditor, mark_due};
+use told_bench::{Auditor, begins, mark_due};
 use told_nodes::is_told;
 
 /// What the printer took of the line of a mark.
@@ -70,11 +70,28 @@ pub(crate) fn given_in(event: &Event, due: Option<[u8; 64]>, line: &[u8]) -> Opt
     None
 }
 
-// What is open of an event that prints this mark where nothing fails, and whose line is missing: the printer may have taken none, some or all of the mark's line.
-pub(crate) fn open_in(event: &Event, due: Option<[u8; 64]>) -> Option<Given>
-    ensures { LeavesOpen event.now due result }
+// What the printer took in a `print` of this job, of whose answer this stands there: the whole line of the mark, or not all of it, as the answer begins to tell; where that
+// is not told, none, some or all of it.
+fn taken_by(job: u32, front: &[u8]) -> Taken
+    ensures { IsTaken job front.now result }
 {
-    let Event::Print(_) = event else {
+    let is_whole = begins(&Reply::Printed(job), front);
+    let is_cut = begins(&Reply::PrinterFault(job), front);
+    if is_whole == is_cut {
+        return Taken::Stopped;
+    }
+    if is_whole {
+        Taken::Whole
+    } else {
+        Taken::Failed
+    }
+}
+
+// What the printer was given in an event that prints this mark where nothing fails, and of whose line this front stands there, if anything.
+pub(crate) fn open_in(event: &Event, due: Option<[u8; 64]>, front: &[u8]) -> Option<Given>
+    ensures { LeavesOpen event.now due front.now result }
+{
+    let Event::Print(job) = event else {
         return None;
     };
     let Some(mark) = due else {
@@ -82,7 +99,7 @@ pub(crate) fn open_in(event: &Event, due: Option<[u8; 64]>) -> Option<Given>
     };
     Some(Given {
         mark,
-        taken: Taken::Stopped,
+        taken: taken_by(*job, front),
     })
 }
 

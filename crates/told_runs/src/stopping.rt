@@ -30,11 +30,11 @@ pub(crate) fn stopped(
     ensures short { (n : ℕ) → result ≡ Verdict.Stopped n → length report.now ≤ 256 }
     ensures stops { StopsSo number event.now report.now rates.now (audit_of auditor.old) (audit_of auditor.new) imprints.old.items imprints.new.items result }
 {
-    let open = open_in(event, due_mark(auditor, event));
+    let open = open_in(event, due_mark(auditor, event), report);
     match stop(alloc, auditor, event, rates, report) {
         Err(Finding::Wrong(due)) => Verdict::Wrong(number, due),
         Err(Finding::Memory) => Verdict::Memory,
-        Ok(()) => match keep(imprints, number, open) {
+        Ok(_) => match keep(imprints, number, open) {
             Ok(()) => Verdict::Stopped(number),
             Err(_) => Verdict::Memory,
         },

@@ -1,7 +1,7 @@
-use Rattle.std.proofs.Common.{◌∙◌, Bool, subst, arith}
-use Rattle.told_bench.specs.Fronts.{LosesThere}
+use Rattle.std.proofs.Common.{◌≡◌, ◌≤◌, ℕ, ◌∙◌, Bool, subst, arith}
+use Rattle.told_bench.specs.Fronts.{LosesThere, NoneBelow}
 use Rattle.told_bench.specs.Seeing.{audit_of}
-use Rattle.told_bench.proofs.Stops.{one_more}
+use Rattle.told_bench.proofs.Stops.{one_more, all_below}
 use Rattle.told_bench.proofs.stopping.lose_power.Goals as goal
 
 pub loop-number-preserved : goal.loop-number-preserved
@@ -12,6 +12,19 @@ loop-number-preserved c = record {
   rests = λ τ H texts history unforged sees.
       let before = c.loop-number.invariant.rests τ H texts history unforged sees in
       let now = audit_of c.lose_power_there.new.auditor in
-      let lost = subst (λ (b : Bool). LosesThere τ H c.args.event.now c.args.left.now c.args.front.now c.args.comes c.node_at-node.result now b) c.if-branch.false (c.in_ok-lose_power_there.ensures.lost τ H texts history unforged before.1) in
-      (one_more τ H c.args.event.now c.args.left.now c.node_at-node.result c.node_at-node.ensures.named c.args.front.now c.args.comes now c.loop-number.number c.node_at-node.ensures.number before.0 lost, lost.1);
+      let lost = subst (λ (b : Bool). LosesThere τ H c.args.event.now c.args.left.now c.args.front.now c.node_at-node.result now b) c.if-branch.false (c.in_ok-lose_power_there.ensures.lost τ H texts history unforged before.1) in
+      (one_more τ H c.args.event.now c.args.left.now c.node_at-node.result c.node_at-node.ensures.named c.args.front.now now c.loop-number.number c.node_at-node.ensures.number before.0 lost, lost.1);
 }
+
+pub returns-then-branch-clause-lost : goal.returns-then-branch-clause-lost
+returns-then-branch-clause-lost c τ H texts history unforged sees =
+    let before = c.loop-number.invariant.rests τ H texts history unforged sees in
+    let lost = rw c.if-branch.true at c.in_ok-lose_power_there.ensures.lost τ H texts history unforged before.1 in
+    (c.node_at-node.result, lost.0, lost.1, lost.2)
+
+pub returns-clause-lost : goal.returns-clause-lost
+returns-clause-lost c τ H texts history unforged sees =
+    let before = c.loop-number.invariant.rests τ H texts history unforged sees in
+    let last : c.loop-number.number ≡ 12 = omega (arith, c.loop-number-test.false, c.loop-number.auto.number-end (omega arith)) in
+    all_below τ H c.args.event.now c.args.left.now c.args.front.now (audit_of c.loop-number.auditor)
+    (subst (λ (n : ℕ). NoneBelow τ H c.args.event.now c.args.left.now n c.args.front.now) last before.0) before.1

@@ -9,5 +9,5 @@ invariant-loop-number l = record {
   ready : IsReady (audit_of l.auditor);
   first : 1 ≤ l.number;
   unsent : (audit_of l.auditor).messages ≡ (audit_of l.fn.auditor).messages;
-  rests : AtEach (audit_of l.fn.auditor) l.event (λ τ H. NoneBelow τ H l.event l.left l.number l.front l.comes × Sees (audit_of l.auditor) H);
+  rests : AtEach (audit_of l.fn.auditor) l.event (λ τ H. NoneBelow τ H l.event l.left l.number l.front × Sees (audit_of l.auditor) H);
 }
