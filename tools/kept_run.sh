@@ -28,8 +28,8 @@ $old"; }
 note_end() {
     others=$(awk -v nodes="$nodes " '$1 != "run" && $1 != "ended" && !index(nodes, " " $1 " ")' "$notes") &&
         write_notes "run $run_number
-ended $run_number
-$counts$others"
+ended $run_number$counts${others:+
+$others}"
 }
 
 # What the runs without a noted end have left: the facts of tools/left.awk.
@@ -63,8 +63,8 @@ finish() {
         ask "off $node"
         surely "on $node"
         want "up $node commits *"
-        counts="$counts$node $(last)
-"
+        counts="$counts
+$node $(last)"
     done
     if [ -z "$left_open" ]; then
         if note_end; then all_done=yes; else echo "post: $notes cannot be written: make room there, and call again" >&2; fi
