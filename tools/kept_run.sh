@@ -135,7 +135,7 @@ say() { echo "$*" || give_up 'standard output cannot be written'; }
 # What a reply asks of the operator, or the reply itself.
 sense_of() {
     last_word=${1##* } second=${1#* }
-    case $last_word in *[!0-9]*) date= ;; *) date=$(date_of "$last_word") ;; esac
+    case $last_word in *[!0-9]*) date= ;; *) date=$(date_of "$last_word" 2> /dev/null) ;; esac
     while IFS='|' read -r pattern sentence; do
         case $1 in
         $pattern) echo "$sentence" | sed "s/DEV/${second%% *}/g; s/LAST/$last_word/g; s/DATE/$date/g"; return ;;
