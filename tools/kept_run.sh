@@ -74,7 +74,7 @@ $node $(last)"
     exec 3>&-
     wait "$meter"
 }
-# The same, behind what the operator has to be told; of a reply what it asks of him.
+# The same, after a sentence for the operator: its own, or that of a reply.
 stop() { echo "post: $*" >&2; result=1; finish; exit 1; }
 refuse() {
     sentence=$(sense_of "${1:-$reply}")
@@ -146,7 +146,7 @@ sense_of() {
 
 # --- How a run begins ---
 
-# A node comes on with the commits that are due, or with so many more behind a run that was stopped.
+# A node comes on with the commits that are due, or with $more after a run that was stopped.
 on() {
     case " $nodes " in *" $1 "*) return ;; esac
     surely "on $1"
