@@ -106,11 +106,12 @@ ended() {
 
 # --- Lines and replies ---
 
-# One line and its reply, in $reply.
+# One line and its reply, in $reply. What was printed is on the disk before the reply says so.
 ask() {
     { printf '%s\n' "$*" >> "$run.script" && sync -d "$run.script" "$run.report"; } 2> /dev/null || lost
     printf '%s\n' "$*" 2> /dev/null >&3
     IFS= read -r reply <&4 || ended
+    case $reply in printed*) [ ! -f prints.txt ] || sync -d prints.txt 2> /dev/null || lost ;; esac
     printf '%s\n' "$reply" 2> /dev/null >> "$run.report" || lost
 }
 # The same, until there is another reply than that a node failed, which is switched on first. $failed says whether one did.
