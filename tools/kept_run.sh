@@ -28,8 +28,8 @@ $old"; }
 note_end() {
     others=$(awk -v nodes="$nodes " '$1 != "run" && $1 != "ended" && !index(nodes, " " $1 " ")' "$notes") &&
         write_notes "run $run_number
-ended $run_number
-$counts$others"
+ended $run_number$counts${others:+
+$others}"
 }
 
 # What the runs without a noted end have left: the facts of tools/left.awk.
@@ -63,8 +63,8 @@ finish() {
         ask "off $node"
         surely "on $node"
         want "up $node commits *"
-        counts="$counts$node $(last)
-"
+        counts="$counts
+$node $(last)"
     done
     if [ -z "$left_open" ]; then
         if note_end; then all_done=yes; else echo "post: $notes cannot be written: make room there, and call again" >&2; fi
@@ -74,7 +74,7 @@ finish() {
     exec 3>&-
     wait "$meter"
 }
-# The same, behind what the operator has to be told; of a reply what it asks of him.
+# The same, after a sentence for the operator: its own, or that of a reply.
 stop() { echo "post: $*" >&2; result=1; finish; exit 1; }
 refuse() {
     sentence=$(sense_of "${1:-$reply}")
@@ -106,11 +106,12 @@ ended() {
 
 # --- Lines and replies ---
 
-# One line and its reply, in $reply.
+# One line and its reply, in $reply. What was printed is on the disk before the reply says so.
 ask() {
     { printf '%s\n' "$*" >> "$run.script" && sync -d "$run.script" "$run.report"; } 2> /dev/null || lost
     printf '%s\n' "$*" 2> /dev/null >&3
     IFS= read -r reply <&4 || ended
+    case $reply in printed*) [ ! -f prints.txt ] || sync -d prints.txt 2> /dev/null || lost ;; esac
     printf '%s\n' "$reply" 2> /dev/null >> "$run.report" || lost
 }
 # The same, until there is another reply than that a node failed, which is switched on first. $failed says whether one did.
@@ -135,7 +136,7 @@ say() { echo "$*" || give_up 'standard output cannot be written'; }
 # What a reply asks of the operator, or the reply itself.
 sense_of() {
     last_word=${1##* } second=${1#* }
-    case $last_word in *[!0-9]*) date= ;; *) date=$(date_of "$last_word") ;; esac
+    case $last_word in *[!0-9]*) date= ;; *) date=$(date_of "$last_word" 2> /dev/null) ;; esac
     while IFS='|' read -r pattern sentence; do
         case $1 in
         $pattern) echo "$sentence" | sed "s/DEV/${second%% *}/g; s/LAST/$last_word/g; s/DATE/$date/g"; return ;;
@@ -146,7 +147,7 @@ sense_of() {
 
 # --- How a run begins ---
 
-# A node comes on with the commits that are due, or with so many more behind a run that was stopped.
+# A node comes on with the commits that are due, or with $more after a run that was stopped.
 on() {
     case " $nodes " in *" $1 "*) return ;; esac
     surely "on $1"
