@@ -7,7 +7,7 @@ use Rattle.ledger_moves.specs.Tariffs.{Tariff}
 use Rattle.script_text.specs.Texts.{text_of}
 use Rattle.told_bench.specs.Fronts.{IsFound, BeginsOtherUp, BeginsCutPrint, BeginsRatesFault, IsDue, Comes}
 use Rattle.told_bench.specs.Stopping.{IsFrontOf}
-use Rattle.told_bench.proofs.Stops.{by_rates, by_none}
+use Rattle.told_bench.proofs.Stops.{by_answer, by_rates, by_none}
 use Rattle.told_bench.proofs.stopping.begun.Goals as goal
 
 no_front : (b : Bool) {P : Type 0} → (P → IsTrue b) → b ≡ false → P → ⊥
@@ -17,6 +17,10 @@ last : (τ : Tariff) (H : Ledger) (e : Event) (left front : List ℕ) (whole : I
     → (found : Option Reply) → IsFound (BeginsRatesFault e (day_in H) front) found → Comes τ H e left front found
 last τ H e left front whole due due_is no_answer no_up no_print (Some x) is = by_rates τ H e left front whole due due_is x is
 last τ H e left front whole due due_is no_answer no_up no_print None is = by_none τ H e left front whole due due_is no_answer no_up no_print is
+
+pub returns-then-begins-clause-exact : goal.returns-then-begins-clause-exact
+returns-then-begins-clause-exact c τ H left sees due_is =
+    by_answer τ H c.args.event.now left c.args.front.now c.requires.whole c.args.due.now due_is c.begins.ensures.whole (c.begins.ensures.exact.0 c.if-begins.true)
 
 pub returns-clause-exact : goal.returns-clause-exact
 returns-clause-exact c τ H left sees due_is =
