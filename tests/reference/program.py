@@ -1,9 +1,14 @@
 """The program: its words, its files, its statuses and its line on standard error."""
 import os
 
-from bench import NODES, Bench, file_name
+from bench import Bench
+from claims import Claims
+from departments import Departments
+from desk import CannotUse, Desk
+from desk import Lines as Answers
 from generator import summary
 from grammar import EVENTS, LONGEST, NUMBER, BadLine, Grammar
+from papers import MOVEMENTS, Manifest, Statement, recompute
 
 LINES = 1_000_000
 USAGE = 'usage: meter_run replay | meter_run generate SEED COUNT'
@@ -17,24 +22,45 @@ class Ended(Exception):
         self.status, self.line = status, line
 
 
+WORDS = {'replay': Answers, 'claims': Claims, 'departments': Departments, 'manifest': Manifest, 'statement': Statement}
+
+
+TOO_LONG = Ended(6, 'script too long')
+
+
 class Lines:
     """The lines of a script, each read when it is asked for."""
 
-    def __init__(self, file):
+    def __init__(self, file, most=LINES):
         self.file = file
+        self.most = most
         self.held = b''
         self.ended = False
         self.count = 0
 
+    def next_or_end(self):
+        """The next line of a text that may have so many lines, or None behind its last."""
+        line = self.take()
+        self.count += 1
+        if line is not None and self.count > self.most:
+            raise TOO_LONG
+        if line is not None and len(line) > LONGEST:
+            raise self.bad()
+        return line
+
     def next(self):
+        """The next line of a text that isn't read behind so many lines."""
+        if self.count == self.most:
+            raise TOO_LONG
+        line = self.next_or_end()
+        if line is None:
+            raise self.bad()
+        return line
+
+    def next_event(self):
         """The next line that is not skipped."""
         while True:
-            if self.count == LINES:
-                raise Ended(6, 'script too long')
-            line = self.take()
-            self.count += 1
-            if line is None or len(line) > LONGEST:
-                raise self.bad()
+            line = self.next()
             if line and not line.startswith(b'#'):
                 return line
 
@@ -69,23 +95,11 @@ class Report:
             raise Ended(4, 'write fault')
 
 
-class Replay:
-    """Answers the lines of the plain script."""
-    own_lines = ''
-
-    def __init__(self, bench):
-        self.bench = bench
-
-    def answer(self, event):
-        """The texts that answer an event."""
-        return [self.bench.step(event)]
-
-
 def run_lines(answers, script, report):
     """Answers a script line by line, up to its `end`."""
     grammar, lines = Grammar(EVENTS, answers.own_lines), Lines(script)
     while True:
-        line = lines.next()
+        line = lines.next_event()
         try:
             event = grammar.read(line)
         except BadLine:
@@ -111,18 +125,33 @@ def open_streams(folder):
     return rates, os.open(os.path.join(folder, 'prints.txt'), os.O_WRONLY | os.O_APPEND | os.O_CREAT, 0o666)
 
 
-def run(words, folder, script, report):
-    """Runs the program; answers its status and its line on standard error."""
-    if not (words in (['replay'],) or is_generate(words)):
-        return 1, USAGE
+def run_bench(words, folder, script, report):
+    """Runs one of the words that use the bench."""
     bench = Bench(folder, *open_streams(folder))
     try:
         if words[0] == 'generate':
-            Report(report).line(summary(bench.step, int(words[1]), int(words[2])))
-        else:
-            run_lines(Replay(bench), script, Report(report))
-    except Ended as end:
-        return end.status, end.line
+            return report.line(summary(bench.step, int(words[1]), int(words[2])))
+        kind = WORDS[words[0]]
+        answers = kind(bench, folder) if issubclass(kind, Desk) else kind(bench)
+        try:
+            run_lines(answers, script, report)
+        finally:
+            answers.close()
     finally:
         bench.close()
+
+
+def run(words, folder, script, report):
+    """Runs the program; answers its status and its line on standard error."""
+    try:
+        if words == ['recompute']:
+            recompute(Lines(script, MOVEMENTS + 2), Report(report))
+        elif is_generate(words) or len(words) == 1 and words[0] in WORDS:
+            run_bench(words, folder, script, Report(report))
+        else:
+            return 1, USAGE
+    except Ended as end:
+        return end.status, end.line
+    except CannotUse as file:
+        return 7, 'cannot use %s' % file
     return 0, ''
