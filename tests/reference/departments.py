@@ -76,7 +76,7 @@ class Departments(Desk):
         left = self.quota(department) - self.spent(department)
         owner = self.owner(job)
         if owner == department:
-            return 'assigned %d %d again' % (department, job)
+            return 'assigned %d %d again' % (job, department)
         if owner:
             raise Refusal('refused dept assigned %d' % job)
         count = len(self.jobs(department))
@@ -89,7 +89,7 @@ class Departments(Desk):
         if postage > left:
             raise Refusal('refused dept quota %d' % left)
         self.commit(self.first_cell(department) + count, Job(job, postage))
-        return 'assigned %d %d left %d' % (department, job, left - postage)
+        return 'assigned %d %d left %d' % (job, department, left - postage)
 
     def do_dept_spent(self, department):
         quota = self.quota(department)

@@ -1,4 +1,6 @@
 """Storages near the limits: records that no short run reaches, in both versions, and counts near their end."""
+import struct
+
 import centre
 import claims
 import departments
@@ -6,11 +8,11 @@ import device
 import host
 import older
 import verifier
-from bench import file_name
 from centre import CustomerRow, DeviceRow
 from device import Record
 from marks import Mark, write_mark
 from messages import KINDS, Reply, Request, write_message
+from plans import NoRecord
 from storage import LAST_COUNT, OPEN
 
 EDGES = (0, 1, 2, 3, 1000, 1001, 100_000, 100_001, 10**7, 10**7 + 1)
@@ -39,8 +41,20 @@ def put_slot(content, kind, cell, slot, count, payload):
     content[at:at + 5 + len(payload)] = bytes([OPEN]) + count.to_bytes(4, 'big') + payload
 
 
-def device_content(draw, number, key, today):
-    """A device's storage and its record."""
+def readable(draw, make, read):
+    """A payload that is made by chance, and mostly one that reads as a record."""
+    while True:
+        try:
+            record, payload = make()
+            if draw.random() < 0.9:
+                read(payload)
+            return record, payload
+        except (NoRecord, struct.error):
+            continue
+
+
+def device_record(draw, number, key, today):
+    """A device's record and its payload."""
     first = draw.random() < 0.3
     limit = device.FIRST_LIMIT if first else device.LIMIT
     refunded = draw.choice([0, 0, near(draw, limit)])
@@ -49,18 +63,18 @@ def device_content(draw, number, key, today):
     pieces = min(ascending, near(draw, 2**32 - 1))
     phase = draw.choice(['in-service'] * 6 + list(device.PHASES))
     record = Record(phase, key, ascending, descending, refunded, pieces, near(draw, 2**32 - 1), a_day(draw, today),
-                    a_day(draw, today), draw.choice([0, 1, 1, 1, 64, 65]), 94105, b'', b'')
+                    a_day(draw, today), 0 if phase == 'manufactured' else draw.choice([1, 1, 1, 1, 2, 64, 65]), 94105, b'', b'')
     if pieces:
         version = 1 if first or (draw.random() < 0.3 and ascending + descending < 2**32) else 2
         mark = Mark(version, number, pieces, draw.choice([1, 550, 1000]), ascending, descending, today, 94105, draw.choice([1, 2]))
         record = record._replace(mark=write_mark(mark, key))
     if draw.random() < 0.5 and record.number < 2**32 - 1:
         record = record._replace(pending=a_request(draw, number, record, today, 1 if first or draw.random() < 0.3 else 2))
+    return record, older.write_record(number, record) if first else device.write_record(number, record)
+
+
+def device_content(draw, number, payload):
     content = blank(device.Device)
-    try:
-        payload = older.write_record(number, record) if first else device.write_record(number, record)
-    except device.struct.error:
-        return content
     put_slot(content, device.Device, 0, draw.randrange(16), a_count(draw), payload)
     return content
 
@@ -73,29 +87,38 @@ def a_request(draw, number, record, today, version):
     return write_message(Request(version, number, record.number + 1, kind, record.customer, *sums, record.pieces, today), record.key)
 
 
-def centre_content(draw, keys, today):
-    content = blank(centre.Centre)
+def device_row(draw, number, key, today, record):
+    """A centre's row of a device and its payload; if there is a record, mostly the row that agrees with it."""
+    first = draw.random() < 0.3
+    limit = 2**32 - 1 if first else draw.choice([device.LIMIT, 2**64 - 1])
+    state = draw.choice(['enrolled'] * 4 + list(centre.STATES))
+    buys = 0 if state == 'registered' else near(draw, limit)
+    returns, ruled = draw.choice([0, buys, near(draw, buys)]), draw.choice([0, near(draw, 2**32 - 1)])
+    customer = draw.choice([1, 1, 2])
+    if record and draw.random() < 0.9:
+        state = {'manufactured': 'registered', 'withdrawn': 'withdrawn'}.get(record.phase, 'enrolled')
+        buys, returns, ruled, customer = device.total(record), record.refunded, record.number, record.customer
+    row = DeviceRow(state, 0 if state == 'registered' else customer, 94105, key, ruled, max(0, ruled - draw.choice([0, 0, 1])),
+                    buys, returns, b'', b'')
+    if ruled:
+        row = with_messages(draw, number, row, today, 1 if first or draw.random() < 0.3 else 2)
+    return row, older.write_device(number, row) if first else centre.write_device(number, row)
+
+
+def centre_content(draw, keys, today, records):
+    content, rows = blank(centre.Centre), []
     for number in range(1, 9):
-        if draw.random() < 0.5:
+        if number not in records and draw.random() < 0.5:
             continue
-        first = draw.random() < 0.3
-        limit = 2**32 - 1 if first else draw.choice([device.LIMIT, 2**64 - 1])
-        state = draw.choice(['enrolled'] * 4 + list(centre.STATES))
-        buys = 0 if state == 'registered' else near(draw, limit)
-        ruled = draw.choice([0, near(draw, 2**32 - 1)])
-        row = DeviceRow(state, 0 if state == 'registered' else draw.choice([1, 1, 2]), 94105, keys[number], ruled,
-                        max(0, ruled - draw.choice([0, 1])), buys, draw.choice([0, buys, near(draw, buys)]), b'', b'')
-        if ruled:
-            row = with_messages(draw, number, row, today, 1 if first or draw.random() < 0.3 else 2)
-        try:
-            payload = older.write_device(number, row) if first else centre.write_device(number, row)
-        except device.struct.error:
-            continue
+        row, payload = readable(draw, lambda: device_row(draw, number, keys[number], today, records.get(number)),
+                                lambda payload: centre.read_device(number, payload))
+        rows.append(row)
         put_slot(content, centre.Centre, number - 1, draw.randrange(2), a_count(draw), payload)
-    for customer in (1, 2):
-        deposits = draw.choice([0, near(draw, 10**15), 10**15])
+    for customer in (1, 2, 64):
+        owed = sum(row.buys - row.returns for row in rows if row.customer == customer)
+        deposits = min(10**15, draw.choice([owed, owed + 1, owed + 50_000, owed + 10**9, 10**15, near(draw, 10**15)]))
         amount = min(deposits, draw.choice([1, 5, 10**9]))
-        row = CustomerRow(draw.random() < 0.2, deposits, near(draw, 2**32 - 1) or 1 if deposits else 0, amount)
+        row = CustomerRow(draw.random() < 0.1, deposits, near(draw, 2**32 - 1) or 1 if deposits else 0, amount)
         payload = centre.CUSTOMER.pack(customer, row.suspended, *row[1:]) + bytes(171)
         put_slot(content, centre.Centre, customer + 7, draw.randrange(2), a_count(draw), payload)
     return content
@@ -179,11 +202,18 @@ def blank_desk(kind):
 
 def contents(draw, keys, today):
     """Storages near the limits, by the names of their files; some of all."""
-    makers = {'d1': lambda: device_content(draw, 1, keys[1], today), 'd2': lambda: device_content(draw, 2, keys[2], today),
-              'centre': lambda: centre_content(draw, keys, today), 'host': lambda: host_content(draw, today),
-              'verifier': lambda: verifier_content(draw, keys)}
-    chances = {'d1': 0.8, 'd2': 0.5, 'centre': 0.6, 'host': 0.3, 'verifier': 0.3}
-    made = {file_name(node): make() for node, make in makers.items() if draw.random() < chances[node]}
+    made, records = {}, {}
+    for number, chance in ((1, 0.9), (2, 0.5)):
+        if draw.random() < chance:
+            records[number], payload = readable(draw, lambda: device_record(draw, number, keys[number], today),
+                                                lambda payload: device.read_record(number, payload))
+            made['device-%d.nv' % number] = device_content(draw, number, payload)
+    if draw.random() < 0.9:
+        made['centre.nv'] = centre_content(draw, keys, today, records)
+    if draw.random() < 0.3:
+        made['host.nv'] = host_content(draw, today)
+    if draw.random() < 0.3:
+        made['verifier.nv'] = verifier_content(draw, keys)
     if draw.random() < 0.3:
         made['claims.nv'] = claims_content(draw, today)
     if draw.random() < 0.3:

@@ -4,7 +4,7 @@ from writer import Writer
 
 class ClaimsWriter(Writer):
     def own(self):
-        if self.chance(0.3):
+        if self.chance(0.2):
             return self.do('credits %d', self.draw.choice([1, 1, 2, 64]))
         last = len(self.answers.records)
         claim = max(1, last + self.draw.choice([1, 1, 1, 1, 0, 0, -1, 2]))
@@ -30,9 +30,9 @@ class DepartmentsWriter(Writer):
         elif what < 0.5:
             self.do('dept spent %d', department)
         else:
-            if self.chance(0.6):
-                self.order()
-                job = host.last_job() if host else 1
+            if self.chance(0.7):
+                answer = self.order()
+                job = int(answer.split()[1]) if answer.startswith('ordered') else job
             self.do('dept assign %d %d', department, job)
             if self.chance(0.5) and self.bench.messages:
                 self.do('deliver %d', self.last())
@@ -42,7 +42,9 @@ class DepartmentsWriter(Writer):
     def order(self):
         number = self.device()
         record = self.view(number)[0]
-        self.do('order d%d %d 1 25 1', number, min(2**32 - 1, (record.pieces if record else 0) + 1))
+        if self.bench.rates is None:
+            self.do('rates')
+        return self.do('order d%d %d 1 25 1', number, min(2**32 - 1, (record.pieces if record else 0) + 1))
 
 
 class ManifestWriter(Writer):

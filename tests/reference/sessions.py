@@ -4,11 +4,12 @@ import random
 import shutil
 
 import limits
-from bench import Bench
+from bench import CLASSES, NODES, Bench, file_name
 from claims import Claims
 from compare import FILES, read
 from departments import Departments
 from desk import CannotUse, Desk
+from device import Device
 from grammar import EVENTS, Grammar
 from own_writers import ClaimsWriter, DepartmentsWriter, ManifestWriter, StatementWriter, statement_text
 from program import WORDS, open_streams
@@ -31,6 +32,10 @@ BAD_WORDS = ([], ['replay', 'x'], ['generate', '07', '1'], ['generate', '7', '90
              ['Replay'], ['claims', 'claims'], ['generate', '+7', '1'], [''])
 
 
+BLANK = {file_name(node): bytes(limits.blank(CLASSES.get(node, Device))) for node in NODES}
+BLANK.update({kind.file_name: bytes(limits.blank_desk(kind)) for kind in (Claims, Departments)})
+
+
 class Session:
     """The runs of one seed over folders that stay equal while both meters do."""
 
@@ -39,12 +44,16 @@ class Session:
         self.folders, self.scratch = folders, scratch
         self.keys = {number: bytes([number]) * 32 for number in range(1, 9)}
         self.today = 20513
+        self.forges = self.draw.random() < 0.5
         self.older = {}
 
     def start(self):
         for folder in self.folders:
             shutil.rmtree(folder, ignore_errors=True)
             os.mkdir(folder)
+        for name in FILES[:-1]:
+            if self.draw.random() < 0.97:
+                self.put(name, BLANK[name])
         if self.draw.random() < 0.35:
             for name, content in limits.contents(self.draw, self.keys, self.today).items():
                 self.put(name, bytes(content))
@@ -62,11 +71,11 @@ class Session:
     def between(self):
         """What happens to the folder before a run."""
         rates = RATES if self.draw.random() < 0.9 else None
-        if rates and self.draw.random() < 0.2:
+        if rates and self.draw.random() < 0.12:
             for old, new in self.draw.sample(CHANGES, self.draw.choice([1, 1, 2])):
                 rates = rates.replace(old, new, 1)
         self.put('rates.toml', rates)
-        if self.draw.random() < 0.15:
+        if self.draw.random() < 0.1:
             self.spoil(self.draw.choice(FILES[:-1]))
         elif self.older and self.draw.random() < 0.2:
             for name in self.draw.sample(FILES[:-1], self.draw.choice([1, 1, 2, 5])):
@@ -120,7 +129,7 @@ class Session:
                 answers = kind(bench, self.scratch) if issubclass(kind, Desk) else kind(bench)
             except CannotUse:
                 return b'day 2026-03-01\nend\n'
-            script = self.write(WRITERS[word](self.draw, answers, Grammar(EVENTS, kind.own_lines), self.keys, self.today))
+            script = self.write(WRITERS[word](self.draw, answers, Grammar(EVENTS, kind.own_lines), self))
             answers.close()
             return script
         finally:
@@ -129,11 +138,11 @@ class Session:
     def write(self, writer):
         if self.draw.random() < 0.98:
             writer.begin()
-        if self.draw.random() < 0.6:
-            writer.prepare(1)
-        if self.draw.random() < 0.2:
-            writer.prepare(2)
-        for _ in range(self.draw.choice([5, 10, 20, 30])):
+        for number, chance in ((1, 0.9), (2, 0.3)):
+            record = writer.view(number)[0]
+            if self.draw.random() < (0.1 if record and record.phase == 'in-service' else chance):
+                writer.prepare(number)
+        for _ in range(self.draw.choice([10, 20, 30, 50])):
             if hasattr(writer, 'own') and self.draw.random() < 0.4:
                 writer.own()
             else:
