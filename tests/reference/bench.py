@@ -26,19 +26,39 @@ def boot(node, payloads):
     return CLASSES[node].read(payloads)
 
 
+class CannotUse(Exception):
+    """A file that can't be used; its text is the file's name."""
+
+
+def storage_of(folder, name, size):
+    """A storage in its file, which is made if it is missing."""
+    try:
+        return Storage(os.path.join(folder, name), size)
+    except OSError:
+        raise CannotUse(name)
+
+
+def check_files(folder, names):
+    """Finds a storage that is there and can't be used, before any is made."""
+    for name in names:
+        path = os.path.join(folder, name)
+        if os.path.lexists(path) and not (os.path.isfile(path) and os.access(path, os.R_OK | os.W_OK)):
+            raise CannotUse(name)
+
+
 class Answer(Exception):
     """The reply to the event in hand, ahead of all that would follow."""
 
 
 class Bench:
-    def __init__(self, folder, rates_file, prints_file):
+    def __init__(self, folder):
         self.cells = {}
+        check_files(folder, [file_name(node) for node in NODES])
         for node in NODES:
             kind = CLASSES.get(node, Device)
-            storage = Storage(os.path.join(folder, file_name(node)), kind.cells * kind.slots * (5 + kind.payload_size))
+            storage = storage_of(folder, file_name(node), kind.cells * kind.slots * (5 + kind.payload_size))
             self.cells[node] = Cells(storage, kind.cells, kind.slots, kind.payload_size)
-        self.rates_file = rates_file
-        self.prints_file = prints_file
+        self.rates_file = self.prints_file = None
         self.nodes = {}
         self.torn = {}
         self.day = None
@@ -46,9 +66,23 @@ class Bench:
         self.messages = []
         self.counted = lambda plan: None
 
+    def open_streams(self, folder):
+        """Opens the rates, if there are any, and the printer."""
+        name = 'rates.toml'
+        try:
+            path = os.path.join(folder, name)
+            self.rates_file = os.open(path, os.O_RDONLY) if os.path.lexists(path) else None
+            name = 'prints.txt'
+            self.prints_file = os.open(os.path.join(folder, name), os.O_WRONLY | os.O_APPEND | os.O_CREAT, 0o666)
+        except OSError:
+            raise CannotUse(name)
+
     def close(self):
         for cells in self.cells.values():
             cells.storage.close()
+        for file in (self.rates_file, self.prints_file):
+            if file is not None:
+                os.close(file)
 
     def step(self, event):
         """Does an event and answers its reply."""

@@ -27,14 +27,13 @@ def in_flight(row):
     if row.ruled != row.settled + 1:
         return None
     reply = read_message(row.reply)
-    counts = reply.verdict == 0 and reply.kind in ('reset', 'refund', 'withdraw')
-    return reply.kind, reply.amount if counts else 0
+    return reply.kind, reply.amount if reply.verdict == 0 else 0
 
 
 def acknowledged(row):
     """The acknowledged buys and returns."""
     kind, amount = in_flight(row) or (None, 0)
-    return (row.buys - amount, row.returns) if kind == 'reset' else (row.buys, row.returns - amount)
+    return row.buys - (amount if kind == 'reset' else 0), row.returns - (amount if kind in ('refund', 'withdraw') else 0)
 
 
 def check_messages(number, row, first):

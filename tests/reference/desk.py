@@ -1,24 +1,23 @@
 """What the words with lines of their own share: own lines beside the bench's, and own storage for some."""
-import os
-
+from bench import CannotUse, check_files, storage_of
 from plans import NoRecord
-from storage import Cells, Damaged, Storage, Worn
+from storage import Cells, Damaged, Worn
 
 
 class Refusal(Exception):
     """An answer of an own line ahead of all that would follow."""
 
 
-class CannotUse(Exception):
-    """A file that can't be used; its text is the file's name."""
-
-
 class Lines:
     """Answers own lines by the methods that are named after them, and all others by the bench."""
     own_lines = ''
 
-    def __init__(self, bench):
+    def __init__(self, bench, folder):
         self.bench = bench
+
+    def is_event(self, event):
+        """Whether a line of the form of an own line is one."""
+        return True
 
     def replaced(self, event):
         return None
@@ -42,9 +41,10 @@ class Desk(Lines):
     """Own lines with own storage, whose cells have two slots."""
 
     def __init__(self, bench, folder):
-        Lines.__init__(self, bench)
+        Lines.__init__(self, bench, folder)
         size = self.cell_count * 2 * (5 + self.payload_size)
-        self.cells = Cells(Storage(os.path.join(folder, self.file_name), size), self.cell_count, 2, self.payload_size)
+        check_files(folder, [self.file_name])
+        self.cells = Cells(storage_of(folder, self.file_name, size), self.cell_count, 2, self.payload_size)
         try:
             self.records = self.read(self.cells.mount())
         except (Damaged, NoRecord):

@@ -4,11 +4,15 @@ from grammar import BadLine, Grammar
 from marks import Unread, code, read_mark
 
 MOVEMENTS = 10_000
+LAST_SCAN = 2**32 - 1
 
 
 class Manifest(Lines):
     own_lines = 'manifest open N COUNT U64 KEY\nmanifest piece PIECE\nmanifest code\nmanifest check KEY\n'
     opened = None
+
+    def is_event(self, event):
+        return event[0] != 'manifest open' or event[1] + event[2] - 1 <= LAST_SCAN
 
     def do_manifest_open(self, first, count, total, key):
         self.opened, self.pieces = (first, count, total, key), []
@@ -59,8 +63,8 @@ class Statement(Lines):
     own_lines = 'statement open CUST\nstatement close\n'
     customer = None
 
-    def __init__(self, bench):
-        Lines.__init__(self, bench)
+    def __init__(self, bench, folder):
+        Lines.__init__(self, bench, folder)
         bench.counted = self.counted
 
     def counted(self, plan):

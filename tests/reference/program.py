@@ -1,10 +1,9 @@
 """The program: its words, its files, its statuses and its line on standard error."""
 import os
 
-from bench import Bench
+from bench import Bench, CannotUse
 from claims import Claims
 from departments import Departments
-from desk import CannotUse, Desk
 from desk import Lines as Answers
 from generator import summary
 from grammar import EVENTS, LONGEST, NUMBER, BadLine, Grammar
@@ -104,6 +103,8 @@ def run_lines(answers, script, report):
             event = grammar.read(line)
         except BadLine:
             raise lines.bad()
+        if not answers.is_event(event):
+            raise lines.bad()
         for text in answers.answer(event):
             report.line(text)
         if event[0] == 'end':
@@ -118,27 +119,19 @@ def is_generate(words):
     return len(words) == 3 and words[0] == 'generate' and is_number(words[1], 2**32 - 1) and is_number(words[2], 90_000)
 
 
-def open_streams(folder):
-    """The rates, if there are any, and the printer."""
-    path = os.path.join(folder, 'rates.toml')
-    rates = os.open(path, os.O_RDONLY) if os.path.exists(path) else None
-    return rates, os.open(os.path.join(folder, 'prints.txt'), os.O_WRONLY | os.O_APPEND | os.O_CREAT, 0o666)
-
-
 def run_bench(words, folder, script, report):
     """Runs one of the words that use the bench."""
-    bench = Bench(folder, *open_streams(folder))
+    bench, answers = Bench(folder), None
     try:
+        answers = WORDS.get(words[0], Answers)(bench, folder)
+        bench.open_streams(folder)
         if words[0] == 'generate':
             return report.line(summary(bench.step, int(words[1]), int(words[2])))
-        kind = WORDS[words[0]]
-        answers = kind(bench, folder) if issubclass(kind, Desk) else kind(bench)
-        try:
-            run_lines(answers, script, report)
-        finally:
-            answers.close()
+        run_lines(answers, script, report)
     finally:
         bench.close()
+        if answers:
+            answers.close()
 
 
 def run(words, folder, script, report):

@@ -4,15 +4,14 @@ import random
 import shutil
 
 import limits
-from bench import CLASSES, NODES, Bench, file_name
+from bench import CLASSES, NODES, Bench, CannotUse, file_name
 from claims import Claims
 from compare import FILES, read
 from departments import Departments
-from desk import CannotUse, Desk
 from device import Device
 from grammar import EVENTS, Grammar
 from own_writers import ClaimsWriter, DepartmentsWriter, ManifestWriter, StatementWriter, statement_text
-from program import WORDS, open_streams
+from program import WORDS
 from writer import Writer
 
 RATES = b'''zones = 2
@@ -122,16 +121,15 @@ class Session:
         """A script, tried line by line over a copy of the folder."""
         shutil.rmtree(self.scratch, ignore_errors=True)
         shutil.copytree(self.folders[0], self.scratch)
-        bench = Bench(self.scratch, *open_streams(self.scratch))
+        bench = Bench(self.scratch)
         try:
-            kind = WORDS[word]
-            try:
-                answers = kind(bench, self.scratch) if issubclass(kind, Desk) else kind(bench)
-            except CannotUse:
-                return b'day 2026-03-01\nend\n'
-            script = self.write(WRITERS[word](self.draw, answers, Grammar(EVENTS, kind.own_lines), self))
+            answers = WORDS[word](bench, self.scratch)
+            bench.open_streams(self.scratch)
+            script = self.write(WRITERS[word](self.draw, answers, Grammar(EVENTS, answers.own_lines), self))
             answers.close()
             return script
+        except CannotUse:
+            return b'day 2026-03-01\nend\n'
         finally:
             bench.close()
 
