@@ -3,6 +3,8 @@ from writer import Writer
 
 
 class ClaimsWriter(Writer):
+    edges = [3_000_000_000, 3_000_000_000, 3_000_000_001]
+
     def own(self):
         if self.chance(0.2):
             return self.do('credits %d', self.draw.choice([1, 1, 2, 64]))

@@ -19,6 +19,8 @@ def date(day):
 class Writer:
     """One script. `answers` answers each of its lines; `keys` has the key of each device."""
 
+    edges = [3_000_000_000]
+
     def __init__(self, draw, answers, grammar, session):
         self.draw, self.answers, self.grammar, self.keys, self.today = draw, answers, grammar, session.keys, session.today
         self.forges = session.forges
@@ -141,7 +143,7 @@ class Writer:
         if not self.releases() and self.chance(0.8):
             return self.give()
         self.scans += self.draw.choice([1, 1, 1, 0])
-        number = self.draw.choice([max(1, self.scans)] * 10 + [1, 2**32 - 1, 3_000_000_000, 3_000_000_001])
+        number = self.draw.choice([max(1, self.scans)] * 10 + [1, 2**32 - 1] + self.edges)
         at = self.draw.choice(self.releases() or [self.some_message()])
         if self.chance(0.7):
             self.do('scan %d msg %d', number, at)
@@ -152,11 +154,12 @@ class Writer:
         """A mark that was released, also in the other version, a forged one, or changed bytes."""
         number = self.device()
         released = self.releases()
-        data = forge.mark(self.draw, number, self.keys[number], self.view(number), self.today)
+        key = self.keys[number] if self.forges else bytes(32)
+        data = forge.mark(self.draw, number, key, self.view(number), self.today)
         if released and self.chance(0.7):
             data = self.bench.messages[self.draw.choice(released)][2:]
             fields = read_mark(data)
-            if self.chance(0.2) and fields.device in self.keys and max(fields.ascending, fields.descending) < 2**32:
+            if self.forges and self.chance(0.2) and fields.device in self.keys and max(fields.ascending, fields.descending) < 2**32:
                 data = write_mark(fields._replace(version=3 - fields.version), self.keys[fields.device])
         return forge.changed(self.draw, data) if self.chance(0.1) else data
 
@@ -188,6 +191,10 @@ class Writer:
             self.do('on %s', node)
 
     def ask(self, number):
+        if self.chance(0.15):
+            for kind in ('refund', 'reset 5000', 'refund'):
+                self.transaction(number, kind)
+            return
         self.transaction(number, self.draw.choice(['audit', 'audit', 'refund', 'reset 1', 'reset 50000', 'reset 50000', 'reset 10000000', 'reset 10000001',
                                                    'reset 0', 'enrol 1', 'enrol 2'] + (['withdraw'] if self.chance(0.2) else [])))
 
