@@ -51,9 +51,9 @@ class Answer(Exception):
 
 
 class Bench:
-    def __init__(self, folder):
+    def __init__(self, folder, own_files=()):
         self.cells = {}
-        check_files(folder, [file_name(node) for node in NODES])
+        check_files(folder, [file_name(node) for node in NODES] + list(own_files))
         for node in NODES:
             kind = CLASSES.get(node, Device)
             storage = storage_of(folder, file_name(node), kind.cells * kind.slots * (5 + kind.payload_size))
@@ -71,7 +71,7 @@ class Bench:
         name = 'rates.toml'
         try:
             path = os.path.join(folder, name)
-            self.rates_file = os.open(path, os.O_RDONLY) if os.path.lexists(path) else None
+            self.rates_file = os.open(path, os.O_RDONLY) if os.path.exists(path) else None
             name = 'prints.txt'
             self.prints_file = os.open(os.path.join(folder, name), os.O_WRONLY | os.O_APPEND | os.O_CREAT, 0o666)
         except OSError:

@@ -20,6 +20,7 @@ def read_claim(cell, payload):
 
 class Claims(Desk):
     file_name, payload_size, cell_count = 'claims.nv', LAYOUT.size, CELLS
+    own_files = (file_name,)
     own_lines = 'claim N CUST MARK\ncredits CUST\n'
 
     def read(self, payloads):

@@ -26,6 +26,7 @@ def read_job(cell, payload):
 
 class Departments(Desk):
     file_name, payload_size, cell_count = 'departments.nv', QUOTA.size, DEPARTMENTS * (JOBS + 1)
+    own_files = (file_name,)
     own_lines = 'dept quota DEPT U32\ndept assign DEPT U32\ndept spent DEPT\n'
 
     def read(self, payloads):

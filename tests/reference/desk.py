@@ -1,5 +1,5 @@
 """What the words with lines of their own share: own lines beside the bench's, and own storage for some."""
-from bench import CannotUse, check_files, storage_of
+from bench import CannotUse, storage_of
 from plans import NoRecord
 from storage import Cells, Damaged, Worn
 
@@ -11,6 +11,7 @@ class Refusal(Exception):
 class Lines:
     """Answers own lines by the methods that are named after them, and all others by the bench."""
     own_lines = ''
+    own_files = ()
 
     def __init__(self, bench, folder):
         self.bench = bench
@@ -43,7 +44,6 @@ class Desk(Lines):
     def __init__(self, bench, folder):
         Lines.__init__(self, bench, folder)
         size = self.cell_count * 2 * (5 + self.payload_size)
-        check_files(folder, [self.file_name])
         self.cells = Cells(storage_of(folder, self.file_name, size), self.cell_count, 2, self.payload_size)
         try:
             self.records = self.read(self.cells.mount())

@@ -121,9 +121,10 @@ def is_generate(words):
 
 def run_bench(words, folder, script, report):
     """Runs one of the words that use the bench."""
-    bench, answers = Bench(folder), None
+    kind, answers = WORDS.get(words[0], Answers), None
+    bench = Bench(folder, kind.own_files)
     try:
-        answers = WORDS.get(words[0], Answers)(bench, folder)
+        answers = kind(bench, folder)
         bench.open_streams(folder)
         if words[0] == 'generate':
             return report.line(summary(bench.step, int(words[1]), int(words[2])))
