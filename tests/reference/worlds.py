@@ -172,7 +172,7 @@ def judge_run(worlds, script, report, rates_text):
     events, bad_line = events_of(script)
     for at, (number, event) in enumerate(events):
         honest = [world for world in worlds if not world.is_forged(event)]
-        if not honest and at < len(answers):
+        if not honest and (at < len(answers) or front):
             return ('forged', number), []
         outcomes = [outcome for world in honest for outcome in world.outcomes(event)]
         if at == len(answers):
