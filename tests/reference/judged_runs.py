@@ -7,9 +7,12 @@ from bench import Bench
 from compare import FILES, read
 from desk import Lines
 from grammar import EVENTS, Grammar
-from sessions import RATES
+from sessions import RATES, marks_of
 from worlds import events_of
 from writer import Writer
+
+
+LIKELY = ('debit', 'deliver', 'give', 'ask audit', 'ask reset', 'deposit', 'order', 'print', 'close', 'scan msg', 'scan hex', 'on')
 
 
 class Runs:
@@ -20,7 +23,8 @@ class Runs:
         self.folder, self.scratch, self.program = folder, scratch, program
         self.keys = {number: bytes([number]) * 32 for number in range(1, 9)}
         self.today, self.forges = 20513, False
-        self.older = []
+        self.older, self.marks = [], []
+        self.before = None
 
     def all(self, count):
         shutil.rmtree(self.folder, ignore_errors=True)
@@ -29,16 +33,20 @@ class Runs:
             file.write(RATES)
         runs = []
         for at in range(count):
-            if at and self.draw.random() < 0.3:
-                self.put_back()
-            self.older.append({name: read(self.folder, name) for name in FILES[:11]})
+            if self.before and self.draw.random() < 0.5:
+                self.put_back(self.before, [FILES[:11], FILES[:8], ['centre.nv'], ['host.nv', 'verifier.nv']])
+            elif at and self.draw.random() < 0.2:
+                self.put_back(self.draw.choice(self.older), [FILES[:11], self.draw.sample(FILES[:11], 3), ['device-1.nv'], ['centre.nv']])
+            self.older.append(self.contents())
             runs.append(self.run())
         return runs
 
-    def put_back(self):
+    def contents(self):
+        return {name: read(self.folder, name) for name in FILES[:11]}
+
+    def put_back(self, copy, choices):
         """Takes some storages from an older copy."""
-        copy = self.draw.choice(self.older)
-        for name in self.draw.choice([FILES[:11], self.draw.sample(FILES[:11], 3), ['device-1.nv'], ['centre.nv'], ['verifier.nv', 'host.nv']]):
+        for name in self.draw.choice(choices):
             path = os.path.join(self.folder, name)
             if copy[name] is None:
                 if os.path.exists(path):
@@ -68,19 +76,36 @@ class Runs:
     def run(self):
         """Runs a script, or a front of it that a stop leaves."""
         script = self.script()
+        self.before = None
         if self.draw.random() < 0.4:
-            return script, self.program(self.folder, script), RATES
+            report = self.program(self.folder, script)
+            self.marks += marks_of(report)
+            return script, report, RATES
         lines = script.split(b'\n')
         events = events_of(script)[0]
-        at = self.draw.randrange(len(events))
-        done = self.draw.random() < 0.7
-        front = lines[:events[at][0] if done else events[at][0] - 1]
-        report = self.program(self.folder, b'\n'.join(front) + b'\n')
-        if done:
-            before = report[:-1].rfind(b'\n') + 1
-            answer = report[before:-1]
-            report = report[:before] + answer[:self.draw.choice([0, 0, 1, 2, len(answer) // 2, len(answer) - 1, len(answer), len(answer)])]
-        return script, report, RATES
+        at = self.last_event(events)
+        front = b''.join(line + b'\n' for line in lines[:events[at][0] - 1])
+        if self.draw.random() < 0.3:
+            return script, self.program(self.folder, front), RATES
+        if self.draw.random() < 0.5:
+            self.before = self.contents_behind(front)
+        report = self.program(self.folder, front + lines[events[at][0] - 1] + b'\n')
+        self.marks += marks_of(report)
+        at = report[:-1].rfind(b'\n') + 1
+        answer = report[at:-1]
+        return script, report[:at] + answer[:self.draw.choice([0, 0, 1, 2, len(answer) // 2, len(answer) - 1, len(answer), len(answer)])], RATES
+
+    def last_event(self, events):
+        """The event before or in which the run is stopped: mostly one that may commit."""
+        likely = [at for at, (_, event) in enumerate(events) if event[0] in LIKELY]
+        return self.draw.choice(likely) if likely and self.draw.random() < 0.7 else self.draw.randrange(len(events))
+
+    def contents_behind(self, front):
+        """The storages as they are behind a front of the script."""
+        shutil.rmtree(self.scratch, ignore_errors=True)
+        shutil.copytree(self.folder, self.scratch)
+        self.program(self.scratch, front)
+        return {name: read(self.scratch, name) for name in FILES[:11]}
 
 
 def altered(draw, runs):

@@ -35,6 +35,11 @@ BLANK = {file_name(node): bytes(limits.blank(CLASSES.get(node, Device))) for nod
 BLANK.update({kind.file_name: bytes(limits.blank_desk(kind)) for kind in (Claims, Departments)})
 
 
+def marks_of(report):
+    """The marks of the debits in a report."""
+    return [bytes.fromhex(line.split()[-1].decode()) for line in report.split(b'\n') if line.startswith(b'mark ')]
+
+
 class Session:
     """The runs of one seed over folders that stay equal while both meters do."""
 
@@ -45,6 +50,7 @@ class Session:
         self.today = 20513
         self.forges = self.draw.random() < 0.5
         self.older = {}
+        self.marks = []
 
     def start(self):
         for folder in self.folders:
@@ -148,4 +154,5 @@ class Session:
             if self.draw.random() < 0.02:
                 writer.skipped()
         self.today = writer.today
+        self.marks += marks_of(b'\n'.join(reply.encode() for reply in writer.replies))
         return writer.end()

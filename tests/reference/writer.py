@@ -23,7 +23,7 @@ class Writer:
 
     def __init__(self, draw, answers, grammar, session):
         self.draw, self.answers, self.grammar, self.keys, self.today = draw, answers, grammar, session.keys, session.today
-        self.forges = session.forges
+        self.forges, self.marks = session.forges, session.marks
         self.bench = answers.bench
         self.lines = []
         self.replies = []
@@ -156,6 +156,8 @@ class Writer:
         released = self.releases()
         key = self.keys[number] if self.forges else bytes(32)
         data = forge.mark(self.draw, number, key, self.view(number), self.today)
+        if self.marks and self.chance(0.3):
+            return self.draw.choice(self.marks)
         if released and self.chance(0.7):
             data = self.bench.messages[self.draw.choice(released)][2:]
             fields = read_mark(data)
