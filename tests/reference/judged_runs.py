@@ -25,6 +25,7 @@ class Runs:
         self.today, self.forges = 20513, False
         self.older, self.marks = [], []
         self.before = None
+        self.honest = True
 
     def all(self, count):
         shutil.rmtree(self.folder, ignore_errors=True)
@@ -46,6 +47,7 @@ class Runs:
 
     def put_back(self, copy, choices):
         """Takes some storages from an older copy."""
+        self.honest = False
         for name in self.draw.choice(choices):
             path = os.path.join(self.folder, name)
             if copy[name] is None:
