@@ -12,9 +12,6 @@ from worlds import events_of
 from writer import Writer
 
 
-LIKELY = ('debit', 'deliver', 'give', 'ask audit', 'ask reset', 'deposit', 'order', 'print', 'close', 'scan msg', 'scan hex', 'on')
-
-
 class Runs:
     """The runs of one seed over a folder that the meter at `program` keeps. Each has its script, its report and its rates."""
 
@@ -26,6 +23,7 @@ class Runs:
         self.older, self.marks = [], []
         self.before = None
         self.honest = True
+        self.committing = set()
 
     def all(self, count):
         shutil.rmtree(self.folder, ignore_errors=True)
@@ -34,8 +32,8 @@ class Runs:
             file.write(RATES)
         runs = []
         for at in range(count):
-            if self.before and self.draw.random() < 0.5:
-                self.put_back(self.before, [FILES[:11], FILES[:8], ['centre.nv'], ['host.nv', 'verifier.nv']])
+            if self.before and self.draw.random() < 0.7:
+                self.put_back(self.before, [FILES[:11], FILES[:11], FILES[:8], ['centre.nv'], ['host.nv', 'verifier.nv']])
             elif at and self.draw.random() < 0.2:
                 self.put_back(self.draw.choice(self.older), [FILES[:11], self.draw.sample(FILES[:11], 3), ['device-1.nv'], ['centre.nv']])
             self.older.append(self.contents())
@@ -64,6 +62,8 @@ class Runs:
         try:
             bench.open_streams(self.scratch)
             writer = Writer(self.draw, Lines(bench, self.scratch), Grammar(EVENTS), self)
+            self.committing = set()
+            bench.counted = lambda plan: self.committing.add(len(writer.lines))
             writer.begin()
             for number, chance in ((1, 0.9), (2, 0.2)):
                 if not writer.view(number)[0] and self.draw.random() < chance:
@@ -89,7 +89,7 @@ class Runs:
         front = b''.join(line + b'\n' for line in lines[:events[at][0] - 1])
         if self.draw.random() < 0.3:
             return script, self.program(self.folder, front), RATES
-        if self.draw.random() < 0.5:
+        if self.draw.random() < 0.6:
             self.before = self.contents_behind(front)
         report = self.program(self.folder, front + lines[events[at][0] - 1] + b'\n')
         self.marks += marks_of(report)
@@ -98,9 +98,9 @@ class Runs:
         return script, report[:at] + answer[:self.draw.choice([0, 0, 1, 2, len(answer) // 2, len(answer) - 1, len(answer), len(answer)])], RATES
 
     def last_event(self, events):
-        """The event before or in which the run is stopped: mostly one that may commit."""
-        likely = [at for at, (_, event) in enumerate(events) if event[0] in LIKELY]
-        return self.draw.choice(likely) if likely and self.draw.random() < 0.7 else self.draw.randrange(len(events))
+        """The event before or in which the run is stopped: mostly one that commits."""
+        commits = [at for at, (number, _) in enumerate(events) if number in self.committing]
+        return self.draw.choice(commits) if commits and self.draw.random() < 0.7 else self.draw.randrange(len(events))
 
     def contents_behind(self, front):
         """The storages as they are behind a front of the script."""
