@@ -25,10 +25,11 @@ class DepartmentsWriter(Writer):
         host = self.bench.nodes.get('host')
         last = host.last_job() if host else 1
         job = max(0, min(2**32 - 1, last + self.draw.choice([0, 0, 0, 0, -1, 1, -last])))
-        quota = self.draw.choice([0, 549, 550, 1100, 5000, 5000, self.answers.spent(department), 2**32 - 1])
+        spent = self.answers.spent(department)
+        quota = self.draw.choice([0, 549, 5000, 5000, spent, spent + 549] + [spent + 550] * 3 + [2**32 - 1])
         what = self.draw.random()
-        if what < 0.3:
-            self.do('dept quota %d %d', department, quota)
+        if what < 0.35:
+            self.do('dept quota %d %d', department, min(quota, 2**32 - 1))
         elif what < 0.5:
             self.do('dept spent %d', department)
         else:
@@ -76,8 +77,12 @@ class ManifestWriter(Writer):
 
 class StatementWriter(Writer):
     def own(self):
-        if self.chance(0.5):
-            self.do('statement open %d', self.draw.choice([1, 1, 1, 2, 64]))
+        if self.answers.customer is None or self.chance(0.1):
+            self.do('statement open %d', self.draw.choice([1, 1, 1, 1, 1, 1, 2, 64]))
+        elif self.chance(0.4):
+            self.transaction(self.device(), self.draw.choice(['refund', 'reset 1000', 'reset 50000', 'audit']))
+        elif self.chance(0.3):
+            self.deposit(1)
         else:
             self.do('statement close')
 
