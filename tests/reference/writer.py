@@ -3,13 +3,16 @@ import datetime
 
 import forge
 from grammar import EPOCH
-from marks import write_mark, read_mark, reads_as_mark
-from messages import Release, read_message
+from marks import read_mark, write_mark
 
 BAD_LINES = (b'x', b' status d1', b'status d1 ', b'status  d1', b'status d9', b'status\td1', b'end\r', b'debit d1 01 1 1', b'day 2026-02-30',
              b'day 1999-12-31', b'day 2200-01-01', b'scan 0 msg 1', b'deposit 65 1 1', b'give verifier -', b'give d1 0A', b'give d1 0',
              b'give d1 ' + b'0' * 514, b'send 4294967296', b'\xff', b'#' * 601, b'status d1' + b' ' * 600, b'STATUS d1', b'on d0', b'end end',
              b'claim 0 1 00', b'dept quota 17 1', b'manifest open 0 1 1 00', b'statement open 0', b'ask d1 audit 1', b'ask d1 enrol')
+
+ASKED = ('audit', 'audit', 'refund', 'reset 1', 'reset 50000', 'reset 50000', 'reset 10000000', 'reset 10000001', 'reset 0', 'enrol 1', 'enrol 2')
+NOISE = {'debit': 14, 'frank': 14, 'scan': 10, 'give': 14, 'power': 8, 'ask': 7, 'centre': 5, 'time': 4, 'look': 8, 'switch': 2, 'deliver': 7,
+         'job': 3, 'prepare': 2, 'rates': 0.5}
 
 
 def date(day):
@@ -85,7 +88,9 @@ class Writer:
         centre = self.bench.nodes.get('centre')
         row = centre.records.get(customer + 7) if centre else None
         receipt = min(2**32 - 1, (row.receipt if row else 0) + self.draw.choice([1] * 10 + [0, 0, 2]))
-        amount = row.amount if row and receipt == row.receipt and self.chance(0.7) else self.draw.choice([10**6, 10**8, 10**9] * 6 + [10**9 + 1, 0, 5])
+        amount = self.draw.choice([10**6, 10**8, 10**9] * 6 + [10**9 + 1, 0, 5])
+        if row and receipt == row.receipt and self.chance(0.7):
+            amount = row.amount
         self.do('deposit %d %d %d', customer, receipt, amount)
 
     def transaction(self, number, kind):
@@ -184,8 +189,10 @@ class Writer:
         """Cuts a node, and mostly does something there and switches it on again."""
         node = self.draw.choice(['d1', 'd1', 'd1', 'd2', 'centre', 'centre', 'host', 'verifier'])
         keep = self.draw.choice([0, 1, 4, 5, 10, 100, 213, 300, 2060, self.draw.randrange(300), 2**32 - 1])
-        self.do('cut %s %d %d %02x', node, self.draw.choice([0, 1, 2, 3, 3, 4, 5, 5, 6, 7]), keep, self.draw.choice([0, 0xA5, 0x37, self.draw.randrange(256)]))
-        work = {'d1': [self.debit, self.ask], 'd2': [self.debit, self.ask], 'centre': [self.ask, self.centre], 'host': [self.frank], 'verifier': [self.scan]}
+        byte = self.draw.choice([0, 0xA5, 0x37, self.draw.randrange(256)])
+        self.do('cut %s %d %d %02x', node, self.draw.choice([0, 1, 2, 3, 3, 4, 5, 5, 6, 7]), keep, byte)
+        work = {'d1': [self.debit, self.ask], 'd2': [self.debit, self.ask], 'centre': [self.ask, self.centre], 'host': [self.frank],
+                'verifier': [self.scan]}
         for _ in range(self.draw.choice([0, 1, 1, 1, 2])):
             do = self.draw.choice(work[node])
             do(*([int(node[1:])] if node[0] == 'd' else [] if do == self.scan else [1]))
@@ -197,8 +204,7 @@ class Writer:
             for kind in ('refund', 'reset 5000', 'refund'):
                 self.transaction(number, kind)
             return
-        self.transaction(number, self.draw.choice(['audit', 'audit', 'refund', 'reset 1', 'reset 50000', 'reset 50000', 'reset 10000000', 'reset 10000001',
-                                                   'reset 0', 'enrol 1', 'enrol 2'] + (['withdraw'] if self.chance(0.2) else [])))
+        self.transaction(number, self.draw.choice(['withdraw'] if self.chance(0.03) else ASKED))
 
     def centre(self, customer):
         customer = self.draw.choice([customer, customer, 2, 64])
@@ -237,8 +243,7 @@ class Writer:
 
     def noise(self):
         """Any one thing."""
-        what = self.draw.choices(['debit', 'frank', 'scan', 'give', 'power', 'ask', 'centre', 'time', 'look', 'switch', 'deliver', 'job', 'prepare', 'rates'],
-                                 [14, 14, 10, 14, 8, 7, 5, 4, 8, 2, 7, 3, 2, 0.5])[0]
+        what = self.draw.choices(list(NOISE), NOISE.values())[0]
         if what in ('debit', 'frank', 'ask', 'look', 'prepare'):
             getattr(self, what)(self.device())
         elif what == 'centre':
