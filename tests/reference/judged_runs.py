@@ -70,6 +70,8 @@ class Runs:
                     writer.prepare(number)
             for _ in range(self.draw.choice([3, 8, 15, 25])):
                 writer.noise()
+                if self.draw.random() < 0.05:
+                    writer.skipped()
             self.today = writer.today
             return writer.end()
         finally:
