@@ -1,6 +1,7 @@
 """Runs both meters over folders of their own, and says where they differ: report, standard error, status, prints, storages."""
 import os
 import subprocess
+import sys
 import tempfile
 
 import program
@@ -54,6 +55,14 @@ def run_reference(words, folder, script):
         status, line = program.run(words, folder, text.fileno(), report.fileno())
         report.seek(0)
         return status, report.read(), (line + '\n').encode() if line else b''
+
+
+def a_program(path):
+    """The path of a built program; ends with status 2 if there is none."""
+    if not (os.path.isfile(path) and os.access(path, os.X_OK)):
+        print('a built program is needed, and %s is none' % (path or 'nothing'), file=sys.stderr)
+        sys.exit(2)
+    return os.path.abspath(path)
 
 
 def run_program(path, words, folder, script):
