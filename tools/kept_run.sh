@@ -100,7 +100,7 @@ ended() {
     if [ ! -s "$run.report" ] && [ -n "$told" ]; then
         note_begin "$last_run" && rm -f "$run.script" "$run.report" "$run.rates" "$run.word"
     fi
-    case $told in 'cannot use '*) told="$told (no room for all storages once more, another program in the folder, or docs/OPERATING.md)" ;; esac
+    case $told in 'cannot use '*) told="$told (no room for all storages once more, another program in the folder, or docs/TROUBLESHOOTING.md)" ;; esac
     cut_off "the meter has ended: ${told:-it was stopped}"
 }
 
