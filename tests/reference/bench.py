@@ -51,9 +51,10 @@ class Answer(Exception):
 
 
 class Bench:
-    def __init__(self, folder, own_files=()):
+    def __init__(self, folder, own_files=(), look=lambda: None):
         self.cells = {}
         check_files(folder, [file_name(node) for node in NODES] + list(own_files))
+        look()
         for node in NODES:
             kind = CLASSES.get(node, Device)
             storage = storage_of(folder, file_name(node), kind.cells * kind.slots * (5 + kind.payload_size))

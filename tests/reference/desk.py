@@ -1,4 +1,6 @@
 """What the words with lines of their own share: own lines beside the bench's, and own storage for some."""
+import os
+
 from bench import CannotUse, storage_of
 from plans import NoRecord
 from storage import Cells, Damaged, Worn
@@ -15,6 +17,10 @@ class Lines:
 
     def __init__(self, bench, folder):
         self.bench = bench
+
+    @classmethod
+    def look(cls, folder):
+        """Finds an own storage that is there and can't be used, before any storage is made."""
 
     def is_event(self, event):
         """Whether a line of the form of an own line is one."""
@@ -49,6 +55,11 @@ class Desk(Lines):
             self.records = self.read(self.cells.mount())
         except (Damaged, NoRecord):
             raise CannotUse(self.file_name)
+
+    @classmethod
+    def look(cls, folder):
+        if os.path.exists(os.path.join(folder, cls.file_name)):
+            cls(None, folder).close()
 
     def commit(self, cell, record):
         try:

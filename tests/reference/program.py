@@ -122,7 +122,7 @@ def is_generate(words):
 def run_bench(words, folder, script, report):
     """Runs one of the words that use the bench."""
     kind, answers = WORDS.get(words[0], Answers), None
-    bench = Bench(folder, kind.own_files)
+    bench = Bench(folder, kind.own_files, lambda: kind.look(folder))
     try:
         answers = kind(bench, folder)
         bench.open_streams(folder)
