@@ -43,6 +43,7 @@ fn transact(
     day: DayNo,
 ) -> Result<()> {
     // The customer counts for an enrolment only, and the amount, in mills, for a reset only.
+    // sample embedded_meter
     let request = device.ask(kind, 1, amount, day).ok().context("not asked")?;
     let ruled = centre.take(request.as_slice()).ok().context("not ruled")?;
     let CentreAnswer::Ruled { reply, .. } = ruled else {
@@ -57,12 +58,14 @@ fn transact(
     };
     let done = device.ack().ok().context("nothing done")?;
     centre.take(done.as_slice()).ok().context("not settled")?;
+    // end of sample
     println!(rt; "{number} {kind:?} {verdict:?}")?;
     Ok(())
 }
 
 /// Franks a piece, once more as if the answer had been lost, and verifies the mark.
 fn frank(rt: &HostRuntime, device: &mut Device<MemNv>, day: DayNo) -> Result<()> {
+    // sample psd_device
     let command = DebitMsg {
         device: 1,
         piece: 1,
@@ -78,7 +81,9 @@ fn frank(rt: &HostRuntime, device: &mut Device<MemNv>, day: DayNo) -> Result<()>
         again.again,
         again.mark == bytes
     )?;
+    // end of sample
 
+    // sample indicium
     let Ok((mark, _)) = read_indicium(&bytes) else {
         bail!("no mark");
     };
@@ -93,6 +98,7 @@ fn frank(rt: &HostRuntime, device: &mut Device<MemNv>, day: DayNo) -> Result<()>
         "verified with a bit changed {}",
         verify_mark(&changed, &KEY)
     )?;
+    // end of sample
     Ok(())
 }
 
@@ -105,6 +111,7 @@ fn main(rt: HostRuntime) -> Result<()> {
     // A device needs its storage alone. The centre needs memory for its 72 cells too.
     let storage = blank(alloc, DEVICE_BYTES)?;
     let mut device = Device::boot(number, storage).ok().context("no device")?;
+    // sample centre_protocol
     let storage = blank(alloc, CENTRE_BYTES)?;
     let room = Room::new(alloc, CENTRE_CELLS)?;
     let mut centre = Centre::boot(storage, room).ok().context("no centre")?;
@@ -119,6 +126,7 @@ fn main(rt: HostRuntime) -> Result<()> {
         .deposit(customer, 1, 100_000)
         .ok()
         .context("no deposit")?;
+    // end of sample
 
     transact(&rt, &mut device, &mut centre, Kind::Enrol, 0, day)?;
     transact(&rt, &mut device, &mut centre, Kind::Audit, 0, day)?;

@@ -55,6 +55,7 @@ fn print_figures(rt: &HostRuntime) -> io::Result<()> {
     let Some(whole) = CASES.first() else {
         return Ok(());
     };
+    // sample ledger_book
     let commits = counted(rt.alloc(), &ledger_of(rt.alloc(), whole)?)?;
     let figures = sums(&commits, path::device());
     println!(rt;
@@ -63,6 +64,7 @@ fn print_figures(rt: &HostRuntime) -> io::Result<()> {
     )?;
     let balance = balance_in(&commits, path::customer());
     println!(rt; "balance {balance}")?;
+    // end of sample
     Ok(())
 }
 

@@ -155,6 +155,7 @@ fn words_of(alloc: Global, given: &[&str]) -> Result<Vec<String>, AllocError> {
     Ok(words)
 }
 
+// sample bench_base
 /// A source of this text that does not fail.
 fn source_of(alloc: Global, text: &[u8]) -> Result<MemSource, AllocError> {
     Ok(MemSource::new(Vec::from_slice(alloc, text)?, 4096, Vec::new(alloc)))
@@ -168,6 +169,7 @@ fn sink_of(alloc: Global, outlet: &Outlet) -> Result<MemSink, AllocError> {
         Vec::from_slice(alloc, outlet.zeros)?,
     ))
 }
+// end of sample
 
 /// Runs what is given on this bench.
 fn outcome(alloc: Global, given: &Given, bench: &mut Bench<MemNv>) -> Result<RunEnd, Fail>
@@ -181,6 +183,7 @@ fn outcome(alloc: Global, given: &Given, bench: &mut Bench<MemNv>) -> Result<Run
         given.piece,
         Vec::from_slice(alloc, given.read_fails)?,
     );
+    // sample script_replay
     let mut rates = source_of(alloc, given.rates)?;
     let mut report = sink_of(alloc, &given.report)?;
     let mut printer = sink_of(alloc, &given.printer)?;
@@ -193,6 +196,7 @@ fn outcome(alloc: Global, given: &Given, bench: &mut Bench<MemNv>) -> Result<Run
         &mut printer,
         bench,
     );
+    // end of sample
     Ok(RunEnd {
         status,
         report: Vec::from_slice(alloc, report.taken())?,
@@ -269,9 +273,11 @@ pub fn run_both(
 pub fn answer(alloc: Global, event: &Event, rates: &[u8]) -> Result<Vec<u8>, Fail>
     requires whole { IsWholeEvent event.now }
 {
+    // sample bench
     let mut bench = bench_of_stores(alloc, stores(alloc, &BLANK)?)?;
     let mut rates = source_of(alloc, rates)?;
     let mut printer = sink_of(alloc, &SOUND)?;
     let turn = step(alloc, &mut bench, event, &mut rates, &mut printer)?;
     Ok(Vec::from_slice(alloc, write_reply(&turn.reply).as_slice())?)
+    // end of sample
 }

@@ -11,6 +11,7 @@ fn device(rt: &impl Abort, number: u32) -> DevNo {
     DevNo::new(number).expect(rt, "device")
 }
 
+// sample verifier
 // The payload of a device that is trusted under the key.
 fn trusted(rt: &impl Abort, number: u32) -> [u8; 2_056] {
     trust_payload(device(rt, number), &KEY)
@@ -20,6 +21,7 @@ fn trusted(rt: &impl Abort, number: u32) -> [u8; 2_056] {
 fn is_trust(rt: &impl Abort, number: u32, payload: &[u8; 2_056]) -> bool {
     read_trust(device(rt, number), payload)
 }
+// end of sample
 
 #[test]
 fn lays_out_trust(rt: HostRuntime) {

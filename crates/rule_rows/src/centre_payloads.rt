@@ -209,6 +209,7 @@ fn is_customer(rt: &impl Abort, at: usize, byte: u8) -> bool {
     CustomerRow::read_payload(customer_1(rt), &with_byte(&CUSTOMER, at, byte)).is_some()
 }
 
+// sample centre_ledger
 // Whether a row that is read from the first bytes is written as the second.
 fn is_written(rt: &impl Abort, payload: &[u8; 192], written: &[u8; 192]) -> bool {
     row(rt, payload).write_payload() == *written
@@ -219,6 +220,7 @@ fn has_messages(rt: &impl Abort, payload: &[u8; 192]) -> bool {
     let row = row(rt, payload);
     row.request.as_slice() == &OLD_RESET[61..132] && row.reply.as_slice() == &OLD_RESET[132..188]
 }
+// end of sample
 
 #[test]
 fn rows_of_both_versions(rt: HostRuntime) {

@@ -53,6 +53,7 @@ fn vectors(rt: HostRuntime) {
 // A vector of RFC 4231 has no key of 32 bytes: this is its second, whose key is filled with zeros, which gives the same code.
 #[test]
 fn a_ready_key(rt: HostRuntime) {
+    // sample hmac_core
     let mut key = [0; 32];
     key[..4].copy_from_slice(b"Jefe");
     let ready = ReadyKey::new(&key);
@@ -67,4 +68,5 @@ fn a_ready_key(rt: HostRuntime) {
         assert!(rt; ready.matches(text, &code));
     }
     assert!(rt; !ready.matches(text, &[]));
+    // end of sample
 }

@@ -2,12 +2,14 @@
 use bench_base::numbers::DayNo;
 use psd_audit::{clock_back, deadline_after, is_due, is_overdue, read_date};
 
+// sample psd_audit
 fn is_read(text: &[u8], number: i32) -> bool {
     match read_date(text) {
         Some(day) => day.get() == number,
         None => false,
     }
 }
+// end of sample
 
 #[test]
 fn dates_are_read(rt: HostRuntime) {

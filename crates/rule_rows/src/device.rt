@@ -405,6 +405,7 @@ fn mark_in(answer: Debited) -> [u8; 64] {
     }
 }
 
+// sample psd_state
 // What a mark tells, and the device after it.
 fn told_of_mark(answer: Debited, before: DevRec) -> (Told, DevRec) {
     match answer {
@@ -420,6 +421,7 @@ fn told_of_debit(device: DevRec, piece: u32, postage: u32, day: DayNo) -> (Told,
         Err(refusal) => (refused(refusal), device),
     }
 }
+// end of sample
 
 // The same of a request.
 fn told_of_request(

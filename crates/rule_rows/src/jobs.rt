@@ -239,6 +239,7 @@ fn orders_without_jobs(rt: HostRuntime) -> Result<(), AllocError> {
     Ok(())
 }
 
+// sample host_jobs
 // What is told where a job is sent, printed and closed, and no bytes are taken.
 fn refusals(rows: &JobRows, kept: &Kept) -> (&'static str, &'static str, &'static str, &'static str)
     requires { IsKept rows.now kept.now }
@@ -250,6 +251,7 @@ fn refusals(rows: &JobRows, kept: &Kept) -> (&'static str, &'static str, &'stati
         told(take_act(&[], rows, kept)),
     )
 }
+// end of sample
 
 #[test]
 fn decides_without_jobs(rt: HostRuntime) -> Result<(), AllocError> {

@@ -313,6 +313,7 @@ fn debit() -> Message
     })
 }
 
+// sample psd_wire
 // Whether the message has these bytes.
 fn is_spelled(message: &Message, bytes: &[u8]) -> bool
     requires { IsWhole message.now }
@@ -327,6 +328,7 @@ fn is_read(bytes: &[u8]) -> bool {
         Err(_) => false,
     }
 }
+// end of sample
 
 // Whether that message has these bytes.
 fn has_bytes(rt: &impl Abort, message: Sample, bytes: &[u8]) -> bool {

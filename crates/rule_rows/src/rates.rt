@@ -97,12 +97,14 @@ fn prices_are(rt: &impl Abort, rates: &Rates, rows: &[Row]) {
 
 #[test]
 fn prices_pieces(rt: HostRuntime) -> Result<(), Fail> {
+    // sample host_rates
     let rates = read_rates(rt.alloc(), RATES.as_bytes())
         .ok()
         .ok_or("rates")?;
     holds(&rt, rates.classes() == 2, "classes");
     holds(&rt, rates.zones() == 2, "zones");
     prices_are(&rt, &rates, PRICES);
+    // end of sample
     Ok(())
 }
 

@@ -9,6 +9,7 @@ use text_streams::ReadAhead;
 fn gives_what_the_source_gives(rt: HostRuntime) -> Result<(), Fail> {
     let bytes = vec![in rt.alloc(); 1, 2, 3, 4, 5, 6]?;
     let fails = vec![in rt.alloc(); 2]?;
+    // sample text_streams
     let buffer = vec![in rt.alloc(); 0; 5]?;
     let mut source = ReadAhead::new(MemSource::new(bytes, 4, fails), buffer);
     let rows = [
@@ -23,5 +24,6 @@ fn gives_what_the_source_gives(rt: HostRuntime) -> Result<(), Fail> {
         assert_eq!(rt; source.read(&mut got), answer);
         assert_eq!(rt; got, wanted);
     }
+    // end of sample
     Ok(())
 }

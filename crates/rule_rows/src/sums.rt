@@ -17,6 +17,7 @@ fn stand_at(
 
 #[test]
 fn a_load_a_debit_and_a_refund(rt: HostRuntime) {
+    // sample registers
     let loaded = Registers::zero().load(50_000).expect(&rt, "a load");
     let debited = loaded.debit(550).expect(&rt, "a debit");
     assert!(rt; stand_at(&debited, 550, 49_450, 0, 1));
@@ -24,6 +25,7 @@ fn a_load_a_debit_and_a_refund(rt: HostRuntime) {
     assert!(rt; debited.debit(49_451).is_err());
     let more = debited.load(u32::MAX).expect(&rt, "a load past four bytes");
     assert!(rt; stand_at(&more, 550, 4_295_016_745, 0, 1));
+    // end of sample
 }
 
 #[test]

@@ -58,6 +58,7 @@ fn dots(alloc: Global, plan: &[Failure], calls: u32, bytes: u32) -> Result<MemNv
     MemNv::new(alloc, content, Vec::from_slice(alloc, plan)?, calls, bytes)
 }
 
+// sample nv_model
 /// Writes, syncs and begins again, through the bound alone.
 fn keeps<N: Nv>(nv: &mut N) -> Shown {
     if nv.size() < 8 {
@@ -68,6 +69,7 @@ fn keeps<N: Nv>(nv: &mut N) -> Shown {
     nv.restart()?;
     shown(nv)
 }
+// end of sample
 
 fn memory_keeps(alloc: Global) -> Result<Shown, AllocError> {
     let mut memory = dots(alloc, &[], 3, 3)?;
@@ -79,11 +81,13 @@ fn fused_keeps(alloc: Global) -> Result<Shown, AllocError> {
     Ok(keeps(&mut fused))
 }
 
+// sample nv_file
 /// What the file at this path keeps; one of eight bytes is made where there is none.
 fn file_keeps(rt: &HostRuntime, path: &str) -> Result<Shown, StartFault> {
     let mut file = FileNv::start(rt, path, 8)?;
     Ok(keeps(&mut file))
 }
+// end of sample
 
 #[test]
 fn each_storage_keeps_what_was_synced(rt: HostRuntime) -> Result<(), Fail> {

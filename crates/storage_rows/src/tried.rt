@@ -75,13 +75,16 @@ pub fn mounted_cell(nv: Fused<MemNv>) -> Option<Cell<Fused<MemNv>, 4>>
     Cell::mount(nv).ok()
 }
 
+// sample nv_ring
 /// A ring in this storage.
 pub fn mounted_ring(nv: Fused<MemNv>) -> Option<Ring<Fused<MemNv>, 4>>
     requires { (state_of nv).lost ≡ false }
 {
     Ring::mount(nv).ok()
 }
+// end of sample
 
+// sample nv_store
 /// A table of two cells in this storage.
 pub fn mounted_table(alloc: Global, nv: Fused<MemNv>) -> Option<Table<Fused<MemNv>, 4>>
     requires { (state_of nv).lost ≡ false }
@@ -89,6 +92,7 @@ pub fn mounted_table(alloc: Global, nv: Fused<MemNv>) -> Option<Table<Fused<MemN
     let room = Room::new(alloc, 2).ok()?;
     Table::mount(nv, room).ok()
 }
+// end of sample
 
 impl Tried for Cell<Fused<MemNv>, 4> {
     fn put(&mut self, cell: u32, payload: &[u8; 4]) -> Result<(), StoreFail> {

@@ -176,6 +176,7 @@ const EVENTS: &[(&str, u32, [u32; 5])] = &[
     ("end", 27, [0, 0, 0, 0, 0]),
 ];
 
+// sample script_text
 /// Whether the line is the event of this form with these numbers.
 fn is_event(line: &str, form: u32, wanted: [u32; 5]) -> bool {
     match read_event(line.as_bytes()) {
@@ -183,6 +184,7 @@ fn is_event(line: &str, form: u32, wanted: [u32; 5]) -> bool {
         Err(_) => false,
     }
 }
+// end of sample
 
 #[test]
 fn events_are_read(rt: HostRuntime) {
