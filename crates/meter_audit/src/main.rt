@@ -298,7 +298,6 @@ fn judge_files(
     requires ready { IsReady (audit_of auditor.old) }
     ensures ready { IsReady (audit_of auditor.new) }
 {
-    // sample told_runs
     let mut script = lines_of(rt, name, ".script")?;
     let mut report = lines_of(rt, name, ".report")?;
     let rates = rates_of(rt, name)?;
@@ -310,7 +309,6 @@ fn judge_files(
         rates.as_slice(),
         imprints,
     ))
-    // end of sample
 }
 
 // Goes over a run that was judged, where that is asked for.
