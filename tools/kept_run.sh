@@ -50,7 +50,7 @@ leave() {
     [ -z "$meter" ] || wait "$meter"
     exit "$1"
 }
-alarm() { echo "post: ALARM: $*. Stop, and keep the folder: docs/OPERATING.md, \"Alarms\"" >&2; leave 3; }
+alarm() { echo "post: ALARM: $*. Stop, and keep the folder: docs/TROUBLESHOOTING.md, \"Alarms\"" >&2; leave 3; }
 give_up() {
     case $* in 'ALARM: '*) alarm "${*#ALARM: }" ;; esac
     echo "post: $*" >&2
@@ -176,7 +176,7 @@ look_first() {
     last_run=$(echo "${last_name%%-*}" | sed 's/^0*//') last_run=${last_run:-0}
     if [ ! -e "$notes" ]; then
         [ "$last_run" -eq 0 ] ||
-            alarm "$notes is missing, where the commits are noted. If it alone was lost, docs/OPERATING.md says how it is made anew"
+            alarm "$notes is missing, where the commits are noted. If it alone was lost, docs/TROUBLESHOOTING.md says how it is made again"
         write_notes 'run 0
 ended 0' || die "cannot write $notes: POST_NOTES may name another file outside of the folder"
     fi
