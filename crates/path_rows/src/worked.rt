@@ -183,8 +183,8 @@ fn outcome(alloc: Global, given: &Given, bench: &mut Bench<MemNv>) -> Result<Run
         given.piece,
         Vec::from_slice(alloc, given.read_fails)?,
     );
-    // sample script_replay
     let mut rates = source_of(alloc, given.rates)?;
+    // sample script_replay
     let mut report = sink_of(alloc, &given.report)?;
     let mut printer = sink_of(alloc, &given.printer)?;
     let status = run(
