@@ -5,6 +5,7 @@ ghost use Rattle.bench_base.specs.Causes.{HasCause};
 ghost use Rattle.text_streams.specs.Pieces.{GivesPiece, with_end};
 
 use bench_base::stream::{ReadFail, Source};
+use memchr::memchr;
 
 /// A source that takes from another as much as its buffer holds, and gives that in pieces of any size. What was read ahead is
 /// taken from the other source, and still left here.
@@ -34,12 +35,10 @@ fn count_before(bytes: &[u8], value: u8) -> usize
     ensures before { All (λ b. b ≢ value) (take result bytes.now) }
     ensures found { result < length bytes.now → get_or bytes.now result 0 ≡ value }
 {
-    for at in 0..bytes.len() {
-        if bytes[at] == value {
-            return at;
-        }
+    match memchr(value, bytes) {
+        Some(at) => at,
+        None => bytes.len(),
     }
-    bytes.len()
 }
 
 // Copies as much of the front as there is room for. One byte is moved without a call.
