@@ -6,7 +6,7 @@ mod digits;
 mod reading;
 mod writing;
 
-pub use ahead::{Piece, ReadAhead};
+pub use ahead::{BufSource, Piece, ReadAhead};
 pub use digits::put_digits;
 pub use reading::{TakeFail, take_text};
 pub use writing::{print_mark, put_text};
