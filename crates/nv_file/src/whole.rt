@@ -81,7 +81,7 @@ fn refused() -> io::Error {
 
 /// The file of a name, None if there is none. A symbolic link is refused, also one that leads nowhere, and so is whatever is
 /// no file. So is a file with another name: that would keep the old bytes, and whoever starts over it has the same money again.
-fn find<R: Files<File = File>>(rt: &R, path: &str) -> io::Result<Option<File>> {
+pub(crate) fn find<R: Files<File = File>>(rt: &R, path: &str) -> io::Result<Option<File>> {
     let named = match fs::symlink_metadata(rt, path) {
         Ok(named) => named,
         Err(error) if error.kind() == io::ErrorKind::NotFound => return Ok(None),
@@ -100,7 +100,7 @@ fn find<R: Files<File = File>>(rt: &R, path: &str) -> io::Result<Option<File>> {
 }
 
 /// A new file that others can't read. What has the name is removed before.
-fn create<R: Files<File = File>>(rt: &R, path: &str) -> io::Result<File> {
+pub(crate) fn create<R: Files<File = File>>(rt: &R, path: &str) -> io::Result<File> {
     match fs::remove_file(rt, path) {
         Err(error) if error.kind() != io::ErrorKind::NotFound => return Err(error),
         _ => {}
