@@ -1,12 +1,14 @@
 -- Words of lower-case hexadecimal digits.
 use Rattle.std.proofs.Common.{◌≡◌, ◌≢◌, ℕ, zero, suc, ◌+◌, ◌-◌, ◌*◌, ◌/◌, ◌%◌, ◌≤◌, ◌<◌, List, [], ◌∷◌, ◌++◌, length, take, drop, slice_set, refl, sym, ap, ◌∙◌, arith, subst, inl, inr, append_assoc}
-use Rattle.std.proofs.lemmas.List.{append-nil, drop_all, take_all, take_more_set}
-use Rattle.std.specs.Prelude.{slice_index, EachIndex}
-use Rattle.std.proofs.lemmas.Bool.{cases_lt}
+use Rattle.std.proofs.lemmas.List.{append-nil, drop_all, length-take-le, take-append-le, take_all, take_more_set}
+use lib.Seq.{take-append-add}
+use borrow.Rule.Slice.PartMut.{put_mid}
+use Rattle.std.specs.Prelude.{slice_index, nat_lt, EachIndex, MatchBool, Bool, true, false}
+use Rattle.std.proofs.lemmas.Bool.{cases_lt, ltb-true, ltb-false}
 use Rattle.hex.specs.Hex.{lower_digits, encode_with, encode_lower}
 use Rattle.hex.proofs.HexLemmas.{length-encode_with}
 use Rattle.hex.proofs.Pairs.{drop-pair}
-use Rattle.text_streams.proofs.Digits.{glyph, letter_at}
+use Rattle.text_streams.proofs.LowerDigits.{glyph, letter_at}
 use Rattle.bench_base.specs.Table.{IsBytes}
 use Rattle.script_words.specs.Words.{IsLowerDigit, given_word}
 use Rattle.script_words.proofs.Splits.{Printed}
@@ -72,7 +74,8 @@ pub read_done : (word room : List ℕ) (i : ℕ) → length room ≤ i → lengt
 read_done word room i most long read =
     let gone = drop_all (2 * i) word long in
     let all = take_all i room most in
-    rw (gone, all, append-nil) at sym read
+    let whole : encode_lower room ≡ word = rw (gone, all, append-nil) at read in
+    sym whole
 
 IsBytes-snoc : (bytes : List ℕ) (b : ℕ) → IsBytes bytes → b < 256 → IsBytes (bytes ++ b ∷ [])
 IsBytes-snoc [] b fits h zero = h
@@ -92,3 +95,28 @@ no_given w count dash half [] none e = dash e
 no_given w count dash half (b ∷ g) none e =
     let long : length w ≡ 2 * length (b ∷ g) = ap length e ∙ length-encode_with lower_digits (b ∷ g) in
     none (omega arith) (omega (arith, long, half)) e
+
+-- digits that are written behind what stands there
+pub put_behind : (len n : ℕ) (bytes digits : List ℕ) → len ≤ length bytes → length digits ≡ n → take (len + n) (put_mid len (len + n - len) bytes digits) ≡ take len bytes ++ digits
+put_behind len n bytes digits inside long =
+    let rest : List ℕ = drop (len + n - len) (drop len bytes) in
+    let front : length (take len bytes) ≡ len = length-take-le len bytes inside in
+    ap (λ (i : ℕ). take (i + n) (take len bytes ++ (digits ++ rest))) (sym front)
+    ∙ take-append-add (take len bytes) (digits ++ rest) n
+    ∙ ap (λ (t : List ℕ). take len bytes ++ t) (take-append-le n digits rest (omega (arith, long)) ∙ take_all n digits (omega (arith, long)))
+
+-- a word of another length
+pub no_twice : (word : List ℕ) (n : ℕ) → (length word ≡ 2 * n → ⊥) → (bytes : List ℕ) → length bytes ≡ n → word ≢ encode_lower bytes
+no_twice word n other bytes long same = other (ap (λ (l : List ℕ). length l) same ∙ length-encode_with lower_digits bytes ∙ omega (arith, long))
+
+pub below : (n : ℕ) (P Q : Type 0) → (n < 16 → P) → (16 ≤ n → Q) → MatchBool (nat_lt n 16) P Q
+below n P Q low high = by (nat_lt n 16) refl
+  where
+    by : (b : Bool) → nat_lt n 16 ≡ b → MatchBool b P Q
+    by true is = low (ltb-true n 16 is)
+    by false is = high (ltb-false n 16 is)
+
+-- nothing is read yet
+pub read_none : (word : List ℕ) → encode_lower [] ++ word ≡ word
+unfolding encode_with
+read_none word = refl

@@ -1,3 +1,3 @@
 mod Streams
 pub mod Fronts
-pub mod Digits
+pub mod LowerDigits
