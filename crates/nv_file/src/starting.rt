@@ -111,27 +111,33 @@ impl Starting<'_> {
     ) -> Result<(Vec<FileNv>, Option<String>), &'static str>
         ensures kept { IfOk result (λ settled. settled.0.items ≡ stores_of self.entry) }
     {
+        let Starting {
+            files,
+            stores,
+            firsts,
+            remembered,
+        } = self;
         let forgotten = forget(rt);
-        if self.remembered.is_some() {
+        if remembered.is_some() {
             return match forgotten {
-                Ok(()) => Ok((self.stores, self.remembered)),
+                Ok(()) => Ok((stores, remembered)),
                 Err(_) => Err(CLEAN),
             };
         }
-        for (named, file) in self.files.iter().enumerate() {
+        for (named, file) in files.iter().enumerate() {
             if whole::give_name(rt, file.name).is_err() {
-                remove_firsts(rt, self.files, &self.firsts, named);
-                discard_all(rt, self.files);
+                remove_firsts(rt, files, &firsts, named);
+                discard_all(rt, files);
                 return Err(file.name);
             }
         }
-        for file in self.files {
+        for file in files {
             if whole::sync_folder(rt, file.name).is_err() {
-                remove_firsts(rt, self.files, &self.firsts, self.files.len());
+                remove_firsts(rt, files, &firsts, files.len());
                 return Err(file.name);
             }
         }
-        Ok((self.stores, None))
+        Ok((stores, None))
     }
 
     /// Removes what was prepared. The storages are as they were before.

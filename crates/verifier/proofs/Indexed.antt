@@ -179,14 +179,6 @@ module _ (es new : List Entry) (place : ℕ) (e : Entry) (is : IsPut es new plac
 
 -- == by the place of a block in the order ==
 
--- where the last entry comes before it, all do
-pub all_before : (es : List Entry) (d b : ℕ) → AreOrdered es → 0 < length es → rank_of (get_or es (length es - 1) nothing) < rank d b
-    → (k : ℕ) → k < length es → rank_of (get_or es k nothing) < rank d b
-all_before es d b ordered some last k lt = elim (cases_eq k (length es - 1)) [
-  | inl same ↦ subst (λ (j : ℕ). rank_of (get_or es j nothing) < rank d b) (sym same) last
-  | inr differs ↦ omega (arith, ordered.rising k (length es - 1) (omega arith) (omega arith), last)
-]
-
 module _ (es : List Entry) (d b place : ℕ) where
   -- the entry in its place is another's
   pub found_none : AreOrdered es → place < length es → is_of d b (get_or es place nothing) ≡ false → ((k : ℕ) → k < place → rank_of (get_or es k nothing) < rank d b)
