@@ -97,7 +97,8 @@ impl Line {
     /// Adds a space and two lower-case hexadecimal digits for each byte.
     pub fn hex(&mut self, bytes: &[u8])
         requires { length self.old + 2 * length bytes.now ≤ 255 }
-        ensures { self.new ≡ self.old ++ 32 ∷ hex_word bytes.now }
+        ensures value { self.new ≡ self.old ++ 32 ∷ hex_word bytes.now }
+        ensures long { length self.new ≡ length self.old + 1 + 2 * length bytes.now }
     {
         self.push(b' ');
         let end = self.len + 2 * bytes.len();
