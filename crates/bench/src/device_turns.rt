@@ -29,7 +29,6 @@ impl<'a, M: Fuse + Drop, T: Tell, P: Sink> Turns<DeviceCall<'a>, T, P> for Devic
     ghost CameTo = { λ d today c s t p q told. Told ⟦<DeviceNode<M> as Node>⟧ M.Nv M.Fuse.own device_kind (node.Device d) d today
         (device_call_event d c) (Call c) (T.IsOf told) s t p q };
 
-    #[inline(never)]
     fn called(&mut self, number: DevNo, day: DayNo, asked: &DeviceCall<'a>, _printer: &mut P) -> T {
         let callee = DeviceCallee {
             device: number,

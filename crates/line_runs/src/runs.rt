@@ -9,8 +9,9 @@ ghost use Rattle.line_runs.specs.Turns.{Goes, Stops, Ended};
 use crate::clerk::Clerk;
 use crate::lines::{LineRead, read_line};
 use crate::status::{SideStatus, Status};
-use bench_base::stream::{Sink, Source};
+use bench_base::stream::Sink;
 use std::alloc::Global;
+use text_streams::BufSource;
 
 /// The most lines that are read.
 const LINES: u32 = 1_000_000;
@@ -29,7 +30,7 @@ fn missing_after(number: u32) -> SideStatus
 }
 
 // Reads the line of this number and does it. A status is the run's end.
-fn turn<C: Clerk, S: Source, K: Sink>(
+fn turn<C: Clerk, S: BufSource, K: Sink>(
     alloc: Global,
     number: u32,
     buf: &mut [u8; 600],
@@ -78,7 +79,7 @@ fn turn<C: Clerk, S: Source, K: Sink>(
 }
 
 /// Does the script's lines up to the run's end.
-pub fn run_lines<C: Clerk, S: Source, K: Sink>(
+pub fn run_lines<C: Clerk, S: BufSource, K: Sink>(
     alloc: Global,
     script: &mut S,
     desk: &mut C::Desk,

@@ -15,7 +15,7 @@ use bench_base::stream::{IoSink, IoSource};
 use centre_statement::run_statement;
 use host_departments::run_departments;
 use mail_manifest::run_manifest;
-use nv_file::FileNv;
+use nv_file::{FileNv, remember};
 use opening::{Opened, Side, hold_folder, open_files};
 use program_calls::{Call, Exit, OpenFault, Uses, exit_of, read_call};
 use script_replay::run::run;
@@ -24,7 +24,7 @@ use spoil_claims::run_claims;
 use statement_check::run_recompute;
 use std::process::ExitCode;
 use std::{env, io};
-use store_files::split_stores;
+use store_files::{BENCH_STORES, STORES, split_stores};
 use text_streams::ReadAhead;
 
 /// How much of the script is read ahead, in bytes.
@@ -66,6 +66,24 @@ fn bench_over(rt: &HostRuntime, stores: Vec<FileNv>) -> Result<Bench<FileNv>, Op
     }
 }
 
+// Remembers a clean end: no call on a storage failed, and all that was written is on the disk. If it can't be remembered the next start writes the storages anew.
+fn remember_end(rt: &HostRuntime, bench: Bench<FileNv>, remembered: Option<String>)
+    requires ready { IsReady (bench_of bench) }
+{
+    let stores = bench.into_stores();
+    if stores.devices.iter().all(|store| store.is_settled())
+        && stores.centre.is_settled()
+        && stores.host.is_settled()
+        && stores.verifier.is_settled()
+    {
+        let before = match &remembered {
+            Some(text) => text.as_str(),
+            None => "",
+        };
+        let _ = remember(rt, &STORES[..BENCH_STORES], before);
+    }
+}
+
 // Runs what the words say over what was opened, with whoever has lines of its own.
 fn run_over(rt: &HostRuntime, words: &[String], opened: Opened) -> Result<SideStatus, OpenFault> {
     let Opened {
@@ -73,6 +91,7 @@ fn run_over(rt: &HostRuntime, words: &[String], opened: Opened) -> Result<SideSt
         mut rates,
         mut printer,
         side,
+        remembered,
     } = opened;
     let mut bench = bench_over(rt, stores)?;
     let Ok(ahead) = vec![in rt.alloc(); 0; AHEAD] else {
@@ -80,8 +99,8 @@ fn run_over(rt: &HostRuntime, words: &[String], opened: Opened) -> Result<SideSt
     };
     let mut script = ReadAhead::new(IoSource::new(rt.reader()), ahead);
     let mut report = IoSink::new(io::writer(rt));
-    match side {
-        Side::Claims(mut desk) => Ok(run_claims(
+    let ended = match side {
+        Side::Claims(mut desk) => run_claims(
             rt.alloc(),
             words,
             &mut script,
@@ -90,8 +109,8 @@ fn run_over(rt: &HostRuntime, words: &[String], opened: Opened) -> Result<SideSt
             &mut printer,
             &mut bench,
             &mut desk,
-        )),
-        Side::Departments(mut departments) => Ok(run_departments(
+        ),
+        Side::Departments(mut departments) => run_departments(
             rt.alloc(),
             words,
             &mut script,
@@ -100,8 +119,26 @@ fn run_over(rt: &HostRuntime, words: &[String], opened: Opened) -> Result<SideSt
             &mut printer,
             &mut bench,
             &mut departments,
-        )),
-        Side::Statement => Ok(run_statement(
+        ),
+        Side::Statement => run_statement(
+            rt.alloc(),
+            words,
+            &mut script,
+            &mut rates,
+            &mut report,
+            &mut printer,
+            &mut bench,
+        ),
+        Side::Manifest => run_manifest(
+            rt.alloc(),
+            words,
+            &mut script,
+            &mut rates,
+            &mut report,
+            &mut printer,
+            &mut bench,
+        ),
+        Side::Alone => SideStatus::Run(run(
             rt.alloc(),
             words,
             &mut script,
@@ -110,25 +147,9 @@ fn run_over(rt: &HostRuntime, words: &[String], opened: Opened) -> Result<SideSt
             &mut printer,
             &mut bench,
         )),
-        Side::Manifest => Ok(run_manifest(
-            rt.alloc(),
-            words,
-            &mut script,
-            &mut rates,
-            &mut report,
-            &mut printer,
-            &mut bench,
-        )),
-        Side::Alone => Ok(SideStatus::Run(run(
-            rt.alloc(),
-            words,
-            &mut script,
-            &mut rates,
-            &mut report,
-            &mut printer,
-            &mut bench,
-        ))),
-    }
+    };
+    remember_end(rt, bench, remembered);
+    Ok(ended)
 }
 
 // Runs what the words call for. Bad words touch no file, and no file is touched without the folder's lock.

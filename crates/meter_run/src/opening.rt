@@ -40,6 +40,8 @@ pub struct Opened {
     pub rates: RatesFile<IoSource<File>>,
     pub printer: IoSink<File>,
     pub side: Side,
+    /// What was remembered of the clean end before.
+    pub remembered: Option<String>,
     ghost eleven: { length stores.items ≡ 11 },
 }
 
@@ -139,11 +141,12 @@ fn settle(
         }
     };
     match starting.settle(rt) {
-        Ok(stores) => Ok(Opened {
+        Ok((stores, remembered)) => Ok(Opened {
             stores,
             rates,
             printer,
             side,
+            remembered,
         }),
         Err(name) => Err(OpenFault::File(name)),
     }

@@ -5,7 +5,7 @@ use bench::Stores;
 use bench_base::sizes::{CENTRE_BYTES, DEVICE_BYTES, VERIFIER_BYTES};
 use host_departments::DEPARTMENT_BYTES;
 use host_jobs::HOST_BYTES;
-use nv_file::{FileNv, PART, StoreFile};
+use nv_file::{CLEAN, FileNv, PART, StoreFile};
 use program_calls::OpenFault;
 use spoil_claims::CLAIM_BYTES;
 use std::fs;
@@ -93,8 +93,11 @@ fn is_named(rt: &HostRuntime, found: &Metadata, name: &str) -> bool {
     }
 }
 
-/// Whether a file is one of the storages, or one in the making, by whatever name it was found.
+/// Whether a file is one of the storages, or one in the making, or that of a clean end, by whatever name it was found.
 pub fn is_store(rt: &HostRuntime, found: &Metadata) -> Result<bool, OpenFault> {
+    if is_named(rt, found, CLEAN) {
+        return Ok(true);
+    }
     for file in STORES {
         let Ok(part) = format!(in rt.alloc(); "{}{PART}", file.name) else {
             return Err(OpenFault::Memory);
@@ -106,10 +109,10 @@ pub fn is_store(rt: &HostRuntime, found: &Metadata) -> Result<bool, OpenFault> {
     Ok(false)
 }
 
-/// Whether a name is one that a storage has, or one in the making.
+/// Whether a name is one that a storage has, or one in the making, or the file of a clean end.
 pub fn is_store_name(name: &str) -> bool {
     let name = name.strip_suffix(PART).unwrap_or(name);
-    STORES.iter().any(|file| file.name == name)
+    name == CLEAN || STORES.iter().any(|file| file.name == name)
 }
 
 /// The storages by what they are of, where they come in the order of `STORES`.

@@ -42,6 +42,7 @@ pub fn stop<K: Node>(node: &mut K) -> bool
 
 /// Does what a call of the node decided on. The record of a node that is on can take what is committed. A node whose
 /// commit fails is switched off.
+#[inline(always)]
 pub fn perform<K: Node, F: Copy, A: Copy>(node: &mut K, act: &Act<K::Change, F, A>) -> Outcome<F, A>
     requires fits { K.Node.is_on node.old ≡ true → CanCommit K.Node (K.Node.seen node.old) act.now }
     ensures did { (by : K.Node.Seen → Act K.Change F A) → by (K.Node.seen node.old) ≡ act.now

@@ -1,11 +1,12 @@
 //! Storage in a file.
-ghost use Rattle.std.specs.Prelude.{None, false, true, [], ℕ, ◌≡◌, ◌⊎◌, ◌+◌, ◌≤◌, length, Some, IfOk, is_ok};
+ghost use Rattle.std.specs.Prelude.{None, false, true, [], ℕ, ◌≡◌, ◌↔◌, ◌⊎◌, ◌+◌, ◌≤◌, length, Some, IfOk, IsTrue, is_ok};
 ghost use Rattle.nv_model.specs.Meters.{Answers, unharmed};
 ghost use Rattle.nv_file.specs.Ranges.{are_apart, joined, leaves_a_gap};
 
 use crate::ahead::Ahead;
 use crate::whole;
 use nv_model::{Nv, NvFail};
+use std::alloc::Global;
 use std::fs::{File, Files};
 use std::io;
 use std::os::unix::fs::FileExt;
@@ -81,15 +82,46 @@ impl FileNv {
         ensures synced { IfOk result (λ made. unsynced made.0 ≡ nothing_unsynced) }
     {
         let part = whole::prepare(rt, path, size).map_err(|_| StartFault)?;
-        let store = FileNv {
-            ahead: Ahead::new(rt.alloc(), part.size).map_err(|_| StartFault)?,
-            file: part.file,
-            size: part.size,
+        let store = FileNv::over(rt.alloc(), part.file, part.size)?;
+        Ok((store, part.is_first))
+    }
+
+    /// The storage of a path in the file that is there, as it is. All of it is on the disk.
+    pub(crate) fn reuse<R: Files<File = File> + AllocGlobal>(
+        rt: &R,
+        path: &str,
+    ) -> Result<FileNv, StartFault>
+        ensures unharmed { IfOk result (λ nv. ⟦<FileNv as Nv>⟧.meters nv ≡ unharmed) }
+        ensures synced { IfOk result (λ nv. unsynced nv ≡ nothing_unsynced) }
+    {
+        let Ok(Some(file)) = whole::find(rt, path) else {
+            return Err(StartFault);
+        };
+        let found = file.metadata().map_err(|_| StartFault)?;
+        let size = u32::try_from(found.len()).map_err(|_| StartFault)?;
+        FileNv::over(rt.alloc(), file, size)
+    }
+
+    // The storage in a file of so many bytes, all of which are on the disk.
+    fn over(alloc: Global, file: File, size: u32) -> Result<FileNv, StartFault>
+        ensures unharmed { IfOk result (λ nv. ⟦<FileNv as Nv>⟧.meters nv ≡ unharmed) }
+        ensures synced { IfOk result (λ nv. unsynced nv ≡ nothing_unsynced) }
+    {
+        Ok(FileNv {
+            ahead: Ahead::new(alloc, size).map_err(|_| StartFault)?,
+            file,
+            size,
             faults: 0,
             range: None,
             failed: false,
-        };
-        Ok((store, part.is_first))
+        })
+    }
+
+    /// Whether no call on the file failed, and all that was written is on the disk.
+    pub fn is_settled(&self) -> bool
+        ensures { IsTrue result ↔ ((⟦<FileNv as Nv>⟧.meters self.now ≡ unharmed) × (unsynced self.now ≡ nothing_unsynced)) }
+    {
+        self.faults == 0 && self.range.is_none() && !self.failed
     }
 
     /// Answers for a call on the file, and counts it where it failed.

@@ -2,10 +2,12 @@
 #![tactic(auto)]
 
 mod ahead;
+mod clean;
 mod file;
 mod starting;
 mod whole;
 
+pub use clean::{CLEAN, recall, remember};
 pub use file::{FileNv, StartFault};
 pub use starting::{Starting, StoreFile, remove_part};
 pub use whole::PART;

@@ -1,10 +1,11 @@
-//! Storages that start together: none takes its name before the bytes of all are on the disk.
+//! Storages that start together: behind a clean end as they are, otherwise none takes its name before the bytes of all are on the disk.
 ghost use Rattle.std.specs.Prelude.{◌≡◌, ◌↔◌, ◌++◌, ◌<◌, IfOk, IsSome, length, option_to_list};
 ghost use Rattle.std.specs.List.{All};
 ghost use Rattle.nv_model.specs.Meters.{unharmed};
 ghost use Rattle.nv_file.specs.Files.{unsynced, nothing_unsynced};
 ghost use Rattle.nv_file.specs.Starts.{stores_of};
 
+use crate::clean::{CLEAN, are_as_remembered, forget, recall};
 use crate::file::FileNv;
 use crate::whole;
 use nv_model::Nv;
@@ -17,18 +18,20 @@ pub struct StoreFile {
     pub bytes: u32,
 }
 
-/// Storages whose bytes are on the disk, each in a new file beside its place. No storage is changed yet.
+/// Storages whose bytes are on the disk, each in a new file beside its place, or behind a clean end in its own. No storage is changed yet.
 #[derive(Drop)]
 pub struct Starting<'a> {
     files: &'a [StoreFile],
     stores: Vec<FileNv>,
-    /// Of each file, whether there was none of its name.
+    /// Of each new file, whether there was none of its name.
     firsts: Vec<bool>,
+    /// What was remembered of the clean end behind which the storages are used as they are.
+    remembered: Option<String>,
 }
 
 impl Starting<'_> {
-    /// Prepares each storage, as `FileNv::start` does. Where one can't be used its name is answered, nothing that was prepared
-    /// is left, and no storage is changed.
+    /// Prepares each storage: as it is where a clean end is remembered of all of them, else as `FileNv::start` does. Where one can't be used its name is
+    /// answered, nothing that was prepared is left, and no storage is changed.
     pub fn prepare<'a, R: Files<File = File> + AllocGlobal>(
         rt: &R,
         files: &'a [StoreFile],
@@ -37,6 +40,10 @@ impl Starting<'_> {
         ensures unharmed { IfOk result (λ starting. All (λ nv. ⟦<FileNv as Nv>⟧.meters nv ≡ unharmed) (stores_of starting)) }
         ensures synced { IfOk result (λ starting. All (λ nv. unsynced nv ≡ nothing_unsynced) (stores_of starting)) }
     {
+        let remembered = recall(rt).filter(|text| are_as_remembered(rt, files, text.as_str()));
+        if remembered.is_some() {
+            return Starting::reuse(rt, files, remembered);
+        }
         let mut stores = Vec::new(rt.alloc());
         let mut firsts = Vec::new(rt.alloc());
         for file in files {
@@ -55,6 +62,35 @@ impl Starting<'_> {
             files,
             stores,
             firsts,
+            remembered: None,
+        })
+    }
+
+    // The storages as they are.
+    fn reuse<'a, R: Files<File = File> + AllocGlobal>(
+        rt: &R,
+        files: &'a [StoreFile],
+        remembered: Option<String>,
+    ) -> Result<Starting<'a>, &'static str>
+        ensures each { IfOk result (λ starting. length (stores_of starting) ≡ length files.now) }
+        ensures unharmed { IfOk result (λ starting. All (λ nv. ⟦<FileNv as Nv>⟧.meters nv ≡ unharmed) (stores_of starting)) }
+        ensures synced { IfOk result (λ starting. All (λ nv. unsynced nv ≡ nothing_unsynced) (stores_of starting)) }
+    {
+        let mut stores = Vec::new(rt.alloc());
+        for file in files {
+            let ready = match FileNv::reuse(rt, file.name) {
+                Ok(store) => stores.push(store).is_ok(),
+                Err(_) => false,
+            };
+            if !ready {
+                return Err(file.name);
+            }
+        }
+        Ok(Starting {
+            files,
+            stores,
+            firsts: Vec::new(rt.alloc()),
+            remembered,
         })
     }
 
@@ -67,33 +103,48 @@ impl Starting<'_> {
         self.stores.pop()
     }
 
-    /// Gives each storage its name, and makes sure of the names. If that fails at one its name is answered: those that were
-    /// there hold what they held, and those that were made are removed again, if they can be.
+    /// Gives each storage its name, makes sure of the names, and hands out the storages with what was remembered of the clean end, which is forgotten. If that
+    /// fails at one its name is answered: those that were there hold what they held, and those that were made are removed again, if they can be.
     pub fn settle<R: Files<File = File> + AllocGlobal>(
         self,
         rt: &R,
-    ) -> Result<Vec<FileNv>, &'static str>
-        ensures kept { IfOk result (λ stores. stores.items ≡ stores_of self.entry) }
+    ) -> Result<(Vec<FileNv>, Option<String>), &'static str>
+        ensures kept { IfOk result (λ settled. settled.0.items ≡ stores_of self.entry) }
     {
-        for (named, file) in self.files.iter().enumerate() {
+        let Starting {
+            files,
+            stores,
+            firsts,
+            remembered,
+        } = self;
+        let forgotten = forget(rt);
+        if remembered.is_some() {
+            return match forgotten {
+                Ok(()) => Ok((stores, remembered)),
+                Err(_) => Err(CLEAN),
+            };
+        }
+        for (named, file) in files.iter().enumerate() {
             if whole::give_name(rt, file.name).is_err() {
-                remove_firsts(rt, self.files, &self.firsts, named);
-                discard_all(rt, self.files);
+                remove_firsts(rt, files, &firsts, named);
+                discard_all(rt, files);
                 return Err(file.name);
             }
         }
-        for file in self.files {
+        for file in files {
             if whole::sync_folder(rt, file.name).is_err() {
-                remove_firsts(rt, self.files, &self.firsts, self.files.len());
+                remove_firsts(rt, files, &firsts, files.len());
                 return Err(file.name);
             }
         }
-        Ok(self.stores)
+        Ok((stores, None))
     }
 
     /// Removes what was prepared. The storages are as they were before.
     pub fn discard<R: Files<File = File> + AllocGlobal>(self, rt: &R) {
-        discard_all(rt, self.files);
+        if self.remembered.is_none() {
+            discard_all(rt, self.files);
+        }
     }
 }
 

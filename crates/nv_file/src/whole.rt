@@ -1,12 +1,15 @@
 //! Files that are made whole or not at all.
 use std::fs::{File, Files, Metadata, OpenOptions};
-use std::io::Read;
+use std::io::{Read, Write};
 use std::os::unix::fs::{MetadataExt, OpenOptionsExt, fchown};
 use std::path::Path;
 use std::{fs, io};
 
 /// What the name of a file in the making ends in.
 pub const PART: &str = ".part";
+
+/// How many bytes are copied at once.
+const PIECE_BYTES: u32 = 65_536;
 
 /// A new file whose bytes are on the disk, beside the place whose name it is to take.
 #[derive(Drop)]
@@ -28,9 +31,11 @@ pub fn prepare<R: Files<File = File> + AllocGlobal>(
     let found = find(rt, path)?;
     let is_first = found.is_none();
     let part = part_of(rt, path)?;
+    let mut piece = vec![in rt.alloc(); 0; size.min(PIECE_BYTES) as usize]?;
+    let piece = piece.as_mut_slice();
     let made = match found {
-        Some(old) => copy(rt, part.as_str(), old),
-        None => make(rt, part.as_str(), size),
+        Some(old) => copy(rt, part.as_str(), old, piece),
+        None => make(rt, part.as_str(), size, piece),
     };
     match made {
         Ok((file, size)) => Ok(Part {
@@ -76,7 +81,7 @@ fn refused() -> io::Error {
 
 /// The file of a name, None if there is none. A symbolic link is refused, also one that leads nowhere, and so is whatever is
 /// no file. So is a file with another name: that would keep the old bytes, and whoever starts over it has the same money again.
-fn find<R: Files<File = File>>(rt: &R, path: &str) -> io::Result<Option<File>> {
+pub(crate) fn find<R: Files<File = File>>(rt: &R, path: &str) -> io::Result<Option<File>> {
     let named = match fs::symlink_metadata(rt, path) {
         Ok(named) => named,
         Err(error) if error.kind() == io::ErrorKind::NotFound => return Ok(None),
@@ -95,7 +100,7 @@ fn find<R: Files<File = File>>(rt: &R, path: &str) -> io::Result<Option<File>> {
 }
 
 /// A new file that others can't read. What has the name is removed before.
-fn create<R: Files<File = File>>(rt: &R, path: &str) -> io::Result<File> {
+pub(crate) fn create<R: Files<File = File>>(rt: &R, path: &str) -> io::Result<File> {
     match fs::remove_file(rt, path) {
         Err(error) if error.kind() != io::ErrorKind::NotFound => return Err(error),
         _ => {}
@@ -107,29 +112,48 @@ fn create<R: Files<File = File>>(rt: &R, path: &str) -> io::Result<File> {
 }
 
 /// Writes all that a reader gives to a new file, to the disk. It has to be so many bytes.
-fn fill(file: &mut File, from: &mut impl Read, len: u64) -> io::Result<()> {
-    if io::copy(from, file)? != len {
+fn fill(file: &mut File, from: &mut impl Read, len: u64, piece: &mut [u8]) -> io::Result<()> {
+    let mut total: u64 = 0;
+    for _ in 0..u64::MAX {
+        let count = from.read(piece)?;
+        if count == 0 {
+            break;
+        }
+        file.write_all(&piece[..count])?;
+        total = total.saturating_add(count as u64);
+    }
+    if total != len {
         return Err(refused());
     }
     file.sync_all()
 }
 
 /// A new file of zero bytes. They are written, so that the disk has room for what will be written over them.
-fn make<R: Files<File = File>>(rt: &R, path: &str, size: u32) -> io::Result<(File, u32)> {
+fn make<R: Files<File = File>>(
+    rt: &R,
+    path: &str,
+    size: u32,
+    piece: &mut [u8],
+) -> io::Result<(File, u32)> {
     let mut file = create(rt, path)?;
     let len = u64::from(size);
-    fill(&mut file, &mut io::repeat(0).take(len), len)?;
+    fill(&mut file, &mut io::repeat(0).take(len), len, piece)?;
     Ok((file, size))
 }
 
 /// A new file with the bytes of another, which belongs to whom that one belongs to.
-fn copy<R: Files<File = File>>(rt: &R, path: &str, old: File) -> io::Result<(File, u32)> {
+fn copy<R: Files<File = File>>(
+    rt: &R,
+    path: &str,
+    old: File,
+    piece: &mut [u8],
+) -> io::Result<(File, u32)> {
     let found = old.metadata()?;
     let size = u32::try_from(found.len()).map_err(|_| refused())?;
     let mut old = old;
     let mut file = create(rt, path)?;
     hand_over(&file, &found)?;
-    fill(&mut file, &mut old, found.len())?;
+    fill(&mut file, &mut old, found.len(), piece)?;
     Ok((file, size))
 }
 

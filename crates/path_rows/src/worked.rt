@@ -17,6 +17,7 @@ use script_replay::status::Status;
 use script_text::write_reply;
 use std::alloc::{AllocError, Global};
 use std::test::Fail;
+use text_streams::ReadAhead;
 
 /// What a bench is made over: blank storages, and the calls of device 1's storage that are to fail.
 #[derive(Clone, Copy)]
@@ -161,6 +162,18 @@ fn source_of(alloc: Global, text: &[u8]) -> Result<MemSource, AllocError> {
     Ok(MemSource::new(Vec::from_slice(alloc, text)?, 4096, Vec::new(alloc)))
 }
 
+/// The script, of which as many bytes are read at once as a piece has.
+fn script_of(alloc: Global, given: &Given) -> Result<ReadAhead<MemSource>, AllocError>
+    requires some { 1 ≤ given.now.piece }
+{
+    let inner = MemSource::new(
+        Vec::from_slice(alloc, given.script)?,
+        given.piece,
+        Vec::from_slice(alloc, given.read_fails)?,
+    );
+    Ok(ReadAhead::new(inner, vec![in alloc; 0; given.piece as usize]?))
+}
+
 /// This sink, empty.
 fn sink_of(alloc: Global, outlet: &Outlet) -> Result<MemSink, AllocError> {
     Ok(MemSink::new(
@@ -178,11 +191,7 @@ fn outcome(alloc: Global, given: &Given, bench: &mut Bench<MemNv>) -> Result<Run
     ensures ready { IsReady (bench_of bench.new) }
 {
     let words = words_of(alloc, given.words)?;
-    let mut script = MemSource::new(
-        Vec::from_slice(alloc, given.script)?,
-        given.piece,
-        Vec::from_slice(alloc, given.read_fails)?,
-    );
+    let mut script = script_of(alloc, given)?;
     let mut rates = source_of(alloc, given.rates)?;
     // sample script_replay
     let mut report = sink_of(alloc, &given.report)?;
@@ -209,11 +218,7 @@ pub fn run_blank(alloc: Global, given: &Given) -> Result<RunEnd, Fail>
     requires some { 1 ≤ given.now.piece }
 {
     let words = words_of(alloc, given.words)?;
-    let mut script = MemSource::new(
-        Vec::from_slice(alloc, given.script)?,
-        given.piece,
-        Vec::from_slice(alloc, given.read_fails)?,
-    );
+    let mut script = script_of(alloc, given)?;
     let mut rates = source_of(alloc, given.rates)?;
     let mut report = sink_of(alloc, &given.report)?;
     let mut printer = sink_of(alloc, &given.printer)?;

@@ -18,7 +18,7 @@ use node_seat::Running;
 use nv_model::Nv;
 use nv_ring::Wear;
 use nv_store::{MountCause, mount_lent};
-use psd_state::{DevRec, ready};
+use psd_state::{DevRec, ReadyRecord, keep};
 
 // The record that a cell with so many commits holds: None where it is blank, and Err where the payload reads as no record
 // of this device.
@@ -34,6 +34,16 @@ fn record_in(device: DevNo, count: u32, payload: &[u8; RECORD_BYTES]) -> Result<
     match DevRec::read_payload(device, payload) {
         Some(record) => Ok(Some(record)),
         None => Err(()),
+    }
+}
+
+// Keeps what was read. A key that stays the same is ready already.
+fn follow(state: &mut Option<ReadyRecord>, read: &Option<DevRec>)
+    ensures { state.new ≡ read.now }
+{
+    match read {
+        Some(record) => keep(state, record),
+        None => *state = None,
     }
 }
 
@@ -71,7 +81,7 @@ impl<N: Nv> DeviceNode<N> {
         self.head = head;
         self.payload = payload;
         self.device = device;
-        self.state = ready(&state);
+        follow(&mut self.state, &state);
         self.on = true;
         Ok(())
     }

@@ -90,7 +90,7 @@ pub fn debit_act(
 }
 
 // A function of its own when it is compiled too, since it clears what a debit gives as it begins.
-#[inline(never)]
+#[inline(always)]
 fn franked_act(
     device: DevNo,
     command: &DebitMsg,

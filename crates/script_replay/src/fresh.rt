@@ -15,6 +15,7 @@ use host_jobs::HOST_BYTES;
 use line_runs::status::Status;
 use nv_model::{MemNv, Nv};
 use std::alloc::Global;
+use text_streams::BufSource;
 
 /// The room of a storage's record, in calls. Where it is full, each write fails.
 const CALLS: u32 = 12_000;
@@ -47,7 +48,7 @@ fn blanks(alloc: Global) -> Option<Vec<MemNv>>
 }
 
 // The run over a bench on which nothing was done.
-fn run_over<S: Source, K: Sink>(
+fn run_over<S: BufSource, K: Sink>(
     alloc: Global,
     words: &[String],
     script: &mut S,
@@ -75,7 +76,7 @@ fn run_over<S: Source, K: Sink>(
 ///
 /// Nothing is asked of what is there at the beginning: all that `run` promises by a history holds by the empty one. The rates and the printer
 /// are those that are handed in, and the storages have room for 12,000 calls and 430,000 written bytes each.
-pub fn run_fresh<S: Source, K: Sink>(
+pub fn run_fresh<S: BufSource, K: Sink>(
     alloc: Global,
     words: &[String],
     script: &mut S,

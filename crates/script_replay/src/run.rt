@@ -28,6 +28,7 @@ use line_runs::status::{SideStatus, Status};
 use nv_model::{Fuse, Nv};
 use script_text::{Words, is_skipped, read_event, read_words};
 use std::alloc::{AllocError, Global};
+use text_streams::BufSource;
 
 // Does one event and writes its reply's line. A status is the run's end.
 fn do_event<K: Sink, M: Fuse + Drop, N: Nv, R: Source, P: Sink>(
@@ -99,7 +100,7 @@ pub(crate) fn do_line<K: Sink, M: Fuse + Drop, N: Nv, R: Source, P: Sink>(
 }
 
 // Does the script's lines up to the run's end.
-fn replay<S: Source, K: Sink, M: Fuse + Drop, N: Nv, R: Source, P: Sink>(
+fn replay<S: BufSource, K: Sink, M: Fuse + Drop, N: Nv, R: Source, P: Sink>(
     alloc: Global,
     script: &mut S,
     rates: &mut R,
@@ -140,7 +141,7 @@ fn replay<S: Source, K: Sink, M: Fuse + Drop, N: Nv, R: Source, P: Sink>(
 /// the bench stands for what the events leave, and that ledger is lawful, as long as nothing from outside is forged. Whatever the
 /// storages tell, a failure of power, storage or a stream is answered only as often as they and the cuts account for; so where none
 /// failed, no fuse was armed and no `cut` was answered, each reply is its event's answer.
-pub fn run<S: Source, R: Source, K: Sink, P: Sink, N: Nv + Drop>(
+pub fn run<S: BufSource, R: Source, K: Sink, P: Sink, N: Nv + Drop>(
     alloc: Global,
     words: &[String],
     script: &mut S,

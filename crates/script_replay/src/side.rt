@@ -15,6 +15,7 @@ use line_runs::run_lines;
 use line_runs::status::{SideStatus, Status};
 use nv_model::{Fused, Nv};
 use std::alloc::Global;
+use text_streams::BufSource;
 
 fn is_word(word: &String, wanted: &str) -> bool
     ensures same { IsTrue result ↔ (string_bytes word.now ≡ wanted.now) }
@@ -39,7 +40,7 @@ fn is_called(words: &[String], word: &str) -> bool
 }
 
 /// Does a script whose lines are events of the bench or a desk's own, as `run` does one of events, where the words are this one.
-pub fn run_side<D: Desk, S: Source, R: Source, K: Sink, P: Sink, N: Nv + Drop>(
+pub fn run_side<D: Desk, S: BufSource, R: Source, K: Sink, P: Sink, N: Nv + Drop>(
     alloc: Global,
     word: &str,
     words: &[String],

@@ -23,6 +23,7 @@ fn read_alone(word: &[u8]) -> Result<Event, LineFault>
 }
 
 // The event of a keyword and the words behind it.
+#[inline(never)]
 fn read_behind(keyword: Keyword, rest: &[u8]) -> Result<Event, LineFault>
     ensures read { IsEventBehind keyword (words_in rest.now) result }
 {
@@ -58,6 +59,7 @@ fn read_behind(keyword: Keyword, rest: &[u8]) -> Result<Event, LineFault>
 }
 
 /// The event that the line spells; an error exactly where it spells none.
+#[inline(always)]
 pub fn read_event(line: &[u8]) -> Result<Event, LineFault>
     ensures found { IfOk result (λ e. IsWholeEvent e × Spells e line.now) }
     ensures none { IfErr result (λ fault. (e : Event) → IsWholeEvent e → Spells e line.now → ⊥) }

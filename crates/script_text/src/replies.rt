@@ -63,9 +63,7 @@ fn put_marked(line: &mut Line, device: DevNo, piece: u32, again: bool, mark: &[u
     of_device(line, b"mark", device);
     line.number(piece);
     line.again(again);
-    let mut digits = [0; 128];
-    let _ = hex::encode_to_slice(mark.as_slice(), &mut digits);
-    line.word(&digits);
+    line.hex(mark.as_slice());
 }
 
 #[tactic(auto, unfolding(crate::specs::Texts::reply_words))]

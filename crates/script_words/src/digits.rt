@@ -1,5 +1,6 @@
 //! Decimal and hexadecimal digits.
-ghost use Rattle.std.specs.Prelude.{◌≡◌, ◌≢◌, ℕ, List, ◌<◌, ◌^◌, ◌↔◌, length, decimal, IfSome, IfNone, IsTrue, MatchBool, EachIndex, slice_index};
+ghost use Rattle.std.specs.Prelude.{◌≡◌, ◌≢◌, ℕ, List, ◌<◌, ◌≤◌, ◌^◌, length, decimal, slice_index, IfSome, IfNone, MatchBool};
+ghost use Rattle.hex.specs.Hex.{lower_digits};
 ghost use Rattle.script_words.specs.Words.{hex_word, IsLowerDigit};
 ghost use Rattle.bench_base.specs.Table.{IsBytes};
 
@@ -23,12 +24,16 @@ pub fn number(word: &[u8]) -> Option<u64>
     digits(word)
 }
 
-// Whether each byte is a hexadecimal digit, none of them in upper case.
-fn has_lower_digits(word: &[u8]) -> bool
-    ensures lower { IsTrue result ↔ EachIndex word.now (λ k. IsLowerDigit (slice_index word.now k)) }
+// What a lower-case hexadecimal digit stands for; 255 for any other byte.
+fn value_of(digit: u8) -> u8
+    ensures digit { result < 16 → slice_index lower_digits result ≡ digit }
+    ensures other { 16 ≤ result → IsLowerDigit digit → ⊥ }
 {
-    word.iter()
-        .all(|byte| matches!(byte, b'0'..=b'9' | b'a'..=b'f'))
+    match digit {
+        b'0'..=b'9' => digit - b'0',
+        b'a'..=b'f' => digit - b'a' + 10,
+        _ => 255,
+    }
 }
 
 /// Whether the word has two lower-case hexadecimal digits for each byte of the room; these are then its bytes.
@@ -36,11 +41,15 @@ pub fn read_hex(word: &[u8], room: &mut [u8]) -> bool
     ensures read { MatchBool result ((word.now ≡ hex_word room.new) × IsBytes room.new × (length room.new ≡ length room.old))
         ((bytes : List ℕ) → length bytes ≡ length room.old → IsBytes bytes → word.now ≢ hex_word bytes) }
 {
-    if !has_lower_digits(word) {
+    if word.len() % 2 != 0 || word.len() / 2 != room.len() {
         return false;
     }
-    match hex::decode_to_slice(word, room) {
-        Ok(()) => true,
-        Err(_) => false,
+    let mut greatest = 0;
+    for at in 0..room.len() {
+        let high = value_of(word[2 * at]);
+        let low = value_of(word[2 * at + 1]);
+        greatest = high.max(low).max(greatest);
+        room[at] = high.wrapping_mul(16).wrapping_add(low);
     }
+    greatest < 16
 }

@@ -7,6 +7,7 @@ use bench_base::numbers::DevNo;
 use bench_base::words::{Kind, Node};
 use itoa::{Buffer, Integer};
 use std::marker::Model;
+use text_streams::put_digits;
 
 /// A line of the report, of at most 256 bytes.
 #[derive(Drop)]
@@ -96,14 +97,13 @@ impl Line {
     /// Adds a space and two lower-case hexadecimal digits for each byte.
     pub fn hex(&mut self, bytes: &[u8])
         requires { length self.old + 2 * length bytes.now ≤ 255 }
-        ensures { self.new ≡ self.old ++ 32 ∷ hex_word bytes.now }
+        ensures value { self.new ≡ self.old ++ 32 ∷ hex_word bytes.now }
+        ensures long { length self.new ≡ length self.old + 1 + 2 * length bytes.now }
     {
-        let mut room = [0; 256];
-        let digits = &mut room[..2 * bytes.len()];
-        match hex::encode_to_slice(bytes, digits) {
-            Ok(()) => self.word(digits),
-            Err(_) => unreachable!(),
-        }
+        self.push(b' ');
+        let end = self.len + 2 * bytes.len();
+        put_digits(bytes, &mut self.bytes[self.len..end]);
+        self.len = end;
     }
 
     /// Adds a space and the name of the device.

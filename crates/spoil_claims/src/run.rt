@@ -15,10 +15,11 @@ use nv_model::Nv;
 use script_replay::side::run_side;
 use script_replay::status::SideStatus;
 use std::alloc::Global;
+use text_streams::BufSource;
 
 /// Does a script whose lines are events of the bench or about claims, where the words are `claims` alone. Each claim is credited by one scan of its
 /// mark, so that its piece is mail or credited, never both.
-pub fn run_claims<S: Source, R: Source, K: Sink, P: Sink, N: Nv + Drop>(
+pub fn run_claims<S: BufSource, R: Source, K: Sink, P: Sink, N: Nv + Drop>(
     alloc: Global,
     words: &[String],
     script: &mut S,

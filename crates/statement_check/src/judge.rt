@@ -7,8 +7,9 @@ ghost use Rattle.statement_check.specs.Verdicts.{Decides, Fails};
 use crate::place::Place;
 use crate::read::read_statement_line;
 use crate::verdict::Verdict;
-use bench_base::stream::{ReadFail, Source};
+use bench_base::stream::ReadFail;
 use line_runs::lines::{LineRead, read_line};
+use text_streams::BufSource;
 
 /// The most lines that a statement has: its opening, 10,000 movements and its closing.
 const LINES: u32 = 10_002;
@@ -50,7 +51,7 @@ fn ended_behind(count: u32, place: &Place) -> Verdict
 }
 
 // Reads the line behind so many lines, which stands in this place.
-fn take_line<S: Source>(
+fn take_line<S: BufSource>(
     count: u32,
     place: &Place,
     buf: &mut [u8; 600],
@@ -78,7 +79,7 @@ fn take_line<S: Source>(
 }
 
 // Looks whether a line stands behind the last that a statement may have.
-fn take_last<S: Source>(
+fn take_last<S: BufSource>(
     place: &Place,
     buf: &mut [u8; 600],
     script: &mut S,
@@ -95,7 +96,7 @@ fn take_last<S: Source>(
 }
 
 /// Reads a statement up to its verdict. It takes no memory.
-pub fn judge<S: Source>(script: &mut S) -> Result<Verdict, ReadFail>
+pub fn judge<S: BufSource>(script: &mut S) -> Result<Verdict, ReadFail>
     ensures judged { IfOk result (λ verdict. IsJudged verdict (S.left script.old) (S.left script.new)) }
     ensures unread { OnErr result (IsUnread (S.left script.old) (S.left script.new)) }
     ensures cause { HasCause (S.faults script.old) (S.faults script.new) result }

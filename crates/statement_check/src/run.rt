@@ -5,10 +5,10 @@ ghost use Rattle.line_runs.specs.declared.status.Status.{Status};
 ghost use Rattle.statement_check.specs.Runs.{Recomputed, IsAnswered};
 
 use crate::judge::judge;
-use bench_base::stream::{Sink, Source};
+use bench_base::stream::Sink;
 use line_runs::status::Status;
 use script_words::Line;
-use text_streams::put_text;
+use text_streams::{BufSource, put_text};
 
 fn is_word(word: &String) -> bool
     ensures { IsTrue result ↔ (string_bytes word.now ≡ codes "recompute") }
@@ -40,7 +40,7 @@ fn is_called(words: &[String]) -> bool
 /// - `TooLong`: there is a line 10,003, and each before it is right.
 /// - `ReadFault`: the script failed; nothing is written.
 /// - `WriteFault`: the report failed; it has a part of the verdict's line.
-pub fn run_recompute<S: Source, K: Sink>(words: &[String], script: &mut S, report: &mut K) -> Status
+pub fn run_recompute<S: BufSource, K: Sink>(words: &[String], script: &mut S, report: &mut K) -> Status
     ensures words { (result ≡ Status.Words) ↔ (map string_bytes words.now ≢ codes "recompute" ∷ []) }
     ensures untouched { result ≡ Status.Words → (script.new ≡ script.old) × (report.new ≡ report.old) }
     ensures ran { result ≢ Status.Words → Recomputed result (S.left script.old) (S.left script.new)

@@ -1,2 +1,3 @@
 mod Streams
 pub mod Fronts
+pub mod LowerDigits

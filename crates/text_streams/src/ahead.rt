@@ -5,6 +5,7 @@ ghost use Rattle.bench_base.specs.Causes.{HasCause};
 ghost use Rattle.text_streams.specs.Pieces.{GivesPiece, with_end};
 
 use bench_base::stream::{ReadFail, Source};
+use memchr::memchr;
 
 /// A source that takes from another as much as its buffer holds, and gives that in pieces of any size. What was read ahead is
 /// taken from the other source, and still left here.
@@ -28,18 +29,31 @@ pub struct Piece {
     pub is_ended: bool,
 }
 
+/// A source that gives bytes up to a byte of some value at once.
+pub trait BufSource: Source {
+    ghost use Rattle.std.specs.Prelude.{[], IfOk, OnErr};
+    ghost use Rattle.std.specs.Io.KnownBytes.{Consumes};
+    ghost use Rattle.bench_base.specs.Causes.{HasCause};
+    ghost use Rattle.text_streams.specs.Pieces.{GivesPiece};
+
+    /// Gives bytes up to the first of this value, as many of them as stand ready and there is room for; and takes that byte behind them, where it is reached. What it gives ends before
+    /// that byte too where as much stands ready or there is room for, so only nothing, where there is room, says that the source has ended.
+    fn read_until(&mut self, value: u8, buf: &mut [u8]) -> Result<Piece, ReadFail>
+        ensures gives { IfOk result (λ piece. GivesPiece value (Self.left self.old) (Self.left self.new) piece buf.old buf.new) }
+        ensures fails { OnErr result (Consumes (Self.left self.old) (Self.left self.new) []) }
+        ensures cause { HasCause (Self.faults self.old) (Self.faults self.new) result };
+}
+
 // How many bytes stand before the first of this value; all of them, where there is none.
 fn count_before(bytes: &[u8], value: u8) -> usize
     ensures inside { result ≤ length bytes.now }
     ensures before { All (λ b. b ≢ value) (take result bytes.now) }
     ensures found { result < length bytes.now → get_or bytes.now result 0 ≡ value }
 {
-    for at in 0..bytes.len() {
-        if bytes[at] == value {
-            return at;
-        }
+    match memchr(value, bytes) {
+        Some(at) => at,
+        None => bytes.len(),
     }
-    bytes.len()
 }
 
 // Copies as much of the front as there is room for. One byte is moved without a call.
@@ -120,24 +134,6 @@ impl<S: Source> ReadAhead<S> {
         self.pass(1);
         true
     }
-
-    /// Gives bytes up to the first of this value, as many of them as were read ahead and there is room for; and takes that byte behind them, where it is reached. What it gives ends before
-    /// that byte too where as much was read ahead or there is room for, so only nothing, where there is room, says that the source has ended.
-    pub fn read_until(&mut self, value: u8, buf: &mut [u8]) -> Result<Piece, ReadFail>
-        ensures gives { IfOk result (λ piece. GivesPiece value (⟦<ReadAhead<S> as Source>⟧.left self.old) (⟦<ReadAhead<S> as Source>⟧.left self.new)
-            piece buf.old buf.new) }
-        ensures fails { OnErr result (Consumes (⟦<ReadAhead<S> as Source>⟧.left self.old) (⟦<ReadAhead<S> as Source>⟧.left self.new) []) }
-        ensures cause { HasCause (⟦<ReadAhead<S> as Source>⟧.faults self.old) (⟦<ReadAhead<S> as Source>⟧.faults self.new) result }
-    {
-        self.refill()?;
-        let ahead = self.ahead();
-        let front = &ahead[..ahead.len().min(buf.len())];
-        let len = count_before(front, value);
-        buf[..len].copy_from_slice(&front[..len]);
-        self.pass(len);
-        let is_ended = self.pass_one(value);
-        Ok(Piece { len, is_ended })
-    }
 }
 
 impl<S: Source> Source for ReadAhead<S> {
@@ -150,5 +146,18 @@ impl<S: Source> Source for ReadAhead<S> {
         let count = copy_front(&self.buffer.as_slice()[self.at..self.end], buf);
         self.at += count;
         Ok(count)
+    }
+}
+
+impl<S: Source> BufSource for ReadAhead<S> {
+    fn read_until(&mut self, value: u8, buf: &mut [u8]) -> Result<Piece, ReadFail> {
+        self.refill()?;
+        let ahead = self.ahead();
+        let front = &ahead[..ahead.len().min(buf.len())];
+        let len = count_before(front, value);
+        buf[..len].copy_from_slice(&front[..len]);
+        self.pass(len);
+        let is_ended = self.pass_one(value);
+        Ok(Piece { len, is_ended })
     }
 }

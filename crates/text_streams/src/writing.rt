@@ -4,6 +4,7 @@ ghost use Rattle.std.specs.Io.KnownBytes.{Appends};
 ghost use Rattle.bench_base.specs.Causes.{HasCause};
 ghost use Rattle.text_streams.specs.Texts.{print_line};
 
+use crate::digits::put_digits;
 use bench_base::stream::{Sink, WriteFail};
 
 /// The hexadecimal digits of a mark, two for each of its 64 bytes.
@@ -37,6 +38,6 @@ pub fn print_mark<P: Sink>(printer: &mut P, mark: &[u8; 64]) -> Result<(), Write
     ensures cause { HasCause (P.faults printer.old) (P.faults printer.new) result }
 {
     let mut line = [b'\n'; DIGITS + 1];
-    let _ = hex::encode_to_slice(mark.as_slice(), &mut line[..DIGITS]);
+    put_digits(mark.as_slice(), &mut line[..DIGITS]);
     put_text(printer, &line)
 }

@@ -28,11 +28,6 @@ one_split (c ∷ a) (d ∷ b) x y one two is =
     let w = one_split a b x y one.1 two.1 (cc) in
     (ap (λ (l : List ℕ). c ∷ l) w.0 ∙ ap (λ (n : ℕ). n ∷ b) heads, w.1)
 
--- bytes of which none is the line end
-pub from_all : (bytes : List ℕ) → AllByRecursion (λ c. c ≢ 10) bytes → IsOneLine bytes
-from_all [] all = tt
-from_all (c ∷ bytes) all = (all.0, from_all bytes all.1)
-
 -- the front of a line has no line end
 pub front_one : (front more : List ℕ) → IsOneLine (front ++ more) → IsOneLine front
 front_one [] more one = tt

@@ -1,4 +1,3 @@
-mod Blocks
 mod Comparing
 mod Exact
 mod Fitted

@@ -1,9 +1,7 @@
 -- What was read of a source, and what may stand behind it.
-use Rattle.std.specs.Prelude.{◌≡◌, ◌≢◌, ℕ, List, [], ◌∷◌, ◌++◌, Bool, true, false, Option}
+use Rattle.std.specs.Prelude.{◌≡◌, ◌≢◌, ℕ, List, [], ◌++◌, Bool, true, false, Option}
 use Rattle.std.specs.Io.KnownBytes.{Consumes, IsAtEnd}
 use Rattle.bench_base.specs.Causes.{Rose}
-use Rattle.line_runs.specs.declared.lines.LineRead.{LineRead}
-use Rattle.line_runs.specs.declared.lines.LineRead.TheVariants as read
 use Rattle.told_runs.specs.declared.verdict.Input.{Input}
 use Rattle.told_runs.specs.declared.verdict.Input.TheVariants.{Script}
 use Rattle.told_runs.specs.declared.verdict.Verdict.{Verdict}
@@ -32,11 +30,3 @@ FailsSo input before now v = (n : ℕ) → v ≡ Unread input n → Rose before 
 -- it doesn't say that of the script
 abbrev pub HasScript : Verdict → Type 0
 HasScript v = (n : ℕ) → v ≢ Unread Script n
-
--- what stands behind 600 bytes of a line: its line end, another byte, or the end of the stream
-abbrev pub ReadsFull : LineRead → Option (List ℕ) → Option (List ℕ) → Type 0
-ReadsFull (read.Line len true) left0 left1 = (len ≡ 600) × Consumes left0 left1 (10 ∷ [])
-ReadsFull (read.Line len false) left0 left1 = (len ≡ 600) × Consumes left0 left1 [] × IsAtEnd left1
-ReadsFull read.Long left0 left1 = (byte : ℕ) × (byte ≢ 10) × Consumes left0 left1 (byte ∷ [])
-ReadsFull read.End left0 left1 = ⊥
-ReadsFull read.Fault left0 left1 = Consumes left0 left1 []

@@ -12,13 +12,12 @@ ghost use Rattle.told_runs.specs.declared.verdict.Input.{Input};
 
 use crate::ends::over;
 use crate::imprint::{Imprint, due_mark, given_in, keep};
-use crate::reading::read_line;
 use crate::stopping::stopped;
 use crate::verdict::{Ending, Input, Verdict};
 use bench_base::events::Event;
 use bench_base::stream::Source;
 use desk_runs::ended_by;
-use line_runs::lines::LineRead;
+use line_runs::lines::{LineRead, read_line};
 use script_text::laws::one_reply;
 use std::alloc::Global;
 use text_streams::ReadAhead;

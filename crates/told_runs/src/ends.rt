@@ -7,10 +7,9 @@ ghost use Rattle.told_runs.specs.Turns.{IsOver};
 ghost use Rattle.told_runs.specs.Verdicts.{status_of};
 ghost use Rattle.told_runs.specs.declared.verdict.Input.{Input};
 
-use crate::reading::read_line;
 use crate::verdict::{Ending, Input, Verdict};
 use bench_base::stream::Source;
-use line_runs::lines::LineRead;
+use line_runs::lines::{LineRead, read_line};
 use text_streams::ReadAhead;
 
 /// The most lines of a script that are looked at.

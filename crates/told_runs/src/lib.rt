@@ -7,13 +7,12 @@ mod ends;
 pub mod imprint;
 pub mod laws;
 pub mod prints;
-mod reading;
 mod stopping;
 pub mod verdict;
 
 pub use audit::{audit_run, behind};
 pub use ends::LINES;
 pub use imprint::{Given, Imprint, Taken};
+pub use line_runs::lines::read_line;
 pub use prints::{Match, match_prints};
-pub use reading::read_line;
 pub use verdict::{Ending, Input, Verdict};

@@ -5,6 +5,7 @@ ghost use Rattle.told_runs.specs.Prints.{Matches};
 
 use crate::audit::behind;
 use crate::imprint::{Imprint, Taken};
+use text_streams::put_digits;
 
 /// The bytes of the line of a mark: two hexadecimal digits for each of its 64 bytes, and the line end.
 const LINE: usize = 129;
@@ -26,7 +27,7 @@ fn line_of(mark: &[u8; 64]) -> [u8; 129]
     ensures { result ≡ print_line mark.now }
 {
     let mut line = [b'\n'; LINE];
-    let _ = hex::encode_to_slice(mark.as_slice(), &mut line[..LINE - 1]);
+    put_digits(mark.as_slice(), &mut line[..LINE - 1]);
     line
 }
 

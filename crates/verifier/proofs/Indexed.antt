@@ -82,7 +82,7 @@ module _ (es new : List Entry) (place : ℕ) (e : Entry) (is : IsPut es new plac
   behind_is k lt inside = ap (λ j. get_or new j nothing) (omega arith) ∙ is.above (k - 1) (omega arith) (omega (arith, is.long))
 
   module _ (ordered : AreOrdered es) (before : (k : ℕ) → k < place → rank_of (get_or es k nothing) < rank_of e)
-      (behind : (k : ℕ) → place ≤ k → k < length es → rank_of e < rank_of (get_or es k nothing)) (small : e.block < 2 ^ 32) where
+      (behind : (k : ℕ) → place ≤ k → k < length es → rank_of e < rank_of (get_or es k nothing)) (small : e.device < 2 ^ 32) where
     low : (i : ℕ) → i < place → rank_of (get_or new i nothing) ≡ rank_of (get_or es i nothing)
     low i lt = ap (λ (x : Entry). rank_of x) (is.below i lt)
 
@@ -107,13 +107,13 @@ module _ (es new : List Entry) (place : ℕ) (e : Entry) (is : IsPut es new plac
           omega (arith, high i i_high (omega arith), high j j_high inside, ordered.rising (i - 1) (j - 1) (omega arith) (omega (arith, is.long)))
     ]
 
-    words : (i : ℕ) → (get_or new i nothing).block < 2 ^ 32
+    words : (i : ℕ) → (get_or new i nothing).device < 2 ^ 32
     words i = elim (cases_lt i (length new)) [
-      | inr past ↦ subst (λ (x : Entry). x.block < 2 ^ 32) (sym (get_or_past new i nothing past)) (omega arith)
+      | inr past ↦ subst (λ (x : Entry). x.device < 2 ^ 32) (sym (get_or_past new i nothing past)) (omega arith)
       | inl inside ↦ elim (from i) [
-        | inl i_low ↦ subst (λ (x : Entry). x.block < 2 ^ 32) (sym (is.below i i_low)) (ordered.words i)
-        | inr (inl i_mid) ↦ subst (λ (k : ℕ). (get_or new k nothing).block < 2 ^ 32) (sym i_mid) (subst (λ (x : Entry). x.block < 2 ^ 32) (sym is.here) small)
-        | inr (inr i_high) ↦ subst (λ (x : Entry). x.block < 2 ^ 32) (sym (behind_is i i_high inside)) (ordered.words (i - 1))
+        | inl i_low ↦ subst (λ (x : Entry). x.device < 2 ^ 32) (sym (is.below i i_low)) (ordered.words i)
+        | inr (inl i_mid) ↦ subst (λ (k : ℕ). (get_or new k nothing).device < 2 ^ 32) (sym i_mid) (subst (λ (x : Entry). x.device < 2 ^ 32) (sym is.here) small)
+        | inr (inr i_high) ↦ subst (λ (x : Entry). x.device < 2 ^ 32) (sym (behind_is i i_high inside)) (ordered.words (i - 1))
       ]
     ]
 
@@ -196,13 +196,13 @@ module _ (es : List Entry) (d b place : ℕ) where
   none_past past before = none_in es d b (λ k lt. not_less d b (get_or es k nothing) (before k (omega arith)))
 
 -- where a block is not among the entries, those behind its place come after it
-pub fresh_behind : (es : List Entry) (place : ℕ) (e : Entry) → AreOrdered es → cell_in es e.device e.block ≡ None → e.block < 2 ^ 32
+pub fresh_behind : (es : List Entry) (place : ℕ) (e : Entry) → AreOrdered es → cell_in es e.device e.block ≡ None → e.device < 2 ^ 32
     → ((k : ℕ) → place ≤ k → k < length es → rank e.device e.block ≤ rank_of (get_or es k nothing)) → (k : ℕ) → place ≤ k → k < length es → rank_of e < rank_of (get_or es k nothing)
 fresh_behind es place e ordered none small behind k le lt = elim (cases_eq (rank_of e) (rank_of (get_or es k nothing))) [
   | inr differs ↦ omega (arith, behind k le lt, differs)
   | inl same ↦
       let x : Entry = get_or es k nothing in
-      let words : x.block < 2 ^ 32 = ordered.words k in
+      let words : x.device < 2 ^ 32 = ordered.words k in
       let device : x.device ≡ e.device = omega (arith, same, words, small) in
       let block : x.block ≡ e.block = omega (arith, same, words, small) in
       absurd (true≢false (sym (own x device block) ∙ not_found es e.device e.block none k lt))

@@ -16,9 +16,9 @@ cell_in (e ∷ es) d b = if is_of d b e then Some e.cell else cell_in es d b
 abbrev pub with_cell : ℕ → ℕ → ℕ → List Entry → ℕ → ℕ → Option ℕ
 with_cell e n cell es d b = if (e == d) && (n == b) then Some cell else cell_in es d b
 
--- where device and number of a block stand in their order; the number has 32 bits
+-- where number and device of a block stand in their order; the device has 32 bits
 abbrev pub rank : ℕ → ℕ → ℕ
-rank d b = d * 2 ^ 32 + b
+rank d b = b * 2 ^ 32 + d
 
 abbrev pub rank_of : Entry → ℕ
 rank_of e = rank e.device e.block
@@ -30,7 +30,7 @@ nothing = record { device = 0; block = 0; cell = 0 }
 -- the entries are in order, each block once
 pub record AreOrdered (es : List Entry) : Type 0 where
   pub rising : (i j : ℕ) → i < j → j < length es → rank_of (get_or es i nothing) < rank_of (get_or es j nothing)
-  pub words : (i : ℕ) → (get_or es i nothing).block < 2 ^ 32
+  pub words : (i : ℕ) → (get_or es i nothing).device < 2 ^ 32
 
 -- of an array that has room for all blocks the first entries count
 pub record IsKept (entries : List Entry) (len : ℕ) : Type 0 where

@@ -1,4 +1,4 @@
-//! The blocks in use, by device and number.
+//! The blocks in use, by number and device.
 ghost use Rattle.std.specs.Prelude.{◌≡◌, ◌↔◌, ◌+◌, ◌<◌, ◌≤◌, ℕ, List, [], IsTrue, None, length, get_or};
 ghost use Rattle.bench_base.specs.declared.sizes.TheConstants.{MOST_BLOCKS};
 ghost use Rattle.verifier.specs.Index.{cell_in, with_cell, rank, rank_of, AreOrdered, nothing};
@@ -17,7 +17,8 @@ pub struct Entry {
     pub cell: u32,
 }
 
-/// At most 1,024 blocks, in the order of their devices and numbers, so that no call walks them.
+/// At most 1,024 blocks, in the order of their numbers and devices, so that no call walks them. Pieces come about in the order of their numbers, so a new
+/// block mostly stands behind the others.
 #[derive(Drop)]
 pub struct BlockIndex {
     entries: [Entry; MOST_BLOCKS],
@@ -41,8 +42,8 @@ impl Model for BlockIndex {
 fn precedes(entry: &Entry, device: u32, block: u32) -> bool
     ensures { IsTrue result ↔ (rank_of entry.now < rank device block) }
 {
-    let number = entry.block;
-    entry.device < device || entry.device == device && number < block
+    let holder = entry.device;
+    entry.block < block || entry.block == block && holder < device
 }
 
 fn is_of(entry: &Entry, device: u32, block: u32) -> bool
@@ -58,8 +59,12 @@ fn rank_in(entries: &[Entry], device: u32, block: u32) -> usize
     ensures before { (k : ℕ) → k < result → rank_of (get_or entries.now k nothing) < rank device block }
     ensures behind { (k : ℕ) → result ≤ k → k < length entries.now → rank device block ≤ rank_of (get_or entries.now k nothing) }
 {
+    let len = entries.len();
+    if len == 0 || precedes(&entries[len - 1], device, block) {
+        return len;
+    }
     let mut low = 0;
-    let mut high = entries.len();
+    let mut high = len;
     while low < high {
         let middle = low + (high - low) / 2;
         if precedes(&entries[middle], device, block) {

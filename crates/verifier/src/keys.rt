@@ -22,7 +22,9 @@ impl ReadyKeys {
 
     /// Makes the key of a device ready.
     pub fn put(&mut self, device: DevNo, key: &Key) {
-        self.keys[device.get() as usize - 1] = Some(ReadyKey::new(key));
+        if self.find(device.get(), key).is_none() {
+            self.keys[device.get() as usize - 1] = Some(ReadyKey::new(key));
+        }
     }
 
     /// The ready key of the device, where it is this key.

@@ -133,14 +133,12 @@ pub fn index_rows(room: &Room<BLOCK_BYTES>, index: &mut BlockIndex) -> Result<()
 }
 
 /// The keys that the cells of devices hold, made ready.
-pub fn ready_keys(room: &Room<BLOCK_BYTES>) -> ReadyKeys
+pub fn ready_keys(room: &Room<BLOCK_BYTES>, keys: &mut ReadyKeys)
     requires cells { cells_of room.now ≡ VERIFIER_CELLS }
 {
-    let mut keys = ReadyKeys::none();
     for cell in 0..FIRST_BLOCK {
         if let (Some(payload), Some(device)) = (get_room(room, cell), DevNo::new(cell + 1)) {
             keys.put(device, &key_in(payload));
         }
     }
-    keys
 }

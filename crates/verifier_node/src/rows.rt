@@ -79,7 +79,7 @@ impl Rows for VerifierRows {
         if index_rows(cells, &mut self.index).is_err() {
             return false;
         }
-        self.keys = ready_keys(cells);
+        ready_keys(cells, &mut self.keys);
         true
     }
 }

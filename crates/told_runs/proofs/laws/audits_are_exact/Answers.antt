@@ -1,6 +1,6 @@
 use Rattle.std.proofs.lemmas.List.Elements.{recursion_from_All}
 use Rattle.script_text.specs.Texts.{text_of}
-use Rattle.told_runs.proofs.Comparing.{from_all}
+use Rattle.line_runs.proofs.Held.{from_all}
 use Rattle.told_runs.proofs.Exact.{exact}
 use Rattle.told_runs.proofs.laws.audits_are_exact.Goals as goal
 

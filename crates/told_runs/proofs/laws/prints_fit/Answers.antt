@@ -10,7 +10,7 @@ use Rattle.told_runs.specs.declared.verdict.Verdict.TheVariants.{Lawful}
 use Rattle.told_runs.specs.Imprints.{imprint_at}
 use Rattle.told_runs.specs.Prints.{ArePrinted}
 use Rattle.told_runs.specs.Verdicts.{Audited, imprints_from, last_given}
-use Rattle.told_runs.proofs.Comparing.{from_all}
+use Rattle.line_runs.proofs.Held.{from_all}
 use Rattle.told_runs.proofs.Exact.{fits_printed}
 use Rattle.told_runs.proofs.Fitted.{none_open}
 use Rattle.told_runs.proofs.laws.prints_fit.Goals as goal

@@ -17,8 +17,8 @@ invariant_of-self c =
       size = length-set c.copy_within.new.self own e ∙ c.copy_within.ensures.len ∙ c.self.invariant.size;
       room = omega (arith, room, c.self.invariant.size);
       ordered = put_ordered _ _ _ _ put c.self.invariant.ordered c.rank_in-place.ensures.before
-          (fresh_behind (take i.len i.entries) own e c.self.invariant.ordered (ap (λ (l : List Entry). cell_in l c.args.device c.args.block) c.self.view_is ∙ c.requires.fresh) c.ranges.block.fits c.rank_in-place.ensures.behind)
-          c.ranges.block.fits;
+          (fresh_behind (take i.len i.entries) own e c.self.invariant.ordered (ap (λ (l : List Entry). cell_in l c.args.device c.args.block) c.self.view_is ∙ c.requires.fresh) c.ranges.device.fits c.rank_in-place.ensures.behind)
+          c.ranges.device.fits;
     }
 
 pub returns-clause-added : goal.returns-clause-added
