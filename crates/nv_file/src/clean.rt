@@ -20,8 +20,7 @@ fn line_of<R: Files<File = File> + AllocGlobal>(rt: &R, name: &str) -> io::Resul
     let (size, inode) = (found.size(), found.ino());
     let (written, written_nanos) = (found.mtime(), found.mtime_nsec());
     let (changed, changed_nanos) = (found.ctime(), found.ctime_nsec());
-    Ok(format!(
-        in rt.alloc();
+    Ok(format!(in rt.alloc();
         "{name} size {size} inode {inode} mtime {written} {written_nanos} ctime {changed} {changed_nanos}"
     )?)
 }
@@ -72,7 +71,10 @@ pub fn remember<R: Files<File = File> + AllocGlobal>(
         text.push_str("\n")?;
     }
     for line in before.lines().skip(1) {
-        if !files.iter().any(|file| line.split(' ').next() == Some(file.name)) {
+        if !files
+            .iter()
+            .any(|file| line.split(' ').next() == Some(file.name))
+        {
             text.push_str(line)?;
             text.push_str("\n")?;
         }

@@ -40,7 +40,11 @@ fn is_called(words: &[String]) -> bool
 /// - `TooLong`: there is a line 10,003, and each before it is right.
 /// - `ReadFault`: the script failed; nothing is written.
 /// - `WriteFault`: the report failed; it has a part of the verdict's line.
-pub fn run_recompute<S: BufSource, K: Sink>(words: &[String], script: &mut S, report: &mut K) -> Status
+pub fn run_recompute<S: BufSource, K: Sink>(
+    words: &[String],
+    script: &mut S,
+    report: &mut K,
+) -> Status
     ensures words { (result ≡ Status.Words) ↔ (map string_bytes words.now ≢ codes "recompute" ∷ []) }
     ensures untouched { result ≡ Status.Words → (script.new ≡ script.old) × (report.new ≡ report.old) }
     ensures ran { result ≢ Status.Words → Recomputed result (S.left script.old) (S.left script.new)

@@ -32,14 +32,12 @@ loop-at-preserved c =
     let then = c.max-greatest.ensures in
     let long : length room ≡ length c.args.room.now = c.loop-at.invariant.2 in
     let fits : 2 * at + 1 < length word = omega (arith, c.if-word-ne0.false, c.if-word-room.false, c.loop-at-test.true, long) in
-    let inside : at < length room = omega (arith, c.loop-at-test.true, long) in
-    (
+    let inside : at < length room = omega (arith, c.loop-at-test.true, long) in (
       λ all.
           let a : high < 16 = omega (arith, all, first, then) in
           let b : low < 16 = omega (arith, all, first, then) in
           let before = c.loop-at.invariant.0 (omega (arith, all, first, then)) in
-          let value : high * 16 + low ≡ (high * 16 % 256 + low) % 256 = omega (arith, a, b) in
-          (
+          let value : high * 16 + low ≡ (high * 16 % 256 + low) % 256 = omega (arith, a, b) in (
             subst (λ (v : ℕ). encode_lower (take (at + 1) (slice_set room at v)) ++ drop (2 * (at + 1)) word ≡ word) value
                 (read_step word room at high low fits inside b (c.value_of-high.ensures.digit a) (c.value_of-low.ensures.digit b) before.0),
             subst (λ (v : ℕ). IsBytes (take (at + 1) (slice_set room at v))) value (bytes_step room at (high * 16 + low) inside (omega (arith, a, b)) before.1),
@@ -61,9 +59,9 @@ returns c =
     record {
       read = below c.loop-at.greatest _ _
           (λ all.
-              let before = c.loop-at.invariant.0 all in
-              let end : length c.loop-at.room ≤ c.loop-at.at = omega (arith, c.loop-at-test.false, long) in
-              let whole = read_done word c.loop-at.room c.loop-at.at end (omega (arith, end, long, c.if-word-ne0.false, c.if-word-room.false)) before.0 in
-              (whole, subst IsBytes (take_all c.loop-at.at c.loop-at.room end) before.1, long))
+          let before = c.loop-at.invariant.0 all in
+          let end : length c.loop-at.room ≤ c.loop-at.at = omega (arith, c.loop-at-test.false, long) in
+          let whole = read_done word c.loop-at.room c.loop-at.at end (omega (arith, end, long, c.if-word-ne0.false, c.if-word-room.false)) before.0 in
+          (whole, subst IsBytes (take_all c.loop-at.at c.loop-at.room end) before.1, long))
           (λ other bytes same fits. no_lower word (c.loop-at.invariant.1 other) bytes fits);
     }

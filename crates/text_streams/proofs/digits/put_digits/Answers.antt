@@ -6,8 +6,7 @@ use Rattle.text_streams.proofs.digits.put_digits.Goals as goal
 
 pub loop-at-preserved : goal.loop-at-preserved
 loop-at-preserved c =
-    let long : length c.loop-at.digits ≡ 2 * length c.args.bytes.now = c.loop-at.invariant.1 in
-    (
+    let long : length c.loop-at.digits ≡ 2 * length c.args.bytes.now = c.loop-at.invariant.1 in (
       encode_step lower_digits c.args.bytes.now c.loop-at.digits c.loop-at.at _ _ (omega arith) (omega (arith, long)) c.digit.ensures c.digit-in-loop-at.ensures c.loop-at.invariant.0,
       length-set _ _ _ ∙ length-set _ _ _ ∙ long,
     )
