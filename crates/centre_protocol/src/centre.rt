@@ -3,7 +3,7 @@ ghost use Rattle.std.specs.Prelude.{◌≡◌, ◌≢◌, IfOk, IfErr, MatchResu
 ghost use Rattle.bench_base.specs.declared.sizes.TheConstants.{ROW_BYTES, CENTRE_CELLS, CENTRE_BYTES};
 ghost use Rattle.nv_store.specs.RoomView.{cells_of};
 ghost use Rattle.nv_store.specs.Turns.{Kept};
-ghost use Rattle.node_seat.specs.Does.{Reads, Spends};
+ghost use Rattle.node_seat.specs.Does.{Reads, Spends, SpendsOne, SyncsOnce};
 ghost use Rattle.node_seat.specs.Ends.{end_of_boot};
 ghost use Rattle.centre_ledger.specs.Books.{AreSound};
 ghost use Rattle.centre_ledger.specs.Seen.{counting};
@@ -51,6 +51,7 @@ impl<N: Nv> Centre<N> {
         ensures sound { N.tells → N.size nv ≡ CENTRE_BYTES → AllShowSound centre_table ROW_BYTES N.Nv nv → IfErr result (λ e. e.2 ≢ BootFail.Damaged) }
         ensures room { IfErr result (λ e. cells_of e.1 ≡ CENTRE_CELLS) }
         ensures spent { MatchResult result (λ c. Spends N.Nv 1 nv (storage_of c) Kept) (λ e. Spends N.Nv 1 nv e.0 (end_of_boot (Err e.2))) }
+        ensures once { MatchResult result (λ c. SpendsOne N.Nv nv (storage_of c)) (λ e. SyncsOnce N.Nv CENTRE_BYTES nv e.0 (Err e.2)) }
     {
         let room = RowRoom {
             cells: room,

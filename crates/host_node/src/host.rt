@@ -2,7 +2,7 @@
 ghost use Rattle.std.specs.Prelude.{◌≡◌, ◌≢◌, IfOk, IfErr, MatchResult, Err, false};
 ghost use Rattle.host_jobs.specs.declared.sizes.TheConstants.{JOB_BYTES, HOST_BYTES};
 ghost use Rattle.nv_store.specs.Turns.{Kept as WithPower};
-ghost use Rattle.node_seat.specs.Does.{Reads, Spends};
+ghost use Rattle.node_seat.specs.Does.{Reads, Spends, SpendsOne, SyncsOnce};
 ghost use Rattle.node_seat.specs.Ends.{end_of_boot};
 ghost use Rattle.host_jobs.specs.Seen.{counting};
 ghost use Rattle.host_jobs.specs.Soundness.{IsKept};
@@ -45,6 +45,7 @@ impl<N: Nv> Host<N> {
             (λ e. e.2 ≡ BootFail.Damaged → IsDamaged N.Nv e.0) }
         ensures sound { N.tells → N.size nv ≡ HOST_BYTES → AllShowSound host_table JOB_BYTES N.Nv nv → IfErr result (λ e. e.2 ≢ BootFail.Damaged) }
         ensures spent { MatchResult result (λ h. Spends N.Nv 1 nv (storage_of h) WithPower) (λ e. Spends N.Nv 1 nv e.0 (end_of_boot (Err e.2))) }
+        ensures once { MatchResult result (λ h. SpendsOne N.Nv nv (storage_of h)) (λ e. SyncsOnce N.Nv HOST_BYTES nv e.0 (Err e.2)) }
     {
         match RunningRows::boot(nv, room) {
             Ok(rows) => Ok(Host { rows }),

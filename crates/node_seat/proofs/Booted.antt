@@ -9,7 +9,7 @@ use Rattle.node_acts.specs.declared.act.Started.TheVariants as start
 use Rattle.node_acts.specs.Starts.{MayStart}
 use Rattle.node_acts.specs.Views.{View, up, up_with, started}
 use Rattle.node_seat.specs.declared.node.Node.{Ghosts}
-use Rattle.node_seat.specs.Does.{Reads}
+use Rattle.node_seat.specs.Does.{Reads, SpendsOne}
 use Rattle.node_seat.specs.Shown.{Allowed, ShowsNext, Sound}
 use Rattle.node_seat.specs.Stands.{StoreStands, Stands}
 use Rattle.node_seat.specs.Starts.{StartDoes}
@@ -120,6 +120,7 @@ module _ {K S N C R : Type 0} (n : Ghosts K S N C R) (g : nv.Ghosts S) (d : N) (
     damaged = λ tells read. absurd read;
     refused = λ e. cc;
     spent = spent;
+    once = tt;
   }
 
   pub faulted : n.is_on t ≡ false → Spent 1 (g.meters (n.storage s)) (g.meters (n.storage t)) Faulted → StartDoes n g d s t start.Fault
@@ -132,13 +133,15 @@ module _ {K S N C R : Type 0} (n : Ghosts K S N C R) (g : nv.Ghosts S) (d : N) (
     damaged = λ tells read. absurd read;
     refused = λ e. cc;
     spent = spent;
+    once = tt;
   }
 
   -- what the storage holds is read
   module _ (intact : (e : N) (r : n.Seen) (nv : S) → n.IsSound e r → n.IsShown r (g.content nv) → g.size nv ≡ n.bytes → n.IsDamaged e nv → ⊥)
       (content_is : (i : S) → g.tells → Image (g.times i) (g.content i)) (spent : Spent 1 (g.meters (n.storage s)) (g.meters (n.storage t)) Kept) where
-    pub is_foreign : n.is_on t ≡ false → (g.tells → n.IsDamaged d (n.storage t)) → StartDoes n g d s t start.Damaged
-    is_foreign goes damage = record {
+    pub is_foreign : n.is_on t ≡ false → (g.tells → n.IsDamaged d (n.storage t)) → (g.size (n.storage s) ≡ n.bytes → SpendsOne g (n.storage s) (n.storage t))
+        → StartDoes n g d s t start.Damaged
+    is_foreign goes damage once = record {
       already = (λ e. cc, λ on. cc (on, off));
       leaves = goes;
       comes = λ v st tells. undamaged n g intact d v (n.storage t) (store_left v st) tells (content_is (n.storage t) tells) (damage tells);
@@ -147,12 +150,14 @@ module _ {K S N C R : Type 0} (n : Ghosts K S N C R) (g : nv.Ghosts S) (d : N) (
       damaged = λ tells read. (λ e. damage tells, λ e. refl);
       refused = λ e. cc;
       spent = spent;
+      once = once;
     }
 
     pub comes_on : (one : (e : N) (a b : n.Seen) (c : List ℕ) → n.IsSound e a → n.IsSound e b → n.IsShown a c → n.IsShown b c → a ≡ b)
         → (sized : n.is_on t ≡ true → g.size (n.storage t) ≡ n.bytes) → n.is_on t ≡ true → n.name t ≡ d → n.IsSound d (n.seen t)
-        → (knows : g.tells → (c : List ℕ) → Image (g.times (n.storage t)) c → n.IsShown (n.seen t) c) → (k : ℕ) → k ≡ count n (n.seen t) → StartDoes n g d s t (start.Up k)
-    comes_on one sized on name own knows k is = record {
+        → (knows : g.tells → (c : List ℕ) → Image (g.times (n.storage t)) c → n.IsShown (n.seen t) c) → (k : ℕ) → k ≡ count n (n.seen t)
+        → SpendsOne g (n.storage s) (n.storage t) → StartDoes n g d s t (start.Up k)
+    comes_on one sized on name own knows k is once = record {
       already = (λ e. cc, λ was. cc (was, off));
       leaves = on;
       comes = λ v st tells. may_start n d v (n.seen t) k (sym st.on ∙ off) (st.store.sound tells) (found v st tells) is;
@@ -161,6 +166,7 @@ module _ {K S N C R : Type 0} (n : Ghosts K S N C R) (g : nv.Ghosts S) (d : N) (
       damaged = λ tells read. (λ e. cc, λ damage. absurd (intact d (n.seen t) (n.storage t) own (shown tells) (sized on) damage));
       refused = λ e. cc;
       spent = spent;
+      once = once;
     }
       where
         shown : g.tells → n.IsShown (n.seen t) (g.content (n.storage t))

@@ -4,7 +4,7 @@ use Rattle.std.specs.Prelude.{IsSome}
 use Rattle.nv_model.specs.declared.nv.Nv as nv
 use Rattle.nv_model.specs.declared.nv.NvFail.{NvFail}
 use Rattle.nv_model.specs.declared.nv.NvFail.TheVariants as nv_fail
-use Rattle.nv_model.specs.Meters.{Meters, Uses, WasCut, Restarts}
+use Rattle.nv_model.specs.Meters.{Meters, Uses, UsesExactly, WasCut, Restarts}
 use Rattle.nv_model.specs.Moments.{Times, Image, Nested, Elapses, Stays}
 use Rattle.nv_model.specs.Still.{SameTimes}
 use Rattle.nv_model.proofs.Runs.{elapses_none, elapses_twice, stays_twice}
@@ -58,6 +58,9 @@ spent_after m mid now end result went spent = record {
     was_cut : WasCut mid now → WasCut m now
     was_cut (inl rose) = inl (omega (arith, went.cuts, rose))
     was_cut (inr burnt) = inr (subst (λ (f : Option ℕ). IsSome f) went.fuse burnt.0, burnt.1)
+
+pub once_after : (m mid now : Meters) (result : Result (Unit {0}) NvFail) → Restarts m mid result → UsesExactly 1 mid.fuse now.fuse → UsesExactly 1 m.fuse now.fuse
+once_after m mid now result went once = subst (λ (f : Option ℕ). UsesExactly 1 f now.fuse) went.fuse once
 
 -- nothing is written by calls that write nothing, one after the other
 pub mounts_twice : (before mid now : Times) → Nested mid → Nested now → Elapses before mid → Stays before mid → Mounts mid now → Mounts before now

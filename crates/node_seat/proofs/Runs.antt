@@ -1,5 +1,5 @@
 -- What a call of a running node did, by how its commit ended.
-use Rattle.std.proofs.Common.{◌≡◌, ◌≢◌, List, ℕ, Option, Some, None, Ok, Err, Result, true, false, not, is_some, refl, sym, ◌∙◌, ap, subst}
+use Rattle.std.proofs.Common.{◌≡◌, ◌≢◌, List, ℕ, Option, Some, None, Ok, Err, Result, Bool, true, false, not, is_some, is_ok, refl, sym, ◌∙◌, ap, subst}
 use Rattle.bench_base.specs.declared.ledger.Commit.{Commit}
 use Rattle.bench_base.specs.declared.refusals.Fail.{Fail}
 use Rattle.bench_base.specs.declared.refusals.Fail.TheVariants.{Refused, Store}
@@ -14,9 +14,9 @@ use Rattle.node_acts.specs.Acts.{commit_in, cost}
 use Rattle.node_acts.specs.Results.{result_in}
 use Rattle.node_seat.specs.declared.node.Node.{Ghosts}
 use Rattle.node_seat.specs.declared.running.Running.{Running}
-use Rattle.node_seat.specs.Does.{Stores}
-use Rattle.node_seat.specs.Ends.{end_of_commit, end_of_result, leaves_running}
-use Rattle.node_seat.specs.Performed.{seen_with, ShowsAfter, Tore, Does}
+use Rattle.node_seat.specs.Does.{Stores, Writes}
+use Rattle.node_seat.specs.Ends.{begins, begins_to_write, end_of_commit, end_of_result, leaves_running}
+use Rattle.node_seat.specs.Performed.{seen_with, ShowsAfter, Tore, Does, Wrote}
 use Rattle.node_seat.specs.Runs.{node_of, torn_of, seen_of, storage_of, Runs, KeepsNext, Performs}
 use Rattle.node_seat.proofs.Called.{if_true, if_false}
 use Rattle.node_seat.proofs.Rests.{turn_none, spent_none}
@@ -52,11 +52,15 @@ module _ {K S N C R : Type 0} (n : Ghosts K S N C R) (g : nv.Ghosts S)
   commits = commit_in n.counting (seen_of n d) act
 
   abbrev DoesIt : Node → Result A (Fail F) → Type 0
-  DoesIt e result = Does g n.counting n.IsShown (storage_of n) (seen_of n) torn_of act d e result
+  DoesIt e result = Does g n.counting n.fill n.IsShown (storage_of n) (seen_of n) torn_of act d e result
+
+  -- what it wrote, if its act is this one
+  abbrev WroteAs : Act C F A → Node → Result A (Fail F) → Type 0
+  WroteAs b e result = Wrote g n.counting n.fill n.IsShown (storage_of n) (seen_of n) torn_of b d e result
 
   -- the turn and the cost of a call that makes this commit, if it makes one
   abbrev TurnIs : Node → End → Option (Commit × n.Seen) → Type 0
-  TurnIs e end m = Turn (n.IsShown (seen_of n d)) (ShowsAfter g n.counting n.IsShown (storage_of n) (seen_of n) torn_of act m) (g.times (storage_of n d)) (g.times (storage_of n e)) end
+  TurnIs e end m = Turn (n.IsShown (seen_of n d)) (ShowsAfter g n.counting n.fill n.IsShown (storage_of n) (seen_of n) torn_of act m) (g.times (storage_of n d)) (g.times (storage_of n e)) end
 
   abbrev SpentIs : Node → End → ℕ → Type 0
   SpentIs e end calls = Spent calls (g.meters (storage_of n d)) (g.meters (storage_of n e)) end
@@ -66,8 +70,9 @@ module _ {K S N C R : Type 0} (n : Ghosts K S N C R) (g : nv.Ghosts S)
   shows e on none tells c now = knows e.node tells (on.on ∙ ap (λ (o : Option Commit). not (is_some o)) none) c now
 
   -- a call that commits nothing
-  quiet : (result : Result A (Fail F)) → commits ≡ None → end_of_result {S = n.Seen} result None ≡ Kept → KeepsNext n act d → DoesIt d result → Performs n g act d d result
-  quiet result none ends next does = record {
+  quiet : (result : Result A (Fail F)) → commits ≡ None → end_of_result {S = n.Seen} result None ≡ Kept → KeepsNext n act d → DoesIt d result → WroteAs act d result
+      → Performs n g act d d result
+  quiet result none ends next does wrote = record {
     performed = record {
       failed = λ was. absurd (was works);
       does = λ w. does;
@@ -77,6 +82,7 @@ module _ {K S N C R : Type 0} (n : Ghosts K S N C R) (g : nv.Ghosts S)
       spent = λ w.
           subst (λ (m : Option (Commit × n.Seen)). SpentIs d (end_of_result result m) (cost act)) (sym none)
           (subst (λ (x : End). SpentIs d x (cost act)) (sym ends) (spent_none (cost act) (g.meters (storage_of n d))));
+      wrote = λ w. wrote;
       rests = λ m. refl;
     };
     next = next;
@@ -88,10 +94,12 @@ module _ {K S N C R : Type 0} (n : Ghosts K S N C R) (g : nv.Ghosts S)
   pub refuses : (x : F) → act ≡ Refuse x → Performs n g act d d (Err (Refused x))
   refuses x is = quiet (Err (Refused x)) (ap (commit_in n.counting (seen_of n d)) is) refl (λ c y a w commits. cc)
       (record { answer = sym (ap (result_in n.counting (seen_of n d)) is); works = works; after = ap (λ (b : Act C F A). seen_with (commit_in n.counting (seen_of n d) b) (seen_of n d)) (sym is) })
+      (subst (λ (b : Act C F A). WroteAs b d (Err (Refused x))) (sym is) tt)
 
   pub tells_only : (a : A) → act ≡ Tell a → Performs n g act d d (Ok a)
   tells_only a is = quiet (Ok a) (ap (commit_in n.counting (seen_of n d)) is) refl (λ c y b w commits. cc)
       (record { answer = sym (ap (result_in n.counting (seen_of n d)) is); works = works; after = ap (λ (b : Act C F A). seen_with (commit_in n.counting (seen_of n d) b) (seen_of n d)) (sym is) })
+      (subst (λ (b : Act C F A). WroteAs b d (Ok a)) (sym is) tt)
 
   -- one in a cell that has all its commits; the node is as it was
   pub worn : (c : Commit) (x : C) (a : A) → act ≡ Commits c x a → n.counting.is_worn (seen_of n d) x ≡ true → (fail : StoreFail) → fail ≡ Worn
@@ -102,7 +110,7 @@ module _ {K S N C R : Type 0} (n : Ghosts K S N C R) (g : nv.Ghosts S)
         answer = sym (ap (result_in n.counting (seen_of n d)) is ∙ if_true (n.counting.is_worn (seen_of n d) x) (Err (Store Worn)) (Ok a) full);
         works = works;
         after = ap (λ (m : Option (Commit × n.Seen)). seen_with m (seen_of n d)) (sym none);
-      })))
+      }) (subst (λ (b : Act C F A). WroteAs b d (Err (Store Worn))) (sym is) (record { fills = λ tells began. cc; calls = λ made. cc }))))
     where
       none : commits ≡ None
       none = ap (commit_in n.counting (seen_of n d)) is ∙ if_true (n.counting.is_worn (seen_of n d) x) None _ full
@@ -114,12 +122,17 @@ module _ {K S N C R : Type 0} (n : Ghosts K S N C R) (g : nv.Ghosts S)
     abbrev next : n.Seen
     next = n.counting.after (seen_of n d) x
 
+    -- what it wrote, if it began to write and if it was made
+    abbrev WritesIt : Bool → Bool → Type 0
+    WritesIt began whole = Writes g (n.fill (seen_of n d) x) (storage_of n d) (storage_of n e) began whole
+
     made_is : commits ≡ Some (c, next)
     made_is = ap (commit_in n.counting (seen_of n d)) is ∙ if_false (n.counting.is_worn (seen_of n d) x) None (Some (c, next)) fresh
 
     committed : (result : Result A (Fail F)) → end ≡ end_of_result result (Some (c, next)) → (end ≡ Kept → ⊥)
-        → (g.tells → end ≡ Made → (i : List ℕ) → Image (g.times (storage_of n e)) i → n.IsShown next i) → DoesIt e result → Performs n g act d e result
-    committed result ends not_kept made does = record {
+        → (g.tells → end ≡ Made → (i : List ℕ) → Image (g.times (storage_of n e)) i → n.IsShown next i) → DoesIt e result
+        → WritesIt (begins_to_write result) (is_ok result) → Performs n g act d e result
+    committed result ends not_kept made does wrote = record {
       performed = record {
         failed = λ was. absurd (was works);
         does = λ w. does;
@@ -133,6 +146,7 @@ module _ {K S N C R : Type 0} (n : Ghosts K S N C R) (g : nv.Ghosts S)
         spent = λ w.
             subst (λ (m : Option (Commit × n.Seen)). SpentIs e (end_of_result result m) (cost act)) (sym made_is)
             (subst (λ (i : End). SpentIs e i (cost act)) ends (subst (λ (b : Act C F A). SpentIs e end (cost b)) (sym is) stores.spent));
+        wrote = λ w. subst (λ (b : Act C F A). WroteAs b e result) (sym is) wrote;
         rests = λ none. absurd (differs (sym made_is ∙ none));
       };
       next = λ b y o w commits fresh. subst (λ (z : C). n.IsKept z) (one b y o commits) kept;
@@ -148,20 +162,21 @@ module _ {K S N C R : Type 0} (n : Ghosts K S N C R) (g : nv.Ghosts S)
         one b y o commits = let same : ◌≡◌ {A = Act C F A} (Commits c x a) (Commits b y o) = sym is ∙ commits in cc
 
     -- it is made
-    pub done : end ≡ Made → torn_of e ≡ None → seen_of n e ≡ next → Performs n g act d e (Ok a)
-    done ends whole same = committed (Ok a) ends (λ k. cc) (λ tells m i now. subst (λ (s : n.Seen). n.IsShown s i) same (shows e on whole tells i now))
+    pub done : end ≡ Made → torn_of e ≡ None → seen_of n e ≡ next → WritesIt true true → Performs n g act d e (Ok a)
+    done ends whole same wrote = committed (Ok a) ends (λ k. cc) (λ tells m i now. subst (λ (s : n.Seen). n.IsShown s i) same (shows e on whole tells i now))
         (record { answer = answered; works = whole; after = same ∙ ap (λ (m : Option (Commit × n.Seen)). seen_with m (seen_of n d)) (sym made_is) })
+        wrote
       where
         answered : Ok a ≡ result_in n.counting (seen_of n d) act
         answered = sym (ap (result_in n.counting (seen_of n d)) is ∙ if_false (n.counting.is_worn (seen_of n d) x) (Err (Store Worn)) (Ok a) fresh)
 
-    is_torn : torn_of e ≡ Some c → seen_of n e ≡ seen_of n d → Tore g n.counting n.IsShown (storage_of n) (seen_of n) torn_of act commits d e
-    is_torn was same = subst (λ (m : Option (Commit × n.Seen)). Tore g n.counting n.IsShown (storage_of n) (seen_of n) torn_of act m d e) (sym made_is) (was, same)
+    is_torn : torn_of e ≡ Some c → seen_of n e ≡ seen_of n d → Tore g n.counting n.fill n.IsShown (storage_of n) (seen_of n) torn_of act commits d e
+    is_torn was same = subst (λ (m : Option (Commit × n.Seen)). Tore g n.counting n.fill n.IsShown (storage_of n) (seen_of n) torn_of act m d e) (sym made_is) (was, same)
 
     -- it failed
     pub tore : (fail : StoreFail) → fail ≢ Worn → fail ≢ Failed → end ≡ end_of_commit (Err fail) → torn_of e ≡ Some c → seen_of n e ≡ seen_of n d
-        → Performs n g act d e (Err (Store fail))
-    tore Power not_worn not_failed ends was same = committed (Err (Store Power)) ends (λ k. cc) (λ tells m. cc) (is_torn was same)
-    tore Fault not_worn not_failed ends was same = committed (Err (Store Fault)) ends (λ k. cc) (λ tells m. cc) (is_torn was same)
-    tore Worn not_worn not_failed ends was same = absurd (not_worn refl)
-    tore Failed not_worn not_failed ends was same = absurd (not_failed refl)
+        → WritesIt (begins (Err fail)) false → Performs n g act d e (Err (Store fail))
+    tore Power not_worn not_failed ends was same wrote = committed (Err (Store Power)) ends (λ k. cc) (λ tells m. cc) (is_torn was same) wrote
+    tore Fault not_worn not_failed ends was same wrote = committed (Err (Store Fault)) ends (λ k. cc) (λ tells m. cc) (is_torn was same) wrote
+    tore Worn not_worn not_failed ends was same wrote = absurd (not_worn refl)
+    tore Failed not_worn not_failed ends was same wrote = absurd (not_failed refl)

@@ -1,10 +1,12 @@
 -- What the calls of a node do to its record and its storage.
-use Rattle.std.specs.Prelude.{◌≡◌, ◌↔◌, ◌⊎◌, List, ℕ, Bool, true, Result, OnOk, OnErr, IsErrOf}
+use Rattle.std.specs.Prelude.{◌≡◌, ◌↔◌, ◌⊎◌, List, ℕ, Bool, true, Result, Ok, Err, OnOk, OnErr, IsErrOf}
+use Rattle.bench_base.specs.declared.refusals.BootFail.{BootFail}
+use Rattle.bench_base.specs.declared.refusals.BootFail.TheVariants as boot
 use Rattle.bench_base.specs.declared.refusals.StoreFail.{StoreFail}
 use Rattle.bench_base.specs.declared.refusals.StoreFail.TheVariants.{Worn, Failed}
 use Rattle.nv_model.specs.declared.nv.Nv.{Ghosts}
 use Rattle.nv_model.specs.declared.nv.NvFail.{NvFail}
-use Rattle.nv_model.specs.Meters.{Restarts}
+use Rattle.nv_model.specs.Meters.{Restarts, UsesExactly}
 use Rattle.nv_model.specs.Moments.{Elapses}
 use Rattle.nv_store.specs.Fills.{Fill, Fills, told}
 use Rattle.nv_store.specs.Mounts.{Mounts}
@@ -20,6 +22,17 @@ pub record Reads {S : Type 0} (g : Ghosts S) (before now : S) : Type 0 where
 -- what calls on a storage cost it: of a fuse they use at most so many calls
 abbrev pub Spends : {S : Type 0} → Ghosts S → ℕ → S → S → End → Type 0
 Spends g calls before now end = Spent calls (g.meters before) (g.meters now) end
+
+-- of a fuse they use exactly one call
+abbrev pub SpendsOne : {S : Type 0} → Ghosts S → S → S → Type 0
+SpendsOne g before now = UsesExactly 1 (g.meters before).fuse (g.meters now).fuse
+
+-- a boot that came to read made one sync: where it went well, or found damage in storage of so many bytes
+abbrev pub SyncsOnce : {S : Type 0} → Ghosts S → ℕ → S → S → Result (Unit {0}) BootFail → Type 0
+SyncsOnce g bytes before now (Ok done) = SpendsOne g before now
+SyncsOnce g bytes before now (Err boot.Power) = Unit {0}
+SyncsOnce g bytes before now (Err boot.Fault) = Unit {0}
+SyncsOnce g bytes before now (Err boot.Damaged) = g.size before ≡ bytes → SpendsOne g before now
 
 abbrev pub RestartIs : {S : Type 0} → Ghosts S → S → S → Result (Unit {0}) NvFail → Type 0
 RestartIs g before now result = Restarts (g.meters before) (g.meters now) result

@@ -51,6 +51,15 @@ begins (Err store.Fault) = true
 begins (Err store.Worn) = false
 begins (Err store.Failed) = false
 
+-- whether a call that commits, and answers a result, began to write
+abbrev pub begins_to_write : {F A : Type 0} → Result A (Fail F) → Bool
+begins_to_write (Ok a) = true
+begins_to_write (Err (Refused x)) = false
+begins_to_write (Err (Store store.Power)) = true
+begins_to_write (Err (Store store.Fault)) = true
+begins_to_write (Err (Store store.Worn)) = false
+begins_to_write (Err (Store store.Failed)) = false
+
 -- whether a call came to what its act tells
 abbrev pub is_done : {F A : Type 0} → Outcome F A → Bool
 is_done o.Off = false

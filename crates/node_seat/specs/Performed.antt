@@ -1,26 +1,27 @@
 -- A call that answers a result, of a value that keeps a node and the commit of it that failed.
-use Rattle.std.specs.Prelude.{◌≡◌, ◌≢◌, List, ℕ, Option, Some, None, Result, Ok, Err}
+use Rattle.std.specs.Prelude.{◌≡◌, ◌≢◌, List, ℕ, Option, Some, None, Result, Ok, Err, is_ok}
 use Rattle.bench_base.specs.declared.ledger.Commit.{Commit}
 use Rattle.bench_base.specs.declared.refusals.Fail.{Fail}
 use Rattle.bench_base.specs.declared.refusals.Fail.TheVariants.{Refused, Store}
 use Rattle.bench_base.specs.declared.refusals.StoreFail.TheVariants.{Power, Fault, Worn, Failed}
 use Rattle.nv_model.specs.declared.nv.Nv as nv
+use Rattle.nv_store.specs.Fills.{Fill}
 use Rattle.nv_store.specs.Turns.{End, Turn}
 use Rattle.node_acts.specs.declared.act.Act.{Act}
-use Rattle.node_acts.specs.Acts.{commit_in, cost}
+use Rattle.node_acts.specs.Acts.{OfCommit, commit_in, cost}
 use Rattle.node_acts.specs.Results.{result_in}
 use Rattle.node_acts.specs.Views.{Counting}
-use Rattle.node_seat.specs.Does.{Spends}
-use Rattle.node_seat.specs.Ends.{end_of_result}
+use Rattle.node_seat.specs.Does.{Spends, Writes}
+use Rattle.node_seat.specs.Ends.{begins_to_write, end_of_result}
 
 -- the record after the commit that was made
 abbrev pub seen_with : {S : Type 0} → Option (Commit × S) → S → S
 seen_with None s = s
 seen_with (Some x) s = x.1
 
--- Values T over storages S, whose records count so and are shown so: the storage of each, its record, and the commit of it
--- that failed. The act of a call is given.
-module _ {T S R X : Type 0} (g : nv.Ghosts S) (n : Counting R X) (IsShown : R → List ℕ → Type 0) (storage : T → S) (seen : T → R)
+-- Values T over storages S, whose records count so, are written so and are shown so: the storage of each, its record, and the
+-- commit of it that failed. The act of a call is given.
+module _ {T S R X : Type 0} (g : nv.Ghosts S) (n : Counting R X) (fill : R → X → Fill) (IsShown : R → List ℕ → Type 0) (storage : T → S) (seen : T → R)
     (torn : T → Option Commit) {F A : Type 0} (act : Act X F A) where
   -- the commit of the act, with the record that it makes
   abbrev pub commit_from : T → Option (Commit × R)
@@ -55,6 +56,10 @@ module _ {T S R X : Type 0} (g : nv.Ghosts S) (n : Counting R X) (IsShown : R �
   Does old new (Err (Refused x)) = Did old new (Err (Refused x))
   Does old new (Ok a) = Did old new (Ok a)
 
+  -- what a call of a value that had not failed wrote: if it commits, the slot whose turn it is, whole once it is done
+  abbrev pub Wrote : T → T → Result A (Fail F) → Type 0
+  Wrote old new result = OfCommit (λ c x. Writes g (fill (seen old) x) (storage old) (storage new) (begins_to_write result) (is_ok result)) act
+
   -- What the call did, answered and left. A value of which a commit failed answers `Failed` to each call and stays as it
   -- is; a call that commits nothing leaves the value and its storage as they were.
   pub record Performed (old new : T) (result : Result A (Fail F)) : Type 0 where
@@ -63,4 +68,5 @@ module _ {T S R X : Type 0} (g : nv.Ghosts S) (n : Counting R X) (IsShown : R �
     pub turn : torn old ≡ None → g.tells
         → Turn (IsShown (seen old)) (ShowsAfter (commit_from old)) (g.times (storage old)) (g.times (storage new)) (end_from old result)
     pub spent : torn old ≡ None → Spends g (cost act) (storage old) (storage new) (end_from old result)
+    pub wrote : torn old ≡ None → Wrote old new result
     pub rests : commit_from old ≡ None → new ≡ old

@@ -42,7 +42,7 @@ module _ {K S N C R : Type 0} where
 
       -- what a call of this act did, answered and left; beside the record a commit leaves all as it was
       pub record Performs {F A : Type 0} (act : Act C F A) (old new : Running K S N C R) (result : Result A (Fail F)) : Type 0 where
-        pub performed : Performed g n.counting n.IsShown storage_of seen_of torn_of act old new result
+        pub performed : Performed g n.counting n.fill n.IsShown storage_of seen_of torn_of act old new result
         pub next : KeepsNext act old
         pub name : n.name (node_of new) ≡ n.name (node_of old)
         pub beside : n.Stays (node_of old) (node_of new)

@@ -9,10 +9,19 @@ use Rattle.node_acts.specs.declared.act.Started.TheVariants as start
 use Rattle.node_acts.specs.Starts.{MayStart, after_start, leaves_on, HasRead}
 use Rattle.node_acts.specs.Views.{View, stopped}
 use Rattle.node_seat.specs.declared.node.Node.{Ghosts}
+use Rattle.node_seat.specs.Does.{SpendsOne}
 use Rattle.node_seat.specs.Ends.{end_of_start}
 use Rattle.node_seat.specs.Stands.{times_of, meters_of, HasDamage, IsArmed, Stands}
 
 module _ {K S N C R : Type 0} (n : Ghosts K S N C R) (g : nv.Ghosts S) where
+  -- a start that came to read made one sync: where the node is on, or damage was found in storage of its size
+  abbrev pub StartsOnce : K → K → Started → Type 0
+  StartsOnce s t start.Already = Unit {0}
+  StartsOnce s t (start.Up k) = SpendsOne g (n.storage s) (n.storage t)
+  StartsOnce s t start.Power = Unit {0}
+  StartsOnce s t start.Fault = Unit {0}
+  StartsOnce s t start.Damaged = g.size (n.storage s) ≡ n.bytes → SpendsOne g (n.storage s) (n.storage t)
+
   -- Node d was to be switched on. Nothing is written, and `Damaged` comes exactly where what was read is none of it.
   pub record StartDoes (d : N) (s t : K) (result : Started) : Type 0 where
     pub already : (result ≡ start.Already) ↔ (n.is_on s ≡ true)
@@ -23,6 +32,7 @@ module _ {K S N C R : Type 0} (n : Ghosts K S N C R) (g : nv.Ghosts S) where
     pub damaged : g.tells → HasRead result → (result ≡ start.Damaged) ↔ HasDamage n d t
     pub refused : result ≡ start.Already → t ≡ s
     pub spent : Spent 1 (meters_of n g s) (meters_of n g t) (end_of_start result)
+    pub once : StartsOnce s t result
 
   -- The node was to be switched off: whether it was on. Its storage stays as it was.
   pub record StopDoes (s t : K) (result : Bool) : Type 0 where

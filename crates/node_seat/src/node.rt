@@ -4,7 +4,7 @@ ghost use Rattle.nv_model.specs.Moments.{Image};
 ghost use Rattle.nv_model.specs.Still.{SameTimes, armed, with_fuse};
 ghost use Rattle.nv_store.specs.Fills.{Fill};
 ghost use Rattle.node_acts.specs.Views.{Counting};
-ghost use Rattle.node_seat.specs.Does.{Reads, RestartIs, Spends, Commits, Leaves, Stores, Writes};
+ghost use Rattle.node_seat.specs.Does.{Reads, RestartIs, Spends, SyncsOnce, Commits, Leaves, Stores, Writes};
 ghost use Rattle.node_seat.specs.Ends.{begins, end_of_boot, end_of_commit, leaves_running};
 
 use bench_base::refusals::{BootFail, StoreFail};
@@ -86,7 +86,8 @@ pub trait Node: Sized {
         ensures starts { OnOk result ((name self.new ≡ number) × IsSound number (seen self.new)) }
         ensures reads { Reads Self.Storage.Nv (storage self.old) (storage self.new) }
         ensures damaged { Self.Storage.tells → IsErrOf result BootFail.Damaged → IsDamaged number (storage self.new) }
-        ensures spent { Spends Self.Storage.Nv 1 (storage self.old) (storage self.new) (end_of_boot result) };
+        ensures spent { Spends Self.Storage.Nv 1 (storage self.old) (storage self.new) (end_of_boot result) }
+        ensures once { SyncsOnce Self.Storage.Nv bytes (storage self.old) (storage self.new) result };
 
     /// Commits a change of a node that is on, and keeps it once it is committed. After Power and Fault the node is off.
     fn commit(&mut self, change: &Self::Change) -> Result<(), StoreFail>

@@ -1,5 +1,5 @@
--- A part of a file that was read at once.
-use Rattle.std.specs.Prelude.{◌≡◌, ℕ, ◌+◌, ◌-◌, ◌≤◌, Bool, true, false, List, length, take, drop, Option, Some}
+-- A part of a file that was read at once, and where a read had its bytes from.
+use Rattle.std.specs.Prelude.{◌≡◌, ◌⊎◌, ℕ, ◌+◌, ◌-◌, ◌≤◌, Bool, true, false, List, length, take, drop, Option, Some, None}
 use Rattle.nv_file.specs.Ranges.{Range}
 use Rattle.nv_file.specs.declared.ahead.Ahead.{Ahead}
 
@@ -7,7 +7,17 @@ use Rattle.nv_file.specs.declared.ahead.Ahead.{Ahead}
 abbrev pub window_of : Ahead → Option Range
 window_of a = a.window
 
+-- whether the last read asked the system
+abbrev pub has_asked : Ahead → Bool
+has_asked a = a.asked
+
 -- where it answers, the bytes from that place on are copied, as many as there is room for, and all of them were read; else nothing is
 abbrev pub Has : Ahead → ℕ → List ℕ → List ℕ → Bool → Type 0
 Has a at old new true = (w : Range) × (a.window ≡ Some w) × (w.0 ≤ at) × (at + length old ≤ w.1) × (new ≡ take (length old) (drop (at - w.0) a.bytes.items))
 Has a at old new false = new ≡ old
+
+-- Where a read of a range had its bytes from. Without the system they are those that were kept before; from the system they are
+-- those of what is kept now, or nothing is kept.
+pub record Fetched (before now : Ahead) (at : ℕ) (old new : List ℕ) (went : Bool) : Type 0 where
+  pub kept : now.asked ≡ false → (went ≡ true) × Has before at old new true
+  pub asked : now.asked ≡ true → went ≡ true → (now.window ≡ None) ⊎ Has now at old new true

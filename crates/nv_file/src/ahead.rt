@@ -1,5 +1,5 @@
 //! A part of a file that was read at once, of which smaller reads are answered.
-ghost use Rattle.std.specs.Prelude.{◌≡◌, ◌≤◌, None, IfOk, false};
+ghost use Rattle.std.specs.Prelude.{◌≡◌, ◌≤◌, None, IfOk, true, false};
 
 use std::alloc::{AllocError, Global};
 use std::fs::File;
@@ -20,10 +20,20 @@ pub struct Ahead {
     pub(crate) window: Option<(u32, u32)>,
     /// Whether anything is read ahead.
     reads: bool,
+    /// Whether the last read asked the system.
+    pub(crate) asked: bool,
+}
+
+/// Asks the system for a range of a file, and notes that.
+fn ask(asked: &mut bool, file: &File, at: u32, buf: &mut [u8]) -> bool
+    ensures { asked.new ≡ true }
+{
+    *asked = true;
+    file.read_exact_at(buf, u64::from(at)).is_ok()
 }
 
 impl Ahead {
-    ghost use Rattle.nv_file.specs.Aheads.{window_of, Has};
+    ghost use Rattle.nv_file.specs.Aheads.{window_of, has_asked, Has};
 
     /// Takes the memory for reads of a file of so many bytes. AllocError is want of memory.
     pub fn new(alloc: Global, size: u32) -> Result<Ahead, AllocError>
@@ -33,6 +43,7 @@ impl Ahead {
             bytes: vec![in alloc; 0; size.min(PIECE) as usize]?,
             window: None,
             reads: false,
+            asked: false,
         })
     }
 
@@ -51,9 +62,19 @@ impl Ahead {
         self.reads = true;
     }
 
-    /// Reads the bytes about a place of a file of this size. False where that fails, or nothing is read ahead; nothing is there then.
+    /// Reads a range of a file from the system, and keeps nothing of it. Answers whether that went well.
+    pub fn read(&mut self, file: &File, at: u32, buf: &mut [u8]) -> bool
+        ensures asked { has_asked self.new ≡ true }
+        ensures none { window_of self.new ≡ None }
+    {
+        self.window = None;
+        ask(&mut self.asked, file, at, buf)
+    }
+
+    /// Reads the bytes about a place of a file of this size. False if that fails, or nothing is read ahead; nothing is kept then.
     pub fn fill(&mut self, file: &File, at: u32, size: u32) -> bool
         requires inside { at ≤ size }
+        ensures asked { result ≡ true → has_asked self.new ≡ true }
         ensures failed { result ≡ false → window_of self.new ≡ None }
     {
         self.window = None;
@@ -66,7 +87,7 @@ impl Ahead {
             return false;
         }
         let piece = &mut self.bytes[..len as usize];
-        let went = file.read_exact_at(piece, u64::from(from)).is_ok();
+        let went = ask(&mut self.asked, file, from, piece);
         if went {
             self.window = Some((from, from + len));
         }

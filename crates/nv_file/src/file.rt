@@ -48,6 +48,7 @@ fn are_apart(old: (u32, u32), new: (u32, u32)) -> bool
 }
 
 impl FileNv {
+    ghost use Rattle.nv_file.specs.Aheads.{Fetched};
     ghost use Rattle.nv_file.specs.Files.{unsynced, nothing_unsynced};
 
     /// Uses the file at a path, whatever its length, or makes it with `size` zero bytes where there is none. What was there
@@ -143,16 +144,18 @@ impl FileNv {
     /// whether that went well.
     fn fetch(&mut self, at: u32, buf: &mut [u8]) -> bool
         requires { at + length buf.old ≤ self.old.size }
+        ensures bytes { Fetched self.old.ahead self.new.ahead at buf.old buf.new result }
         ensures unsynced { unsynced self.new ≡ unsynced self.old }
         ensures counts { (self.new.size ≡ self.old.size) × (self.new.faults ≡ self.old.faults) }
     {
+        self.ahead.asked = false;
         if self.ahead.copy(at, buf) {
             return true;
         }
         if self.ahead.fill(&self.file, at, self.size) && self.ahead.copy(at, buf) {
             return true;
         }
-        self.file.read_exact_at(buf, u64::from(at)).is_ok()
+        self.ahead.read(&self.file, at, buf)
     }
 
     /// Writes a range, and answers whether that went well. Where places lie between it and what is not synced yet, that is
@@ -202,7 +205,7 @@ impl FileNv {
 }
 
 impl Nv for FileNv {
-    ghost use Rattle.nv_file.specs.Aheads.{window_of};
+    ghost use Rattle.nv_file.specs.Aheads.{window_of, has_asked};
     ghost use Rattle.nv_file.specs.Files.{unsynced, WriteIs, SyncIs};
 
     ghost tells = { ⊥ };
@@ -219,7 +222,8 @@ impl Nv for FileNv {
 
     ghost meters = { λ s. record { cuts = 0; faults = s.faults; lost = false; fuse = None } };
 
-    ghost read_is = { λ old new result. unsynced new ≡ unsynced old };
+    ghost read_is = { λ old new result. (unsynced new ≡ unsynced old)
+        × (window_of old.ahead ≡ None → has_asked new.ahead ≡ true) };
 
     ghost write_is = { λ old new at bytes result. WriteIs (unsynced old) (unsynced new) (at, at + length bytes) result
         × (window_of new.ahead ≡ None) };

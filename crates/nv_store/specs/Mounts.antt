@@ -1,8 +1,8 @@
 -- What a mount does to its storage, and why it answers so.
-use Rattle.std.specs.Prelude.{◌≡◌, ◌≢◌, ◌≤◌, ℕ, ◌+◌, ◌*◌, Bool, false, Option, Some, None, Result, Err, IfOk, IfErr, MatchResult}
+use Rattle.std.specs.Prelude.{◌≡◌, ◌≢◌, ◌≤◌, ℕ, ◌+◌, ◌*◌, Bool, true, false, Option, Some, None, Result, Err, IfOk, IfErr, MatchResult}
 use Rattle.bench_base.specs.Causes.{Rose}
 use Rattle.nv_model.specs.declared.nv.Nv.{Ghosts}
-use Rattle.nv_model.specs.Meters.{Meters, WasCut, Uses}
+use Rattle.nv_model.specs.Meters.{Meters, WasCut, Uses, UsesExactly}
 use Rattle.nv_model.specs.Moments.{Times, Only, Elapses, Stays}
 use Rattle.nv_store.specs.Slot.{Held, slots_at}
 use Rattle.nv_store.specs.Scans.{IsMixed}
@@ -15,11 +15,20 @@ pub record Mounts (before now : Times) : Type 0 where
   pub images : Stays before now
   pub time : Elapses before now
 
--- why a mount ended so, if it failed, and what it costs the storage
+-- whether a mount that failed so, or did not fail, came to read the cells
+abbrev pub came_to_read : Option MountCause → Bool
+came_to_read None = true
+came_to_read (Some Power) = false
+came_to_read (Some Fault) = false
+came_to_read (Some (Size n)) = false
+came_to_read (Some (Mixed k)) = true
+
+-- why a mount ended so, if it failed, and what it costs the storage: exactly one sync, if it came to read
 pub record MountCauses (before now : Meters) (cause : Option MountCause) : Type 0 where
   pub cuts : before.cuts ≤ now.cuts
   pub faults : before.faults ≤ now.faults
   pub fuse : Uses 1 before.fuse now.fuse
+  pub once : came_to_read cause ≡ true → UsesExactly 1 before.fuse now.fuse
   pub power : cause ≡ Some Power → WasCut before now
   pub fault : cause ≡ Some Fault → Rose before.faults now.faults
   pub powered : (cause ≡ Some Power → ⊥) → now.lost ≡ false

@@ -157,6 +157,7 @@ pub fn settle<N: Nv, const L: usize>(
     ensures mounts { N.tells → Mounts (N.times nv.old) (N.times nv.new) }
     ensures alone { N.tells → OnOk result (Only (N.times nv.new) (N.content nv.new)) }
     ensures went { Went 1 (N.meters nv.old) (N.meters nv.new) result }
+    ensures once { OnOk result (UsesExactly 1 (N.meters nv.old).fuse (N.meters nv.new).fuse) }
     ensures size { N.size nv.new ≡ N.size nv.old }
     ensures long { length heads.new.items ≡ length heads.old.items }
     ensures same { length payloads.new.items ≡ length payloads.old.items }

@@ -1,6 +1,6 @@
 //! Committing and mounting over lent parts: storage, head and payload side by side, as a node keeps them.
 ghost use Rattle.std.specs.Prelude.{◌≡◌, ◌+◌, ◌*◌, ◌≤◌, ◌<◌, OnOk, IfOk, IfSome, IfNone, false};
-ghost use Rattle.nv_model.specs.Meters.{Went};
+ghost use Rattle.nv_model.specs.Meters.{Went, UsesExactly};
 ghost use Rattle.nv_model.specs.Moments.{Only};
 ghost use Rattle.nv_store.specs.Slot.{slots_at};
 ghost use Rattle.nv_store.specs.Cells.{Known};
@@ -59,6 +59,7 @@ fn settle<N: Nv, const L: usize>(
     ensures mounts { N.tells → Mounts (N.times nv.old) (N.times nv.new) }
     ensures alone { N.tells → OnOk result (Only (N.times nv.new) (N.content nv.new)) }
     ensures went { Went 1 (N.meters nv.old) (N.meters nv.new) result }
+    ensures once { OnOk result (UsesExactly 1 (N.meters nv.old).fuse (N.meters nv.new).fuse) }
     ensures size { N.size nv.new ≡ N.size nv.old }
     ensures place { IfOk result (λ found. IfSome found (λ head. head.place < slots)) }
     ensures known { N.tells

@@ -2,7 +2,7 @@
 ghost use Rattle.std.specs.Prelude.{◌≡◌, ◌≢◌, OnOk, IfOk, IfErr, IfSome, IsErrOf, MatchResult, Ok, Err, false, is_ok};
 ghost use Rattle.nv_store.specs.Store.{one_held};
 ghost use Rattle.nv_store.specs.Turns.{Kept};
-ghost use Rattle.node_seat.specs.Does.{Reads, Spends};
+ghost use Rattle.node_seat.specs.Does.{Reads, Spends, SpendsOne, SyncsOnce};
 ghost use Rattle.node_seat.specs.Ends.{end_of_boot};
 ghost use Rattle.psd_state.specs.State.{State};
 ghost use Rattle.psd_state.specs.Payload.{ReadsAs};
@@ -63,6 +63,7 @@ impl<N: Nv> DeviceNode<N> {
             → (result ≡ Err BootFail.Damaged) × (storage_in self.new ≡ storage_in self.old) }
         ensures damaged { N.tells → IsErrOf result BootFail.Damaged → IsDamaged N.Nv device (storage_in self.new) }
         ensures spent { Spends N.Nv 1 (storage_in self.old) (storage_in self.new) (end_of_boot result) }
+        ensures once { SyncsOnce N.Nv DEVICE_BYTES (storage_in self.old) (storage_in self.new) result }
         ensures wear { OnOk result (IsNewWear (wear_in self.new) (seen_in self.new).count) }
         ensures place { N.tells → OnOk result (IsCurrent (wear_in self.new).start (N.content (storage_in self.new))) }
     {
@@ -109,6 +110,7 @@ impl<N: Nv> Device<N> {
             (λ e. e.1 ≡ BootFail.Damaged → IsDamaged N.Nv device e.0) }
         ensures sound { N.tells → N.size nv ≡ DEVICE_BYTES → AllShowOwn N.Nv device nv → IfErr result (λ e. e.1 ≢ BootFail.Damaged) }
         ensures spent { MatchResult result (λ d. Spends N.Nv 1 nv (storage_of d) Kept) (λ e. Spends N.Nv 1 nv e.0 (end_of_boot (Err e.1))) }
+        ensures once { MatchResult result (λ d. SpendsOne N.Nv nv (storage_of d)) (λ e. SyncsOnce N.Nv DEVICE_BYTES nv e.0 (Err e.1)) }
 
         // Wear is counted from here on.
         ensures wear { IfOk result (λ d. IsNewWear (wear_of d) (seen_of d).count) }

@@ -8,7 +8,7 @@ use Rattle.node_acts.specs.RowList.{RowList}
 use Rattle.node_acts.specs.declared.act.Act.{Act}
 use Rattle.node_acts.specs.declared.act.Act.TheVariants.{Commits}
 use Rattle.node_seat.specs.Performed.{Performed}
-use Rattle.row_node.specs.Tables.{IsShown, bytes_of, counting}
+use Rattle.row_node.specs.Tables.{IsShown, bytes_of, counting, fill_of}
 use Rattle.row_node.specs.NodeView.{storage_in, seen_in}
 use Rattle.row_node.specs.declared.cells.Cells as cells
 use Rattle.row_node.specs.declared.rows.Rows as rows
@@ -45,5 +45,5 @@ module _ {N R X M P : Type 0} {g : nv.Ghosts N} {r : rows.Ghosts R X M P} {m : c
 
   -- what a call of this act did, answered and left
   pub record Performs {F A : Type 0} (act : Act X F A) (old new : RunningRows N R X M P g r m) (result : Result A (Fail F)) : Type 0 where
-    pub performed : Performed g (counting r.table) (IsShown r.table m.size) (λ k. storage_in k.node) (λ k. seen_in k.node) (λ k. k.torn) act old.running new.running result
+    pub performed : Performed g (counting r.table) (fill_of r.table m.size) (IsShown r.table m.size) (λ k. storage_in k.node) (λ k. seen_in k.node) (λ k. k.torn) act old.running new.running result
     pub size : g.size (storage_of new) ≡ bytes_of r.table m.size

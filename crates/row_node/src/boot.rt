@@ -2,7 +2,7 @@
 ghost use Rattle.std.specs.Prelude.{◌≡◌, ◌≢◌, OnOk, IsErrOf, Err, false, is_ok};
 ghost use Rattle.nv_store.specs.RoomView.{cells_of, kept_in};
 ghost use Rattle.nv_store.specs.Rooms.{RoomRuns};
-ghost use Rattle.node_seat.specs.Does.{Reads, Spends};
+ghost use Rattle.node_seat.specs.Does.{Reads, Spends, SyncsOnce};
 ghost use Rattle.node_seat.specs.Ends.{end_of_boot};
 ghost use Rattle.row_node.specs.Tables.{IsDamaged, bytes_of};
 ghost use Rattle.row_node.specs.Boots.{Found};
@@ -30,6 +30,7 @@ fn mount_rows<N: Nv, R: Rows>(
     ensures size { N.size nv.old ≢ bytes_of R.table R.Memory.size → (result ≡ Err BootFail.Damaged) × (nv.new ≡ nv.old) }
     ensures damaged { N.tells → IsErrOf result BootFail.Damaged → IsDamaged R.table R.Memory.size N.Nv nv.new }
     ensures spent { Spends N.Nv 1 nv.old nv.new (end_of_boot result) }
+    ensures once { SyncsOnce N.Nv (bytes_of R.table R.Memory.size) nv.old nv.new result }
 {
     match cells.mount(nv) {
         Ok(()) => {}
@@ -60,6 +61,7 @@ impl<N: Nv, R: Rows> RowNode<N, R> {
         ensures damaged { N.tells → IsErrOf result BootFail.Damaged
             → IsDamaged R.table R.Memory.size N.Nv (storage_in self.new) }
         ensures spent { Spends N.Nv 1 (storage_in self.old) (storage_in self.new) (end_of_boot result) }
+        ensures once { SyncsOnce N.Nv (bytes_of R.table R.Memory.size) (storage_in self.old) (storage_in self.new) result }
     {
         match mount_rows(&mut self.nv, &mut self.cells, &mut self.rows) {
             Ok(()) => {

@@ -1,7 +1,7 @@
 //! A running node of rows: its rows in its storage, and the commit of it that failed.
 ghost use Rattle.std.specs.Prelude.{◌≡◌, ◌≢◌, IfOk, IfErr, MatchResult, Err, false, not, is_some};
 ghost use Rattle.nv_store.specs.Turns.{Kept};
-ghost use Rattle.node_seat.specs.Does.{Reads, Spends};
+ghost use Rattle.node_seat.specs.Does.{Reads, Spends, SpendsOne, SyncsOnce};
 ghost use Rattle.node_seat.specs.Ends.{end_of_boot};
 ghost use Rattle.row_node.specs.Tables.{IsDamaged, bytes_of, counting};
 ghost use Rattle.row_node.specs.NodeView.{storage_in, is_on};
@@ -47,6 +47,8 @@ impl<N: Nv, R: Rows> RunningRows<N, R> {
             → AllShowSound R.table R.Memory.size N.Nv nv → IfErr result (λ e. e.2 ≢ BootFail.Damaged) }
         ensures spent { MatchResult result (λ r. Spends N.Nv 1 nv (storage_of r) Kept)
             (λ e. Spends N.Nv 1 nv e.0 (end_of_boot (Err e.2))) }
+        ensures once { MatchResult result (λ r. SpendsOne N.Nv nv (storage_of r))
+            (λ e. SyncsOnce N.Nv (bytes_of R.table R.Memory.size) nv e.0 (Err e.2)) }
     {
         let mut node = RowNode::new(nv, room);
         match node.boot_rows() {

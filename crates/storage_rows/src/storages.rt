@@ -249,6 +249,55 @@ fn keeps_a_file(rt: HostRuntime) -> Result<(), Fail> {
     Ok(())
 }
 
+/// Makes sure, reads, writes and reads again. What the two reads show.
+fn seen_about_a_write<N: Nv>(nv: &mut N) -> Result<(Shown, Shown), NvFail> {
+    nv.sync()?;
+    let before = shown(nv);
+    if nv.size() < 8 {
+        return Err(NvFail::Fault);
+    }
+    nv.write(2, b"abc")?;
+    Ok((before, shown(nv)))
+}
+
+/// So over the file at this path; one of eight bytes is made where there is none.
+fn file_about_a_write(rt: &HostRuntime, path: &str) -> Result<(Shown, Shown), Fail> {
+    let Ok(mut nv) = FileNv::start(rt, path, 8) else {
+        return Err(Fail::from("start"));
+    };
+    let Ok(seen) = seen_about_a_write(&mut nv) else {
+        return Err(Fail::from("a call failed"));
+    };
+    Ok(seen)
+}
+
+/// What the file shows after a sync, and what it shows after a restart, if it was written from elsewhere between the two.
+fn file_about_a_restart(rt: &HostRuntime, path: &str) -> Result<(Shown, Shown), Fail> {
+    let Ok(mut nv) = FileNv::start(rt, path, 8) else {
+        return Err(Fail::from("start"));
+    };
+    let synced = nv.sync();
+    let before = shown(&mut nv);
+    fs::write(rt, path, b"changed!".as_slice())?;
+    if synced.is_err() || nv.restart().is_err() {
+        return Err(Fail::from("a call failed"));
+    }
+    Ok((before, shown(&mut nv)))
+}
+
+#[test]
+fn a_file_shows_what_it_holds_now(rt: HostRuntime) -> Result<(), Fail> {
+    let path = "shows_now.nv";
+    let (before, after) = file_about_a_write(&rt, path)?;
+    holds(&rt, before == Ok([0; 8]), "before a write");
+    holds(&rt, after == Ok(*b"\0\0abc\0\0\0"), "after a write");
+    let (before, after) = file_about_a_restart(&rt, path)?;
+    holds(&rt, before == Ok(*b"\0\0abc\0\0\0"), "before a restart");
+    holds(&rt, after == Ok(*b"changed!"), "after a restart");
+    fs::remove_file(&rt, path)?;
+    Ok(())
+}
+
 const TOO_LONG: &str = "too_long.nv";
 
 const LINK: &str = "link.nv";

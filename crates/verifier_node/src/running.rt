@@ -3,7 +3,7 @@ ghost use Rattle.std.specs.Prelude.{◌≡◌, ◌≢◌, IfOk, IfErr, MatchResu
 ghost use Rattle.bench_base.specs.declared.sizes.TheConstants.{BLOCK_BYTES, VERIFIER_CELLS, VERIFIER_BYTES};
 ghost use Rattle.nv_store.specs.RoomView.{cells_of};
 ghost use Rattle.nv_store.specs.Turns.{Kept};
-ghost use Rattle.node_seat.specs.Does.{Reads, Spends};
+ghost use Rattle.node_seat.specs.Does.{Reads, Spends, SpendsOne, SyncsOnce};
 ghost use Rattle.node_seat.specs.Ends.{end_of_boot};
 ghost use Rattle.verifier.specs.Seen.{counting};
 ghost use Rattle.verifier_node.specs.Payloads.{IsDamaged};
@@ -54,6 +54,7 @@ impl<N: Nv> Verifier<N> {
         ensures sound { N.tells → N.size nv ≡ VERIFIER_BYTES → AllShowSound verifier_table BLOCK_BYTES N.Nv nv → IfErr result (λ e. e.2 ≢ BootFail.Damaged) }
         ensures room { IfErr result (λ e. cells_of e.1 ≡ VERIFIER_CELLS) }
         ensures spent { MatchResult result (λ v. Spends N.Nv 1 nv (storage_of v) Kept) (λ e. Spends N.Nv 1 nv e.0 (end_of_boot (Err e.2))) }
+        ensures once { MatchResult result (λ v. SpendsOne N.Nv nv (storage_of v)) (λ e. SyncsOnce N.Nv VERIFIER_BYTES nv e.0 (Err e.2)) }
     {
         let room = RowRoom {
             cells: room,

@@ -1,9 +1,10 @@
-use Rattle.std.proofs.Common.{Err, sym, ap, subst}
+use Rattle.std.proofs.Common.{Err, sym, ◌∙◌, ap, subst}
 use Rattle.bench_base.specs.declared.refusals.BootFail.{BootFail}
 use Rattle.nv_store.specs.Turns.{Spent}
+use Rattle.node_seat.specs.Does.{SyncsOnce}
 use Rattle.node_seat.specs.Ends.{end_of_boot}
 use Rattle.node_seat.proofs.Booted.{cut, faulted, is_foreign, comes_on}
-use Rattle.node_seat.proofs.Rests.{reads_twice, restart_cut, restart_faulted, spent_after}
+use Rattle.node_seat.proofs.Rests.{reads_twice, restart_cut, restart_faulted, spent_after, once_after}
 use Rattle.node_seat.proofs.seat.start.Goals as goal
 
 pub returns-in-Err-Power : goal.returns-in-Err-Power
@@ -55,6 +56,8 @@ returns-in-Err-Damaged g c =
     g.met.K.Node.intact g.met.K.Storage.Nv.content_is
     (subst (λ (f : BootFail). Spent 1 (nv.meters (in_it s)) (nv.meters (in_it t)) (end_of_boot (Err f))) c.in-Err-Damaged.field-0-is (spent_after _ _ _ _ _ r.answer e.spent))
     e.leaves (λ tells. e.damaged tells (ap (λ (f : BootFail). Err f) c.in-Err-Damaged.field-0-is))
+    (λ size. once_after (nv.meters (in_it s)) (nv.meters (in_it mid)) (nv.meters (in_it t)) _ r.answer
+    (subst (λ (f : BootFail). SyncsOnce nv g.K.Node.bytes (in_it mid) (in_it t) (Err f)) c.in-Err-Damaged.field-0-is e.once (r.reads.size ∙ size)))
 
 pub returns-in-Ok-boot : goal.returns-in-Ok-boot
 returns-in-Ok-boot g c =
@@ -68,3 +71,4 @@ returns-in-Ok-boot g c =
     comes_on g.K.Node nv c.args.number s t (sym c.if-is_on.ensures) g.met.K.Storage.Nv.nested (reads_twice nv g.met.K.Storage.Nv.nested (in_it s) (in_it mid) (in_it t) r.reads e.reads)
     g.met.K.Node.intact g.met.K.Storage.Nv.content_is (spent_after _ _ _ _ _ r.answer e.spent)
     g.met.K.Node.one_shown (g.met.K.Node.sized t) e.leaves e.starts.0 e.starts.1 (λ tells. g.met.K.Node.knows t tells e.leaves) c.commits.result c.commits.ensures
+    (once_after (nv.meters (in_it s)) (nv.meters (in_it mid)) (nv.meters (in_it t)) _ r.answer e.once)

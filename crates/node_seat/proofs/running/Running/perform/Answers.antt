@@ -18,7 +18,7 @@ returns-in-Ok-clause-performs g c =
     let e = c.in-Ok.ensures in
     let works = none_torn _ (sym c.if-is_some.ensures) in
     done g.K.Node g.K.Storage.Nv g.met.K.Node.knows g.met.K.Node.stays_same c.args.act c.args.self.now c.requires.runs works b.commit b.change b.answer _ (record { on = e.leaves ∙ ap not c.if-is_some.ensures; size = e.stores.size ∙ c.requires.runs.size }) b.is
-    (false_from_ne_true _ (λ w. let x = e.answers.worn.1 w in cc)) e.name e.kept e.stays.beside _ e.stores refl works e.answers.done
+    (false_from_ne_true _ (λ w. let x = e.answers.worn.1 w in cc)) e.name e.kept e.stays.beside _ e.stores refl works e.answers.done e.writes
 
 pub returns-then-is_on-clause-performs : goal.returns-then-is_on-clause-performs
 returns-then-is_on-clause-performs g c =
@@ -37,4 +37,4 @@ returns-else-is_on-clause-performs g c =
     let no = not_worn c.in-Err.fail (c.if-is_on.ensures ∙ e.leaves) in
     tore g.K.Node g.K.Storage.Nv g.met.K.Node.knows g.met.K.Node.stays_same c.args.act c.args.self.now c.requires.runs (none_torn _ (sym c.if-is_some.ensures)) b.commit b.change b.answer _ (record { on = sym c.if-is_on.ensures; size = e.stores.size ∙ c.requires.runs.size }) b.is
     (false_from_ne_true _ (λ w. no (same_fail _ _ (e.answers.worn.1 w)))) e.name e.kept e.stays.beside _ e.stores c.in-Err.fail no
-    (λ is. e.answers.not_failed (ap (λ (f : StoreFail). Err f) is)) refl refl e.stays.record_stays
+    (λ is. e.answers.not_failed (ap (λ (f : StoreFail). Err f) is)) refl refl e.stays.record_stays e.writes
