@@ -1,5 +1,6 @@
 -- How the program ends: its exit status, and its line on standard error.
 use Rattle.std.specs.Prelude.{ℕ, Option, Some, None, Result, Ok, Err}
+use Rattle.line_runs.specs.Codes.{code_of, side_code_of}
 use Rattle.line_runs.specs.declared.status.SideStatus.{SideStatus}
 use Rattle.line_runs.specs.declared.status.SideStatus.TheVariants.{Run, Stopped}
 use Rattle.line_runs.specs.declared.status.Status.TheVariants.{Done, Words, Script, ReadFault, WriteFault, Memory, TooLong}
@@ -12,15 +13,19 @@ use Rattle.program_calls.specs.declared.exit.Exit.{Exit}
 abbrev ends_with : ℕ → Option Fault → Exit
 ends_with status line = record { status = status; line = line }
 
--- Each ending of a run has its status and its line; so has a start that could not begin one.
+-- the line of each ending of a run
+abbrev pub line_of : SideStatus → Option Fault
+line_of (Run Done) = None
+line_of (Run Words) = Some says.Words
+line_of (Run (Script line)) = Some (says.Script line)
+line_of (Run ReadFault) = Some says.Read
+line_of (Run WriteFault) = Some says.Write
+line_of (Run Memory) = Some says.Memory
+line_of (Run TooLong) = Some says.TooLong
+line_of Stopped = Some says.Stopped
+
+-- Each ending of a run has its status, from 0 to 6 or 8, and its line; so has a start that could not begin one.
 abbrev pub exit_of : Result SideStatus OpenFault → Exit
-exit_of (Ok (Run Done)) = ends_with 0 None
-exit_of (Ok (Run Words)) = ends_with 1 (Some says.Words)
-exit_of (Ok (Run (Script line))) = ends_with 2 (Some (says.Script line))
-exit_of (Ok (Run ReadFault)) = ends_with 3 (Some says.Read)
-exit_of (Ok (Run WriteFault)) = ends_with 4 (Some says.Write)
-exit_of (Ok (Run Memory)) = ends_with 5 (Some says.Memory)
-exit_of (Err unopened.Memory) = ends_with 5 (Some says.Memory)
-exit_of (Ok (Run TooLong)) = ends_with 6 (Some says.TooLong)
+exit_of (Ok ended) = ends_with (side_code_of ended) (line_of ended)
+exit_of (Err unopened.Memory) = ends_with (code_of Memory) (Some says.Memory)
 exit_of (Err (unopened.File name)) = ends_with 7 (Some (says.File name))
-exit_of (Ok Stopped) = ends_with 8 (Some says.Stopped)

@@ -1,6 +1,6 @@
 //! How the program ends: its exit status, and its line on standard error.
 ghost use Rattle.std.specs.Prelude.{◌≡◌};
-ghost use Rattle.program_calls.specs.Exits.{exit_of};
+ghost use Rattle.program_calls.specs.Exits.{exit_of, line_of};
 
 use line_runs::status::{SideStatus, Status};
 use thiserror::Error;
@@ -42,20 +42,41 @@ pub struct Exit {
     pub line: Option<Fault>,
 }
 
+/// The exit status if a file can't be used.
+const UNUSABLE: u8 = 7;
+
+/// The line of a run that ended so. None if it did its script.
+fn line_of(ended: SideStatus) -> Option<Fault>
+    ensures { result ≡ line_of ended }
+{
+    match ended {
+        SideStatus::Run(Status::Done) => None,
+        SideStatus::Run(Status::Words) => Some(Fault::Words),
+        SideStatus::Run(Status::Script(line)) => Some(Fault::Script(line)),
+        SideStatus::Run(Status::ReadFault) => Some(Fault::Read),
+        SideStatus::Run(Status::WriteFault) => Some(Fault::Write),
+        SideStatus::Run(Status::Memory) => Some(Fault::Memory),
+        SideStatus::Run(Status::TooLong) => Some(Fault::TooLong),
+        SideStatus::Stopped => Some(Fault::Stopped),
+    }
+}
+
 /// The exit status and the line of a run that ended so, or that was not begun.
 pub fn exit_of(ended: Result<SideStatus, OpenFault>) -> Exit
     ensures { result ≡ exit_of ended }
 {
-    let (status, line) = match ended {
-        Ok(SideStatus::Run(Status::Done)) => (0, None),
-        Ok(SideStatus::Run(Status::Words)) => (1, Some(Fault::Words)),
-        Ok(SideStatus::Run(Status::Script(line))) => (2, Some(Fault::Script(line))),
-        Ok(SideStatus::Run(Status::ReadFault)) => (3, Some(Fault::Read)),
-        Ok(SideStatus::Run(Status::WriteFault)) => (4, Some(Fault::Write)),
-        Ok(SideStatus::Run(Status::Memory)) | Err(OpenFault::Memory) => (5, Some(Fault::Memory)),
-        Ok(SideStatus::Run(Status::TooLong)) => (6, Some(Fault::TooLong)),
-        Err(OpenFault::File(name)) => (7, Some(Fault::File(name))),
-        Ok(SideStatus::Stopped) => (8, Some(Fault::Stopped)),
-    };
-    Exit { status, line }
+    match ended {
+        Ok(ended) => Exit {
+            status: ended.code(),
+            line: line_of(ended),
+        },
+        Err(OpenFault::Memory) => Exit {
+            status: Status::Memory.code(),
+            line: Some(Fault::Memory),
+        },
+        Err(OpenFault::File(name)) => Exit {
+            status: UNUSABLE,
+            line: Some(Fault::File(name)),
+        },
+    }
 }
