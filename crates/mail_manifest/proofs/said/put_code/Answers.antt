@@ -9,5 +9,5 @@ use Rattle.mail_manifest.proofs.said.put_code.Goals as goal
 pub returns-clause-short : goal.returns-clause-short
 returns-clause-short c =
     let begun : length c.put.new.self ≡ 4 = ap (λ (l : List ℕ). length l) (c.put.ensures ∙ ap (λ (l : List ℕ). l ++ codes "code") c.requires.empty) in
-    let all = ap (λ (l : List ℕ). length l) c.hex.ensures in
+    let all = ap (λ (l : List ℕ). length l) c.hex.ensures.value in
     omega (arith, all, begun, c.told-code, length-append c.put.new.self (32 ∷ hex_word c.args.code.now), length-encode_with lower_digits c.args.code.now)
