@@ -212,13 +212,16 @@ begin() {
         echo "post: cannot keep a run in $folder/runs, or write $notes: nothing is done" >&2
         exit 2
     }
-    "$program" replay 2> "$pipes/error" < "$pipes/script" > "$pipes/report" &
+    : > "$pipes/error"
+    # Both ends are open before the program begins: one that is killed at once leaves an end of file, and no one waiting for it.
+    exec 3<> "$pipes/script" 5<> "$pipes/report"
+    "$program" replay 2> "$pipes/error" < "$pipes/script" >&5 3>&- 5>&- &
     meter=$!
-    exec 3> "$pipes/script" 4< "$pipes/report" 6< "$pipes/error"
-    rm -rf "$pipes"
+    exec 4< "$pipes/report" 6< "$pipes/error" 5>&-
     echo "# post $call" >&3
     ask "day $day"
     want 'day *'
+    rm -rf "$pipes"
     # All nodes, before anything is done.
     for node in "$@" $(echo "$facts" | sed -n 's/^node //p'); do on "$node"; done
     all_on=yes
