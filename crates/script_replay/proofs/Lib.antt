@@ -6,6 +6,7 @@ mod Counting
 mod OneLine
 mod Faults
 mod Generating
+mod Headlines
 mod Outside
 mod Printing
 mod Replying

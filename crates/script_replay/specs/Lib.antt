@@ -2,6 +2,7 @@
 pub mod Chains
 pub mod Deeds
 pub mod Fresh
+pub mod Headline
 pub mod Outside
 pub mod Run
 pub mod Sides

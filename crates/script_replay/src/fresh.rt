@@ -4,7 +4,10 @@ ghost use Rattle.std.specs.List.{All};
 ghost use Rattle.bench.specs.Benches.{IsReady, Stands, bench_of};
 ghost use Rattle.bench_base.specs.declared.sizes.TheConstants.{DEVICE_BYTES};
 ghost use Rattle.script_replay.specs.Fresh.{IsFresh, IsOverFresh, RanFresh};
+ghost use Rattle.script_replay.specs.Headline.{Headline};
 ghost use Rattle.script_replay.specs.Streams.{streams_of};
+ghost use Rattle.script_text.specs.declared.program.Words.TheVariants.{Replay};
+ghost use Rattle.script_text.specs.Programs.{program_words};
 
 use crate::run::run;
 use bench::{Bench, HasNodes, Stores};
@@ -67,6 +70,11 @@ fn run_over<S: BufSource, K: Sink>(
         script.old report.old rates.old printer.old)
         (streams_of S.Source K.Sink ⟦<MemSource as Source>⟧ ⟦<MemSink as Sink>⟧
         script.new report.new rates.new printer.new) }
+    ensures headline { map string_bytes words.now ≡ program_words Replay → Headline result
+        (streams_of S.Source K.Sink ⟦<MemSource as Source>⟧ ⟦<MemSink as Sink>⟧
+        script.old report.old rates.old printer.old)
+        (streams_of S.Source K.Sink ⟦<MemSource as Source>⟧ ⟦<MemSink as Sink>⟧
+        script.new report.new rates.new printer.new) }
 {
     let mut bench = bench;
     run(alloc, words, script, rates, report, printer, &mut bench)
@@ -86,6 +94,11 @@ pub fn run_fresh<S: BufSource, K: Sink>(
 ) -> Option<Status>
     ensures ran { IfSome result (λ outcome. RanFresh ⟦<Bench<MemNv> as HasNodes>⟧.nodes (λ made. IsOverFresh made)
         outcome (map string_bytes words.now)
+        (streams_of S.Source K.Sink ⟦<MemSource as Source>⟧ ⟦<MemSink as Sink>⟧
+        script.old report.old rates.old printer.old)
+        (streams_of S.Source K.Sink ⟦<MemSource as Source>⟧ ⟦<MemSink as Sink>⟧
+        script.new report.new rates.new printer.new)) }
+    ensures headline { map string_bytes words.now ≡ program_words Replay → IfSome result (λ outcome. Headline outcome
         (streams_of S.Source K.Sink ⟦<MemSource as Source>⟧ ⟦<MemSink as Sink>⟧
         script.old report.old rates.old printer.old)
         (streams_of S.Source K.Sink ⟦<MemSource as Source>⟧ ⟦<MemSink as Sink>⟧
