@@ -23,9 +23,9 @@ module _ (n : Nodes) where
         record { replies = over.run; prints = over.prints tells; lawful = over.lawful; paid = over.paid };
   }
 
-  pub headline : (IsMade : BenchOf n → Type 0) (outcome : Status) (given : List (List ℕ)) (before now : Streams) → IsSome before.outside.printer.taken
-      → RanFresh n IsMade outcome given before now → given ≡ program_words Replay → Headline outcome before now
-  headline IsMade outcome given before now tells r is = record {
+  pub headline : (IsMade : BenchOf n → Type 0) (outcome : Status) (given : List (List ℕ)) (before now : Streams)
+      → RanFresh n IsMade outcome given before now → IsSome before.outside.printer.taken → given ≡ program_words Replay → Headline outcome before now
+  headline IsMade outcome given before now r tells is = record {
     steps = said script_lines (λ deeds. DidFresh n (scene r.old before.outside) (scene r.new now.outside) outcome (done_in deeds))
         (λ deeds. AreMade before.outside.printer.taken now.outside.printer.taken (done_in deeds)) (Run outcome) before.left now.left before.taken now.taken
         (λ deeds did. made (scene r.old before.outside) (scene r.new now.outside) outcome (done_in deeds) tells did) (r.ran.replays is);
