@@ -1,5 +1,5 @@
 -- The headline is a part of what is said of a run on new storages.
-use Rattle.std.proofs.Common.{◌≡◌, ℕ, List, [], ◌∷◌, Option, IsSome}
+use Rattle.std.proofs.Common.{◌≡◌, ℕ, List, IsSome}
 use Rattle.script_text.specs.declared.program.Words.TheVariants.{Replay}
 use Rattle.script_text.specs.Programs.{program_words}
 use Rattle.bench.specs.Benches.{Nodes, BenchOf}

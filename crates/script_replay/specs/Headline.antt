@@ -1,5 +1,5 @@
 -- What a run over a script claims of money. It speaks of lines, replies, marks and the ledger alone: of no bench, no node and no storage.
-use Rattle.std.specs.Prelude.{◌≡◌, ◌↔◌, ℕ, List, [], ◌∷◌, Option, IsSome, IfSome}
+use Rattle.std.specs.Prelude.{◌≡◌, ◌↔◌, ℕ, List, [], ◌∷◌, Option, IfSome}
 use Rattle.std.specs.Io.KnownBytes.{Appends}
 use Rattle.bench_base.specs.Causes.{Rose}
 use Rattle.bench_base.specs.declared.ledger.Entry.TheVariants.{Begin}
@@ -19,8 +19,8 @@ use Rattle.script_replay.specs.Run.{Unforged, Moves, Prints}
 use Rattle.script_replay.specs.Streams.{Streams}
 use Rattle.script_replay.specs.Throughout.{IsAllPaid}
 
--- The steps are right from the empty ledger on, by what this tariff reads in rates. Up to the first event that brings something forged, each reply is one that its
--- event may get at the ledger so far, and each printed line is the mark of its event. If no event brings anything forged, the ledger that they leave is lawful,
+-- The steps are right from the empty ledger on, by what this tariff reads in rates. Up to the first event that takes something forged from outside, each reply is one that its
+-- event may get at the ledger so far, and each printed line is the mark of its event. If no event does, the ledger that they leave is lawful,
 -- and at each moment accepted mail was franked, and franked mail was bought.
 pub record AreRight (τ : Tariff) (steps : List Done) : Type 0 where
   pub replies : RunWhile τ Unforged (Moves τ) (Begin ∷ []) steps
@@ -38,7 +38,7 @@ pub record Headline (outcome : Status) (before now : Streams) : Type 0 where
   -- the lines of the script were done one after the other, and the report took the line of each reply
   pub steps : Replayed script_lines (Run outcome) (λ deeds. AreMade before.outside.printer.taken now.outside.printer.taken (done_in deeds))
       before.left now.left before.taken now.taken
-  -- an `end`, a bad line and a line too many are told exactly if the bytes of the script say so, unless a stream fails or memory is wanting
+  -- the status reports an `end`, a bad line or a line too many if and only if the bytes of the script have it, unless a stream fails or memory runs out
   pub by_script : IfSome before.left (λ bytes. IsByScript (Run outcome) → (s : Status) → (outcome ≡ s) ↔ EndsAs script_grammar s bytes)
   -- a script that can't be read, and a report that can't be written, were counted as faults
   pub read_fault : outcome ≡ ReadFault → Rose before.read_faults now.read_faults
