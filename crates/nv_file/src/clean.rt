@@ -59,28 +59,58 @@ pub fn forget<R: Files<File = File>>(rt: &R) -> io::Result<()> {
     sync_folder(rt, CLEAN)
 }
 
-/// Remembers that these storages are on the disk as they are, and what was remembered of others. If that fails a later start writes the storages anew.
+// Adds a line to the text.
+fn add_line(text: &mut String, line: &str) -> io::Result<()> {
+    text.push_str(line)?;
+    text.push_str("\n")?;
+    Ok(())
+}
+
+// Whether the line is of one of these storages.
+fn is_of(line: &str, files: &[StoreFile]) -> bool {
+    let name = line.split(' ').next();
+    files.iter().any(|file| name == Some(file.name))
+}
+
+// Adds the lines of these storages.
+fn add_storages<R: Files<File = File> + AllocGlobal>(
+    rt: &R,
+    text: &mut String,
+    files: &[StoreFile],
+) -> io::Result<()> {
+    for file in files {
+        add_line(text, line_of(rt, file.name)?.as_str())?;
+    }
+    Ok(())
+}
+
+// Adds what was remembered of other storages than these.
+fn add_others(text: &mut String, files: &[StoreFile], before: &str) -> io::Result<()> {
+    for line in before.lines().skip(1) {
+        if !is_of(line, files) {
+            add_line(text, line)?;
+        }
+    }
+    Ok(())
+}
+
+// Writes the text, so that it is on the disk.
+fn write_clean<R: Files<File = File>>(rt: &R, text: &str) -> io::Result<()> {
+    let mut file = create(rt, CLEAN)?;
+    file.write_all(text.as_bytes())?;
+    file.sync_all()?;
+    sync_folder(rt, CLEAN)
+}
+
+/// Remembers that these storages are on the disk as they are, and what was remembered of others. If that fails a later start writes the storages again.
 pub fn remember<R: Files<File = File> + AllocGlobal>(
     rt: &R,
     files: &[StoreFile],
     before: &str,
 ) -> io::Result<()> {
-    let mut text = format!(in rt.alloc(); "{FORM}\n")?;
-    for file in files {
-        text.push_str(line_of(rt, file.name)?.as_str())?;
-        text.push_str("\n")?;
-    }
-    for line in before.lines().skip(1) {
-        if !files
-            .iter()
-            .any(|file| line.split(' ').next() == Some(file.name))
-        {
-            text.push_str(line)?;
-            text.push_str("\n")?;
-        }
-    }
-    let mut file = create(rt, CLEAN)?;
-    file.write_all(text.as_bytes())?;
-    file.sync_all()?;
-    sync_folder(rt, CLEAN)
+    let mut text = String::new(rt.alloc());
+    add_line(&mut text, FORM)?;
+    add_storages(rt, &mut text, files)?;
+    add_others(&mut text, files, before)?;
+    write_clean(rt, text.as_str())
 }
