@@ -128,9 +128,9 @@ module _ {N R : Type 0} (g : nv.Ghosts N) (decoded : ℕ → List ℕ → Option
 
   -- == one commit ==
 
-  module _ (nested : (s : N) → g.tells → Nested (g.times s)) (c : RowCommit R) (old new : View) (long : old.cells ≡ cells) (works : old.failed ≡ false) where
+  module _ (spelled : ℕ → R → List ℕ) (nested : (s : N) → g.tells → Nested (g.times s)) (c : RowCommit R) (old new : View) (long : old.cells ≡ cells) (works : old.failed ≡ false) where
     abbrev Commits : Result (Unit {0}) StoreFail → Type 0
-    Commits result = CommitsRow g.tells decoded size c.cell c.kept (row_view g decoded old) (row_view g decoded new) result
+    Commits result = CommitsRow g.tells decoded spelled size c.cell c.kept (row_view g decoded old) (row_view g decoded new) result
 
     torn : (result : Result (Unit {0}) StoreFail) → new.failed ≡ true → (result ≡ Err fail.Worn → ⊥) → Caused (meters old) (meters new) → rows new ≡ rows old → Commits result → Breaks c old new
     torn result broke fresh cause stays did = record {

@@ -45,7 +45,7 @@ module _ {N R : Type 0} (g : Ghosts N) (decoded : ℕ → List ℕ → Option R)
   meters_seen v = g.meters v.storage
 
   abbrev pub row_view : DeskView N → RowView
-  row_view v = record { cells = v.cells; held = v.held; times = g.times v.storage; meters = g.meters v.storage }
+  row_view v = record { cells = v.cells; held = v.held; content = g.content v.storage; times = g.times v.storage; meters = g.meters v.storage }
 
   -- storage and rows are as they were
   pub record IsUntouched (old new : DeskView N) : Type 0 where
