@@ -8,6 +8,7 @@ pub mod Taking
 pub mod Answering
 pub mod Printing
 pub mod Backing
+pub mod Blank
 pub mod Holding
 pub mod Indexing
 pub mod Showing

@@ -1,13 +1,13 @@
 //! The departments out of their storage.
-ghost use Rattle.std.specs.Prelude.{◌≡◌, ◌≢◌, ℕ, List, Some, None, IfOk, IfErr, MatchResult, false};
-ghost use Rattle.nv_model.specs.Moments.{Image};
+ghost use Rattle.std.specs.Prelude.{◌≡◌, ◌≢◌, ℕ, List, Some, None, IfOk, IfErr, MatchResult, false, replicate};
+ghost use Rattle.nv_model.specs.Moments.{Image, Only};
 ghost use Rattle.nv_store.specs.Mounts.{Mounts};
 ghost use Rattle.nv_store.specs.RoomView.{cells_of};
 ghost use Rattle.row_store.specs.Boots.{BootCauses};
 ghost use Rattle.row_store.specs.Seen.{ReadsAs};
 ghost use Rattle.row_node.specs.Shows.{ShowsRows, IsDamagedTable};
 ghost use Rattle.host_departments.specs.Payload.{decoded};
-ghost use Rattle.host_departments.specs.Rows.{IsSound};
+ghost use Rattle.host_departments.specs.Rows.{IsSound, row_in};
 ghost use Rattle.host_departments.specs.View.{storage_of, has_failed, rows_of};
 ghost use Rattle.host_departments.specs.declared.row.TheConstants.{CELLS};
 
@@ -40,6 +40,10 @@ impl<N: Nv> Departments<N> {
         ensures mounts { N.tells
             → MatchResult result (λ d. Mounts (N.times nv) (N.times (storage_of d)))
             (λ e. Mounts (N.times nv) (N.times e.0)) }
+
+        // Blank storage has no quota and no job.
+        ensures blank { N.tells → (bytes : ℕ) → Only (N.times nv) (replicate bytes 0)
+            → IfOk result (λ d. (k : ℕ) → row_in (rows_of d) k ≡ None) }
 
         // Why it fails, and what it costs.
         ensures size { N.size nv ≢ 35360 → IfErr result (λ e. (e.0 ≡ nv) × (e.2 ≡ BootFail.Damaged)) }

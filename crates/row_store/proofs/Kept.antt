@@ -141,6 +141,7 @@ module _ {R : Type 0} (decoded : ℕ → List ℕ → Option R) (spelled : ℕ �
         seen_fills (cells_of old) (ReadsAs decoded) (λ j. row_held decoded j (kept_in old j)) (kept_in old) (filled_of decoded (cells_of old) (kept_in old) read) L cell payload (spelled cell x) inside value _ _ _
         (did.fills tells other);
     calls = did.calls;
+    untouched = λ is. (ap (λ (s : N). g.content s) (did.worn is).0, ap (λ (s : N). g.meters s) (did.worn is).0);
   }
 
   -- each payload still reads as a row

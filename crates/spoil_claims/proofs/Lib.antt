@@ -1,5 +1,6 @@
 mod Answering
 mod Backing
+mod Blank
 mod Holding
 mod Keeping
 mod Payloads

@@ -1,12 +1,12 @@
 //! The desk out of its storage.
-ghost use Rattle.std.specs.Prelude.{◌≡◌, ◌≢◌, ℕ, List, Some, None, IfOk, IfErr, MatchResult, false};
-ghost use Rattle.nv_model.specs.Moments.{Image};
+ghost use Rattle.std.specs.Prelude.{◌≡◌, ◌≢◌, ℕ, List, Some, None, IfOk, IfErr, MatchResult, false, replicate};
+ghost use Rattle.nv_model.specs.Moments.{Image, Only};
 ghost use Rattle.nv_store.specs.Mounts.{Mounts};
 ghost use Rattle.nv_store.specs.RoomView.{cells_of};
 ghost use Rattle.row_store.specs.Boots.{BootCauses};
 ghost use Rattle.row_store.specs.Seen.{ReadsAs};
 ghost use Rattle.row_node.specs.Shows.{ShowsRows, IsDamagedTable};
-ghost use Rattle.spoil_claims.specs.Claims.{HasNoGaps};
+ghost use Rattle.spoil_claims.specs.Claims.{HasNoGaps, kept};
 ghost use Rattle.spoil_claims.specs.Payload.{decoded};
 ghost use Rattle.spoil_claims.specs.View.{storage_of, has_failed, rows_of};
 ghost use Rattle.spoil_claims.specs.declared.claim.TheConstants.{CLAIM_CELLS};
@@ -39,6 +39,10 @@ impl<N: Nv> Desk<N> {
         ensures mounts { N.tells
             → MatchResult result (λ d. Mounts (N.times nv) (N.times (storage_of d)))
             (λ e. Mounts (N.times nv) (N.times e.0)) }
+
+        // Blank storage has no claims.
+        ensures blank { N.tells → (bytes : ℕ) → Only (N.times nv) (replicate bytes 0)
+            → IfOk result (λ d. (c : ℕ) → kept (rows_of d) c ≡ None) }
 
         // Why it fails, and what it costs.
         ensures size { N.size nv ≢ 159744 → IfErr result (λ e. (e.0 ≡ nv) × (e.2 ≡ BootFail.Damaged)) }
