@@ -1,4 +1,4 @@
-//! The departments out of their storage.
+//! The departments out of their storage, and the storage given back.
 ghost use Rattle.std.specs.Prelude.{◌≡◌, ◌≢◌, ℕ, List, Some, None, IfOk, IfErr, MatchResult, false, replicate};
 ghost use Rattle.nv_model.specs.Moments.{Image, Only};
 ghost use Rattle.nv_store.specs.Mounts.{Mounts};
@@ -8,7 +8,7 @@ ghost use Rattle.row_store.specs.Seen.{ReadsAs};
 ghost use Rattle.row_node.specs.Shows.{ShowsRows, IsDamagedTable};
 ghost use Rattle.host_departments.specs.Payload.{decoded};
 ghost use Rattle.host_departments.specs.Rows.{IsSound, row_in};
-ghost use Rattle.host_departments.specs.View.{storage_of, has_failed, rows_of};
+ghost use Rattle.host_departments.specs.View.{storage_of, room_of, has_failed, rows_of};
 ghost use Rattle.host_departments.specs.declared.row.TheConstants.{CELLS};
 
 use crate::desk::Departments;
@@ -70,5 +70,21 @@ impl<N: Nv> Departments<N> {
             }
             Err(fail) => Err((nv, room, fail)),
         }
+    }
+
+    /// Gives the storage and the memory back, as they are. After a commit that failed the storage is restarted before it is booted again.
+    pub fn shut(self) -> (N, Room<12>)
+        ensures storage { result.0 ≡ storage_of self }
+        ensures room { result.1 ≡ room_of self }
+        ensures cells { cells_of result.1 ≡ CELLS }
+    {
+        let Departments {
+            nv,
+            room,
+            failed: _,
+            said: _,
+            index: _,
+        } = self;
+        (nv, room)
     }
 }

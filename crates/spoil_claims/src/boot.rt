@@ -1,4 +1,4 @@
-//! The desk out of its storage.
+//! The desk out of its storage, and the storage given back.
 ghost use Rattle.std.specs.Prelude.{◌≡◌, ◌≢◌, ℕ, List, Some, None, IfOk, IfErr, MatchResult, false, replicate};
 ghost use Rattle.nv_model.specs.Moments.{Image, Only};
 ghost use Rattle.nv_store.specs.Mounts.{Mounts};
@@ -8,7 +8,7 @@ ghost use Rattle.row_store.specs.Seen.{ReadsAs};
 ghost use Rattle.row_node.specs.Shows.{ShowsRows, IsDamagedTable};
 ghost use Rattle.spoil_claims.specs.Claims.{HasNoGaps, kept};
 ghost use Rattle.spoil_claims.specs.Payload.{decoded};
-ghost use Rattle.spoil_claims.specs.View.{storage_of, has_failed, rows_of};
+ghost use Rattle.spoil_claims.specs.View.{storage_of, room_of, has_failed, rows_of};
 ghost use Rattle.spoil_claims.specs.declared.claim.TheConstants.{CLAIM_CELLS};
 
 use crate::claim::CLAIM_CELLS;
@@ -65,5 +65,20 @@ impl<N: Nv> Desk<N> {
             }),
             Err(fail) => Err((nv, room, fail)),
         }
+    }
+
+    /// Gives the storage and the memory back, as they are. After a commit that failed the storage is restarted before it is booted again.
+    pub fn shut(self) -> (N, Room<73>)
+        ensures storage { result.0 ≡ storage_of self }
+        ensures room { result.1 ≡ room_of self }
+        ensures cells { cells_of result.1 ≡ CLAIM_CELLS }
+    {
+        let Desk {
+            nv,
+            room,
+            failed: _,
+            said: _,
+        } = self;
+        (nv, room)
     }
 }
