@@ -9,6 +9,7 @@ pub mod Answering
 pub mod Printing
 pub mod Backing
 pub mod Blank
+pub mod Following
 pub mod Holding
 pub mod Indexing
 pub mod Showing

@@ -19,6 +19,7 @@ use Rattle.script_replay.specs.Sides.{StepsBy, DidSide}
 use Rattle.script_replay.specs.Throughout.{StandsFor}
 use Rattle.host_departments.specs.Answers.{CellCommit, AreAnswered}
 use Rattle.host_departments.specs.DepartmentsDesk.{departments_desk}
+use Rattle.host_departments.specs.Follows.{FollowLedger}
 use Rattle.host_departments.specs.Holds.{AreBacked, DepartmentsHold}
 use Rattle.host_departments.specs.Payload.{decoded}
 use Rattle.host_departments.specs.Rows.{Rows, IsDepartment, Has, IsAssigned, quota, or_zero, spent, IsSound}
@@ -47,12 +48,15 @@ AllAssigned rows (d ∷ steps) = PrintsAssigned rows d × AllAssigned rows steps
 -- The departments and the bench did the deeds; each line about departments has its answer, by what was kept then and by what was heard of its message at
 -- that place of the run; a line is left to the bench only as a `print` of an assigned job or as one that is not about departments; and what is kept then is
 -- within the quotas, with each job of one department at most, which each job has that was printed. One commit may have failed: then a later boot finds what
--- is kept without it or with it, which agrees either way. By a history for which the bench stood, and where the jobs of earlier runs are backed by it and nothing was forged, either
--- holds by the ledger that the deeds leave.
+-- is kept without it or with it, which agrees either way. By a history for which the bench stood, and where the jobs of earlier runs are backed by it, what is kept at each
+-- line holds by the ledger so far, and `dept spent` is answered by it, up to the first forged event. Where nothing was forged, either holds by the ledger that
+-- the deeds leave.
 pub record DidDepartments (n : Nodes) {N : Type 0} (own : nv.Ghosts N) (old new : World (SceneOf n) (Departments N own)) (outcome : SideStatus) (deeds : List (SideDeed DepartmentLine)) : Type 0 where
   pub side : DidSide n (departments_desk own) old new outcome deeds
   pub failed : Option CellCommit
   pub answers : AreAnswered (StepsBy n) (scene side.begun old.scene.outside) (rows_of old.desk) deeds side.behind.scene (rows_of new.desk) failed
+  pub follows : (τ : Tariff) (L : Ledger) → IsOfTexts τ → StandsFor n τ old.scene.bench L → n.storage.tells → AreBacked (rows_of old.desk) L
+      → FollowLedger (StepsBy n) τ (Begin ∷ L) (scene side.begun old.scene.outside) (rows_of old.desk) deeds side.behind.scene (rows_of new.desk) failed answers
   pub storage : LeavesStorage own decoded 12 CELLS (view_of old.desk) (view_of new.desk) outcome deeds failed
   pub within : IsWithinQuotas (rows_of new.desk)
   pub one : IsOfOne (rows_of new.desk)

@@ -14,3 +14,4 @@ mod Running
 mod Sides
 mod Moments
 mod Stores
+pub mod Whiles

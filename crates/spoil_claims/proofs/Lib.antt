@@ -1,6 +1,7 @@
 mod Answering
 mod Backing
 mod Blank
+mod Following
 mod Holding
 mod Keeping
 mod Payloads

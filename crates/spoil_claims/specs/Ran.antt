@@ -16,6 +16,7 @@ use Rattle.script_replay.specs.Sides.{DidSide}
 use Rattle.script_replay.specs.Throughout.{StandsFor}
 use Rattle.spoil_claims.specs.Answers.{AreAnswered}
 use Rattle.spoil_claims.specs.ClaimsDesk.{claims_desk}
+use Rattle.spoil_claims.specs.Follows.{FollowLedger}
 use Rattle.spoil_claims.specs.Holds.{AreBacked, ClaimsHold}
 use Rattle.spoil_claims.specs.Storage.{LeavesStorage, with_torn}
 use Rattle.spoil_claims.specs.View.{rows_of}
@@ -25,10 +26,13 @@ use Rattle.spoil_claims.specs.declared.desk.Desk.{Desk}
 
 -- The desk and the bench did the deeds, and each line about claims has its answer, by the claims that were kept then and by the reply to its scan. A
 -- commit may have been torn: then a later boot finds the claims without it or with it. By a history for which the bench stood, and where the claims of
--- earlier runs are backed by it and nothing was forged, either of these claims hold by the ledger that the deeds leave.
+-- earlier runs are backed by it, the claims that are kept at each line hold by the ledger so far, and `credits` is answered by it, up to the first
+-- forged event. Where nothing was forged, either of these claims hold by the ledger that the deeds leave.
 pub record DidClaims (n : Nodes) {N : Type 0} (own : nv.Ghosts N) (old new : World (SceneOf n) (Desk N own)) (outcome : SideStatus) (deeds : List (SideDeed ClaimLine)) : Type 0 where
   pub side : DidSide n (claims_desk own) old new outcome deeds
   pub answers : AreAnswered (rows_of old.desk) deeds (rows_of new.desk)
+  pub follows : (τ : Tariff) (L : Ledger) → IsOfTexts τ → StandsFor n τ old.scene.bench L → n.storage.tells → AreBacked (rows_of old.desk) L
+      → FollowLedger τ (Begin ∷ L) (rows_of old.desk) deeds (rows_of new.desk) answers
   pub torn : Option ClaimRow
   pub storage : LeavesStorage old.desk new.desk outcome deeds torn
   pub holds : (τ : Tariff) (L : Ledger) → IsOfTexts τ → StandsFor n τ old.scene.bench L → n.storage.tells → AreBacked (rows_of old.desk) L
