@@ -4,6 +4,7 @@ pub mod Courses
 pub mod DepartmentLines
 pub mod DepartmentsDesk
 pub mod Follows
+pub mod Fresh
 pub mod Heard
 pub mod Holds
 pub mod Index

@@ -5,6 +5,7 @@ pub mod Fresh
 pub mod Outside
 pub mod Run
 pub mod Sides
+pub mod SidesFresh
 pub mod Streams
 pub mod Throughout
 -- Promised: those rest on these.
