@@ -6,6 +6,7 @@ use Rattle.bench_base.specs.declared.refusals.StoreFail.{StoreFail}
 use Rattle.bench_base.specs.declared.refusals.StoreFail.TheVariants.{Worn}
 use Rattle.bench_base.specs.declared.sizes.TheConstants.{MOST_COMMITS}
 use Rattle.nv_store.specs.Slot.{Held}
+use Rattle.nv_model.specs.Moments.{Stays}
 use Rattle.nv_model.specs.declared.nv.Nv.{Ghosts}
 use Rattle.nv_store.specs.RoomView.{cells_of, kept_in}
 use Rattle.nv_store.specs.Rooms.{RoomCommits}
@@ -108,6 +109,10 @@ on_err : {A E P Q : Type 0} (r : Result A E) → (P → Q) → OnErr r P → OnE
 on_err (Ok x) f h = h
 on_err (Err e) f h = f h
 
+-- a storage that is the same
+same_stays : {N : Type 0} (g : Ghosts N) (before now : N) → now ≡ before → Stays (g.times before) (g.times now)
+same_stays {N} g before now is = subst (λ (s : N). Stays (g.times before) (g.times s)) (sym is) (λ c since. since)
+
 -- cells of a memory, over their storage
 abbrev pub view_of : {N : Type 0} → Ghosts N → {L : ℕ} → Room L → N → RowView
 view_of g room nv = record { cells = cells_of room; held = kept_in room; content = g.content nv; times = g.times nv; meters = g.meters nv }
@@ -141,7 +146,7 @@ module _ {R : Type 0} (decoded : ℕ → List ℕ → Option R) (spelled : ℕ �
         seen_fills (cells_of old) (ReadsAs decoded) (λ j. row_held decoded j (kept_in old j)) (kept_in old) (filled_of decoded (cells_of old) (kept_in old) read) L cell payload (spelled cell x) inside value _ _ _
         (did.fills tells other);
     calls = did.calls;
-    untouched = λ is. (ap (λ (s : N). g.content s) (did.worn is).0, ap (λ (s : N). g.meters s) (did.worn is).0);
+    untouched = λ is. (ap (λ (s : N). g.content s) (did.worn is).0, ap (λ (s : N). g.meters s) (did.worn is).0, same_stays g before now (did.worn is).0);
   }
 
   -- each payload still reads as a row

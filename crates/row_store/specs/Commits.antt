@@ -4,7 +4,7 @@ use Rattle.bench_base.specs.declared.refusals.StoreFail.{StoreFail}
 use Rattle.bench_base.specs.declared.refusals.StoreFail.TheVariants.{Power, Fault, Worn, Failed}
 use Rattle.bench_base.specs.Causes.{Rose}
 use Rattle.nv_model.specs.Meters.{Meters, WasCut, Uses}
-use Rattle.nv_model.specs.Moments.{Times, Elapses}
+use Rattle.nv_model.specs.Moments.{Times, Elapses, Stays}
 use Rattle.nv_store.specs.Fills.{Fills, Told}
 use Rattle.nv_store.specs.Slot.{Held}
 use Rattle.nv_store.specs.Store.{UsesCommit}
@@ -46,4 +46,4 @@ pub record CommitsRow {R : Type 0} (tells : Type 0) (decoded : ℕ → List ℕ 
   pub time : tells → Elapses old.times new.times
   pub fills : tells → (IsErrOf result Worn → ⊥) → Fills (row_fill size (rows_in decoded old) cell (spelled cell x)) (told_in old) (told_in new) (is_ok result)
   pub calls : OnOk result (UsesCommit old.meters.fuse new.meters.fuse)
-  pub untouched : IsErrOf result Worn → (new.content ≡ old.content) × (new.meters ≡ old.meters)
+  pub untouched : IsErrOf result Worn → (new.content ≡ old.content) × (new.meters ≡ old.meters) × Stays old.times new.times

@@ -4,6 +4,7 @@ mod Blank
 mod Following
 mod Holding
 mod Keeping
+mod Meanwhile
 mod Nothing
 mod Payloads
 mod Reading

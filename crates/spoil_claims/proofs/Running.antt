@@ -39,6 +39,7 @@ use Rattle.spoil_claims.proofs.Answering.{all_answered}
 use Rattle.spoil_claims.proofs.Backing.{backed_after, torn_backed}
 use Rattle.spoil_claims.proofs.Following.{follow_all}
 use Rattle.spoil_claims.proofs.Holding.{claims_hold}
+use Rattle.spoil_claims.proofs.Meanwhile.{all_shown}
 use Rattle.spoil_claims.proofs.Stopping.{shows_now, Goes, BreaksBy, IsCutAfter, Ends, all_end}
 use Rattle.desk_runs.proofs.Wanting.{desk_left}
 
@@ -127,6 +128,7 @@ module _ {N : Type 0} (n : Nodes) (own : nv.Ghosts N) (nested : (s : N) → own.
             (all_histories τ n (Begin ∷ L) _ _ (steps_of deeds) did.bench.steps through);
         torn = is_left.torn;
         storage = is_left.storage;
+        throughout = all_shown (StepsBy n) from did.behind deeds did.did;
         holds = λ τ L texts stands tells backed unforged.
             let over = did.bench.over τ L texts stands tells in
             let history = (over.stands unforged).history in
