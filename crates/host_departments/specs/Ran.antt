@@ -49,7 +49,8 @@ AllAssigned rows (d ∷ steps) = PrintsAssigned rows d × AllAssigned rows steps
 -- The departments and the bench did the deeds; each line about departments has its answer, by what was kept then and by what was heard of its message at
 -- that place of the run; a line is left to the bench only as a `print` of an assigned job or as one that is not about departments; and what is kept then is
 -- within the quotas, with each job of one department at most, which each job has that was printed. One commit may have failed: then a later boot finds what
--- is kept without it or with it, which agrees either way; and so it does where the run is killed. By a history for which the bench stood, and where the jobs of earlier runs are backed by it, what is kept at each
+-- is kept without it or with it, which agrees either way. At every moment of the run each image shows what is kept then, or
+-- that with the one commit in hand. By a history for which the bench stood, and where the jobs of earlier runs are backed by it, what is kept at each
 -- line holds by the ledger so far, and `dept spent` is answered by it, up to the first forged event. Where nothing was forged, either holds by the ledger that
 -- the deeds leave.
 pub record DidDepartments (n : Nodes) {N : Type 0} (own : nv.Ghosts N) (old new : World (SceneOf n) (Departments N own)) (outcome : SideStatus) (deeds : List (SideDeed DepartmentLine)) : Type 0 where
