@@ -8,3 +8,4 @@ pub mod Turns
 pub mod Asking
 pub mod Stating
 pub mod Running
+pub mod Nothing

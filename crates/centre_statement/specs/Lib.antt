@@ -6,6 +6,7 @@ pub mod Desk
 pub mod Texts
 pub mod Courses
 pub mod Movements
+pub mod Fresh
 pub mod StatementsDesk
 pub mod Ran
 pub mod Balances

@@ -4,3 +4,4 @@ pub mod Texts
 pub mod Wanting
 pub mod Lines
 pub mod Stores
+pub mod Moving

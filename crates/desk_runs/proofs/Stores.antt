@@ -5,7 +5,7 @@ use Rattle.bench_base.specs.Causes.{Rose}
 use Rattle.bench_base.specs.declared.refusals.StoreFail.{StoreFail}
 use Rattle.bench_base.specs.declared.refusals.StoreFail.TheVariants as fail
 use Rattle.nv_model.specs.Meters.{Meters, WasCut, Uses, Counts}
-use Rattle.nv_model.specs.Moments.{Image, Nested}
+use Rattle.nv_model.specs.Moments.{Image, Nested, Stays}
 use Rattle.nv_model.specs.declared.nv.Nv as nv
 use Rattle.nv_store.specs.Fails.{ends_failed}
 use Rattle.node_acts.specs.RowList.{RowList, put}
@@ -128,9 +128,9 @@ module _ {N R : Type 0} (g : nv.Ghosts N) (decoded : ℕ → List ℕ → Option
 
   -- == one commit ==
 
-  module _ (nested : (s : N) → g.tells → Nested (g.times s)) (c : RowCommit R) (old new : View) (long : old.cells ≡ cells) (works : old.failed ≡ false) where
+  module _ (spelled : ℕ → R → List ℕ) (nested : (s : N) → g.tells → Nested (g.times s)) (c : RowCommit R) (old new : View) (long : old.cells ≡ cells) (works : old.failed ≡ false) where
     abbrev Commits : Result (Unit {0}) StoreFail → Type 0
-    Commits result = CommitsRow g.tells decoded size c.cell c.kept (row_view g decoded old) (row_view g decoded new) result
+    Commits result = CommitsRow g.tells decoded spelled size c.cell c.kept (row_view g decoded old) (row_view g decoded new) result
 
     torn : (result : Result (Unit {0}) StoreFail) → new.failed ≡ true → (result ≡ Err fail.Worn → ⊥) → Caused (meters old) (meters new) → rows new ≡ rows old → Commits result → Breaks c old new
     torn result broke fresh cause stays did = record {
@@ -165,6 +165,39 @@ module _ {N R : Type 0} (g : nv.Ghosts N) (decoded : ℕ → List ℕ → Option
     came_by (Err fail.Power) did failed = torn (Err fail.Power) failed (λ is. cc) (inl (did.power refl)) did.stays did
     came_by (Err fail.Fault) did failed = torn (Err fail.Fault) failed (λ is. cc) (inr (did.fault refl)) did.stays did
     came_by (Err fail.Failed) did failed = absurd (did.not_failed refl)
+
+  -- == meanwhile ==
+
+  abbrev pub Meanwhile : View → View → Type 0
+  Meanwhile old new = stops.ShownMeanwhile g decoded size cells old new
+
+  module _ (old new : View) (shown : old.failed ≡ false → g.tells → (i : List ℕ) → Image (g.times old.storage) i → Shows (rows old) i) where
+    -- where the storage is as it was
+    pub shown_still : new.storage ≡ old.storage → Meanwhile old new
+    shown_still same = record {
+      images = λ tells works i since. inl (shown works tells i (subst (λ (s : N). Stays (g.times old.storage) (g.times s)) (sym same) (λ j here. here) i since));
+    }
+
+    -- where a commit came out
+    module _ (spelled : ℕ → R → List ℕ) (c : RowCommit R) (long : old.cells ≡ cells) where
+      abbrev Tried : Result (Unit {0}) StoreFail → Type 0
+      Tried result = CommitsRow g.tells decoded spelled size c.cell c.kept (row_view g decoded old) (row_view g decoded new) result
+
+      one_of : (result : Result (Unit {0}) StoreFail) → Tried result → (result ≡ Err fail.Worn → ⊥) → (new.failed ≡ false → rows new ≡ put (rows old) c.cell c.kept) → Meanwhile old new
+      one_of result did fresh made = record {
+        images = λ tells works i since.
+            elim (subst (λ (n : ℕ). ShowsRows size n (ReadsAs decoded) (rows old) i ⊎ ShowsRows size n (ReadsAs decoded) (put (rows old) c.cell c.kept) i) long (did.any_moment tells fresh i since)) [
+              | inl before ↦ inl before
+              | inr after ↦ inr (c, made, after)
+            ];
+      }
+
+      pub shown_commit : (result : Result (Unit {0}) StoreFail) → Tried result → new.failed ≡ ends_failed result → Meanwhile old new
+      shown_commit (Ok u) did failed = one_of (Ok u) did (λ is. cc) (λ works. did.done)
+      shown_commit (Err fail.Worn) did failed = record { images = λ tells works i since. inl (shown works tells i ((did.untouched refl).2 i since)) }
+      shown_commit (Err fail.Power) did failed = one_of (Err fail.Power) did (λ is. cc) (λ works. absurd (true≢false (sym failed ∙ works)))
+      shown_commit (Err fail.Fault) did failed = one_of (Err fail.Fault) did (λ is. cc) (λ works. absurd (true≢false (sym failed ∙ works)))
+      shown_commit (Err fail.Failed) did failed = absurd (did.not_failed refl)
 
   -- == a run ==
 

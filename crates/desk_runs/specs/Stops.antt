@@ -45,12 +45,19 @@ module _ {N R : Type 0} (g : Ghosts N) (decoded : ℕ → List ℕ → Option R)
   meters_seen v = g.meters v.storage
 
   abbrev pub row_view : DeskView N → RowView
-  row_view v = record { cells = v.cells; held = v.held; times = g.times v.storage; meters = g.meters v.storage }
+  row_view v = record { cells = v.cells; held = v.held; content = g.content v.storage; times = g.times v.storage; meters = g.meters v.storage }
 
   -- storage and rows are as they were
   pub record IsUntouched (old new : DeskView N) : Type 0 where
     pub storage : new.storage ≡ old.storage
     pub rows : rows_seen new ≡ rows_seen old
+
+  -- At every moment from the one to the other each image shows the rows, or these with the one commit in hand: where none failed, the one that was made.
+  pub record ShownMeanwhile (size cells : ℕ) (old new : DeskView N) : Type 0 where
+    pub images : g.tells → old.failed ≡ false → (i : List ℕ) → (g.times new.storage).since (g.times old.storage).moment i
+        → ShowsRows size cells (ReadsAs decoded) (rows_seen old) i
+        ⊎ ((c : RowCommit R) × (new.failed ≡ false → rows_seen new ≡ with_commit (Some c) (rows_seen old))
+        × ShowsRows size cells (ReadsAs decoded) (with_commit (Some c) (rows_seen old)) i)
 
   -- Whether a commit failed, and which; why; and what each image of the storage shows, which has cells of this size.
   pub record LeavesStorage {L : Type 0} (size cells : ℕ) (old new : DeskView N) (outcome : SideStatus) (deeds : List (SideDeed L)) (commit : Option (RowCommit R)) : Type 0 where

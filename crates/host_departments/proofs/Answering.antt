@@ -29,7 +29,7 @@ use Rattle.host_departments.specs.Courses.{Either, Follows, Says, ByFailed, Trie
 use Rattle.host_departments.specs.DepartmentLines.{IsLine}
 use Rattle.host_departments.specs.DepartmentsDesk.{departments_desk}
 use Rattle.host_departments.specs.Kept.{rows_in}
-use Rattle.host_departments.specs.Payload.{decoded}
+use Rattle.host_departments.specs.Payload.{decoded, spelled}
 use Rattle.host_departments.specs.Rows.{Rows, quota, spent, first_cell}
 use Rattle.host_departments.specs.Texts.{said_texts, numbered, quota_text, assigned_text, again_text, spent_text}
 use Rattle.host_departments.specs.View.{said_of, has_failed, rows_of, store_of, view_of, Rests}
@@ -84,17 +84,17 @@ module _ {N : Type 0} {g : nv.Ghosts N} (nested : (s : N) → g.tells → Nested
       ⊎ ((next ≡ Stop) × Failed (commit_of k x) old new × (rows_of new ≡ rows_of old))
 
   came_out : (k : ℕ) (x : DepartmentRow) (meant : Said) (old : Departments N g) (next : Next) (new : Departments N g) → has_failed old ≡ false → (result : Result (Unit {0}) StoreFail)
-      → CommitsRow g.tells decoded 12 k x (store_of old) (store_of new) result → has_failed new ≡ ends_failed result → Follows result meant (said_of new) next → CameOut k x meant old next new
+      → CommitsRow g.tells decoded spelled 12 k x (store_of old) (store_of new) result → has_failed new ≡ ends_failed result → Follows result meant (said_of new) next → CameOut k x meant old next new
   came_out k x meant old next new works (Ok u) did failed follows =
-      let went = came_by g decoded 12 CELLS nested (commit_of k x) (view_of old) (view_of new) old.cells works (Ok u) did failed in
+      let went = came_by g decoded 12 CELLS spelled nested (commit_of k x) (view_of old) (view_of new) old.cells works (Ok u) did failed in
       inl (follows.1, went, inl (false_from_ne_true (is_worn (rows_of old) k) (λ worn. let wrong : Ok u ≡ Err fail.Worn = did.worn.1 worn in cc), follows.0, did.done))
   came_out k x meant old next new works (Err fail.Worn) did failed follows =
-      let went = came_by g decoded 12 CELLS nested (commit_of k x) (view_of old) (view_of new) old.cells works (Err fail.Worn) did failed in
+      let went = came_by g decoded 12 CELLS spelled nested (commit_of k x) (view_of old) (view_of new) old.cells works (Err fail.Worn) did failed in
       inl (follows.1, went, inr (did.worn.0 refl, follows.0, did.stays))
   came_out k x meant old next new works (Err fail.Power) did failed follows =
-      inr (follows, came_by g decoded 12 CELLS nested (commit_of k x) (view_of old) (view_of new) old.cells works (Err fail.Power) did failed, did.stays)
+      inr (follows, came_by g decoded 12 CELLS spelled nested (commit_of k x) (view_of old) (view_of new) old.cells works (Err fail.Power) did failed, did.stays)
   came_out k x meant old next new works (Err fail.Fault) did failed follows =
-      inr (follows, came_by g decoded 12 CELLS nested (commit_of k x) (view_of old) (view_of new) old.cells works (Err fail.Fault) did failed, did.stays)
+      inr (follows, came_by g decoded 12 CELLS spelled nested (commit_of k x) (view_of old) (view_of new) old.cells works (Err fail.Fault) did failed, did.stays)
   came_out k x meant old next new works (Err fail.Failed) did failed follows = absurd (did.not_failed refl)
 
   tried : (k : ℕ) (x : DepartmentRow) (meant : Said) (old : Departments N g) (next : Next) (new : Departments N g) → Tries k x meant old next new → CameOut k x meant old next new

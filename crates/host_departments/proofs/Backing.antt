@@ -84,13 +84,13 @@ pub with_failed : (rows : Rows) (H : Ledger) (failed : Option CellCommit) → Ar
 with_failed rows H None b is = b
 with_failed rows H (Some c) b is = backed_put rows H c.cell c.kept b is
 
-begun : (rows : Rows) (L : Ledger) → AreBacked rows L → AreBacked rows (Begin ∷ L)
+pub begun : (rows : Rows) (L : Ledger) → AreBacked rows L → AreBacked rows (Begin ∷ L)
 begun rows L b k j p is = ordered_entry j p Begin L (b k j p is)
 
 module _ (τ : Tariff) where
   -- == an order that counts goes on counting ==
 
-  kept_by : (H : Ledger) (d : Done) (j a : ℕ) → ordered_postage j (counted H) ≡ Some a → ordered_postage j (counted (ledger_by τ H d)) ≡ Some a
+  pub kept_by : (H : Ledger) (d : Done) (j a : ℕ) → ordered_postage j (counted H) ≡ Some a → ordered_postage j (counted (ledger_by τ H d)) ≡ Some a
   kept_by H d j a is = ordered_kept j a (plan τ todays_rules H d.event d.text) (told_by d.reply) H is
 
   kept_after : (H : Ledger) (steps : List Done) (j a : ℕ) → ordered_postage j (counted H) ≡ Some a → ordered_postage j (counted (ledger_after τ H steps)) ≡ Some a
@@ -112,7 +112,7 @@ module _ (τ : Tariff) where
   after_both H (d ∷ a) b = after_both (ledger_by τ H d) a b
 
   module _ (n : Nodes) (texts : IsOfTexts τ) (tells : n.storage.tells) (today : Editions editions) where
-    did_events : (s : SceneOf n) (steps : List Done) (asked : List _) (t : SceneOf n) → AreDone (StepsBy n) s steps asked t → DidEvents n s t steps
+    pub did_events : (s : SceneOf n) (steps : List Done) (asked : List _) (t : SceneOf n) → AreDone (StepsBy n) s steps asked t → DidEvents n s t steps
     did_events s [] [] t done = done
     did_events s [] (x ∷ asked) t done = absurd done
     did_events s (d ∷ steps) [] t done = absurd done
@@ -151,7 +151,7 @@ module _ (τ : Tariff) where
       abbrev Now : Ledger
       Now = ledger_after τ H steps
 
-      still : AreBacked rows Now
+      pub still : AreBacked rows Now
       still k j p is = kept_after H steps j p (b k j p is)
 
       module _ (a : Answer) (done : AreDone (StepsBy n) s steps a.asked t) where
@@ -190,7 +190,7 @@ module _ (τ : Tariff) where
         by_quota d None known more told = same told.rests
         by_quota d (Some q) known more did = more q did
 
-        answered : (own : DepartmentLine) → IsAnswered own rows a → AreBacked a.after Now
+        pub answered : (own : DepartmentLine) → IsAnswered own rows a → AreBacked a.after Now
         answered (Quota d q) did = quota_set d q (nat_lt q (spent rows d)) (numbered (codes "refused dept below spent") (spent rows d)) did
         answered (Assign d j) did = by_quota d (quota rows d) (λ q x. IsAssignTold d j q rows x) (λ q told. assigned d j q told) did
         answered (Spent d) did = by_quota d (quota rows d) (λ q x. IsTold (spent_text d (spent rows d) q) rows x) (λ q told. same told.rests) did

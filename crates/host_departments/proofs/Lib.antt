@@ -1,5 +1,7 @@
 pub mod Payloads
 pub mod Keeping
+pub mod Meanwhile
+pub mod Nothing
 pub mod Sums
 pub mod Places
 pub mod Puts
@@ -8,6 +10,8 @@ pub mod Taking
 pub mod Answering
 pub mod Printing
 pub mod Backing
+pub mod Blank
+pub mod Following
 pub mod Holding
 pub mod Indexing
 pub mod Showing

@@ -34,7 +34,9 @@ use Rattle.host_departments.specs.declared.row.TheConstants.{CELLS}
 use Rattle.host_departments.proofs.Answering.{all_answered}
 use Rattle.host_departments.proofs.Backing.{backed_after}
 use Rattle.host_departments.proofs.Cutting.{desk_sound}
+use Rattle.host_departments.proofs.Following.{follow_all}
 use Rattle.host_departments.proofs.Holding.{departments_hold}
+use Rattle.host_departments.proofs.Meanwhile.{all_shown}
 use Rattle.host_departments.proofs.Places.{one_department}
 use Rattle.host_departments.proofs.Printing.{prints_by, all_printed}
 use Rattle.host_departments.proofs.Showing.{shows_now}
@@ -60,7 +62,12 @@ module _ {N : Type 0} (n : Nodes) (own : nv.Ghosts N) (nested : (s : N) → own.
         side = did;
         failed = all.0;
         answers = answers;
+        follows = λ τ L texts stands tells backed.
+            let between = first_between n τ (Begin ∷ L) _ _ (steps_of deeds) did.bench.steps (did.bench.throughout τ L texts stands tells) in
+            let begins : StandsFor n τ did.begun (Begin ∷ L) = subst (λ (b : BenchOf n). StandsFor n τ b (Begin ∷ L)) did.same between.stands in
+            follow_all τ n texts tells today L from.scene (rows_of old.desk) deeds did.behind.scene (rows_of new.desk) all.0 begins backed answers;
         storage = leaves own decoded 12 CELLS (view_of old.desk) (view_of new.desk) outcome deeds at.stops (λ works tells c image. shows_now new.desk works tells c image) all.0 ends;
+        throughout = all_shown (StepsBy n) from did.behind deeds did.did;
         within = λ d is. (new.desk.sound.each d is).1;
         one = λ d e j is_d is_e has has'. one_department (rows_of new.desk) new.desk.sound d e j is_d is_e has has';
         agrees = desk_sound (StepsBy n) new.desk from.scene (rows_of old.desk) deeds did.behind.scene all.0 at.last answers;

@@ -10,7 +10,7 @@ use Rattle.desk_runs.specs.declared.desk.Next.{Next}
 use Rattle.desk_runs.specs.declared.desk.Next.TheVariants.{Step, Say, Stop}
 use Rattle.row_store.specs.Commits.{CommitsRow}
 use Rattle.host_departments.specs.Heard.{IsTaken}
-use Rattle.host_departments.specs.Payload.{decoded}
+use Rattle.host_departments.specs.Payload.{decoded, spelled}
 use Rattle.host_departments.specs.Rows.{quota, spent, first_cell, Has, AnotherHas, IsAssigned, HasJobs}
 use Rattle.host_departments.specs.View.{said_of, has_failed, rows_of, store_of, Rests}
 use Rattle.host_departments.specs.declared.row.DepartmentLine.{DepartmentLine}
@@ -44,7 +44,7 @@ module _ {N : Type 0} {g : Ghosts N} where
   -- a commit of this row to cell k
   pub record Commits (k : ℕ) (x : DepartmentRow) (meant : Said) (old : Departments N g) (next : Next) (new : Departments N g) : Type 0 where
     pub result : Result (Unit {0}) StoreFail
-    pub commits : CommitsRow g.tells decoded 12 k x (store_of old) (store_of new) result
+    pub commits : CommitsRow g.tells decoded spelled 12 k x (store_of old) (store_of new) result
     pub failed : has_failed new ≡ ends_failed result
     pub follows : Follows result meant (said_of new) next
 

@@ -3,6 +3,8 @@ pub mod Answers
 pub mod Courses
 pub mod DepartmentLines
 pub mod DepartmentsDesk
+pub mod Follows
+pub mod Fresh
 pub mod Heard
 pub mod Holds
 pub mod Index

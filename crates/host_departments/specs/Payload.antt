@@ -13,6 +13,11 @@ cell_table = Four ∷ Four ∷ Four ∷ []
 unfoldable pub cell_bytes : ℕ → ℕ → ℕ → List ℕ
 cell_bytes a b c = row cell_table (a ∷ b ∷ c ∷ [])
 
+-- the 12 bytes that are written for a row in cell k
+abbrev pub spelled : ℕ → DepartmentRow → List ℕ
+spelled k (Quota q) = cell_bytes (k + 1) q 0
+spelled k (Job j p) = cell_bytes j (department_of k) p
+
 -- cell k of the first 16: its department, the quota, and zeros
 unfoldable pub quota_from : ℕ → List ℕ → Option DepartmentRow
 quota_from k vs = if get_or vs 0 0 == k + 1 then (if get_or vs 2 0 == 0 then Some (Quota (get_or vs 1 0)) else None) else None

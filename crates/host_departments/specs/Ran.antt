@@ -9,9 +9,10 @@ use Rattle.bench_views.specs.Tariff.{IsOfTexts}
 use Rattle.bench.specs.Benches.{Nodes}
 use Rattle.line_runs.specs.declared.status.SideStatus.{SideStatus}
 use Rattle.desk_runs.specs.Deeds.{Done}
-use Rattle.desk_runs.specs.Desks.{World}
+use Rattle.desk_runs.specs.Desks.{World, world}
+use Rattle.desk_runs.specs.Moves.{EachMove}
 use Rattle.desk_runs.specs.SideDeeds.{SideDeed, steps_of}
-use Rattle.desk_runs.specs.Stops.{LeavesStorage, with_commit}
+use Rattle.desk_runs.specs.Stops.{LeavesStorage, ShownMeanwhile, with_commit}
 use Rattle.script_replay.specs.Chains.{SceneOf, scene}
 use Rattle.script_replay.specs.Deeds.{ledger_after, AreUnforged}
 use Rattle.script_replay.specs.Run.{Unforged}
@@ -19,6 +20,7 @@ use Rattle.script_replay.specs.Sides.{StepsBy, DidSide}
 use Rattle.script_replay.specs.Throughout.{StandsFor}
 use Rattle.host_departments.specs.Answers.{CellCommit, AreAnswered}
 use Rattle.host_departments.specs.DepartmentsDesk.{departments_desk}
+use Rattle.host_departments.specs.Follows.{FollowLedger}
 use Rattle.host_departments.specs.Holds.{AreBacked, DepartmentsHold}
 use Rattle.host_departments.specs.Payload.{decoded}
 use Rattle.host_departments.specs.Rows.{Rows, IsDepartment, Has, IsAssigned, quota, or_zero, spent, IsSound}
@@ -47,13 +49,19 @@ AllAssigned rows (d ∷ steps) = PrintsAssigned rows d × AllAssigned rows steps
 -- The departments and the bench did the deeds; each line about departments has its answer, by what was kept then and by what was heard of its message at
 -- that place of the run; a line is left to the bench only as a `print` of an assigned job or as one that is not about departments; and what is kept then is
 -- within the quotas, with each job of one department at most, which each job has that was printed. One commit may have failed: then a later boot finds what
--- is kept without it or with it, which agrees either way. By a history for which the bench stood, and where the jobs of earlier runs are backed by it and nothing was forged, either
--- holds by the ledger that the deeds leave.
+-- is kept without it or with it, which agrees either way. At every moment of the run each image shows what is kept then, or
+-- that with the one commit in hand. By a history for which the bench stood, and where the jobs of earlier runs are backed by it, what is kept at each
+-- line holds by the ledger so far, and `dept spent` is answered by it, up to the first forged event. Where nothing was forged, either holds by the ledger that
+-- the deeds leave.
 pub record DidDepartments (n : Nodes) {N : Type 0} (own : nv.Ghosts N) (old new : World (SceneOf n) (Departments N own)) (outcome : SideStatus) (deeds : List (SideDeed DepartmentLine)) : Type 0 where
   pub side : DidSide n (departments_desk own) old new outcome deeds
   pub failed : Option CellCommit
   pub answers : AreAnswered (StepsBy n) (scene side.begun old.scene.outside) (rows_of old.desk) deeds side.behind.scene (rows_of new.desk) failed
+  pub follows : (τ : Tariff) (L : Ledger) → IsOfTexts τ → StandsFor n τ old.scene.bench L → n.storage.tells → AreBacked (rows_of old.desk) L
+      → FollowLedger (StepsBy n) τ (Begin ∷ L) (scene side.begun old.scene.outside) (rows_of old.desk) deeds side.behind.scene (rows_of new.desk) failed answers
   pub storage : LeavesStorage own decoded 12 CELLS (view_of old.desk) (view_of new.desk) outcome deeds failed
+  pub throughout : EachMove (departments_desk own) (StepsBy n) (λ s t. ShownMeanwhile own decoded 12 CELLS (view_of s) (view_of t)) (world (scene side.begun old.scene.outside) old.desk)
+      side.behind deeds side.did
   pub within : IsWithinQuotas (rows_of new.desk)
   pub one : IsOfOne (rows_of new.desk)
   pub agrees : IsSound (with_commit failed (rows_of new.desk))

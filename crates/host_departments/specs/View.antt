@@ -2,6 +2,7 @@
 use Rattle.std.specs.Prelude.{◌≡◌, Bool}
 use Rattle.nv_model.specs.declared.nv.Nv.{Ghosts}
 use Rattle.nv_store.specs.RoomView.{cells_of, kept_in}
+use Rattle.nv_store.specs.declared.room.Room.{Room}
 use Rattle.row_store.specs.Commits.{RowView}
 use Rattle.desk_runs.specs.Stops.{DeskView}
 use Rattle.host_departments.specs.Kept.{rows_in}
@@ -13,6 +14,10 @@ module _ {N : Type 0} {g : Ghosts N} where
   -- their storage
   abbrev pub storage_of : Departments N g → N
   storage_of desk = desk.nv
+
+  -- their memory
+  abbrev pub room_of : Departments N g → Room 12
+  room_of desk = desk.room
 
   -- whether a commit of them failed
   abbrev pub has_failed : Departments N g → Bool
@@ -28,7 +33,7 @@ module _ {N : Type 0} {g : Ghosts N} where
 
   -- their cells and storage
   abbrev pub store_of : Departments N g → RowView
-  store_of desk = record { cells = cells_of desk.room; held = kept_in desk.room; times = g.times desk.nv; meters = g.meters desk.nv }
+  store_of desk = record { cells = cells_of desk.room; held = kept_in desk.room; content = g.content desk.nv; times = g.times desk.nv; meters = g.meters desk.nv }
 
   -- whether a commit failed, the storage, and what is kept of each cell
   abbrev pub view_of : Departments N g → DeskView N

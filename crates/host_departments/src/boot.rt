@@ -1,14 +1,14 @@
-//! The departments out of their storage.
-ghost use Rattle.std.specs.Prelude.{◌≡◌, ◌≢◌, ℕ, List, Some, None, IfOk, IfErr, MatchResult, false};
-ghost use Rattle.nv_model.specs.Moments.{Image};
+//! The departments out of their storage, and the storage given back.
+ghost use Rattle.std.specs.Prelude.{◌≡◌, ◌≢◌, ℕ, List, Some, None, IfOk, IfErr, MatchResult, false, replicate};
+ghost use Rattle.nv_model.specs.Moments.{Image, Only};
 ghost use Rattle.nv_store.specs.Mounts.{Mounts};
 ghost use Rattle.nv_store.specs.RoomView.{cells_of};
 ghost use Rattle.row_store.specs.Boots.{BootCauses};
 ghost use Rattle.row_store.specs.Seen.{ReadsAs};
 ghost use Rattle.row_node.specs.Shows.{ShowsRows, IsDamagedTable};
 ghost use Rattle.host_departments.specs.Payload.{decoded};
-ghost use Rattle.host_departments.specs.Rows.{IsSound};
-ghost use Rattle.host_departments.specs.View.{storage_of, has_failed, rows_of};
+ghost use Rattle.host_departments.specs.Rows.{IsSound, row_in};
+ghost use Rattle.host_departments.specs.View.{storage_of, room_of, has_failed, rows_of};
 ghost use Rattle.host_departments.specs.declared.row.TheConstants.{CELLS};
 
 use crate::desk::Departments;
@@ -41,6 +41,10 @@ impl<N: Nv> Departments<N> {
             → MatchResult result (λ d. Mounts (N.times nv) (N.times (storage_of d)))
             (λ e. Mounts (N.times nv) (N.times e.0)) }
 
+        // Blank storage has no quota and no job.
+        ensures blank { N.tells → (bytes : ℕ) → Only (N.times nv) (replicate bytes 0)
+            → IfOk result (λ d. (k : ℕ) → row_in (rows_of d) k ≡ None) }
+
         // Why it fails, and what it costs.
         ensures size { N.size nv ≢ 35360 → IfErr result (λ e. (e.0 ≡ nv) × (e.2 ≡ BootFail.Damaged)) }
         ensures damaged { N.tells
@@ -66,5 +70,21 @@ impl<N: Nv> Departments<N> {
             }
             Err(fail) => Err((nv, room, fail)),
         }
+    }
+
+    /// Gives the storage and the memory back, as they are. After a commit that failed the storage is restarted before it is booted again.
+    pub fn shut(self) -> (N, Room<12>)
+        ensures storage { result.0 ≡ storage_of self }
+        ensures room { result.1 ≡ room_of self }
+        ensures cells { cells_of result.1 ≡ CELLS }
+    {
+        let Departments {
+            nv,
+            room,
+            failed: _,
+            said: _,
+            index: _,
+        } = self;
+        (nv, room)
     }
 }

@@ -1,6 +1,7 @@
 //! Laws of the definitions: each is the contract of a call that does nothing.
-ghost use Rattle.std.specs.Prelude.{◌≡◌, ℕ, List, None, length};
+ghost use Rattle.std.specs.Prelude.{◌≡◌, ℕ, List, None, length, replicate};
 ghost use Rattle.bench_base.specs.Ledger.{Ledger};
+ghost use Rattle.node_acts.specs.RowList.{row_at};
 ghost use Rattle.row_store.specs.Seen.{ReadsAs};
 ghost use Rattle.row_node.specs.Shows.{ShowsRows};
 ghost use Rattle.host_departments.specs.Holds.{AreBacked};
@@ -25,4 +26,13 @@ pub fn one_list_is_shown()
     ensures { (a b : Rows) (image : List ℕ) → length a ≡ CELLS → length b ≡ CELLS
         → ShowsRows 12 CELLS (ReadsAs decoded) a image → ShowsRows 12 CELLS (ReadsAs decoded) b image
         → a ≡ b }
+{}
+
+/// Blank storage shows the empty list. Zeros, however many, show cells of which none has a quota or a job (`shows`); and no list of 1,040
+/// cells that they show has one (`none`).
+pub fn blank_shows_no_rows()
+    ensures shows { (rows : Rows) (bytes : ℕ) → ((k : ℕ) → row_at rows k ≡ None)
+        → ShowsRows 12 CELLS (ReadsAs decoded) rows (replicate bytes 0) }
+    ensures none { (rows : Rows) (bytes : ℕ) → length rows ≡ CELLS
+        → ShowsRows 12 CELLS (ReadsAs decoded) rows (replicate bytes 0) → (k : ℕ) → row_in rows k ≡ None }
 {}

@@ -4,6 +4,7 @@
 mod boot;
 mod courses;
 mod desk;
+pub mod fresh;
 mod heard;
 mod index;
 mod kept;

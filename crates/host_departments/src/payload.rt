@@ -91,6 +91,8 @@ impl Rows<12> for DepartmentRows {
 
     ghost decoded = { layout.decoded };
 
+    ghost spelled = { layout.spelled };
+
     ghost IsFit = { layout.IsFit };
 
     ghost IsSound = { rows.IsSound };

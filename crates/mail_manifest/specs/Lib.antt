@@ -3,6 +3,7 @@ pub mod Answers
 pub mod Causes
 pub mod CheckerDesk
 pub mod Courses
+pub mod Fresh
 pub mod Held
 pub mod Holds
 pub mod Listings

@@ -3,6 +3,7 @@
 
 mod checker;
 mod courses;
+pub mod fresh;
 mod lines;
 mod manifest;
 mod opening;

@@ -2,6 +2,8 @@
 #![tactic(auto)]
 
 #[cfg(test)]
+mod desk_rows;
+#[cfg(test)]
 mod fault_rows;
 #[cfg(test)]
 mod ordinary_path;

@@ -6,6 +6,7 @@ use Rattle.bench_base.specs.declared.refusals.StoreFail.{StoreFail}
 use Rattle.bench_base.specs.declared.refusals.StoreFail.TheVariants.{Worn}
 use Rattle.bench_base.specs.declared.sizes.TheConstants.{MOST_COMMITS}
 use Rattle.nv_store.specs.Slot.{Held}
+use Rattle.nv_model.specs.Moments.{Stays}
 use Rattle.nv_model.specs.declared.nv.Nv.{Ghosts}
 use Rattle.nv_store.specs.RoomView.{cells_of, kept_in}
 use Rattle.nv_store.specs.Rooms.{RoomCommits}
@@ -13,7 +14,7 @@ use Rattle.nv_store.specs.Store.{Between, after_commit, count_of, payload_of}
 use Rattle.nv_store.specs.declared.room.Room.{Room}
 use Rattle.node_acts.specs.RowList.{row_at, row_of, commits_at, is_worn, put}
 use Rattle.node_acts.specs.RowLaws.{listed_same, worn_is}
-use Rattle.row_node.specs.Kept.{IsFilled, AreFilled, with_count, seen_row, seen_count, seen_put, between_seen}
+use Rattle.row_node.specs.Kept.{IsFilled, AreFilled, with_count, seen_row, seen_count, seen_fills, seen_put, between_seen}
 use Rattle.row_node.specs.Shows.{ShowsRows}
 use Rattle.row_store.specs.Seen.{ReadsAs, row_held, IsRead, AllRead, seen_in}
 use Rattle.row_store.specs.Commits.{RowView, CommitsRow}
@@ -108,13 +109,17 @@ on_err : {A E P Q : Type 0} (r : Result A E) → (P → Q) → OnErr r P → OnE
 on_err (Ok x) f h = h
 on_err (Err e) f h = f h
 
+-- a storage that is the same
+same_stays : {N : Type 0} (g : Ghosts N) (before now : N) → now ≡ before → Stays (g.times before) (g.times now)
+same_stays {N} g before now is = subst (λ (s : N). Stays (g.times before) (g.times s)) (sym is) (λ c since. since)
+
 -- cells of a memory, over their storage
 abbrev pub view_of : {N : Type 0} → Ghosts N → {L : ℕ} → Room L → N → RowView
-view_of g room nv = record { cells = cells_of room; held = kept_in room; times = g.times nv; meters = g.meters nv }
+view_of g room nv = record { cells = cells_of room; held = kept_in room; content = g.content nv; times = g.times nv; meters = g.meters nv }
 
-module _ {R : Type 0} (decoded : ℕ → List ℕ → Option R) {N : Type 0} (g : Ghosts N) {L : ℕ} (cell : ℕ) (x : R) (payload : List ℕ) (old new : Room L) (before now : N)
+module _ {R : Type 0} (decoded : ℕ → List ℕ → Option R) (spelled : ℕ → R → List ℕ) {N : Type 0} (g : Ghosts N) {L : ℕ} (cell : ℕ) (x : R) (payload : List ℕ) (old new : Room L) (before now : N)
     (result : Result (Unit {0}) StoreFail) (did : RoomCommits g cell payload old new before now result) (inside : cell < cells_of old) (read : AllRead decoded (cells_of old) (kept_in old))
-    (reads : decoded cell payload ≡ Some x) where
+    (reads : decoded cell payload ≡ Some x) (value : payload ≡ spelled cell x) where
   -- as many cells as before
   now_seen : seen_in decoded (cells_of new) (kept_in new) ≡ seen_in decoded (cells_of old) (kept_in new)
   now_seen = ap (λ (n : ℕ). seen_in decoded n (kept_in new)) did.puts.cells
@@ -124,7 +129,7 @@ module _ {R : Type 0} (decoded : ℕ → List ℕ → Option R) {N : Type 0} (g 
       let here = worn_here decoded (cells_of old) (kept_in old) (kept_in new) read cell inside did.puts.others in
       (λ is. here.1 (w.0 is).1, λ h. w.1 (refl, here.0 h))
 
-  pub commits_row : CommitsRow g.tells decoded L cell x (view_of g old before) (view_of g new now) result
+  pub commits_row : CommitsRow g.tells decoded spelled L cell x (view_of g old before) (view_of g new now) result
   commits_row = record {
     done = on_ok result (λ here. now_seen ∙ seen_after decoded (cells_of old) (kept_in old) (kept_in new) read cell inside did.puts.others x payload reads here) did.puts.here;
     stays = on_err result (λ here. now_seen ∙ seen_still decoded (cells_of old) (kept_in old) (kept_in new) read cell inside did.puts.others here) did.puts.unchanged;
@@ -137,6 +142,11 @@ module _ {R : Type 0} (decoded : ℕ → List ℕ → Option R) {N : Type 0} (g 
     fuse = did.causes.fuse;
     any_moment = λ tells other c since. between decoded (cells_of old) (kept_in old) (kept_in new) read cell inside did.puts.others x payload reads L c (did.any_moment tells other c since);
     time = did.time;
+    fills = λ tells other.
+        seen_fills (cells_of old) (ReadsAs decoded) (λ j. row_held decoded j (kept_in old j)) (kept_in old) (filled_of decoded (cells_of old) (kept_in old) read) L cell payload (spelled cell x) inside value _ _ _
+        (did.fills tells other);
+    calls = did.calls;
+    untouched = λ is. (ap (λ (s : N). g.content s) (did.worn is).0, ap (λ (s : N). g.meters s) (did.worn is).0, same_stays g before now (did.worn is).0);
   }
 
   -- each payload still reads as a row

@@ -1,2 +1,3 @@
+pub mod Blank
 mod Booted
 pub mod Kept

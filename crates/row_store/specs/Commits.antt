@@ -1,28 +1,37 @@
 -- What a commit of a row leaves.
-use Rattle.std.specs.Prelude.{◌≡◌, ◌↔◌, ◌⊎◌, ◌≤◌, ℕ, List, Option, true, Result, OnOk, OnErr, IsErrOf}
+use Rattle.std.specs.Prelude.{◌≡◌, ◌↔◌, ◌⊎◌, ◌≤◌, ℕ, List, Option, true, Result, OnOk, OnErr, IsErrOf, is_ok}
 use Rattle.bench_base.specs.declared.refusals.StoreFail.{StoreFail}
 use Rattle.bench_base.specs.declared.refusals.StoreFail.TheVariants.{Power, Fault, Worn, Failed}
 use Rattle.bench_base.specs.Causes.{Rose}
 use Rattle.nv_model.specs.Meters.{Meters, WasCut, Uses}
-use Rattle.nv_model.specs.Moments.{Times, Elapses}
+use Rattle.nv_model.specs.Moments.{Times, Elapses, Stays}
+use Rattle.nv_store.specs.Fills.{Fills, Told}
 use Rattle.nv_store.specs.Slot.{Held}
+use Rattle.nv_store.specs.Store.{UsesCommit}
 use Rattle.node_acts.specs.RowList.{RowList, is_worn, put}
-use Rattle.row_node.specs.Shows.{ShowsRows}
+use Rattle.row_node.specs.Shows.{ShowsRows, row_fill}
 use Rattle.row_store.specs.Seen.{ReadsAs, seen_in}
 
 -- cells as contracts see them: what is kept of each, and their storage
 pub record RowView : Type 1 where
   pub cells : ℕ
   pub held : ℕ → Option Held
+  pub content : List ℕ
   pub times : Times
   pub meters : Meters
+
+-- what their storage tells
+abbrev pub told_in : RowView → Told
+told_in v = record { content = v.content; times = v.times; meters = v.meters }
 
 -- the rows of the cells, with their counts
 abbrev pub rows_in : {R : Type 0} → (ℕ → List ℕ → Option R) → RowView → RowList R
 rows_in decoded v = seen_in decoded v.cells v.held
 
--- A commit of a row to a cell: done, or found worn, or broken off. At every moment each image shows the rows before it or those after it.
-pub record CommitsRow {R : Type 0} (tells : Type 0) (decoded : ℕ → List ℕ → Option R) (size cell : ℕ) (x : R) (old new : RowView) (result : Result (Unit {0}) StoreFail) : Type 0 where
+-- A commit of a row to a cell: done, or found worn, or broken off. At every moment each image shows the rows before it or those after it. Unless the cell
+-- is worn it fills the slot whose turn it is, with the one spelling of the row; and where it was made it used four calls or six. A worn cell's storage is not
+-- called.
+pub record CommitsRow {R : Type 0} (tells : Type 0) (decoded : ℕ → List ℕ → Option R) (spelled : ℕ → R → List ℕ) (size cell : ℕ) (x : R) (old new : RowView) (result : Result (Unit {0}) StoreFail) : Type 0 where
   pub done : OnOk result (rows_in decoded new ≡ put (rows_in decoded old) cell x)
   pub stays : OnErr result (rows_in decoded new ≡ rows_in decoded old)
   pub not_failed : IsErrOf result Failed → ⊥
@@ -35,3 +44,6 @@ pub record CommitsRow {R : Type 0} (tells : Type 0) (decoded : ℕ → List ℕ 
   pub any_moment : tells → (IsErrOf result Worn → ⊥) → (c : List ℕ) → new.times.since old.times.moment c
       → ShowsRows size old.cells (ReadsAs decoded) (rows_in decoded old) c ⊎ ShowsRows size old.cells (ReadsAs decoded) (put (rows_in decoded old) cell x) c
   pub time : tells → Elapses old.times new.times
+  pub fills : tells → (IsErrOf result Worn → ⊥) → Fills (row_fill size (rows_in decoded old) cell (spelled cell x)) (told_in old) (told_in new) (is_ok result)
+  pub calls : OnOk result (UsesCommit old.meters.fuse new.meters.fuse)
+  pub untouched : IsErrOf result Worn → (new.content ≡ old.content) × (new.meters ≡ old.meters) × Stays old.times new.times

@@ -15,6 +15,9 @@ pub trait Rows<const L: usize> {
     /// The row that the payload of a cell reads as.
     ghost decoded: { ℕ → List ℕ → Option Self.Row };
 
+    /// The payload that is written for a row in a cell.
+    ghost spelled: { ℕ → Self.Row → List ℕ };
+
     /// The row may stand in this cell.
     ghost IsFit: { ℕ → Self.Row → Type 0 };
 
@@ -28,7 +31,8 @@ pub trait Rows<const L: usize> {
     /// The payload of a row.
     fn write(cell: u32, kept: &Self::Row) -> [u8; L]
         requires fits { IsFit cell kept.now }
-        ensures { decoded cell result ≡ Some kept.now };
+        ensures reads { decoded cell result ≡ Some kept.now }
+        ensures value { result ≡ spelled cell kept.now };
 
     /// Whether the rows of so many cells agree.
     fn agree(room: &Room<L>, cells: u32) -> bool

@@ -26,8 +26,9 @@ pub fn row_in<W: Rows<L>, const L: usize>(room: &Room<L>, cell: u32) -> Option<W
     }
 }
 
-/// Commits a row to a cell. Worn where the cell has 4,294,967,295 commits; else Power and Fault, where the storage failed. The
-/// caller must not commit again once this answered Power or Fault.
+/// Commits a row to a cell: its payload goes to the slot whose turn it is, by four or six calls of the storage. Worn where the cell has
+/// 4,294,967,295 commits; else Power and Fault, where the storage failed. The caller must not commit again once this answered Power or
+/// Fault.
 pub fn commit_row<W: Rows<L>, N: Nv, const L: usize>(
     nv: &mut N,
     room: &mut Room<L>,
@@ -42,10 +43,11 @@ pub fn commit_row<W: Rows<L>, N: Nv, const L: usize>(
     ensures cells { cells_of room.new ≡ cells_of room.old }
     ensures filled { AllRead W.decoded (cells_of room.new) (kept_in room.new) }
     ensures runs { ends_failed result ≡ false → RoomRuns N.Nv room.new nv.new }
-    ensures commits { CommitsRow N.tells W.decoded L cell row.now
+    ensures commits { CommitsRow N.tells W.decoded W.spelled L cell row.now
         (record {
           cells = cells_of room.old;
           held = kept_in room.old;
+          content = N.content nv.old;
           times = N.times nv.old;
           meters = N.meters
               nv.old;
@@ -53,6 +55,7 @@ pub fn commit_row<W: Rows<L>, N: Nv, const L: usize>(
         (record {
           cells = cells_of room.new;
           held = kept_in room.new;
+          content = N.content nv.new;
           times = N.times nv.new;
           meters = N.meters
               nv.new;

@@ -14,4 +14,6 @@ mod Reports
 mod Running
 mod Sides
 mod Moments
+pub mod Nothing
 mod Stores
+pub mod Whiles

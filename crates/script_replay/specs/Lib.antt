@@ -6,6 +6,7 @@ pub mod Headline
 pub mod Outside
 pub mod Run
 pub mod Sides
+pub mod SidesFresh
 pub mod Streams
 pub mod Throughout
 -- Promised: those rest on these.

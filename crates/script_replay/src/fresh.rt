@@ -26,7 +26,8 @@ const CALLS: u32 = 12_000;
 /// The room in written bytes: a commit of a device writes 215 by six calls, and one of the other nodes fewer.
 const BYTES: u32 = 430_000;
 
-fn blank(alloc: Global, bytes: u32) -> Option<MemNv>
+/// A storage in memory of so many zero bytes, with room for 12,000 calls and 430,000 written bytes. `None` if there is no memory for it.
+pub fn fresh_store(alloc: Global, bytes: u32) -> Option<MemNv>
     ensures { IfSome result (λ nv. IsFresh ⟦<MemNv as Nv>⟧ bytes nv) }
 {
     let content = vec![in alloc; 0; bytes as usize].ok()?;
@@ -42,12 +43,31 @@ fn blanks(alloc: Global) -> Option<Vec<MemNv>>
 {
     let mut stores = Vec::with_capacity(alloc, 8).ok()?;
     for i in 0..8_u32 {
-        match stores.push(blank(alloc, DEVICE_BYTES)?) {
+        match stores.push(fresh_store(alloc, DEVICE_BYTES)?) {
             Ok(()) => {}
             Err(_) => return None,
         }
     }
     Some(stores)
+}
+
+/// A bench over such storages, on which nothing was done. `None` if there is no memory for it.
+pub fn fresh_bench(alloc: Global) -> Option<Bench<MemNv>>
+    ensures ready { IfSome result (λ bench. IsReady (bench_of bench)) }
+    ensures tells { IfSome result (λ bench. ⟦<MemNv as Nv>⟧.tells) }
+    ensures stands { IfSome result (λ bench. Stands ⟦<Bench<MemNv> as HasNodes>⟧.nodes (bench_of bench) []) }
+    ensures made { IfSome result (λ bench. IsOverFresh (bench_of bench)) }
+{
+    let stores = Stores {
+        devices: blanks(alloc)?,
+        centre: fresh_store(alloc, CENTRE_BYTES)?,
+        host: fresh_store(alloc, HOST_BYTES)?,
+        verifier: fresh_store(alloc, VERIFIER_BYTES)?,
+    };
+    match Bench::new(alloc, stores) {
+        Ok(bench) => Some(bench),
+        Err(_) => None,
+    }
 }
 
 // The run over a bench on which nothing was done.
@@ -104,14 +124,8 @@ pub fn run_fresh<S: BufSource, K: Sink>(
         (streams_of S.Source K.Sink ⟦<MemSource as Source>⟧ ⟦<MemSink as Sink>⟧
         script.new report.new rates.new printer.new)) }
 {
-    let stores = Stores {
-        devices: blanks(alloc)?,
-        centre: blank(alloc, CENTRE_BYTES)?,
-        host: blank(alloc, HOST_BYTES)?,
-        verifier: blank(alloc, VERIFIER_BYTES)?,
-    };
-    match Bench::new(alloc, stores) {
-        Ok(bench) => Some(run_over(alloc, words, script, rates, report, printer, bench)),
-        Err(_) => None,
+    match fresh_bench(alloc) {
+        Some(bench) => Some(run_over(alloc, words, script, rates, report, printer, bench)),
+        None => None,
     }
 }

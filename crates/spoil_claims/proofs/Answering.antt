@@ -28,7 +28,7 @@ use Rattle.spoil_claims.specs.ClaimsDesk.{claims_desk}
 use Rattle.spoil_claims.specs.Courses.{Either, row_for, as_credited, scan_of, Follows, Says, ByFailed, Scans, Repeats, ByKept, Begins, Credited, Scanned, GoesOn}
 use Rattle.law_scans.specs.Acceptances.{IsAccepted}
 use Rattle.law_scans.proofs.Accepting.{accepted_by}
-use Rattle.spoil_claims.specs.Payload.{decoded}
+use Rattle.spoil_claims.specs.Payload.{decoded, spelled}
 use Rattle.spoil_claims.specs.Texts.{said_texts, credited_text, credits_text, wrong_claim_text}
 use Rattle.spoil_claims.specs.View.{said_of, has_failed, rows_of, store_of, Rests}
 use Rattle.spoil_claims.specs.Waits.{IsWaiting}
@@ -56,7 +56,7 @@ module _ {N : Type 0} {g : nv.Ghosts N} where
   rests_rows old new rests = ap (λ (room : Room 73). seen_in decoded (cells_of room) (kept_in room)) rests.room
 
   came_out : (x : ClaimRow) (meant : Said) (then : Next) (old : Desk N g) (next : Next) (new : Desk N g) (result : Result (Unit {0}) StoreFail)
-      → CommitsRow g.tells decoded 73 (x.claim - 1) x (store_of old) (store_of new) result → Follows result meant then (said_of new) next
+      → CommitsRow g.tells decoded spelled 73 (x.claim - 1) x (store_of old) (store_of new) result → Follows result meant then (said_of new) next
       → CameOut x meant then (rows_of old) (rows_of new) (said_of new) next
   came_out x meant then old next new (Ok u) did follows =
       Done_ (false_from_ne_true (is_worn (rows_of old) (x.claim - 1)) (λ worn. let wrong : Ok u ≡ Err fail.Worn = did.worn.1 worn in cc)) follows.0 follows.1 did.done

@@ -143,7 +143,7 @@ credited_now rows x k H here reads used b =
 
 -- == an event ==
 
-begun : (rows : Claims) (L : Ledger) → AreBacked rows L → AreBacked rows (Begin ∷ L)
+pub begun : (rows : Claims) (L : Ledger) → AreBacked rows L → AreBacked rows (Begin ∷ L)
 begun rows L b = record {
   reserved = of_each (Reserves rows) (Begin ∷ L) (begin_each (Reserves rows) L (each_of (Reserves rows) L b.reserved));
   credited = λ c x k is. let was = b.credited c x k is in record { released = released_entry x.mark Begin L was.released; accepted = accepted_entry k.device k.piece (scan_number c) Begin L was.accepted };
@@ -164,7 +164,7 @@ module _ (τ : Tariff) where
   }
 
   -- of a line that is left to the bench
-  passed : (rows : Claims) (H : Ledger) (line : List ℕ) (d : Done) → IsLineOf d.event line → ((own : ClaimLine) → IsClaimLine own line → ⊥) → AreBacked rows H → AreBacked rows (ledger_by τ H d)
+  pub passed : (rows : Claims) (H : Ledger) (line : List ℕ) (d : Done) → IsLineOf d.event line → ((own : ClaimLine) → IsClaimLine own line → ⊥) → AreBacked rows H → AreBacked rows (ledger_by τ H d)
   passed rows H line d is none b = moved rows H d (λ e p n scan gt. absurd (none Reserved (n, gt, by_event e p n scan))) b
     where
       by_event : (e p n : ℕ) → IsScanOf e p n d.event → IsScan n line
@@ -269,12 +269,12 @@ module _ (τ : Tariff) where
             let now_open : AreBacked (put rows (c - 1) x) H = opened rows x H is refl (new_inside rows H b x here) b in
             subst (λ (r : Claims). AreBacked r (ledger_after τ H steps)) (sym now) (one_scan (put rows (c - 1) x) H now_open x steps credit.scan here credit.only credit.event)
 
-    own_told : (own : ClaimLine) (texts : List (List ℕ)) → IsAnswered own rows steps texts after → AreBacked after (ledger_after τ H steps)
+    pub own_told : (own : ClaimLine) (texts : List (List ℕ)) → IsAnswered own rows steps texts after → AreBacked after (ledger_after τ H steps)
     own_told (Claim c w mark) texts answer = claim_told texts (kept rows c) c w mark refl answer
     own_told (Credits w) texts answer = told rows H b _ steps texts after answer
     own_told Reserved texts answer = told rows H b _ steps texts after answer
 
-    own_cut : (own : ClaimLine) → IsCutShort own rows steps after → AreBacked after (ledger_after τ H steps)
+    pub own_cut : (own : ClaimLine) → IsCutShort own rows steps after → AreBacked after (ledger_after τ H steps)
     own_cut (Claim c w mark) cut = claim_cut (kept rows c) c w mark refl cut
     own_cut (Credits w) cut = absurd cut
     own_cut Reserved cut = absurd cut

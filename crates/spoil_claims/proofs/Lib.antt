@@ -1,7 +1,11 @@
 mod Answering
 mod Backing
+mod Blank
+mod Following
 mod Holding
 mod Keeping
+mod Meanwhile
+mod Nothing
 mod Payloads
 mod Reading
 mod Running

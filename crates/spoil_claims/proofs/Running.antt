@@ -22,6 +22,7 @@ use Rattle.script_replay.specs.Chains.{SceneOf, scene}
 use Rattle.script_replay.specs.Run.{Unforged, Moves, Leaves}
 use Rattle.script_replay.specs.SideLaws.{told}
 use Rattle.script_replay.specs.Sides.{StepsBy, DidSide}
+use Rattle.script_replay.proofs.Whiles.{all_histories}
 use Rattle.spoil_claims.specs.Answers.{AreAnswered}
 use Rattle.spoil_claims.specs.Claims.{Claims}
 use Rattle.spoil_claims.specs.ClaimsDesk.{claims_desk}
@@ -36,7 +37,9 @@ use Rattle.spoil_claims.specs.declared.claim.ClaimRow.{ClaimRow}
 use Rattle.spoil_claims.specs.declared.desk.Desk.{Desk}
 use Rattle.spoil_claims.proofs.Answering.{all_answered}
 use Rattle.spoil_claims.proofs.Backing.{backed_after, torn_backed}
+use Rattle.spoil_claims.proofs.Following.{follow_all}
 use Rattle.spoil_claims.proofs.Holding.{claims_hold}
+use Rattle.spoil_claims.proofs.Meanwhile.{all_shown}
 use Rattle.spoil_claims.proofs.Stopping.{shows_now, Goes, BreaksBy, IsCutAfter, Ends, all_end}
 use Rattle.desk_runs.proofs.Wanting.{desk_left}
 
@@ -119,8 +122,13 @@ module _ {N : Type 0} (n : Nodes) (own : nv.Ghosts N) (nested : (s : N) → own.
       record {
         side = did;
         answers = answers;
+        follows = λ τ L texts stands tells backed.
+            let through = did.bench.throughout τ L texts stands tells in
+            follow_all τ today own L (rows_of old.desk) (rows_of new.desk) deeds backed reads answers (did.bench.over τ L texts stands tells).run
+            (all_histories τ n (Begin ∷ L) _ _ (steps_of deeds) did.bench.steps through);
         torn = is_left.torn;
         storage = is_left.storage;
+        throughout = all_shown (StepsBy n) from did.behind deeds did.did;
         holds = λ τ L texts stands tells backed unforged.
             let over = did.bench.over τ L texts stands tells in
             let history = (over.stands unforged).history in

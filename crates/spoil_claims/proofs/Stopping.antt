@@ -31,7 +31,7 @@ use Rattle.spoil_claims.specs.Claims.{Claims, kept, last_claim, credits}
 use Rattle.spoil_claims.specs.ClaimsDesk.{claims_desk}
 use Rattle.spoil_claims.specs.Courses.{Either, row_for, as_credited, scan_of, Follows, Says, ByFailed, Scans, ByKept, Begins, Credited, Scanned, GoesOn}
 use Rattle.law_scans.specs.Acceptances.{IsAccepted}
-use Rattle.spoil_claims.specs.Payload.{decoded}
+use Rattle.spoil_claims.specs.Payload.{decoded, spelled}
 use Rattle.spoil_claims.specs.Storage.{IsUntouched}
 use Rattle.spoil_claims.specs.View.{said_of, has_failed, rows_of, storage_of, store_of, view_of, Rests}
 use Rattle.spoil_claims.specs.declared.claim.ClaimLine.{ClaimLine}
@@ -128,15 +128,15 @@ module _ {N : Type 0} {g : nv.Ghosts N} where
         ⊎ ((next ≡ Stop) × Breaks x old new × (rows_of new ≡ rows_of old))
 
     by_result : (x : ClaimRow) (meant : Said) (then : Next) (old : Desk N g) (next : Next) (new : Desk N g) → has_failed old ≡ false → (result : Result (Unit {0}) StoreFail)
-        → CommitsRow g.tells decoded 73 (x.claim - 1) x (store_of old) (store_of new) result → has_failed new ≡ ends_failed result → Follows result meant then (said_of new) next → Came x meant then old next new
+        → CommitsRow g.tells decoded spelled 73 (x.claim - 1) x (store_of old) (store_of new) result → has_failed new ≡ ends_failed result → Follows result meant then (said_of new) next → Came x meant then old next new
     by_result x meant then old next new works (Ok u) did failed follows =
-        inl (stores.came_by g decoded 73 CLAIM_CELLS nested (commit_of x) (view_of old) (view_of new) old.cells works (Ok u) did failed, inl (follows.1, follows.0, did.done))
+        inl (stores.came_by g decoded 73 CLAIM_CELLS spelled nested (commit_of x) (view_of old) (view_of new) old.cells works (Ok u) did failed, inl (follows.1, follows.0, did.done))
     by_result x meant then old next new works (Err fail.Worn) did failed follows =
-        inl (stores.came_by g decoded 73 CLAIM_CELLS nested (commit_of x) (view_of old) (view_of new) old.cells works (Err fail.Worn) did failed, inr follows.1)
+        inl (stores.came_by g decoded 73 CLAIM_CELLS spelled nested (commit_of x) (view_of old) (view_of new) old.cells works (Err fail.Worn) did failed, inr follows.1)
     by_result x meant then old next new works (Err fail.Power) did failed follows =
-        inr (follows, stores.came_by g decoded 73 CLAIM_CELLS nested (commit_of x) (view_of old) (view_of new) old.cells works (Err fail.Power) did failed, did.stays)
+        inr (follows, stores.came_by g decoded 73 CLAIM_CELLS spelled nested (commit_of x) (view_of old) (view_of new) old.cells works (Err fail.Power) did failed, did.stays)
     by_result x meant then old next new works (Err fail.Fault) did failed follows =
-        inr (follows, stores.came_by g decoded 73 CLAIM_CELLS nested (commit_of x) (view_of old) (view_of new) old.cells works (Err fail.Fault) did failed, did.stays)
+        inr (follows, stores.came_by g decoded 73 CLAIM_CELLS spelled nested (commit_of x) (view_of old) (view_of new) old.cells works (Err fail.Fault) did failed, did.stays)
     by_result x meant then old next new works (Err fail.Failed) did failed follows = absurd (did.not_failed refl)
 
     tried : (b : Bool) (x : ClaimRow) (meant : Said) (then : Next) (old : Desk N g) (next : Next) (new : Desk N g) → has_failed old ≡ b → ByFailed b x meant then old next new → Came x meant then old next new

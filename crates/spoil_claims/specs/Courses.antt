@@ -12,7 +12,7 @@ use Rattle.desk_runs.specs.declared.desk.Next.{Next}
 use Rattle.desk_runs.specs.declared.desk.Next.TheVariants.{Step, Say, Stop}
 use Rattle.row_store.specs.Commits.{CommitsRow}
 use Rattle.spoil_claims.specs.Claims.{kept, last_claim, credits, mark_of, scan_number}
-use Rattle.spoil_claims.specs.Payload.{decoded}
+use Rattle.spoil_claims.specs.Payload.{decoded, spelled}
 use Rattle.spoil_claims.specs.View.{said_of, has_failed, rows_of, store_of, Rests}
 use Rattle.spoil_claims.specs.declared.claim.ClaimLine.{ClaimLine}
 use Rattle.spoil_claims.specs.declared.claim.ClaimLine.TheVariants.{Claim, Credits, Reserved}
@@ -58,7 +58,7 @@ module _ {N : Type 0} {g : Ghosts N} where
   -- a commit of this claim to its cell
   pub record Commits (x : ClaimRow) (meant : Said) (then : Next) (old : Desk N g) (next : Next) (new : Desk N g) : Type 0 where
     pub result : Result (Unit {0}) StoreFail
-    pub commits : CommitsRow g.tells decoded 73 (x.claim - 1) x (store_of old) (store_of new) result
+    pub commits : CommitsRow g.tells decoded spelled 73 (x.claim - 1) x (store_of old) (store_of new) result
     pub failed : has_failed new ≡ ends_failed result
     pub follows : Follows result meant then (said_of new) next
 

@@ -4,6 +4,8 @@ pub mod ClaimLines
 pub mod ClaimsDesk
 pub mod Claims
 pub mod Courses
+pub mod Follows
+pub mod Fresh
 pub mod Holds
 pub mod Payload
 pub mod Ran

@@ -1,5 +1,5 @@
 -- The 73 bytes of a claim.
-use Rattle.std.specs.Prelude.{◌≡◌, ◌⊎◌, ℕ, ◌+◌, List, [], ◌∷◌, drop, get_or, Bool, true, false, Option, Some, None, is_ok, IsOk, ◌==◌, ◌&&◌, ◌||◌, nat_lt, if◌then◌else◌}
+use Rattle.std.specs.Prelude.{◌≡◌, ◌⊎◌, ℕ, ◌+◌, List, [], ◌∷◌, ◌++◌, drop, get_or, Bool, true, false, Option, Some, None, is_ok, IsOk, ◌==◌, ◌&&◌, ◌||◌, nat_lt, if◌then◌else◌}
 use Rattle.bench_base.specs.Ranges.{IsCustomer}
 use Rattle.bench_base.specs.Table.{Size, One, Four, row, values}
 use Rattle.indicium.specs.Marks.{read_mark}
@@ -20,6 +20,10 @@ head x = x.claim ∷ x.customer ∷ state_byte x.credited ∷ []
 
 unfoldable pub head_part : ClaimRow → List ℕ
 head_part x = row claim_table (head x)
+
+-- the 73 bytes that are written for a claim
+abbrev pub spelled : ℕ → ClaimRow → List ℕ
+spelled k x = head_part x ++ x.mark
 
 -- the claim of these numbers and this mark
 abbrev pub claim_from : List ℕ → List ℕ → ClaimRow

@@ -4,33 +4,40 @@ use Rattle.bench_base.specs.declared.ledger.Entry.TheVariants.{Begin}
 use Rattle.bench_base.specs.Ledger.{Ledger}
 use Rattle.nv_model.specs.declared.nv.Nv as nv
 use Rattle.line_runs.specs.declared.status.SideStatus.{SideStatus}
-use Rattle.desk_runs.specs.Desks.{World}
+use Rattle.desk_runs.specs.Desks.{World, world}
+use Rattle.desk_runs.specs.Moves.{EachMove}
 use Rattle.desk_runs.specs.SideDeeds.{SideDeed, steps_of}
 use Rattle.ledger_moves.specs.Tariffs.{Tariff}
 use Rattle.bench_views.specs.Tariff.{IsOfTexts}
 use Rattle.bench.specs.Benches.{Nodes}
-use Rattle.script_replay.specs.Chains.{SceneOf}
+use Rattle.script_replay.specs.Chains.{SceneOf, scene}
 use Rattle.script_replay.specs.Deeds.{ledger_after, AreUnforged}
 use Rattle.script_replay.specs.Run.{Unforged}
-use Rattle.script_replay.specs.Sides.{DidSide}
+use Rattle.script_replay.specs.Sides.{StepsBy, DidSide}
 use Rattle.script_replay.specs.Throughout.{StandsFor}
 use Rattle.spoil_claims.specs.Answers.{AreAnswered}
 use Rattle.spoil_claims.specs.ClaimsDesk.{claims_desk}
+use Rattle.spoil_claims.specs.Follows.{FollowLedger}
 use Rattle.spoil_claims.specs.Holds.{AreBacked, ClaimsHold}
-use Rattle.spoil_claims.specs.Storage.{LeavesStorage, with_torn}
+use Rattle.spoil_claims.specs.Storage.{LeavesStorage, ShownMeanwhile, with_torn}
 use Rattle.spoil_claims.specs.View.{rows_of}
 use Rattle.spoil_claims.specs.declared.claim.ClaimLine.{ClaimLine}
 use Rattle.spoil_claims.specs.declared.claim.ClaimRow.{ClaimRow}
 use Rattle.spoil_claims.specs.declared.desk.Desk.{Desk}
 
 -- The desk and the bench did the deeds, and each line about claims has its answer, by the claims that were kept then and by the reply to its scan. A
--- commit may have been torn: then a later boot finds the claims without it or with it. By a history for which the bench stood, and where the claims of
--- earlier runs are backed by it and nothing was forged, either of these claims hold by the ledger that the deeds leave.
+-- commit may have been torn: then a later boot finds the claims without it or with it. At every moment of the run each image shows the claims that are kept then, or these
+-- with the one commit in hand. By a history for which the bench stood, and where the claims of
+-- earlier runs are backed by it, the claims that are kept at each line hold by the ledger so far, and `credits` is answered by it, up to the first
+-- forged event. Where nothing was forged, either of these claims hold by the ledger that the deeds leave.
 pub record DidClaims (n : Nodes) {N : Type 0} (own : nv.Ghosts N) (old new : World (SceneOf n) (Desk N own)) (outcome : SideStatus) (deeds : List (SideDeed ClaimLine)) : Type 0 where
   pub side : DidSide n (claims_desk own) old new outcome deeds
   pub answers : AreAnswered (rows_of old.desk) deeds (rows_of new.desk)
+  pub follows : (τ : Tariff) (L : Ledger) → IsOfTexts τ → StandsFor n τ old.scene.bench L → n.storage.tells → AreBacked (rows_of old.desk) L
+      → FollowLedger τ (Begin ∷ L) (rows_of old.desk) deeds (rows_of new.desk) answers
   pub torn : Option ClaimRow
   pub storage : LeavesStorage old.desk new.desk outcome deeds torn
+  pub throughout : EachMove (claims_desk own) (StepsBy n) ShownMeanwhile (world (scene side.begun old.scene.outside) old.desk) side.behind deeds side.did
   pub holds : (τ : Tariff) (L : Ledger) → IsOfTexts τ → StandsFor n τ old.scene.bench L → n.storage.tells → AreBacked (rows_of old.desk) L
       → AreUnforged τ Unforged (Begin ∷ L) (steps_of deeds)
       → ClaimsHold (rows_of new.desk) (ledger_after τ (Begin ∷ L) (steps_of deeds))

@@ -33,6 +33,10 @@ module _ {N : Type 0} {g : Ghosts N} where
   abbrev pub IsUntouched : Desk N g → Desk N g → Type 0
   IsUntouched old new = stops.IsUntouched g decoded (view_of old) (view_of new)
 
+  -- at every moment from the one to the other each image shows the claims, or these with the one commit in hand
+  abbrev pub ShownMeanwhile : Desk N g → Desk N g → Type 0
+  ShownMeanwhile old new = stops.ShownMeanwhile g decoded 73 CLAIM_CELLS (view_of old) (view_of new)
+
   -- Whether a commit failed, and which was torn; and what each image of the storage shows.
   pub record LeavesStorage (old new : Desk N g) (outcome : SideStatus) (deeds : List (SideDeed ClaimLine)) (torn : Option ClaimRow) : Type 0 where
     -- the run was stopped exactly where a commit failed

@@ -2,6 +2,7 @@
 use Rattle.std.specs.Prelude.{◌≡◌, Bool}
 use Rattle.nv_model.specs.declared.nv.Nv.{Ghosts}
 use Rattle.nv_store.specs.RoomView.{cells_of, kept_in}
+use Rattle.nv_store.specs.declared.room.Room.{Room}
 use Rattle.row_store.specs.Commits.{RowView}
 use Rattle.desk_runs.specs.Stops.{DeskView}
 use Rattle.row_store.specs.Seen.{seen_in}
@@ -14,6 +15,10 @@ module _ {N : Type 0} {g : Ghosts N} where
   -- its storage
   abbrev pub storage_of : Desk N g → N
   storage_of desk = desk.nv
+
+  -- its memory
+  abbrev pub room_of : Desk N g → Room 73
+  room_of desk = desk.room
 
   -- whether a commit of it failed
   abbrev pub has_failed : Desk N g → Bool
@@ -29,7 +34,7 @@ module _ {N : Type 0} {g : Ghosts N} where
 
   -- its cells and their storage
   abbrev pub store_of : Desk N g → RowView
-  store_of desk = record { cells = cells_of desk.room; held = kept_in desk.room; times = g.times desk.nv; meters = g.meters desk.nv }
+  store_of desk = record { cells = cells_of desk.room; held = kept_in desk.room; content = g.content desk.nv; times = g.times desk.nv; meters = g.meters desk.nv }
 
   -- whether a commit failed, the storage, and what is kept of each cell
   abbrev pub view_of : Desk N g → DeskView N

@@ -1,14 +1,14 @@
-//! The desk out of its storage.
-ghost use Rattle.std.specs.Prelude.{◌≡◌, ◌≢◌, ℕ, List, Some, None, IfOk, IfErr, MatchResult, false};
-ghost use Rattle.nv_model.specs.Moments.{Image};
+//! The desk out of its storage, and the storage given back.
+ghost use Rattle.std.specs.Prelude.{◌≡◌, ◌≢◌, ℕ, List, Some, None, IfOk, IfErr, MatchResult, false, replicate};
+ghost use Rattle.nv_model.specs.Moments.{Image, Only};
 ghost use Rattle.nv_store.specs.Mounts.{Mounts};
 ghost use Rattle.nv_store.specs.RoomView.{cells_of};
 ghost use Rattle.row_store.specs.Boots.{BootCauses};
 ghost use Rattle.row_store.specs.Seen.{ReadsAs};
 ghost use Rattle.row_node.specs.Shows.{ShowsRows, IsDamagedTable};
-ghost use Rattle.spoil_claims.specs.Claims.{HasNoGaps};
+ghost use Rattle.spoil_claims.specs.Claims.{HasNoGaps, kept};
 ghost use Rattle.spoil_claims.specs.Payload.{decoded};
-ghost use Rattle.spoil_claims.specs.View.{storage_of, has_failed, rows_of};
+ghost use Rattle.spoil_claims.specs.View.{storage_of, room_of, has_failed, rows_of};
 ghost use Rattle.spoil_claims.specs.declared.claim.TheConstants.{CLAIM_CELLS};
 
 use crate::claim::CLAIM_CELLS;
@@ -40,6 +40,10 @@ impl<N: Nv> Desk<N> {
             → MatchResult result (λ d. Mounts (N.times nv) (N.times (storage_of d)))
             (λ e. Mounts (N.times nv) (N.times e.0)) }
 
+        // Blank storage has no claims.
+        ensures blank { N.tells → (bytes : ℕ) → Only (N.times nv) (replicate bytes 0)
+            → IfOk result (λ d. (c : ℕ) → kept (rows_of d) c ≡ None) }
+
         // Why it fails, and what it costs.
         ensures size { N.size nv ≢ 159744 → IfErr result (λ e. (e.0 ≡ nv) × (e.2 ≡ BootFail.Damaged)) }
         ensures damaged { N.tells
@@ -61,5 +65,20 @@ impl<N: Nv> Desk<N> {
             }),
             Err(fail) => Err((nv, room, fail)),
         }
+    }
+
+    /// Gives the storage and the memory back, as they are. After a commit that failed the storage is restarted before it is booted again.
+    pub fn shut(self) -> (N, Room<73>)
+        ensures storage { result.0 ≡ storage_of self }
+        ensures room { result.1 ≡ room_of self }
+        ensures cells { cells_of result.1 ≡ CLAIM_CELLS }
+    {
+        let Desk {
+            nv,
+            room,
+            failed: _,
+            said: _,
+        } = self;
+        (nv, room)
     }
 }

@@ -1,7 +1,8 @@
 //! Laws of the definitions: each is the contract of a call that does nothing.
-ghost use Rattle.std.specs.Prelude.{◌≡◌, ◌≤◌, ℕ, List, [], None, length};
+ghost use Rattle.std.specs.Prelude.{◌≡◌, ◌≤◌, ℕ, List, [], None, length, replicate};
 ghost use Rattle.bench_base.specs.Ledger.{Ledger};
 ghost use Rattle.law_scans.specs.Acceptances.{EachAccepted};
+ghost use Rattle.node_acts.specs.RowList.{row_at};
 ghost use Rattle.spoil_claims.specs.Claims.{Claims, kept};
 ghost use Rattle.row_store.specs.Seen.{ReadsAs};
 ghost use Rattle.row_node.specs.Shows.{ShowsRows};
@@ -22,4 +23,13 @@ pub fn one_list_is_shown()
     ensures { (a b : Claims) (image : List ℕ) → length a ≡ CLAIM_CELLS → length b ≡ CLAIM_CELLS
         → ShowsRows 73 CLAIM_CELLS (ReadsAs decoded) a image → ShowsRows 73 CLAIM_CELLS (ReadsAs decoded) b image
         → a ≡ b }
+{}
+
+/// Blank storage shows the empty list. Zeros, however many, show cells of which none has a claim (`shows`); and no list of 1,024 cells that
+/// they show has one (`none`).
+pub fn blank_shows_no_claims()
+    ensures shows { (rows : Claims) (bytes : ℕ) → ((k : ℕ) → row_at rows k ≡ None)
+        → ShowsRows 73 CLAIM_CELLS (ReadsAs decoded) rows (replicate bytes 0) }
+    ensures none { (rows : Claims) (bytes : ℕ) → length rows ≡ CLAIM_CELLS
+        → ShowsRows 73 CLAIM_CELLS (ReadsAs decoded) rows (replicate bytes 0) → (c : ℕ) → kept rows c ≡ None }
 {}

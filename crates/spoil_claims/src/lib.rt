@@ -5,6 +5,7 @@ mod boot;
 mod claim;
 mod courses;
 mod desk;
+pub mod fresh;
 pub mod laws;
 mod lines;
 mod own;

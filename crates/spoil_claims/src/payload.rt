@@ -97,6 +97,8 @@ impl Rows<73> for ClaimRows {
 
     ghost decoded = { layout.decoded };
 
+    ghost spelled = { layout.spelled };
+
     ghost IsFit = { layout.IsFit };
 
     ghost IsSound = { claims.HasNoGaps };

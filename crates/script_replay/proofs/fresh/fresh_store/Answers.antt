@@ -1,6 +1,6 @@
 use Rattle.std.proofs.Common.{ap, rules, ◌∙◌}
 use Rattle.nv_model.specs.Memories.{Memory}
-use Rattle.script_replay.proofs.fresh.blank.Goals as goal
+use Rattle.script_replay.proofs.fresh.fresh_store.Goals as goal
 
 pub returns-in-Ok : goal.returns-in-Ok
 returns-in-Ok c =

@@ -1,0 +1,66 @@
+-- Departments follow the ledger at each line of a run.
+use Rattle.std.proofs.Common.{◌≡◌, ℕ, List, [], ◌∷◌, Option, Some, None, ap, ◌∙◌, subst}
+use Rattle.bench_base.specs.declared.ledger.Entry.TheVariants.{Begin}
+use Rattle.bench_base.specs.Ledger.{Ledger}
+use Rattle.bench_base.specs.Rules.{editions}
+use Rattle.ledger_terms.specs.Editions.{Editions}
+use Rattle.ledger_moves.specs.Tariffs.{Tariff}
+use Rattle.bench_views.specs.Tariff.{IsOfTexts}
+use Rattle.bench.specs.Benches.{Nodes}
+use Rattle.desk_runs.specs.Deeds.{Skipped, Did}
+use Rattle.desk_runs.specs.SideDeeds.{SideDeed, Plain, Own, Broken}
+use Rattle.script_replay.specs.Chains.{SceneOf}
+use Rattle.script_replay.specs.Deeds.{ledger_by, ledger_after}
+use Rattle.script_replay.specs.Sides.{StepsBy}
+use Rattle.script_replay.specs.Throughout.{StandsFor}
+use Rattle.script_replay.proofs.Chains.{stands_then, stands_after}
+use Rattle.host_departments.specs.Answers.{Answer, IsTold, ByQuota, IsAnswered, CellCommit, AreAnswered}
+use Rattle.host_departments.specs.DepartmentLines.{IsLine}
+use Rattle.host_departments.specs.Follows.{TellsOrders, FollowLedger}
+use Rattle.host_departments.specs.Holds.{AreBacked, DepartmentsHold}
+use Rattle.host_departments.specs.Rows.{Rows, quota, spent}
+use Rattle.host_departments.specs.Texts.{spent_text}
+use Rattle.host_departments.specs.declared.row.DepartmentLine.{DepartmentLine}
+use Rattle.host_departments.specs.declared.row.DepartmentLine.TheVariants.{Quota, Assign, Spent, Print}
+use Rattle.host_departments.proofs.Backing.{begun, kept_by, did_events, still, answered}
+use Rattle.host_departments.proofs.Holding.{departments_hold}
+
+told_orders : (own : DepartmentLine) (rows : Rows) (H : Ledger) (a : Answer) → DepartmentsHold rows H → IsLine own → IsAnswered own rows a → TellsOrders own rows H a.texts
+told_orders (Quota d q) rows H a holds line answer = tt
+told_orders (Assign d j) rows H a holds line answer = tt
+told_orders (Spent d) rows H a holds line answer = λ q is.
+    let told : ByQuota (Some q) d rows (λ p x. IsTold (spent_text d (spent rows d) p) rows x) a = subst (λ (o : Option ℕ). ByQuota o d rows (λ p x. IsTold (spent_text d (spent rows d) p) rows x) a) is answer in
+    told.texts ∙ ap (λ (sum : ℕ). spent_text d sum q ∷ []) (holds.spent d line)
+told_orders (Print j) rows H a holds line answer = tt
+
+module _ (τ : Tariff) (n : Nodes) (texts : IsOfTexts τ) (tells : n.storage.tells) (today : Editions editions) where
+  follow : (s : SceneOf n) (rows : Rows) (H : Ledger) (deeds : List (SideDeed DepartmentLine)) (t : SceneOf n) (then : Rows) (failed : Option CellCommit) → StandsFor n τ s.bench H → AreBacked rows H
+      → (answers : AreAnswered (StepsBy n) s rows deeds t then failed) → FollowLedger (StepsBy n) τ H s rows deeds t then failed answers
+  follow s rows H [] t then failed stands b did = departments_hold today τ H stands.history rows b
+  follow s rows H (Plain (Skipped line) ∷ rest) t then failed stands b did = follow s rows H rest t then failed stands b did
+  follow s rows H (Plain (Did line d) ∷ rest) t then failed stands b did = (
+    departments_hold today τ H stands.history rows b,
+    λ u. follow did.0 rows (ledger_by τ H d) rest t then failed (stands_then n τ texts tells s did.0 d H did.1.did.0 stands u) (λ k j p is. kept_by τ H d j p (b k j p is)) did.2,
+  )
+  follow s rows H (Own line own steps said ∷ rest) t then failed stands b did =
+      let told = did.2 in
+      let holds = departments_hold today τ H stands.history rows b in
+      let a : Answer = record { asked = told.asked; texts = said; after = did.1 } in (
+        holds,
+        told_orders own rows H a holds told.line told.answered,
+        λ u.
+            let stands_now = stands_after n τ texts tells s did.0 steps H (did_events τ n texts tells today s steps told.asked did.0 told.done) stands u in
+            follow did.0 did.1 (ledger_after τ H steps) rest t then failed stands_now (answered τ n texts tells today s did.0 rows H steps stands b a told.done own told.answered) did.3,
+      )
+  follow s rows H (Broken line own steps ∷ rest) t then failed stands b did =
+      let cut_off = did.2 in (
+        departments_hold today τ H stands.history rows b,
+        λ u.
+            let stands_now = stands_after n τ texts tells s did.0 steps H (did_events τ n texts tells today s steps cut_off.asked did.0 cut_off.done) stands u in
+            follow did.0 rows (ledger_after τ H steps) rest t then None stands_now (still τ n texts tells today s did.0 rows H steps stands b) did.4,
+      )
+
+  -- from the beginning of a run on
+  pub follow_all : (L : Ledger) (s : SceneOf n) (rows : Rows) (deeds : List (SideDeed DepartmentLine)) (t : SceneOf n) (then : Rows) (failed : Option CellCommit) → StandsFor n τ s.bench (Begin ∷ L)
+      → AreBacked rows L → (answers : AreAnswered (StepsBy n) s rows deeds t then failed) → FollowLedger (StepsBy n) τ (Begin ∷ L) s rows deeds t then failed answers
+  follow_all L s rows deeds t then failed stands b answers = follow s rows (Begin ∷ L) deeds t then failed stands (begun rows L b) answers

@@ -1,0 +1,64 @@
+-- Claims follow the ledger at each line of a run.
+use Rattle.std.proofs.Common.{◌≡◌, ℕ, List, [], ◌∷◌, ◌++◌, ◌∙◌, ap}
+use Rattle.std.specs.List.{AllByRecursion}
+use Rattle.bench_base.specs.declared.ledger.Entry.TheVariants.{Begin}
+use Rattle.bench_base.specs.Ledger.{Ledger}
+use Rattle.bench_base.specs.Rules.{editions}
+use Rattle.nv_model.specs.declared.nv.Nv as nv
+use Rattle.ledger_terms.specs.Editions.{Editions}
+use Rattle.ledger_moves.specs.Tariffs.{Tariff}
+use Rattle.law_deeds.proofs.Going.{all_moved}
+use Rattle.line_runs.specs.Deeds.{Reads}
+use Rattle.desk_runs.specs.Deeds.{Done, Skipped, Did}
+use Rattle.desk_runs.specs.Desks.{side_lines}
+use Rattle.desk_runs.specs.SideDeeds.{SideDeed, Plain, Own, Broken, steps_of}
+use Rattle.script_replay.specs.Deeds.{ledger_by, ledger_after, RunWhile}
+use Rattle.script_replay.specs.Run.{Unforged, Moves}
+use Rattle.script_replay.proofs.Whiles.{AreHistories, first_history, later_histories, first_while, later_while}
+use Rattle.spoil_claims.specs.Answers.{IsAnswered, AreAnswered}
+use Rattle.spoil_claims.specs.Claims.{Claims}
+use Rattle.spoil_claims.specs.ClaimsDesk.{claims_desk}
+use Rattle.spoil_claims.specs.Follows.{TellsDebits, FollowLedger}
+use Rattle.spoil_claims.specs.Holds.{AreBacked, ClaimsHold}
+use Rattle.spoil_claims.specs.Texts.{credits_text}
+use Rattle.spoil_claims.specs.declared.claim.ClaimLine.{ClaimLine}
+use Rattle.spoil_claims.specs.declared.claim.ClaimLine.TheVariants.{Claim, Credits, Reserved}
+use Rattle.spoil_claims.proofs.Backing.{begun, passed, own_told, own_cut}
+use Rattle.spoil_claims.proofs.Holding.{claims_hold}
+
+module _ (τ : Tariff) (today : Editions editions) where
+  tells_debits : (own : ClaimLine) (rows : Claims) (H : Ledger) (steps : List Done) (texts : List (List ℕ)) (after : Claims) → ClaimsHold rows H → IsAnswered own rows steps texts after
+      → TellsDebits own rows H texts
+  tells_debits (Claim c w mark) rows H steps texts after holds answer = tt
+  tells_debits (Credits w) rows H steps texts after holds answer = answer.texts_are ∙ ap (λ (sum : ℕ). credits_text w sum ∷ []) (holds.sums w)
+  tells_debits Reserved rows H steps texts after holds answer = tt
+
+  module _ {N : Type 0} (g : nv.Ghosts N) where
+    follow : (rows : Claims) (H : Ledger) (deeds : List (SideDeed ClaimLine)) (after : Claims) → AreBacked rows H → AllByRecursion (Reads (side_lines (claims_desk g))) deeds
+        → (answers : AreAnswered rows deeds after) → RunWhile τ Unforged (Moves τ) H (steps_of deeds) → AreHistories τ H (steps_of deeds) → FollowLedger τ H rows deeds after answers
+    follow rows H [] after b reads answers run are = claims_hold today τ H are rows b
+    follow rows H (Plain (Skipped line) ∷ rest) after b reads answers run are = follow rows H rest after b reads.1 answers run are
+    follow rows H (Plain (Did line d) ∷ rest) after b reads answers run are =
+        (claims_hold today τ H are.0 rows b, λ u. follow rows (ledger_by τ H d) rest after (passed τ rows H line d reads.0.is.0 answers.0 b) reads.1 answers.1 (run u).1 (are.1 u))
+    follow rows H (Own line own steps texts ∷ rest) after b reads answers run are =
+        let holds = claims_hold today τ H (first_history τ H (steps ++ steps_of rest) are) rows b in (
+          holds,
+          tells_debits own rows H steps texts answers.0 holds answers.1,
+          λ u.
+              let did = all_moved τ H steps u (first_while τ (Moves τ) H steps (steps_of rest) run) in
+              follow answers.0 (ledger_after τ H steps) rest after (own_told τ rows H b steps did answers.0 own texts answers.1) reads.1 answers.2
+              (later_while τ (Moves τ) H steps (steps_of rest) u run) (later_histories τ H steps (steps_of rest) u are),
+        )
+    follow rows H (Broken line own steps ∷ rest) after b reads answers run are = (
+      claims_hold today τ H (first_history τ H (steps ++ steps_of rest) are) rows b,
+      λ u.
+          let did = all_moved τ H steps u (first_while τ (Moves τ) H steps (steps_of rest) run) in
+          follow answers.0 (ledger_after τ H steps) rest after (own_cut τ rows H b steps did answers.0 own answers.1) reads.1 answers.2
+          (later_while τ (Moves τ) H steps (steps_of rest) u run) (later_histories τ H steps (steps_of rest) u are),
+    )
+
+    -- from the beginning of a run on
+    pub follow_all : (L : Ledger) (rows after : Claims) (deeds : List (SideDeed ClaimLine)) → AreBacked rows L → AllByRecursion (Reads (side_lines (claims_desk g))) deeds
+        → (answers : AreAnswered rows deeds after) → RunWhile τ Unforged (Moves τ) (Begin ∷ L) (steps_of deeds) → AreHistories τ (Begin ∷ L) (steps_of deeds)
+        → FollowLedger τ (Begin ∷ L) rows deeds after answers
+    follow_all L rows after deeds b reads answers run are = follow rows (Begin ∷ L) deeds after (begun rows L b) reads answers run are

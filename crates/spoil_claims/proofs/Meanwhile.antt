@@ -1,0 +1,93 @@
+-- What the storage of the claims shows at each moment of a move of the desk.
+use Rattle.std.proofs.Common.{◌≡◌, inl, inr, ℕ, ◌+◌, ◌-◌, List, Option, Some, None, Bool, true, false, ◌==◌, refl, ap}
+use Rattle.bench_base.specs.declared.events.Event.{Event}
+use Rattle.bench_base.specs.declared.events.Reply.{Reply}
+use Rattle.nv_model.specs.declared.nv.Nv as nv
+use Rattle.node_turns.specs.declared.turn.Turn.{Turn}
+use Rattle.desk_runs.specs.Desks.{World, Does}
+use Rattle.desk_runs.specs.Deeds.{Done}
+use Rattle.desk_runs.specs.Moves.{EachMove}
+use Rattle.desk_runs.specs.SideDeeds.{SideDeed}
+use Rattle.desk_runs.specs.declared.desk.Next.{Next}
+use Rattle.desk_runs.specs.declared.desk.Next.TheVariants.{Say}
+use Rattle.desk_runs.proofs.Moving.{each_move}
+use Rattle.desk_runs.proofs.Stores.{shown_still, shown_commit}
+use Rattle.law_scans.specs.Acceptances.{IsAccepted}
+use Rattle.spoil_claims.specs.Claims.{kept, last_claim, credits}
+use Rattle.spoil_claims.specs.ClaimsDesk.{claims_desk}
+use Rattle.spoil_claims.specs.Courses.{Either, row_for, as_credited, scan_of, Says, ByFailed, Scans, ByKept, Begins, Credited, Scanned, GoesOn}
+use Rattle.spoil_claims.specs.Payload.{decoded, spelled}
+use Rattle.spoil_claims.specs.Storage.{ShownMeanwhile}
+use Rattle.spoil_claims.specs.View.{said_of, has_failed, rows_of, view_of, Rests}
+use Rattle.spoil_claims.specs.declared.claim.ClaimLine.{ClaimLine}
+use Rattle.spoil_claims.specs.declared.claim.ClaimLine.TheVariants.{Claim, Credits, Reserved}
+use Rattle.spoil_claims.specs.declared.claim.ClaimRow.{ClaimRow}
+use Rattle.spoil_claims.specs.declared.claim.TheConstants.{CLAIM_CELLS}
+use Rattle.spoil_claims.specs.declared.desk.Desk.{Desk}
+use Rattle.spoil_claims.specs.declared.said.Said.{Said}
+use Rattle.spoil_claims.specs.declared.said.Said.TheVariants as said
+use Rattle.spoil_claims.proofs.Stopping.{commit_of, shows_now}
+
+by_either : {P Q X : Type 0} (b : Bool) → (P → X) → (Q → X) → Either b P Q → X
+by_either true f h either = f either
+by_either false f h either = h either
+
+module _ {N : Type 0} {g : nv.Ghosts N} where
+  rests_shown : (old new : Desk N g) → Rests old new → ShownMeanwhile old new
+  rests_shown old new rests = shown_still g decoded 73 CLAIM_CELLS (view_of old) (view_of new) (λ works. shows_now old works) rests.storage
+
+  same_shown : (old new : Desk N g) → new ≡ old → ShownMeanwhile old new
+  same_shown old new same = rests_shown old new (record { room = ap (λ (d : Desk N g). d.room) same; storage = ap (λ (d : Desk N g). d.nv) same; failed = ap (λ (d : Desk N g). d.failed) same })
+
+  tries_shown : (b : Bool) (x : ClaimRow) (meant : Said) (then : Next) (old : Desk N g) (next : Next) (new : Desk N g) → ByFailed b x meant then old next new → ShownMeanwhile old new
+  tries_shown true x meant then old next new did = rests_shown old new did.1
+  tries_shown false x meant then old next new did =
+      shown_commit g decoded 73 CLAIM_CELLS (view_of old) (view_of new) (λ works. shows_now old works) spelled (commit_of x) old.cells did.result did.commits did.failed
+
+  says_shown : (answer : Said) (old : Desk N g) (next : Next) (new : Desk N g) → Says answer old next new → ShownMeanwhile old new
+  says_shown answer old next new says = rests_shown old new says.rests
+
+  -- == before the scan ==
+
+  claim_shown : (o : Option ClaimRow) (c w : ℕ) (mark : List ℕ) (old : Desk N g) (next : Next) (new : Desk N g) → ByKept o c w mark old next new → ShownMeanwhile old new
+  claim_shown (Some x) c w mark old next new (inl known) =
+      by_either x.credited (λ again. says_shown (said.Credited c again.mark true) old next new again.says) (λ scans. rests_shown old new scans.rests) known.1
+  claim_shown (Some x) c w mark old next new (inr other) = says_shown said.Conflict old next new other.1
+  claim_shown None c w mark old next new did =
+      by_either (c == last_claim (rows_of old) + 1)
+      (λ fits. by_either (c == 1025) (λ full. says_shown said.Full old next new full)
+      (λ tries. tries_shown (has_failed old) (row_for c w mark) (said.Scanning c) (scan_of (row_for c w mark)) old next new tries) fits)
+      (λ wrong. says_shown (said.WrongClaim (last_claim (rows_of old))) old next new wrong) did
+
+  begins_shown : (old new : Desk N g) (own : ClaimLine) (next : Next) → Begins old own next new → ShownMeanwhile old new
+  begins_shown old new (Claim c w mark) next begins = claim_shown (kept (rows_of old) c) c w mark old next new begins
+  begins_shown old new (Credits w) next begins = says_shown (said.Credits w (credits w (rows_of old))) old next new begins
+  begins_shown old new Reserved next begins = says_shown said.Reserved old next new begins
+
+  -- == after it ==
+
+  scan_shown : (c : ℕ) (reply : Reply) (old : Desk N g) (next : Next) (new : Desk N g) → Scanned c reply old next new → ShownMeanwhile old new
+  scan_shown c reply old next new did = elim did.did [
+    | inl credit ↦ tries_shown (has_failed old) (as_credited did.row) (said.Credited did.row.claim credit.1.mark false) Say old next new credit.1.tries
+    | inr other ↦ says_shown (said.Scan reply) old next new other.1
+  ]
+
+  goes_shown : (s : Said) (reply : Reply) (old : Desk N g) (next : Next) (new : Desk N g) → GoesOn s reply old next new → ShownMeanwhile old new
+  goes_shown (said.Scanning c) reply old next new did = scan_shown c reply old next new did
+  goes_shown said.Nothing reply old next new did = same_shown old new did.1
+  goes_shown (said.Credited c mark again) reply old next new did = same_shown old new did.1
+  goes_shown (said.Credits w sum) reply old next new did = same_shown old new did.1
+  goes_shown said.Conflict reply old next new did = same_shown old new did.1
+  goes_shown (said.WrongClaim last) reply old next new did = same_shown old new did.1
+  goes_shown said.Full reply old next new did = same_shown old new did.1
+  goes_shown said.Reserved reply old next new did = same_shown old new did.1
+  goes_shown said.Worn reply old next new did = same_shown old new did.1
+  goes_shown (said.Scan r) reply old next new did = same_shown old new did.1
+
+  -- == a run ==
+
+  pub all_shown : {B : Type 0} (Steps : B → B → Done → Turn → Type 0) (old new : World B (Desk N g)) (deeds : List (SideDeed ClaimLine)) (did : Does (claims_desk g) Steps old new deeds)
+      → EachMove (claims_desk g) Steps ShownMeanwhile old new deeds did
+  all_shown Steps old new deeds did =
+      each_move (claims_desk g) Steps ShownMeanwhile (λ s t own next begins. begins_shown s t own next begins) (λ s t turn next goes. goes_shown (said_of s) turn.reply s next t goes)
+      (λ s t e turn sees. same_shown s t sees) old new deeds did
