@@ -2,8 +2,6 @@
 #![tactic(auto)]
 
 #[cfg(test)]
-mod desk_rows;
-#[cfg(test)]
 mod fault_rows;
 #[cfg(test)]
 mod ordinary_path;

@@ -148,7 +148,7 @@ pub struct RunEnd {
 }
 
 /// Words of the program, behind its name.
-pub fn words_of(alloc: Global, given: &[&str]) -> Result<Vec<String>, AllocError> {
+fn words_of(alloc: Global, given: &[&str]) -> Result<Vec<String>, AllocError> {
     let mut words = Vec::new(alloc);
     for word in given {
         words.push(String::from_str(alloc, word)?)?;
@@ -158,12 +158,12 @@ pub fn words_of(alloc: Global, given: &[&str]) -> Result<Vec<String>, AllocError
 
 // sample bench_base
 /// A source of this text that does not fail.
-pub fn source_of(alloc: Global, text: &[u8]) -> Result<MemSource, AllocError> {
+fn source_of(alloc: Global, text: &[u8]) -> Result<MemSource, AllocError> {
     Ok(MemSource::new(Vec::from_slice(alloc, text)?, 4096, Vec::new(alloc)))
 }
 
 /// The script, of which as many bytes are read at once as a piece has.
-pub fn script_of(alloc: Global, given: &Given) -> Result<ReadAhead<MemSource>, AllocError>
+fn script_of(alloc: Global, given: &Given) -> Result<ReadAhead<MemSource>, AllocError>
     requires some { 1 ≤ given.now.piece }
 {
     let inner = MemSource::new(
@@ -175,7 +175,7 @@ pub fn script_of(alloc: Global, given: &Given) -> Result<ReadAhead<MemSource>, A
 }
 
 /// This sink, empty.
-pub fn sink_of(alloc: Global, outlet: &Outlet) -> Result<MemSink, AllocError> {
+fn sink_of(alloc: Global, outlet: &Outlet) -> Result<MemSink, AllocError> {
     Ok(MemSink::new(
         vec![in alloc; 0; outlet.room]?,
         Vec::from_slice(alloc, outlet.fails)?,
