@@ -4,7 +4,6 @@ ghost use Rattle.told_bench.specs.Seeing.{IsReady, audit_of};
 use audit_journal::{Deed, Entry};
 use bench_base::numbers::{Customer, DevNo};
 use bench_base::words::{Kind, Node, Verdict};
-use centre_ledger::ruling_in;
 use psd_wire::{Message, read_message};
 use told_bench::Auditor;
 
@@ -75,18 +74,26 @@ pub fn figures_of(auditor: &Auditor, entry: &Entry) -> Figures
     }
 }
 
+// The ruling that a device's row keeps: its request, and the reply to it.
+fn ruling_in(request: &[u8], reply: &[u8]) -> Option<Ruling> {
+    let Ok(Message::Request(asked)) = read_message(request) else {
+        return None;
+    };
+    let Ok(Message::Reply(ruled)) = read_message(reply) else {
+        return None;
+    };
+    Some(Ruling {
+        number: asked.number,
+        kind: asked.kind,
+        asked: asked.amount,
+        verdict: ruled.verdict,
+    })
+}
+
 /// The last ruling of the centre on the device, by the commits that count. None if there was none.
 pub fn ruling_of(auditor: &Auditor, device: DevNo) -> Option<Ruling> {
-    let (verdict, note) = ruling_in(auditor.device_row(device)?)?;
-    match read_message(note.as_slice()) {
-        Ok(Message::Request(request)) => Some(Ruling {
-            number: request.number,
-            kind: request.kind,
-            asked: request.amount,
-            verdict,
-        }),
-        _ => None,
-    }
+    let row = auditor.device_row(device)?;
+    ruling_in(row.request.as_slice(), row.reply.as_slice())
 }
 
 // The last ruling on the device of the entry, if the commit is one of the centre on a request.

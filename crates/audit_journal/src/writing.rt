@@ -1,9 +1,9 @@
 //! The journal on its way to standard output.
-use crate::records::{NAMES, csv_row};
 use crate::entry::{At, Row, place_of};
 use crate::fault::BookFault;
-use crate::objects::json_row;
 use crate::ledger::{HEAD, doubt_comment, transaction, void_comment};
+use crate::objects::json_row;
+use crate::records::{NAMES, csv_row};
 use bench_base::numbers::DayNo;
 use std::alloc::{AllocError, Global};
 use std::io::{self, Write};
