@@ -1,7 +1,7 @@
 //! What is counted over the lines of runs: each commit that counts, in the journal, and the rest for the page.
 ghost use Rattle.std.specs.Prelude.{◌<◌};
 
-use crate::Fault;
+use crate::faults::Fault;
 use crate::figures::Figures;
 use crate::journal::{Amount, Form, Journal, Row};
 use crate::kinds::{Deed, Doing, Entry, Mishap, Tally, entry_of, one_more};

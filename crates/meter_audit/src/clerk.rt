@@ -4,7 +4,7 @@ ghost use Rattle.std.specs.Prelude.{◌≤◌, length, IfOk};
 ghost use Rattle.bench_base.specs.Ranges.{IsWholeEvent};
 ghost use Rattle.told_bench.specs.Seeing.{IsReady, audit_of};
 
-use crate::Fault;
+use crate::faults::Fault;
 use crate::book::{Book, Made, Place};
 use crate::digest::{NO_RUNS, Sum, digest_with};
 use crate::figures::{Figures, figures_of};

@@ -1,5 +1,5 @@
 //! The journal: a row for each commit that counts, as comma-separated values or as JSON.
-use crate::Fault;
+use crate::faults::Fault;
 use crate::kinds::{self, Entry};
 use crate::table::node_text;
 use bench_base::numbers::DevNo;

@@ -1,7 +1,7 @@
 //! The page below the verdicts: what the runs came to, a fact a line. Amounts are in mills.
 ghost use Rattle.told_bench.specs.Seeing.{IsReady, audit_of};
 
-use crate::Fault;
+use crate::faults::Fault;
 use crate::book::{Book, Place};
 use crate::clerk::Clerk;
 use crate::kinds::Mishap;

@@ -1,8 +1,8 @@
 //! The table below the verdicts: what the auditor has behind the runs, a fact a line.
 ghost use Rattle.told_bench.specs.Seeing.{IsReady, audit_of};
 
-use crate::Fault;
-use crate::found::shown;
+use crate::faults::Fault;
+use audit_words::shown;
 use bench_base::events::Reply;
 use bench_base::numbers::{Customer, DayNo, DevNo};
 use bench_base::words::Node;

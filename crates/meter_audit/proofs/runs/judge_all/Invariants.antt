@@ -1,5 +1,5 @@
 use Rattle.told_bench.specs.Seeing.{IsReady, audit_of}
-use Rattle.meter_audit.proofs.audit.Given as goal
+use Rattle.meter_audit.proofs.runs.judge_all.Given as goal
 
 abbrev pub invariant-loop-place : goal.invariant-loop-place
 invariant-loop-place l = record {
