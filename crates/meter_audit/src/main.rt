@@ -4,6 +4,7 @@
 #![tactic(auto)]
 
 mod book;
+mod checking;
 mod clerk;
 mod digest;
 mod faults;
@@ -26,6 +27,7 @@ ghost use Rattle.told_bench.specs.Seeing.{IsReady, audit_of};
 use audit_words::{Asked, Call, HELP, VERSION, Words, WordsFault, read_call};
 use bench_base::numbers::DevNo;
 use bench_base::words::Node;
+use checking::check;
 use clerk::Clerk;
 use faults::{Fault, code_of, or_memory, or_write};
 use journal::Form;
@@ -171,8 +173,12 @@ fn end_journal(
 
 // Judges what the words name.
 fn audit(rt: &HostRuntime, words: Words) -> Result<u8, Fault> {
-    let mut auditor = or_memory(Auditor::new(rt.alloc()))?;
-    let mut clerk = or_memory(Clerk::new(rt.alloc(), form_of(words.asked)))?;
+    let Ok(mut auditor) = Auditor::new(rt.alloc()) else {
+        return Err(Fault::Memory);
+    };
+    let Ok(mut clerk) = Clerk::new(rt.alloc(), form_of(words.asked)) else {
+        return Err(Fault::Memory);
+    };
     clerk.book.begin()?;
     let judged = judge_words(rt, words, &mut auditor, &mut clerk);
     end_journal(rt, &mut clerk, judged)
@@ -189,7 +195,7 @@ fn called(rt: &HostRuntime) -> Result<u8, Fault> {
     let words = given_words(rt)?;
     match read_call(rt.alloc(), words) {
         Ok(Call::Audit(words)) => audit(rt, words),
-        Ok(Call::Check(_)) => Err(Fault::Words),
+        Ok(Call::Check(script)) => check(rt, script.as_str()),
         Ok(Call::Help) => tell_text(rt, HELP),
         Ok(Call::Version) => tell_text(rt, VERSION),
         Err(WordsFault::Usage) => Err(Fault::Words),
