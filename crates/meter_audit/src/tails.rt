@@ -34,12 +34,18 @@ pub struct Watched<'a, R: Read> {
 /// A reader that is watched, line by line.
 pub type Lines<'a, R> = ReadAhead<IoSource<Watched<'a, R>>>;
 
-// What stands behind the last line end of these, which may itself end them.
-fn last_line_of(bytes: &[u8]) -> &[u8] {
-    let mut line = bytes;
-    if line.ends_with(b"\n") {
-        line = &line[..line.len() - 1];
+// The bytes without a line end behind them.
+fn without_line_end(bytes: &[u8]) -> &[u8] {
+    if !bytes.is_empty() && bytes[bytes.len() - 1] == b'\n' {
+        &bytes[..bytes.len() - 1]
+    } else {
+        bytes
     }
+}
+
+// The last line of these, which may have its line end.
+fn last_line_of(bytes: &[u8]) -> &[u8] {
+    let line = without_line_end(bytes);
     match memrchr(b'\n', line) {
         Some(at) => &line[at + 1..],
         None => line,
