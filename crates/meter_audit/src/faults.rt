@@ -1,4 +1,5 @@
 //! Why nothing more is judged.
+use audit_journal::BookFault;
 use thiserror::Error;
 
 /// Why nothing more is judged: what is printed on standard error. Names of files are given as they are shown.
@@ -49,5 +50,15 @@ pub fn or_write<E: Drop>(written: Result<(), E>) -> Result<(), Fault> {
     match written {
         Ok(()) => Ok(()),
         Err(_) => Err(Fault::Write),
+    }
+}
+
+/// What was counted, or why it was not.
+pub fn or_book(counted: Result<(), BookFault>) -> Result<(), Fault> {
+    match counted {
+        Ok(()) => Ok(()),
+        Err(BookFault::Write) => Err(Fault::Write),
+        Err(BookFault::Counted) => Err(Fault::Counted),
+        Err(BookFault::Memory) => Err(Fault::Memory),
     }
 }

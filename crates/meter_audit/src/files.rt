@@ -1,19 +1,12 @@
 //! The files of runs: NAME.script, NAME.report and NAME.rates, which is empty where it is missing, as the meter takes it.
 use crate::faults::{Fault, or_memory};
+use audit_book::Run;
 use audit_words::shown_text;
 use std::fs::{self, File};
 use std::io::{self, Read};
 
 /// The most bytes of rates that are read: as much as 16 `rates` of a run can take, 65,537 each.
 const MOST_RATES: u64 = 1_048_592;
-
-/// A run, whole in memory.
-#[derive(Drop)]
-pub struct Run {
-    pub script: Vec<u8>,
-    pub report: Vec<u8>,
-    pub rates: Vec<u8>,
-}
 
 // The text with another behind it.
 fn joined(rt: &HostRuntime, front: &str, back: &str) -> Result<String, Fault> {

@@ -3,41 +3,33 @@
 //! prints, and for one of: what the auditor has behind the runs, what they came to, the journal of what they committed, and what was due behind a stop.
 #![tactic(auto)]
 
-mod book;
 mod checking;
-mod clerk;
 mod digest;
 mod faults;
-mod figures;
 mod files;
 mod folders;
-mod journal;
 mod judging;
-mod kinds;
-mod page;
 mod plan;
 mod prints;
 mod runs;
-mod table;
 mod tails;
 mod verdicts;
 
 ghost use Rattle.told_bench.specs.Seeing.{IsReady, audit_of};
 
+use audit_book::Clerk;
+use audit_journal::Form;
+use audit_pages::{tell_page, tell_table};
 use audit_words::{Asked, Call, HELP, VERSION, Words, WordsFault, read_call};
 use bench_base::numbers::DevNo;
 use bench_base::words::Node;
 use checking::check;
-use clerk::Clerk;
-use faults::{Fault, code_of, or_memory, or_write};
-use journal::Form;
-use page::tell_page;
+use faults::{Fault, code_of, or_book, or_memory, or_write};
 use plan::{Plan, plan_of};
 use prints::judge_prints;
 use runs::{Gathered, judge_all, say, say_finding};
 use std::process::ExitCode;
 use std::{env, io};
-use table::tell_table;
 use told_bench::Auditor;
 use verdicts::FINDING;
 
@@ -60,9 +52,10 @@ fn given_words(rt: &HostRuntime) -> Result<Vec<String>, Fault> {
 
 fn form_of(asked: Asked) -> Form {
     match asked {
-        Asked::Nothing | Asked::Table | Asked::Page | Asked::Ledger | Asked::Due => Form::None,
+        Asked::Nothing | Asked::Table | Asked::Page | Asked::Due => Form::None,
         Asked::Csv => Form::Csv,
         Asked::Json => Form::Json,
+        Asked::Ledger => Form::Ledger,
     }
 }
 
@@ -121,8 +114,15 @@ fn tell_below(
 {
     match plan.asked {
         Asked::Nothing | Asked::Csv | Asked::Json | Asked::Ledger | Asked::Due => Ok(()),
-        Asked::Table => tell_table(rt, auditor, gathered.day),
-        Asked::Page => tell_page(rt, plan.names.as_slice(), auditor, clerk, gathered.day),
+        Asked::Table => or_book(tell_table(rt, auditor, gathered.day)),
+        Asked::Page => or_book(tell_page(
+            rt,
+            plan.names.as_slice(),
+            auditor,
+            &clerk.book,
+            gathered.digests.as_slice(),
+            gathered.day,
+        )),
     }
 }
 
@@ -159,7 +159,7 @@ fn end_journal(
     clerk: &mut Clerk,
     judged: Result<u8, Fault>,
 ) -> Result<u8, Fault> {
-    let ended = clerk.book.end(rt);
+    let ended = or_book(clerk.book.end(rt));
     let code = judged?;
     match ended {
         Ok(()) => Ok(code),
@@ -179,7 +179,7 @@ fn audit(rt: &HostRuntime, words: Words) -> Result<u8, Fault> {
     let Ok(mut clerk) = Clerk::new(rt.alloc(), form_of(words.asked)) else {
         return Err(Fault::Memory);
     };
-    clerk.book.begin()?;
+    or_book(clerk.book.begin())?;
     let judged = judge_words(rt, words, &mut auditor, &mut clerk);
     end_journal(rt, &mut clerk, judged)
 }

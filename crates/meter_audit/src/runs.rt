@@ -1,14 +1,13 @@
 //! Runs are judged in order, up to the first finding, and gone over once more if that is asked for.
 ghost use Rattle.told_bench.specs.Seeing.{IsReady, audit_of};
 
-use crate::book::Place;
-use crate::clerk::Clerk;
-use crate::faults::{Fault, or_memory, or_write};
-use crate::files::{Run, open_of, rates_of, unusable_of, whole_run};
+use crate::digest::{NO_RUNS, Sum, digest_with};
+use crate::faults::{Fault, or_book, or_memory, or_write};
+use crate::files::{open_of, rates_of, unusable_of, whole_run};
 use crate::judging::{Judged, Outcome, judge_over};
-use crate::kinds::Mishap;
 use crate::plan::{Plan, is_counted, takes_output};
 use crate::verdicts::{FINDING, is_finding, is_undecided, stopped_at, verdict_text};
+use audit_book::{Clerk, Run};
 use audit_due::{DueFault, Papers, put_due};
 use audit_words::{Asked, shown_text};
 use bench_base::numbers::DayNo;
@@ -24,6 +23,8 @@ pub struct Gathered {
     pub imprints: Vec<Imprint>,
     /// Of each run how many imprints there are up to its end.
     pub ends: Vec<usize>,
+    /// Of each run that is gone over once more the digest up to it.
+    pub digests: Vec<Sum>,
     /// The last day that was told.
     pub day: Option<DayNo>,
     /// Whether a run left something undecided that no later run decides.
@@ -36,6 +37,7 @@ impl Gathered {
         Gathered {
             imprints: Vec::new(alloc),
             ends: Vec::new(alloc),
+            digests: Vec::new(alloc),
             day: None,
             is_undecided: false,
         }
@@ -116,25 +118,6 @@ fn judge_whole(
     ))
 }
 
-// Goes over a run that was judged, and notes where it was stopped.
-fn go_over(
-    rt: &HostRuntime,
-    plan: &Plan,
-    clerk: &mut Clerk,
-    place: usize,
-    run: &Run,
-    stopped: Option<u32>,
-) -> Result<(), Fault>
-    requires ready { IsReady (audit_of clerk.old.auditor) }
-    ensures ready { IsReady (audit_of clerk.new.auditor) }
-{
-    clerk.go_over(rt, plan.names.as_slice(), place, run, stopped)?;
-    match stopped {
-        Some(line) => clerk.book.note(Place { run: place, line }, Mishap::Stop),
-        None => Ok(()),
-    }
-}
-
 // Goes over a run for what was due: of the last one, which has to be one that was stopped, that is printed; the others are judged once more.
 fn tell_due(
     rt: &HostRuntime,
@@ -192,7 +175,9 @@ fn count(
         | Asked::Page
         | Asked::Csv
         | Asked::Json
-        | Asked::Ledger => go_over(rt, plan, clerk, place, run, stopped),
+        | Asked::Ledger => {
+            or_book(clerk.go_over(rt, plan.names.as_slice(), place, run, stopped))
+        }
     }
 }
 
@@ -202,6 +187,12 @@ impl Gathered {
         self.day = day.or(self.day);
         self.is_undecided = self.is_undecided || is_undecided(judged);
         or_memory(self.ends.push(self.imprints.len()))
+    }
+
+    // Gathers the digest up to a run.
+    fn digest(&mut self, run: &Run) -> Result<(), Fault> {
+        let before = self.digests.last().copied().unwrap_or(NO_RUNS);
+        or_memory(self.digests.push(digest_with(&before, run)))
     }
 }
 
@@ -231,6 +222,7 @@ fn judge_next(
     gathered.gather(&judged, auditor.day())?;
     let code = tell(rt, plan.asked, name, &judged)?;
     if code == 0 {
+        gathered.digest(&run)?;
         count(rt, plan, clerk, place, &run, stopped_at(&judged))?;
     }
     Ok(code)

@@ -4,19 +4,24 @@ ghost use Rattle.std.specs.Prelude.{◌≤◌, length, IfOk};
 ghost use Rattle.bench_base.specs.Ranges.{IsWholeEvent};
 ghost use Rattle.told_bench.specs.Seeing.{IsReady, audit_of};
 
-use crate::faults::Fault;
-use crate::book::{Book, Made, Place};
-use crate::digest::{NO_RUNS, Sum, digest_with};
-use crate::figures::{Figures, figures_of};
-use crate::files::Run;
-use crate::journal::Form;
-use crate::kinds::doing_of;
+use crate::book::{Book, Made};
+use crate::figures::{Figures, figures_of, owner_of, seen_by};
+use audit_journal::{BookFault, Entry, Form};
+use audit_tally::{Doing, Mishap, Place, doing_of};
 use bench::MOST_MESSAGES;
 use bench_base::events::{Event, Reply};
 use script_text::{Line, is_skipped, put_reply, read_event};
 use std::alloc::{AllocError, Global};
 use told_bench::{Auditor, Finding, due_to, judge, stop};
 use told_runs::{LINES, behind};
+
+/// A run, whole in memory.
+#[derive(Drop)]
+pub struct Run {
+    pub script: Vec<u8>,
+    pub report: Vec<u8>,
+    pub rates: Vec<u8>,
+}
 
 /// What is left of a run.
 #[derive(Clone, Copy)]
@@ -48,61 +53,70 @@ fn behind_line(bytes: &[u8]) -> &[u8] {
     }
 }
 
-// What judgements say of a line that was judged before.
+// What judgements say of a line that was judged before: how many bytes of the rates it took.
 fn judged(
     alloc: Global,
     auditor: &mut Auditor,
     event: &Event,
     rates: &[u8],
     line: &[u8],
-) -> Result<usize, Finding>
+) -> Result<usize, BookFault>
     requires whole { IsWholeEvent event.now }
     requires ready { IsReady (audit_of auditor.old) }
     ensures ready { IsReady (audit_of auditor.new) }
 {
     // A run that is judged has at most as many lines.
     if auditor.message_count() >= MOST_MESSAGES {
-        return Err(Finding::Memory);
+        return Err(BookFault::Memory);
     }
-    judge(alloc, auditor, event, rates, line)
+    match judge(alloc, auditor, event, rates, line) {
+        Ok(taken) => Ok(taken),
+        Err(Finding::Memory) => Err(BookFault::Memory),
+        Err(Finding::Wrong(_)) => Err(BookFault::Counted),
+    }
 }
 
-// What judgements say of a line whose answer was found to be missing, or to be begun: the reply with which its event was done, or none where that is in doubt.
+// What judgements say of a line whose answer was found to be missing, or to be begun: the reply with which its event was done, or none if that is in doubt.
 fn broken_off(
     alloc: Global,
     auditor: &mut Auditor,
     event: &Event,
     rates: &[u8],
     front: &[u8],
-) -> Result<Option<Reply>, Fault>
+) -> Result<Option<Reply>, BookFault>
     requires whole { IsWholeEvent event.now }
     requires ready { IsReady (audit_of auditor.old) }
     ensures ready { IsReady (audit_of auditor.new) }
 {
     // A run that is judged has at most as many lines.
     if auditor.message_count() >= MOST_MESSAGES {
-        return Err(Fault::Memory);
+        return Err(BookFault::Memory);
     }
     match stop(alloc, auditor, event, rates, front) {
         Ok(told) => Ok(told),
-        Err(Finding::Memory) => Err(Fault::Memory),
-        Err(Finding::Wrong(_)) => Err(Fault::Counted),
+        Err(Finding::Memory) => Err(BookFault::Memory),
+        Err(Finding::Wrong(_)) => Err(BookFault::Counted),
     }
 }
 
 // The answer that is due to the event.
-fn due(alloc: Global, auditor: &mut Auditor, event: &Event, rates: &[u8]) -> Result<Reply, Fault>
+fn due(
+    alloc: Global,
+    auditor: &mut Auditor,
+    event: &Event,
+    rates: &[u8],
+) -> Result<Reply, BookFault>
     requires whole { IsWholeEvent event.now }
     requires ready { IsReady (audit_of auditor.old) }
     ensures ready { IsReady (audit_of auditor.new) }
 {
     // A run that is judged has at most as many lines.
     if auditor.message_count() >= MOST_MESSAGES {
-        return Err(Fault::Memory);
+        return Err(BookFault::Memory);
     }
     match due_to(alloc, auditor, event, rates) {
         Ok(due) => Ok(due),
-        Err(_) => Err(Fault::Memory),
+        Err(_) => Err(BookFault::Memory),
     }
 }
 
@@ -111,8 +125,6 @@ fn due(alloc: Global, auditor: &mut Auditor, event: &Event, rates: &[u8]) -> Res
 pub struct Clerk {
     pub auditor: Auditor,
     pub book: Book,
-    /// Of each run the digest up to it.
-    pub digests: Vec<Sum>,
 }
 
 // What is known of the node of this commit.
@@ -129,11 +141,12 @@ fn known(auditor: &Auditor, made: &Option<Made>) -> Option<Figures>
 fn settle(
     rt: &HostRuntime,
     names: &[String],
+    place: Place,
     auditor: &Auditor,
     book: &mut Book,
     made: &Option<Made>,
     before: &Option<Figures>,
-) -> Result<(), Fault>
+) -> Result<(), BookFault>
     requires ready { IsReady (audit_of auditor.now) }
 {
     let Some(made) = made else {
@@ -142,22 +155,35 @@ fn settle(
     let Some(before) = before else {
         return Ok(());
     };
-    let after = figures_of(auditor, &made.entry);
-    book.settle(rt, names, made, before, &after)
+    let seen = seen_by(auditor, &made.entry, *before);
+    book.settle(rt, names, place, made, &seen)
+}
+
+// Adds a row for what became of a print, if the line tells it.
+fn tell_print(
+    rt: &HostRuntime,
+    names: &[String],
+    place: Place,
+    auditor: &Auditor,
+    book: &mut Book,
+    doing: &Doing,
+    line: &[u8],
+) -> Result<(), BookFault> {
+    let Some(entry) = book.print_told(auditor.day(), doing, line) else {
+        return Ok(());
+    };
+    let customer = owner_of(auditor, &entry);
+    book.add_print(rt, names, place, Entry { customer, ..entry })
 }
 
 impl Clerk {
-    /// A clerk that went over no run. AllocError is want of memory.
+    /// A clerk that went over no run, and a journal of this form. AllocError is want of memory.
     pub fn new(alloc: Global, form: Form) -> Result<Clerk, AllocError>
         ensures ready { IfOk result (λ c. IsReady (audit_of c.auditor)) }
     {
         let auditor = Auditor::new(alloc)?;
         let book = Book::new(alloc, form)?;
-        Ok(Clerk {
-            auditor,
-            book,
-            digests: Vec::new(alloc),
-        })
+        Ok(Clerk { auditor, book })
     }
 
     // Takes an event with its line of the report: how many bytes of the rates it took.
@@ -169,27 +195,45 @@ impl Clerk {
         event: &Event,
         rates: &[u8],
         line: &[u8],
-    ) -> Result<usize, Fault>
+    ) -> Result<usize, BookFault>
         requires whole { IsWholeEvent event.now }
         requires ready { IsReady (audit_of self.old.auditor) }
         ensures ready { IsReady (audit_of self.new.auditor) }
     {
         let doing = doing_of(event);
         let due = due(rt.alloc(), &mut self.auditor, event, rates)?;
-        let made = self.book.expected(place, &doing, &due);
+        let made = self
+            .book
+            .expected(place, self.auditor.day(), &doing, &due);
         let before = known(&self.auditor, &made);
-        let taken = match judged(rt.alloc(), &mut self.auditor, event, rates, line) {
-            Ok(taken) => taken,
-            Err(Finding::Memory) => return Err(Fault::Memory),
-            Err(Finding::Wrong(_)) => return Err(Fault::Counted),
-        };
-        self.book.date(self.auditor.day());
-        self.book.hear(place, &doing, &due, line)?;
-        settle(rt, names, &self.auditor, &mut self.book, &made, &before)?;
+        let taken = judged(rt.alloc(), &mut self.auditor, event, rates, line)?;
+        let day = self.auditor.day();
+        self.book.date(day);
+        self.book.hear(rt.alloc(), place, day, &doing, &due, line)?;
+        settle(rt, names, place, &self.auditor, &mut self.book, &made, &before)?;
+        self.book.give_out(&due, line);
+        tell_print(rt, names, place, &self.auditor, &mut self.book, &doing, line)?;
         Ok(taken)
     }
 
-    // Takes an event in which the run was stopped: it was done with the reply that begins so, or its commit is open, if it makes one.
+    // Hears a reply that a report begins, and ends with.
+    fn hear_begun(
+        &mut self,
+        alloc: Global,
+        place: Place,
+        doing: &Doing,
+        due: &Reply,
+        line: &[u8],
+    ) -> Result<(), BookFault>
+        requires ready { IsReady (audit_of self.old.auditor) }
+        ensures ready { IsReady (audit_of self.new.auditor) }
+    {
+        let day = self.auditor.day();
+        self.book.date(day);
+        self.book.hear(alloc, place, day, doing, due, line)
+    }
+
+    // Takes an event in which the run was stopped: it was done with the reply that begins so, or its commit is in doubt, if it makes one.
     fn break_off(
         &mut self,
         rt: &HostRuntime,
@@ -197,14 +241,16 @@ impl Clerk {
         place: Place,
         event: &Event,
         left: Left<'_>,
-    ) -> Result<(), Fault>
+    ) -> Result<(), BookFault>
         requires whole { IsWholeEvent event.now }
         requires ready { IsReady (audit_of self.old.auditor) }
         ensures ready { IsReady (audit_of self.new.auditor) }
     {
         let doing = doing_of(event);
         let due = due(rt.alloc(), &mut self.auditor, event, left.rates)?;
-        let made = self.book.expected(place, &doing, &due);
+        let made = self
+            .book
+            .expected(place, self.auditor.day(), &doing, &due);
         let before = known(&self.auditor, &made);
         let told = broken_off(
             rt.alloc(),
@@ -213,16 +259,26 @@ impl Clerk {
             left.rates,
             left.report,
         )?;
+        let mut line = Line::new();
         if let Some(reply) = told {
-            let mut line = Line::new();
             put_reply(&mut line, &reply);
-            self.book.date(self.auditor.day());
-            self.book.hear(place, &doing, &due, line.as_slice())?;
+            self.hear_begun(rt.alloc(), place, &doing, &due, line.as_slice())?;
         }
-        settle(rt, names, &self.auditor, &mut self.book, &made, &before)
+        self.book.note(place, Mishap::Stop, self.auditor.day())?;
+        settle(rt, names, place, &self.auditor, &mut self.book, &made, &before)?;
+        self.book.give_out(&due, line.as_slice());
+        tell_print(
+            rt,
+            names,
+            place,
+            &self.auditor,
+            &mut self.book,
+            &doing,
+            line.as_slice(),
+        )
     }
 
-    // Goes over the first line of what is left, and gives what is left behind it. None where there is no line, or no answer to it.
+    // Goes over the first line of what is left, and gives what is left behind it. None if there is no line, or no answer to it.
     fn turn<'a>(
         &mut self,
         rt: &HostRuntime,
@@ -230,7 +286,7 @@ impl Clerk {
         place: Place,
         left: Left<'a>,
         stopped: Option<u32>,
-    ) -> Result<Option<Left<'a>>, Fault>
+    ) -> Result<Option<Left<'a>>, BookFault>
         requires ready { IsReady (audit_of self.old.auditor) }
         ensures ready { IsReady (audit_of self.new.auditor) }
     {
@@ -261,6 +317,7 @@ impl Clerk {
     }
 
     /// Goes over the run of this place among the names, as far as its report has answers, and over the event of the line in which it was stopped.
+    /// BookFault::Write if standard output takes no more, BookFault::Counted if a line is judged otherwise than before, BookFault::Memory is want of memory.
     pub fn go_over(
         &mut self,
         rt: &HostRuntime,
@@ -268,15 +325,12 @@ impl Clerk {
         place: usize,
         run: &Run,
         stopped: Option<u32>,
-    ) -> Result<(), Fault>
+    ) -> Result<(), BookFault>
         requires ready { IsReady (audit_of self.old.auditor) }
         ensures ready { IsReady (audit_of self.new.auditor) }
     {
-        let before = self.digests.last().copied().unwrap_or(NO_RUNS);
-        let Ok(()) = self.digests.push(digest_with(&before, run)) else {
-            return Err(Fault::Memory);
-        };
         self.auditor.begin();
+        self.book.begin_run();
         let mut left = Left {
             script: run.script.as_slice(),
             report: run.report.as_slice(),
