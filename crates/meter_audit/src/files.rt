@@ -1,6 +1,6 @@
 //! The files of runs: NAME.script, NAME.report and NAME.rates, which is empty where it is missing, as the meter takes it.
 use crate::faults::{Fault, or_memory};
-use audit_book::Run;
+use audit_clerk::Run;
 use audit_words::shown_text;
 use std::fs::{self, File};
 use std::io::{self, Read};

@@ -17,7 +17,7 @@ mod verdicts;
 
 ghost use Rattle.told_bench.specs.Seeing.{IsReady, audit_of};
 
-use audit_book::Clerk;
+use audit_clerk::Clerk;
 use audit_journal::Form;
 use audit_pages::{tell_page, tell_table};
 use audit_words::{Asked, Call, HELP, VERSION, Words, WordsFault, read_call};

@@ -7,8 +7,7 @@ use crate::files::{open_of, rates_of, unusable_of, whole_run};
 use crate::judging::{Judged, Outcome, judge_over};
 use crate::plan::{Plan, is_counted, takes_output};
 use crate::verdicts::{FINDING, is_finding, is_undecided, stopped_at, verdict_text};
-use audit_book::{Clerk, Run};
-use audit_due::{DueFault, Papers, put_due};
+use audit_clerk::{Clerk, Run, put_due};
 use audit_words::{Asked, shown_text};
 use bench_base::numbers::DayNo;
 use bench_base::stream::IoSink;
@@ -142,18 +141,8 @@ fn tell_due(
         };
         return Err(Fault::Unstopped(or_memory(shown_text(rt.alloc(), name))?));
     }
-    let papers = Papers {
-        script: run.script.as_slice(),
-        report: run.report.as_slice(),
-        rates: run.rates.as_slice(),
-    };
     let mut output = IoSink::new(io::writer(rt));
-    match put_due(rt.alloc(), auditor, papers, &mut output) {
-        Ok(()) => Ok(()),
-        Err(DueFault::Memory) => Err(Fault::Memory),
-        Err(DueFault::Write) => Err(Fault::Write),
-        Err(DueFault::Otherwise) => Err(Fault::Counted),
-    }
+    or_book(put_due(rt.alloc(), auditor, run, &mut output))
 }
 
 // Goes once more over a run of which nothing was found.

@@ -1,124 +1,19 @@
 //! Goes over runs that were judged once more, a line after the other, and has the book count what they tell. An auditor of its own is taken along: what is
 //! known of a node before and behind a line is what that tells.
-ghost use Rattle.std.specs.Prelude.{◌≤◌, length, IfOk};
+ghost use Rattle.std.specs.Prelude.{IfOk};
 ghost use Rattle.bench_base.specs.Ranges.{IsWholeEvent};
 ghost use Rattle.told_bench.specs.Seeing.{IsReady, audit_of};
 
-use crate::book::{Book, Made};
-use crate::figures::{Figures, figures_of, owner_of, seen_by};
+use crate::figures::{figures_of, owner_of, seen_by};
+use crate::hearing::{broken_off, due, judged};
+use crate::lines::{LINES, Left, Run, behind, behind_line, line_len};
+use audit_book::{Book, Figures, Made};
 use audit_journal::{BookFault, Entry, Form};
 use audit_tally::{Doing, Mishap, Place, doing_of};
-use bench::MOST_MESSAGES;
 use bench_base::events::{Event, Reply};
 use script_text::{Line, is_skipped, put_reply, read_event};
 use std::alloc::{AllocError, Global};
-use told_bench::{Auditor, Finding, due_to, judge, stop};
-use told_runs::{LINES, behind};
-
-/// A run, whole in memory.
-#[derive(Drop)]
-pub struct Run {
-    pub script: Vec<u8>,
-    pub report: Vec<u8>,
-    pub rates: Vec<u8>,
-}
-
-/// What is left of a run.
-#[derive(Clone, Copy)]
-struct Left<'a> {
-    script: &'a [u8],
-    report: &'a [u8],
-    rates: &'a [u8],
-}
-
-// The place of the first line end, or the end.
-fn line_len(bytes: &[u8]) -> usize
-    ensures { result ≤ length bytes.now }
-{
-    for at in 0..bytes.len() {
-        if bytes[at] == b'\n' {
-            return at;
-        }
-    }
-    bytes.len()
-}
-
-// What is left behind the first line and its line end.
-fn behind_line(bytes: &[u8]) -> &[u8] {
-    let end = line_len(bytes);
-    if end < bytes.len() {
-        &bytes[end + 1..]
-    } else {
-        &[]
-    }
-}
-
-// What judgements say of a line that was judged before: how many bytes of the rates it took.
-fn judged(
-    alloc: Global,
-    auditor: &mut Auditor,
-    event: &Event,
-    rates: &[u8],
-    line: &[u8],
-) -> Result<usize, BookFault>
-    requires whole { IsWholeEvent event.now }
-    requires ready { IsReady (audit_of auditor.old) }
-    ensures ready { IsReady (audit_of auditor.new) }
-{
-    // A run that is judged has at most as many lines.
-    if auditor.message_count() >= MOST_MESSAGES {
-        return Err(BookFault::Memory);
-    }
-    match judge(alloc, auditor, event, rates, line) {
-        Ok(taken) => Ok(taken),
-        Err(Finding::Memory) => Err(BookFault::Memory),
-        Err(Finding::Wrong(_)) => Err(BookFault::Counted),
-    }
-}
-
-// What judgements say of a line whose answer was found to be missing, or to be begun: the reply with which its event was done, or none if that is in doubt.
-fn broken_off(
-    alloc: Global,
-    auditor: &mut Auditor,
-    event: &Event,
-    rates: &[u8],
-    front: &[u8],
-) -> Result<Option<Reply>, BookFault>
-    requires whole { IsWholeEvent event.now }
-    requires ready { IsReady (audit_of auditor.old) }
-    ensures ready { IsReady (audit_of auditor.new) }
-{
-    // A run that is judged has at most as many lines.
-    if auditor.message_count() >= MOST_MESSAGES {
-        return Err(BookFault::Memory);
-    }
-    match stop(alloc, auditor, event, rates, front) {
-        Ok(told) => Ok(told),
-        Err(Finding::Memory) => Err(BookFault::Memory),
-        Err(Finding::Wrong(_)) => Err(BookFault::Counted),
-    }
-}
-
-// The answer that is due to the event.
-fn due(
-    alloc: Global,
-    auditor: &mut Auditor,
-    event: &Event,
-    rates: &[u8],
-) -> Result<Reply, BookFault>
-    requires whole { IsWholeEvent event.now }
-    requires ready { IsReady (audit_of auditor.old) }
-    ensures ready { IsReady (audit_of auditor.new) }
-{
-    // A run that is judged has at most as many lines.
-    if auditor.message_count() >= MOST_MESSAGES {
-        return Err(BookFault::Memory);
-    }
-    match due_to(alloc, auditor, event, rates) {
-        Ok(due) => Ok(due),
-        Err(_) => Err(BookFault::Memory),
-    }
-}
+use told_bench::Auditor;
 
 /// Goes over runs behind the judgements on them.
 #[derive(Drop)]
@@ -331,11 +226,7 @@ impl Clerk {
     {
         self.auditor.begin();
         self.book.begin_run();
-        let mut left = Left {
-            script: run.script.as_slice(),
-            report: run.report.as_slice(),
-            rates: run.rates.as_slice(),
-        };
+        let mut left = run.whole();
         for count in 0..LINES {
             let at = Place {
                 run: place,

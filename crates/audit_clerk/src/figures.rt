@@ -1,38 +1,11 @@
 //! What the auditor knows of a node before or behind a line. Amounts are in mills.
 ghost use Rattle.told_bench.specs.Seeing.{IsReady, audit_of};
 
+use audit_book::{Figures, Ruling, Seen, last_ruling};
 use audit_journal::{Deed, Entry};
 use bench_base::numbers::{Customer, DevNo};
-use bench_base::words::{Kind, Node, Verdict};
-use centre_ledger::ruling_in;
-use psd_wire::{Message, read_message};
+use bench_base::words::Node;
 use told_bench::Auditor;
-
-/// How many commits of the node count, whether one is open, and the balance of whom the commit is.
-#[derive(Clone, Copy)]
-pub struct Figures {
-    pub commits: u64,
-    pub is_open: bool,
-    pub balance: Option<u64>,
-}
-
-/// The last ruling on a device: the number of the request, what it asked for, and the verdict.
-#[derive(Clone, Copy)]
-pub struct Ruling {
-    pub number: u32,
-    pub kind: Kind,
-    pub asked: u64,
-    pub verdict: Verdict,
-}
-
-/// What is known of a node before and behind a line, and of the device that the commit is of: its customer and its last ruling.
-#[derive(Clone, Copy)]
-pub struct Seen {
-    pub before: Figures,
-    pub after: Figures,
-    pub customer: Option<Customer>,
-    pub ruling: Option<Ruling>,
-}
 
 // The descending register of the device.
 fn descending(auditor: &Auditor, device: DevNo) -> Option<u64>
@@ -75,24 +48,10 @@ pub fn figures_of(auditor: &Auditor, entry: &Entry) -> Figures
     }
 }
 
-/// The last ruling of the centre on the device, by the commits that count. None if there was none.
-pub fn ruling_of(auditor: &Auditor, device: DevNo) -> Option<Ruling> {
-    let (verdict, note) = ruling_in(auditor.device_row(device)?)?;
-    match read_message(note.as_slice()) {
-        Ok(Message::Request(request)) => Some(Ruling {
-            number: request.number,
-            kind: request.kind,
-            asked: request.amount,
-            verdict,
-        }),
-        _ => None,
-    }
-}
-
 // The last ruling on the device of the entry, if the commit is one of the centre on a request.
 fn ruling_for(auditor: &Auditor, entry: &Entry) -> Option<Ruling> {
     match entry.deed {
-        Deed::Ruled | Deed::Settled => ruling_of(auditor, entry.device?),
+        Deed::Ruled | Deed::Settled => last_ruling(auditor.device_row(entry.device?)?),
         Deed::Made
         | Deed::Asked
         | Deed::Applied

@@ -2,34 +2,15 @@
 ghost use Rattle.bench_base.specs.Ranges.{IsWholeEvent};
 ghost use Rattle.told_bench.specs.Seeing.{IsReady, audit_of};
 
-use crate::lines::{behind_line, line_len};
-use bench::MOST_MESSAGES;
+use crate::hearing::{broken_off, due, judged};
+use crate::lines::{LINES, Left, Run, behind, behind_line, line_len};
+use audit_journal::BookFault;
 use bench_base::events::Event;
 use bench_base::stream::Sink;
 use script_text::{Line, is_skipped, put_reply, read_event};
 use std::alloc::Global;
 use text_streams::put_text;
-use told_bench::{Auditor, Finding, begins, due_to, judge, stop};
-use told_runs::{LINES, behind};
-
-/// Why nothing more is written.
-#[derive(Clone, Copy, Debug, Drop, PartialEq, Eq)]
-pub enum DueFault {
-    /// There is no memory.
-    Memory,
-    /// The sink failed.
-    Write,
-    /// A line of the report is no answer to its event, though it was judged.
-    Otherwise,
-}
-
-/// What is left of a run: its script, its report, which ends before an answer, and its rates.
-#[derive(Clone, Copy)]
-pub struct Papers<'a> {
-    pub script: &'a [u8],
-    pub report: &'a [u8],
-    pub rates: &'a [u8],
-}
+use told_bench::{Auditor, begins};
 
 /// What was due to an event.
 #[derive(Drop)]
@@ -40,29 +21,6 @@ enum Due {
     Open,
 }
 
-// Tells the event with this line: how much of the rates it took, in bytes.
-fn hear(
-    alloc: Global,
-    auditor: &mut Auditor,
-    event: &Event,
-    rates: &[u8],
-    line: &[u8],
-) -> Result<usize, DueFault>
-    requires whole { IsWholeEvent event.now }
-    requires ready { IsReady (audit_of auditor.old) }
-    ensures ready { IsReady (audit_of auditor.new) }
-{
-    // A run has at most as many lines.
-    if auditor.message_count() >= MOST_MESSAGES {
-        return Err(DueFault::Memory);
-    }
-    match judge(alloc, auditor, event, rates, line) {
-        Ok(taken) => Ok(taken),
-        Err(Finding::Memory) => Err(DueFault::Memory),
-        Err(Finding::Wrong(_)) => Err(DueFault::Otherwise),
-    }
-}
-
 // The line of the answer that is due to the event without a failure, if the report may end so in it.
 fn due_line(
     alloc: Global,
@@ -70,26 +28,18 @@ fn due_line(
     event: &Event,
     rates: &[u8],
     front: &[u8],
-) -> Result<Option<Line>, DueFault>
+) -> Result<Option<Line>, BookFault>
     requires whole { IsWholeEvent event.now }
     requires ready { IsReady (audit_of auditor.old) }
     ensures ready { IsReady (audit_of auditor.new) }
 {
-    // A run has at most as many lines.
-    if auditor.message_count() >= MOST_MESSAGES {
-        return Err(DueFault::Memory);
+    let due = due(alloc, auditor, event, rates)?;
+    if !begins(&due, front) {
+        return Ok(None);
     }
-    match due_to(alloc, auditor, event, rates) {
-        Ok(due) => {
-            if !begins(&due, front) {
-                return Ok(None);
-            }
-            let mut line = Line::new();
-            put_reply(&mut line, &due);
-            Ok(Some(line))
-        }
-        Err(_) => Err(DueFault::Memory),
-    }
+    let mut line = Line::new();
+    put_reply(&mut line, &due);
+    Ok(Some(line))
 }
 
 // Tells the event as one that was stopped in this answer, which is not the one that is due without a failure.
@@ -99,24 +49,18 @@ fn break_off(
     event: &Event,
     rates: &[u8],
     front: &[u8],
-) -> Result<Due, DueFault>
+) -> Result<Due, BookFault>
     requires whole { IsWholeEvent event.now }
     requires ready { IsReady (audit_of auditor.old) }
     ensures ready { IsReady (audit_of auditor.new) }
 {
-    // A run has at most as many lines.
-    if auditor.message_count() >= MOST_MESSAGES {
-        return Err(DueFault::Memory);
-    }
-    match stop(alloc, auditor, event, rates, front) {
-        Ok(Some(reply)) => {
+    match broken_off(alloc, auditor, event, rates, front)? {
+        Some(reply) => {
             let mut line = Line::new();
             put_reply(&mut line, &reply);
             Ok(Due::Line(line, 0))
         }
-        Ok(None) => Ok(Due::Open),
-        Err(Finding::Memory) => Err(DueFault::Memory),
-        Err(Finding::Wrong(_)) => Err(DueFault::Otherwise),
+        None => Ok(Due::Open),
     }
 }
 
@@ -127,14 +71,14 @@ fn due_in(
     event: &Event,
     rates: &[u8],
     front: &[u8],
-) -> Result<Due, DueFault>
+) -> Result<Due, BookFault>
     requires whole { IsWholeEvent event.now }
     requires ready { IsReady (audit_of auditor.old) }
     ensures ready { IsReady (audit_of auditor.new) }
 {
     match due_line(alloc, auditor, event, rates, front)? {
         Some(line) => {
-            let taken = hear(alloc, auditor, event, rates, line.as_slice())?;
+            let taken = judged(alloc, auditor, event, rates, line.as_slice())?;
             Ok(Due::Line(line, taken))
         }
         None => break_off(alloc, auditor, event, rates, front),
@@ -142,13 +86,13 @@ fn due_in(
 }
 
 // Writes a line.
-fn put_line<K: Sink>(sink: &mut K, line: &[u8]) -> Result<(), DueFault> {
+fn put_line<K: Sink>(sink: &mut K, line: &[u8]) -> Result<(), BookFault> {
     let Ok(()) = put_text(sink, line) else {
-        return Err(DueFault::Write);
+        return Err(BookFault::Write);
     };
     match put_text(sink, b"\n") {
         Ok(()) => Ok(()),
-        Err(_) => Err(DueFault::Write),
+        Err(_) => Err(BookFault::Write),
     }
 }
 
@@ -164,9 +108,9 @@ fn answer<'a, K: Sink>(
     alloc: Global,
     auditor: &mut Auditor,
     event: &Event,
-    left: Papers<'a>,
+    left: Left<'a>,
     sink: &mut K,
-) -> Result<Option<Papers<'a>>, DueFault>
+) -> Result<Option<Left<'a>>, BookFault>
     requires whole { IsWholeEvent event.now }
     requires ready { IsReady (audit_of auditor.old) }
     ensures ready { IsReady (audit_of auditor.new) }
@@ -178,7 +122,7 @@ fn answer<'a, K: Sink>(
             if is_end(event) {
                 return Ok(None);
             }
-            Ok(Some(Papers {
+            Ok(Some(Left {
                 script: behind_line(left.script),
                 report: &[],
                 rates: behind(left.rates, taken),
@@ -191,9 +135,9 @@ fn answer<'a, K: Sink>(
 fn turn<'a, K: Sink>(
     alloc: Global,
     auditor: &mut Auditor,
-    left: Papers<'a>,
+    left: Left<'a>,
     sink: &mut K,
-) -> Result<Option<Papers<'a>>, DueFault>
+) -> Result<Option<Left<'a>>, BookFault>
     requires ready { IsReady (audit_of auditor.old) }
     ensures ready { IsReady (audit_of auditor.new) }
 {
@@ -203,7 +147,7 @@ fn turn<'a, K: Sink>(
     let line = &left.script[..line_len(left.script)];
     let script = behind_line(left.script);
     if is_skipped(line) {
-        return Ok(Some(Papers { script, ..left }));
+        return Ok(Some(Left { script, ..left }));
     }
     let Ok(event) = &read_event(line) else {
         return Ok(None);
@@ -212,8 +156,8 @@ fn turn<'a, K: Sink>(
     if told == left.report.len() {
         return answer(alloc, auditor, event, left, sink);
     }
-    let taken = hear(alloc, auditor, event, left.rates, &left.report[..told])?;
-    Ok(Some(Papers {
+    let taken = judged(alloc, auditor, event, left.rates, &left.report[..told])?;
+    Ok(Some(Left {
         script,
         report: &left.report[told + 1..],
         rates: behind(left.rates, taken),
@@ -222,20 +166,20 @@ fn turn<'a, K: Sink>(
 
 /// Goes over a run behind what the auditor has, and writes the answers that were due from the line on in which it was stopped, a line each, as the report would have them, up to the
 /// script's `end`, a bad line or its last one. Where a node's next `up` alone says what became of an event, it is taken as done without a failure. Nothing is written
-/// if the report ends in a failure of a node. DueFault::Otherwise if a line of the report is no answer to its event, DueFault::Write if the sink failed, DueFault::Memory is
+/// if the report ends in a failure of a node. BookFault::Counted if a line of the report is no answer to its event, BookFault::Write if the sink failed, BookFault::Memory is
 /// want of memory.
 pub fn put_due<K: Sink>(
     alloc: Global,
     auditor: &mut Auditor,
-    papers: Papers<'_>,
+    run: &Run,
     sink: &mut K,
-) -> Result<(), DueFault>
+) -> Result<(), BookFault>
     requires ready { IsReady (audit_of auditor.old) }
     ensures ready { IsReady (audit_of auditor.new) }
 {
     auditor.begin();
-    let mut left = papers;
-    for _ in 0..LINES {
+    let mut left = run.whole();
+    for _count in 0..LINES {
         match turn(alloc, auditor, left, sink)? {
             Some(next) => left = next,
             None => return Ok(()),
