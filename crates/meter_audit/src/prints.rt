@@ -8,8 +8,11 @@ use std::fs::File;
 use text_streams::put_digits;
 use told_runs::{Imprint, Match, Taken, match_prints};
 
+/// The digits of a mark.
+const DIGITS: usize = 128;
+
 /// The bytes of the line of a mark, with its line end.
-const LINE: usize = 129;
+const LINE: usize = DIGITS + 1;
 
 /// The most bytes of a line that are shown.
 const SHOWN: usize = 600;
@@ -52,7 +55,7 @@ fn line_at(alloc: Global, prints: &[u8], place: usize) -> Result<String, AllocEr
 
 // The digits of a mark.
 fn mark_text(alloc: Global, mark: &[u8; 64]) -> Result<String, AllocError> {
-    let mut digits = [0; LINE - 1];
+    let mut digits = [0; DIGITS];
     put_digits(mark.as_slice(), &mut digits);
     shown(alloc, &digits)
 }
@@ -108,15 +111,15 @@ fn text_of(
     prints: &[u8],
     found: Match,
 ) -> Result<String, AllocError> {
-    let file = &shown_text(alloc, file)?;
-    let file = file.as_str();
+    let shown_file = shown_text(alloc, file)?;
+    let file = shown_file.as_str();
     let place = match found {
         Match::Fit => return format!(in alloc; "prints {file} fit"),
         Match::Differ(place) | Match::Open(place) => place,
     };
     let number = place.saturating_add(1);
-    let line = &line_at(alloc, prints, place)?;
-    let line = line.as_str();
+    let found_line = line_at(alloc, prints, place)?;
+    let line = found_line.as_str();
     let Some(imprint) = imprints.get(place) else {
         return format!(in alloc; "prints {file} go on behind the last, line {number} of {file}\nfound {line}");
     };
