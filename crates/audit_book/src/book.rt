@@ -1,5 +1,5 @@
 //! What is counted over the lines of runs: each commit that counts, in the journal, and the rest for the page. Amounts are in mills.
-use crate::figures::Seen;
+use crate::seen::Seen;
 use crate::settling::{
     with_asked, with_class, with_job, with_money, with_piece, with_request, with_ruling,
 };

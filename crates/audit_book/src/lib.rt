@@ -1,11 +1,9 @@
-//! Goes over runs that were judged once more, and counts what they tell: each commit that counts, in a journal, and the rest for a page.
+//! What is counted over the lines of runs that were judged: each commit that counts, in a journal, and the rest for a page.
 #![tactic(auto)]
 
 mod book;
-mod clerk;
-mod figures;
+mod seen;
 mod settling;
 
 pub use book::{Book, Made};
-pub use clerk::{Clerk, Run};
-pub use figures::{Figures, Ruling, Seen, ruling_of};
+pub use seen::{Figures, Ruling, Seen, last_ruling};

@@ -1,5 +1,5 @@
 //! What the journal has of a commit that counts, by what is known of its node behind the line. Amounts are in mills.
-use crate::figures::Seen;
+use crate::seen::Seen;
 use audit_journal::{Account, Amount, Entry};
 use audit_tally::{Ask, Job, Piece};
 use bench_base::words::{Kind, Node};

@@ -1,8 +1,9 @@
 //! The devices on a page: what each shows, how it and the centre compare, its deadline, and what it has asked for. Amounts are in mills.
 ghost use Rattle.told_bench.specs.Seeing.{IsReady, audit_of};
 
+use crate::rulings::ruling_of;
 use crate::saying::{say, tell_reply};
-use audit_book::{Book, ruling_of};
+use audit_book::Book;
 use audit_journal::{BookFault, date_text, kind_word, money_text, verdict_word};
 use audit_tally::Ask;
 use bench_base::events::DevView;

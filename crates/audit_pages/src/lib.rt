@@ -7,6 +7,7 @@ mod incidents;
 mod jobs;
 mod money;
 mod page;
+mod rulings;
 mod saying;
 mod table;
 

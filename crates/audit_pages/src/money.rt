@@ -1,8 +1,9 @@
 //! Where the money is: with customers, on the way to a device, on devices, or franked. Amounts are in mills.
 ghost use Rattle.told_bench.specs.Seeing.{IsReady, audit_of};
 
+use crate::rulings::ruling_of;
 use crate::saying::say;
-use audit_book::{Ruling, ruling_of};
+use audit_book::Ruling;
 use audit_journal::{BookFault, money_text};
 use bench_base::events::DevView;
 use bench_base::numbers::{Customer, DayNo, DevNo};

@@ -7,4 +7,4 @@ mod usage;
 
 pub use reading::{Asked, Call, Words, WordsFault, read_call};
 pub use showing::{shown, shown_text};
-pub use usage::{HELP, USAGE};
+pub use usage::{HELP, VERSION};

@@ -1,7 +1,7 @@
 //! What the auditor's program says of its words.
 
-/// What it says if the words are no call.
-pub const USAGE: &str = "usage: meter_audit [OPTION ..] [--runs DIR] NAME ..\n       meter_audit --check SCRIPT";
+/// What `--version` prints.
+pub const VERSION: &str = "meter_audit, edition 3 of the rules";
 
 /// What `--help` prints.
 pub const HELP: &str = "usage: meter_audit [OPTION ..] [--runs DIR] NAME ..
