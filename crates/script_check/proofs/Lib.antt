@@ -1,3 +1,4 @@
+pub mod Behind
 pub mod Firsts
 pub mod InPlace
 pub mod MadeEvents
