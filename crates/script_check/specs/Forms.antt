@@ -1,5 +1,5 @@
 -- The words that may follow the first word of a line.
-use Rattle.std.specs.Prelude.{◌≡◌, ℕ, ◌+◌, ◌<◌, ◌≤◌, List, [], ◌∷◌, length, take}
+use Rattle.std.specs.Prelude.{ℕ, suc, ◌<◌, ◌≤◌, List, [], ◌∷◌, length, take}
 use Rattle.script_check.specs.Slots.{Takes}
 use Rattle.script_check.specs.declared.keyword.Keyword.{Keyword}
 use Rattle.script_check.specs.declared.keyword.Keyword.TheVariants as kw
@@ -52,4 +52,4 @@ AreInPlace (s ∷ form) (w ∷ ws) = Takes s w × AreInPlace form ws
 pub record IsTaken (form : List Slot) (ws : List (List ℕ)) (count : ℕ) : Type 0 where
   pub inside : count ≤ length ws
   pub are : AreInPlace form (take count ws)
-  pub no_more : count < length ws → AreInPlace form (take (count + 1) ws) → ⊥
+  pub no_more : count < length ws → AreInPlace form (take (suc count) ws) → ⊥

@@ -1,8 +1,9 @@
 //! The first word of a line that no event has there.
-ghost use Rattle.std.specs.Prelude.{◌≡◌, ◌↔◌, IsNone, IfSome};
+ghost use Rattle.std.specs.Prelude.{◌≡◌, ◌↔◌, ◌+◌, ◌≤◌, ◌-◌, ◌⊎◌, [], ◌∷◌, length, slice_get, None, Some, IsNone, IfSome, MatchOption};
 ghost use Rattle.bench_base.specs.Ranges.{IsWholeEvent};
 ghost use Rattle.bench_base.specs.declared.events.Event.{Event};
-ghost use Rattle.script_check.specs.Wrong.{IsFirstWrong};
+ghost use Rattle.script_check.specs.Keywords.{keyword_word};
+ghost use Rattle.script_check.specs.Wrong.{IsFirstWrong, IsWordAt, IsBehindAll};
 ghost use Rattle.script_text.specs.Grammar.{Spells};
 ghost use Rattle.script_words.specs.Words.{words_in};
 
@@ -14,9 +15,11 @@ use script_text::read_event;
 use script_words::split_word;
 
 // The word behind so many others.
-fn word_behind(count: usize, words: &[u8]) -> Option<&[u8]> {
+fn word_behind(count: usize, words: &[u8]) -> Option<&[u8]>
+    ensures { MatchOption result (slice_get (words_in words.now) count ≡ None) (λ w. slice_get (words_in words.now) count ≡ Some w.now) }
+{
     let mut rest = words;
-    for _ in 0..count {
+    for _at in 0..count {
         match split_word(rest) {
             Some((_, behind)) => rest = behind,
             None => return None,
@@ -87,7 +90,10 @@ fn wanted_behind(keyword: Keyword, count: usize, first: usize, second: usize) ->
     wanted_of(form.get(count), beside.get(count))
 }
 
-fn fault_at(place: usize, found: Option<&[u8]>, wanted: Wanted) -> WordFault<'_> {
+fn fault_at(place: usize, found: Option<&[u8]>, wanted: Wanted) -> WordFault<'_>
+    ensures place { result.place ≡ place }
+    ensures found { result.found ≡ found.entry }
+{
     let hint = match found {
         Some(word) => hint_of(place, word),
         None => Hint::Nothing,
@@ -100,11 +106,23 @@ fn fault_at(place: usize, found: Option<&[u8]>, wanted: Wanted) -> WordFault<'_>
     }
 }
 
+fn greater(first: usize, second: usize) -> usize
+    ensures first { first ≤ result }
+    ensures second { second ≤ result }
+    ensures one { (result ≡ first) ⊎ (result ≡ second) }
+{
+    if first < second { second } else { first }
+}
+
 // The first word behind the keyword that no event has there.
-fn first_behind(keyword: Keyword, rest: &[u8]) -> WordFault<'_> {
+fn first_behind(keyword: Keyword, rest: &[u8]) -> WordFault<'_>
+    ensures first { IsFirstWrong result.place (keyword_word keyword ∷ words_in rest.now) }
+    ensures found { MatchOption result.found (IsBehindAll result.place (keyword_word keyword ∷ words_in rest.now))
+        (λ w. IsWordAt result.place (keyword_word keyword ∷ words_in rest.now) w.now) }
+{
     let first = count_taken(form_behind(keyword), rest);
     let second = count_taken(form_beside(keyword), rest);
-    let count = first.max(second);
+    let count = greater(first, second);
     fault_at(
         count + 2,
         word_behind(count, rest),
@@ -113,7 +131,10 @@ fn first_behind(keyword: Keyword, rest: &[u8]) -> WordFault<'_> {
 }
 
 // The first word of a line of one word, or the one that is missing behind it.
-fn first_alone(word: &[u8]) -> WordFault<'_> {
+fn first_alone(word: &[u8]) -> WordFault<'_>
+    ensures first { IsFirstWrong result.place (word.now ∷ []) }
+    ensures found { MatchOption result.found (IsBehindAll result.place (word.now ∷ [])) (λ w. IsWordAt result.place (word.now ∷ []) w.now) }
+{
     match read_keyword(word) {
         Some(keyword) => fault_at(2, None, wanted_behind(keyword, 0, 0, 0)),
         None => fault_at(1, Some(word), Wanted::Keyword),
@@ -121,7 +142,10 @@ fn first_alone(word: &[u8]) -> WordFault<'_> {
 }
 
 // The first word of a line that no event has there.
-fn first_wrong(line: &[u8]) -> WordFault<'_> {
+fn first_wrong(line: &[u8]) -> WordFault<'_>
+    ensures first { IsFirstWrong result.place (words_in line.now) }
+    ensures found { MatchOption result.found (IsBehindAll result.place (words_in line.now)) (λ w. IsWordAt result.place (words_in line.now) w.now) }
+{
     match split_word(line) {
         Some((word, rest)) => match read_keyword(word) {
             Some(keyword) => first_behind(keyword, rest),
@@ -131,11 +155,15 @@ fn first_wrong(line: &[u8]) -> WordFault<'_> {
     }
 }
 
-/// What is wrong with a line; None if and only if the line is that of an event.
+/// What is wrong with a line; None if and only if the line is that of an event. Otherwise the place is that of the first word that no event has there,
+/// behind the words before it.
 ///
 /// The line comes without its line end. An empty line, and one that begins with `#`, are no event, though a run skips them.
 pub fn check_line(line: &[u8]) -> Option<WordFault<'_>>
     ensures none { IsNone result ↔ ((e : Event) × IsWholeEvent e × Spells e line.now) }
+    ensures first { IfSome result (λ f. IsFirstWrong f.place (words_in line.now)) }
+    ensures found { IfSome result (λ f. MatchOption f.found (IsBehindAll f.place (words_in line.now))
+        (λ w. IsWordAt f.place (words_in line.now) w.now)) }
 {
     match read_event(line) {
         Ok(_) => None,
