@@ -56,11 +56,19 @@ pub fn want_regular(rt: &HostRuntime, file: &str) -> Result<(), Fault> {
     }
 }
 
+// Whether what was opened is a folder, which can't be read.
+fn is_folder(opened: &File) -> bool {
+    match opened.metadata() {
+        Ok(found) => found.is_dir(),
+        Err(_) => false,
+    }
+}
+
 /// Opens a file.
 pub fn open_file(rt: &HostRuntime, file: &str) -> Result<File, Fault> {
     match File::open(rt, file) {
-        Ok(opened) => Ok(opened),
-        Err(_) => Err(unusable(rt, file)),
+        Ok(opened) if !is_folder(&opened) => Ok(opened),
+        Ok(_) | Err(_) => Err(unusable(rt, file)),
     }
 }
 
@@ -132,10 +140,15 @@ fn bytes_of(rt: &HostRuntime, name: &str, ending: &str) -> Result<Vec<u8>, Fault
     }
 }
 
-/// A run with these rates, whole in memory, so that what is counted is what was judged.
-pub fn whole_run(rt: &HostRuntime, name: &str, rates: Vec<u8>) -> Result<Run, Fault> {
+/// A run, whole in memory, so that what is counted is what was judged. Its rates are those of every run, if there are such.
+pub fn whole_run(
+    rt: &HostRuntime,
+    name: &str,
+    shared: &Option<Vec<u8>>,
+) -> Result<Run, Fault> {
     let script = bytes_of(rt, name, ".script")?;
     let report = bytes_of(rt, name, ".report")?;
+    let rates = rates_of(rt, name, shared)?;
     Ok(Run {
         script,
         report,

@@ -81,12 +81,12 @@ fn tell(rt: &HostRuntime, asked: Asked, name: &str, judged: &Judged) -> Result<u
     Ok(0)
 }
 
-// Judges a run by its files, which are read once, line by line.
+// Judges a run by its files, which are read once, line by line. Its rates are those of every run, if there are such.
 fn judge_files(
     rt: &HostRuntime,
     auditor: &mut Auditor,
     name: &str,
-    rates: &[u8],
+    shared: &Option<Vec<u8>>,
     imprints: &mut Vec<Imprint>,
 ) -> Result<Judged, Fault>
     requires ready { IsReady (audit_of auditor.old) }
@@ -94,7 +94,15 @@ fn judge_files(
 {
     let script = open_of(rt, name, ".script")?;
     let report = open_of(rt, name, ".report")?;
-    or_memory(judge_over(rt.alloc(), auditor, script, report, rates, imprints))
+    let rates = rates_of(rt, name, shared)?;
+    or_memory(judge_over(
+        rt.alloc(),
+        auditor,
+        script,
+        report,
+        rates.as_slice(),
+        imprints,
+    ))
 }
 
 // Judges a run that is whole in memory.
@@ -200,13 +208,12 @@ fn judge_next(
     ensures ready { IsReady (audit_of auditor.new) }
     ensures ready_clerk { IsReady (audit_of clerk.new.auditor) }
 {
-    let rates = rates_of(rt, name, &plan.rates)?;
     if !is_counted(plan.asked) {
-        let judged = judge_files(rt, auditor, name, rates.as_slice(), &mut gathered.imprints)?;
+        let judged = judge_files(rt, auditor, name, &plan.rates, &mut gathered.imprints)?;
         gathered.gather(&judged, auditor.day())?;
         return tell(rt, plan.asked, name, &judged);
     }
-    let run = whole_run(rt, name, rates)?;
+    let run = whole_run(rt, name, &plan.rates)?;
     let judged = judge_whole(rt.alloc(), auditor, &run, &mut gathered.imprints)?;
     gathered.gather(&judged, auditor.day())?;
     let code = tell(rt, plan.asked, name, &judged)?;
