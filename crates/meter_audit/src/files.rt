@@ -1,74 +1,154 @@
-//! The files of a run: NAME.script, NAME.report and NAME.rates, which is empty where it is missing, as the meter takes it.
-use crate::Fault;
-use bench_base::stream::IoSource;
+//! The files of runs: NAME.script, NAME.report and NAME.rates, which is empty where it is missing, as the meter takes it.
+use crate::faults::{Fault, or_memory};
+use audit_clerk::Run;
+use audit_words::shown_text;
 use std::fs::{self, File};
-use std::io;
-use text_streams::ReadAhead;
+use std::io::{self, Read};
 
-/// How much of a file is read at once, in bytes.
-const AHEAD: usize = 65_536;
+/// The most bytes of rates that are read: as much as 16 `rates` of a run can take, 65,537 each.
+const MOST_RATES: u64 = 1_048_592;
 
-/// A file that is read line by line.
-pub type Lines = ReadAhead<IoSource<File>>;
-
-/// A run, whole in memory.
-#[derive(Drop)]
-pub struct Run {
-    pub script: Vec<u8>,
-    pub report: Vec<u8>,
-    pub rates: Vec<u8>,
+// The text with another behind it.
+fn joined(rt: &HostRuntime, front: &str, back: &str) -> Result<String, Fault> {
+    let mut text = or_memory(String::from_str(rt.alloc(), front))?;
+    or_memory(text.push_str(back))?;
+    Ok(text)
 }
 
-/// The name of the file of a run that has this ending.
-pub fn file_of(rt: &HostRuntime, name: &str, ending: &str) -> Result<String, Fault> {
-    let mut file = String::new(rt.alloc());
-    let Ok(()) = file.push_str(name) else {
-        return Err(Fault::Memory);
-    };
-    let Ok(()) = file.push_str(ending) else {
-        return Err(Fault::Memory);
-    };
-    Ok(file)
-}
-
-/// The whole file of a run that has this ending.
-pub fn bytes_of(rt: &HostRuntime, name: &str, ending: &str) -> Result<Vec<u8>, Fault> {
-    let file = file_of(rt, name, ending)?;
-    match fs::read(rt, file.as_str()) {
-        Ok(bytes) => Ok(bytes),
-        Err(fault) if fault.kind() == io::ErrorKind::OutOfMemory => Err(Fault::Memory),
-        Err(_) => Err(Fault::File(file)),
+/// What is said of a file that can't be used.
+pub fn unusable(rt: &HostRuntime, file: &str) -> Fault {
+    match shown_text(rt.alloc(), file) {
+        Ok(text) => Fault::File(text),
+        Err(_) => Fault::Memory,
     }
 }
 
-/// The rates of a run.
-pub fn rates_of(rt: &HostRuntime, name: &str) -> Result<Vec<u8>, Fault> {
-    let file = file_of(rt, name, ".rates")?;
-    match fs::read(rt, file.as_str()) {
-        Ok(bytes) => Ok(bytes),
-        Err(fault) if fault.kind() == io::ErrorKind::NotFound => Ok(Vec::new(rt.alloc())),
-        Err(fault) if fault.kind() == io::ErrorKind::OutOfMemory => Err(Fault::Memory),
-        Err(_) => Err(Fault::File(file)),
+/// What is said of the file of a run that has this ending, if it can't be used.
+pub fn unusable_of(rt: &HostRuntime, name: &str, ending: &str) -> Fault {
+    match joined(rt, name, ending) {
+        Ok(file) => unusable(rt, file.as_str()),
+        Err(fault) => fault,
     }
 }
 
-/// The file of a run that has this ending, from its first line on.
-pub fn lines_of(rt: &HostRuntime, name: &str, ending: &str) -> Result<Lines, Fault> {
-    let file = file_of(rt, name, ending)?;
-    let Ok(opened) = File::open(rt, file.as_str()) else {
-        return Err(Fault::File(file));
-    };
-    let Ok(ahead) = vec![in rt.alloc(); 0; AHEAD] else {
-        return Err(Fault::Memory);
-    };
-    Ok(ReadAhead::new(IoSource::new(opened), ahead))
+// What is said of a file that is no regular one.
+fn irregular(rt: &HostRuntime, file: &str) -> Fault {
+    match shown_text(rt.alloc(), file) {
+        Ok(text) => Fault::Pipe(text),
+        Err(_) => Fault::Memory,
+    }
 }
 
-/// A run that is gone over once more.
-pub fn whole_run(rt: &HostRuntime, name: &str) -> Result<Run, Fault> {
+// What is said of a file at which this failed.
+fn fault_at(rt: &HostRuntime, file: &str, error: &io::Error) -> Fault {
+    match error.kind() {
+        io::ErrorKind::OutOfMemory => Fault::Memory,
+        _ => unusable(rt, file),
+    }
+}
+
+/// Refuses a file that is no regular one: such as a pipe, which can be read once alone, and may never end.
+pub fn want_regular(rt: &HostRuntime, file: &str) -> Result<(), Fault> {
+    match fs::metadata(rt, file) {
+        Ok(found) if found.is_file() => Ok(()),
+        Ok(_) => Err(irregular(rt, file)),
+        Err(_) => Err(unusable(rt, file)),
+    }
+}
+
+// Whether what was opened is a folder, which can't be read.
+fn is_folder(opened: &File) -> bool {
+    match opened.metadata() {
+        Ok(found) => found.is_dir(),
+        Err(_) => false,
+    }
+}
+
+/// Opens a file.
+pub fn open_file(rt: &HostRuntime, file: &str) -> Result<File, Fault> {
+    match File::open(rt, file) {
+        Ok(opened) if !is_folder(&opened) => Ok(opened),
+        Ok(_) | Err(_) => Err(unusable(rt, file)),
+    }
+}
+
+/// Opens the file of a run that has this ending.
+pub fn open_of(rt: &HostRuntime, name: &str, ending: &str) -> Result<File, Fault> {
+    let file = joined(rt, name, ending)?;
+    open_file(rt, file.as_str())
+}
+
+// The first bytes of an open file.
+fn front_of(rt: &HostRuntime, opened: File, most: u64) -> io::Result<Vec<u8>> {
+    let mut bytes = Vec::new(rt.alloc());
+    opened.take(most).read_to_end(&mut bytes)?;
+    Ok(bytes)
+}
+
+/// The first bytes of an open file, at most so many.
+pub fn first_bytes(
+    rt: &HostRuntime,
+    file: &str,
+    opened: File,
+    most: u64,
+) -> Result<Vec<u8>, Fault> {
+    match front_of(rt, opened, most) {
+        Ok(bytes) => Ok(bytes),
+        Err(error) => Err(fault_at(rt, file, &error)),
+    }
+}
+
+/// The rates in this file, which are those of every run.
+pub fn rates_in(rt: &HostRuntime, file: &str) -> Result<Vec<u8>, Fault> {
+    let opened = open_file(rt, file)?;
+    first_bytes(rt, file, opened, MOST_RATES)
+}
+
+// The rates of a run by its own file. That it is missing is mentioned on standard error, which may take no line.
+fn own_rates(rt: &HostRuntime, name: &str) -> Result<Vec<u8>, Fault> {
+    let file = joined(rt, name, ".rates")?;
+    match File::open(rt, file.as_str()) {
+        Ok(opened) => first_bytes(rt, file.as_str(), opened, MOST_RATES),
+        Err(error) if error.kind() == io::ErrorKind::NotFound => {
+            let missing = or_memory(shown_text(rt.alloc(), file.as_str()))?;
+            let _ = eprintln!(rt; "no {missing}: taken as empty");
+            Ok(Vec::new(rt.alloc()))
+        }
+        Err(error) => Err(fault_at(rt, file.as_str(), &error)),
+    }
+}
+
+/// The rates of a run: those of every run, if there are such.
+pub fn rates_of(
+    rt: &HostRuntime,
+    name: &str,
+    shared: &Option<Vec<u8>>,
+) -> Result<Vec<u8>, Fault> {
+    match shared {
+        Some(rates) => or_memory(rates.clone()),
+        None => own_rates(rt, name),
+    }
+}
+
+// The whole file of a run that has this ending, which is a regular one.
+fn bytes_of(rt: &HostRuntime, name: &str, ending: &str) -> Result<Vec<u8>, Fault> {
+    let file = joined(rt, name, ending)?;
+    want_regular(rt, file.as_str())?;
+    match fs::read(rt, file.as_str()) {
+        Ok(bytes) => Ok(bytes),
+        Err(error) => Err(fault_at(rt, file.as_str(), &error)),
+    }
+}
+
+/// A run, whole in memory, so that what is counted is what was judged. Its rates are those of every run, if there are such.
+pub fn whole_run(
+    rt: &HostRuntime,
+    name: &str,
+    shared: &Option<Vec<u8>>,
+) -> Result<Run, Fault> {
     let script = bytes_of(rt, name, ".script")?;
     let report = bytes_of(rt, name, ".report")?;
-    let rates = rates_of(rt, name)?;
+    let rates = rates_of(rt, name, shared)?;
     Ok(Run {
         script,
         report,

@@ -1,0 +1,625 @@
+//! What is counted over the lines of runs: each commit that counts, in the journal, and the rest for the page. Amounts are in mills.
+use crate::seen::Seen;
+use crate::settling::{
+    with_asked, with_class, with_job, with_money, with_piece, with_request, with_ruling,
+};
+use audit_journal::{At, BookFault, Deed, Entry, Form, Journal, Row, place_of};
+use audit_tally::{
+    Ask, Causes, Doing, Incidents, Job, Jobs, Mishap, Outcome, Piece, Pieces, Place, Sends, Tally, Ungranted,
+    entry_of, mishap_at, one_more,
+};
+use bench_base::events::Reply;
+use bench_base::numbers::{DayNo, DevNo};
+use bench_base::words::{JobState, Node, Verdict};
+use std::alloc::{AllocError, Global};
+use told_nodes::is_told;
+
+/// A commit, and the line whose event made it.
+#[derive(Clone, Copy)]
+pub struct Made {
+    pub place: Place,
+    pub entry: Entry,
+}
+
+/// What runs came to, by the commits that count and the replies that were told.
+#[derive(Drop)]
+pub struct Book {
+    pub first_day: Option<DayNo>,
+    pub last_day: Option<DayNo>,
+    pub tally: Tally,
+    pub held: u64,
+    pub begun: u64,
+    pub closed: u64,
+    /// In mills, as what was accepted.
+    pub franked: u64,
+    pub accepted: u64,
+    pub incidents: Incidents,
+    pub causes: Causes,
+    pub ungranted: Vec<Ungranted>,
+    pub jobs: Jobs,
+    pub pieces: Pieces,
+    /// Of each device, from device 1 on, what it asked last.
+    asks: [Option<Ask>; 8],
+    sends: Sends,
+    /// Of each node the commit that is in doubt.
+    open: [Option<Made>; 11],
+    journal: Journal,
+}
+
+// The first of the two days that is known.
+fn known_day(day: &Option<DayNo>, other: &Option<DayNo>) -> Option<DayNo> {
+    match day {
+        Some(day) => Some(*day),
+        None => *other,
+    }
+}
+
+// The sum. All that was ever franked fits.
+fn add(sum: &mut u64, amount: u64) {
+    *sum = sum.saturating_add(amount);
+}
+
+// What was made, or that memory was wanting.
+fn or_memory<T>(made: Result<T, AllocError>) -> Result<T, BookFault> {
+    match made {
+        Ok(made) => Ok(made),
+        Err(_) => Err(BookFault::Memory),
+    }
+}
+
+// What the commit moved, without its sign.
+fn size_of(entry: &Entry) -> u64 {
+    match entry.amount {
+        Some(amount) => amount.size,
+        None => 0,
+    }
+}
+
+// The job that is to be printed.
+fn printing(doing: &Doing) -> Option<u32> {
+    match doing {
+        Doing::Print(job) => Some(*job),
+        _ => None,
+    }
+}
+
+fn is_refusal(reply: &Reply) -> bool {
+    matches!(
+        reply,
+        Reply::DevRefused { .. }
+            | Reply::CentreRefused(_)
+            | Reply::HostRefused(_)
+            | Reply::ScanRefused(_)
+    )
+}
+
+// The line, with the name of its run.
+fn at_of<'a>(names: &'a [String], place: Place) -> Option<At<'a>> {
+    let name = names.get(place.run)?;
+    Some(At {
+        run: name.as_str(),
+        line: place.line,
+    })
+}
+
+// What became of a print, if this was told of it.
+fn printed(job: u32, line: &[u8]) -> Option<Deed> {
+    if is_told(&Reply::Printed(job), line) {
+        return Some(Deed::Printed);
+    }
+    if is_told(&Reply::PrinterFault(job), line) {
+        return Some(Deed::PrinterFault);
+    }
+    None
+}
+
+// The entry with all that is known of its node behind the line.
+fn completed(entry: &Entry, seen: &Seen) -> Entry {
+    let paid = with_money(entry, seen);
+    match entry.deed {
+        Deed::Asked => with_asked(&paid, seen),
+        Deed::Ruled | Deed::Settled => with_ruling(&paid, seen),
+        Deed::Made
+        | Deed::Applied
+        | Deed::Debited
+        | Deed::Registered
+        | Deed::Opened
+        | Deed::Deposited
+        | Deed::Suspended
+        | Deed::Resumed
+        | Deed::Ordered
+        | Deed::Held
+        | Deed::Begun
+        | Deed::Printed
+        | Deed::PrinterFault
+        | Deed::Closed
+        | Deed::Trusted
+        | Deed::Accepted => paid,
+    }
+}
+
+impl Book {
+    /// A book without a line, and a journal of this form. AllocError is want of memory.
+    pub fn new(alloc: Global, form: Form) -> Result<Book, AllocError> {
+        let pieces = Pieces::new(alloc)?;
+        Ok(Book {
+            first_day: None,
+            last_day: None,
+            tally: Tally::new(),
+            held: 0,
+            begun: 0,
+            closed: 0,
+            franked: 0,
+            accepted: 0,
+            incidents: Incidents::new(alloc),
+            causes: Causes::new(alloc),
+            ungranted: Vec::new(alloc),
+            jobs: Jobs::new(alloc),
+            pieces,
+            asks: [None; 8],
+            sends: Sends::new(alloc),
+            open: [None; 11],
+            journal: Journal::new(alloc, form),
+        })
+    }
+
+    /// What the device asked last, by the commits that count.
+    pub fn ask_of(&self, device: DevNo) -> Option<Ask> {
+        self.asks[device.get() as usize - 1]
+    }
+
+    /// Begins a run: no message was sent in it.
+    pub fn begin_run(&mut self) {
+        self.sends.begin();
+    }
+
+    /// Keeps what went wrong at a line. BookFault::Memory is want of memory.
+    pub fn note(
+        &mut self,
+        place: Place,
+        mishap: Mishap,
+        day: Option<DayNo>,
+    ) -> Result<(), BookFault> {
+        or_memory(self.incidents.note(place, mishap, day))
+    }
+
+    // Counts the answer that was told.
+    fn hear_answer(
+        &mut self,
+        alloc: Global,
+        place: Place,
+        due: &Reply,
+        line: &[u8],
+    ) -> Result<(), BookFault> {
+        self.tally.count(due);
+        or_memory(self.sends.hear(due))?;
+        if is_refusal(due) {
+            return or_memory(self.causes.note(alloc, place, line));
+        }
+        Ok(())
+    }
+
+    /// Counts what the line tells on this day, if this answer was due. BookFault::Memory is want of memory.
+    pub fn hear(
+        &mut self,
+        alloc: Global,
+        place: Place,
+        day: Option<DayNo>,
+        doing: &Doing,
+        due: &Reply,
+        line: &[u8],
+    ) -> Result<(), BookFault> {
+        if is_told(due, line) {
+            return self.hear_answer(alloc, place, due, line);
+        }
+        match mishap_at(printing(doing), line) {
+            Some(mishap) => self.note(place, mishap, day),
+            None => Ok(()),
+        }
+    }
+
+    /// Counts the day that was told last.
+    pub fn date(&mut self, day: Option<DayNo>) {
+        self.first_day = known_day(&self.first_day, &day);
+        self.last_day = known_day(&day, &self.last_day);
+    }
+
+    /// Keeps which mark the line gives out, if this answer was due.
+    pub fn give_out(&mut self, due: &Reply, line: &[u8]) {
+        match due {
+            Reply::Marked { device, piece, .. } | Reply::Released { device, piece, .. } => {
+                if is_told(due, line) {
+                    self.pieces.release(*device, *piece);
+                }
+            }
+            _ => {}
+        }
+    }
+}
+
+impl Book {
+    // The job whose message this is, if a piece is debited by it.
+    fn job_behind(&self, doing: &Doing, due: &Reply) -> Option<u32> {
+        if let Reply::Released { again: true, .. } = due {
+            return None;
+        }
+        match doing {
+            Doing::Deliver(message) => self.sends.job_of(*message),
+            Doing::Give(debit) => self.jobs.asked_by(debit),
+            _ => None,
+        }
+    }
+
+    // The entry of a debit with its job.
+    fn with_debit(&self, entry: &Entry, doing: &Doing, due: &Reply) -> Entry {
+        let Some(job) = self.job_behind(doing, due) else {
+            return *entry;
+        };
+        let served = Entry {
+            job: Some(job),
+            ..*entry
+        };
+        with_class(&served, self.jobs.get(job))
+    }
+
+    // The job of the entry.
+    fn job_of(&self, entry: &Entry) -> Option<Job> {
+        self.jobs.get(entry.job?)
+    }
+
+    // The piece of the entry.
+    fn piece_of(&self, entry: &Entry) -> Option<Piece> {
+        self.pieces.get(entry.device?, entry.piece?)
+    }
+
+    // The request that the device of the entry has out.
+    fn request_of(&self, entry: &Entry) -> Option<Ask> {
+        self.ask_of(entry.device?)
+    }
+
+    // The entry with what is known of its job, its piece or its request before the line.
+    fn filled(&self, entry: &Entry, doing: &Doing, due: &Reply) -> Entry {
+        match entry.deed {
+            Deed::Debited => self.with_debit(entry, doing, due),
+            Deed::Applied => with_request(entry, self.request_of(entry)),
+            Deed::Held | Deed::Begun | Deed::Closed => with_job(entry, self.job_of(entry)),
+            Deed::Accepted => with_piece(entry, self.piece_of(entry)),
+            Deed::Made
+            | Deed::Asked
+            | Deed::Registered
+            | Deed::Ruled
+            | Deed::Settled
+            | Deed::Opened
+            | Deed::Deposited
+            | Deed::Suspended
+            | Deed::Resumed
+            | Deed::Ordered
+            | Deed::Printed
+            | Deed::PrinterFault
+            | Deed::Trusted => *entry,
+        }
+    }
+
+    /// The commit that the event of this line may make on this day: if it switches a node on, the one of the node that is in doubt.
+    pub fn expected(
+        &self,
+        place: Place,
+        day: Option<DayNo>,
+        doing: &Doing,
+        due: &Reply,
+    ) -> Option<Made> {
+        if let Doing::On(node) = doing {
+            return self.open[place_of(node)];
+        }
+        let entry = entry_of(doing, due)?;
+        let filled = self.filled(&entry, doing, due);
+        Some(Made {
+            place,
+            entry: Entry { day, ..filled },
+        })
+    }
+
+    /// What became of the print of this event, if the line tells it: a row that is no commit.
+    pub fn print_told(
+        &mut self,
+        day: Option<DayNo>,
+        doing: &Doing,
+        line: &[u8],
+    ) -> Option<Entry> {
+        let job = printing(doing)?;
+        let deed = printed(job, line)?;
+        if matches!(deed, Deed::Printed) {
+            self.jobs.print(job);
+        }
+        let entry = Entry {
+            day,
+            number: job,
+            job: Some(job),
+            ..Entry::new(Node::Host, deed)
+        };
+        Some(with_job(&entry, self.jobs.get(job)))
+    }
+}
+
+impl Book {
+    // Keeps a request.
+    fn keep_ask(&mut self, entry: &Entry) {
+        let (Some(device), Some(kind)) = (entry.device, entry.request) else {
+            return;
+        };
+        self.asks[device.get() as usize - 1] = Some(Ask {
+            number: entry.number,
+            kind,
+            asked: entry.asked,
+            day: entry.day,
+        });
+    }
+
+    // Keeps a piece that was debited.
+    fn keep_debit(&mut self, entry: &Entry) -> Result<(), BookFault> {
+        let postage = size_of(entry);
+        add(&mut self.franked, postage);
+        let Some(device) = entry.device else {
+            return Ok(());
+        };
+        let piece = Piece {
+            postage,
+            class: entry.class,
+            job: entry.job,
+            released: false,
+            accepted: false,
+        };
+        or_memory(self.pieces.debit(device, piece))
+    }
+
+    // Keeps a piece that was accepted.
+    fn keep_acceptance(&mut self, entry: &Entry) {
+        add(&mut self.accepted, size_of(entry));
+        let (Some(device), Some(piece)) = (entry.device, entry.piece) else {
+            return;
+        };
+        self.pieces.accept(device, piece);
+    }
+
+    // Keeps a job that was ordered.
+    fn keep_order(&mut self, entry: &Entry) -> Result<(), BookFault> {
+        let (Some(device), Some(piece)) = (entry.device, entry.piece) else {
+            return Ok(());
+        };
+        let job = Job {
+            device,
+            piece,
+            class: entry.class.unwrap_or(0),
+            postage: size_of(entry),
+            state: JobState::Ordered,
+            day: entry.day,
+            printed: false,
+        };
+        or_memory(self.jobs.order(job))
+    }
+
+    // Keeps that a job holds the mark of its piece.
+    fn keep_hold(&mut self, entry: &Entry) {
+        one_more(&mut self.held);
+        self.jobs.come(entry.number, JobState::Held, entry.day);
+        let (Some(device), Some(piece)) = (entry.device, entry.piece) else {
+            return;
+        };
+        self.pieces
+            .hold(device, piece, entry.number, entry.class.unwrap_or(0));
+    }
+
+    // Keeps a ruling that grants nothing.
+    fn keep_ruling(&mut self, place: Place, entry: &Entry) -> Result<(), BookFault> {
+        let (Some(device), Some(kind)) = (entry.device, entry.request) else {
+            return Ok(());
+        };
+        let Some(verdict) = entry.verdict else {
+            return Ok(());
+        };
+        if matches!(verdict, Verdict::Granted) {
+            return Ok(());
+        }
+        let ask = Ask {
+            number: entry.number,
+            kind,
+            asked: entry.asked,
+            day: entry.day,
+        };
+        let found = Ungranted {
+            place,
+            device,
+            ask,
+            verdict,
+        };
+        match self.ungranted.push(found) {
+            Ok(()) => Ok(()),
+            Err(_) => Err(BookFault::Memory),
+        }
+    }
+
+    // Keeps a commit that counts, which the event of this line made.
+    fn keep(&mut self, place: Place, entry: &Entry) -> Result<(), BookFault> {
+        match entry.deed {
+            Deed::Asked => self.keep_ask(entry),
+            Deed::Debited => return self.keep_debit(entry),
+            Deed::Accepted => self.keep_acceptance(entry),
+            Deed::Ordered => return self.keep_order(entry),
+            Deed::Held => self.keep_hold(entry),
+            Deed::Begun => {
+                one_more(&mut self.begun);
+                self.jobs.come(entry.number, JobState::Begun, entry.day);
+            }
+            Deed::Closed => {
+                one_more(&mut self.closed);
+                self.jobs.come(entry.number, JobState::Closed, entry.day);
+            }
+            Deed::Ruled => return self.keep_ruling(place, entry),
+            Deed::Made
+            | Deed::Applied
+            | Deed::Registered
+            | Deed::Settled
+            | Deed::Opened
+            | Deed::Deposited
+            | Deed::Suspended
+            | Deed::Resumed
+            | Deed::Printed
+            | Deed::PrinterFault
+            | Deed::Trusted => {}
+        }
+        Ok(())
+    }
+}
+
+impl Book {
+    /// Begins the journal. BookFault::Memory is want of memory.
+    pub fn begin(&mut self) -> Result<(), BookFault> {
+        self.journal.begin()
+    }
+
+    /// Ends the journal, and writes what is left of it. BookFault::Write if standard output takes no more, BookFault::Memory is want of memory.
+    pub fn end(&mut self, rt: &HostRuntime) -> Result<(), BookFault> {
+        self.journal.end(rt)
+    }
+
+    /// Adds what became of a print at this line. BookFault::Write if standard output takes no more, BookFault::Memory is want of memory.
+    pub fn add_print(
+        &mut self,
+        rt: &HostRuntime,
+        names: &[String],
+        place: Place,
+        entry: Entry,
+    ) -> Result<(), BookFault> {
+        let Some(at) = at_of(names, place) else {
+            return Ok(());
+        };
+        let row = Row {
+            at,
+            entry,
+            counted: None,
+        };
+        self.journal.add(rt, &row)
+    }
+
+    // Counts a commit: at its own line, or by an `up` at another.
+    fn count(
+        &mut self,
+        rt: &HostRuntime,
+        names: &[String],
+        place: Place,
+        made: &Made,
+        seen: &Seen,
+    ) -> Result<(), BookFault> {
+        let entry = completed(&made.entry, seen);
+        self.keep(made.place, &entry)?;
+        let Some(at) = at_of(names, made.place) else {
+            return Ok(());
+        };
+        let counted = if made.place.is_at(&place) {
+            None
+        } else {
+            at_of(names, place)
+        };
+        let row = Row { at, entry, counted };
+        self.journal.add(rt, &row)
+    }
+
+    // Notes that a commit of this line is in doubt.
+    fn doubt(
+        &mut self,
+        rt: &HostRuntime,
+        names: &[String],
+        made: &Made,
+    ) -> Result<(), BookFault> {
+        let Some(at) = at_of(names, made.place) else {
+            return Ok(());
+        };
+        let row = Row {
+            at,
+            entry: made.entry,
+            counted: None,
+        };
+        self.journal.doubt(rt, &row)
+    }
+
+    // Notes that a commit which was in doubt does not count.
+    fn void(
+        &mut self,
+        rt: &HostRuntime,
+        names: &[String],
+        place: Place,
+        made: &Made,
+    ) -> Result<(), BookFault> {
+        let (Some(at), Some(up)) = (at_of(names, made.place), at_of(names, place)) else {
+            return Ok(());
+        };
+        let row = Row {
+            at,
+            entry: made.entry,
+            counted: None,
+        };
+        self.journal.void(rt, &row, up)
+    }
+
+    // Sees what became of a commit at its own line: it counts, is in doubt, or was not made.
+    fn settle_here(
+        &mut self,
+        rt: &HostRuntime,
+        names: &[String],
+        made: &Made,
+        seen: &Seen,
+    ) -> Result<(), BookFault> {
+        if seen.after.commits != seen.before.commits {
+            self.incidents.decide_last(&made.place, Outcome::Done);
+            return self.count(rt, names, made.place, made, seen);
+        }
+        if seen.after.is_open {
+            self.incidents.decide_last(&made.place, Outcome::Doubt);
+            return self.doubt(rt, names, made);
+        }
+        Ok(())
+    }
+
+    // Sees what a later line shows of a commit that was in doubt: it counts, is still in doubt, or was not made.
+    fn settle_late(
+        &mut self,
+        rt: &HostRuntime,
+        names: &[String],
+        place: Place,
+        made: &Made,
+        seen: &Seen,
+    ) -> Result<(), BookFault> {
+        if seen.after.commits != seen.before.commits {
+            self.incidents.decide(&made.place, Outcome::Done);
+            return self.count(rt, names, place, made, seen);
+        }
+        if seen.after.is_open {
+            return Ok(());
+        }
+        self.incidents.decide(&made.place, Outcome::NotDone);
+        self.void(rt, names, place, made)
+    }
+
+    /// Sees what this line shows of a commit: it counts, is in doubt until its node comes on, or was not made. BookFault::Write if standard output takes no more,
+    /// BookFault::Memory is want of memory.
+    pub fn settle(
+        &mut self,
+        rt: &HostRuntime,
+        names: &[String],
+        place: Place,
+        made: &Made,
+        seen: &Seen,
+    ) -> Result<(), BookFault> {
+        let node = place_of(&made.entry.node);
+        self.open[node] = if seen.after.is_open {
+            Some(*made)
+        } else {
+            None
+        };
+        if made.place.is_at(&place) {
+            self.settle_here(rt, names, made, seen)
+        } else {
+            self.settle_late(rt, names, place, made, seen)
+        }
+    }
+}

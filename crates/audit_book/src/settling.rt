@@ -1,0 +1,139 @@
+//! What the journal has of a commit that counts, by what is known of its node behind the line. Amounts are in mills.
+use crate::seen::Seen;
+use audit_journal::{Account, Amount, Entry};
+use audit_tally::{Ask, Job, Piece};
+use bench_base::words::{Kind, Node};
+
+// An amount that is not below 0.
+fn paid(size: u64) -> Amount {
+    Amount { minus: false, size }
+}
+
+// What was added to the balance; nothing if there was none before, as of a device whose enrolment is ruled on.
+fn moved(before: Option<u64>, after: Option<u64>) -> Option<Amount> {
+    let after = after?;
+    let before = before.unwrap_or(after);
+    if after < before {
+        Some(Amount {
+            minus: true,
+            size: before - after,
+        })
+    } else {
+        Some(paid(after - before))
+    }
+}
+
+// Whose balance the commit has.
+fn account_of(entry: &Entry) -> Option<Account> {
+    match entry.node {
+        Node::Device(device) => Some(Account::Device(device)),
+        Node::Centre => match entry.customer {
+            Some(customer) => Some(Account::Customer(customer)),
+            None => None,
+        },
+        Node::Host | Node::Verifier => None,
+    }
+}
+
+// What a commit of a device or of the centre moved. The amounts of the others are known before.
+fn amount_of(entry: &Entry, seen: &Seen) -> Option<Amount> {
+    match entry.node {
+        Node::Device(_) | Node::Centre => moved(seen.before.balance, seen.after.balance),
+        Node::Host | Node::Verifier => entry.amount,
+    }
+}
+
+/// The entry with the customer, and with what it moved.
+pub fn with_money(entry: &Entry, seen: &Seen) -> Entry {
+    let owned = Entry {
+        customer: seen.customer,
+        ..*entry
+    };
+    Entry {
+        amount: amount_of(&owned, seen),
+        account: account_of(&owned),
+        balance: seen.after.balance,
+        ..owned
+    }
+}
+
+/// What is asked for: of a refund and of a withdrawal all that the device has left.
+pub fn with_asked(entry: &Entry, seen: &Seen) -> Entry {
+    match entry.request {
+        Some(Kind::Refund | Kind::Withdraw) => Entry {
+            asked: seen.after.balance,
+            ..*entry
+        },
+        Some(Kind::Enrol | Kind::Reset | Kind::Audit) | None => *entry,
+    }
+}
+
+// What a request asks for, if it is one for money.
+fn asked_for(kind: Kind, asked: u64) -> Option<u64> {
+    match kind {
+        Kind::Reset | Kind::Refund | Kind::Withdraw => Some(asked),
+        Kind::Enrol | Kind::Audit => None,
+    }
+}
+
+/// The entry with the request that was ruled on.
+pub fn with_ruling(entry: &Entry, seen: &Seen) -> Entry {
+    match seen.ruling {
+        Some(ruling) => Entry {
+            request: Some(ruling.kind),
+            verdict: Some(ruling.verdict),
+            asked: asked_for(ruling.kind, ruling.asked),
+            ..*entry
+        },
+        None => *entry,
+    }
+}
+
+/// The entry with the request that the device has out.
+pub fn with_request(entry: &Entry, ask: Option<Ask>) -> Entry {
+    match ask {
+        Some(ask) => Entry {
+            request: Some(ask.kind),
+            asked: ask.asked,
+            ..*entry
+        },
+        None => *entry,
+    }
+}
+
+/// The entry with the piece of the job.
+pub fn with_job(entry: &Entry, job: Option<Job>) -> Entry {
+    match job {
+        Some(job) => Entry {
+            device: Some(job.device),
+            piece: Some(job.piece),
+            class: Some(job.class),
+            ..*entry
+        },
+        None => *entry,
+    }
+}
+
+/// The entry with the job of the piece, its class and its postage.
+pub fn with_piece(entry: &Entry, piece: Option<Piece>) -> Entry {
+    match piece {
+        Some(piece) => Entry {
+            job: piece.job,
+            class: piece.class,
+            amount: Some(paid(piece.postage)),
+            ..*entry
+        },
+        None => *entry,
+    }
+}
+
+/// The entry of a debit with the class of the job that it serves, if the event does not have it.
+pub fn with_class(entry: &Entry, job: Option<Job>) -> Entry {
+    match (entry.class, job) {
+        (None, Some(job)) => Entry {
+            class: Some(job.class),
+            ..*entry
+        },
+        _ => *entry,
+    }
+}

@@ -1,0 +1,242 @@
+//! Goes over runs that were judged once more, a line after the other, and has the book count what they tell. An auditor of its own is taken along: what is
+//! known of a node before and behind a line is what that tells.
+ghost use Rattle.std.specs.Prelude.{IfOk};
+ghost use Rattle.bench_base.specs.Ranges.{IsWholeEvent};
+ghost use Rattle.told_bench.specs.Seeing.{IsReady, audit_of};
+
+use crate::figures::{figures_of, owner_of, seen_by};
+use crate::hearing::{broken_off, due, judged};
+use crate::lines::{LINES, Left, Run, behind, behind_line, line_len};
+use audit_book::{Book, Figures, Made};
+use audit_journal::{BookFault, Entry, Form};
+use audit_tally::{Doing, Mishap, Place, doing_of};
+use bench_base::events::{Event, Reply};
+use script_text::{Line, is_skipped, put_reply, read_event};
+use std::alloc::{AllocError, Global};
+use told_bench::Auditor;
+
+/// Goes over runs behind the judgements on them.
+#[derive(Drop)]
+pub struct Clerk {
+    pub auditor: Auditor,
+    pub book: Book,
+}
+
+// What is known of the node of this commit.
+fn known(auditor: &Auditor, made: &Option<Made>) -> Option<Figures>
+    requires ready { IsReady (audit_of auditor.now) }
+{
+    match made {
+        Some(made) => Some(figures_of(auditor, &made.entry)),
+        None => None,
+    }
+}
+
+// Sees what became of this commit, by what was known of its node before the line and is behind it.
+fn settle(
+    rt: &HostRuntime,
+    names: &[String],
+    place: Place,
+    auditor: &Auditor,
+    book: &mut Book,
+    made: &Option<Made>,
+    before: &Option<Figures>,
+) -> Result<(), BookFault>
+    requires ready { IsReady (audit_of auditor.now) }
+{
+    let Some(made) = made else {
+        return Ok(());
+    };
+    let Some(before) = before else {
+        return Ok(());
+    };
+    let seen = seen_by(auditor, &made.entry, *before);
+    book.settle(rt, names, place, made, &seen)
+}
+
+// Adds a row for what became of a print, if the line tells it.
+fn tell_print(
+    rt: &HostRuntime,
+    names: &[String],
+    place: Place,
+    auditor: &Auditor,
+    book: &mut Book,
+    doing: &Doing,
+    line: &[u8],
+) -> Result<(), BookFault> {
+    let Some(entry) = book.print_told(auditor.day(), doing, line) else {
+        return Ok(());
+    };
+    let customer = owner_of(auditor, &entry);
+    book.add_print(rt, names, place, Entry { customer, ..entry })
+}
+
+impl Clerk {
+    /// A clerk that went over no run, and a journal of this form. AllocError is want of memory.
+    pub fn new(alloc: Global, form: Form) -> Result<Clerk, AllocError>
+        ensures ready { IfOk result (λ c. IsReady (audit_of c.auditor)) }
+    {
+        let auditor = Auditor::new(alloc)?;
+        let book = Book::new(alloc, form)?;
+        Ok(Clerk { auditor, book })
+    }
+
+    // Takes an event with its line of the report: how many bytes of the rates it took.
+    fn take(
+        &mut self,
+        rt: &HostRuntime,
+        names: &[String],
+        place: Place,
+        event: &Event,
+        rates: &[u8],
+        line: &[u8],
+    ) -> Result<usize, BookFault>
+        requires whole { IsWholeEvent event.now }
+        requires ready { IsReady (audit_of self.old.auditor) }
+        ensures ready { IsReady (audit_of self.new.auditor) }
+    {
+        let doing = doing_of(event);
+        let due = due(rt.alloc(), &mut self.auditor, event, rates)?;
+        let made = self
+            .book
+            .expected(place, self.auditor.day(), &doing, &due);
+        let before = known(&self.auditor, &made);
+        let taken = judged(rt.alloc(), &mut self.auditor, event, rates, line)?;
+        let day = self.auditor.day();
+        self.book.date(day);
+        self.book.hear(rt.alloc(), place, day, &doing, &due, line)?;
+        settle(rt, names, place, &self.auditor, &mut self.book, &made, &before)?;
+        self.book.give_out(&due, line);
+        tell_print(rt, names, place, &self.auditor, &mut self.book, &doing, line)?;
+        Ok(taken)
+    }
+
+    // Hears a reply that a report begins, and ends with.
+    fn hear_begun(
+        &mut self,
+        alloc: Global,
+        place: Place,
+        doing: &Doing,
+        due: &Reply,
+        line: &[u8],
+    ) -> Result<(), BookFault>
+        requires ready { IsReady (audit_of self.old.auditor) }
+        ensures ready { IsReady (audit_of self.new.auditor) }
+    {
+        let day = self.auditor.day();
+        self.book.date(day);
+        self.book.hear(alloc, place, day, doing, due, line)
+    }
+
+    // Takes an event in which the run was stopped: it was done with the reply that begins so, or its commit is in doubt, if it makes one.
+    fn break_off(
+        &mut self,
+        rt: &HostRuntime,
+        names: &[String],
+        place: Place,
+        event: &Event,
+        left: Left<'_>,
+    ) -> Result<(), BookFault>
+        requires whole { IsWholeEvent event.now }
+        requires ready { IsReady (audit_of self.old.auditor) }
+        ensures ready { IsReady (audit_of self.new.auditor) }
+    {
+        let doing = doing_of(event);
+        let due = due(rt.alloc(), &mut self.auditor, event, left.rates)?;
+        let made = self
+            .book
+            .expected(place, self.auditor.day(), &doing, &due);
+        let before = known(&self.auditor, &made);
+        let told = broken_off(
+            rt.alloc(),
+            &mut self.auditor,
+            event,
+            left.rates,
+            left.report,
+        )?;
+        let mut line = Line::new();
+        if let Some(reply) = told {
+            put_reply(&mut line, &reply);
+            self.hear_begun(rt.alloc(), place, &doing, &due, line.as_slice())?;
+        }
+        self.book.note(place, Mishap::Stop, self.auditor.day())?;
+        settle(rt, names, place, &self.auditor, &mut self.book, &made, &before)?;
+        self.book.give_out(&due, line.as_slice());
+        tell_print(
+            rt,
+            names,
+            place,
+            &self.auditor,
+            &mut self.book,
+            &doing,
+            line.as_slice(),
+        )
+    }
+
+    // Goes over the first line of what is left, and gives what is left behind it. None if there is no line, or no answer to it.
+    fn turn<'a>(
+        &mut self,
+        rt: &HostRuntime,
+        names: &[String],
+        place: Place,
+        left: Left<'a>,
+        stopped: Option<u32>,
+    ) -> Result<Option<Left<'a>>, BookFault>
+        requires ready { IsReady (audit_of self.old.auditor) }
+        ensures ready { IsReady (audit_of self.new.auditor) }
+    {
+        if left.script.is_empty() {
+            return Ok(None);
+        }
+        let line = &left.script[..line_len(left.script)];
+        let script = behind_line(left.script);
+        if is_skipped(line) {
+            return Ok(Some(Left { script, ..left }));
+        }
+        let told = line_len(left.report);
+        let Ok(event) = &read_event(line) else {
+            return Ok(None);
+        };
+        if told == left.report.len() {
+            if stopped == Some(place.line) {
+                self.break_off(rt, names, place, event, left)?;
+            }
+            return Ok(None);
+        }
+        let taken = self.take(rt, names, place, event, left.rates, &left.report[..told])?;
+        Ok(Some(Left {
+            script,
+            report: &left.report[told + 1..],
+            rates: behind(left.rates, taken),
+        }))
+    }
+
+    /// Goes over the run of this place among the names, as far as its report has answers, and over the event of the line in which it was stopped.
+    /// BookFault::Write if standard output takes no more, BookFault::Counted if a line is judged otherwise than before, BookFault::Memory is want of memory.
+    pub fn go_over(
+        &mut self,
+        rt: &HostRuntime,
+        names: &[String],
+        place: usize,
+        run: &Run,
+        stopped: Option<u32>,
+    ) -> Result<(), BookFault>
+        requires ready { IsReady (audit_of self.old.auditor) }
+        ensures ready { IsReady (audit_of self.new.auditor) }
+    {
+        self.auditor.begin();
+        self.book.begin_run();
+        let mut left = run.whole();
+        for count in 0..LINES {
+            let at = Place {
+                run: place,
+                line: count + 1,
+            };
+            match self.turn(rt, names, at, left, stopped)? {
+                Some(next) => left = next,
+                None => return Ok(()),
+            }
+        }
+        Ok(())
+    }
+}

@@ -1,0 +1,85 @@
+//! What the auditor knows of a node before or behind a line. Amounts are in mills.
+ghost use Rattle.told_bench.specs.Seeing.{IsReady, audit_of};
+
+use audit_book::{Figures, Ruling, Seen, last_ruling};
+use audit_journal::{Deed, Entry};
+use bench_base::numbers::{Customer, DevNo};
+use bench_base::words::Node;
+use told_bench::Auditor;
+
+// The descending register of the device.
+fn descending(auditor: &Auditor, device: DevNo) -> Option<u64>
+    requires ready { IsReady (audit_of auditor.now) }
+{
+    Some(auditor.shown_of(device, auditor.day()?)?.descending)
+}
+
+// The customer of the device, if it was ever enrolled.
+fn customer_of(auditor: &Auditor, device: DevNo) -> Option<Customer> {
+    auditor.device_row(device)?.enrolment.customer()
+}
+
+/// The customer that the entry is of, by itself or by its device.
+pub fn owner_of(auditor: &Auditor, entry: &Entry) -> Option<Customer> {
+    if let Some(customer) = entry.customer {
+        return Some(customer);
+    }
+    customer_of(auditor, entry.device?)
+}
+
+// The balance of the customer that the commit is of.
+fn balance(auditor: &Auditor, entry: &Entry) -> Option<u64> {
+    Some(auditor.left_of(owner_of(auditor, entry)?))
+}
+
+/// What is known of the node of the commit.
+pub fn figures_of(auditor: &Auditor, entry: &Entry) -> Figures
+    requires ready { IsReady (audit_of auditor.now) }
+{
+    let balance = match entry.node {
+        Node::Device(device) => descending(auditor, device),
+        Node::Centre => balance(auditor, entry),
+        Node::Host | Node::Verifier => None,
+    };
+    Figures {
+        commits: auditor.commits_of(&entry.node),
+        is_open: auditor.is_open(&entry.node),
+        balance,
+    }
+}
+
+// The last ruling on the device of the entry, if the commit is one of the centre on a request.
+fn ruling_for(auditor: &Auditor, entry: &Entry) -> Option<Ruling> {
+    match entry.deed {
+        Deed::Ruled | Deed::Settled => last_ruling(auditor.device_row(entry.device?)?),
+        Deed::Made
+        | Deed::Asked
+        | Deed::Applied
+        | Deed::Debited
+        | Deed::Registered
+        | Deed::Opened
+        | Deed::Deposited
+        | Deed::Suspended
+        | Deed::Resumed
+        | Deed::Ordered
+        | Deed::Held
+        | Deed::Begun
+        | Deed::Printed
+        | Deed::PrinterFault
+        | Deed::Closed
+        | Deed::Trusted
+        | Deed::Accepted => None,
+    }
+}
+
+/// What is known of the node of the commit behind a line, beside what was known before.
+pub fn seen_by(auditor: &Auditor, entry: &Entry, before: Figures) -> Seen
+    requires ready { IsReady (audit_of auditor.now) }
+{
+    Seen {
+        before,
+        after: figures_of(auditor, entry),
+        customer: owner_of(auditor, entry),
+        ruling: ruling_for(auditor, entry),
+    }
+}

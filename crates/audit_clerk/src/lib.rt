@@ -1,0 +1,12 @@
+//! Goes over runs that were judged once more: what they come to, in a book, and what was due behind a stop.
+#![tactic(auto)]
+
+mod clerk;
+mod figures;
+mod hearing;
+mod lines;
+mod owing;
+
+pub use clerk::Clerk;
+pub use lines::Run;
+pub use owing::put_due;

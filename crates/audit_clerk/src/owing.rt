@@ -1,0 +1,189 @@
+//! Goes over a run that was stopped, and writes the answers that were due from there on.
+ghost use Rattle.bench_base.specs.Ranges.{IsWholeEvent};
+ghost use Rattle.told_bench.specs.Seeing.{IsReady, audit_of};
+
+use crate::hearing::{broken_off, due, judged};
+use crate::lines::{LINES, Left, Run, behind, behind_line, line_len};
+use audit_journal::BookFault;
+use bench_base::events::Event;
+use bench_base::stream::Sink;
+use script_text::{Line, is_skipped, put_reply, read_event};
+use std::alloc::Global;
+use text_streams::put_text;
+use told_bench::{Auditor, begins};
+
+/// What was due to an event.
+#[derive(Drop)]
+enum Due {
+    /// This line; how much of the rates it took, in bytes.
+    Line(Line, usize),
+    /// A failure of a node begins as the report ends: no more can be said.
+    Open,
+}
+
+// The line of the answer that is due to the event without a failure, if the report may end so in it.
+fn due_line(
+    alloc: Global,
+    auditor: &mut Auditor,
+    event: &Event,
+    rates: &[u8],
+    front: &[u8],
+) -> Result<Option<Line>, BookFault>
+    requires whole { IsWholeEvent event.now }
+    requires ready { IsReady (audit_of auditor.old) }
+    ensures ready { IsReady (audit_of auditor.new) }
+{
+    let due = due(alloc, auditor, event, rates)?;
+    if !begins(&due, front) {
+        return Ok(None);
+    }
+    let mut line = Line::new();
+    put_reply(&mut line, &due);
+    Ok(Some(line))
+}
+
+// Tells the event as one that was stopped in this answer, which is not the one that is due without a failure.
+fn break_off(
+    alloc: Global,
+    auditor: &mut Auditor,
+    event: &Event,
+    rates: &[u8],
+    front: &[u8],
+) -> Result<Due, BookFault>
+    requires whole { IsWholeEvent event.now }
+    requires ready { IsReady (audit_of auditor.old) }
+    ensures ready { IsReady (audit_of auditor.new) }
+{
+    match broken_off(alloc, auditor, event, rates, front)? {
+        Some(reply) => {
+            let mut line = Line::new();
+            put_reply(&mut line, &reply);
+            Ok(Due::Line(line, 0))
+        }
+        None => Ok(Due::Open),
+    }
+}
+
+// What was due to the event, where the report ends so in its answer; the auditor is told it.
+fn due_in(
+    alloc: Global,
+    auditor: &mut Auditor,
+    event: &Event,
+    rates: &[u8],
+    front: &[u8],
+) -> Result<Due, BookFault>
+    requires whole { IsWholeEvent event.now }
+    requires ready { IsReady (audit_of auditor.old) }
+    ensures ready { IsReady (audit_of auditor.new) }
+{
+    match due_line(alloc, auditor, event, rates, front)? {
+        Some(line) => {
+            let taken = judged(alloc, auditor, event, rates, line.as_slice())?;
+            Ok(Due::Line(line, taken))
+        }
+        None => break_off(alloc, auditor, event, rates, front),
+    }
+}
+
+// Writes a line.
+fn put_line<K: Sink>(sink: &mut K, line: &[u8]) -> Result<(), BookFault> {
+    let Ok(()) = put_text(sink, line) else {
+        return Err(BookFault::Write);
+    };
+    match put_text(sink, b"\n") {
+        Ok(()) => Ok(()),
+        Err(_) => Err(BookFault::Write),
+    }
+}
+
+fn is_end(event: &Event) -> bool {
+    match event {
+        Event::End => true,
+        _ => false,
+    }
+}
+
+// Writes what was due to the event of the first line of what is left: what is left behind it. None if that was the end.
+fn answer<'a, K: Sink>(
+    alloc: Global,
+    auditor: &mut Auditor,
+    event: &Event,
+    left: Left<'a>,
+    sink: &mut K,
+) -> Result<Option<Left<'a>>, BookFault>
+    requires whole { IsWholeEvent event.now }
+    requires ready { IsReady (audit_of auditor.old) }
+    ensures ready { IsReady (audit_of auditor.new) }
+{
+    match due_in(alloc, auditor, event, left.rates, left.report)? {
+        Due::Open => Ok(None),
+        Due::Line(line, taken) => {
+            put_line(sink, line.as_slice())?;
+            if is_end(event) {
+                return Ok(None);
+            }
+            Ok(Some(Left {
+                script: behind_line(left.script),
+                report: &[],
+                rates: behind(left.rates, taken),
+            }))
+        }
+    }
+}
+
+// Goes over the first line of what is left: what is left behind it. None if there is none, or nothing more is due.
+fn turn<'a, K: Sink>(
+    alloc: Global,
+    auditor: &mut Auditor,
+    left: Left<'a>,
+    sink: &mut K,
+) -> Result<Option<Left<'a>>, BookFault>
+    requires ready { IsReady (audit_of auditor.old) }
+    ensures ready { IsReady (audit_of auditor.new) }
+{
+    if left.script.is_empty() {
+        return Ok(None);
+    }
+    let line = &left.script[..line_len(left.script)];
+    let script = behind_line(left.script);
+    if is_skipped(line) {
+        return Ok(Some(Left { script, ..left }));
+    }
+    let Ok(event) = &read_event(line) else {
+        return Ok(None);
+    };
+    let told = line_len(left.report);
+    if told == left.report.len() {
+        return answer(alloc, auditor, event, left, sink);
+    }
+    let taken = judged(alloc, auditor, event, left.rates, &left.report[..told])?;
+    Ok(Some(Left {
+        script,
+        report: &left.report[told + 1..],
+        rates: behind(left.rates, taken),
+    }))
+}
+
+/// Goes over a run behind what the auditor has, and writes the answers that were due from the line on in which it was stopped, a line each, as the report would have them, up to the
+/// script's `end`, a bad line or its last one. Where a node's next `up` alone says what became of an event, it is taken as done without a failure. Nothing is written
+/// if the report ends in a failure of a node. BookFault::Counted if a line of the report is no answer to its event, BookFault::Write if the sink failed, BookFault::Memory is
+/// want of memory.
+pub fn put_due<K: Sink>(
+    alloc: Global,
+    auditor: &mut Auditor,
+    run: &Run,
+    sink: &mut K,
+) -> Result<(), BookFault>
+    requires ready { IsReady (audit_of auditor.old) }
+    ensures ready { IsReady (audit_of auditor.new) }
+{
+    auditor.begin();
+    let mut left = run.whole();
+    for _count in 0..LINES {
+        match turn(alloc, auditor, left, sink)? {
+            Some(next) => left = next,
+            None => return Ok(()),
+        }
+    }
+    Ok(())
+}

@@ -1,0 +1,167 @@
+//! What stands in the columns of a row.
+use crate::entry::{Account, Amount, At, Deed, Entry, Row};
+use crate::texts::date_text;
+use crate::words::{deed_word, kind_word, node_text, verdict_word};
+use bench_base::numbers::{Customer, DayNo, DevNo};
+use bench_base::words::{Kind, Verdict};
+use std::alloc::{AllocError, Global};
+
+/// The names of the columns behind the run.
+pub const BEHIND_RUN: [&str; 17] = [
+    "line", "day", "node", "kind", "request", "verdict", "device", "customer", "number", "piece",
+    "job", "class", "asked", "amount", "account", "balance", "counted",
+];
+
+/// What stands in a column.
+#[derive(Drop)]
+pub enum Cell {
+    Empty,
+    /// The digits of a number, which may have a minus.
+    Number(String),
+    Words(String),
+}
+
+fn number_cell(alloc: Global, number: Option<u64>) -> Result<Cell, AllocError> {
+    match number {
+        Some(number) => Ok(Cell::Number(format!(in alloc; "{number}")?)),
+        None => Ok(Cell::Empty),
+    }
+}
+
+// As wide as the others.
+fn widened(number: Option<u32>) -> Option<u64> {
+    match number {
+        Some(number) => Some(number as u64),
+        None => None,
+    }
+}
+
+fn word_cell(alloc: Global, word: Option<&'static str>) -> Result<Cell, AllocError> {
+    match word {
+        Some(word) => Ok(Cell::Words(format!(in alloc; "{word}")?)),
+        None => Ok(Cell::Empty),
+    }
+}
+
+fn day_cell(alloc: Global, day: Option<DayNo>) -> Result<Cell, AllocError> {
+    match day {
+        Some(day) => Ok(Cell::Words(date_text(alloc, day.get())?)),
+        None => Ok(Cell::Empty),
+    }
+}
+
+fn device_cell(alloc: Global, device: Option<DevNo>) -> Result<Cell, AllocError> {
+    match device {
+        Some(device) => Ok(Cell::Words(format!(in alloc; "d{}", device.get())?)),
+        None => Ok(Cell::Empty),
+    }
+}
+
+fn amount_cell(alloc: Global, amount: Option<Amount>) -> Result<Cell, AllocError> {
+    match amount {
+        Some(Amount { minus: true, size }) => Ok(Cell::Number(format!(in alloc; "-{size}")?)),
+        Some(Amount { minus: false, size }) => Ok(Cell::Number(format!(in alloc; "{size}")?)),
+        None => Ok(Cell::Empty),
+    }
+}
+
+fn account_cell(alloc: Global, account: Option<Account>) -> Result<Cell, AllocError> {
+    match account {
+        Some(Account::Device(device)) => {
+            Ok(Cell::Words(format!(in alloc; "d{}", device.get())?))
+        }
+        Some(Account::Customer(customer)) => {
+            Ok(Cell::Words(format!(in alloc; "customer {}", customer.get())?))
+        }
+        None => Ok(Cell::Empty),
+    }
+}
+
+fn at_cell(alloc: Global, at: Option<At<'_>>) -> Result<Cell, AllocError> {
+    match at {
+        Some(at) => Ok(Cell::Words(format!(in alloc; "{}:{}", at.run, at.line)?)),
+        None => Ok(Cell::Empty),
+    }
+}
+
+/// What the node did, and of a device that asks for what. AllocError is want of memory.
+pub fn deed_text(alloc: Global, entry: &Entry) -> Result<String, AllocError> {
+    let word = deed_word(entry.deed);
+    let Deed::Asked = entry.deed else {
+        return format!(in alloc; "{word}");
+    };
+    match entry.request {
+        Some(kind) => format!(in alloc; "{word} {}", kind_word(kind)),
+        None => format!(in alloc; "{word}"),
+    }
+}
+
+fn request_word(request: Option<Kind>) -> Option<&'static str> {
+    match request {
+        Some(kind) => Some(kind_word(kind)),
+        None => None,
+    }
+}
+
+fn ruling_word(verdict: Option<Verdict>) -> Option<&'static str> {
+    match verdict {
+        Some(verdict) => Some(verdict_word(verdict)),
+        None => None,
+    }
+}
+
+fn customer_number(customer: Option<Customer>) -> Option<u64> {
+    match customer {
+        Some(customer) => Some(customer.get() as u64),
+        None => None,
+    }
+}
+
+fn class_number(class: Option<u16>) -> Option<u64> {
+    match class {
+        Some(class) => Some(class as u64),
+        None => None,
+    }
+}
+
+// Adds what was done: line, day, node, kind, request and verdict.
+fn add_deed(alloc: Global, cells: &mut Vec<Cell>, row: &Row<'_>) -> Result<(), AllocError> {
+    let entry = &row.entry;
+    cells.push(number_cell(alloc, Some(row.at.line as u64))?)?;
+    cells.push(day_cell(alloc, entry.day)?)?;
+    cells.push(Cell::Words(node_text(alloc, &entry.node)?))?;
+    cells.push(Cell::Words(deed_text(alloc, entry)?))?;
+    cells.push(word_cell(alloc, request_word(entry.request))?)?;
+    cells.push(word_cell(alloc, ruling_word(entry.verdict))?)?;
+    Ok(())
+}
+
+// Adds of what it was done: device, customer, number, piece, job and class.
+fn add_subject(alloc: Global, cells: &mut Vec<Cell>, entry: &Entry) -> Result<(), AllocError> {
+    cells.push(device_cell(alloc, entry.device)?)?;
+    cells.push(number_cell(alloc, customer_number(entry.customer))?)?;
+    cells.push(number_cell(alloc, Some(entry.number as u64))?)?;
+    cells.push(number_cell(alloc, widened(entry.piece))?)?;
+    cells.push(number_cell(alloc, widened(entry.job))?)?;
+    cells.push(number_cell(alloc, class_number(entry.class))?)?;
+    Ok(())
+}
+
+// Adds what it moved: asked, amount, account and balance.
+fn add_money(alloc: Global, cells: &mut Vec<Cell>, entry: &Entry) -> Result<(), AllocError> {
+    cells.push(number_cell(alloc, entry.asked)?)?;
+    cells.push(amount_cell(alloc, entry.amount)?)?;
+    cells.push(account_cell(alloc, entry.account)?)?;
+    cells.push(number_cell(alloc, entry.balance)?)?;
+    Ok(())
+}
+
+/// What stands in the columns behind the run, in their order. AllocError is want of memory.
+pub fn cells_of(alloc: Global, row: &Row<'_>) -> Result<Vec<Cell>, AllocError> {
+    let mut cells = Vec::new(alloc);
+    add_deed(alloc, &mut cells, row)?;
+    add_subject(alloc, &mut cells, &row.entry)?;
+    add_money(alloc, &mut cells, &row.entry)?;
+    cells.push(at_cell(alloc, row.counted)?)?;
+    Ok(cells)
+}

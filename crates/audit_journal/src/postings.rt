@@ -1,0 +1,122 @@
+//! The two postings of a transaction: what moved, from which account to which, and the balance behind it.
+use crate::entry::{Account, Amount, Deed, Entry};
+use crate::texts::{dollars, signed_dollars};
+use bench_base::numbers::{Customer, DevNo};
+use std::alloc::{AllocError, Global};
+
+/// The account beside the one of the entry.
+#[derive(Clone, Copy)]
+enum Other {
+    Franked,
+    Transit(DevNo),
+    Deposits(Customer),
+}
+
+/// What a commit moved.
+#[derive(Clone, Copy)]
+struct Moving {
+    account: Account,
+    balance: Option<u64>,
+    amount: Amount,
+    other: Other,
+}
+
+// The other account of what the device's request moves.
+fn transit(entry: &Entry) -> Option<Other> {
+    match entry.device {
+        Some(device) => Some(Other::Transit(device)),
+        None => None,
+    }
+}
+
+// Where the money comes from, or goes to. None if the commit moves none.
+fn other_of(entry: &Entry) -> Option<Other> {
+    match entry.deed {
+        Deed::Debited => Some(Other::Franked),
+        Deed::Ruled | Deed::Applied => transit(entry),
+        Deed::Deposited => match entry.customer {
+            Some(customer) => Some(Other::Deposits(customer)),
+            None => None,
+        },
+        Deed::Made
+        | Deed::Asked
+        | Deed::Registered
+        | Deed::Settled
+        | Deed::Opened
+        | Deed::Suspended
+        | Deed::Resumed
+        | Deed::Ordered
+        | Deed::Held
+        | Deed::Begun
+        | Deed::Printed
+        | Deed::PrinterFault
+        | Deed::Closed
+        | Deed::Trusted
+        | Deed::Accepted => None,
+    }
+}
+
+// What the commit moved, if anything.
+fn moving_of(entry: &Entry) -> Option<Moving> {
+    let amount = entry.amount?;
+    if amount.size == 0 {
+        return None;
+    }
+    let account = entry.account?;
+    let other = other_of(entry)?;
+    Some(Moving {
+        account,
+        balance: entry.balance,
+        amount,
+        other,
+    })
+}
+
+fn account_name(alloc: Global, account: Account) -> Result<String, AllocError> {
+    match account {
+        Account::Device(device) => format!(in alloc; "devices:d{}", device.get()),
+        Account::Customer(customer) => format!(in alloc; "customers:{}", customer.get()),
+    }
+}
+
+fn other_name(alloc: Global, other: Other) -> Result<String, AllocError> {
+    match other {
+        Other::Franked => format!(in alloc; "franked"),
+        Other::Transit(device) => format!(in alloc; "in transit:d{}", device.get()),
+        Other::Deposits(customer) => format!(in alloc; "deposits:{}", customer.get()),
+    }
+}
+
+// That the account has this balance then.
+fn assertion(alloc: Global, balance: Option<u64>) -> Result<String, AllocError> {
+    match balance {
+        Some(balance) => {
+            let text = dollars(alloc, balance)?;
+            format!(in alloc; " = {text}")
+        }
+        None => Ok(String::new(alloc)),
+    }
+}
+
+// What the other account gets.
+fn taken_from(amount: Amount) -> Amount {
+    Amount {
+        minus: !amount.minus,
+        size: amount.size,
+    }
+}
+
+/// The postings of the entry, a line each; None if it moves no money. AllocError is want of memory.
+pub fn postings_of(alloc: Global, entry: &Entry) -> Result<Option<String>, AllocError> {
+    let Some(moving) = moving_of(entry) else {
+        return Ok(None);
+    };
+    let own = account_name(alloc, moving.account)?;
+    let gets = signed_dollars(alloc, moving.amount)?;
+    let balance = assertion(alloc, moving.balance)?;
+    let other = other_name(alloc, moving.other)?;
+    let gives = signed_dollars(alloc, taken_from(moving.amount))?;
+    Ok(Some(
+        format!(in alloc; "    {own}  {gets}{balance}\n    {other}  {gives}\n")?,
+    ))
+}

@@ -1,0 +1,15 @@
+//! What is printed below the verdicts of an audit: the page of what the runs came to, and the table of what the auditor has behind them.
+#![tactic(auto)]
+
+mod customers;
+mod devices;
+mod incidents;
+mod jobs;
+mod money;
+mod page;
+mod rulings;
+mod saying;
+mod table;
+
+pub use page::tell_page;
+pub use table::tell_table;

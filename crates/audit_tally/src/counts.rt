@@ -1,0 +1,119 @@
+//! How often replies came.
+use bench_base::events::Reply;
+use bench_base::refusals::ScanRefusal;
+
+/// How often replies came over all runs.
+#[derive(Clone, Copy)]
+pub struct Tally {
+    pub released: u64,
+    pub released_again: u64,
+    pub accepted: u64,
+    pub accepted_again: u64,
+    pub duplicates: u64,
+    pub printed: u64,
+}
+
+/// What is counted of a reply.
+#[derive(Clone, Copy)]
+enum Counted {
+    Nothing,
+    Released(bool),
+    Accepted(bool),
+    Duplicate,
+    Printed,
+}
+
+fn scan_refused(refusal: &ScanRefusal) -> Counted {
+    match refusal {
+        ScanRefusal::Duplicate(_) => Counted::Duplicate,
+        ScanRefusal::Unread(_)
+        | ScanRefusal::Unknown(_)
+        | ScanRefusal::BadCode
+        | ScanRefusal::Future(_)
+        | ScanRefusal::TooOld(_)
+        | ScanRefusal::BlocksFull
+        | ScanRefusal::Known => Counted::Nothing,
+    }
+}
+
+// What is counted of a reply that was told.
+fn told_by(reply: &Reply) -> Counted {
+    match reply {
+        Reply::Marked { again, .. } | Reply::Released { again, .. } => { Counted::Released(*again) }
+        Reply::Accepted { again, .. } => Counted::Accepted(*again),
+        Reply::Printed(_) => Counted::Printed,
+        Reply::ScanRefused(refusal) => scan_refused(refusal),
+        Reply::Day(_)
+        | Reply::Rates { .. }
+        | Reply::RatesFault
+        | Reply::RatesLength
+        | Reply::RatesToml
+        | Reply::RatesForm
+        | Reply::Made(_)
+        | Reply::Up { .. }
+        | Reply::Down(_)
+        | Reply::CutSet(_)
+        | Reply::SentRequest { .. }
+        | Reply::SentDone { .. }
+        | Reply::Status { .. }
+        | Reply::Registered(_)
+        | Reply::Opened(_)
+        | Reply::Deposited { .. }
+        | Reply::Flagged { .. }
+        | Reply::Balance { .. }
+        | Reply::Ruled { .. }
+        | Reply::Settled { .. }
+        | Reply::Applied { .. }
+        | Reply::Held(_)
+        | Reply::Ordered { .. }
+        | Reply::SentDebit { .. }
+        | Reply::PrinterFault(_)
+        | Reply::Closed(_)
+        | Reply::Trusted(_)
+        | Reply::Reconciled { .. }
+        | Reply::End
+        | Reply::NoDay
+        | Reply::NoMessage(_)
+        | Reply::OffNode(_)
+        | Reply::OnAlready(_)
+        | Reply::Power(_)
+        | Reply::Fault(_)
+        | Reply::Worn(_)
+        | Reply::Damaged(_)
+        | Reply::DevRefused { .. }
+        | Reply::CentreRefused(_)
+        | Reply::HostRefused(_) => Counted::Nothing,
+    }
+}
+
+/// One more. Runs have at most 1,000,000 lines each, so the greatest number is never reached.
+pub fn one_more(count: &mut u64) {
+    *count = count.saturating_add(1);
+}
+
+impl Tally {
+    /// Nothing was counted.
+    pub fn new() -> Tally {
+        Tally {
+            released: 0,
+            released_again: 0,
+            accepted: 0,
+            accepted_again: 0,
+            duplicates: 0,
+            printed: 0,
+        }
+    }
+
+    /// Counts a reply that was told.
+    pub fn count(&mut self, reply: &Reply) {
+        match told_by(reply) {
+            Counted::Nothing => {}
+            Counted::Released(false) => one_more(&mut self.released),
+            Counted::Released(true) => one_more(&mut self.released_again),
+            Counted::Accepted(false) => one_more(&mut self.accepted),
+            Counted::Accepted(true) => one_more(&mut self.accepted_again),
+            Counted::Duplicate => one_more(&mut self.duplicates),
+            Counted::Printed => one_more(&mut self.printed),
+        }
+    }
+}

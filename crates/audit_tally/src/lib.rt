@@ -1,0 +1,24 @@
+//! What an audit counts of lines, apart from what its auditor knows: the commit that a reply tells of, jobs, pieces, requests, refusals and failures.
+#![tactic(auto)]
+
+mod causes;
+mod counts;
+mod doings;
+mod incidents;
+mod jobs;
+mod kinds;
+mod pieces;
+mod place;
+mod requests;
+mod sends;
+
+pub use causes::{Cause, Causes};
+pub use counts::{Tally, one_more};
+pub use doings::{Doing, doing_of};
+pub use incidents::{Incident, Incidents, Mishap, Outcome, mishap_at};
+pub use jobs::{Job, Jobs};
+pub use kinds::entry_of;
+pub use pieces::{Piece, Pieces};
+pub use place::Place;
+pub use requests::{Ask, Ungranted};
+pub use sends::Sends;

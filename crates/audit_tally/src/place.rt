@@ -1,0 +1,15 @@
+//! Where something was told.
+
+/// A line of a script: of the run of this place among all, counted from 0, and its number, counted from 1.
+#[derive(Clone, Copy, Debug, PartialEq, Eq)]
+pub struct Place {
+    pub run: usize,
+    pub line: u32,
+}
+
+impl Place {
+    /// Whether it is the same line of the same run.
+    pub fn is_at(&self, other: &Place) -> bool {
+        self.run == other.run && self.line == other.line
+    }
+}

@@ -1,0 +1,237 @@
+//! What the words of the auditor's program call for.
+use std::alloc::Global;
+
+/// What is printed beside the verdicts.
+#[derive(Clone, Copy, Debug, PartialEq, Eq)]
+pub enum Asked {
+    Nothing,
+    Table,
+    Page,
+    Csv,
+    Json,
+    Ledger,
+    Due,
+}
+
+/// What the words of an audit ask for.
+#[derive(Drop)]
+pub struct Words {
+    /// The folder whose runs come before those that are named.
+    pub folder: Option<String>,
+    /// The file of the rates of every run; None if each has its own.
+    pub rates: Option<String>,
+    /// The file of the prints of all runs.
+    pub prints: Option<String>,
+    pub asked: Asked,
+    /// Whether what is undecided at the end counts as decided.
+    pub is_lenient: bool,
+    /// The runs that are named, each without the ending of its script.
+    pub names: Vec<String>,
+}
+
+/// What the program is called for.
+#[derive(Drop)]
+pub enum Call {
+    /// Runs are judged.
+    Audit(Words),
+    /// The script in this file is looked at.
+    Check(String),
+    Help,
+    Version,
+}
+
+/// Why words call for nothing.
+#[derive(Clone, Copy, Debug, Drop, PartialEq, Eq)]
+pub enum WordsFault {
+    /// They are the words of no call.
+    Usage,
+    /// There is no memory.
+    Memory,
+}
+
+/// What a word that names a file is for.
+#[derive(Clone, Copy)]
+enum Operand {
+    Folder,
+    Rates,
+    Prints,
+}
+
+/// What was read so far.
+#[derive(Drop)]
+struct Reader {
+    alloc: Global,
+    words: Words,
+    /// What the next word is for, if the last one asks for it.
+    wanted: Option<Operand>,
+}
+
+// What the word asks to be printed, if it is such an option.
+fn asked_by(word: &str) -> Option<Asked> {
+    match word {
+        "--table" => Some(Asked::Table),
+        "--page" => Some(Asked::Page),
+        "--csv" => Some(Asked::Csv),
+        "--json" => Some(Asked::Json),
+        "--ledger" => Some(Asked::Ledger),
+        "--due" => Some(Asked::Due),
+        _ => None,
+    }
+}
+
+// What the word behind this one is for, if this is an option that asks for one.
+fn operand_of(word: &str) -> Option<Operand> {
+    match word {
+        "--runs" => Some(Operand::Folder),
+        "--rates" => Some(Operand::Rates),
+        "--prints" => Some(Operand::Prints),
+        _ => None,
+    }
+}
+
+// Fills what was not given before.
+fn fill(place: &mut Option<String>, word: String) -> Result<(), WordsFault> {
+    if place.is_some() {
+        return Err(WordsFault::Usage);
+    }
+    *place = Some(word);
+    Ok(())
+}
+
+fn is_option(word: &str) -> bool {
+    word.starts_with("--")
+}
+
+// The name of the run, which may be given by its script.
+fn without_ending(alloc: Global, word: String) -> Result<String, WordsFault> {
+    let Some(name) = word.as_str().strip_suffix(".script") else {
+        return Ok(word);
+    };
+    match String::from_str(alloc, name) {
+        Ok(name) => Ok(name),
+        Err(_) => Err(WordsFault::Memory),
+    }
+}
+
+impl Reader {
+    // Takes the word that an option asked for.
+    fn take_operand(&mut self, operand: Operand, word: String) -> Result<(), WordsFault> {
+        if is_option(word.as_str()) {
+            return Err(WordsFault::Usage);
+        }
+        match operand {
+            Operand::Folder => fill(&mut self.words.folder, word),
+            Operand::Rates => fill(&mut self.words.rates, word),
+            Operand::Prints => fill(&mut self.words.prints, word),
+        }
+    }
+
+    // Takes the name of a run.
+    fn take_name(&mut self, word: String) -> Result<(), WordsFault> {
+        let name = without_ending(self.alloc, word)?;
+        match self.words.names.push(name) {
+            Ok(()) => Ok(()),
+            Err(_) => Err(WordsFault::Memory),
+        }
+    }
+
+    // Takes an option.
+    fn take_option(&mut self, word: &str) -> Result<(), WordsFault> {
+        if let Some(operand) = operand_of(word) {
+            self.wanted = Some(operand);
+            return Ok(());
+        }
+        if word == "--lenient" {
+            self.words.is_lenient = true;
+            return Ok(());
+        }
+        let Some(asked) = asked_by(word) else {
+            return Err(WordsFault::Usage);
+        };
+        if self.words.asked != Asked::Nothing {
+            return Err(WordsFault::Usage);
+        }
+        self.words.asked = asked;
+        Ok(())
+    }
+
+    // Takes the next word.
+    fn take(&mut self, word: String) -> Result<(), WordsFault> {
+        if let Some(operand) = self.wanted {
+            self.wanted = None;
+            return self.take_operand(operand, word);
+        }
+        if is_option(word.as_str()) {
+            return self.take_option(word.as_str());
+        }
+        self.take_name(word)
+    }
+
+    // What was read, behind the last word.
+    fn end(self) -> Result<Words, WordsFault> {
+        if self.wanted.is_some() {
+            return Err(WordsFault::Usage);
+        }
+        if self.words.names.is_empty() && self.words.folder.is_none() {
+            return Err(WordsFault::Usage);
+        }
+        Ok(self.words)
+    }
+}
+
+// What words that ask for an audit ask for.
+fn read_audit(alloc: Global, words: Vec<String>) -> Result<Words, WordsFault> {
+    let mut reader = Reader {
+        alloc,
+        words: Words {
+            folder: None,
+            rates: None,
+            prints: None,
+            asked: Asked::Nothing,
+            is_lenient: false,
+            names: Vec::new(alloc),
+        },
+        wanted: None,
+    };
+    for word in words {
+        reader.take(word)?;
+    }
+    reader.end()
+}
+
+fn has_word(words: &[String], wanted: &str) -> bool {
+    for at in 0..words.len() {
+        if words[at].as_str() == wanted {
+            return true;
+        }
+    }
+    false
+}
+
+// What words that ask to look at a script ask for: the script alone.
+fn read_check(words: Vec<String>) -> Result<String, WordsFault> {
+    let mut words = words;
+    if words.len() != 2 || words[0].as_str() != "--check" || is_option(words[1].as_str()) {
+        return Err(WordsFault::Usage);
+    }
+    match words.pop() {
+        Some(script) => Ok(script),
+        None => Err(WordsFault::Usage),
+    }
+}
+
+/// What the words behind the program's name call for. Options stand in any order, also behind names; `--help` and `--version` take precedence over all others.
+/// WordsFault::Usage if a word that begins with `--` is no option, if an option lacks its file or is given twice, if more than one thing is asked for beside the verdicts,
+/// if no run is named, or if a script to be looked at stands not alone; WordsFault::Memory is want of memory.
+pub fn read_call(alloc: Global, words: Vec<String>) -> Result<Call, WordsFault> {
+    if has_word(words.as_slice(), "--help") {
+        return Ok(Call::Help);
+    }
+    if has_word(words.as_slice(), "--version") {
+        return Ok(Call::Version);
+    }
+    if has_word(words.as_slice(), "--check") {
+        return Ok(Call::Check(read_check(words)?));
+    }
+    Ok(Call::Audit(read_audit(alloc, words)?))
+}

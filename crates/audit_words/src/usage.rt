@@ -1,0 +1,32 @@
+//! What the auditor's program says of its words.
+
+/// What `--version` prints.
+pub const VERSION: &str = "meter_audit, edition 3 of the rules";
+
+/// What `--help` prints.
+pub const HELP: &str = "usage: meter_audit [OPTION ..] [--runs DIR] NAME ..
+       meter_audit --check SCRIPT
+
+Says of each run, in order, whether its report may be that of a lawful meter, up to the first finding. A run is NAME.script,
+NAME.report and NAME.rates, which is empty if it is missing. Give all runs of a folder, from the first one on.
+--check says what is wrong with the lines of a script.
+
+options, in any order
+  --runs DIR       each NAME.script of DIR, by name, before the NAMEs that are given
+  --rates FILE     the rates of every run, in place of each NAME.rates
+  --prints FILE    whether FILE, such as prints.txt, has the prints of these runs
+  --lenient        status 0 in place of 4
+  --help           these lines
+  --version        the version
+
+at most one of
+  --table          each device, customer and node after the runs
+  --page           what the runs came to, each cut and fault, and the digest
+  --csv, --json    the journal: a row for each commit
+  --ledger         the journal as hledger reads it
+  --due            the answers that were due at the end of the last run, which was stopped
+
+statuses
+  0  nothing was found                     3  memory ran out
+  1  a finding                             4  nothing was found, but something is undecided
+  2  bad words, or a file cannot be used";

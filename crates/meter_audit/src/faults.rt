@@ -1,0 +1,64 @@
+//! Why nothing more is judged.
+use audit_journal::BookFault;
+use thiserror::Error;
+
+/// Why nothing more is judged: what is printed on standard error. Names of files are given as they are shown.
+#[derive(Debug, Drop, Error)]
+pub enum Fault {
+    #[error("usage: meter_audit [OPTION ..] [--runs DIR] NAME ..\n       meter_audit --check SCRIPT")]
+    Words,
+    #[error("cannot use {0}")]
+    File(String),
+    #[error("cannot use {0}: it is no regular file")]
+    Pipe(String),
+    #[error("cannot use {0}: it has no run")]
+    Folder(String),
+    #[error("{0} was not stopped, so no answer is due")]
+    Unstopped(String),
+    #[error("cannot write standard output")]
+    Write,
+    #[error("counted otherwise than judged")]
+    Counted,
+    #[error("no memory")]
+    Memory,
+}
+
+/// The exit status of a fault.
+pub fn code_of(fault: &Fault) -> u8 {
+    match fault {
+        Fault::Words
+        | Fault::File(_)
+        | Fault::Pipe(_)
+        | Fault::Folder(_)
+        | Fault::Unstopped(_)
+        | Fault::Write
+        | Fault::Counted => 2,
+        Fault::Memory => 3,
+    }
+}
+
+/// What was made, or want of memory.
+pub fn or_memory<T, E: Drop>(made: Result<T, E>) -> Result<T, Fault> {
+    match made {
+        Ok(made) => Ok(made),
+        Err(_) => Err(Fault::Memory),
+    }
+}
+
+/// What was written, or that it can't be.
+pub fn or_write<E: Drop>(written: Result<(), E>) -> Result<(), Fault> {
+    match written {
+        Ok(()) => Ok(()),
+        Err(_) => Err(Fault::Write),
+    }
+}
+
+/// What was counted, or why it was not.
+pub fn or_book(counted: Result<(), BookFault>) -> Result<(), Fault> {
+    match counted {
+        Ok(()) => Ok(()),
+        Err(BookFault::Write) => Err(Fault::Write),
+        Err(BookFault::Counted) => Err(Fault::Counted),
+        Err(BookFault::Memory) => Err(Fault::Memory),
+    }
+}

@@ -1,0 +1,147 @@
+//! A run is judged: what is said of it, by the bytes that were judged.
+ghost use Rattle.told_bench.specs.Seeing.{IsReady, audit_of};
+
+use crate::tails::{Lines, Tail, last_taken, lines_over};
+use audit_words::shown;
+use bench_base::events::Event;
+use line_runs::lines::LineRead;
+use script_text::{Line, put_reply, read_event};
+use std::alloc::{AllocError, Global};
+use std::cell::RefCell;
+use std::io::Read;
+use told_bench::Auditor;
+use told_runs::{Ending, Imprint, Input, LINES, Verdict, audit_run, read_line};
+
+/// What came of a run. Numbers are those of lines of its script.
+#[derive(Clone, Copy)]
+pub enum Outcome {
+    Lawful(Ending),
+    Stopped(u32),
+    Wrong(u32),
+    Forged(u32),
+    More(u32),
+    Unread(Input),
+    Memory,
+}
+
+/// What is said of a run.
+#[derive(Drop)]
+pub struct Judged {
+    pub outcome: Outcome,
+    /// How the script ended, if the run came to its end.
+    pub ending: Ending,
+    /// How many lines of the report were answers.
+    pub answers: u64,
+    /// Whether the report has no byte.
+    pub is_empty: bool,
+    /// The line of the script that was judged last, the answer that was due to it, and what the report has there, as they are shown.
+    pub script: String,
+    pub due: String,
+    pub found: String,
+}
+
+/// What a verdict says, with the line of the answer that was due.
+#[derive(Drop)]
+struct Told {
+    outcome: Outcome,
+    due: Line,
+}
+
+// What the verdict says.
+fn told_by(verdict: &Verdict) -> Told {
+    let mut due = Line::new();
+    let outcome = match verdict {
+        Verdict::Lawful(ending) => Outcome::Lawful(*ending),
+        Verdict::Stopped(line) => Outcome::Stopped(*line),
+        Verdict::Wrong(line, reply) => {
+            put_reply(&mut due, reply);
+            Outcome::Wrong(*line)
+        }
+        Verdict::Forged(line) => Outcome::Forged(*line),
+        Verdict::More(line) => Outcome::More(*line),
+        Verdict::Memory => Outcome::Memory,
+        Verdict::Unread(input, _) => Outcome::Unread(*input),
+    };
+    Told { outcome, due }
+}
+
+// How a script ended at the line of this number, which was this.
+fn ending_at(line: u32, script: &[u8]) -> Ending {
+    if line > LINES {
+        return Ending::TooLong;
+    }
+    match &read_event(script) {
+        Ok(Event::End) => Ending::Done,
+        Ok(_) | Err(_) => Ending::Script(line),
+    }
+}
+
+// How the script ended, if it did.
+fn ending_of(outcome: Outcome, script: &[u8]) -> Ending {
+    match outcome {
+        Outcome::Lawful(ending) => ending,
+        Outcome::More(line) => ending_at(line, script),
+        Outcome::Stopped(_)
+        | Outcome::Wrong(_)
+        | Outcome::Forged(_)
+        | Outcome::Unread(_)
+        | Outcome::Memory => Ending::Done,
+    }
+}
+
+// What the report has for the line that was judged last. What it has for one that brings forged bytes was not read yet.
+fn found_in<R: Read>(
+    alloc: Global,
+    outcome: Outcome,
+    report: &mut Lines<'_, R>,
+    tail: &RefCell<Tail>,
+) -> Result<Vec<u8>, AllocError> {
+    if let Outcome::Forged(_) = outcome {
+        let mut line = [0; 600];
+        match read_line(report, &mut line) {
+            LineRead::Line(_, _) | LineRead::Long => {}
+            LineRead::End | LineRead::Fault => return Ok(Vec::new(alloc)),
+        }
+    }
+    last_taken(alloc, report, tail)
+}
+
+// Whether the reader gave nothing, and how many line ends it gave.
+fn given_by(tail: &RefCell<Tail>) -> (bool, u64) {
+    match tail.try_borrow() {
+        Ok(tail) => (tail.is_empty(), tail.line_ends()),
+        Err(_) => (false, 0),
+    }
+}
+
+/// Judges a run over what the auditor has, by what these read, each of which is read once: the imprints are put behind those of the runs before. AllocError is want
+/// of memory beside that of the verdict.
+pub fn judge_over<S: Read + Drop, R: Read + Drop>(
+    alloc: Global,
+    auditor: &mut Auditor,
+    script: S,
+    report: R,
+    rates: &[u8],
+    imprints: &mut Vec<Imprint>,
+) -> Result<Judged, AllocError>
+    requires ready { IsReady (audit_of auditor.old) }
+    ensures ready { IsReady (audit_of auditor.new) }
+{
+    let script_tail = RefCell::new(Tail::new(alloc)?);
+    let report_tail = RefCell::new(Tail::new(alloc)?);
+    let mut script = lines_over(alloc, script, &script_tail)?;
+    let mut report = lines_over(alloc, report, &report_tail)?;
+    let told = told_by(&audit_run(alloc, auditor, &mut script, &mut report, rates, imprints));
+    let found = found_in(alloc, told.outcome, &mut report, &report_tail)?;
+    let line = last_taken(alloc, &mut script, &script_tail)?;
+    let (is_empty, answers) = given_by(&report_tail);
+    Ok(Judged {
+        outcome: told.outcome,
+        ending: ending_of(told.outcome, line.as_slice()),
+        answers,
+        is_empty,
+        script: shown(alloc, line.as_slice())?,
+        due: shown(alloc, told.due.as_slice())?,
+        found: shown(alloc, found.as_slice())?,
+    })
+}

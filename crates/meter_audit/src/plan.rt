@@ -1,0 +1,96 @@
+//! What the words of an audit come to: the names of all runs, and the files that are those of every run.
+use crate::faults::{Fault, or_memory};
+use crate::files::{open_file, rates_in, want_regular};
+use crate::folders::runs_in;
+use crate::prints::Printed;
+use audit_words::{Asked, Words};
+
+/// What is judged, and what is printed beside the verdicts.
+#[derive(Drop)]
+pub struct Plan {
+    pub names: Vec<String>,
+    pub asked: Asked,
+    pub is_lenient: bool,
+    /// The rates of every run; None if each has its own.
+    pub rates: Option<Vec<u8>>,
+    /// The file of the prints of all runs.
+    pub printed: Option<Printed>,
+}
+
+/// Whether a journal goes to standard output, or what was due; verdicts then go to standard error.
+pub fn takes_output(asked: Asked) -> bool {
+    match asked {
+        Asked::Nothing | Asked::Table | Asked::Page => false,
+        Asked::Csv | Asked::Json | Asked::Ledger | Asked::Due => true,
+    }
+}
+
+/// Whether runs are gone over once more behind their verdicts, so that they have to be whole in memory.
+pub fn is_counted(asked: Asked) -> bool {
+    match asked {
+        Asked::Nothing | Asked::Table => false,
+        Asked::Page | Asked::Csv | Asked::Json | Asked::Ledger | Asked::Due => true,
+    }
+}
+
+// The runs of the folder, if one is named, and behind them those that are named.
+fn all_runs(
+    rt: &HostRuntime,
+    folder: &Option<String>,
+    named: Vec<String>,
+) -> Result<Vec<String>, Fault> {
+    let Some(folder) = folder else {
+        return Ok(named);
+    };
+    let mut names = runs_in(rt, folder.as_str())?;
+    for name in named {
+        or_memory(names.push(name))?;
+    }
+    Ok(names)
+}
+
+// The rates of so many runs. A file that can be read once alone is that of one run.
+fn shared_rates(
+    rt: &HostRuntime,
+    file: &Option<String>,
+    runs: usize,
+) -> Result<Option<Vec<u8>>, Fault> {
+    let Some(file) = file else {
+        return Ok(None);
+    };
+    if runs > 1 {
+        want_regular(rt, file.as_str())?;
+    }
+    Ok(Some(rates_in(rt, file.as_str())?))
+}
+
+// The file of prints, opened.
+fn open_prints(rt: &HostRuntime, file: Option<String>) -> Result<Option<Printed>, Fault> {
+    let Some(file) = file else {
+        return Ok(None);
+    };
+    let opened = open_file(rt, file.as_str())?;
+    Ok(Some(Printed { file, opened }))
+}
+
+/// What these words come to. Each file that is that of every run is opened before the first run is judged.
+pub fn plan_of(rt: &HostRuntime, words: Words) -> Result<Plan, Fault> {
+    let Words {
+        folder,
+        rates,
+        prints,
+        asked,
+        is_lenient,
+        names,
+    } = words;
+    let names = all_runs(rt, &folder, names)?;
+    let rates = shared_rates(rt, &rates, names.len())?;
+    let printed = open_prints(rt, prints)?;
+    Ok(Plan {
+        names,
+        asked,
+        is_lenient,
+        rates,
+        printed,
+    })
+}

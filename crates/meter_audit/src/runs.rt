@@ -1,0 +1,248 @@
+//! Runs are judged in order, up to the first finding, and gone over once more if that is asked for.
+ghost use Rattle.told_bench.specs.Seeing.{IsReady, audit_of};
+
+use crate::digest::{NO_RUNS, Sum, digest_with};
+use crate::faults::{Fault, or_book, or_memory, or_write};
+use crate::files::{open_of, rates_of, unusable_of, whole_run};
+use crate::judging::{Judged, Outcome, judge_over};
+use crate::plan::{Plan, is_counted, takes_output};
+use crate::verdicts::{FINDING, is_finding, is_undecided, stopped_at, verdict_text};
+use audit_clerk::{Clerk, Run, put_due};
+use audit_words::{Asked, shown_text};
+use bench_base::numbers::DayNo;
+use bench_base::stream::IoSink;
+use std::alloc::Global;
+use std::io;
+use told_bench::Auditor;
+use told_runs::{Imprint, Input};
+
+/// What was gathered over the runs.
+#[derive(Drop)]
+pub struct Gathered {
+    pub imprints: Vec<Imprint>,
+    /// Of each run how many imprints there are up to its end.
+    pub ends: Vec<usize>,
+    /// Of each run that is gone over once more the digest up to it.
+    pub digests: Vec<Sum>,
+    /// The last day that was told.
+    pub day: Option<DayNo>,
+    /// Whether a run left something undecided that no later run decides.
+    pub is_undecided: bool,
+}
+
+impl Gathered {
+    /// Before the first run.
+    pub fn new(alloc: Global) -> Gathered {
+        Gathered {
+            imprints: Vec::new(alloc),
+            ends: Vec::new(alloc),
+            digests: Vec::new(alloc),
+            day: None,
+            is_undecided: false,
+        }
+    }
+}
+
+/// Prints a verdict: where the journal goes to standard output, on standard error. That may take no line; the exit status tells the same.
+pub fn say(rt: &HostRuntime, asked: Asked, text: &str) -> Result<(), Fault> {
+    if takes_output(asked) {
+        let _ = eprintln!(rt; "{text}");
+        return Ok(());
+    }
+    or_write(println!(rt; "{text}"))
+}
+
+/// Prints a finding: its exit status, which is the same if it can't be printed.
+pub fn say_finding(rt: &HostRuntime, asked: Asked, text: &str) -> u8 {
+    if let Err(fault) = say(rt, asked, text) {
+        let _ = eprintln!(rt; "{fault}");
+    }
+    FINDING
+}
+
+// Prints the verdict on a run: its exit status.
+fn tell(rt: &HostRuntime, asked: Asked, name: &str, judged: &Judged) -> Result<u8, Fault> {
+    match judged.outcome {
+        Outcome::Memory => return Err(Fault::Memory),
+        Outcome::Unread(Input::Script) => return Err(unusable_of(rt, name, ".script")),
+        Outcome::Unread(Input::Report) => return Err(unusable_of(rt, name, ".report")),
+        Outcome::Lawful(_)
+        | Outcome::Stopped(_)
+        | Outcome::Wrong(_)
+        | Outcome::Forged(_)
+        | Outcome::More(_) => {}
+    }
+    let name = or_memory(shown_text(rt.alloc(), name))?;
+    let text = or_memory(verdict_text(rt.alloc(), name.as_str(), judged))?;
+    if is_finding(judged) {
+        return Ok(say_finding(rt, asked, text.as_str()));
+    }
+    say(rt, asked, text.as_str())?;
+    Ok(0)
+}
+
+// Judges a run by its files, which are read once, line by line. Its rates are those of every run, if there are such.
+fn judge_files(
+    rt: &HostRuntime,
+    auditor: &mut Auditor,
+    name: &str,
+    shared: &Option<Vec<u8>>,
+    imprints: &mut Vec<Imprint>,
+) -> Result<Judged, Fault>
+    requires ready { IsReady (audit_of auditor.old) }
+    ensures ready { IsReady (audit_of auditor.new) }
+{
+    let script = open_of(rt, name, ".script")?;
+    let report = open_of(rt, name, ".report")?;
+    let rates = rates_of(rt, name, shared)?;
+    or_memory(judge_over(
+        rt.alloc(),
+        auditor,
+        script,
+        report,
+        rates.as_slice(),
+        imprints,
+    ))
+}
+
+// Judges a run that is whole in memory.
+fn judge_whole(
+    alloc: Global,
+    auditor: &mut Auditor,
+    run: &Run,
+    imprints: &mut Vec<Imprint>,
+) -> Result<Judged, Fault>
+    requires ready { IsReady (audit_of auditor.old) }
+    ensures ready { IsReady (audit_of auditor.new) }
+{
+    or_memory(judge_over(
+        alloc,
+        auditor,
+        run.script.as_slice(),
+        run.report.as_slice(),
+        run.rates.as_slice(),
+        imprints,
+    ))
+}
+
+// Goes over a run for what was due: of the last one, which has to be one that was stopped, that is printed; the others are judged once more.
+fn tell_due(
+    rt: &HostRuntime,
+    plan: &Plan,
+    auditor: &mut Auditor,
+    place: usize,
+    run: &Run,
+    stopped: Option<u32>,
+) -> Result<(), Fault>
+    requires ready { IsReady (audit_of auditor.old) }
+    ensures ready { IsReady (audit_of auditor.new) }
+{
+    if place.saturating_add(1) < plan.names.len() {
+        let mut imprints = Vec::new(rt.alloc());
+        judge_whole(rt.alloc(), auditor, run, &mut imprints)?;
+        return Ok(());
+    }
+    if stopped.is_none() {
+        let name = match plan.names.last() {
+            Some(name) => name.as_str(),
+            None => "",
+        };
+        return Err(Fault::Unstopped(or_memory(shown_text(rt.alloc(), name))?));
+    }
+    let mut output = IoSink::new(io::writer(rt));
+    or_book(put_due(rt.alloc(), auditor, run, &mut output))
+}
+
+// Goes once more over a run of which nothing was found.
+fn count(
+    rt: &HostRuntime,
+    plan: &Plan,
+    clerk: &mut Clerk,
+    place: usize,
+    run: &Run,
+    stopped: Option<u32>,
+) -> Result<(), Fault>
+    requires ready { IsReady (audit_of clerk.old.auditor) }
+    ensures ready { IsReady (audit_of clerk.new.auditor) }
+{
+    match plan.asked {
+        Asked::Due => tell_due(rt, plan, &mut clerk.auditor, place, run, stopped),
+        Asked::Nothing
+        | Asked::Table
+        | Asked::Page
+        | Asked::Csv
+        | Asked::Json
+        | Asked::Ledger => {
+            or_book(clerk.go_over(rt, plan.names.as_slice(), place, run, stopped))
+        }
+    }
+}
+
+impl Gathered {
+    // Gathers what a run left.
+    fn gather(&mut self, judged: &Judged, day: Option<DayNo>) -> Result<(), Fault> {
+        self.day = day.or(self.day);
+        self.is_undecided = self.is_undecided || is_undecided(judged);
+        or_memory(self.ends.push(self.imprints.len()))
+    }
+
+    // Gathers the digest up to a run.
+    fn digest(&mut self, run: &Run) -> Result<(), Fault> {
+        let before = self.digests.last().copied().unwrap_or(NO_RUNS);
+        or_memory(self.digests.push(digest_with(&before, run)))
+    }
+}
+
+// Judges the run of this name, and prints the verdict: its exit status.
+fn judge_next(
+    rt: &HostRuntime,
+    plan: &Plan,
+    auditor: &mut Auditor,
+    clerk: &mut Clerk,
+    gathered: &mut Gathered,
+    place: usize,
+    name: &str,
+) -> Result<u8, Fault>
+    requires ready { IsReady (audit_of auditor.old) }
+    requires ready_clerk { IsReady (audit_of clerk.old.auditor) }
+    ensures ready { IsReady (audit_of auditor.new) }
+    ensures ready_clerk { IsReady (audit_of clerk.new.auditor) }
+{
+    if !is_counted(plan.asked) {
+        let judged = judge_files(rt, auditor, name, &plan.rates, &mut gathered.imprints)?;
+        gathered.gather(&judged, auditor.day())?;
+        return tell(rt, plan.asked, name, &judged);
+    }
+    let run = whole_run(rt, name, &plan.rates)?;
+    let judged = judge_whole(rt.alloc(), auditor, &run, &mut gathered.imprints)?;
+    gathered.gather(&judged, auditor.day())?;
+    let code = tell(rt, plan.asked, name, &judged)?;
+    if code == 0 {
+        gathered.digest(&run)?;
+        count(rt, plan, clerk, place, &run, stopped_at(&judged))?;
+    }
+    Ok(code)
+}
+
+/// Judges the runs in order, up to the first finding: the exit status.
+pub fn judge_all(
+    rt: &HostRuntime,
+    plan: &Plan,
+    auditor: &mut Auditor,
+    clerk: &mut Clerk,
+    gathered: &mut Gathered,
+) -> Result<u8, Fault>
+    requires ready { IsReady (audit_of auditor.old) }
+    requires ready_clerk { IsReady (audit_of clerk.old.auditor) }
+    ensures ready { IsReady (audit_of auditor.new) }
+    ensures ready_clerk { IsReady (audit_of clerk.new.auditor) }
+{
+    for place in 0..plan.names.len() {
+        let name = plan.names[place].as_str();
+        let code = judge_next(rt, plan, auditor, clerk, gathered, place, name)?;
+        if code != 0 {
+            return Ok(code);
+        }
+    }
+    Ok(0)
+}
