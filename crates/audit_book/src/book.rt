@@ -386,16 +386,12 @@ impl Book {
         let (Some(device), Some(piece)) = (entry.device, entry.piece) else {
             return Ok(());
         };
-        let job = Job {
-            device,
-            piece,
-            class: entry.class.unwrap_or(0),
-            postage: size_of(entry),
-            state: JobState::Ordered,
-            day: entry.day,
-            printed: false,
-        };
-        or_memory(self.jobs.order(job))
+        let class = entry.class.unwrap_or(0);
+        let postage = size_of(entry);
+        or_memory(
+            self.jobs
+                .order(entry.number, device, piece, class, postage, entry.day),
+        )
     }
 
     // Keeps that a job holds the mark of its piece.

@@ -65,14 +65,16 @@ fn amount_cell(alloc: Global, amount: Option<Amount>) -> Result<Cell, AllocError
     }
 }
 
+fn account_text(alloc: Global, account: Account) -> Result<String, AllocError> {
+    match account {
+        Account::Device(device) => format!(in alloc; "d{}", device.get()),
+        Account::Customer(customer) => format!(in alloc; "customer {}", customer.get()),
+    }
+}
+
 fn account_cell(alloc: Global, account: Option<Account>) -> Result<Cell, AllocError> {
     match account {
-        Some(Account::Device(device)) => {
-            Ok(Cell::Words(format!(in alloc; "d{}", device.get())?))
-        }
-        Some(Account::Customer(customer)) => {
-            Ok(Cell::Words(format!(in alloc; "customer {}", customer.get())?))
-        }
+        Some(account) => Ok(Cell::Words(account_text(alloc, account)?)),
         None => Ok(Cell::Empty),
     }
 }

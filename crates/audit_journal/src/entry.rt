@@ -5,7 +5,7 @@ use bench_base::numbers::{Customer, DayNo, DevNo};
 use bench_base::words::{Kind, Node, Verdict};
 
 /// What a commit did; `Printed` and `PrinterFault` are what became of a print, which is no commit of its own.
-#[derive(Clone, Copy, Debug, PartialEq, Eq)]
+#[derive(Clone, Copy)]
 pub enum Deed {
     Made,
     Asked,

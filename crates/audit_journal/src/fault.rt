@@ -1,7 +1,7 @@
 //! Why runs that were judged could not be counted.
 
 /// Why nothing more is counted.
-#[derive(Clone, Copy, Debug, PartialEq, Eq)]
+#[derive(Clone, Copy)]
 pub enum BookFault {
     /// Standard output took no more.
     Write,

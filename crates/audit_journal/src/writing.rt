@@ -12,7 +12,7 @@ use std::io::{self, Write};
 const KEPT: usize = 8192;
 
 /// How the journal is written.
-#[derive(Clone, Copy, Debug, PartialEq, Eq)]
+#[derive(Clone, Copy)]
 pub enum Form {
     /// Not at all.
     None,

@@ -18,7 +18,7 @@ pub enum Mishap {
 }
 
 /// What became of the commit of the line.
-#[derive(Clone, Copy, Debug, PartialEq, Eq)]
+#[derive(Clone, Copy)]
 pub enum Outcome {
     /// It makes none.
     None,

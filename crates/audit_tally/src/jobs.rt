@@ -56,8 +56,28 @@ impl Jobs {
         self.rows.get(place(job)?).copied()
     }
 
-    /// Keeps a job that was ordered under the next number. AllocError is want of memory.
-    pub fn order(&mut self, job: Job) -> Result<(), AllocError> {
+    /// Keeps a job that was ordered under this number on this day, if it is the next one; of any other number nothing is kept. AllocError is want of memory.
+    pub fn order(
+        &mut self,
+        number: u32,
+        device: DevNo,
+        piece: u32,
+        class: u16,
+        postage: u64,
+        day: Option<DayNo>,
+    ) -> Result<(), AllocError> {
+        if place(number) != Some(self.rows.len()) {
+            return Ok(());
+        }
+        let job = Job {
+            device,
+            piece,
+            class,
+            postage,
+            state: JobState::Ordered,
+            day,
+            printed: false,
+        };
         self.rows.push(job)?;
         Ok(())
     }

@@ -1,7 +1,7 @@
 //! Where something was told.
 
 /// A line of a script: of the run of this place among all, counted from 0, and its number, counted from 1.
-#[derive(Clone, Copy, Debug, PartialEq, Eq)]
+#[derive(Clone, Copy)]
 pub struct Place {
     pub run: usize,
     pub line: u32,
