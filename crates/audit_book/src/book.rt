@@ -5,8 +5,8 @@ use crate::settling::{
 };
 use audit_journal::{At, BookFault, Deed, Entry, Form, Journal, Row, place_of};
 use audit_tally::{
-    Ask, Causes, Doing, Incidents, Job, Jobs, Mishap, Outcome, Piece, Pieces, Place, Sends, Tally, Ungranted,
-    entry_of, mishap_at, one_more,
+    Ask, Causes, Doing, Incidents, Job, Jobs, Mishap, Outcome, Piece, Pieces, Place, Sends, Tally,
+    Ungranted, entry_of, is_given_again, mishap_at, one_more,
 };
 use bench_base::events::Reply;
 use bench_base::numbers::{DayNo, DevNo};
@@ -226,12 +226,14 @@ impl Book {
 
     /// Keeps which mark the line gives out, if this answer was due.
     pub fn give_out(&mut self, due: &Reply, line: &[u8]) {
-        match due {
-            Reply::Marked { device, piece, .. } | Reply::Released { device, piece, .. } => {
-                if is_told(due, line) {
-                    self.pieces.release(*device, *piece);
-                }
-            }
+        let Some(entry) = entry_of(&Doing::Other, due) else {
+            return;
+        };
+        if !is_told(due, line) {
+            return;
+        }
+        match (entry.deed, entry.device, entry.piece) {
+            (Deed::Debited, Some(device), Some(piece)) => self.pieces.release(device, piece),
             _ => {}
         }
     }
@@ -240,7 +242,7 @@ impl Book {
 impl Book {
     // The job whose message this is, if a piece is debited by it.
     fn job_behind(&self, doing: &Doing, due: &Reply) -> Option<u32> {
-        if let Reply::Released { again: true, .. } = due {
+        if is_given_again(due) {
             return None;
         }
         match doing {
@@ -320,12 +322,7 @@ impl Book {
     }
 
     /// What became of the print of this event, if the line tells it: a row that is no commit.
-    pub fn print_told(
-        &mut self,
-        day: Option<DayNo>,
-        doing: &Doing,
-        line: &[u8],
-    ) -> Option<Entry> {
+    pub fn print_told(&mut self, day: Option<DayNo>, doing: &Doing, line: &[u8]) -> Option<Entry> {
         let job = printing(doing)?;
         let deed = printed(job, line)?;
         if matches!(deed, Deed::Printed) {
@@ -521,12 +518,7 @@ impl Book {
     }
 
     // Notes that a commit of this line is in doubt.
-    fn doubt(
-        &mut self,
-        rt: &HostRuntime,
-        names: &[String],
-        made: &Made,
-    ) -> Result<(), BookFault> {
+    fn doubt(&mut self, rt: &HostRuntime, names: &[String], made: &Made) -> Result<(), BookFault> {
         let Some(at) = at_of(names, made.place) else {
             return Ok(());
         };

@@ -86,6 +86,14 @@ fn told_by(reply: &Reply) -> Counted {
     }
 }
 
+/// Whether the reply gives out a mark that was given out before.
+pub fn is_given_again(reply: &Reply) -> bool {
+    match told_by(reply) {
+        Counted::Released(again) => again,
+        Counted::Nothing | Counted::Accepted(_) | Counted::Duplicate | Counted::Printed => false,
+    }
+}
+
 /// One more. Runs have at most 1,000,000 lines each, so the greatest number is never reached.
 pub fn one_more(count: &mut u64) {
     *count = count.saturating_add(1);

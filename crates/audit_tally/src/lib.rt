@@ -13,7 +13,7 @@ mod requests;
 mod sends;
 
 pub use causes::{Cause, Causes};
-pub use counts::{Tally, one_more};
+pub use counts::{Tally, is_given_again, one_more};
 pub use doings::{Doing, doing_of};
 pub use incidents::{Incident, Incidents, Mishap, Outcome, mishap_at};
 pub use jobs::{Job, Jobs};
