@@ -1,5 +1,6 @@
 -- The word behind so many others.
-use Rattle.std.proofs.Common.{◌≡◌, ℕ, zero, suc, ◌+◌, ◌-◌, ◌≤◌, List, [], ◌∷◌, drop, slice_get, Option, Some, None, refl, ap, subst, arith}
+use Rattle.std.proofs.Common.{◌≡◌, ℕ, zero, suc, ◌+◌, ◌-◌, ◌≤◌, List, [], ◌∷◌, drop, slice_get, Option, Some, None, MatchOption, Bor, refl, sym, ap, subst, arith}
+use Rattle.script_check.specs.Wrong.{IsWordAt, IsBehindAll}
 
 -- what is behind the first of the words that are left
 pub next_word : (n : ℕ) (ws : List (List ℕ)) (w : List ℕ) (more : List (List ℕ)) → w ∷ more ≡ drop n ws → more ≡ drop (suc n) ws
@@ -26,3 +27,15 @@ pub found_behind : (k : List ℕ) (ws : List (List ℕ)) (count place : ℕ) (fo
 found_behind k ws count place found is e =
     let at : suc count ≡ place - 1 = omega (arith, is) in
     subst (λ (n : ℕ). slice_get (k ∷ ws) n ≡ found) at e
+
+-- so it is of what is found
+pub found_for : (k : List ℕ) (ws : List (List ℕ)) (count place : ℕ) (found shown : Option (Bor (List ℕ))) → shown ≡ found → place ≡ count + 2
+    → MatchOption found (slice_get ws count ≡ None) (λ w. slice_get ws count ≡ Some w.now)
+    → MatchOption shown (IsBehindAll place (k ∷ ws)) (λ w. IsWordAt place (k ∷ ws) w.now)
+found_for k ws count place found shown same is h =
+    subst (λ (o : Option (Bor (List ℕ))). MatchOption o (IsBehindAll place (k ∷ ws)) (λ w. IsWordAt place (k ∷ ws) w.now)) (sym same) (each found h)
+  where
+    each : (o : Option (Bor (List ℕ))) → MatchOption o (slice_get ws count ≡ None) (λ w. slice_get ws count ≡ Some w.now)
+        → MatchOption o (IsBehindAll place (k ∷ ws)) (λ w. IsWordAt place (k ∷ ws) w.now)
+    each None e = found_behind k ws count place None is e
+    each (Some w) e = found_behind k ws count place (Some w.now) is e

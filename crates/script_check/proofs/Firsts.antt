@@ -1,5 +1,5 @@
 -- The first word that no event has there.
-use Rattle.std.proofs.Common.{◌≡◌, ◌≢◌, ℕ, zero, suc, ◌+◌, ◌-◌, ◌≤◌, ◌<◌, ◌⊎◌, List, [], ◌∷◌, ◌++◌, length, take, refl, sym, ap, ◌∙◌, subst, inl, inr, arith, codes}
+use Rattle.std.proofs.Common.{◌≡◌, ◌≢◌, ℕ, suc, ◌+◌, ◌-◌, ◌≤◌, ◌<◌, ◌⊎◌, List, [], ◌∷◌, ◌++◌, length, take, refl, sym, subst, inl, inr, arith, codes}
 use Rattle.bench_base.specs.declared.events.Event.TheVariants as ev
 use Rattle.script_text.specs.declared.keyword.Keyword.{Keyword as Theirs}
 use Rattle.script_text.specs.declared.keyword.Keyword.TheVariants as theirs
@@ -10,7 +10,7 @@ use Rattle.script_check.specs.Keywords.{keyword_word}
 use Rattle.script_check.specs.Wrong.{BeginAnEvent, IsFirstWrong}
 use Rattle.script_check.specs.declared.keyword.Keyword.{Keyword}
 use Rattle.script_check.specs.declared.keyword.Keyword.TheVariants as kw
-use Rattle.script_check.proofs.InPlace.{Fits, completed, fewer}
+use Rattle.script_check.proofs.InPlace.{completed, fewer}
 use Rattle.script_check.proofs.MadeEvents.{made_first, made_second}
 use Rattle.script_check.proofs.NoEvents.{none_begins}
 
@@ -58,8 +58,8 @@ wrong_behind k ws first second most place one two le le' which is =
 
     not : suc most < length (keyword_word k ∷ ws) → BeginAnEvent (keyword_word k ∷ take (suc most) ws) → ⊥
     not there = begin_none k (take (suc most) ws)
-      (λ h. one.no_more (omega (arith, there, le)) (fewer (first_form k) (suc first) (suc most) ws (omega (arith, le)) h))
-      (λ h. two.no_more (omega (arith, there, le')) (fewer (second_form k) (suc second) (suc most) ws (omega (arith, le')) h))
+        (λ h. one.no_more (omega (arith, there, le)) (fewer (first_form k) (suc first) (suc most) ws (omega (arith, le)) h))
+        (λ h. two.no_more (omega (arith, there, le')) (fewer (second_form k) (suc second) (suc most) ws (omega (arith, le')) h))
 
 -- a keyword alone
 pub wrong_alone : (k : Keyword) (place : ℕ) → place ≡ 2 → IsFirstWrong place (keyword_word k ∷ [])

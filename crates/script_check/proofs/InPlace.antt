@@ -1,5 +1,5 @@
 -- Words at the first places of a form, and words at all of them.
-use Rattle.std.proofs.Common.{◌≡◌, ℕ, zero, suc, ◌≤◌, ◌<◌, List, [], ◌∷◌, ◌++◌, take, refl, sym, subst, arith}
+use Rattle.std.proofs.Common.{◌≡◌, ℕ, zero, suc, ◌≤◌, List, [], ◌∷◌, ◌++◌, take, refl, sym, subst, arith}
 use Rattle.script_check.specs.Slots.{Takes}
 use Rattle.script_check.specs.Forms.{AreInPlace}
 use Rattle.script_check.specs.declared.slots.Slot.{Slot}

@@ -1,7 +1,7 @@
 pub mod Behind
 pub mod Firsts
 pub mod InPlace
+pub mod InSlots
 pub mod MadeEvents
 pub mod NoEvents
 pub mod Samples
-pub mod Taking

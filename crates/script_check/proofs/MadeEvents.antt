@@ -1,17 +1,14 @@
 -- Words that fit the form behind a keyword are those of an event.
-use Rattle.std.proofs.Common.{◌≡◌, ℕ, true, false, ◌⊎◌, List, [], ◌∷◌, refl, inl, inr, codes, decimal}
+use Rattle.std.proofs.Common.{◌≡◌, ℕ, true, false, ◌⊎◌, List, [], ◌∷◌, refl, inl, inr, codes}
 use Rattle.bench_base.specs.declared.words.Kind.TheVariants.{Enrol, Reset, Audit, Refund, Withdraw}
 use Rattle.bench_base.specs.declared.events.Event.{Event}
 use Rattle.bench_base.specs.declared.events.Event.TheVariants as ev
-use Rattle.bench_base.specs.Ranges.{IsWholeEvent, IsDevice, IsWord}
+use Rattle.bench_base.specs.Ranges.{IsWholeEvent}
 use Rattle.script_text.specs.Grammar.{AreWordsOf}
-use Rattle.script_words.specs.Words.{device_word}
 use Rattle.script_check.specs.Forms.{first_form, second_form}
 use Rattle.script_check.specs.Keywords.{keyword_word}
-use Rattle.script_check.specs.Slots.{Takes}
 use Rattle.script_check.specs.declared.keyword.Keyword.{Keyword}
 use Rattle.script_check.specs.declared.keyword.Keyword.TheVariants as kw
-use Rattle.script_check.specs.declared.slots.Slot.TheVariants as slot
 use Rattle.script_check.proofs.InPlace.{Fits}
 
 -- some event has these words

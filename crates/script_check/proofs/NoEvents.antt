@@ -1,5 +1,5 @@
 -- Words that stand at the first places of no form behind a keyword begin no event.
-use Rattle.std.proofs.Common.{◌≡◌, ℕ, ◌⊎◌, List, [], ◌∷◌, ◌++◌, refl, inl, inr, codes, decimal}
+use Rattle.std.proofs.Common.{◌≡◌, ℕ, List, [], ◌∷◌, ◌++◌, refl, inl, inr, codes, decimal}
 use Rattle.bench_base.specs.declared.words.Kind.{Kind}
 use Rattle.bench_base.specs.declared.words.Kind.TheVariants.{Enrol, Reset, Audit, Refund, Withdraw}
 use Rattle.bench_base.specs.Ranges.{IsAsk, IsDevice}
@@ -51,26 +51,43 @@ module _ (front rest : List (List ℕ)) where
   none_begins kw.On n m = no_event theirs.On ws (λ node whole are. first kw.On n (_, [], behind _ _ _ _ are, (node, whole, refl), refl))
   none_begins kw.Off n m = no_event theirs.Off ws (λ node whole are. first kw.Off n (_, [], behind _ _ _ _ are, (node, whole, refl), refl))
   none_begins kw.Cut n m = no_event theirs.Cut ws (λ node calls keep byte whole are.
-    first kw.Cut n (_, _, behind _ _ _ _ are, (node, whole.0, refl), (_, _, refl, (calls, whole.1, refl), (_, _, refl, (keep, whole.2, refl), (_, [], refl, (byte, whole.3, refl), refl)))))
+      first kw.Cut n (_, _, behind _ _ _ _ are, (node, whole.0, refl), (_, _, refl, (calls, whole.1, refl), (_, _, refl, (keep, whole.2, refl), (_, [], refl, (byte, whole.3, refl), refl)))))
   none_begins kw.Debit n m = no_event theirs.Debit ws (λ d piece postage class whole are.
-    first kw.Debit n (_, _, behind _ _ _ _ are, (d, whole.0, refl), (_, _, refl, (piece, whole.1, refl), (_, _, refl, (postage, whole.2, refl), (_, [], refl, (class, whole.3, refl), refl)))))
+      first kw.Debit n (_, _, behind _ _ _ _ are, (d, whole.0, refl), (_, _, refl, (piece, whole.1, refl), (_, _, refl, (postage, whole.2, refl), (_, [], refl, (class, whole.3, refl), refl)))))
   none_begins kw.Ask n m = no_ask n m
   none_begins kw.Resend n m = no_event theirs.Resend ws (λ d whole are. first kw.Resend n (_, [], behind _ _ _ _ are, (d, whole, refl), refl))
   none_begins kw.Ack n m = no_event theirs.Ack ws (λ d whole are. first kw.Ack n (_, [], behind _ _ _ _ are, (d, whole, refl), refl))
   none_begins kw.Status n m = no_event theirs.Status ws (λ d whole are. first kw.Status n (_, [], behind _ _ _ _ are, (d, whole, refl), refl))
   none_begins kw.Register n m = no_event theirs.Register ws (λ d origin key whole are.
-    first kw.Register n (_, _, behind _ _ _ _ are, (d, whole.0, refl), (_, _, refl, (origin, whole.1, refl), (_, [], refl, (key, whole.2, refl), refl))))
+      first kw.Register n (_, _, behind _ _ _ _ are, (d, whole.0, refl), (_, _, refl, (origin, whole.1, refl), (_, [], refl, (key, whole.2, refl), refl))))
   none_begins kw.Customer n m = no_event theirs.Customer ws (λ c whole are. first kw.Customer n (_, [], behind _ _ _ _ are, (c, whole, refl), refl))
   none_begins kw.Deposit n m = no_event theirs.Deposit ws (λ c receipt amount whole are.
-    first kw.Deposit n (_, _, behind _ _ _ _ are, (c, whole.0, refl), (_, _, refl, (receipt, whole.1, refl), (_, [], refl, (amount, whole.2, refl), refl))))
+      first kw.Deposit n (_, _, behind _ _ _ _ are, (c, whole.0, refl), (_, _, refl, (receipt, whole.1, refl), (_, [], refl, (amount, whole.2, refl), refl))))
   none_begins kw.Suspend n m = no_event theirs.Suspend ws (λ c whole are. first kw.Suspend n (_, [], behind _ _ _ _ are, (c, whole, refl), refl))
   none_begins kw.Resume n m = no_event theirs.Resume ws (λ c whole are. first kw.Resume n (_, [], behind _ _ _ _ are, (c, whole, refl), refl))
   none_begins kw.Balance n m = no_event theirs.Balance ws (λ c whole are. first kw.Balance n (_, [], behind _ _ _ _ are, (c, whole, refl), refl))
   none_begins kw.Deliver n m = no_event theirs.Deliver ws (λ k whole are. first kw.Deliver n (_, [], behind _ _ _ _ are, (k, whole, refl), refl))
   none_begins kw.Give n m = no_event theirs.Give ws (λ node bytes whole are. first kw.Give n (_, _, behind _ _ _ _ are, (node, whole.0, refl), (_, [], refl, (bytes, whole.1, refl), refl)))
   none_begins kw.Order n m = no_event theirs.Order ws (λ d piece class grams zone whole are.
-    first kw.Order n (_, _, behind _ _ _ _ are, (d, whole.0, refl), (_, _, refl, (piece, whole.1, refl), (_, _, refl, (class, whole.2, refl),
-      (_, _, refl, (grams, whole.3, refl), (_, [], refl, (zone, whole.4, refl), refl))))))
+      first kw.Order n (
+        _,
+        _,
+        behind _ _ _ _ are,
+        (d, whole.0, refl),
+        (
+          _,
+          _,
+          refl,
+          (piece, whole.1, refl),
+          (
+            _,
+            _,
+            refl,
+            (class, whole.2, refl),
+            (_, _, refl, (grams, whole.3, refl), (_, [], refl, (zone, whole.4, refl), refl)),
+          ),
+        ),
+      ))
   none_begins kw.Send n m = no_event theirs.Send ws (λ j whole are. first kw.Send n (_, [], behind _ _ _ _ are, (j, whole, refl), refl))
   none_begins kw.Print n m = no_event theirs.Print ws (λ j whole are. first kw.Print n (_, [], behind _ _ _ _ are, (j, whole, refl), refl))
   none_begins kw.Close n m = no_event theirs.Close ws (λ j whole are. first kw.Close n (_, [], behind _ _ _ _ are, (j, whole, refl), refl))

@@ -1,7 +1,7 @@
 -- Each place takes some word.
-use Rattle.std.proofs.Common.{◌≡◌, ℕ, zero, suc, pos, ◌<◌, ◌≤◌, ◌^◌, List, [], ◌∷◌, length, replicate, refl, arith, inl, inr, codes, decimal}
+use Rattle.std.proofs.Common.{ℕ, zero, suc, pos, List, [], replicate, refl, arith, inl, codes, decimal}
 use Rattle.std.proofs.lemmas.Int.{ints}
-use Rattle.bench_base.specs.Ranges.{IsKey, IsGiven}
+use Rattle.bench_base.specs.Ranges.{IsKey}
 use Rattle.bench_base.specs.Table.{IsBytes}
 use Rattle.bench_base.specs.declared.words.Node.TheVariants.{Centre}
 use Rattle.script_text.proofs.DayTexts.{date_of}

@@ -58,13 +58,7 @@ pub fn count_taken(form: &[Slot], words: &[u8]) -> usize
         return 0;
     };
     match split_word(words) {
-        None => {
-            if takes(*slot, words) {
-                1
-            } else {
-                0
-            }
-        }
+        None => { if takes(*slot, words) { 1 } else { 0 } }
         Some((word, rest)) => {
             if takes(*slot, word) {
                 1 + count_taken(slots, rest)

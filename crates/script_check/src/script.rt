@@ -116,13 +116,7 @@ fn go_on<S: BufSource, K: Sink>(
         return Ok(Step::Over(false));
     }
     if is_end {
-        return Ok(Step::Over(look_behind(
-            alloc,
-            number + 1,
-            buf,
-            script,
-            faults,
-        )?));
+        return Ok(Step::Over(look_behind(alloc, number + 1, buf, script, faults)?));
     }
     Ok(Step::On(is_right))
 }

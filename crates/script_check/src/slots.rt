@@ -82,7 +82,12 @@ fn is_scan(word: &[u8]) -> bool
     ensures { IsTrue result ↔ ((n : ℕ) × (1 ≤ n) × (n < 2 ^ 32) × (word.now ≡ decimal n)) }
 {
     match u32::read(word) {
-        Some(number) => number >= 1,
+        Some(number) => {
+            if number < 1 {
+                return false;
+            }
+            true
+        }
         None => false,
     }
 }

@@ -1,5 +1,5 @@
 use Rattle.std.proofs.Common.{length}
-use Rattle.script_check.proofs.+count_taken.Given as goal
+use Rattle.script_check.proofs.forms.+count_taken.Given as goal
 
 abbrev pub decreases-count_taken : goal.decreases-count_taken
 decreases-count_taken l = length l.form.now
