@@ -138,6 +138,38 @@ fn completed(entry: &Entry, seen: &Seen) -> Entry {
     }
 }
 
+// The piece whose mark the reply shows.
+fn marked(reply: &Reply) -> Option<(DevNo, u32)> {
+    let Reply::Marked { device, piece, .. } = reply else {
+        return None;
+    };
+    Some((*device, *piece))
+}
+
+// The piece whose mark the reply releases.
+fn released(reply: &Reply) -> Option<(DevNo, u32)> {
+    let Reply::Released { device, piece, .. } = reply else {
+        return None;
+    };
+    Some((*device, *piece))
+}
+
+// The piece whose mark the reply gives out.
+fn given_out(reply: &Reply) -> Option<(DevNo, u32)> {
+    match marked(reply) {
+        Some(piece) => Some(piece),
+        None => released(reply),
+    }
+}
+
+// Whether the reply releases a mark again.
+fn is_released_again(reply: &Reply) -> bool {
+    let Reply::Released { again, .. } = reply else {
+        return false;
+    };
+    *again
+}
+
 impl Book {
     /// A book without a line, and a journal of this form. AllocError is want of memory.
     pub fn new(alloc: Global, form: Form) -> Result<Book, AllocError> {
@@ -226,13 +258,11 @@ impl Book {
 
     /// Keeps which mark the line gives out, if this answer was due.
     pub fn give_out(&mut self, due: &Reply, line: &[u8]) {
-        match due {
-            Reply::Marked { device, piece, .. } | Reply::Released { device, piece, .. } => {
-                if is_told(due, line) {
-                    self.pieces.release(*device, *piece);
-                }
-            }
-            _ => {}
+        let Some((device, piece)) = given_out(due) else {
+            return;
+        };
+        if is_told(due, line) {
+            self.pieces.release(device, piece);
         }
     }
 }
@@ -240,7 +270,7 @@ impl Book {
 impl Book {
     // The job whose message this is, if a piece is debited by it.
     fn job_behind(&self, doing: &Doing, due: &Reply) -> Option<u32> {
-        if let Reply::Released { again: true, .. } = due {
+        if is_released_again(due) {
             return None;
         }
         match doing {

@@ -96,13 +96,6 @@ fn put_line<K: Sink>(sink: &mut K, line: &[u8]) -> Result<(), BookFault> {
     }
 }
 
-fn is_end(event: &Event) -> bool {
-    match event {
-        Event::End => true,
-        _ => false,
-    }
-}
-
 // Writes what was due to the event of the first line of what is left: what is left behind it. None if that was the end.
 fn answer<'a, K: Sink>(
     alloc: Global,
@@ -119,7 +112,8 @@ fn answer<'a, K: Sink>(
         Due::Open => Ok(None),
         Due::Line(line, taken) => {
             put_line(sink, line.as_slice())?;
-            if is_end(event) {
+            // The answer to the end of a script is a line like it.
+            if line.as_slice() == b"end".as_slice() {
                 return Ok(None);
             }
             Ok(Some(Left {
