@@ -5,8 +5,8 @@ use crate::settling::{
 };
 use audit_journal::{At, BookFault, Deed, Entry, Form, Journal, Row, place_of};
 use audit_tally::{
-    Ask, Causes, Doing, Incidents, Job, Jobs, Mishap, Outcome, Piece, Pieces, Place, Sends, Tally, Ungranted,
-    entry_of, mishap_at, one_more,
+    Ask, Causes, Doing, Incidents, Job, Jobs, Mishap, Outcome, Piece, Pieces, Place, Sends, Tally,
+    Ungranted, entry_of, mishap_at, one_more,
 };
 use bench_base::events::Reply;
 use bench_base::numbers::{DayNo, DevNo};
@@ -350,12 +350,7 @@ impl Book {
     }
 
     /// What became of the print of this event, if the line tells it: a row that is no commit.
-    pub fn print_told(
-        &mut self,
-        day: Option<DayNo>,
-        doing: &Doing,
-        line: &[u8],
-    ) -> Option<Entry> {
+    pub fn print_told(&mut self, day: Option<DayNo>, doing: &Doing, line: &[u8]) -> Option<Entry> {
         let job = printing(doing)?;
         let deed = printed(job, line)?;
         if matches!(deed, Deed::Printed) {
@@ -551,12 +546,7 @@ impl Book {
     }
 
     // Notes that a commit of this line is in doubt.
-    fn doubt(
-        &mut self,
-        rt: &HostRuntime,
-        names: &[String],
-        made: &Made,
-    ) -> Result<(), BookFault> {
+    fn doubt(&mut self, rt: &HostRuntime, names: &[String], made: &Made) -> Result<(), BookFault> {
         let Some(at) = at_of(names, made.place) else {
             return Ok(());
         };

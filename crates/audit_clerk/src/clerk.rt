@@ -97,17 +97,31 @@ impl Clerk {
     {
         let doing = doing_of(event);
         let due = due(rt.alloc(), &mut self.auditor, event, rates)?;
-        let made = self
-            .book
-            .expected(place, self.auditor.day(), &doing, &due);
+        let made = self.book.expected(place, self.auditor.day(), &doing, &due);
         let before = known(&self.auditor, &made);
         let taken = judged(rt.alloc(), &mut self.auditor, event, rates, line)?;
         let day = self.auditor.day();
         self.book.date(day);
         self.book.hear(rt.alloc(), place, day, &doing, &due, line)?;
-        settle(rt, names, place, &self.auditor, &mut self.book, &made, &before)?;
+        settle(
+            rt,
+            names,
+            place,
+            &self.auditor,
+            &mut self.book,
+            &made,
+            &before,
+        )?;
         self.book.give_out(&due, line);
-        tell_print(rt, names, place, &self.auditor, &mut self.book, &doing, line)?;
+        tell_print(
+            rt,
+            names,
+            place,
+            &self.auditor,
+            &mut self.book,
+            &doing,
+            line,
+        )?;
         Ok(taken)
     }
 
@@ -143,9 +157,7 @@ impl Clerk {
     {
         let doing = doing_of(event);
         let due = due(rt.alloc(), &mut self.auditor, event, left.rates)?;
-        let made = self
-            .book
-            .expected(place, self.auditor.day(), &doing, &due);
+        let made = self.book.expected(place, self.auditor.day(), &doing, &due);
         let before = known(&self.auditor, &made);
         let told = broken_off(
             rt.alloc(),
@@ -160,7 +172,15 @@ impl Clerk {
             self.hear_begun(rt.alloc(), place, &doing, &due, line.as_slice())?;
         }
         self.book.note(place, Mishap::Stop, self.auditor.day())?;
-        settle(rt, names, place, &self.auditor, &mut self.book, &made, &before)?;
+        settle(
+            rt,
+            names,
+            place,
+            &self.auditor,
+            &mut self.book,
+            &made,
+            &before,
+        )?;
         self.book.give_out(&due, line.as_slice());
         tell_print(
             rt,
