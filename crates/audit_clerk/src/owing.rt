@@ -112,7 +112,8 @@ fn answer<'a, K: Sink>(
         Due::Open => Ok(None),
         Due::Line(line, taken) => {
             put_line(sink, line.as_slice())?;
-            if line.as_slice() == b"end" {
+            // The answer to the end of a script is a line like it.
+            if line.as_slice() == b"end".as_slice() {
                 return Ok(None);
             }
             Ok(Some(Left {

@@ -119,11 +119,7 @@ fn own_rates(rt: &HostRuntime, name: &str) -> Result<Vec<u8>, Fault> {
 }
 
 /// The rates of a run: those of every run, if there are such.
-pub fn rates_of(
-    rt: &HostRuntime,
-    name: &str,
-    shared: &Option<Vec<u8>>,
-) -> Result<Vec<u8>, Fault> {
+pub fn rates_of(rt: &HostRuntime, name: &str, shared: &Option<Vec<u8>>) -> Result<Vec<u8>, Fault> {
     match shared {
         Some(rates) => or_memory(rates.clone()),
         None => own_rates(rt, name),
@@ -141,11 +137,7 @@ fn bytes_of(rt: &HostRuntime, name: &str, ending: &str) -> Result<Vec<u8>, Fault
 }
 
 /// A run, whole in memory, so that what is counted is what was judged. Its rates are those of every run, if there are such.
-pub fn whole_run(
-    rt: &HostRuntime,
-    name: &str,
-    shared: &Option<Vec<u8>>,
-) -> Result<Run, Fault> {
+pub fn whole_run(rt: &HostRuntime, name: &str, shared: &Option<Vec<u8>>) -> Result<Run, Fault> {
     let script = bytes_of(rt, name, ".script")?;
     let report = bytes_of(rt, name, ".report")?;
     let rates = rates_of(rt, name, shared)?;

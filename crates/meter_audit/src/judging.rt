@@ -3,9 +3,8 @@ ghost use Rattle.told_bench.specs.Seeing.{IsReady, audit_of};
 
 use crate::tails::{Lines, Tail, last_taken, lines_over};
 use audit_words::shown;
-use bench_base::events::Event;
 use line_runs::lines::LineRead;
-use script_text::{Line, put_reply, read_event};
+use script_text::{Line, put_reply};
 use std::alloc::{AllocError, Global};
 use std::cell::RefCell;
 use std::io::Read;
@@ -70,9 +69,10 @@ fn ending_at(line: u32, script: &[u8]) -> Ending {
     if line > LINES {
         return Ending::TooLong;
     }
-    match &read_event(script) {
-        Ok(Event::End) => Ending::Done,
-        Ok(_) | Err(_) => Ending::Script(line),
+    if script == b"end".as_slice() {
+        Ending::Done
+    } else {
+        Ending::Script(line)
     }
 }
 

@@ -42,7 +42,9 @@ struct Place {
 
 // How many bytes of a file of prints are looked at: those of the lines of so many marks, and one line behind them.
 fn most_bytes(count: usize) -> u64 {
-    (count as u64).saturating_mul(LINE as u64).saturating_add(SHOWN as u64)
+    (count as u64)
+        .saturating_mul(LINE as u64)
+        .saturating_add(SHOWN as u64)
 }
 
 // The line that begins behind so many lines of marks, as it is shown.
@@ -82,7 +84,9 @@ fn differ_text(
     let run = at.run.as_str();
     let line = at.line;
     let due = mark_text(alloc, &imprint.given.mark)?;
-    format!(in alloc; "prints {file} differ at {run} line {line}, line {number} of {file}\ndue {due}\nfound {found}")
+    format!(in alloc;
+        "prints {file} differ at {run} line {line}, line {number} of {file}\ndue {due}\nfound {found}"
+    )
 }
 
 // What is said where the prints are judged up to this imprint alone.
@@ -121,7 +125,9 @@ fn text_of(
     let found_line = line_at(alloc, prints, place)?;
     let line = found_line.as_str();
     let Some(imprint) = imprints.get(place) else {
-        return format!(in alloc; "prints {file} go on behind the last, line {number} of {file}\nfound {line}");
+        return format!(in alloc;
+            "prints {file} go on behind the last, line {number} of {file}\nfound {line}"
+        );
     };
     let at = Place {
         run: shown_text(alloc, run_of(names, ends, place))?,

@@ -167,12 +167,7 @@ fn count(
 {
     match plan.asked {
         Asked::Due => tell_due(rt, plan, &mut clerk.auditor, place, run, stopped),
-        Asked::Nothing
-        | Asked::Table
-        | Asked::Page
-        | Asked::Csv
-        | Asked::Json
-        | Asked::Ledger => {
+        Asked::Nothing | Asked::Table | Asked::Page | Asked::Csv | Asked::Json | Asked::Ledger => {
             or_book(clerk.go_over(rt, plan.names.as_slice(), place, run, stopped))
         }
     }

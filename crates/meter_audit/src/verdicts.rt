@@ -41,7 +41,9 @@ fn lawful_text(alloc: Global, name: &str, judged: &Judged) -> Result<String, All
     match judged.ending {
         Ending::Done => format!(in alloc; "lawful {name}, {answers} answers"),
         Ending::Script(line) => {
-            format!(in alloc; "lawful {name}, {answers} answers, whose script ends badly at line {line}")
+            format!(in alloc;
+                "lawful {name}, {answers} answers, whose script ends badly at line {line}"
+            )
         }
         Ending::TooLong => {
             format!(in alloc; "lawful {name}, {answers} answers, whose script is too long")
@@ -50,19 +52,16 @@ fn lawful_text(alloc: Global, name: &str, judged: &Judged) -> Result<String, All
 }
 
 // The text on a report that goes on.
-fn more_text(
-    alloc: Global,
-    name: &str,
-    line: u32,
-    judged: &Judged,
-) -> Result<String, AllocError> {
+fn more_text(alloc: Global, name: &str, line: u32, judged: &Judged) -> Result<String, AllocError> {
     let found = judged.found.as_str();
     let end = match judged.ending {
         Ending::Done => "ends",
         Ending::Script(_) => "ends badly",
         Ending::TooLong => "is too long",
     };
-    format!(in alloc; "more {name}: the report goes on behind line {line}, where the script {end}\nfound {found}")
+    format!(in alloc;
+        "more {name}: the report goes on behind line {line}, where the script {end}\nfound {found}"
+    )
 }
 
 /// The text of the verdict on the run of this name, as it is shown.
