@@ -8,7 +8,8 @@ use bench_base::numbers::DayNo;
 use std::alloc::{AllocError, Global};
 
 /// What stands before the first transaction.
-pub const HEAD: &str = "; The journal of a postage meter: a transaction for each commit that moves money.\n; An amount is in dollars: a mill is $0.001.\ndecimal-mark .\ncommodity $1.000\n\n";
+pub const HEAD: &str =
+    "; The journal of a postage meter: a transaction for each commit that moves money.\n; An amount is in dollars: a mill is $0.001.\ndecimal-mark .\ncommodity $1.000\n\n";
 
 // Whether such a commit may move money.
 fn may_move(deed: Deed) -> bool {
@@ -92,9 +93,7 @@ pub fn transaction(
     let what = description(alloc, row)?;
     let late = remark(alloc, row.counted)?;
     let day = told_day(alloc, row.entry.day, dated)?;
-    Ok(Some(
-        format!(in alloc; "{date} {what}{late}\n{day}{postings}\n")?,
-    ))
+    Ok(Some(format!(in alloc; "{date} {what}{late}\n{day}{postings}\n")?))
 }
 
 /// The comment on a commit in doubt; None if such a commit moves no money. AllocError is want of memory.
@@ -117,7 +116,5 @@ pub fn void_comment(
     }
     let what = description(alloc, row)?;
     let place = place_text(alloc, up)?;
-    Ok(Some(
-        format!(in alloc; "; not done: {what}; see {place}\n\n")?,
-    ))
+    Ok(Some(format!(in alloc; "; not done: {what}; see {place}\n\n")?))
 }

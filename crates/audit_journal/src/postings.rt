@@ -116,7 +116,5 @@ pub fn postings_of(alloc: Global, entry: &Entry) -> Result<Option<String>, Alloc
     let balance = assertion(alloc, moving.balance)?;
     let other = other_name(alloc, moving.other)?;
     let gives = signed_dollars(alloc, taken_from(moving.amount))?;
-    Ok(Some(
-        format!(in alloc; "    {own}  {gets}{balance}\n    {other}  {gives}\n")?,
-    ))
+    Ok(Some(format!(in alloc; "    {own}  {gets}{balance}\n    {other}  {gives}\n")?))
 }

@@ -6,7 +6,8 @@ use csv::{Terminator, WriterBuilder};
 use std::alloc::Global;
 
 /// The first row: the names of the columns.
-pub const NAMES: &[u8] = b"run,line,day,node,kind,request,verdict,device,customer,number,piece,job,class,asked,amount,account,balance,counted\r\n";
+pub const NAMES: &[u8] =
+    b"run,line,day,node,kind,request,verdict,device,customer,number,piece,job,class,asked,amount,account,balance,counted\r\n";
 
 // What stands in the column, as bytes.
 fn bytes_of(cell: &Cell) -> &[u8] {

@@ -35,7 +35,11 @@ fn job_text(alloc: Global, number: usize, job: &Job) -> Result<String, AllocErro
     let postage = money_text(alloc, job.postage)?;
     let state = state_word(job.state);
     let day = since(alloc, job.day)?;
-    format!(in alloc; "open job {number} d{} {} {postage} {state}{day}", job.device.get(), job.piece)
+    format!(in alloc;
+        "open job {number} d{} {} {postage} {state}{day}",
+        job.device.get(),
+        job.piece
+    )
 }
 
 /// Prints the jobs that are not closed. BookFault::Write if standard output takes no more, BookFault::Memory is want of memory.
@@ -137,11 +141,7 @@ fn tell_span(rt: &HostRuntime, device: DevNo, span: Option<Span>) -> Result<(), 
 }
 
 // Prints the pieces of the device that were released and not accepted.
-fn tell_unaccepted_of(
-    rt: &HostRuntime,
-    device: DevNo,
-    pieces: &[Piece],
-) -> Result<(), BookFault> {
+fn tell_unaccepted_of(rt: &HostRuntime, device: DevNo, pieces: &[Piece]) -> Result<(), BookFault> {
     let mut span = None;
     for at in 0..pieces.len() {
         let piece = &pieces[at];

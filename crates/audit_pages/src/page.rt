@@ -44,11 +44,7 @@ fn marks_text(alloc: Global, book: &Book) -> Result<String, AllocError> {
     let tally = &book.tally;
     format!(in alloc;
         "marks released {} again {} accepted {} again {} duplicates {}",
-        tally.released,
-        tally.released_again,
-        tally.accepted,
-        tally.accepted_again,
-        tally.duplicates
+        tally.released, tally.released_again, tally.accepted, tally.accepted_again, tally.duplicates
     )
 }
 
@@ -130,11 +126,7 @@ fn digest_text(alloc: Global, name: &str, digest: &[u8; 32]) -> Result<String, A
 }
 
 // Prints the digest up to each run.
-fn tell_digests(
-    rt: &HostRuntime,
-    names: &[String],
-    digests: &[[u8; 32]],
-) -> Result<(), BookFault> {
+fn tell_digests(rt: &HostRuntime, names: &[String], digests: &[[u8; 32]]) -> Result<(), BookFault> {
     for (place, digest) in digests.iter().enumerate() {
         if let Some(name) = names.get(place) {
             say(rt, digest_text(rt.alloc(), name.as_str(), digest))?;

@@ -86,11 +86,7 @@ fn tell_node(rt: &HostRuntime, auditor: &Auditor, node: &Node) -> Result<(), Boo
 
 /// Prints the table, if this is the last day that was told. Without one nothing was done in any run, and no device was made. BookFault::Write if standard output takes no
 /// more, BookFault::Memory is want of memory.
-pub fn tell_table(
-    rt: &HostRuntime,
-    auditor: &Auditor,
-    day: Option<DayNo>,
-) -> Result<(), BookFault>
+pub fn tell_table(rt: &HostRuntime, auditor: &Auditor, day: Option<DayNo>) -> Result<(), BookFault>
     requires ready { IsReady (audit_of auditor.now) }
 {
     if let Some(day) = day {
@@ -100,9 +96,6 @@ pub fn tell_table(
     tell_node(rt, auditor, &Node::Centre)?;
     tell_balances(rt, auditor)?;
     tell_node(rt, auditor, &Node::Host)?;
-    say(
-        rt,
-        format!(in rt.alloc(); "jobs {}", auditor.last_job()),
-    )?;
+    say(rt, format!(in rt.alloc(); "jobs {}", auditor.last_job()))?;
     tell_node(rt, auditor, &Node::Verifier)
 }
