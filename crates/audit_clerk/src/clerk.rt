@@ -5,15 +5,60 @@ ghost use Rattle.bench_base.specs.Ranges.{IsWholeEvent};
 ghost use Rattle.told_bench.specs.Seeing.{IsReady, audit_of};
 
 use crate::figures::{figures_of, owner_of, seen_by};
-use crate::hearing::{broken_off, due, judged};
+use crate::hearing::judged;
 use crate::lines::{LINES, Left, Run, behind, behind_line, line_len};
 use audit_book::{Book, Figures, Made};
 use audit_journal::{BookFault, Entry, Form};
 use audit_tally::{Doing, Mishap, Place, doing_of};
+use bench::MOST_MESSAGES;
 use bench_base::events::{Event, Reply};
 use script_text::{Line, is_skipped, put_reply, read_event};
 use std::alloc::{AllocError, Global};
-use told_bench::Auditor;
+use told_bench::{Auditor, Finding, due_to, stop};
+
+// What judgements say of a line whose answer was found to be missing, or to be begun: the reply with which its event was done, or none if that is in doubt.
+fn broken_off(
+    alloc: Global,
+    auditor: &mut Auditor,
+    event: &Event,
+    rates: &[u8],
+    front: &[u8],
+) -> Result<Option<Reply>, BookFault>
+    requires whole { IsWholeEvent event.now }
+    requires ready { IsReady (audit_of auditor.old) }
+    ensures ready { IsReady (audit_of auditor.new) }
+{
+    // A run that is judged has at most as many lines.
+    if auditor.message_count() >= MOST_MESSAGES {
+        return Err(BookFault::Memory);
+    }
+    match stop(alloc, auditor, event, rates, front) {
+        Ok(told) => Ok(told),
+        Err(Finding::Memory) => Err(BookFault::Memory),
+        Err(Finding::Wrong(_)) => Err(BookFault::Counted),
+    }
+}
+
+// The answer that is due to the event.
+fn due(
+    alloc: Global,
+    auditor: &mut Auditor,
+    event: &Event,
+    rates: &[u8],
+) -> Result<Reply, BookFault>
+    requires whole { IsWholeEvent event.now }
+    requires ready { IsReady (audit_of auditor.old) }
+    ensures ready { IsReady (audit_of auditor.new) }
+{
+    // A run that is judged has at most as many lines.
+    if auditor.message_count() >= MOST_MESSAGES {
+        return Err(BookFault::Memory);
+    }
+    match due_to(alloc, auditor, event, rates) {
+        Ok(due) => Ok(due),
+        Err(_) => Err(BookFault::Memory),
+    }
+}
 
 /// Goes over runs behind the judgements on them.
 #[derive(Drop)]
@@ -100,9 +145,9 @@ impl Clerk {
         let made = self.book.expected(place, self.auditor.day(), &doing, &due);
         let before = known(&self.auditor, &made);
         let taken = judged(rt.alloc(), &mut self.auditor, event, rates, line)?;
-        let day = self.auditor.day();
-        self.book.date(day);
-        self.book.hear(rt.alloc(), place, day, &doing, &due, line)?;
+        self.book.date(self.auditor.day());
+        self.book
+            .hear(rt.alloc(), place, self.auditor.day(), &doing, &due, line)?;
         settle(
             rt,
             names,
@@ -137,9 +182,9 @@ impl Clerk {
         requires ready { IsReady (audit_of self.old.auditor) }
         ensures ready { IsReady (audit_of self.new.auditor) }
     {
-        let day = self.auditor.day();
-        self.book.date(day);
-        self.book.hear(alloc, place, day, doing, due, line)
+        self.book.date(self.auditor.day());
+        self.book
+            .hear(alloc, place, self.auditor.day(), doing, due, line)
     }
 
     // Takes an event in which the run was stopped: it was done with the reply that begins so, or its commit is in doubt, if it makes one.

@@ -4,9 +4,9 @@ ghost use Rattle.told_bench.specs.Seeing.{IsReady, audit_of};
 
 use audit_journal::BookFault;
 use bench::MOST_MESSAGES;
-use bench_base::events::{Event, Reply};
+use bench_base::events::Event;
 use std::alloc::Global;
-use told_bench::{Auditor, Finding, due_to, judge, stop};
+use told_bench::{Auditor, Finding, judge};
 
 // What judgements say of a line that was judged before: how many bytes of the rates it took.
 pub(crate) fn judged(
@@ -28,49 +28,5 @@ pub(crate) fn judged(
         Ok(taken) => Ok(taken),
         Err(Finding::Memory) => Err(BookFault::Memory),
         Err(Finding::Wrong(_)) => Err(BookFault::Counted),
-    }
-}
-
-// What judgements say of a line whose answer was found to be missing, or to be begun: the reply with which its event was done, or none if that is in doubt.
-pub(crate) fn broken_off(
-    alloc: Global,
-    auditor: &mut Auditor,
-    event: &Event,
-    rates: &[u8],
-    front: &[u8],
-) -> Result<Option<Reply>, BookFault>
-    requires whole { IsWholeEvent event.now }
-    requires ready { IsReady (audit_of auditor.old) }
-    ensures ready { IsReady (audit_of auditor.new) }
-{
-    // A run that is judged has at most as many lines.
-    if auditor.message_count() >= MOST_MESSAGES {
-        return Err(BookFault::Memory);
-    }
-    match stop(alloc, auditor, event, rates, front) {
-        Ok(told) => Ok(told),
-        Err(Finding::Memory) => Err(BookFault::Memory),
-        Err(Finding::Wrong(_)) => Err(BookFault::Counted),
-    }
-}
-
-// The answer that is due to the event.
-pub(crate) fn due(
-    alloc: Global,
-    auditor: &mut Auditor,
-    event: &Event,
-    rates: &[u8],
-) -> Result<Reply, BookFault>
-    requires whole { IsWholeEvent event.now }
-    requires ready { IsReady (audit_of auditor.old) }
-    ensures ready { IsReady (audit_of auditor.new) }
-{
-    // A run that is judged has at most as many lines.
-    if auditor.message_count() >= MOST_MESSAGES {
-        return Err(BookFault::Memory);
-    }
-    match due_to(alloc, auditor, event, rates) {
-        Ok(due) => Ok(due),
-        Err(_) => Err(BookFault::Memory),
     }
 }

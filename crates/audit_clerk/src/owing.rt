@@ -2,15 +2,16 @@
 ghost use Rattle.bench_base.specs.Ranges.{IsWholeEvent};
 ghost use Rattle.told_bench.specs.Seeing.{IsReady, audit_of};
 
-use crate::hearing::{broken_off, due, judged};
+use crate::hearing::judged;
 use crate::lines::{LINES, Left, Run, behind, behind_line, line_len};
 use audit_journal::BookFault;
-use bench_base::events::Event;
+use bench::MOST_MESSAGES;
+use bench_base::events::{Event, Reply};
 use bench_base::stream::Sink;
 use script_text::{Line, is_skipped, put_reply, read_event};
 use std::alloc::Global;
 use text_streams::put_text;
-use told_bench::{Auditor, begins};
+use told_bench::{Auditor, Finding, begins, due_to, stop};
 
 /// What was due to an event.
 #[derive(Drop)]
@@ -19,6 +20,22 @@ enum Due {
     Line(Line, usize),
     /// A failure of a node begins as the report ends: no more can be said.
     Open,
+}
+
+// The line of the reply.
+fn line_of(reply: Reply) -> Line {
+    let mut line = Line::new();
+    put_reply(&mut line, &reply);
+    line
+}
+
+// The same, if it begins so.
+fn line_begun(reply: Reply, front: &[u8]) -> Option<Line> {
+    if begins(&reply, front) {
+        Some(line_of(reply))
+    } else {
+        None
+    }
 }
 
 // The line of the answer that is due to the event without a failure, if the report may end so in it.
@@ -33,13 +50,14 @@ fn due_line(
     requires ready { IsReady (audit_of auditor.old) }
     ensures ready { IsReady (audit_of auditor.new) }
 {
-    let due = due(alloc, auditor, event, rates)?;
-    if !begins(&due, front) {
-        return Ok(None);
+    // A run that is judged has at most as many lines.
+    if auditor.message_count() >= MOST_MESSAGES {
+        return Err(BookFault::Memory);
     }
-    let mut line = Line::new();
-    put_reply(&mut line, &due);
-    Ok(Some(line))
+    match due_to(alloc, auditor, event, rates) {
+        Ok(due) => Ok(line_begun(due, front)),
+        Err(_) => Err(BookFault::Memory),
+    }
 }
 
 // Tells the event as one that was stopped in this answer, which is not the one that is due without a failure.
@@ -54,13 +72,15 @@ fn break_off(
     requires ready { IsReady (audit_of auditor.old) }
     ensures ready { IsReady (audit_of auditor.new) }
 {
-    match broken_off(alloc, auditor, event, rates, front)? {
-        Some(reply) => {
-            let mut line = Line::new();
-            put_reply(&mut line, &reply);
-            Ok(Due::Line(line, 0))
-        }
-        None => Ok(Due::Open),
+    // A run that is judged has at most as many lines.
+    if auditor.message_count() >= MOST_MESSAGES {
+        return Err(BookFault::Memory);
+    }
+    match stop(alloc, auditor, event, rates, front) {
+        Ok(Some(reply)) => Ok(Due::Line(line_of(reply), 0)),
+        Ok(None) => Ok(Due::Open),
+        Err(Finding::Memory) => Err(BookFault::Memory),
+        Err(Finding::Wrong(_)) => Err(BookFault::Counted),
     }
 }
 
