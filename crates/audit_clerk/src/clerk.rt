@@ -5,25 +5,25 @@ ghost use Rattle.bench_base.specs.Ranges.{IsWholeEvent};
 ghost use Rattle.told_bench.specs.Seeing.{IsReady, audit_of};
 
 use crate::figures::{figures_of, owner_of, seen_by};
-use crate::hearing::judged;
+use crate::hearing::{judged, line_of};
 use crate::lines::{LINES, Left, Run, behind, behind_line, line_len};
 use audit_book::{Book, Figures, Made};
 use audit_journal::{BookFault, Entry, Form};
 use audit_tally::{Doing, Mishap, Place, doing_of};
 use bench::MOST_MESSAGES;
 use bench_base::events::{Event, Reply};
-use script_text::{Line, is_skipped, put_reply, read_event};
+use script_text::{Line, is_skipped, read_event};
 use std::alloc::{AllocError, Global};
 use told_bench::{Auditor, Finding, due_to, stop};
 
-// What judgements say of a line whose answer was found to be missing, or to be begun: the reply with which its event was done, or none if that is in doubt.
+// What judgements say of a line whose answer was found to be missing, or to be begun: the line of the reply with which its event was done, or none if that is in doubt.
 fn broken_off(
     alloc: Global,
     auditor: &mut Auditor,
     event: &Event,
     rates: &[u8],
     front: &[u8],
-) -> Result<Option<Reply>, BookFault>
+) -> Result<Option<Line>, BookFault>
     requires whole { IsWholeEvent event.now }
     requires ready { IsReady (audit_of auditor.old) }
     ensures ready { IsReady (audit_of auditor.new) }
@@ -33,7 +33,8 @@ fn broken_off(
         return Err(BookFault::Memory);
     }
     match stop(alloc, auditor, event, rates, front) {
-        Ok(told) => Ok(told),
+        Ok(Some(reply)) => Ok(Some(line_of(reply))),
+        Ok(None) => Ok(None),
         Err(Finding::Memory) => Err(BookFault::Memory),
         Err(Finding::Wrong(_)) => Err(BookFault::Counted),
     }
@@ -140,8 +141,28 @@ impl Clerk {
         requires ready { IsReady (audit_of self.old.auditor) }
         ensures ready { IsReady (audit_of self.new.auditor) }
     {
+        match due(rt.alloc(), &mut self.auditor, event, rates) {
+            Ok(due) => self.take_due(rt, names, place, event, rates, line, due),
+            Err(fault) => Err(fault),
+        }
+    }
+
+    // Takes an event with its line of the report, where this answer was due without a failure.
+    fn take_due(
+        &mut self,
+        rt: &HostRuntime,
+        names: &[String],
+        place: Place,
+        event: &Event,
+        rates: &[u8],
+        line: &[u8],
+        due: Reply,
+    ) -> Result<usize, BookFault>
+        requires whole { IsWholeEvent event.now }
+        requires ready { IsReady (audit_of self.old.auditor) }
+        ensures ready { IsReady (audit_of self.new.auditor) }
+    {
         let doing = doing_of(event);
-        let due = due(rt.alloc(), &mut self.auditor, event, rates)?;
         let made = self.book.expected(place, self.auditor.day(), &doing, &due);
         let before = known(&self.auditor, &made);
         let taken = judged(rt.alloc(), &mut self.auditor, event, rates, line)?;
@@ -200,8 +221,27 @@ impl Clerk {
         requires ready { IsReady (audit_of self.old.auditor) }
         ensures ready { IsReady (audit_of self.new.auditor) }
     {
+        match due(rt.alloc(), &mut self.auditor, event, left.rates) {
+            Ok(due) => self.break_off_due(rt, names, place, event, left, due),
+            Err(fault) => Err(fault),
+        }
+    }
+
+    // Takes an event in which the run was stopped, where this answer was due without a failure.
+    fn break_off_due(
+        &mut self,
+        rt: &HostRuntime,
+        names: &[String],
+        place: Place,
+        event: &Event,
+        left: Left<'_>,
+        due: Reply,
+    ) -> Result<(), BookFault>
+        requires whole { IsWholeEvent event.now }
+        requires ready { IsReady (audit_of self.old.auditor) }
+        ensures ready { IsReady (audit_of self.new.auditor) }
+    {
         let doing = doing_of(event);
-        let due = due(rt.alloc(), &mut self.auditor, event, left.rates)?;
         let made = self.book.expected(place, self.auditor.day(), &doing, &due);
         let before = known(&self.auditor, &made);
         let told = broken_off(
@@ -211,10 +251,12 @@ impl Clerk {
             left.rates,
             left.report,
         )?;
-        let mut line = Line::new();
-        if let Some(reply) = told {
-            put_reply(&mut line, &reply);
-            self.hear_begun(rt.alloc(), place, &doing, &due, line.as_slice())?;
+        let line = match &told {
+            Some(line) => line.as_slice(),
+            None => &[],
+        };
+        if !line.is_empty() {
+            self.hear_begun(rt.alloc(), place, &doing, &due, line)?;
         }
         self.book.note(place, Mishap::Stop, self.auditor.day())?;
         settle(
@@ -226,7 +268,7 @@ impl Clerk {
             &made,
             &before,
         )?;
-        self.book.give_out(&due, line.as_slice());
+        self.book.give_out(&due, line);
         tell_print(
             rt,
             names,
@@ -234,7 +276,7 @@ impl Clerk {
             &self.auditor,
             &mut self.book,
             &doing,
-            line.as_slice(),
+            line,
         )
     }
 

@@ -4,7 +4,8 @@ ghost use Rattle.told_bench.specs.Seeing.{IsReady, audit_of};
 
 use audit_journal::BookFault;
 use bench::MOST_MESSAGES;
-use bench_base::events::Event;
+use bench_base::events::{Event, Reply};
+use script_text::{Line, put_reply};
 use std::alloc::Global;
 use told_bench::{Auditor, Finding, judge};
 
@@ -29,4 +30,11 @@ pub(crate) fn judged(
         Err(Finding::Memory) => Err(BookFault::Memory),
         Err(Finding::Wrong(_)) => Err(BookFault::Counted),
     }
+}
+
+/// The line of the reply.
+pub(crate) fn line_of(reply: Reply) -> Line {
+    let mut line = Line::new();
+    put_reply(&mut line, &reply);
+    line
 }

@@ -2,13 +2,13 @@
 ghost use Rattle.bench_base.specs.Ranges.{IsWholeEvent};
 ghost use Rattle.told_bench.specs.Seeing.{IsReady, audit_of};
 
-use crate::hearing::judged;
+use crate::hearing::{judged, line_of};
 use crate::lines::{LINES, Left, Run, behind, behind_line, line_len};
 use audit_journal::BookFault;
 use bench::MOST_MESSAGES;
 use bench_base::events::{Event, Reply};
 use bench_base::stream::Sink;
-use script_text::{Line, is_skipped, put_reply, read_event};
+use script_text::{Line, is_skipped, read_event};
 use std::alloc::Global;
 use text_streams::put_text;
 use told_bench::{Auditor, Finding, begins, due_to, stop};
@@ -22,14 +22,7 @@ enum Due {
     Open,
 }
 
-// The line of the reply.
-fn line_of(reply: Reply) -> Line {
-    let mut line = Line::new();
-    put_reply(&mut line, &reply);
-    line
-}
-
-// The same, if it begins so.
+// The line of the reply, if it begins so.
 fn line_begun(reply: Reply, front: &[u8]) -> Option<Line> {
     if begins(&reply, front) {
         Some(line_of(reply))
