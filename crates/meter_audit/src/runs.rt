@@ -212,11 +212,12 @@ fn judge_next(
     let judged = judge_whole(rt.alloc(), auditor, &run, &mut gathered.imprints)?;
     gathered.gather(&judged, auditor.day())?;
     let code = tell(rt, plan.asked, name, &judged)?;
-    if code == 0 {
-        gathered.digest(&run)?;
-        count(rt, plan, clerk, place, &run, stopped_at(&judged))?;
+    if code != 0 {
+        return Ok(code);
     }
-    Ok(code)
+    gathered.digest(&run)?;
+    count(rt, plan, clerk, place, &run, stopped_at(&judged))?;
+    Ok(0)
 }
 
 /// Judges the runs in order, up to the first finding: the exit status.
