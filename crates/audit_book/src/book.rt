@@ -139,7 +139,7 @@ fn completed(entry: &Entry, seen: &Seen) -> Entry {
 }
 
 impl Book {
-    /// A book without a line, and a journal of this form. AllocError is want of memory.
+    /// A book without a line, and a journal of this form. AllocError is lack of memory.
     pub fn new(alloc: Global, form: Form) -> Result<Book, AllocError> {
         let pieces = Pieces::new(alloc)?;
         Ok(Book {
@@ -173,7 +173,7 @@ impl Book {
         self.sends.begin();
     }
 
-    /// Keeps what went wrong at a line. BookFault::Memory is want of memory.
+    /// Keeps what went wrong at a line. BookFault::Memory is lack of memory.
     pub fn note(
         &mut self,
         place: Place,
@@ -199,7 +199,7 @@ impl Book {
         Ok(())
     }
 
-    /// Counts what the line tells on this day, if this answer was due. BookFault::Memory is want of memory.
+    /// Counts what the line tells on this day, if this answer was due. BookFault::Memory is lack of memory.
     pub fn hear(
         &mut self,
         alloc: Global,
@@ -465,17 +465,17 @@ impl Book {
 }
 
 impl Book {
-    /// Begins the journal. BookFault::Memory is want of memory.
+    /// Begins the journal. BookFault::Memory is lack of memory.
     pub fn begin(&mut self) -> Result<(), BookFault> {
         self.journal.begin()
     }
 
-    /// Ends the journal, and writes what is left of it. BookFault::Write if standard output takes no more, BookFault::Memory is want of memory.
+    /// Ends the journal, and writes what is left of it. BookFault::Write if standard output takes no more, BookFault::Memory is lack of memory.
     pub fn end(&mut self, rt: &HostRuntime) -> Result<(), BookFault> {
         self.journal.end(rt)
     }
 
-    /// Adds what became of a print at this line. BookFault::Write if standard output takes no more, BookFault::Memory is want of memory.
+    /// Adds what became of a print at this line. BookFault::Write if standard output takes no more, BookFault::Memory is lack of memory.
     pub fn add_print(
         &mut self,
         rt: &HostRuntime,
@@ -589,7 +589,7 @@ impl Book {
     }
 
     /// Sees what this line shows of a commit: it counts, is in doubt until its node comes on, or was not made. BookFault::Write if standard output takes no more,
-    /// BookFault::Memory is want of memory.
+    /// BookFault::Memory is lack of memory.
     pub fn settle(
         &mut self,
         rt: &HostRuntime,

@@ -118,7 +118,7 @@ fn tell_print(
 }
 
 impl Clerk {
-    /// A clerk that went over no run, and a journal of this form. AllocError is want of memory.
+    /// A clerk that went over no run, and a journal of this form. AllocError is lack of memory.
     pub fn new(alloc: Global, form: Form) -> Result<Clerk, AllocError>
         ensures ready { IfOk result (λ c. IsReady (audit_of c.auditor)) }
     {
@@ -319,7 +319,7 @@ impl Clerk {
     }
 
     /// Goes over the run of this place among the names, as far as its report has answers, and over the event of the line in which it was stopped.
-    /// BookFault::Write if standard output takes no more, BookFault::Counted if a line is judged otherwise than before, BookFault::Memory is want of memory.
+    /// BookFault::Write if standard output takes no more, BookFault::Counted if a line is judged otherwise than before, BookFault::Memory is lack of memory.
     pub fn go_over(
         &mut self,
         rt: &HostRuntime,

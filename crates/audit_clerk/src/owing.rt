@@ -174,7 +174,7 @@ fn turn<'a, K: Sink>(
 /// Goes over a run behind what the auditor has, and writes the answers that were due from the line on in which it was stopped, a line each, as the report would have them, up to the
 /// script's `end`, a bad line or its last one. Where a node's next `up` alone says what became of an event, it is taken as done without a failure. Nothing is written
 /// if the report ends in a failure of a node. BookFault::Counted if a line of the report is no answer to its event, BookFault::Write if the sink failed, BookFault::Memory is
-/// want of memory.
+/// lack of memory.
 pub fn put_due<K: Sink>(
     alloc: Global,
     auditor: &mut Auditor,

@@ -86,7 +86,7 @@ fn at_cell(alloc: Global, at: Option<At<'_>>) -> Result<Cell, AllocError> {
     }
 }
 
-/// What the node did, and of a device that asks for what. AllocError is want of memory.
+/// What the node did, and of a device that asks for what. AllocError is lack of memory.
 pub fn deed_text(alloc: Global, entry: &Entry) -> Result<String, AllocError> {
     let word = deed_word(entry.deed);
     let Deed::Asked = entry.deed else {
@@ -158,7 +158,7 @@ fn add_money(alloc: Global, cells: &mut Vec<Cell>, entry: &Entry) -> Result<(), 
     Ok(())
 }
 
-/// What stands in the columns behind the run, in their order. AllocError is want of memory.
+/// What stands in the columns behind the run, in their order. AllocError is lack of memory.
 pub fn cells_of(alloc: Global, row: &Row<'_>) -> Result<Vec<Cell>, AllocError> {
     let mut cells = Vec::new(alloc);
     add_deed(alloc, &mut cells, row)?;

@@ -44,7 +44,7 @@ fn whose(alloc: Global, entry: &Entry) -> Result<String, AllocError> {
     }
 }
 
-/// The line, with the name of its run as it is shown. AllocError is want of memory.
+/// The line, with the name of its run as it is shown. AllocError is lack of memory.
 pub fn place_text(alloc: Global, at: At<'_>) -> Result<String, AllocError> {
     let run = shown_text(alloc, at.run)?;
     format!(in alloc; "{run} line {}", at.line)
@@ -80,7 +80,7 @@ fn told_day(alloc: Global, day: Option<DayNo>, dated: DayNo) -> Result<String, A
     }
 }
 
-/// The transaction of the row, dated so; None if it moves no money. AllocError is want of memory.
+/// The transaction of the row, dated so; None if it moves no money. AllocError is lack of memory.
 pub fn transaction(
     alloc: Global,
     row: &Row<'_>,
@@ -96,7 +96,7 @@ pub fn transaction(
     Ok(Some(format!(in alloc; "{date} {what}{late}\n{day}{postings}\n")?))
 }
 
-/// The comment on a commit in doubt; None if such a commit moves no money. AllocError is want of memory.
+/// The comment on a commit in doubt; None if such a commit moves no money. AllocError is lack of memory.
 pub fn doubt_comment(alloc: Global, row: &Row<'_>) -> Result<Option<String>, AllocError> {
     if !may_move(row.entry.deed) {
         return Ok(None);
@@ -105,7 +105,7 @@ pub fn doubt_comment(alloc: Global, row: &Row<'_>) -> Result<Option<String>, All
     Ok(Some(format!(in alloc; "; in doubt: {what}\n\n")?))
 }
 
-/// The comment on a commit that was in doubt, and does not count; None if such a commit moves no money. AllocError is want of memory.
+/// The comment on a commit that was in doubt, and does not count; None if such a commit moves no money. AllocError is lack of memory.
 pub fn void_comment(
     alloc: Global,
     row: &Row<'_>,

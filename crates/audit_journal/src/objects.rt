@@ -34,7 +34,7 @@ fn add_column(
     Ok(())
 }
 
-/// The object of the row. AllocError is want of memory.
+/// The object of the row. AllocError is lack of memory.
 pub fn json_row(alloc: Global, row: &Row<'_>) -> Result<String, AllocError> {
     let cells = cells_of(alloc, row)?;
     let run = quoted(alloc, row.at.run)?;

@@ -106,7 +106,7 @@ fn taken_from(amount: Amount) -> Amount {
     }
 }
 
-/// The postings of the entry, a line each; None if it moves no money. AllocError is want of memory.
+/// The postings of the entry, a line each; None if it moves no money. AllocError is lack of memory.
 pub fn postings_of(alloc: Global, entry: &Entry) -> Result<Option<String>, AllocError> {
     let Some(moving) = moving_of(entry) else {
         return Ok(None);

@@ -46,7 +46,7 @@ fn record_behind(alloc: Global, run: &str, cells: &[Cell]) -> Result<Vec<u8>, Bo
     }
 }
 
-/// The record of the row. BookFault::Memory is want of memory.
+/// The record of the row. BookFault::Memory is lack of memory.
 pub fn csv_row(alloc: Global, row: &Row<'_>) -> Result<Vec<u8>, BookFault> {
     let Ok(cells) = cells_of(alloc, row) else {
         return Err(BookFault::Memory);

@@ -52,7 +52,7 @@ pub fn verdict_word(verdict: Verdict) -> &'static str {
     }
 }
 
-/// The node's word in a script. AllocError is want of memory.
+/// The node's word in a script. AllocError is lack of memory.
 pub fn node_text(alloc: Global, node: &Node) -> Result<String, AllocError> {
     match node {
         Node::Device(device) => format!(in alloc; "d{}", device.get()),

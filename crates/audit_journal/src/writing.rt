@@ -86,7 +86,7 @@ impl Journal {
         self.write(rt)
     }
 
-    /// Begins it: the names of the columns, the bracket of an array, or the head of a ledger. BookFault::Memory is want of memory.
+    /// Begins it: the names of the columns, the bracket of an array, or the head of a ledger. BookFault::Memory is lack of memory.
     pub fn begin(&mut self) -> Result<(), BookFault> {
         match self.form {
             Form::None => Ok(()),
@@ -96,7 +96,7 @@ impl Journal {
         }
     }
 
-    /// Ends it, and writes what is kept. BookFault::Write if standard output takes no more, BookFault::Memory is want of memory.
+    /// Ends it, and writes what is kept. BookFault::Write if standard output takes no more, BookFault::Memory is lack of memory.
     pub fn end(&mut self, rt: &HostRuntime) -> Result<(), BookFault> {
         match self.form {
             Form::None => Ok(()),
@@ -134,7 +134,7 @@ impl Journal {
         self.put_text(transaction(alloc, row, dated))
     }
 
-    /// Puts a row behind the others. BookFault::Write if standard output takes no more, BookFault::Memory is want of memory.
+    /// Puts a row behind the others. BookFault::Write if standard output takes no more, BookFault::Memory is lack of memory.
     pub fn add(&mut self, rt: &HostRuntime, row: &Row<'_>) -> Result<(), BookFault> {
         match self.form {
             Form::None => return Ok(()),
@@ -145,7 +145,7 @@ impl Journal {
         self.write_much(rt)
     }
 
-    /// Notes that the commit of the row is in doubt: in a ledger, by a comment. BookFault::Write if standard output takes no more, BookFault::Memory is want of memory.
+    /// Notes that the commit of the row is in doubt: in a ledger, by a comment. BookFault::Write if standard output takes no more, BookFault::Memory is lack of memory.
     pub fn doubt(&mut self, rt: &HostRuntime, row: &Row<'_>) -> Result<(), BookFault> {
         let Form::Ledger = self.form else {
             return Ok(());
@@ -155,7 +155,7 @@ impl Journal {
     }
 
     /// Notes that the commit of the row, which was in doubt, does not count by this `up`: in a ledger, by a comment. BookFault::Write if standard output takes no more,
-    /// BookFault::Memory is want of memory.
+    /// BookFault::Memory is lack of memory.
     pub fn void(&mut self, rt: &HostRuntime, row: &Row<'_>, up: At<'_>) -> Result<(), BookFault> {
         let Form::Ledger = self.form else {
             return Ok(());

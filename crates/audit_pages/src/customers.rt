@@ -67,7 +67,7 @@ fn tell_customer(rt: &HostRuntime, auditor: &Auditor, customer: Customer) -> Res
     )
 }
 
-/// Prints what there is of each customer that is open. BookFault::Write if standard output takes no more, BookFault::Memory is want of memory.
+/// Prints what there is of each customer that is open. BookFault::Write if standard output takes no more, BookFault::Memory is lack of memory.
 pub fn tell_customers(rt: &HostRuntime, auditor: &Auditor) -> Result<(), BookFault> {
     for number in 1..65 {
         if let Some(customer) = Customer::new(number) {

@@ -44,7 +44,7 @@ fn tell_deadline(
     say(rt, deadline_text(rt.alloc(), device, view.deadline, day))
 }
 
-/// What the device asked: its number, the kind, and the amount of one for money. AllocError is want of memory.
+/// What the device asked: its number, the kind, and the amount of one for money. AllocError is lack of memory.
 pub fn ask_text(alloc: Global, device: DevNo, ask: &Ask) -> Result<String, AllocError> {
     let kind = kind_word(ask.kind);
     match ask.asked {
@@ -126,7 +126,7 @@ fn tell_device(
     tell_pending(rt, auditor, book, device, &view)
 }
 
-/// Prints what there is of each device that was made. BookFault::Write if standard output takes no more, BookFault::Memory is want of memory.
+/// Prints what there is of each device that was made. BookFault::Write if standard output takes no more, BookFault::Memory is lack of memory.
 pub fn tell_devices(
     rt: &HostRuntime,
     auditor: &Auditor,

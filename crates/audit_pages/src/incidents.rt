@@ -17,7 +17,7 @@ fn ungranted_text(
     format!(in alloc; "not granted {what} {why} at {place}")
 }
 
-/// Prints the requests that were not granted. BookFault::Write if standard output takes no more, BookFault::Memory is want of memory.
+/// Prints the requests that were not granted. BookFault::Write if standard output takes no more, BookFault::Memory is lack of memory.
 pub fn tell_ungranted(
     rt: &HostRuntime,
     names: &[String],
@@ -36,7 +36,7 @@ fn cause_text(alloc: Global, names: &[String], cause: &Cause) -> Result<String, 
     format!(in alloc; "refused {} {words} first {first} last {last}", cause.count)
 }
 
-/// Prints how often something was refused, a line for each cause. BookFault::Write if standard output takes no more, BookFault::Memory is want of memory.
+/// Prints how often something was refused, a line for each cause. BookFault::Write if standard output takes no more, BookFault::Memory is lack of memory.
 pub fn tell_causes(rt: &HostRuntime, names: &[String], rows: &[Cause]) -> Result<(), BookFault> {
     for cause in rows.iter() {
         say(rt, cause_text(rt.alloc(), names, cause))?;
@@ -92,7 +92,7 @@ fn incident_text(
     format!(in alloc; "at {place}: {what}{day}{outcome}")
 }
 
-/// Prints what went wrong, in its order. BookFault::Write if standard output takes no more, BookFault::Memory is want of memory.
+/// Prints what went wrong, in its order. BookFault::Write if standard output takes no more, BookFault::Memory is lack of memory.
 pub fn tell_incidents(
     rt: &HostRuntime,
     names: &[String],

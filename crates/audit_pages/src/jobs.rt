@@ -42,7 +42,7 @@ fn job_text(alloc: Global, number: usize, job: &Job) -> Result<String, AllocErro
     )
 }
 
-/// Prints the jobs that are not closed. BookFault::Write if standard output takes no more, BookFault::Memory is want of memory.
+/// Prints the jobs that are not closed. BookFault::Write if standard output takes no more, BookFault::Memory is lack of memory.
 pub fn tell_open_jobs(rt: &HostRuntime, jobs: &[Job]) -> Result<(), BookFault> {
     for at in 0..jobs.len() {
         let job = &jobs[at];
@@ -93,7 +93,7 @@ fn spoiled_text(alloc: Global, spoiled: &Spoiled) -> Result<String, AllocError> 
     format!(in alloc; "spoiled {} postage {postage}", spoiled.count)
 }
 
-/// Prints how many jobs were closed whose mark is paid and was not printed. BookFault::Write if standard output takes no more, BookFault::Memory is want of memory.
+/// Prints how many jobs were closed whose mark is paid and was not printed. BookFault::Write if standard output takes no more, BookFault::Memory is lack of memory.
 pub fn tell_spoiled(rt: &HostRuntime, book: &Book) -> Result<(), BookFault> {
     let spoiled = spoiled_in(&book.pieces, book.jobs.as_slice());
     say(rt, spoiled_text(rt.alloc(), &spoiled))
@@ -155,7 +155,7 @@ fn tell_unaccepted_of(rt: &HostRuntime, device: DevNo, pieces: &[Piece]) -> Resu
     tell_span(rt, device, span)
 }
 
-/// Prints the pieces whose marks were given out and not accepted. BookFault::Write if standard output takes no more, BookFault::Memory is want of memory.
+/// Prints the pieces whose marks were given out and not accepted. BookFault::Write if standard output takes no more, BookFault::Memory is lack of memory.
 pub fn tell_unaccepted(rt: &HostRuntime, pieces: &Pieces) -> Result<(), BookFault> {
     for number in 1..9 {
         if let Some(device) = DevNo::new(number) {

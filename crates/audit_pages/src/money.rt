@@ -77,7 +77,7 @@ fn sums_text(alloc: Global, sums: &Sums, franked: u64) -> Result<String, AllocEr
     )
 }
 
-/// Prints where the money is: the deposits are the sum of the others. BookFault::Write if standard output takes no more, BookFault::Memory is want of memory.
+/// Prints where the money is: the deposits are the sum of the others. BookFault::Write if standard output takes no more, BookFault::Memory is lack of memory.
 pub fn tell_money(
     rt: &HostRuntime,
     auditor: &Auditor,

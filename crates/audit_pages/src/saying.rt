@@ -6,7 +6,7 @@ use bench_base::events::Reply;
 use script_text::{Line, put_reply};
 use std::alloc::{AllocError, Global};
 
-/// Prints the line. BookFault::Write if standard output takes no more, BookFault::Memory if there was no text for want of memory.
+/// Prints the line. BookFault::Write if standard output takes no more, BookFault::Memory if there was no text for lack of memory.
 pub fn say(rt: &HostRuntime, text: Result<String, AllocError>) -> Result<(), BookFault> {
     let Ok(text) = text else {
         return Err(BookFault::Memory);
@@ -17,14 +17,14 @@ pub fn say(rt: &HostRuntime, text: Result<String, AllocError>) -> Result<(), Boo
     }
 }
 
-/// Prints the line that a report has for this reply. BookFault::Write if standard output takes no more, BookFault::Memory is want of memory.
+/// Prints the line that a report has for this reply. BookFault::Write if standard output takes no more, BookFault::Memory is lack of memory.
 pub fn tell_reply(rt: &HostRuntime, reply: &Reply) -> Result<(), BookFault> {
     let mut line = Line::new();
     put_reply(&mut line, reply);
     say(rt, shown(rt.alloc(), line.as_slice()))
 }
 
-/// The line, with the name of its run as it is shown. AllocError is want of memory.
+/// The line, with the name of its run as it is shown. AllocError is lack of memory.
 pub fn place_text(alloc: Global, names: &[String], place: &Place) -> Result<String, AllocError> {
     match names.get(place.run) {
         Some(name) => {

@@ -85,7 +85,7 @@ fn tell_node(rt: &HostRuntime, auditor: &Auditor, node: &Node) -> Result<(), Boo
 }
 
 /// Prints the table, if this is the last day that was told. Without one nothing was done in any run, and no device was made. BookFault::Write if standard output takes no
-/// more, BookFault::Memory is want of memory.
+/// more, BookFault::Memory is lack of memory.
 pub fn tell_table(rt: &HostRuntime, auditor: &Auditor, day: Option<DayNo>) -> Result<(), BookFault>
     requires ready { IsReady (audit_of auditor.now) }
 {

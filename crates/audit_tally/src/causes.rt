@@ -92,7 +92,7 @@ impl Causes {
         }
     }
 
-    /// Counts the refusal of this line of a report. AllocError is want of memory.
+    /// Counts the refusal of this line of a report. AllocError is lack of memory.
     pub fn note(&mut self, alloc: Global, place: Place, line: &[u8]) -> Result<(), AllocError> {
         let told = match split_word(line) {
             Some((_, behind)) => behind,

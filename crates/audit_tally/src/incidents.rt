@@ -92,7 +92,7 @@ impl Incidents {
         self.rows.as_slice()
     }
 
-    /// Keeps what went wrong at a line. AllocError is want of memory.
+    /// Keeps what went wrong at a line. AllocError is lack of memory.
     pub fn note(
         &mut self,
         place: Place,

@@ -56,7 +56,7 @@ impl Jobs {
         self.rows.get(place(job)?).copied()
     }
 
-    /// Keeps a job that was ordered under this number on this day, if it is the next one; of any other number nothing is kept. AllocError is want of memory.
+    /// Keeps a job that was ordered under this number on this day, if it is the next one; of any other number nothing is kept. AllocError is lack of memory.
     pub fn order(
         &mut self,
         number: u32,

@@ -27,7 +27,7 @@ fn place(piece: u32) -> Option<usize> {
 }
 
 impl Pieces {
-    /// No piece was debited. AllocError is want of memory.
+    /// No piece was debited. AllocError is lack of memory.
     pub fn new(alloc: Global) -> Result<Pieces, AllocError> {
         let mut of = Vec::new(alloc);
         for _ in 0..8 {
@@ -49,7 +49,7 @@ impl Pieces {
         self.of_device(device).get(place(piece)?).copied()
     }
 
-    /// Keeps the next piece of the device. AllocError is want of memory.
+    /// Keeps the next piece of the device. AllocError is lack of memory.
     pub fn debit(&mut self, device: DevNo, piece: Piece) -> Result<(), AllocError> {
         if let Some(pieces) = self.of.get_mut(device.get() as usize - 1) {
             pieces.push(piece)?;

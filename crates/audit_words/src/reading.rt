@@ -222,7 +222,7 @@ fn read_check(words: Vec<String>) -> Result<String, WordsFault> {
 
 /// What the words behind the program's name call for. Options stand in any order, also behind names; `--help` and `--version` take precedence over all others.
 /// WordsFault::Usage if a word that begins with `--` is no option, if an option lacks its file or is given twice, if more than one thing is asked for beside the verdicts,
-/// if no run is named, or if a script to be looked at stands not alone; WordsFault::Memory is want of memory.
+/// if no run is named, or if a script to be looked at stands not alone; WordsFault::Memory is lack of memory.
 pub fn read_call(alloc: Global, words: Vec<String>) -> Result<Call, WordsFault> {
     if has_word(words.as_slice(), "--help") {
         return Ok(Call::Help);

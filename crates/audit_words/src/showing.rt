@@ -19,7 +19,7 @@ fn show_byte(text: &mut String, byte: u8) -> Result<(), AllocError> {
 }
 
 /// The bytes as text: those that are no printable ASCII as `\xNN`, and a backslash twice. So no byte of them ends the line or reaches the terminal as a command.
-/// AllocError is want of memory.
+/// AllocError is lack of memory.
 pub fn shown(alloc: Global, bytes: &[u8]) -> Result<String, AllocError> {
     let mut text = String::new(alloc);
     for at in 0..bytes.len() {
@@ -28,7 +28,7 @@ pub fn shown(alloc: Global, bytes: &[u8]) -> Result<String, AllocError> {
     Ok(text)
 }
 
-/// The text as its bytes are shown, such as the name of a file. AllocError is want of memory.
+/// The text as its bytes are shown, such as the name of a file. AllocError is lack of memory.
 pub fn shown_text(alloc: Global, text: &str) -> Result<String, AllocError> {
     shown(alloc, text.as_bytes())
 }

@@ -67,7 +67,7 @@ is_none : (o : Option ℤ) → IsSome o → o ≡ None → ⊥
 is_none None some same = cc
 is_none (Some t) some same = cc
 
--- a node that stands for a ledger stands for it on another day
+-- a node that represents a ledger represents it on another day
 pub again : {K S N X R : Type 0} (n : Ghosts K S N X R) (g : nv.Ghosts S) (d : N) (v : View n.Seen) (s : K) (w : View n.Seen) → w.state ≡ v.state → w.next ≡ v.next → w.on ≡ v.on
     → node.Stands n g d v s → node.Stands n g d w s
 again n g d v s w state next on stands = let same : w ≡ v = λ k. record { state = state k; next = next k; on = on k } in subst (λ (u : View n.Seen). node.Stands n g d u s) (sym same) stands

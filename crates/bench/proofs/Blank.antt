@@ -1,4 +1,4 @@
--- Blank storages, as the first run finds them: they stand for the empty ledger.
+-- Blank storages, as the first run finds them: they represent the empty ledger.
 use Rattle.std.proofs.Common.{◌≡◌, inl, ℕ, zero, suc, ◌+◌, ◌*◌, ◌-◌, List, [], take, replicate, Option, Some, None, false, refl, sym, ◌∙◌, ap, subst}
 use Rattle.std.proofs.lemmas.List.{drop-replicate}
 use Rattle.bench_base.specs.declared.words.Node.{Node}
@@ -62,7 +62,7 @@ pub record IsBlankNode {S : Type 0} (k : OneKind S) (m : Node) (d : k.Name) : Ty
   pub sound : k.ghosts.IsSound d (k.kind.seen d [])
   pub shown : k.ghosts.IsShown (k.kind.seen d []) (replicate (bytes_of m) 0)
 
--- a blank storage stands for a node without commits, which is off
+-- a blank storage represents a node without commits, which is off
 blank_store : {S N : Type 0} (h : nv.Ghosts N) (k : OneKind S) (m : Node) (d : k.Name) (store : N) → IsBlankNode k m d → IsBlank h (bytes_of m) store
     → (is_on m [] ≡ false) × StoreStands k.ghosts h d (view_in m (k.kind.seen d) []) store
 blank_store h k m d store node blank = (

@@ -75,7 +75,7 @@ module _ {K S N C R X : Type 0} (n : Ghosts K S N C R) (g : nv.Ghosts S) (f : fu
         (none_printed n g kind m d today asked s turn.reply p (unprinted (asked_event m event asked) turn.reply other did.reply)),
   )
 
-  -- so the event is told as a turn, where a call of the kind is
+  -- so the event is reported as a turn, where a call of the kind is
   pub told_event : (asked : Asked X) → Comes n g f m d IsOf s t p q (λ c. Told n g f kind m d today (event c) (Call c) IsOf s t p q) asked → Tells asked
   told_event On (x, did, of, same) = switched On (start_turn m x) of (turn_on n g f kind m d today s t x did) (λ j is. cc) same
   told_event Off (was, did, of, same) = switched Off (stop_turn m was) of (turn_off n g f kind m d today s t was did) (λ j is. cc) same

@@ -1,4 +1,4 @@
--- An event of one node, by the ledger, whatever the kind of the node: what the node then stands for, what its storage shows
+-- An event of one node, by the ledger, whatever the kind of the node: what the node then represents, what its storage shows
 -- meanwhile, and what is left of it where the process is stopped.
 use Rattle.std.proofs.Common.{◌≡◌, inl, inr, ⊎_elim, ℕ, ℤ, ◌+◌, List, [], ◌∷◌, ◌++◌, Option, Some, None, Bool, true, false, refl, sym, ◌∙◌, ap, subst, true≢false, ◌==◌, if◌then◌else◌}
 use Rattle.std.specs.Prelude.{option_map, IfSome}
@@ -70,7 +70,7 @@ next_told n RatesFailed made v fine none = none
 -- == a storage that is left ==
 
 module _ {K S N C R : Type 0} (n : Ghosts K S N C R) {T : Type 0} (h : nv.Ghosts T) where
-  -- a storage that may hold what the node's may have stands for the node, off
+  -- a storage that may hold what the node's may have represents the node, off
   pub left_stands : (d : N) (v : View n.Seen) (store : T) → h.size store ≡ n.bytes → Sound n d v → ((image : List ℕ) → Image (h.times store) image → Allowed n v image)
       → StoreStands n h d (stopped v) store
   left_stands d v store size sound allowed = record {
@@ -79,7 +79,7 @@ module _ {K S N C R : Type 0} (n : Ghosts K S N C R) {T : Type 0} (h : nv.Ghosts
     shows = λ tells image now. allowed image now;
   }
 
--- a node that is as it was stands for a ledger that shows the same of it, with a new run begun
+-- a node that is as it was represents a ledger that shows the same of it, with a new run begun
 pub rest_left : {K S N C R T : Type 0} (n : Ghosts K S N C R) (g : nv.Ghosts S) (h : nv.Ghosts T) (m : Node) (d : N) (seen : List Commit → n.Seen) (H L : Ledger) (s : K) (store : T)
     → g.tells → node.Stands n g d (view_in m seen H) s → view_in m seen L ≡ view_in m seen H → h.size store ≡ n.bytes → HoldsImage n g h s s store
     → StoreStands n h d (view_in m seen (entry.Begin ∷ L)) store

@@ -242,7 +242,7 @@ module _ (n : Nodes) (m : Node) (e x : Event) (turn : Turn) (old new : BenchOf n
     abbrev StandsIs : Ledger → OfState n.Storage
     StandsIs K o i d s = node.Stands o.ghosts n.storage d (view_in i (o.kind.seen d) K) s
 
-    -- a node of which the same is seen stands for it
+    -- a node of which the same is seen represents it
     stands_same : (K : Ledger) (j : Node) → SeenSame n L K j → Of n (StandsIs K) old j
     stands_same K j same = of_by n (λ o i d. view_in i (o.kind.seen d) K ≡ view_in i (o.kind.seen d) L) (StandsIs L) (StandsIs K) old
         (λ o i d s is st. subst (λ (w : View o.ghosts.Seen). node.Stands o.ghosts n.storage d w s) (sym is) st) j same (stands.nodes j)

@@ -182,7 +182,7 @@ module _ (n : Nodes) (text : List ℕ) (turn : Turn) (today : ℤ)
   keeps_of L keeps (Err fail.Form) is = keeps
   keeps_of L keeps (Err (fail.Memory y)) is = keeps
 
-  -- the bench stands for the ledger with what is told
+  -- the bench represents the ledger with what is told
   stands_of : (L : Ledger) (x : Result RateTable RatesFail) → kept ≡ rates_after old.rates x → answer text ≡ x → Stands n old L → Stands n new ((plan_of text x).after ++ L)
   stands_of L x kept_is is stands = by x kept_is (subst (λ (o : Option RateTable). Keeps (rates_in ((plan_of text x).after ++ L)) o) (sym kept_is) (keeps_of L stands.day.rates x is))
     where

@@ -1,4 +1,4 @@
--- What contracts see of a bench, and when it stands for a ledger. A kind of nodes is a field of `Bench`, of `Stores` and of `Nodes`, and a row of
+-- What contracts see of a bench, and when it represents a ledger. A kind of nodes is a field of `Bench`, of `Stores` and of `Nodes`, and a row of
 -- `At`, `Of`, `By` and `store_of`; all else is said of a node by its name.
 use Rattle.std.specs.Prelude.{◌≡◌, ℕ, ℤ, ◌+◌, zero, suc, false, List, [], Option, Some, None, length, replicate, slice_get}
 use Rattle.bench_base.specs.declared.words.Node.{Node}
@@ -213,16 +213,16 @@ module _ (n : Nodes) where
   At P old new Host = P host Host tt old.host new.host
   At P old new Verifier = P verifier Verifier tt old.verifier new.verifier
 
-  -- the bench stands for the ledger: so does each node of it
+  -- the bench represents the ledger: so does each node of it
   pub record Stands (bench : BenchOf n) (L : Ledger) : Type 0 where
     pub day : HasDay bench.day bench.messages bench.rates L
     pub nodes : (m : Node) → Of (λ k i d s. node.Stands k.ghosts n.storage d (view_in i (k.kind.seen d) L) s) bench m
 
-  -- a storage stands for the ledger, whose node is off
+  -- a storage represents the ledger, whose node is off
   abbrev pub StoreStandsOff : Ledger → n.Inner → Node → Type 0
   StoreStandsOff L store m = (is_on m L ≡ false) × By (λ k i d. StoreStands k.ghosts n.inner d (view_in i (k.kind.seen d) L) store) m
 
-  -- the storages stand for the ledger: no node is on, and there is no day
+  -- the storages represent the ledger: no node is on, and there is no day
   pub record StoresStand (stores : Places n.Inner) (L : Ledger) : Type 0 where
     pub day : HasDay None [] None L
     pub nodes : (m : Node) (store : n.Inner) → store_of stores m ≡ Some store → StoreStandsOff L store m

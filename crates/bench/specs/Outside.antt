@@ -17,7 +17,7 @@ use Rattle.node_turns.specs.declared.turn.Turn.{Turn}
 use Rattle.node_turns.specs.Printing.{Printer, printer_of}
 use Rattle.node_turns.specs.Turns.{turn_of}
 
--- the bytes that are left of a source, where they are told, and its faults
+-- the bytes that are left of a source, if they are known, and its faults
 pub record Feed : Type 0 where
   pub left : Option (List ℕ)
   pub faults : ℕ
@@ -25,6 +25,7 @@ pub record Feed : Type 0 where
 abbrev pub feed_of : {R : Type 0} → source.Ghosts R → R → Feed
 feed_of g source = record { left = g.left source; faults = g.faults source }
 
+-- the two streams: what is left of the rates, and what the printer took
 pub record Outside : Type 0 where
   pub rates : Feed
   pub printer : Printer
@@ -67,7 +68,7 @@ pub record ReadsRates (e : Event) (text : List ℕ) (turn : Turn) (today : Optio
   pub others : e ≢ ev.Rates → ReadsNothing text kept kept_now before now
   pub later : before.faults ≤ now.faults
 
--- for want of memory the event did nothing but to read some of the rates
+-- for lack of memory the event did nothing but to read some of the rates
 pub record WantsMemory (e : Event) (today : Option ℤ) (before now : Outside) : Type 0 where
   pub event : e ≡ ev.Rates
   pub dated : IsSome today

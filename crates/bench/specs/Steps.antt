@@ -116,7 +116,7 @@ module _ (n : Nodes) where
     pub eight : length stores.devices ≡ 8
     pub each : (m : Node) (store : n.Inner) → store_of stores m ≡ Some store → At n (λ k i d s t. (n.inner.size store ≡ k.ghosts.bytes) × HoldsImage k.ghosts n.storage n.inner s t store) old new m
 
-  -- whatever a stop between these benches leaves stands for this ledger, which is a history
+  -- whatever a stop between these benches leaves represents this ledger, which is a history
   abbrev pub LeftFor : Tariff → BenchOf n → BenchOf n → Ledger → Type 0
   LeftFor τ old new L = (stores : Places n.Inner) → AreLeft old new stores → History τ editions L × StoresStand n stores L
 
@@ -126,9 +126,9 @@ module _ (n : Nodes) where
       → reply ≡ n.kinds.compare d v w
 
   -- By a history for which the bench stood, where the event took this text of the rates: the reply is one that the event may get
-  -- there, the entries are those of the event and the reply, the bench stands for the history with them, and only a failure leaves a
+  -- there, the entries are those of the event and the reply, the bench represents the history with them, and only a failure leaves a
   -- commit open. At every moment meanwhile the storages show the ledger, or the ledger and the one commit of the event; so where
-  -- the process is stopped they stand for it. The printer took the mark that the event prints.
+  -- the process is stopped they represent it. The printer took the mark that the event prints.
   pub record StepsOn (τ : Tariff) (L : Ledger) (e : Event) (text : List ℕ) (turn : Turn) (old new : BenchOf n) (before now : Outside) : Type 0 where
     pub moves : Moves τ todays_rules L e text turn.reply
     pub entries : turn.entries ≡ in_order (after (plan τ todays_rules L e text) turn.reply [])
@@ -138,7 +138,7 @@ module _ (n : Nodes) where
     pub stopped : LeftFor τ old new (after_stop τ L e text)
     pub printed : PrinterDid turn.reply (print_of (plan τ todays_rules L e text).after) before.printer now.printer
 
-  -- to compare device d with the centre finds the centre off exactly where it is and the device is not
+  -- to compare device d with the centre finds the centre off if and only if it is and the device is not
   abbrev pub FindsOff : ℕ → Reply → BenchOf n → Type 0
   FindsOff d reply old = IsSome old.day → (i : ℕ) (s : n.Devices) → d ≡ i + 1 → slice_get old.devices i ≡ Some s
       → (reply ≡ r.OffNode Centre) ↔ ((n.devices.is_on s ≡ true) × (n.centre.is_on old.centre ≡ false))
@@ -156,7 +156,7 @@ module _ (n : Nodes) where
   DoesAsked today turn old new before now (work.Verifier asked) = MovesViews n.verifier n.storage n.kinds.verifier Verifier tt today asked turn old.verifier new.verifier
 
   -- By what the storages show, whether or not a history leads to it: the event does what any view allows for which its node stood,
-  -- and compares what any two views show; one that commits nothing writes nothing; and damage is told exactly where the storage
+  -- and compares what any two views show; one that commits nothing writes nothing; and damage is told if and only if the storage
   -- that an `on` read is none of the node.
   pub record StepsByViews (e : Event) (turn : Turn) (old new : BenchOf n) (before now : Outside) : Type 0 where
     pub does : (today : ℤ) (x : Work) → old.day ≡ Some today → taken old.messages (quote old.rates) e ≡ Some (take.Work x) → DoesAsked today turn old new before now x
@@ -169,9 +169,9 @@ module _ (n : Nodes) where
 
   -- Whatever the storages tell: which replies the event may get at all, where to deliver a message is to give it to the node that
   -- it is for, and to scan one is to scan its bytes; whether it has a day, and the day after it; the turns of `day` and `end`; that to
-  -- compare changes and adds nothing, and finds the centre off exactly where it is; a message that nobody sent; that what is sent, and
+  -- compare changes and adds nothing, and finds the centre off if and only if it is; a message that nobody sent; that what is sent, and
   -- nothing else, becomes the next message; what is refused; what a reply alone says of the entries, and that one which names no message
-  -- sends none; how many calls a commit uses, and that a call without one leaves the bench as it was, but for what is sent; what is left
+  -- sends none; how many calls a commit uses, and that a call without one leaves the bench as it was, except for what is sent; what is left
   -- of each node, and that each but its own is as it was; what is read of the rates, and what the printer takes.
   pub record StepsAlone (e : Event) (text : List ℕ) (turn : Turn) (old new : BenchOf n) (before now : Outside) : Type 0 where
     pub reply : MayGet (as_given old.messages e) turn.reply

@@ -104,7 +104,7 @@ impl<M: Nv, N> BenchOver<M, N> {
         }
     }
 
-    /// Message k of this run, counted from 0; None exactly where fewer were sent.
+    /// Message k of this run, counted from 0; None if and only if fewer were sent.
     pub fn message(&self, k: u32) -> Option<&Note>
         ensures { option_copied result ≡ slice_get (bench_of self.now).messages k }
     {
@@ -140,7 +140,7 @@ impl<N: Nv + Drop> Bench<N> {
 
     /// A bench over these storages, which have power and no fuse: all nodes are off, and there is no day, no rates and no message. The
     /// memory in which the nodes run is made here, and that for a run's messages, 1,000,000 of 88 bytes, so that sending one takes none.
-    /// The bench stands for what the storages stand for, and for the empty ledger where they are blank. Where there is no memory, the
+    /// The bench represents what the storages represent, and for the empty ledger where they are blank. Where there is no memory, the
     /// storages come back.
     pub fn new(alloc: Global, stores: Stores<N>) -> Result<Bench<N>, Stores<N>>
         requires eight { length stores.devices.items ≡ 8 }
@@ -197,7 +197,7 @@ impl<N: Nv + Drop> Bench<N> {
         })
     }
 
-    /// The storages, without their fuses. A node that is on is switched off. They stand for what the bench stood for, with a new run
+    /// The storages, without their fuses. A node that is on is switched off. They represent what the bench represented, with a new run
     /// begun. One whose power was lost wants a restart before another bench is made of it.
     pub fn into_stores(self) -> Stores<N>
         requires ready { IsReady (bench_of self) }

@@ -150,14 +150,14 @@ pub fn react<T: Tell, M: Fuse + Drop, N: Nv, R: Source, P: Sink>(
 }
 
 /// Does one event: its reply, and what it adds to the ledger. Only a `rates` on a day takes memory, for its text and its rates; where
-/// there is none, the bench is as before (`memory`). Else there is a text, what a `rates` took and nothing for every other event, such
+/// there is none, the bench is as before (`memory`). Otherwise there is a text, what a `rates` took and nothing for every other event, such
 /// that (`did`, see `Steps`):
 ///
 /// - `history`: for every history for which the bench stands, at which nothing that the event brings is forged, and whose storages
-///   tell what they hold, the reply and the entries are those of the event there, and the bench stands for the history with them; so do
-///   the storages at every moment meanwhile, but for the one commit of the event; and the printer takes the mark that the event prints.
-/// - `shown`: where the storages tell, whether the bench stands for a history or not: the event does what any view allows for
-///   which its node stands; only an event that may commit writes; and damage is told exactly where it was found.
+///   tell what they hold, the reply and the entries are those of the event there, and the bench represents the history with them; so do
+///   the storages at every moment meanwhile, except for the one commit of the event; and the printer takes the mark that the event prints.
+/// - `shown`: where the storages tell, whether the bench represents a history or not: the event does what any view allows for
+///   which its node stands; only an event that may commit writes; and damage is told if and only if it was found.
 /// - `always`: which replies the event may get, what needs a day and a node that is on, what a refusal leaves, what failures
 ///   and fuses cost, what is read of the rates and what the printer takes, whatever the storages tell.
 pub fn step<R: Source, P: Sink, N: Nv + Drop>(

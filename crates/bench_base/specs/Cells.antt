@@ -1,4 +1,4 @@
--- The cells of storage in which commits lie, and when one is worn.
+-- The cells of storage that commits go to, and when one is worn.
 use Rattle.std.specs.Prelude.{ℕ, ◌+◌, Bool, false, ◌&&◌, List, [], ◌∷◌, ◌==◌, nat_le, if◌then◌else◌}
 use Rattle.bench_base.specs.declared.ledger.Commit.{Commit}
 use Rattle.bench_base.specs.declared.ledger.Commit.TheVariants.{Made, Asked, Applied, Debited, Registered, Opened, Deposited, Flagged, Ruled, Settled, Ordered, Held, Began, Closed, Trusted, Accepted}
@@ -6,6 +6,7 @@ use Rattle.bench_base.specs.declared.sizes.TheConstants.{MOST_COMMITS}
 use Rattle.bench_base.specs.Jobs.{cell_of}
 use Rattle.bench_base.specs.Scans.{block_of}
 
+-- a cell of some storage
 pub data Place : Type 0 where
   -- a device's one cell
   OfDevice : ℕ → Place
@@ -18,6 +19,7 @@ pub data Place : Type 0 where
   OfTrust : ℕ → Place
   OfBlock : ℕ → ℕ → Place
 
+-- whether the two are one cell
 abbrev pub same_place : Place → Place → Bool
 same_place (OfDevice d) (OfDevice e) = d == e
 same_place (OfRow d) (OfRow e) = d == e
@@ -27,6 +29,7 @@ same_place (OfTrust d) (OfTrust e) = d == e
 same_place (OfBlock d b) (OfBlock e k) = (d == e) && (b == k)
 same_place _ _ = false
 
+-- the cell that a commit goes to
 abbrev pub place_of : Commit → Place
 place_of (Made d key) = OfDevice d
 place_of (Asked d n note) = OfDevice d
@@ -50,6 +53,6 @@ abbrev pub commits_at : Place → List Commit → ℕ
 commits_at place [] = 0
 commits_at place (c ∷ C) = if same_place (place_of c) place then commits_at place C + 1 else commits_at place C
 
--- the cell of the commit has as many commits as its count can tell
+-- the cell of the commit has as many commits as can be counted
 unfoldable pub is_worn : Commit → List Commit → Bool
 is_worn c C = nat_le MOST_COMMITS (commits_at (place_of c) C)

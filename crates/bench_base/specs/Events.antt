@@ -13,8 +13,9 @@ pub data Brought : Type 0 where
   -- they are scanned
   Scanned : List ℕ → Brought
 
+-- what an event needs, and what it may do
 pub record Needs : Type 0 where
-  -- the node that it is for; none where it is the bench's own, or where a message tells the node
+  -- the node that it is for; nothing if it is the bench's own, or if a message names the node
   pub node : Option Node
   -- whether it needs a day
   pub day : Bool
@@ -28,16 +29,18 @@ pub record Needs : Type 0 where
   pub sets : Option ℤ
   -- whether it takes a text of the rates
   pub rates : Bool
-  -- what it brings from outside
+  -- what it takes from outside
   pub brings : Brought
 
 -- the bench's own: it needs nothing, it sets the day, or it reads the rates to come
 abbrev pub apart : Needs
 apart = record { node = None; day = false; on = false; commits = false; calls = 0; sets = None; rates = false; brings = Nothing }
 
+-- it sets the day
 abbrev pub dates : ℤ → Needs
 dates t = record apart { sets = Some t }
 
+-- it reads the rates
 abbrev pub reads_rates : Needs
 reads_rates = record apart { day = true; rates = true }
 
@@ -45,6 +48,7 @@ reads_rates = record apart { day = true; rates = true }
 abbrev pub boots : Node → Needs
 boots n = record apart { node = Some n; day = true; calls = 1 }
 
+-- it arms the fuse of the node
 abbrev pub arms : Node → Needs
 arms n = record apart { node = Some n; day = true }
 
@@ -52,6 +56,7 @@ arms n = record apart { node = Some n; day = true }
 abbrev pub asks : Node → Needs
 asks n = record apart { node = Some n; day = true; on = true }
 
+-- it changes the record of the node, which has to be on
 abbrev pub changes : Node → Needs
 changes n = record apart { node = Some n; day = true; on = true; commits = true; calls = 6 }
 
@@ -63,6 +68,7 @@ takes n bytes = record (changes n) { brings = bytes }
 abbrev pub delivers : Needs
 delivers = record apart { day = true; on = true; commits = true; calls = 6 }
 
+-- the row of each event
 abbrev pub needs : Event → Needs
 needs (ev.Day t) = dates t
 needs ev.Rates = reads_rates
@@ -95,6 +101,7 @@ needs ev.End = apart
 abbrev pub node_for : Event → Option Node
 node_for e = (needs e).node
 
+-- whether the event needs a day
 abbrev pub needs_day : Event → Bool
 needs_day e = (needs e).day
 
@@ -110,6 +117,7 @@ calls_of e = (needs e).calls
 abbrev pub takes_rates : Event → Bool
 takes_rates e = (needs e).rates
 
+-- what the event takes from outside
 abbrev pub brought_by : Event → Brought
 brought_by e = (needs e).brings
 

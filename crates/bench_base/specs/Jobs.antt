@@ -1,4 +1,4 @@
--- What the commits tell of the host: its jobs, their states, and the greatest piece of each device that was held.
+-- What the commits show of the host: its jobs, their states, and the greatest piece of each device that was held.
 use Rattle.std.specs.Prelude.{ℕ, ◌+◌, ◌-◌, ◌%◌, Bool, true, false, ◌&&◌, List, [], ◌∷◌, Option, Some, None, ◌==◌, nat_lt, nat_le, max, if◌then◌else◌}
 use Rattle.bench_base.specs.declared.words.JobState.{JobState}
 use Rattle.bench_base.specs.declared.words.JobState.TheVariants as state
@@ -70,7 +70,7 @@ top d [] = 0
 top d (Held j mark ∷ C) = max (piece_at d (job_of j C)) (top d C)
 top d (_ ∷ C) = top d C
 
--- the cell in which a job is kept
+-- the cell that keeps a job
 abbrev pub cell_of : ℕ → ℕ
 cell_of j = (j - 1) % 1024
 

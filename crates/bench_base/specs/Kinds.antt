@@ -29,7 +29,7 @@ is_granted _ = false
 abbrev pub is_dated : Verdict → Kind → Bool
 is_dated v k = is_granted v && (same_kind k Reset || same_kind k Audit)
 
--- in which stored phases a kind may be asked for
+-- the stored phases that allow to ask for a kind
 abbrev pub is_allowed : Kind → Phase → Bool
 is_allowed Enrol Manufactured = true
 is_allowed Audit Authorised = true

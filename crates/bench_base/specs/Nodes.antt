@@ -5,24 +5,28 @@ use Rattle.bench_base.specs.declared.words.Node.TheVariants.{Device, Centre, Hos
 use Rattle.bench_base.specs.declared.ledger.Commit.{Commit}
 use Rattle.bench_base.specs.declared.ledger.Commit.TheVariants.{Made, Asked, Applied, Debited, Registered, Opened, Deposited, Flagged, Ruled, Settled, Ordered, Held, Began, Closed, Trusted, Accepted}
 
+-- the node is this device
 abbrev pub is_device : ℕ → Node → Bool
 is_device d (Device e) = d == e
 is_device d Centre = false
 is_device d Host = false
 is_device d Verifier = false
 
+-- the node is the centre
 abbrev pub is_centre : Node → Bool
 is_centre (Device d) = false
 is_centre Centre = true
 is_centre Host = false
 is_centre Verifier = false
 
+-- the node is the host
 abbrev pub is_host : Node → Bool
 is_host (Device d) = false
 is_host Centre = false
 is_host Host = true
 is_host Verifier = false
 
+-- the node is the verifier
 abbrev pub is_verifier : Node → Bool
 is_verifier (Device d) = false
 is_verifier Centre = false
@@ -36,7 +40,7 @@ same_node Centre n = is_centre n
 same_node Host n = is_host n
 same_node Verifier n = is_verifier n
 
--- the node whose record the commit changes
+-- the node that the commit changes
 abbrev pub node_of : Commit → Node
 node_of (Made d key) = Device d
 node_of (Asked d n request) = Device d

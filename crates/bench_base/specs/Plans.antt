@@ -4,7 +4,7 @@ use Rattle.bench_base.specs.declared.ledger.Commit.{Commit}
 use Rattle.bench_base.specs.declared.ledger.Entry.{Entry}
 use Rattle.bench_base.specs.declared.events.Reply.{Reply}
 
--- the answer, the commit of the one node that makes one, and what is told after that commit, the newest first
+-- the answer, the commit of the one node that makes one, and the entries after that commit, the newest first
 pub record Plan : Type 0 where
   pub reply : Reply
   pub commit : Option Commit

@@ -10,9 +10,11 @@ use Rattle.bench_base.specs.declared.events.Event.{Event}
 use Rattle.bench_base.specs.declared.events.Event.TheVariants as ev
 use Rattle.bench_base.specs.Table.{IsBytes}
 
+-- a device's number is 1 to 8
 abbrev pub IsDevice : ℕ → Type 0
 IsDevice d = (1 ≤ d) × (d ≤ 8)
 
+-- a customer's number is 1 to 64
 abbrev pub IsCustomer : ℕ → Type 0
 IsCustomer c = (1 ≤ c) × (c ≤ 64)
 
@@ -36,9 +38,11 @@ IsPostage a = (1 ≤ a) × (a ≤ 100000)
 abbrev pub IsDeposit : ℕ → Type 0
 IsDeposit a = (1 ≤ a) × (a ≤ 1000000000)
 
+-- a key has 32 bytes
 abbrev pub IsKey : List ℕ → Type 0
 IsKey key = (length key ≡ 32) × IsBytes key
 
+-- a node is a device of such a number, or one of the other three
 abbrev pub IsNode : Node → Type 0
 IsNode (Device d) = IsDevice d
 IsNode Centre = Unit {0}

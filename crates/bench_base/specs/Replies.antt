@@ -1,4 +1,4 @@
--- What each reply tells, and which events may get it: two tables with a row for every reply.
+-- What each reply reports, and which events may get it: two tables with a row for every reply.
 use Rattle.std.specs.Prelude.{◌≡◌, ◌≢◌, ◌⊎◌, ◌||◌, ℕ, Bool, true, false, List, Option, Some, None, is_some}
 use Rattle.bench_base.specs.declared.words.Kind.{Kind}
 use Rattle.bench_base.specs.declared.words.Node.{Node}
@@ -10,6 +10,7 @@ use Rattle.bench_base.specs.declared.events.Reply.TheVariants as r
 use Rattle.bench_base.specs.Nodes.{same_node}
 use Rattle.bench_base.specs.Events.{node_for, needs_day, needs_on, may_commit, IsAt}
 
+-- what a reply reports
 pub data Told : Type 0 where
   -- what was asked for was done
   Did : Told
@@ -23,13 +24,14 @@ pub data Told : Type 0 where
   -- power was cut, or the storage failed; the node is off
   LostPower : Node → Told
   Faulted : Node → Told
-  -- the node's storage was read, and is none of the node, which is off
+  -- the node's storage was read, and is not that of the node, which is off
   WasDamaged : Node → Told
   -- the printer failed after the commit of this job
   PrinterFailed : ℕ → Told
   -- the rates could not be read
   RatesFailed : Told
 
+-- what each reply reports
 abbrev pub told_by : Reply → Told
 told_by (r.Day t) = Did
 told_by (r.Rates classes zones) = Did

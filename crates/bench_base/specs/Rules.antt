@@ -1,6 +1,7 @@
 -- What a later edition of the rules may change. Each definition that turns on one of these takes the record.
 use Rattle.std.specs.Prelude.{ℕ, ◌≤◌, Bool, ◌||◌, ◌==◌, List, [], ◌∷◌}
 
+-- the numbers of an edition
 pub record Rules : Type 0 where
   -- the greatest sum of ascending, descending and refunded, in mills
   pub total : ℕ

@@ -1,4 +1,4 @@
--- What the commits tell of the verifier: the keys that it trusts, the pieces that it accepted, and the blocks that hold them.
+-- What the commits show of the verifier: the keys that it trusts, the pieces that it accepted, and the blocks that hold them.
 use Rattle.std.specs.Prelude.{ℕ, ◌/◌, ◌&&◌, List, [], ◌∷◌, length, Option, Some, None, ◌==◌, if◌then◌else◌}
 use Rattle.bench_base.specs.declared.ledger.Commit.{Commit}
 use Rattle.bench_base.specs.declared.ledger.Commit.TheVariants.{Trusted, Accepted}
@@ -20,7 +20,7 @@ accepted d p (_ ∷ C) = accepted d p C
 abbrev pub block_of : ℕ → ℕ
 block_of p = p / 512
 
--- where the block stands in a list of them whose newest comes first, counted from the oldest
+-- where the block is in a list of them, the newest first, counted from the oldest
 abbrev pub block_place : ℕ → ℕ → List (ℕ × ℕ) → Option ℕ
 block_place d b [] = None
 block_place d b (x ∷ xs) = if (x.0 == d) && (x.1 == b) then Some (length xs) else block_place d b xs

@@ -2,6 +2,7 @@
 use Rattle.std.specs.Prelude.{ℕ, ◌+◌, ◌*◌, ◌/◌, ◌%◌, ◌<◌, ◌^◌, List, [], ◌∷◌, ◌++◌, take, drop, get_or}
 use Rattle.std.specs.Int.{w16, w32, w64, from_be_bytes, to_be_bytes}
 
+-- how many bytes a field has
 pub data Size : Type 0 where
   One : Size
   Two : Size
@@ -9,6 +10,7 @@ pub data Size : Type 0 where
   Five : Size
   Eight : Size
 
+-- the same as a number
 abbrev pub bytes_in : Size → ℕ
 bytes_in One = 1
 bytes_in Two = 2
@@ -50,7 +52,7 @@ row [] vs = []
 row (s ∷ ss) [] = []
 row (s ∷ ss) (v ∷ vs) = spelled s v ++ row ss vs
 
--- the row of numbers whose bytes begin at that place
+-- the numbers in the bytes from that place on
 abbrev pub values : ℕ → List Size → List ℕ → List ℕ
 values at [] bytes = []
 values at (s ∷ ss) bytes = number s (take (bytes_in s) (drop at bytes)) ∷ values (at + bytes_in s) ss bytes
@@ -62,5 +64,6 @@ Fit [] (v ∷ vs) = ⊥
 Fit (s ∷ ss) [] = ⊥
 Fit (s ∷ ss) (v ∷ vs) = IsNumber s v × Fit ss vs
 
+-- each of them is below 256
 abbrev pub IsBytes : List ℕ → Type 0
 IsBytes bytes = (i : ℕ) → get_or bytes i 0 < 256

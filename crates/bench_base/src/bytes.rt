@@ -39,7 +39,7 @@ impl Note {
         }
     }
 
-    /// The note of these bytes; None exactly where there are more than 87.
+    /// The note of these bytes; None if and only if there are more than 87.
     pub fn new(bytes: &[u8]) -> Option<Note>
         ensures valid { IsSome result ↔ (length bytes.now ≤ 87) }
         ensures value { IfSome result (λ n. n ≡ bytes.now) }
@@ -80,7 +80,7 @@ impl Model for Given {
 }
 
 impl Given {
-    /// The bytes, where they fit; None exactly where there are more than 256.
+    /// The bytes, where they fit; None if and only if there are more than 256.
     pub fn new(bytes: &[u8]) -> Option<Given>
         ensures valid { IsSome result ↔ (length bytes.now ≤ 256) }
         ensures value { IfSome result (λ n. n ≡ bytes.now) }

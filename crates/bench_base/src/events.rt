@@ -30,7 +30,7 @@ pub enum Event {
         postage: u32,
         class: u16,
     },
-    /// The customer is that of an enrolment, else 0; the amount that of a reset, else 0.
+    /// The customer is that of an enrolment, otherwise 0; the amount that of a reset, otherwise 0.
     Ask {
         device: DevNo,
         kind: Kind,
@@ -103,7 +103,7 @@ pub struct DevView {
     pub pieces: u32,
     /// The number of the last transaction that was applied.
     pub number: u32,
-    /// The day after which the device is locked, in days since 1970-01-01; 0 where there is none.
+    /// The last day before the device is locked, in days since 1970-01-01; 0 without one.
     pub deadline: i32,
     /// The kind of what is outstanding.
     pub pending: Option<Kind>,

@@ -19,7 +19,7 @@ impl Model for DevNo {
 }
 
 impl DevNo {
-    /// None exactly where the number is not 1 to 8.
+    /// None if and only if the number is not 1 to 8.
     pub fn new(n: u32) -> Option<DevNo>
         ensures valid { IsSome result ↔ ((1 ≤ n) × (n ≤ 8)) }
         ensures value { IfSome result (λ d. d ≡ n) }
@@ -54,7 +54,7 @@ impl Model for Customer {
 }
 
 impl Customer {
-    /// None exactly where the number is not 1 to 64.
+    /// None if and only if the number is not 1 to 64.
     pub fn new(n: u32) -> Option<Customer>
         ensures valid { IsSome result ↔ ((1 ≤ n) × (n ≤ 64)) }
         ensures value { IfSome result (λ c. c ≡ n) }
@@ -91,7 +91,7 @@ impl Model for DayNo {
 }
 
 impl DayNo {
-    /// None exactly where the day is out of that range.
+    /// None if and only if the day is out of that range.
     pub fn new(n: i32) -> Option<DayNo>
         ensures valid { IsSome result ↔ ((pos 10957 ≤ℤ n) × (n ≤ℤ pos 84005)) }
         ensures value { IfSome result (λ d. d ≡ n) }

@@ -2,7 +2,7 @@
 use crate::numbers::Customer;
 use crate::words::{JobState, Kind, Phase};
 
-/// Why bytes are no message, in the order in which they are looked at.
+/// Why bytes are no message, in the order of the checks.
 #[derive(Clone, Copy, Debug, PartialEq, Eq)]
 pub enum Unread {
     Length,
@@ -14,7 +14,7 @@ pub enum Unread {
     Mark,
 }
 
-/// Why bytes are no mark: their length, or the byte that stands in place of a 1.
+/// Why bytes are no mark: their length, or the byte in place of a 1.
 #[derive(Clone, Copy, Debug, PartialEq, Eq)]
 pub enum MarkFault {
     Length(usize),

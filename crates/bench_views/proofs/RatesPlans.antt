@@ -1,4 +1,4 @@
--- Rates by their texts: what a text is told as, what a piece costs by it, and what is taken by the rates that are kept.
+-- Rates by their texts: what a text is reported as, what a piece costs by it, and what is taken by the rates that are kept.
 use Rattle.std.proofs.Common.{◌≡◌, ℕ, ℤ, List, [], ◌∷◌, length, Option, Some, None, Bool, true, false, Result, Ok, Err, refl, sym, ◌∙◌, ap, subst, if◌then◌else◌}
 use Rattle.std.specs.Prelude.{option_and_then, nat_lt, ok_or}
 use Rattle.bench_base.specs.declared.ledger.Entry.TheVariants as entry
@@ -27,7 +27,7 @@ use Rattle.bench_views.specs.declared.taken.Taken.{Taken}
 
 -- == what is told of a text ==
 
--- what it is told as, as a plan
+-- what it is reported as, as a plan
 abbrev pub plan_of : List ℕ → Result RateTable RatesFail → Plan
 plan_of text (Ok x) = told (r.Rates (length x.classes) x.zones) (entry.Rates text ∷ [])
 plan_of text (Err (fail.Length n)) = refuse r.RatesLength

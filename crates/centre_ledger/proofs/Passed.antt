@@ -55,7 +55,7 @@ deposit_taken last total n a after h = go ((n == last.0) && nat_lt 0 n) (a == la
 
 -- what a granted Request was found to be
 pub record WasGranted (a : Account) (q : Request) : Type 0 where
-  -- but for an enrolment, the device is enrolled and not withdrawn
+  -- except for an enrolment, the device is enrolled and not withdrawn
   pub left : not (same_kind q.kind Enrol) ≡ true → has_left a.enrolled a.withdrawn ≡ false
   pub new : same_kind q.kind Enrol ≡ true → is_enrolled a.enrolled ≡ false
   pub sums : out_of_balance q a.bought a.returned ≡ false

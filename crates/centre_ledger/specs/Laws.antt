@@ -119,7 +119,7 @@ pub record SlotLaws : Type 0 where
   -- at the start there is no row
   pub no_device : (d : ℕ) → IsSlotOf None d []
   pub no_customer : (c : ℕ) → IsCustomerSlotOf None c []
-  -- there is a row of a device exactly where it is registered, and of a customer exactly where it is open
+  -- there is a row of a device if and only if it is registered, and of a customer if and only if it is open
   pub device_there : (o : Option DeviceRow) (d : ℕ) (C : List Commit) → IsSlotOf o d C → is_some o ≡ is_some (registered d C)
   pub customer_there : (o : Option CustomerRow) (c : ℕ) (C : List Commit) → IsCustomerSlotOf o c C
       → is_some o ≡ opened c C

@@ -49,7 +49,7 @@ bare_from version hs key vs = record {
   reply = [];
 }
 
--- what the bytes say but for the messages
+-- what the bytes say except for the messages
 unfoldable pub bare_at : ℕ → List ℕ → DeviceRow
 bare_at version bytes = bare_from version (values 0 head_table bytes) (take 32 (drop 13 bytes)) (values 45 (sums_table version) bytes)
 
@@ -115,7 +115,7 @@ pub record IsStored (version ruled front : ℕ) (key bytes note : List ℕ) : Ty
   pub unruled : ruled ≡ 0 → (note ≡ []) × (replicate (length bytes) 0 ≡ bytes)
   pub kept : 1 ≤ ruled → IsKept version front key bytes note
 
--- the row has messages with their codes exactly where something was ruled
+-- the row has messages with their codes if and only if something was ruled
 pub record HasMessages (r : DeviceRow) : Type 0 where
   pub unruled : r.ruled ≡ 0 → (r.request ≡ []) × (r.reply ≡ [])
   pub ruled : 1 ≤ r.ruled → IsSpelled r.key r.request × IsSpelled r.key r.reply

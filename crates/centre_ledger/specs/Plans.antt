@@ -1,4 +1,4 @@
--- How each call of the centre is told, and what the ledger plans for it: its act, by what is looked up in the commits, the newest first. Amounts
+-- How each call of the centre is reported, and what the ledger plans for it: its act, by what is looked up in the commits, the newest first. Amounts
 -- are in mills.
 use Rattle.std.specs.Prelude.{ℕ, ◌-◌, Bool, List, Option, option_map}
 use Rattle.bench_base.specs.declared.ledger.Commit.{Commit}
@@ -25,18 +25,23 @@ use Rattle.centre_ledger.specs.Standing.{flight_shown}
 abbrev pub says : {A : Type 0} → (A → Said) → CentreAct A → Act Row Reply Said
 says say act = saying r.CentreRefused say act
 
+-- the reply to a registration
 abbrev pub told_registered : ℕ → Unit {0} → Said
 told_registered d u = replies (r.Registered d)
 
+-- the reply to a new customer
 abbrev pub told_opened : ℕ → Unit {0} → Said
 told_opened w u = replies (r.Opened w)
 
+-- the reply to a suspension or its end
 abbrev pub told_flagged : ℕ → Bool → Unit {0} → Said
 told_flagged w flag u = replies (r.Flagged w flag)
 
+-- the reply to a deposit
 abbrev pub told_deposited : ℕ → ℕ → Deposit → Said
 told_deposited w receipt a = replies (r.Deposited w receipt a.again a.total)
 
+-- the reply to a balance
 abbrev pub told_balance : ℕ → ℕ → Said
 told_balance w left = replies (r.Balance w left)
 
@@ -59,21 +64,27 @@ standing_after d C = record { centre = acknowledged_resets d C - acknowledged_re
 abbrev pub shown_standing : ℕ → List Commit → Option Standing
 shown_standing d C = option_map (λ x. standing_after d C) (registered d C)
 
+-- what the centre looks up, in a list of commits
 abbrev pub in_commits : List Commit → LookUps
 in_commits C = record { device = λ d. device_row d C; customer = λ w. customer_row w C; left = λ w. balance w C; standing = λ d. shown_standing d C }
 
+-- the plan of a registration
 abbrev pub register_plan : ℕ → ℕ → List ℕ → List Commit → Plan
 register_plan d origin key C = said_plan (says (told_registered d) (register_by d origin key (in_commits C)))
 
+-- the plan of a new customer
 abbrev pub open_plan : ℕ → List Commit → Plan
 open_plan w C = said_plan (says (told_opened w) (open_by w (in_commits C)))
 
+-- the plan of a suspension or its end
 abbrev pub flag_plan : ℕ → Bool → List Commit → Plan
 flag_plan w flag C = said_plan (says (told_flagged w flag) (flag_by w flag (in_commits C)))
 
+-- the plan of a deposit
 abbrev pub deposit_plan : ℕ → ℕ → ℕ → List Commit → Plan
 deposit_plan w receipt amount C = said_plan (says (told_deposited w receipt) (deposit_by w receipt amount (in_commits C)))
 
+-- the plan of a balance
 abbrev pub balance_plan : ℕ → List Commit → Plan
 balance_plan w C = said_plan (says (told_balance w) (balance_by w (in_commits C)))
 

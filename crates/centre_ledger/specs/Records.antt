@@ -21,11 +21,12 @@ last_ruling d [] = None
 last_ruling d (Ruled e n v note ∷ C) = if e == d then Some (v, note) else last_ruling d C
 last_ruling d (_ ∷ C) = last_ruling d C
 
--- the Request of the last Ruled, and no bytes where there is none
+-- the Request of the last Ruled, and no bytes before the first
 abbrev pub stored_note : Option (Verdict × List ℕ) → List ℕ
 stored_note None = []
 stored_note (Some x) = x.1
 
+-- the note, or no bytes
 abbrev pub note_or_none : Option (List ℕ) → List ℕ
 note_or_none None = []
 note_or_none (Some note) = note
@@ -53,7 +54,7 @@ device_row_with d C x = record {
   reply = note_or_none (stored_reply d C);
 }
 
--- there is none where it is not registered
+-- there is no row if it is not registered
 abbrev pub device_row : ℕ → List Commit → Option DeviceRow
 device_row d C = option_map (λ x. device_row_with d C x) (registered d C)
 
@@ -61,7 +62,7 @@ device_row d C = option_map (λ x. device_row_with d C x) (registered d C)
 abbrev pub customer_row_with : ℕ → List Commit → CustomerRow
 customer_row_with w C = record { customer = w; suspended = suspended w C; deposits = deposits w C; receipt = (receipt w C).0; amount = (receipt w C).1 }
 
--- there is none where it is not open
+-- there is no row if it is not open
 abbrev pub customer_row : ℕ → List Commit → Option CustomerRow
 customer_row w C = if opened w C then Some (customer_row_with w C) else None
 

@@ -1,4 +1,4 @@
--- What the centre's rows tell, and what they become.
+-- What the centre's rows show, and what they become.
 use Rattle.std.specs.Prelude.{◌≡◌, ℕ, ℤ, pos, ◌+◌, ◌+ℤ◌, Bool, true, false, ◌&&◌, List, Option, Some, None, Result, Ok, Err, is_some, if◌then◌else◌}
 use Rattle.bench_base.specs.declared.words.Kind.TheVariants.{Enrol, Withdraw}
 use Rattle.bench_base.specs.declared.words.Verdict.{Verdict}
@@ -30,9 +30,11 @@ customer_of (Withdrawn w) = Some w
 abbrev pub customer_number : Enrolment → ℕ
 customer_number e = own_customer (customer_of e)
 
+-- the customer of the device, if it is enrolled or was
 abbrev pub enrolled_in : DeviceRow → Option ℕ
 enrolled_in r = customer_of r.enrolment
 
+-- the device was withdrawn
 abbrev pub is_withdrawn : Enrolment → Bool
 is_withdrawn Registered = false
 is_withdrawn (Enrolled w) = false
@@ -40,6 +42,7 @@ is_withdrawn (Withdrawn w) = true
 
 -- == a ruling ==
 
+-- the customer is there, and is suspended
 abbrev pub is_suspended : Option CustomerRow → Bool
 is_suspended None = false
 is_suspended (Some c) = c.suspended
@@ -63,6 +66,7 @@ amount_shown Imbalance asked bought balance = bought
 amount_shown NoFunds asked bought balance = balance
 amount_shown _ asked bought balance = 0
 
+-- the deadline that a ruling gives: 92 days after the day of a granted reset or audit, otherwise 0
 abbrev pub deadline_after : Verdict → Request → ℤ
 deadline_after v q = if is_dated v q.kind then q.day +ℤ pos 92 else pos 0
 
@@ -79,6 +83,7 @@ reply_by r v balance q = record {
   origin = r.origin;
 }
 
+-- the enrolment after a withdrawal
 abbrev pub withdrawn_of : Enrolment → Enrolment
 withdrawn_of Registered = Registered
 withdrawn_of (Enrolled w) = Withdrawn w
@@ -106,11 +111,13 @@ ruled_row r v balance q note = record r {
 
 -- == what a Done and a deposit make of a row ==
 
+-- the row of a device after a Done, by its answer
 abbrev pub settled_row : DeviceRow → Result (Option ℕ) CentreRefusal → Result (Option DeviceRow) CentreRefusal
 settled_row r (Err x) = Err x
 settled_row r (Ok None) = Ok None
 settled_row r (Ok (Some n)) = Ok (Some (record r { settled = n }))
 
+-- the row of a customer after a deposit, by its answer
 abbrev pub deposited_row : CustomerRow → ℕ → ℕ → Result (Option ℕ) CentreRefusal → Result (Option CustomerRow) CentreRefusal
 deposited_row r receipt amount (Err x) = Err x
 deposited_row r receipt amount (Ok None) = Ok None

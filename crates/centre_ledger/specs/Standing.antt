@@ -1,4 +1,4 @@
--- What a device's row tells of its last ruling, of the one in flight, and of what is acknowledged. Amounts are in mills.
+-- What a device's row shows of its last ruling, of the one in flight, and of what is acknowledged. Amounts are in mills.
 use Rattle.std.specs.Prelude.{ℕ, ◌-◌, List, Option, Some, None, Result, Ok, nat_lt, if◌then◌else◌}
 use Rattle.bench_base.specs.declared.words.Kind.{Kind}
 use Rattle.bench_base.specs.declared.words.Verdict.{Verdict}
@@ -17,7 +17,7 @@ abbrev pub ruling_read : Result Message Unread → List ℕ → Option (Verdict 
 ruling_read (Ok (m.Reply p)) request = Some (p.verdict, request)
 ruling_read _ request = None
 
--- verdict and Request of the last ruling: the verdict stands in the Reply that is kept
+-- verdict and Request of the last ruling: the verdict is in the Reply that is kept
 unfoldable pub ruling_in : DeviceRow → Option (Verdict × List ℕ)
 ruling_in r = ruling_read (read r.reply) r.request
 
@@ -34,12 +34,12 @@ granted_in r = granted_read (read r.reply) r.request
 abbrev pub flight_in : DeviceRow → Option (Verdict × Request)
 flight_in r = if nat_lt r.settled r.ruled then granted_in r else None
 
--- what f gives of a ruling, and else this
+-- what f gives of a ruling, and otherwise this
 abbrev pub by_ruling : {A : Type 0} → A → (Verdict → Request → A) → Option (Verdict × Request) → A
 by_ruling otherwise f None = otherwise
 by_ruling otherwise f (Some x) = f x.0 x.1
 
--- kind and granted amount, as they are told
+-- kind and granted amount, as they are reported
 abbrev pub told_of : Verdict → Request → Option (Kind × ℕ)
 told_of v q = Some (q.kind, if is_granted v then q.amount else 0)
 
@@ -47,7 +47,7 @@ told_of v q = Some (q.kind, if is_granted v then q.amount else 0)
 abbrev pub flight_told : Option (Verdict × Request) → Option (Kind × ℕ)
 flight_told flight = by_ruling None told_of flight
 
--- the acknowledged resets: all buys but for the reset in flight
+-- the acknowledged resets: all buys except for the reset in flight
 abbrev pub resets_in : DeviceRow → ℕ
 resets_in r = r.buys - by_ruling 0 adds (flight_in r)
 

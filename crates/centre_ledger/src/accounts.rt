@@ -117,7 +117,7 @@ impl Accounts {
         }
     }
 
-    /// These rows, each of which is sound and in its own place. None exactly where they do not agree: where the customer
+    /// These rows, each of which is sound and in its own place. None if and only if they do not agree: where the customer
     /// of a device is not open, or a customer has less than 0.
     pub fn of(
         devices: [Option<ReadyRow>; 8],
@@ -139,7 +139,7 @@ impl Accounts {
         })
     }
 
-    /// The row of the device; None exactly where it is not registered.
+    /// The row of the device; None if and only if it is not registered.
     pub fn device(&self, device: u32) -> Option<&DeviceRow>
         ensures found { option_copied result ≡ device_at self.now device }
         ensures sound { AreSound self.now }
@@ -147,7 +147,7 @@ impl Accounts {
         Some(self.ready(device)?.row())
     }
 
-    /// The row of the device with its key made ready; None exactly where it is not registered.
+    /// The row of the device with its key made ready; None if and only if it is not registered.
     pub fn ready(&self, device: u32) -> Option<&ReadyRow>
         ensures found { option_copied result ≡ device_at self.now device }
         ensures sound { AreSound self.now }
@@ -157,7 +157,7 @@ impl Accounts {
         slots.get(place)?.as_ref()
     }
 
-    /// The row of the customer; None exactly where it is not open.
+    /// The row of the customer; None if and only if it is not open.
     pub fn customer(&self, customer: u32) -> Option<&CustomerRow>
         ensures found { option_copied result ≡ customer_at self.now customer }
         ensures sound { AreSound self.now }

@@ -55,7 +55,7 @@ fn registered_row(device: DevNo, origin: u32, key: &Key) -> DeviceRow
     }
 }
 
-/// Registers the device at the place of this postal code, under its key. `Known` exactly where it is registered.
+/// Registers the device at the place of this postal code, under its key. `Known` if and only if it is registered.
 pub fn register_act(device: DevNo, origin: u32, key: &Key, accounts: &Accounts) -> CentreAct<()>
     ensures act { result ≡ act_of.register_act device origin key.now accounts.now }
     ensures number { IsDevice device }
@@ -74,7 +74,7 @@ pub fn register_act(device: DevNo, origin: u32, key: &Key, accounts: &Accounts) 
     }
 }
 
-/// Opens the customer, without deposits. `Known` exactly where it is open.
+/// Opens the customer, without deposits. `Known` if and only if it is open.
 pub fn open_act(customer: Customer, accounts: &Accounts) -> CentreAct<()>
     ensures act { result ≡ act_of.open_act customer accounts.now }
     ensures number { IsCustomer customer }
@@ -89,7 +89,7 @@ pub fn open_act(customer: Customer, accounts: &Accounts) -> CentreAct<()>
     }
 }
 
-/// Suspends the customer or lets it buy again, also where it stands so already. `UnknownCustomer` exactly where it is
+/// Suspends the customer or lets it buy again, also where it stands so already. `UnknownCustomer` if and only if it is
 /// not open.
 pub fn flag_act(customer: Customer, suspended: bool, accounts: &Accounts) -> CentreAct<()>
     ensures { result ≡ act_of.flag_act customer suspended accounts.now }
@@ -137,7 +137,7 @@ fn taken_act(customer: Customer, receipt: u32, amount: u32, row: &CustomerRow) -
     }
 }
 
-/// Deposits the amount under this receipt: see `deposited`. `UnknownCustomer`, before its refusals, exactly where the
+/// Deposits the amount under this receipt: see `deposited`. `UnknownCustomer`, before its refusals, if and only if the
 /// customer is not open. The last deposit again commits nothing.
 pub fn deposit_act(
     customer: Customer,
@@ -153,7 +153,7 @@ pub fn deposit_act(
     }
 }
 
-/// What the customer has left, which is kept. `UnknownCustomer` exactly where it is not open.
+/// What the customer has left, which is kept. `UnknownCustomer` if and only if it is not open.
 pub fn balance_act(customer: Customer, accounts: &Accounts) -> CentreAct<u64>
     ensures { result ≡ act_of.balance_act customer accounts.now }
 {
@@ -163,7 +163,7 @@ pub fn balance_act(customer: Customer, accounts: &Accounts) -> CentreAct<u64>
     }
 }
 
-/// What the centre holds of the device. `UnknownDevice` exactly where it is not registered.
+/// What the centre holds of the device. `UnknownDevice` if and only if it is not registered.
 pub fn standing_act(device: DevNo, accounts: &Accounts) -> CentreAct<Standing>
     ensures { result ≡ act_of.standing_act device accounts.now }
 {

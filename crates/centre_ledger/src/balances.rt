@@ -46,7 +46,7 @@ fn sums_of(devices: &[Option<DeviceRow>], customer: u32) -> (u128, u128)
 }
 
 /// The balance of the customer over its devices, also over those that are withdrawn: deposits less buys plus
-/// returns. None exactly where that is below 0. There are at most eight devices.
+/// returns. None if and only if that is below 0. There are at most eight devices.
 pub fn balance_of(devices: &[Option<DeviceRow>], row: &CustomerRow) -> Option<u64>
     requires count { length devices.now ≤ 8 }
     requires devices { All (λ o. IfSome o IsSoundDevice) devices.now }
@@ -60,7 +60,7 @@ pub fn balance_of(devices: &[Option<DeviceRow>], row: &CustomerRow) -> Option<u6
     Some(balance as u64)
 }
 
-// What the customer of this row has left, and 0 where there is none; None exactly where that is below 0.
+// What the customer of this row has left, and 0 where there is none; None if and only if that is below 0.
 fn left_of(devices: &[Option<DeviceRow>], slot: &Option<CustomerRow>) -> Option<u64>
     requires count { length devices.now ≤ 8 }
     requires devices { All (λ o. IfSome o IsSoundDevice) devices.now }
@@ -82,7 +82,7 @@ impl Balances {
         Balances { left: [0; 64] }
     }
 
-    /// The balances by the rows of all devices and customers, each row of a customer in its place. None exactly where
+    /// The balances by the rows of all devices and customers, each row of a customer in its place. None if and only if
     /// a customer that is there has less than 0.
     pub fn of(devices: &[Option<DeviceRow>], customers: &[Option<CustomerRow>]) -> Option<Balances>
         requires device_count { length devices.now ≡ 8 }

@@ -23,7 +23,7 @@ impl CustomerRow {
         bytes
     }
 
-    /// The row of this customer that the bytes read as; None exactly where they read as none.
+    /// The row of this customer that the bytes read as; None if and only if they read as none.
     pub fn read_payload(customer: Customer, payload: &[u8; 192]) -> Option<CustomerRow>
         ensures found { IfSome result (λ r. (r.customer ≡ customer) × CustomerReadsAs payload.now r) }
         ensures none { IfNone result ((r : TheRow) → r.customer ≡ customer → CustomerReadsAs payload.now r → ⊥) }

@@ -6,7 +6,7 @@ ghost use Rattle.centre_ledger.specs.PayloadLaws.{PayloadLaws};
 /// The rows of the centre follow from the commits:
 ///
 /// - `devices` and `customers`: after each commit they are those of the commits and that one;
-/// - `slots`: there is a row of a device exactly where it is registered, and of a customer exactly where it is open;
+/// - `slots`: there is a row of a device if and only if it is registered, and of a customer if and only if it is open;
 /// - `order`: the commit that a call's refusals leave comes in order;
 /// - `sound`: each new row meets the conditions of a row;
 /// - `rulings`: what the rows say of a verdict, of its reply, of the customer who pays and of a balance is what follows from the

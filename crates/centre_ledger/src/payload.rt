@@ -41,7 +41,7 @@ impl DeviceRow {
         )
     }
 
-    /// The row of this device that the bytes read as, in version 1 or 2; None exactly where they read as none.
+    /// The row of this device that the bytes read as, in version 1 or 2; None if and only if they read as none.
     pub fn read_payload(device: DevNo, payload: &[u8; 192]) -> Option<DeviceRow>
         ensures found { IfSome result (λ r. (r.device ≡ device) × DeviceReadsAs payload.now r) }
         ensures none { IfNone result ((r : TheRow) → r.device ≡ device → DeviceReadsAs payload.now r → ⊥) }
@@ -95,7 +95,7 @@ fn read_second(device: DevNo, payload: &[u8]) -> Option<ReadyRow>
     with_messages(&row, 2, &payload[69..124], &payload[124..152])
 }
 
-// What a state and the number of a customer tell together; None exactly where they are those of no enrolment.
+// What a state and the number of a customer tell together; None if and only if they are those of no enrolment.
 fn enrolment_of(state: u8, customer: u32) -> Option<Enrolment>
     ensures found { IfSome result (IsToldBy state customer) }
     ensures none { IfNone result ((e : TheEnrolment) → IfSome (customer_of e) IsCustomer → IsToldBy state customer e → ⊥) }

@@ -85,7 +85,7 @@ fn is_suspended(customer: Option<&CustomerRow>) -> bool
 
 /// The verdict on a request of the device.
 ///
-/// The customer is the row of the one that an enrolment names, and else of the device's own customer. The
+/// The customer is the row of the one that an enrolment names, and otherwise of the device's own customer. The
 /// balance, in mills, is that of the device's own customer, and 0 where it has none. The first that holds:
 /// `NotEnrolled` for all but an enrolment of a device that isn't enrolled, or no longer; `EnrolledAlready` for an
 /// enrolment of one that was; `Imbalance` where the request disagrees with what was granted before; `NoCustomer`

@@ -15,7 +15,7 @@ pub const DEPOSITS_LIMIT: u64 = 1_000_000_000_000_000;
 
 /// The row after the transaction of this number is done; None where it was settled already.
 ///
-/// `Ahead`, with the greatest number that was ruled on, exactly where the number is above that.
+/// `Ahead`, with the greatest number that was ruled on, if and only if the number is above that.
 pub fn settled(row: &DeviceRow, number: u32) -> Result<Option<DeviceRow>, CentreRefusal>
     requires sound { IsSoundDevice row.now }
     ensures exact { result ≡ settled_row row.now (settle_answer row.now.settled row.now.ruled number) }

@@ -1,4 +1,4 @@
-//! What a device's row tells of its last ruling, of the one in flight, and of what is acknowledged. Amounts are in mills.
+//! What a device's row shows of its last ruling, of the one in flight, and of what is acknowledged. Amounts are in mills.
 ghost use Rattle.std.specs.Prelude.{◌≡◌, ◌-◌, Some, None, if◌then◌else◌};
 ghost use Rattle.bench_base.specs.Kinds as kinds;
 ghost use Rattle.ledger_terms.specs.Requests.{request_in};

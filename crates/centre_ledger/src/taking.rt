@@ -52,7 +52,7 @@ fn is_own_code(bytes: &[u8], key: &ReadyKey) -> bool
     code_matches_by(bytes, key)
 }
 
-// The customer who pays: the one asked for at an enrolment, else the device's own.
+// The customer who pays: the one asked for at an enrolment, otherwise the device's own.
 #[tactic(auto, unfolding(bench_base::specs::Kinds::same_kind))]
 fn payer(row: &DeviceRow, request: &Request) -> u32
     ensures { result ≡ rulings.payer request.now (enrolled_in row.now) }
@@ -173,8 +173,8 @@ fn done_act(bytes: &[u8], done: &DoneMsg, accounts: &Accounts) -> CentreAct<Cent
 }
 
 /// Takes a Request, of either version, or a Done. The first refusal that holds: `Unread` of `read_message`; `Unread` with
-/// `Tag` for another message; `UnknownDevice`, with its number, exactly where the device is not registered; `BadCode`
-/// exactly where the code does not match under the device's key; for a Request those of `is_repeat`; for a Done those of
+/// `Tag` for another message; `UnknownDevice`, with its number, if and only if the device is not registered; `BadCode`
+/// if and only if the code does not match under the device's key; for a Request those of `is_repeat`; for a Done those of
 /// `settled`. A Request that is the last one again gets the reply that is kept, and a Done that was settled before is
 /// told so, both without a commit; another Request is ruled as `verdict` and `ruled` say, in one commit.
 pub fn take_act(bytes: &[u8], accounts: &Accounts) -> CentreAct<CentreAnswer>

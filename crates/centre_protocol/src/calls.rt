@@ -1,6 +1,6 @@
 //! The calls of the centre. Money is in mills.
 //!
-//! A call that commits answers `Store` with `Failed`, before every refusal, exactly where an earlier call of this value
+//! A call that commits answers `Store` with `Failed`, before every refusal, if and only if an earlier call of this value
 //! answered Power or Fault; after every refusal it answers Power or Fault where its commit failed, and Worn where the cell
 //! of the row has 4,294,967,295 commits. A refusal, Worn, and an answer that needs no commit leave the centre and its
 //! storage as they were. The others never answer `Store`.
@@ -30,7 +30,7 @@ impl<N: Nv> Centre<N> {
         self.perform(act)
     }
 
-    /// Registers the device at the place of this postal code, under its key. `Known` exactly where it is registered.
+    /// Registers the device at the place of this postal code, under its key. `Known` if and only if it is registered.
     pub fn register(&mut self, device: DevNo, origin: u32, key: &Key) -> Result<(), CentreFail>
         ensures { Performs (act_of.register_act device origin key.now (books_of self.old)) self.old self.new result }
     {
@@ -38,7 +38,7 @@ impl<N: Nv> Centre<N> {
         self.perform(act)
     }
 
-    /// Opens the customer, without deposits. `Known` exactly where it is open.
+    /// Opens the customer, without deposits. `Known` if and only if it is open.
     pub fn open_customer(&mut self, customer: Customer) -> Result<(), CentreFail>
         ensures { Performs (act_of.open_act customer (books_of self.old)) self.old self.new result }
     {
@@ -60,7 +60,7 @@ impl<N: Nv> Centre<N> {
     }
 
     /// Suspends the customer or lets it buy again; it commits also where the customer stands so already. `UnknownCustomer`
-    /// exactly where it is not open.
+    /// if and only if it is not open.
     pub fn flag(&mut self, customer: Customer, suspended: bool) -> Result<(), CentreFail>
         ensures { Performs (act_of.flag_act customer suspended (books_of self.old)) self.old self.new result }
     {
@@ -68,14 +68,14 @@ impl<N: Nv> Centre<N> {
         self.perform(act)
     }
 
-    /// What the customer has left, in mills. `UnknownCustomer` exactly where it is not open.
+    /// What the customer has left, in mills. `UnknownCustomer` if and only if it is not open.
     pub fn balance(&self, customer: Customer) -> Result<u64, CentreFail>
         ensures { result ≡ answer_of (act_of.balance_act customer (books_of self.now)) }
     {
         answer(balance_act(customer, self.accounts()))
     }
 
-    /// What the centre holds of the device: see `Standing`. `UnknownDevice` exactly where it is not registered.
+    /// What the centre holds of the device: see `Standing`. `UnknownDevice` if and only if it is not registered.
     pub fn standing(&self, device: DevNo) -> Result<Standing, CentreFail>
         ensures { result ≡ answer_of (act_of.standing_act device (books_of self.now)) }
     {

@@ -93,7 +93,7 @@ impl<N: Nv> Centre<N> {
         self.rows.commits()
     }
 
-    /// The commit that a call of this value which answered Power or Fault would have added; None exactly where no call did.
+    /// The commit that a call of this value which answered Power or Fault would have added; None if and only if no call did.
     pub fn torn(&self) -> Option<Commit>
         ensures { result ≡ torn_of self.now }
     {

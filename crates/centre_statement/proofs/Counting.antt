@@ -265,7 +265,7 @@ shown_is k C (Some c) own (inr more) =
 within_64 : (k n : ℕ) → k < 2 ^ 64 → k ≡ n → k ≡ min n (2 ^ 64 - 1)
 within_64 k n small is = omega (arith, small, is)
 
--- the desk finds one more exactly where the ledger does
+-- the desk finds one more if and only if the ledger does
 same_test : (k commits count : ℕ) → k < 2 ^ 64 → commits ≡ min count (2 ^ 64 - 1) → (k == commits + 1) ≡ (k == count + 1)
 same_test k commits count small is = elim (cases_eq k (count + 1)) [
   | inl more ↦ let too : k ≡ commits + 1 = omega (arith, small, is, more) in eq-eqb k (commits + 1) too ∙ sym (eq-eqb k (count + 1) more)

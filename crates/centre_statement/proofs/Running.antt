@@ -70,7 +70,7 @@ module _ {D : Type 0} (l : Lines D) where
 
 -- == what was done ==
 
--- at the beginning the bench stands for the ledger
+-- at the beginning the bench represents the ledger
 stands_first : (n : Nodes) (τ : Tariff) (L : Ledger) (old new : SceneOf n) (deeds : List Done) (did : DidEvents n old new deeds) → Throughout n τ L old new deeds did → StandsFor n τ old.bench L
 stands_first n τ L old new [] did through = through.stands
 stands_first n τ L old new (d ∷ rest) did through = through.0.stands

@@ -16,7 +16,7 @@ use Rattle.centre_statement.specs.Ran.{DidStatements}
 use Rattle.centre_statement.specs.declared.desk.StatementDesk.{StatementDesk}
 use Rattle.centre_statement.specs.declared.lines.OwnLine.{OwnLine}
 
--- A desk that had seen nothing, and a bench that stood for the empty ledger, did the deeds: all that is said of a run with statements by a history is so.
+-- A desk that had seen nothing, and a bench that represented the empty ledger, did the deeds: all that is said of a run with statements by a history is so.
 pub record DidFreshStatements (n : Nodes) (old new : SceneOf n) (outcome : SideStatus) (deeds : List (SideDeed OwnLine)) : Type 0 where
   pub before : StatementDesk
   pub after : StatementDesk

@@ -99,7 +99,7 @@ fn read_behind(line: &[u8], rest: &[u8]) -> Option<OwnLine>
     }
 }
 
-/// The line of the desk that the bytes are; None exactly where they are none.
+/// The line of the desk that the bytes are; None if and only if they are none.
 pub fn read_own_line(line: &[u8]) -> Option<OwnLine>
     ensures found { IfSome result (λ own. IsOwnLine own line.now) }
     ensures none { IfNone result ((own : TheLine) → IsOwnLine own line.now → ⊥) }

@@ -9,7 +9,7 @@ use Rattle.script_text.specs.Told.{IsWholeReply}
 use Rattle.line_runs.specs.Lines.{ended}
 use Rattle.desk_runs.specs.Events.{IsLineOf}
 
--- what was done in one event: the text that it took of the rates, which is empty but for a `rates`, the reply, and what the printer took
+-- what was done in one event: the text that it took of the rates, which is empty except for a `rates`, the reply, and what the printer took
 pub record Done : Type 0 where
   pub event : Event
   pub text : List ℕ
@@ -30,6 +30,7 @@ done_in [] = []
 done_in (Skipped line ∷ rest) = done_in rest
 done_in (Did line d ∷ rest) = d ∷ done_in rest
 
+-- the line of a deed
 abbrev pub line_in : Deed → List ℕ
 line_in (Skipped line) = line
 line_in (Did line d) = line

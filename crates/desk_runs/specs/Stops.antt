@@ -61,13 +61,13 @@ module _ {N R : Type 0} (g : Ghosts N) (decoded : ℕ → List ℕ → Option R)
 
   -- Whether a commit failed, and which; why; and what each image of the storage shows, which has cells of this size.
   pub record LeavesStorage {L : Type 0} (size cells : ℕ) (old new : DeskView N) (outcome : SideStatus) (deeds : List (SideDeed L)) (commit : Option (RowCommit R)) : Type 0 where
-    -- the run was stopped exactly where one failed
+    -- the run was stopped if and only if one failed
     pub stops : (outcome ≡ Stopped) ↔ HasBroken deeds
     pub which : (outcome ≡ Stopped) ↔ IsSome commit
     pub failed : (new.failed ≡ true) ↔ ((old.failed ≡ true) ⊎ (outcome ≡ Stopped))
     -- where one had failed before, this one answered Failed, and nothing was written
     pub before : old.failed ≡ true → IsUntouched old new
-    -- else it answered Power, where power was cut, or Fault, where the count of faults rose
+    -- otherwise it answered Power, where power was cut, or Fault, where the count of faults rose
     pub why : old.failed ≡ false → outcome ≡ Stopped → WasCut (meters_seen old) (meters_seen new) ⊎ Rose (meters_seen old).faults (meters_seen new).faults
     -- each image shows the rows, or those with the commit that failed
     pub shows : g.tells → old.failed ≡ false → (c : List ℕ) → Image (g.times new.storage) c

@@ -48,7 +48,7 @@ impl Generator {
         }
     }
 
-    /// The next event; None exactly where none is left.
+    /// The next event; None if and only if none is left.
     pub fn next(&mut self) -> Option<Event>
         ensures next { MatchOption result ((self.old ≡ []) × (self.new ≡ [])) (λ e. self.old ≡ e ∷ self.new) }
     {

@@ -26,7 +26,7 @@ abbrev pub Either : Bool → Type 0 → Type 0 → Type 0
 Either true one other = one
 Either false one other = other
 
--- what follows a commit by how it ended: after Ok what was meant to, at a worn cell that answer, and else the end of the run
+-- what follows a commit by how it ended: after Ok what was meant to, at a worn cell that answer, and otherwise the end of the run
 abbrev pub Follows : Result (Unit {0}) StoreFail → Said → Said → Next → Type 0
 Follows (Ok done) meant now next = (now ≡ meant) × (next ≡ Say)
 Follows (Err fail.Worn) meant now next = (now ≡ said.Worn) × (next ≡ Say)

@@ -26,7 +26,7 @@ use Rattle.host_departments.specs.declared.row.DepartmentLine.{DepartmentLine}
 abbrev pub KeepsNone : {N : Type 0} {own : nv.Ghosts N} → Departments N own → Type 0
 KeepsNone desk = (k : ℕ) → row_in (rows_of desk) k ≡ None
 
--- Departments without a quota and a job, and a bench that stood for the empty ledger, did the deeds: all that is said of a run with departments by a history
+-- Departments without a quota and a job, and a bench that represented the empty ledger, did the deeds: all that is said of a run with departments by a history
 -- is so.
 pub record DidFreshDepartments (n : Nodes) {N : Type 0} (own : nv.Ghosts N) (old new : SceneOf n) (outcome : SideStatus) (deeds : List (SideDeed DepartmentLine)) : Type 0 where
   pub before : Departments N own

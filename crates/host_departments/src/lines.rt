@@ -158,7 +158,7 @@ fn read_behind(line: &[u8], word: &[u8], rest: &[u8]) -> Option<DepartmentLine>
     None
 }
 
-/// The line about departments that the bytes are, or the `print`; None exactly where they are neither.
+/// The line about departments that the bytes are, or the `print`; None if and only if they are neither.
 pub fn read_department_line(line: &[u8]) -> Option<DepartmentLine>
     ensures found { IfSome result (λ own. IsDepartmentLine own line.now) }
     ensures none { IfNone result ((own : TheLine) → IsDepartmentLine own line.now → ⊥) }

@@ -28,6 +28,7 @@ record_by j C (Some b) (Some s) = Some (record {
 })
 record_by j C _ _ = None
 
+-- the row of a job after these commits
 abbrev pub record_of : ℕ → List Commit → Option JobRow
 record_of j C = record_by j C (job_of j C) (state_of j C)
 

@@ -1,4 +1,4 @@
--- The rows of the host's cells: what stands in each, and what they tell together.
+-- The rows of the host's cells: what each has, and what they show together.
 use Rattle.std.specs.Prelude.{ℕ, ◌+◌, ◌-◌, ◌%◌, Bool, true, false, ◌&&◌, List, [], ◌∷◌, Option, Some, None, option_map, get_or, set, max, ◌==◌, if◌then◌else◌}
 use Rattle.bench_base.specs.declared.words.JobState.{JobState}
 use Rattle.bench_base.specs.declared.words.JobState.TheVariants as state

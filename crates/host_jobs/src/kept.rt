@@ -49,7 +49,7 @@ pub fn cell_of(job: u32) -> u32
 }
 
 impl JobRows {
-    /// Takes the memory. No job is there. AllocError is want of memory.
+    /// Takes the memory. No job is there. AllocError is lack of memory.
     pub fn new(alloc: Global) -> Result<JobRows, AllocError>
         ensures { IfOk result (λ rows. rows ≡ no_jobs) }
     {

@@ -13,7 +13,7 @@ const CELLS: u32 = 1024;
 /// What the host holds when a piece of a device is ordered.
 #[derive(Clone, Copy)]
 pub struct Shelf {
-    /// The last job, from 1; 0 where there is none.
+    /// The last job, from 1; 0 before the first.
     pub last: u32,
     /// The device's job that is ordered and neither held nor closed.
     pub open_job: Option<u32>,

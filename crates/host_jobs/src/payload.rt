@@ -28,7 +28,7 @@ impl JobRow {
         )
     }
 
-    /// The job of this cell that the bytes read as; None exactly where they read as none.
+    /// The job of this cell that the bytes read as; None if and only if they read as none.
     pub fn read_payload(cell: u32, payload: &[u8; 115]) -> Option<JobRow>
         ensures found { IfSome result (λ r. (cell_of r.job ≡ cell) × JobReadsAs payload.now r) }
         ensures none { IfNone result ((r : TheRow) → cell_of r.job ≡ cell → JobReadsAs payload.now r → ⊥) }

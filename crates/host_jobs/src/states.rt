@@ -1,4 +1,4 @@
-//! What may be done with a job in its state. `NoJob` where no cell holds the job, else `State` with the job's state.
+//! What may be done with a job in its state. `NoJob` where no cell holds the job, otherwise `State` with the job's state.
 ghost use Rattle.std.specs.Prelude.{◌≡◌};
 ghost use Rattle.host_jobs.specs.Answers.{send_answer, print_answer, close_answer};
 

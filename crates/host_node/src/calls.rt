@@ -1,6 +1,6 @@
 //! The calls of the host. Postage is in mills.
 //!
-//! A call that commits answers `Store` with `Failed`, before every refusal, exactly where an earlier call of this value
+//! A call that commits answers `Store` with `Failed`, before every refusal, if and only if an earlier call of this value
 //! answered Power or Fault; after every refusal it answers Power or Fault where its commit failed, and Worn where the cell
 //! of the job has 4,294,967,295 commits. A refusal and Worn leave the host and its storage as they were. The others never
 //! answer `Store`.

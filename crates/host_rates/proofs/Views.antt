@@ -1,4 +1,4 @@
--- Tables and arrays of a document, beside the data that they stand for.
+-- Tables and arrays of a document, beside the data that they represent.
 use Rattle.std.proofs.Common.{◌≡◌, ℕ, suc, ◌+◌, ◌<◌, ◌≤◌, List, [], ◌∷◌, ◌++◌, length, drop, Option, Some, None, option_map, option_and_then, Result, Ok, Err, IsErrAnd, refl, sym, ◌∙◌, ap, add-one}
 use Rattle.std.proofs.Math.ListN.{get_or, drop_of_length-le}
 use Rattle.std.proofs.Math.Seq.{drop-cons}

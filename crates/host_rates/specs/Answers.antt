@@ -12,6 +12,7 @@ AreRatesOf text r = rates_of text ≡ Some r
 
 -- == the answer of a reading ==
 
+-- the rates of a document, or which of the two faults it has: no TOML, or not the form
 abbrev pub answer_of : {F : Type 0} → F → F → Option Members → Result RateTable F
 answer_of no_toml no_form None = Err no_toml
 answer_of no_toml no_form (Some ms) = ok_or (rates_in ms) no_form
@@ -29,7 +30,7 @@ abbrev pub UnlessMemory : {A : Type 0} → Result A RatesFail → Result A Rates
 UnlessMemory (Err (fail.Memory _)) x = Unit {0}
 UnlessMemory r x = r ≡ x
 
--- what was read of a part, seen as `view` says, is this; Form says that there is nothing, and want of memory says nothing
+-- what was read of a part, seen as `view` says, is this; Form says that there is nothing, and lack of memory says nothing
 abbrev pub Reads : {A B : Type 0} → (A → B) → Result A RatesFail → Option B → Type 0
 Reads view (Ok a) x = x ≡ Some (view a)
 Reads view (Err fail.Form) x = x ≡ None

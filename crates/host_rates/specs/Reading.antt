@@ -22,10 +22,12 @@ abbrev pub whole : ℕ → Data → Option ℕ
 whole greatest (integer (pos n)) = where_holds (nat_le 1 n && nat_le n greatest) n
 whole greatest _ = None
 
+-- how many keys a table has
 abbrev pub key_count : Members → ℕ
 key_count no_members = 0
 key_count (member k d ms) = suc (key_count ms)
 
+-- the two of them, if both are there
 abbrev pub both : {A B : Type 0} → Option A → Option B → Option (A × B)
 both None o = None
 both (Some a) o = option_map (λ b. (a, b)) o
@@ -34,6 +36,7 @@ both (Some a) o = option_map (λ b. (a, b)) o
 abbrev pub two_in : List ℕ → List ℕ → Members → Option (Data × Data)
 two_in k l ms = if key_count ms == 2 then both (get_member k ms) (get_member l ms) else None
 
+-- the values of these two keys, if this is a table that has them and no others
 abbrev pub two : List ℕ → List ℕ → Data → Option (Data × Data)
 two k l (table ms) = two_in k l ms
 two k l _ = None
@@ -58,6 +61,7 @@ is_few xs = nat_le 1 (length xs) && nat_le (length xs) 64
 abbrev pub mills_of : ℕ → Data → Option (List ℕ)
 mills_of zones d = listed (whole 100000) d >>= (λ ms. where_holds (length ms == zones) ms)
 
+-- a step of weight: a limit in grams, and a price in mills for each zone
 abbrev pub step_of : ℕ → Data → Option StepTable
 step_of zones d = two (codes "grams") (codes "mills") d
     >>= (λ p. both (whole 100000 p.0) (mills_of zones p.1))
@@ -68,14 +72,17 @@ abbrev pub rises_above : ℕ → List StepTable → Bool
 rises_above grams [] = true
 rises_above grams (s ∷ steps) = nat_lt grams s.grams && rises_above s.grams steps
 
+-- a few steps, each heavier than the one before
 abbrev pub steps_of : ℕ → Data → Option (List StepTable)
 steps_of zones d = listed (step_of zones) d >>= (λ steps. where_holds (is_few steps && rises_above 0 steps) steps)
 
+-- a class of mail: its number and its steps
 abbrev pub class_of : ℕ → Data → Option ClassTable
 class_of zones d = two (codes "number") (codes "steps") d
     >>= (λ p. both (whole 65535 p.0) (steps_of zones p.1))
     >>= (λ q. Some (record { number = q.0; steps = q.1 }))
 
+-- one of the classes has this number
 abbrev pub has_number : ℕ → List ClassTable → Bool
 has_number n cs = list_any (λ c. c.number == n) cs
 
@@ -84,6 +91,7 @@ abbrev pub differ : List ClassTable → Bool
 differ [] = true
 differ (c ∷ cs) = not (has_number c.number cs) && differ cs
 
+-- a few classes, no two of one number
 abbrev pub classes_of : ℕ → Data → Option (List ClassTable)
 classes_of zones d = listed (class_of zones) d >>= (λ cs. where_holds (is_few cs && differ cs) cs)
 

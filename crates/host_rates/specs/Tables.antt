@@ -8,10 +8,12 @@ pub record StepTable : Type 0 where
   pub grams : ℕ
   pub mills : List ℕ
 
+-- a class of mail: its number, and its steps from light to heavy
 pub record ClassTable : Type 0 where
   pub number : ℕ
   pub steps : List StepTable
 
+-- all rates: how many zones there are, and the classes
 pub record RateTable : Type 0 where
   pub zones : ℕ
   pub classes : List ClassTable
@@ -22,7 +24,7 @@ pub record RateTable : Type 0 where
 abbrev pub class_numbered : ℕ → RateTable → Option ClassTable
 class_numbered n r = find (λ c. c.number == n) r.classes
 
--- the first step whose grams are at least the weight
+-- the first step that goes up to the weight
 abbrev pub step_for : ℕ → List StepTable → Option StepTable
 step_for grams steps = find (λ s. nat_le grams s.grams) steps
 
@@ -30,10 +32,12 @@ step_for grams steps = find (λ s. nat_le grams s.grams) steps
 abbrev pub max_grams : List StepTable → ℕ
 max_grams steps = slice_index (map (λ s. s.grams) steps) (length steps - 1)
 
+-- the price in the zone by the step that was found; without a step the piece is too heavy
 abbrev pub step_price : ℕ → List StepTable → Option StepTable → Result ℕ RateRefusal
 step_price zone steps None = Err (no.TooHeavy (max_grams steps))
 step_price zone steps (Some s) = Ok (slice_index s.mills (zone - 1))
 
+-- the price by the class that was found, unless the rates don't have the zone
 abbrev pub class_price : ℕ → ℕ → ℕ → Option ClassTable → Result ℕ RateRefusal
 class_price grams zone zones None = Err no.NoClass
 class_price grams zone zones (Some c) =

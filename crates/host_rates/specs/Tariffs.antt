@@ -6,14 +6,16 @@ use Rattle.host_rates.specs.Tables.{RateTable, price_in}
 use Rattle.host_rates.specs.Reading.{rates_of}
 use Rattle.host_rates.specs.Answers.{AreRatesOf, rates_or}
 
+-- how many classes and zones rates have that were read, or why they were not
 abbrev pub sizes_of : {F : Type 0} → Result RateTable F → Result (ℕ × ℕ) F
 sizes_of (Err fault) = Err fault
 sizes_of (Ok r) = Ok (length r.classes, r.zones)
 
--- how many classes and zones the text has; else no_toml where it is no document, and no_form where that is no rate file
+-- how many classes and zones the text has; otherwise no_toml if it is no document, and no_form if that is no rate file
 abbrev pub reading : {F : Type 0} → F → F → List ℕ → Result (ℕ × ℕ) F
 reading no_toml no_form text = sizes_of (rates_or no_toml no_form text)
 
+-- the price of a piece by the rates that are there
 abbrev pub price_by : ℕ → ℕ → ℕ → Option RateTable → Result ℕ RateRefusal
 price_by class grams zone None = Err NoClass
 price_by class grams zone (Some r) = price_in class grams zone r

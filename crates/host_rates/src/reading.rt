@@ -194,9 +194,9 @@ fn rates(alloc: Global, table: &Table) -> Result<Rates, RatesFail>
 
 /// The rates of a text in TOML.
 ///
-/// `Length` exactly where it has more than 65,536 bytes, with their number; `Toml` exactly where it is then no UTF-8 or no
-/// document; `Form` exactly where the document is no rate file. `Memory` may come in place of `Toml`, `Form` and the
-/// rates, and is want of memory.
+/// `Length` if and only if it has more than 65,536 bytes, with their number; `Toml` if and only if it is then no UTF-8 or no
+/// document; `Form` if and only if the document is no rate file. `Memory` may come in place of `Toml`, `Form` and the
+/// rates, and is lack of memory.
 pub fn read_rates(alloc: Global, text: &[u8]) -> Result<Rates, RatesFail>
     ensures exact { UnlessMemory result (answer text.now) }
     ensures long { 65536 < length text.now → result ≡ Err (Length (length text.now)) }

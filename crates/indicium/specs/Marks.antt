@@ -19,6 +19,7 @@ mark_fields version =
 abbrev pub mark_table : ℕ → List Size
 mark_table version = One ∷ One ∷ mark_fields version
 
+-- the numbers of a mark, field by field
 abbrev pub mark_values : Mark → List ℕ
 mark_values m = m.version ∷ 1 ∷ m.device ∷ m.piece ∷ m.postage ∷ m.ascending ∷ m.descending ∷ cast_unsigned w32 m.day ∷ m.origin ∷ m.class ∷ []
 
@@ -50,6 +51,7 @@ pub record IsWhole (m : Mark) : Type 0 where
   pub fit : Fit (mark_table m.version) (mark_values m)
   pub day : FitsSigned w32 m.day
 
+-- the mark in these bytes
 unfoldable pub mark_at : List ℕ → Mark
 mark_at bytes = mark_from (values 0 (mark_table (get_or bytes 0 0)) bytes)
 

@@ -183,7 +183,7 @@ module _ (P : ℕ → ℕ → ℕ → Type 0) where
   torn_each None m H brings all = all
   torn_each (Some c) m H brings all = entry_each (e.Torn m c) H brings all
 
-  -- whatever the event is told as
+  -- whatever the event is reported as
   pub told_each : (p : Plan) (t : Told) (H : Ledger) → PlanBrings p → Each H → Each (after_told p t H)
   told_each p Did H brings all = added_each p.after _ brings.1 (commit_each p.commit H brings.0 all)
   told_each p Refused H brings all = added_each p.after _ brings.1 (commit_each p.commit H brings.0 all)

@@ -11,6 +11,6 @@ pub record IsOrderedFor (d j : ℕ) (C : List Commit) : Type 0 where
   pub device_is : at.device ≡ d
   pub state_is : state_of j C ≡ Some state.Ordered
 
--- A JOB OF A DEVICE IS OPEN exactly where its state is Ordered
+-- A JOB OF A DEVICE IS OPEN if and only if its state is Ordered
 abbrev pub OpenByStates : List Commit → Type 0
 OpenByStates C = (d j : ℕ) → (open_job d C ≡ Some j) ↔ IsOrderedFor d j C

@@ -54,7 +54,7 @@ pub enum Mark {
     Unkeyed,
 }
 
-/// A ledger: the first entries of the path but for one, and what comes after them.
+/// A ledger: the first entries of the path except for one, and what comes after them.
 pub struct Case {
     pub name: &'static str,
     /// In which version the path is.
@@ -447,7 +447,7 @@ fn commit_of(step: Step) -> Option<Commit> {
     Some(commit)
 }
 
-/// The entry that a step stands for.
+/// The entry that a step represents.
 pub fn entry_of(version: Version, step: Step) -> Entry {
     if let Some(commit) = commit_of(step) {
         return Entry::Commit(commit);

@@ -311,7 +311,7 @@ fn accounts(commits: &[Commit]) -> bool
     true
 }
 
-/// Registers: what a device has is what the centre granted and knows to be applied, but for the one ruling in flight.
+/// Registers: what a device has is what the centre granted and knows to be applied, except for the one ruling in flight.
 pub(crate) fn registers(commits: &[Commit]) -> bool
     ensures { IsTrue result ↔ Registers (reverse commits.now) }
 {

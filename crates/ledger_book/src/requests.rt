@@ -1,4 +1,4 @@
-//! Which Request a number of a device stands for.
+//! The Request that has a number of a device.
 ghost use Rattle.std.specs.Prelude.{◌≡◌, ◌<◌, ◌^◌, [], ◌∷◌, reverse};
 ghost use Rattle.ledger_terms.specs.Requests.{request_in, note_of, request_of, no_request};
 

@@ -79,7 +79,7 @@ request_in_read note q h = ap request_or_none h
 bytes_eq_same : (xs : List ℕ) → bytes_eq xs xs ≡ true
 bytes_eq_same xs = (bytes_eq-Decides xs xs).1 refl
 
--- an amount in a Reply is 0, the Request's, or a balance below it; but for a disagreement of the sums
+-- an amount in a Reply is 0, the Request's, or a balance below it; except for a disagreement of the sums
 amount_le : (a : Account) (q : Request) → is_imbalance (verdict_by a q).0 ≡ false → (verdict_by a q).1 ≤ q.amount
 unfolding verdict_by
 amount_le a q = first_that (λ (x : Verdict × ℕ). is_imbalance x.0 ≡ false → x.1 ≤ q.amount) (verdict_rows a q) (Granted, q.amount)

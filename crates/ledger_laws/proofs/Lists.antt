@@ -1,4 +1,4 @@
--- What was applied is the beginning of what was ruled, but for at most one ruling. The lists have the newest first, so their
+-- What was applied is the beginning of what was ruled, except for at most one ruling. The lists have the newest first, so their
 -- beginning in time is their end.
 
 use Rattle.std.proofs.Common.{◌≡◌, ℕ, ◌+◌, ◌≤◌, List, [], ◌∷◌, ◌++◌, Option, Some, refl, sym, ap, subst, ◌∙◌, arith}

@@ -278,7 +278,7 @@ module _ (ρ : Rules) where
   pub flight_before : (f : Verdict → Request → ℕ) (d : ℕ) (C : List Commit) → Good ρ C → number d C ≤ settled d C → flight f d C ≡ 0
   flight_before f d C g h = flight_none f (applied_of d (settled d C + 1) C) (in_flight d C) (λ v e. let le = applied_le ρ d (settled d C + 1) v C g e in omega arith)
 
-  -- ascending and descending are the acknowledged resets less the acknowledged refunds, but for the one in flight
+  -- ascending and descending are the acknowledged resets less the acknowledged refunds, except for the one in flight
   pub record Account (ascending descending resets refunds adds takes : ℕ) : Type 0 where
     pub equal : ascending + descending + (refunds + takes) ≡ resets + adds
 

@@ -59,7 +59,7 @@ Enrolled : Option (ℕ × List ℕ) → Bool → Type 0
 Enrolled None e = Unit {0}
 Enrolled (Some p) e = same_kind (request_in p.1).kind Enrol ≡ false → e ≡ true
 
--- an audit was applied only after an enrolment, and so was what is pending but for an enrolment
+-- an audit was applied only after an enrolment, and so was what is pending except for an enrolment
 record Staged (w : Option (ℕ × List ℕ)) (audit enrol : Bool) : Type 0 where
   audited : audit ≡ true → enrol ≡ true
   pends : Enrolled w enrol

@@ -1,5 +1,5 @@
 -- The acknowledged refunds are never more than the acknowledged resets: without the last transaction that was applied, a
--- device had cleared no more than it had loaded. And what was loaded is the beginning of what was bought, but for at most one
+-- device had cleared no more than it had loaded. And what was loaded is the beginning of what was bought, except for at most one
 -- amount of resets and refunds together.
 use Rattle.std.proofs.Common.{◌≡◌, ℕ, ◌+◌, ◌<◌, ◌≤◌, Bool, true, false, List, [], ◌∷◌, ◌++◌, length, Some, cond, ⊎_elim, sym, ap, subst, ◌∙◌, arith}
 use Rattle.std.specs.Prelude.{◌&&◌}

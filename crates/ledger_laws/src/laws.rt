@@ -23,7 +23,7 @@ ghost use Rattle.ledger_laws.specs.Laws.{ForHistories, Holds};
 /// - `linked`: device and centre are never further apart than the link allows;
 /// - `balanced`: no ruling is that the sums disagree;
 /// - `sane`: no event is answered `ahead`, `changed`, `stray` or `damaged`;
-/// - `begins`: what a device applied is the beginning of what the centre ruled, but for at most one amount;
+/// - `begins`: what a device applied is the beginning of what the centre ruled, except for at most one amount;
 /// - `covered`: no more is acknowledged as refunded than as bought;
 /// - `paid`: each accepted piece was debited before, all of them for no more than was franked, and what was franked was bought;
 /// - `fitting` and `sent`: each number of a commit fits its field, and each message that was sent is read

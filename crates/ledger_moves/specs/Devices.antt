@@ -32,13 +32,15 @@ record_with d C key = option_map (λ k. state_of d k C) key
 abbrev pub record_in : ℕ → List Commit → Option State
 record_in d C = record_with d C (key_of d C)
 
--- the plan of an act of device d, by how it is replied to where it is done, and what is told then
+-- the plan of an act of device d, by its reply and its entries if it is done
 abbrev pub planned : {A : Type 0} → ℕ → (A → Reply) → (A → List Entry) → DeviceAct A → Plan
 planned d reply tell act = plan_of (r.DevRefused d) reply tell act
 
+-- the device refuses
 abbrev pub no_device : ℕ → DevRefusal → Plan
 no_device d x = refuse (r.DevRefused d x)
 
+-- the plan of making a device
 abbrev pub make_plan : ℕ → List ℕ → List Commit → Option (List ℕ) → Plan
 make_plan d key C k = planned d (λ u. r.Made d) (λ u. []) (acts.make_act d key (record_with d C k))
 
@@ -48,6 +50,7 @@ make_plan d key C k = planned d (λ u. r.Made d) (λ u. []) (acts.make_act d key
 abbrev pub asked_plan : ℕ → ℕ → ℕ → DeviceAct (List ℕ) → Plan
 asked_plan d n k act = planned d (λ note. r.SentRequest d n k) (λ note. e.Sent note ∷ []) act
 
+-- the plan of asking for a transaction
 abbrev pub ask_plan : Rules → ℕ → Kind → ℕ → ℕ → ℤ → ℕ → List Commit → Option (List ℕ) → Plan
 ask_plan ρ d kind who a today k C key = asked_plan d (number d C + 1) k (acts.ask_act ρ d kind who a today (record_with d C key))
 
@@ -57,23 +60,26 @@ resend_plan d k None w = no_device d no.Blank
 resend_plan d k (Some key) None = no_device d no.NothingPending
 resend_plan d k (Some key) (Some p) = told (r.SentRequest d p.0 k) (e.Sent p.1 ∷ [])
 
+-- the plan of a Done that is sent as message k
 abbrev pub done_plan : ℕ → ℕ → ℕ → DeviceAct (List ℕ) → Plan
 done_plan d n k act = planned d (λ note. r.SentDone d n k) (λ note. e.Sent note ∷ []) act
 
+-- the plan of an acknowledgement
 abbrev pub ack_plan : ℕ → ℕ → List Commit → Option (List ℕ) → Plan
 ack_plan d k C key = done_plan d (number d C) k (acts.ack_act (record_with d C key))
 
+-- the plan of a status
 abbrev pub status_plan : ℕ → ℤ → List Commit → Option (List ℕ) → Plan
 status_plan d today C key = planned d (r.Status d) (λ view. []) (acts.status_act today (record_with d C key))
 
 -- == debit ==
 
--- how a debit is told of, by whether it was made before and its mark
+-- how a debit is reported, by whether it was made before and its mark
 pub record Teller : Type 0 where
   pub reply : Bool → List ℕ → Reply
   pub tell : List ℕ → List Entry
 
--- to who stands at the device
+-- to the user of the device
 abbrev pub shown : ℕ → ℕ → Teller
 shown d piece = record { reply = λ again x. r.Marked d piece again x; tell = λ x. e.Released d piece x ∷ [] }
 
@@ -81,23 +87,27 @@ shown d piece = record { reply = λ again x. r.Marked d piece again x; tell = λ
 abbrev pub sent : ℕ → ℕ → ℕ → Teller
 sent d piece k = record { reply = λ again x. r.Released d piece again k; tell = λ x. e.Sent (spell (m.Release x) []) ∷ e.Released d piece x ∷ [] }
 
+-- the plan of a debit by its act, reported in one of two ways
 abbrev pub franked_plan : Teller → ℕ → DeviceAct Franked → Plan
 franked_plan T d act = planned d (λ f. T.reply f.again f.mark) (λ f. T.tell f.mark) act
 
+-- the plan of a debit, reported in one of two ways
 abbrev pub debit_plan : Rules → Teller → ℕ → DebitMsg → ℤ → List Commit → Option (List ℕ) → Plan
 debit_plan ρ T d q today C key = franked_plan T d (acts.debit_act ρ d q today (record_with d C key))
 
 -- == a Reply, a Debit ==
 
--- how device d tells what it took; a debit by message k
+-- how device d reports what it took; a debit by message k
 abbrev pub taken_reply : ℕ → ℕ → Taken → Reply
 taken_reply d k (taken.Applied n v) = r.Applied d n v
 taken_reply d k (taken.Released piece x again) = (sent d piece k).reply again x
 
+-- the entries of a message that was taken: only a debit has some
 abbrev pub taken_tell : ℕ → ℕ → Taken → List Entry
 taken_tell d k (taken.Applied n v) = []
 taken_tell d k (taken.Released piece x again) = (sent d piece k).tell x
 
+-- the plan of a message that a device takes
 abbrev pub taken_plan : ℕ → ℕ → DeviceAct Taken → Plan
 taken_plan d k act = planned d (taken_reply d k) (taken_tell d k) act
 

@@ -36,6 +36,7 @@ OfCentre P Centre = P
 OfCentre P Host = Unit {0}
 OfCentre P Verifier = Unit {0}
 
+-- this is asked if the node is the host
 abbrev pub OfHost : Type 0 → Node → Type 0
 OfHost P (Device d) = Unit {0}
 OfHost P Centre = Unit {0}

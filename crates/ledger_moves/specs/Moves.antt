@@ -1,4 +1,4 @@
--- What an event does: the answer and entries where nothing fails, and what else may come where storage, power or a stream fails.
+-- What an event does: the answer and entries if nothing fails, and what may be answered besides if storage, power or a stream fails.
 use Rattle.std.specs.Prelude.{◌≡◌, ℕ, ℤ, pos, ◌+◌, List, [], ◌∷◌, length, drop, Option, Some, None, IsSome, Result, Ok, Err, ◌⊎◌, nat_lt, if◌then◌else◌}
 use Rattle.bench_base.specs.declared.words.Node.{Node}
 use Rattle.bench_base.specs.declared.words.Node.TheVariants.{Device, Centre, Host, Verifier}
@@ -33,7 +33,7 @@ use Rattle.ledger_moves.specs.Tariffs.{Tariff, TextFault, NoToml, NoForm}
 
 -- == the bench's checks ==
 
--- a plan whose commit finds its cell worn
+-- the plan, unless the cell of its commit is worn
 abbrev pub unless_worn : List Commit → Plan → Option Commit → Plan
 unless_worn C p None = p
 unless_worn C p (Some c) = if is_worn c C then refuse (r.Worn (node_of c)) else p
@@ -44,14 +44,17 @@ at_node n H p = if is_on n H then unless_worn (counted H) p p.commit else refuse
 
 -- == rates ==
 
+-- the answer to a text of rates, by what it reads as; a text that reads goes into the ledger
 abbrev pub reading_plan : List ℕ → Result (ℕ × ℕ) TextFault → Plan
 reading_plan text (Err NoToml) = refuse r.RatesToml
 reading_plan text (Err NoForm) = refuse r.RatesForm
 reading_plan text (Ok x) = told (r.Rates x.0 x.1) (e.Rates text ∷ [])
 
+-- the same, but a text above 65,536 bytes is refused
 abbrev pub rates_plan : Tariff → List ℕ → Plan
 rates_plan τ text = if nat_lt 65536 (length text) then refuse r.RatesLength else reading_plan text (τ.reading text)
 
+-- the price by the text of rates that was read last, if there is one
 abbrev pub price_by : Tariff → ℕ → ℕ → ℕ → Option (List ℕ) → Option (Result ℕ RateRefusal)
 price_by τ class grams zone None = None
 price_by τ class grams zone (Some text) = Some (τ.price text class grams zone)
@@ -62,9 +65,11 @@ price_by τ class grams zone (Some text) = Some (τ.price text class grams zone)
 abbrev pub device_plan : Rules → ℤ → ℕ → List ℕ → Ledger → Plan
 device_plan ρ today d bytes H = at_node (Device d) H (device.device_take ρ (messages H) today d bytes (read bytes) (counted H) (key_of d (counted H)))
 
+-- the centre takes these bytes
 abbrev pub centre_plan : List ℕ → Ledger → Plan
 centre_plan bytes H = at_node Centre H (centre.take_plan (messages H) bytes (counted H))
 
+-- the host takes these bytes
 abbrev pub host_plan : List ℕ → Ledger → Plan
 host_plan bytes H = at_node Host H (host.take_plan bytes (counted H))
 
@@ -75,16 +80,19 @@ deliver_to ρ today bytes (Ok (m.Debit q)) H = device_plan ρ today q.device byt
 deliver_to ρ today bytes (Ok (m.Release x)) H = host_plan bytes H
 deliver_to ρ today bytes _ H = centre_plan bytes H
 
+-- the message of this number goes to the node that it is for; a number without a message is refused
 abbrev pub deliver_plan : Rules → ℤ → ℕ → Option (List ℕ) → Ledger → Plan
 deliver_plan ρ today k None H = refuse (r.NoMessage k)
 deliver_plan ρ today k (Some bytes) H = deliver_to ρ today bytes (read bytes) H
 
+-- the node is given these bytes
 abbrev pub give_plan : Rules → ℤ → Node → List ℕ → Ledger → Plan
 give_plan ρ today (Device d) bytes H = device_plan ρ today d bytes H
 give_plan ρ today Centre bytes H = centre_plan bytes H
 give_plan ρ today Host bytes H = host_plan bytes H
 give_plan ρ today Verifier bytes H = refuse (r.OffNode Verifier)
 
+-- the verifier scans these bytes
 abbrev pub scan_plan : ℕ → ℤ → List ℕ → Ledger → Plan
 scan_plan n today bytes H = at_node Verifier H (scans.scan_plan n bytes today (counted H))
 
@@ -100,9 +108,11 @@ abbrev pub reconcile_plan : ℕ → Option (List ℕ) → List Commit → Plan
 reconcile_plan d None C = device.no_device d no.Blank
 reconcile_plan d (Some key) C = centre.reconcile_plan d (ascending d C + descending d C) C
 
+-- the node comes on with as many commits as were counted, unless it is on
 abbrev pub on_plan : Node → Ledger → Plan
 on_plan n H = if is_on n H then refuse (r.OnAlready n) else told (r.Up n (count_of n (counted H))) (e.Up n (count_of n (counted H)) ∷ [])
 
+-- the debit that these words ask for
 abbrev pub debit_by : ℕ → ℕ → ℕ → ℕ → DebitMsg
 debit_by d piece postage class = record { device = d; piece = piece; postage = postage; class = class }
 
@@ -147,6 +157,7 @@ on_day p (Some today) = p today
 abbrev pub plan_at : Tariff → Rules → Ledger → Event → List ℕ → Option ℤ → Plan
 plan_at τ ρ H x text day = if needs_day x then on_day (plan_on τ ρ H x text) day else plan_on τ ρ H x text (pos 0)
 
+-- what the event does at this ledger if nothing fails
 unfoldable pub plan : Tariff → Rules → Ledger → Event → List ℕ → Plan
 plan τ ρ H x text = plan_at τ ρ H x text (day_in H)
 

@@ -7,6 +7,7 @@ pub data TextFault : Type 0 where
   NoToml : TextFault
   NoForm : TextFault
 
+-- a way to read rates: what a text has, and its prices
 pub record Tariff : Type 0 where
   -- how many classes and zones the text has
   pub reading : List ℕ → Result (ℕ × ℕ) TextFault

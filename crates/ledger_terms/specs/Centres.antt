@@ -1,4 +1,4 @@
--- What the commits tell of the centre: its devices, its customers and their money, in mills.
+-- What the commits show of the centre: its devices, its customers and their money, in mills.
 use Rattle.std.specs.Prelude.{ℕ, ℤ, pos, ◌+◌, ◌-◌, ◌+ℤ◌, ◌-ℤ◌, Bool, true, false, ◌&&◌, List, [], ◌∷◌, Option, Some, None, ◌==◌, max, if◌then◌else◌}
 use Rattle.bench_base.specs.declared.words.Kind.TheVariants.{Enrol, Withdraw}
 use Rattle.bench_base.specs.declared.words.Verdict.{Verdict}
@@ -18,10 +18,12 @@ registered d [] = None
 registered d (Registered e origin key ∷ C) = if e == d then Some (origin, key) else registered d C
 registered d (_ ∷ C) = registered d C
 
+-- the postal code of a registration, or 0
 abbrev pub origin_in : Option (ℕ × List ℕ) → ℕ
 origin_in None = 0
 origin_in (Some x) = x.0
 
+-- the key of a registration, or no bytes
 abbrev pub key_in : Option (ℕ × List ℕ) → List ℕ
 key_in None = []
 key_in (Some x) = x.1
@@ -90,6 +92,7 @@ receipt c (_ ∷ C) = receipt c C
 abbrev pub device_numbers : List ℕ
 device_numbers = 1 ∷ 2 ∷ 3 ∷ 4 ∷ 5 ∷ 6 ∷ 7 ∷ 8 ∷ []
 
+-- this is the customer
 abbrev pub is_some_at : Option ℕ → ℕ → Bool
 is_some_at None c = false
 is_some_at (Some e) c = e == c

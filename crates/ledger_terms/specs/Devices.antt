@@ -1,4 +1,4 @@
--- What the commits tell of a device: its key, phase, dates, customer and the transaction that is outstanding. Days are since 1970-01-01.
+-- What the commits show of a device: its key, phase, dates, customer and the transaction that is outstanding. Days are since 1970-01-01.
 use Rattle.std.specs.Prelude.{ℕ, ℤ, pos, ◌+ℤ◌, Bool, true, false, ◌&&◌, ◌||◌, List, [], ◌∷◌, Option, Some, None, ◌==◌, if◌then◌else◌}
 use lib.Signed.{lt_z}
 use Rattle.bench_base.specs.declared.words.Kind.{Kind}
@@ -40,6 +40,7 @@ applied_of d n [] = None
 applied_of d n (Applied e m v ∷ C) = if (e == d) && (m == n) then first_of (applied_of d n C) (Some v) else applied_of d n C
 applied_of d n (_ ∷ C) = applied_of d n C
 
+-- the request that is outstanding, unless this number was applied
 abbrev pub unless_applied : ℕ → Option (ℕ × List ℕ) → Option (ℕ × List ℕ)
 unless_applied n None = None
 unless_applied n (Some p) = if p.0 == n then None else Some p
@@ -69,23 +70,24 @@ applied_kind k d [] = false
 applied_kind k d (Applied e n v ∷ C) = if e == d then (is_granted v && same_kind (request_of d n C).kind k) || applied_kind k d C else applied_kind k d C
 applied_kind k d (_ ∷ C) = applied_kind k d C
 
+-- the phase, depending on whether a withdrawal, a first audit and an enrolment were applied
 abbrev pub phase_of : Bool → Bool → Bool → Phase
 phase_of true audit enrol = Withdrawn
 phase_of false true enrol = InService
 phase_of false false true = Authorised
 phase_of false false false = Manufactured
 
--- the stored phase: withdrawn, else in service, else authorised, after the granted transaction that makes it so
+-- the stored phase: withdrawn, otherwise in service, otherwise authorised, after the granted transaction that makes it so
 abbrev pub phase : ℕ → List Commit → Phase
 phase d C = phase_of (applied_kind Withdraw d C) (applied_kind Audit d C) (applied_kind Enrol d C)
 
--- 92 days after the day in the Request of the last granted applied reset or audit, and 0 where there is none
+-- 92 days after the day in the Request of the last granted applied reset or audit, and 0 before the first
 abbrev pub deadline : ℕ → List Commit → ℤ
 deadline d [] = pos 0
 deadline d (Applied e n v ∷ C) = if e == d then (if is_dated v (request_of d n C).kind then (request_of d n C).day +ℤ pos 92 else deadline d C) else deadline d C
 deadline d (_ ∷ C) = deadline d C
 
--- the day of the last Debited or Asked, and 0 where there is none
+-- the day of the last Debited or Asked, and 0 before the first
 abbrev pub last_day : ℕ → List Commit → ℤ
 last_day d [] = pos 0
 last_day d (Asked e n note ∷ C) = if e == d then (request_in note).day else last_day d C

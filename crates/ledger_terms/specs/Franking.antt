@@ -8,6 +8,7 @@ use Rattle.indicium.specs.Marks.{spell}
 use Rattle.ledger_terms.specs.Sums.{ascending, descending}
 use Rattle.ledger_terms.specs.Devices.{key_of, origin}
 
+-- the key, or no bytes
 abbrev pub key_or_none : Option (List ℕ) → List ℕ
 key_or_none None = []
 key_or_none (Some key) = key

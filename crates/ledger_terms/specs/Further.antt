@@ -49,7 +49,7 @@ SentAreRead H = (bytes : List ℕ) → IsSent bytes H → (x : Message) × (read
 abbrev pub RepliesAreRuled : Ledger → Type 0
 RepliesAreRuled H = (bytes : List ℕ) (p : ReplyMsg) → IsSent bytes H → read bytes ≡ Ok (m.Reply p) → ruled_reply p.device p.number (counted H) ≡ Some p
 
--- what was loaded is the beginning of what was bought, and what was cleared of what was returned, but for at most one amount; the newest comes first
+-- what was loaded is the beginning of what was bought, and what was cleared of what was returned, except for at most one amount; the newest comes first
 pub record IsBeginning (loaded cleared buys returns : List ℕ) : Type 0 where
   pub bought : List ℕ
   pub returned : List ℕ
@@ -88,5 +88,6 @@ pub record IsPaid (accepted : Option ℕ) (ascending resets flight : ℕ) : Type
   pub franked : IsSomeAnd accepted (λ postage. postage ≤ ascending)
   pub bought : ascending ≤ resets + flight
 
+-- what was accepted of the device was franked, and what it franked was bought
 abbrev pub Paid : List Commit → ℕ → Type 0
 Paid C d = IsPaid (accepted_postage d C) (ascending d C) (acknowledged_resets d C) (flight adds d C)

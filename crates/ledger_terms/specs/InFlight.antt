@@ -16,7 +16,7 @@ ruling_of d n [] = None
 ruling_of d n (Ruled e m v note ∷ C) = if (e == d) && (m == n) then first_of (ruling_of d n C) (Some (v, note)) else ruling_of d n C
 ruling_of d n (_ ∷ C) = ruling_of d n C
 
--- the sum of f over the rulings whose number is at most s
+-- the sum of f over the rulings up to number s
 abbrev pub ruled_sum_to : (Verdict → Request → ℕ) → ℕ → ℕ → List Commit → ℕ
 ruled_sum_to f d s [] = 0
 ruled_sum_to f d s (Ruled e n v note ∷ C) = if e == d then (if nat_le n s then ruled_sum_to f d s C + f v (request_in note) else ruled_sum_to f d s C) else ruled_sum_to f d s C

@@ -48,6 +48,7 @@ Numbering C = Unit {0}
 
 -- == debits ==
 
+-- the next piece is debited in order, at 1 to 100,000 mills, and no more than what is left
 pub record IsNextDebit (ρ : Rules) (piece postage version pieces descending : ℕ) : Type 0 where
   pub next : piece ≡ pieces + 1
   pub low : 1 ≤ postage
@@ -67,9 +68,11 @@ pub record IsWithin (total ascending descending refunded loaded : ℕ) : Type 0 
   pub covered : ascending + refunded ≤ loaded
   pub within : ascending + descending + refunded ≤ total
 
+-- the sums of the device stay within the greatest total
 abbrev pub Totals : Rules → List Commit → ℕ → Type 0
 Totals ρ C d = IsWithin ρ.total (ascending d C) (descending d C) (refunded d C) (loaded d C)
 
+-- the newest debit was allowed, and the sums of every device are within the greatest total
 abbrev pub Debits : Rules → List Commit → Type 0
 Debits ρ C = NextDebit ρ C × AllDevices (Totals ρ C)
 
@@ -109,9 +112,11 @@ pub record IsBalanced (settled ruled ascending descending resets refunds adds ta
   pub one_in_flight : ruled ≤ settled + 1
   pub equal : ascending + descending + (refunds + takes) ≡ resets + adds
 
+-- the registers of the device are its acknowledged resets less its refunds, with the one ruling that is in flight
 abbrev pub Accounts : List Commit → ℕ → Type 0
 Accounts C d = IsBalanced (settled d C) (ruled d C) (ascending d C) (descending d C) (acknowledged_resets d C) (acknowledged_refunds d C) (flight adds d C) (flight takes d C)
 
+-- so it is of every device, and after an application
 abbrev pub Registers : List Commit → Type 0
 Registers C = AfterApplied C × AllDevices (Accounts C)
 
@@ -122,9 +127,11 @@ pub record IsSolvent (deposits bought returned : ℕ) : Type 0 where
   pub balance : bought ≤ deposits + returned
   pub limit : deposits ≤ 1000000000000000
 
+-- the customer's resets are covered by its deposits and refunds
 abbrev pub Solvent : List Commit → ℕ → Type 0
 Solvent C c = IsSolvent (deposits c C) (customer_bought c C) (customer_returned c C)
 
+-- so it is of every customer
 abbrev pub Balances : List Commit → Type 0
 Balances C = AllCustomers (Solvent C)
 
@@ -149,11 +156,13 @@ abbrev pub AcceptedOnce : Ledger → List Commit → Type 0
 AcceptedOnce P (Accepted d piece scan ∷ C) = (accepted d piece C ≡ None) × IsReleasedAs d piece P
 AcceptedOnce P C = Unit {0}
 
+-- no piece is accepted twice, and each was released before
 abbrev pub Acceptances : Ledger → Type 0
 Acceptances P = AcceptedOnce P (counted P)
 
 -- == prints ==
 
+-- the job is there, and is for this piece of the device
 abbrev pub is_of_piece : ℕ → ℕ → Option Job → Bool
 is_of_piece d piece None = false
 is_of_piece d piece (Some job) = (job.device == d) && (job.piece == piece)
@@ -169,11 +178,12 @@ abbrev pub PrintedOnce : Ledger → Type 0
 PrintedOnce (Printed j mark ∷ H) = (held_of j (counted H) ≡ Some mark) × (begun j (counted H) ≡ true) × (IsPrinted j H → ⊥)
 PrintedOnce H = Unit {0}
 
--- in the ledger P, a Held is of a job whose device and piece no other Held names, and its mark was released before
+-- in the ledger P, no two Held are of one piece of a device, and the mark of each was released before
 abbrev pub HeldOnce : Ledger → List Commit → Type 0
 HeldOnce P (Held j mark ∷ C) = ((job : Job) × (job_of j C ≡ Some job) × (held_piece job.device job.piece C ≡ false)) × IsReleased mark P
 HeldOnce P C = Unit {0}
 
+-- no job is printed twice, and no two jobs hold one piece
 abbrev pub Prints : Ledger → Type 0
 Prints P = PrintedOnce P × HeldOnce P (counted P)
 

@@ -1,4 +1,4 @@
--- Which Request a number of a device stands for.
+-- The Request that has a number of a device.
 use Rattle.std.specs.Prelude.{ℕ, pos, ◌&&◌, List, [], ◌∷◌, Option, Some, None, Result, Ok, ◌==◌, if◌then◌else◌}
 use Rattle.bench_base.specs.declared.words.Kind.TheVariants.{Audit}
 use Rattle.bench_base.specs.declared.refusals.Unread.{Unread}
@@ -14,6 +14,7 @@ use Rattle.psd_wire.specs.Grammar.{read}
 abbrev pub no_request : Request
 no_request = record { version = 1; device = 0; number = 0; kind = Audit; customer = 0; amount = 0; ascending = 0; descending = 0; refunded = 0; pieces = 0; day = pos 10957 }
 
+-- the Request that was read, or an empty one
 abbrev pub request_or_none : Result Message Unread → Request
 request_or_none (Ok (m.Request q)) = q
 request_or_none _ = no_request
@@ -28,6 +29,7 @@ note_of d n [] = None
 note_of d n (Asked e m note ∷ C) = if (e == d) && (m == n) then first_of (note_of d n C) (Some note) else note_of d n C
 note_of d n (_ ∷ C) = note_of d n C
 
+-- the Request of a note, or an empty one
 abbrev pub in_note : Option (List ℕ) → Request
 in_note None = no_request
 in_note (Some note) = request_in note

@@ -15,7 +15,7 @@ use Rattle.ledger_terms.specs.Requests.{request_in}
 use Rattle.ledger_terms.specs.Sums.{bought, returned}
 use Rattle.ledger_terms.specs.Centres.{registered, origin_in, key_in, enrolled, withdrawn, opened, suspended, balance}
 
--- the greatest sum of buys that a Request of this version may bring about; no other version is read
+-- the greatest sum of buys that a Request of this version may lead to; no other version is read
 abbrev pub buys_limit : ℕ → ℕ
 buys_limit version = if version == 1 then 4294967295 else if version == 2 then 1000000000000 else 0
 
@@ -27,7 +27,7 @@ written_amount version amount = if version == 1 then min amount 4294967295 else 
 abbrev pub is_past_limits : ℕ → ℕ → ℕ → Bool
 is_past_limits version bought amount = any_true ((amount == 0) ∷ nat_lt 10000000 amount ∷ nat_lt (buys_limit version) (bought + amount) ∷ [])
 
--- the ways in which a Request disagrees with what the centre granted before
+-- how a Request can disagree with what the centre granted before
 abbrev pub imbalances : Request → ℕ → ℕ → List Bool
 imbalances q bought returned =
     not (q.ascending + q.descending + q.refunded == bought)
@@ -37,6 +37,7 @@ imbalances q bought returned =
     ∷ (same_kind q.kind Reset && is_past_limits q.version bought q.amount)
     ∷ []
 
+-- some sum of the request differs from what the centre has
 abbrev pub out_of_balance : Request → ℕ → ℕ → Bool
 out_of_balance q bought returned = any_true (imbalances q bought returned)
 
@@ -45,15 +46,17 @@ abbrev pub has_left : Option ℕ → Bool → Bool
 has_left None gone = true
 has_left (Some c) gone = gone
 
+-- there is a customer
 abbrev pub is_enrolled : Option ℕ → Bool
 is_enrolled None = false
 is_enrolled (Some c) = true
 
+-- the customer, or 0
 abbrev pub own_customer : Option ℕ → ℕ
 own_customer None = 0
 own_customer (Some c) = c
 
--- the customer who pays: the one asked for at an enrolment, else the device's own
+-- the customer who pays: the one asked for at an enrolment, otherwise the device's own
 abbrev pub payer : Request → Option ℕ → ℕ
 payer q own = if same_kind q.kind Enrol then q.customer else own_customer own
 
@@ -71,7 +74,7 @@ pub record Account : Type 0 where
   -- of the customer under which the device is enrolled
   pub balance : ℕ
 
--- verdicts with the amount in the Reply, in order; the first whose case holds is given
+-- verdicts with the amount in the Reply, in order; the first case that holds gives it
 abbrev pub verdict_rows : Account → Request → List (Bool × (Verdict × ℕ))
 verdict_rows a q =
     (not (same_kind q.kind Enrol) && has_left a.enrolled a.withdrawn, (NotEnrolled, 0))
@@ -86,6 +89,7 @@ verdict_rows a q =
 unfoldable pub verdict_by : Account → Request → Verdict × ℕ
 verdict_by a q = first_holding (verdict_rows a q) (Granted, q.amount)
 
+-- what a ruling on the request asks of the commits
 abbrev pub account_of : List Commit → Request → Account
 account_of C q = record {
   enrolled = enrolled q.device C;

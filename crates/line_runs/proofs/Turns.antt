@@ -204,7 +204,7 @@ module _ {D : Type 0} (l : Lines D) where
         (stops_bad number few old left0 left1 taken0 t.bytes t.consumed
         (inl (record { line = line; is_ended = is_ended; one = t.one; short = t.short; is = t.is; that = r.bad })))))
 
-    -- the run ends for want of memory
+    -- the run ends for lack of memory
     wanted_stops : (outcome : SideStatus) (number : ℕ) → number ≤ 1000000 → (old new : B) (left0 left1 taken0 taken1 : Option (List ℕ)) (line : List ℕ) (is_ended : Bool)
         → LineTaken left0 left1 line is_ended → Wanted l Leaves line (Some outcome) old new taken0 taken1 → Stops l Does Leaves outcome number old new left0 left1 taken0 taken1
     wanted_stops outcome number few old new left0 left1 taken0 taken1 line is_ended t w =

@@ -6,10 +6,10 @@ use Rattle.line_runs.specs.Lines.{IsOneLine, ended}
 pub record Grammar : Type 1 where
   -- the line of `end`
   pub IsEndLine : List ℕ → Type 0
-  -- a line behind which a run goes on
+  -- a line after which a run goes on
   pub IsPassing : List ℕ → Type 0
   pub IsBad : List ℕ → Type 0
-  -- a line at which memory may be wanting
+  -- a line at which memory may run out
   pub MayWant : List ℕ → Type 0
 
 -- no line is two of them, but that memory may be wanting at one behind which a run goes on
@@ -20,7 +20,7 @@ pub record IsGrammar (g : Grammar) : Type 0 where
   pub passing_not_bad : (line : List ℕ) → g.IsPassing line → g.IsBad line → ⊥
   pub end_wants_none : (line : List ℕ) → g.IsEndLine line → g.MayWant line → ⊥
 
--- how the deeds of a clerk are read and told
+-- how the deeds of a clerk are read and written
 pub record Lines (D : Type 0) : Type 1 where
   pub grammar : Grammar
   pub line_in : D → List ℕ
@@ -28,7 +28,7 @@ pub record Lines (D : Type 0) : Type 1 where
   pub text_for : D → List ℕ
   -- the line is what the deed says it is
   pub IsOf : D → Type 0
-  -- it is the deed of `end`; the run goes on behind it; it was broken off, since a commit of a storage of the clerk's failed
+  -- it is the deed of `end`; the run goes on after it; it was broken off, since a commit of a storage of the clerk's failed
   pub IsEnd : D → Type 0
   pub GoesOn : D → Type 0
   pub IsBroken : D → Type 0

@@ -1,4 +1,4 @@
--- A manifest is good exactly where no cause comes before its scans and all of them were accepted.
+-- A manifest is good if and only if no cause comes before its scans and all of them were accepted.
 use Rattle.std.proofs.Common.{◌≡◌, inl, inr, ℕ, ◌+◌, List, [], ◌∷◌, length, get_or, Option, Some, None, Bool, true, false, ◌==◌, refl, sym, ap, ◌∙◌, subst, arith, true≢false}
 use Rattle.std.specs.Prelude.{codes, ◌↔◌}
 use Rattle.std.proofs.lemmas.Option.{same_Some}

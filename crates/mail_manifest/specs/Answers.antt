@@ -27,7 +27,7 @@ AreScanned m number (d ∷ rest) texts =
     × ((IsAccepted d.reply × Either (number == length m.marks) ((rest ≡ []) × (texts ≡ yes_text m.opening.count m.opening.total ∷ [])) (AreScanned m (number + 1) rest texts))
     ⊎ ((IsAccepted d.reply → ⊥) × (rest ≡ []) × (texts ≡ no_piece_text number d.reply ∷ [])))
 
--- it was refused for the first cause that there is; else its pieces were scanned
+-- it was refused for the first cause that there is; otherwise its pieces were scanned
 abbrev pub IsJudged : Listing → Option Said → List Done → List (List ℕ) → Type 0
 IsJudged m (Some cause) steps texts = (steps ≡ []) × (texts ≡ said_texts cause)
 IsJudged m None steps texts = AreScanned m 1 steps texts

@@ -47,7 +47,7 @@ Adds m mark next new =
     Either (length m.marks == m.opening.count) (Answers said.Full (Some m) next new)
     (Answers (said.Piece (length m.marks + 1)) (Some (with_mark m mark)) next new)
 
--- refused for the first cause that there is; else its pieces are scanned
+-- refused for the first cause that there is; otherwise its pieces are scanned
 abbrev pub ByCause : Listing → Option Said → Next → Checker → Type 0
 ByCause m (Some cause) next new = Answers cause (Some m) next new
 ByCause m None next new = Scans m 1 next new

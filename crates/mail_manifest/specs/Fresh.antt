@@ -14,7 +14,7 @@ use Rattle.mail_manifest.specs.Holds.{YesHolds}
 use Rattle.mail_manifest.specs.Ran.{DidManifest}
 use Rattle.mail_manifest.specs.declared.opening.ManifestLine.{ManifestLine}
 
--- A checker without a manifest, and a bench that stood for the empty ledger, did the deeds: all that is said of a run with a manifest by a history is so.
+-- A checker without a manifest, and a bench that represented the empty ledger, did the deeds: all that is said of a run with a manifest by a history is so.
 pub record DidFreshManifest (n : Nodes) (old new : SceneOf n) (outcome : SideStatus) (deeds : List (SideDeed ManifestLine)) : Type 0 where
   pub did : DidManifest n old new outcome deeds
   pub bench : DidFresh n old new did.side.ended (steps_of deeds)

@@ -1,4 +1,4 @@
-//! Bulk manifests: a list of marks is good exactly where every piece on it is accepted.
+//! Bulk manifests: a list of marks is good if and only if every piece on it is accepted.
 #![tactic(auto)]
 
 mod checker;

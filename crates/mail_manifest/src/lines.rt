@@ -132,7 +132,7 @@ fn read_behind(bytes: &[u8]) -> Option<ManifestLine>
     }
 }
 
-/// The line about the manifest that the bytes are; None exactly where they are none.
+/// The line about the manifest that the bytes are; None if and only if they are none.
 pub fn read_manifest_line(line: &[u8]) -> Option<ManifestLine>
     ensures found { IfSome result (λ own. IsManifestLine own line.now) }
     ensures none { IfNone result ((own : TheLine) → IsManifestLine own line.now → ⊥) }

@@ -37,7 +37,7 @@ pub fn code_of(fault: &Fault) -> u8 {
     }
 }
 
-/// What was made, or want of memory.
+/// What was made, or lack of memory.
 pub fn or_memory<T, E: Drop>(made: Result<T, E>) -> Result<T, Fault> {
     match made {
         Ok(made) => Ok(made),

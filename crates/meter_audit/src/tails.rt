@@ -53,7 +53,7 @@ fn last_line_of(bytes: &[u8]) -> &[u8] {
 }
 
 impl Tail {
-    /// The tail of a reader that gave nothing. AllocError is want of memory.
+    /// The tail of a reader that gave nothing. AllocError is lack of memory.
     pub fn new(alloc: Global) -> Result<Tail, AllocError> {
         let kept = vec![in alloc; 0; KEPT]?;
         Ok(Tail {
@@ -124,7 +124,7 @@ impl<'a, R: Read> Read for Watched<'a, R> {
     }
 }
 
-/// The lines of a reader, which keeps in the tail what it gives. AllocError is want of memory.
+/// The lines of a reader, which keeps in the tail what it gives. AllocError is lack of memory.
 pub fn lines_over<'a, R: Read + Drop>(
     alloc: Global,
     inner: R,
@@ -150,7 +150,7 @@ fn close<R: Read>(lines: &mut Lines<'_, R>, tail: &RefCell<Tail>) -> usize {
     untaken
 }
 
-/// Closes the reader, and gives the line of it that was taken last, of a longer one its first 600 bytes. AllocError is want of memory.
+/// Closes the reader, and gives the line of it that was taken last, of a longer one its first 600 bytes. AllocError is lack of memory.
 pub fn last_taken<R: Read>(
     alloc: Global,
     lines: &mut Lines<'_, R>,

@@ -66,7 +66,7 @@ fn bench_over(rt: &HostRuntime, stores: Vec<FileNv>) -> Result<Bench<FileNv>, Op
     }
 }
 
-// Remembers a clean end: no call on a storage failed, and all that was written is on the disk. If it can't be remembered the next start writes the storages anew.
+// Remembers a clean end: no call on a storage failed, and all that was written is on the disk. If it can't be remembered the next start writes the storages again.
 fn remember_end(rt: &HostRuntime, bench: Bench<FileNv>, remembered: Option<String>)
     requires ready { IsReady (bench_of bench) }
 {

@@ -1,4 +1,4 @@
--- What a call is told as is what the plan of its act says, or a failure in its commit.
+-- What a call is reported as is what the plan of its act says, or a failure in its commit.
 use Rattle.std.proofs.Common.{◌≡◌, ◌⊎◌, inl, inr, [], Option, Some, None, Bool, true, false, if◌then◌else◌, option_map, refl, sym, ◌∙◌, ap, subst, append-nil}
 use Rattle.bench_base.specs.declared.words.Node.{Node}
 use Rattle.bench_base.specs.declared.ledger.Commit.{Commit}

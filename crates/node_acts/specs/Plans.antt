@@ -1,4 +1,4 @@
--- The plan of an event of one node by its act, and what the call is told as. The node is m, of any kind.
+-- The plan of an event of one node by its act, and how the call is reported. The node is m, of any kind.
 use Rattle.std.specs.Prelude.{◌≡◌, ◌⊎◌, ℕ, ◌+◌, List, [], ◌∷◌, ◌++◌, Option, Some, None, IsSome, if◌then◌else◌}
 use Rattle.bench_base.specs.declared.words.Node.{Node}
 use Rattle.bench_base.specs.declared.ledger.Commit.{Commit}
@@ -19,7 +19,7 @@ use Rattle.node_acts.specs.Acts.{is_full, OfCommit}
 
 -- == the plan ==
 
--- by how the node refuses, how it replies where it is done, and what is told then, the newest first
+-- by how the node refuses, how it replies if it is done, and the entries then, the newest first
 abbrev pub plan_of : {X F A : Type 0} → (F → Reply) → (A → Reply) → (A → List Entry) → Act X F A → Plan
 plan_of refusal reply tell (Refuse x) = refuse (refusal x)
 plan_of refusal reply tell (Tell a) = told (reply a) (tell a)
@@ -27,14 +27,17 @@ plan_of refusal reply tell (Commits c x a) = made (reply a) c (tell a)
 
 -- == entries ==
 
+-- the ledger with a commit, if there is one
 abbrev pub with_commit : Option Commit → Ledger → Ledger
 with_commit None H = H
 with_commit (Some x) H = entry.Commit x ∷ H
 
+-- the ledger with a commit in doubt, if there is one
 abbrev pub with_torn : Option Commit → Node → Ledger → Ledger
 with_torn None m H = H
 with_torn (Some x) m H = entry.Torn m x ∷ H
 
+-- the ledger after an event of this plan, by what its reply reports
 abbrev pub after_told : Plan → Told → Ledger → Ledger
 after_told p Did H = p.after ++ with_commit p.commit H
 after_told p Refused H = p.after ++ with_commit p.commit H
@@ -47,7 +50,7 @@ after_told p (WasDamaged m) H = p.after ++ with_commit p.commit H
 after_told p (PrinterFailed j) H = with_commit p.commit H
 after_told p RatesFailed H = H
 
--- the ledger after a reply to the plan: a commit that failed is open, and nothing is told; a printer that failed leaves the commit alone
+-- the ledger after a reply to the plan: a commit that failed is open, and adds no entry; a printer that failed leaves the commit alone
 abbrev pub after : Plan → Reply → Ledger → Ledger
 after p reply H = after_told p (told_by reply) H
 
@@ -57,6 +60,7 @@ after p reply H = after_told p (told_by reply) H
 abbrev pub MayFail : Plan → Node → Type 0
 MayFail p m = ((k : ℕ) × (p.reply ≡ r.Up m k)) ⊎ ((x : Commit) × (p.commit ≡ Some x) × (node_of x ≡ m))
 
+-- the reply reports a failure that this plan can have
 abbrev pub FailsTold : Plan → Told → Type 0
 FailsTold p Did = ⊥
 FailsTold p Refused = ⊥
@@ -73,7 +77,7 @@ FailsTold p RatesFailed = ⊥
 abbrev pub Fails : Plan → Reply → Type 0
 Fails p reply = FailsTold p (told_by reply)
 
--- == what a call is told as ==
+-- == what a call is reported as ==
 
 abbrev pub call_reply : {F A : Type 0} → Node → (F → Reply) → (A → Reply) → Outcome F A → Reply
 call_reply m refusal reply o.Off = r.OffNode m

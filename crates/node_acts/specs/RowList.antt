@@ -1,4 +1,4 @@
--- The record of a node of many cells: of each cell nothing where it is blank, else how many commits it has and its row.
+-- The record of a node of many cells: of each cell nothing if it is blank, otherwise how many commits it has and its row.
 -- The rows R are those of the node's own subject.
 use Rattle.std.specs.Prelude.{ℕ, zero, suc, ◌+◌, List, [], ◌∷◌, Option, Some, None, Bool, get_or, set, sum_by, ◌==◌}
 use Rattle.bench_base.specs.declared.sizes.TheConstants.{MOST_COMMITS}

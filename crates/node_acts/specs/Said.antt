@@ -1,4 +1,4 @@
--- What a node says where a call of it is done, and an act whose answers are said: whatever the kind of the node.
+-- What a node says if a call of it is done, and an act with its answers in words, for any kind of node.
 use Rattle.std.specs.Prelude.{◌≡◌, ℕ, ℤ, List, [], ◌∷◌, ◌++◌, Option, Some, None}
 use Rattle.bench_base.specs.declared.words.Node.{Node}
 use Rattle.bench_base.specs.declared.ledger.Commit.{Commit}
@@ -23,27 +23,32 @@ use Rattle.node_acts.specs.Kinds.{Kind}
 abbrev pub replies : Reply → Said
 replies reply = record { reply = reply; given = None; sent = None }
 
+-- a reply that gives something out
 abbrev pub gives : Reply → GivenOut → Said
 gives reply x = record { reply = reply; given = Some x; sent = None }
 
+-- a reply with a message that is sent
 abbrev pub sends : Reply → List ℕ → Said
 sends reply note = record { reply = reply; given = None; sent = Some note }
 
 -- == what is told after the commit, the newest first: a mark leaves the node before the message that carries it is sent ==
 
+-- the entry of what was given out
 abbrev pub with_given : Option GivenOut → List Entry
 with_given None = []
 with_given (Some (Released x)) = entry.Released x.device x.piece x.mark ∷ []
 with_given (Some (Printed x)) = entry.Printed x.job x.mark ∷ []
 
+-- the entry of what was sent
 abbrev pub with_sent : Option (List ℕ) → List Entry
 with_sent None = []
 with_sent (Some note) = entry.Sent note ∷ []
 
+-- both
 abbrev pub tells : Said → List Entry
 tells s = with_sent s.sent ++ with_given s.given
 
--- the act whose refusals are replied so, and whose answers are said so
+-- the act, with its refusals as replies and its answers in words
 abbrev pub saying : {X F A : Type 0} → (F → Reply) → (A → Said) → Act X F A → Act X Reply Said
 saying refusal say (Refuse x) = Refuse (refusal x)
 saying refusal say (Tell a) = Tell (say a)
@@ -65,7 +70,7 @@ said_plan act = plan_of (λ x. x) (λ a. a.reply) tells act
 abbrev pub seen_plan : {S X : Type 0} → Counting S X → Node → View S → Act X Reply Said → Plan
 seen_plan n m v act = when_on m v (done_plan n m (λ x. x) (λ a. a.reply) tells v.state act)
 
--- what the call is told as, and what is added, by what it came to
+-- what the call is reported as, and what is added, by what it came to
 abbrev pub said_reply : Node → Outcome Reply Said → Reply
 said_reply m outcome = call_reply m (λ x. x) (λ a. a.reply) outcome
 

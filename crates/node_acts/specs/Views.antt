@@ -39,6 +39,6 @@ module _ {S X : Type 0} (n : Counting S X) where
   up_with None k v = started v.state
   up_with (Some s) k v = if k == n.count v.state + 1 then started s else started v.state
 
-  -- where it comes on, its open commit counts exactly where it shows one commit more
+  -- where it comes on, its open commit counts if and only if it shows one commit more
   abbrev pub up : ℕ → View S → View S
   up k v = up_with v.next k v

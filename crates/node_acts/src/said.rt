@@ -6,7 +6,7 @@ use bench_base::bytes::Note;
 use bench_base::events::Reply;
 use bench_base::numbers::DevNo;
 
-/// A mark that a device gives out: of which device and piece, and the mark.
+/// A mark that a device gives out: its device, its piece, and the mark.
 #[derive(Clone, Copy)]
 pub struct Released {
     pub device: DevNo,
@@ -14,7 +14,7 @@ pub struct Released {
     pub mark: [u8; 64],
 }
 
-/// A mark that the host prints: of which job, and the mark.
+/// A mark that the host prints: its job, and the mark.
 #[derive(Clone, Copy)]
 pub struct Printed {
     pub job: u32,

@@ -84,7 +84,7 @@ module _ {K S N C R : Type 0} (n : Ghosts K S N C R) where
       subst (λ (w : View n.Seen). Ups d s w) (sym (ap (λ (k : ℕ). up n.counting k v) more ∙ ap (λ (o : Option n.Seen). up_with n.counting o (count v.state + 1) v) is ∙ up_more s v))
       (record { on = refl; closed = refl; state_is = refl; sound = record { state = if_is (n.IsSound d) v.next s is sound.next; next = tt; more = tt } })
 
-  -- a node that came on with this record stands for it
+  -- a node that came on with this record represents it
   pub came_on : (g : nv.Ghosts S) (d : N) (v : View n.Seen) (k : K) (i : ℕ) → n.is_on k ≡ true → n.name k ≡ d → g.size (n.storage k) ≡ n.bytes → i ≡ count (n.seen k)
       → (g.tells → (c : List ℕ) → Image (g.times (n.storage k)) c → n.IsShown (n.seen k) c)
       → Sound n d v → (n.seen k ≡ v.state) ⊎ (v.next ≡ Some (n.seen k)) → Stands n g d (up n.counting i v) k

@@ -16,7 +16,7 @@ use Rattle.node_seat.specs.Stands.{times_of, meters_of, Stands}
 
 module _ {K S N C R : Type 0} (n : Ghosts K S N C R) (g : nv.Ghosts S) where
   -- What a call came to and left, whose act is this one of the record. By each view for which the node stood: it came to
-  -- what it may come to, the node stands for what follows, each image at every moment shows what the view allows or that
+  -- what it may come to, the node represents what follows, each image at every moment shows what the view allows or that
   -- and the one commit, and the record of that is the node's next one.
   pub record CallDoes {F A : Type 0} (act : n.Seen → Act C F A) (s t : K) (result : Outcome F A) : Type 0 where
     pub off : (result ≡ o.Off) ↔ (n.is_on s ≡ false)

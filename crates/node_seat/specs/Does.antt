@@ -37,7 +37,7 @@ SyncsOnce g bytes before now (Err boot.Damaged) = g.size before ≡ bytes → Sp
 abbrev pub RestartIs : {S : Type 0} → Ghosts S → S → S → Result (Unit {0}) NvFail → Type 0
 RestartIs g before now result = Restarts (g.meters before) (g.meters now) result
 
--- how a commit of this change ended for the record: Worn comes exactly where the change's cell has all its commits
+-- how a commit of this change ended for the record: Worn comes if and only if the change's cell has all its commits
 pub record Commits {S X : Type 0} (n : Counting S X) (before now : S) (change : X) (result : Result (Unit {0}) StoreFail) : Type 0 where
   pub worn : IsErrOf result Worn ↔ (n.is_worn before change ≡ true)
   pub not_failed : IsErrOf result Failed → ⊥

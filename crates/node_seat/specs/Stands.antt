@@ -1,4 +1,4 @@
--- When a node and its storage stand for what the bench sees of it.
+-- When a node and its storage represent what the bench sees of it.
 use Rattle.std.specs.Prelude.{◌≡◌, ℕ, List, true, Some, None}
 use Rattle.nv_model.specs.declared.nv.Nv as nv
 use Rattle.nv_model.specs.declared.fuse.Fuse as fuse

@@ -193,7 +193,7 @@ module _ {X : Type 0} (m : Node) (e : Event) (of : IsCallOf m e) (act : Act X Re
   commits_at : (P : Commit → Type 0) → CommitsSome P act → CommitsAt e m
   commits_at P some = record { commits = commits_by m e P act told some; at = of.at }
 
-  -- what the outcome is told as
+  -- what the outcome is reported as
   says : (x : Outcome Reply Said) → CameOf act x → (a : Said) → x ≡ o.Done a → MaySay e a
   says x came a is = says_by m e act a told (subst (λ (y : Outcome Reply Said). CameOf act y) is came)
 

@@ -37,7 +37,7 @@ use Rattle.node_turns.specs.Printing.{Printer, PrintsCall, prints_nothing, print
 use Rattle.node_turns.specs.Turns.{in_order, call_turn}
 use Rattle.node_turns.proofs.Calls.{IsCallOf, IsToldBy, MaySay, says_by, own_by, plain_by, refuses_by, made_none, made_uses, made_some, done_on, no, turn_call}
 
--- what is said is printed exactly where it says so
+-- what is said is printed if and only if it says so
 pub record PrintsSo (a : Said) : Type 0 where
   pub given : (p : Print) → print_in a.given ≡ Some p → a.reply ≡ r.Printed p.job
   pub says : (job : ℕ) → a.reply ≡ r.Printed job → (p : Print) × (print_in a.given ≡ Some p)

@@ -29,7 +29,7 @@ use Rattle.node_turns.specs.declared.turn.Turn.{Turn}
 use Rattle.node_turns.specs.NodeTurns.{plan_by}
 use Rattle.node_turns.specs.Turns.{turn_of, call_turn}
 
--- the bytes that a printer took, where it tells them, and its faults
+-- the bytes that a printer took, if they are known, and its faults
 pub record Printer : Type 0 where
   pub taken : Option (List ℕ)
   pub faults : ℕ
@@ -75,7 +75,7 @@ print_of (entry.Printed job mark ∷ T) = Some mark
 print_of (_ ∷ T) = print_of T
 
 -- What the printer took in an event with this reply: the whole line of this mark where it was printed; a part of it where the
--- printer failed, which its count tells; and else nothing.
+-- printer failed, which its count tells; and otherwise nothing.
 pub record PrinterDid (reply : Reply) (mark : Option (List ℕ)) (before now : Printer) : Type 0 where
   pub whole : (job : ℕ) → reply ≡ r.Printed job → (x : List ℕ) × (mark ≡ Some x) × Appends before.taken now.taken (print_line x)
   pub cut : (job : ℕ) → reply ≡ r.PrinterFault job → (x : List ℕ) × (n : ℕ) × (mark ≡ Some x) × (n < length (print_line x))

@@ -11,7 +11,7 @@ window_of a = a.window
 abbrev pub has_asked : Ahead → Bool
 has_asked a = a.asked
 
--- where it answers, the bytes from that place on are copied, as many as there is room for, and all of them were read; else nothing is
+-- where it answers, the bytes from that place on are copied, as many as there is room for, and all of them were read; otherwise nothing is
 abbrev pub Has : Ahead → ℕ → List ℕ → List ℕ → Bool → Type 0
 Has a at old new true = (w : Range) × (a.window ≡ Some w) × (w.0 ≤ at) × (at + length old ≤ w.1) × (new ≡ take (length old) (drop (at - w.0) a.bytes.items))
 Has a at old new false = new ≡ old

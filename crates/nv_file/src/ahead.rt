@@ -35,7 +35,7 @@ fn ask(asked: &mut bool, file: &File, at: u32, buf: &mut [u8]) -> bool
 impl Ahead {
     ghost use Rattle.nv_file.specs.Aheads.{window_of, has_asked, Has};
 
-    /// Takes the memory for reads of a file of so many bytes. AllocError is want of memory.
+    /// Takes the memory for reads of a file of so many bytes. AllocError is lack of memory.
     pub fn new(alloc: Global, size: u32) -> Result<Ahead, AllocError>
         ensures { IfOk result (λ ahead. window_of ahead ≡ None) }
     {
@@ -94,7 +94,7 @@ impl Ahead {
         went
     }
 
-    /// Copies the bytes from a place on, where they were read; else nothing.
+    /// Copies the bytes from a place on, where they were read; otherwise nothing.
     pub fn copy(&self, at: u32, buf: &mut [u8]) -> bool
         ensures { Has self.now at buf.old buf.new result }
     {

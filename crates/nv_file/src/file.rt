@@ -14,7 +14,7 @@ use std::os::unix::fs::FileExt;
 /// How many bytes are written again at once.
 const PIECE: u32 = 4096;
 
-/// A call on the file or its folder failed, want of memory in it included; the name is that of a link or of something else
+/// A call on the file or its folder failed, lack of memory in it included; the name is that of a link or of something else
 /// that is no file; the file has a second name, or more than 4,294,967,295 bytes; or it belongs to a user or a group that a new
 /// file can't be given.
 #[derive(Clone, Copy, Debug, PartialEq, Eq)]

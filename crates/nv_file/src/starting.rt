@@ -30,7 +30,7 @@ pub struct Starting<'a> {
 }
 
 impl Starting<'_> {
-    /// Prepares each storage: as it is where a clean end is remembered of all of them, else as `FileNv::start` does. Where one can't be used its name is
+    /// Prepares each storage: as it is where a clean end is remembered of all of them, otherwise as `FileNv::start` does. Where one can't be used its name is
     /// answered, nothing that was prepared is left, and no storage is changed.
     pub fn prepare<'a, R: Files<File = File> + AllocGlobal>(
         rt: &R,

@@ -83,7 +83,7 @@ abbrev pub after_failure : Meters → NvFail → Meters
 after_failure m Power = record m { cuts = next_number m.cuts; lost = true }
 after_failure m Fault = record m { faults = next_number m.faults }
 
--- after a call of read, write or sync: an answer while power is lost is no failure anew
+-- after a call of read, write or sync: an answer while power is lost is no failure again
 abbrev pub after_answer : Bool → Meters → Result (Unit {0}) NvFail → Meters
 after_answer true m result = m
 after_answer false m (Ok _) = m

@@ -6,7 +6,7 @@ ghost use Rattle.nv_model.specs.Moments.{RangeWritten};
 use crate::nv::{Nv, NvFail};
 use crate::tear::{tear_last, tear_write};
 
-/// Storage that cuts power after a stated number of further calls of write and sync, and else passes each call on.
+/// Storage that cuts power after a stated number of further calls of write and sync, and otherwise passes each call on.
 #[derive(Drop)]
 pub struct Fused<N: Nv> {
     nv: N,

@@ -32,7 +32,7 @@ pub record FillsSlot {E : Type 0} (size at : ℕ) (held : Held) (old new : List 
   pub any_moment : (c : List ℕ) → now.since before.moment c → IsFilling size at held old c
   pub done : OnOk result (new ≡ laid old at (filled held))
 
--- the slot of a cell of n slots that the next commit fills: slot 0 where the cell is blank, else the one after the current one
+-- the slot of a cell of n slots that the next commit fills: slot 0 where the cell is blank, otherwise the one after the current one
 pub record IsNextSlot (n : ℕ) (slots : ℕ → Option Held) (place : ℕ) : Type 0 where
   pub inside : place < n
   pub first : ((i : ℕ) → i < n → slots i ≡ None) → place ≡ 0

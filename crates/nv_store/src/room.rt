@@ -19,7 +19,7 @@ pub struct Room<const L: usize> {
 impl<const L: usize> Room<L> {
     ghost use Rattle.nv_store.specs.RoomView.{cells_of};
 
-    /// Takes the memory for so many cells. AllocError is want of memory.
+    /// Takes the memory for so many cells. AllocError is lack of memory.
     pub fn new(alloc: Global, cells: u32) -> Result<Room<L>, AllocError>
         ensures { IfOk result (λ room. cells_of room ≡ cells) }
     {

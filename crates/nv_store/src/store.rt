@@ -28,8 +28,8 @@ pub trait Store<const L: usize> {
         requires { cell < (view self.now).cells }
         ensures { option_map (λ x. x.now) result ≡ payload_of ((view self.now).held cell) };
 
-    /// Puts a payload into a cell. Errors: Failed where an earlier commit of this value answered Power or Fault; else
-    /// Worn where the cell has 4,294,967,295 commits; else Power and Fault, where the storage failed. After these the
+    /// Puts a payload into a cell. Errors: Failed where an earlier commit of this value answered Power or Fault; otherwise
+    /// Worn where the cell has 4,294,967,295 commits; otherwise Power and Fault, where the storage failed. After these the
     /// next mount shows the old payload or the new one, and this value shows the old one.
     fn commit(&mut self, cell: u32, payload: &[u8; L]) -> Result<(), StoreFail>
         requires { cell < (view self.old).cells }

@@ -2,12 +2,15 @@
 use Rattle.std.specs.Prelude.{◌≡◌, ℕ, ℤ, pos, ◌+◌, ◌-◌, ◌*◌, ◌/◌, ◌%◌, List, [], ◌∷◌, ◌++◌}
 use Rattle.jiff_core.specs.Calendar.{IsDate, days_from_civil}
 
+-- a digit as a byte of text
 abbrev pub digit : ℕ → ℕ
 digit n = 48 + n % 10
 
+-- the last two digits
 abbrev pub two_digits : ℕ → List ℕ
 two_digits n = digit (n / 10) ∷ digit n ∷ []
 
+-- the last four digits
 abbrev pub four_digits : ℕ → List ℕ
 four_digits n = two_digits (n / 100) ++ two_digits n
 

@@ -7,7 +7,7 @@ ghost use Rattle.psd_audit.specs.Dates.{IsDateText, read_on};
 use bench_base::numbers::DayNo;
 use jiff_core::civil::Date;
 
-/// The number that these decimal digits write; None exactly where a byte is no digit.
+/// The number that these decimal digits write; None if and only if a byte is no digit.
 pub fn digits(word: &[u8]) -> Option<u64>
     requires { length word.now ≤ 10 }
     ensures value { MatchOption result (all_ascii_digits word.now ≡ false)
@@ -38,7 +38,7 @@ fn day_number(year: u64, month: u64, day: u64) -> Option<i32>
     }
 }
 
-/// The day of a date that is written `YYYY-MM-DD` in ten ASCII bytes; None exactly where the bytes are no civil
+/// The day of a date that is written `YYYY-MM-DD` in ten ASCII bytes; None if and only if the bytes are no civil
 /// date from 2000-01-01 to 2199-12-31.
 pub fn read_date(text: &[u8]) -> Option<DayNo>
     ensures found { IfSome result (λ d. IsDateText d text.now) }

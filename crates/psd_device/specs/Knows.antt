@@ -102,6 +102,6 @@ module _ {N : Type 0} {g : Ghosts N} (k : DeviceNode N g) where
   pub kept : IfSome (seen_in k).state IsKept
   kept = if_some IsKept k.state k.kept
 
-  -- a device has no commits exactly where it was never made
+  -- a device has no commits if and only if it was never made
   pub blank : ((seen_in k).count ≡ 0) ↔ ((seen_in k).state ≡ None)
   blank = blank_held k.head.count k.payload k.state k.written

@@ -10,7 +10,7 @@ use Rattle.nv_store.specs.Fills.{Fill, fill}
 use Rattle.nv_store.specs.Slot.{Held, slots_at, IsClear}
 use Rattle.nv_store.specs.Store.{cell_shown}
 
--- what the cell of a device holds: nothing where it was never made, else so many commits and a payload that reads as its record
+-- what the cell of a device holds: nothing where it was never made, otherwise so many commits and a payload that reads as its record
 abbrev pub IsHeld : ℕ → Option State → Option Held → Type 0
 IsHeld count s None = s ≡ None
 IsHeld count None (Some held) = ⊥

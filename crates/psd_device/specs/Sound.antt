@@ -8,7 +8,7 @@ use Rattle.psd_state.specs.Seen.{Seen}
 use Rattle.nv_store.specs.Store.{cell_shown}
 use Rattle.psd_device.specs.Boots.{IsOwn}
 
--- a record of device d that its storage can show: it has no commits exactly where it was never made
+-- a record of device d that its storage can show: it has no commits if and only if it was never made
 pub record IsSound (d : ℕ) (s : Seen) : Type 0 where
   pub few : s.count ≤ MOST_COMMITS
   pub blank : (s.count ≡ 0) ↔ (s.state ≡ None)

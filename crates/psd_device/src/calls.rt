@@ -1,6 +1,6 @@
 //! The calls of a device. Money is in mills, and a day counts from 1970-01-01.
 //!
-//! A call that commits answers `Store` with `Failed`, before every refusal, exactly where an earlier call of this value
+//! A call that commits answers `Store` with `Failed`, before every refusal, if and only if an earlier call of this value
 //! answered Power or Fault; after every refusal it answers Power or Fault where its commit failed, and Worn where the
 //! storage has 4,294,967,295 commits. A refusal, Worn, and an answer that needs no commit leave the device and its storage
 //! as they were. The others never answer `Store`.
@@ -21,7 +21,7 @@ use psd_wire::DebitMsg;
 impl<N: Nv> Device<N> {
     ghost use Rattle.psd_device.specs.DeviceView.{seen_of, make_of, debit_of, ask_of, take_of, Performs};
 
-    /// Makes the device under a key. `Made` exactly where it was made before.
+    /// Makes the device under a key. `Made` if and only if it was made before.
     pub fn make(&mut self, key: &Key) -> Result<(), DevFail>
         ensures { Performs (make_of self.old key.now) self.old self.new result }
     {
@@ -29,7 +29,7 @@ impl<N: Nv> Device<N> {
         self.perform(act)
     }
 
-    /// Marks a piece: see `DevRec::debit`. `Blank`, before its refusals, exactly where there is no record. The mark of the last
+    /// Marks a piece: see `DevRec::debit`. `Blank`, before its refusals, if and only if there is no record. The mark of the last
     /// piece is given once more without a commit.
     pub fn debit(&mut self, command: &DebitMsg, day: DayNo) -> Result<Franked, DevFail>
         ensures { Performs (debit_of self.old command.now day) self.old self.new result }
@@ -43,7 +43,7 @@ impl<N: Nv> Device<N> {
         self.perform(act)
     }
 
-    /// Asks for a transaction: see `DevRec::ask`. `Blank`, before its refusals, exactly where there is no record. The customer
+    /// Asks for a transaction: see `DevRec::ask`. `Blank`, before its refusals, if and only if there is no record. The customer
     /// counts for an enrolment only, and the amount, in mills, for a reset only.
     pub fn ask(
         &mut self,

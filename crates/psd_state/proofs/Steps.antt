@@ -142,7 +142,7 @@ applied_state d n key v q r C e =
     ∙ by_kind d n key C (is_granted v) q.kind q r e.number e.deadline e.origin e.allowed e.amount e.funds
     ∙ ap (λ u. ended_to (is_granted u) q.kind (state_of d key C) q r) (sym e.verdict)
 
--- a commit of another device or node, but for a Registered after the enrolment
+-- a commit of another device or node, except for a Registered after the enrolment
 pub other_state : (d : ℕ) (key : List ℕ) (c : Commit) (C : List Commit) → same_node (node_of c) (Device d) ≡ false
     → (registered d (c ∷ C) ≡ registered d C) ⊎ (applied_kind Enrol d C ≡ false) → state_of d key (c ∷ C) ≡ state_of d key C
 other_state d key (Made e k) C h o = refl

@@ -1,4 +1,4 @@
--- What a device answers, and what its record is afterwards: the first refusal that holds, else the act.
+-- What a device answers, and what its record is afterwards: the first refusal that holds, otherwise the act.
 use lib.Signed.{lt_z}
 use Rattle.std.specs.Prelude.{ℕ, ℤ, pos, ◌+◌, ◌+ℤ◌, Bool, true, false, not, ◌&&◌, ◌||◌, List, [], ◌∷◌, Option, Some, None, Result, Ok, Err, nat_lt, nat_le, ◌==◌, if◌then◌else◌}
 use Rattle.bench_base.specs.declared.words.Kind.{Kind}
@@ -26,7 +26,7 @@ use Rattle.psd_state.specs.declared.debiting.Debited.TheVariants.{New, Again}
 
 -- == refusals ==
 
--- the refusal of what is there, else the answer
+-- the refusal of what is there, otherwise the answer
 abbrev pub unless : {A : Type 0} → Option Kind → (Kind → DevRefusal) → Result A DevRefusal → Result A DevRefusal
 unless None refusal answer = answer
 unless (Some k) refusal answer = Err (refusal k)
@@ -41,6 +41,7 @@ abbrev pub frozen_kind : Option Request → Option Kind
 frozen_kind None = None
 frozen_kind (Some q) = if empties q.kind then Some q.kind else None
 
+-- the device is in service
 abbrev pub in_service : Phase → Bool
 in_service InService = true
 in_service _ = false
@@ -51,14 +52,14 @@ in_service _ = false
 abbrev pub is_overdue : Rules → ℤ → ℤ → ℕ → Bool
 is_overdue ρ today deadline postage = lt_z (deadline +ℤ pos ρ.grace) today || (lt_z deadline today && nat_lt ρ.small postage)
 
--- in which cases the debit of a piece that was not marked before is refused, whatever is outstanding
+-- when the debit of a piece that was not marked before is refused, whatever is outstanding
 abbrev pub piece_rows : State → DebitMsg → List (Bool × Result Debited DevRefusal)
 piece_rows s c =
     (not (c.piece == s.registers.pieces + 1), Err (no.WrongPiece s.registers.pieces))
     ∷ (not (in_service s.phase), Err (no.Phase s.phase))
     ∷ []
 
--- in which cases it is refused where no refund or withdrawal is outstanding
+-- when it is refused if no refund or withdrawal is outstanding
 abbrev pub debit_rows : Rules → State → DebitMsg → ℤ → List (Bool × Result Debited DevRefusal)
 debit_rows ρ s c today =
     (lt_z today s.last_day, Err (no.ClockBack s.last_day))
@@ -81,12 +82,15 @@ mark_of ρ device origin c after today = record {
   class = c.class;
 }
 
+-- the mark of a debit
 abbrev pub mark_made : Rules → State → DebitMsg → ℤ → Mark
 mark_made ρ s c today = mark_of ρ s.device s.origin c (debited s.registers c.postage) today
 
+-- the record after a debit
 abbrev pub after_debit : Rules → State → DebitMsg → ℤ → State
 after_debit ρ s c today = record s { registers = debited s.registers c.postage; last_day = today; mark = Some (mark_made ρ s c today) }
 
+-- the answer to a new piece: the first refusal that holds, otherwise its mark
 abbrev pub new_answer : Rules → State → DebitMsg → ℤ → Result Debited DevRefusal
 new_answer ρ s c today =
     first_holding (piece_rows s c) (unless (frozen_kind s.pending) no.Frozen
@@ -101,10 +105,12 @@ repeated (Some k) piece = if k.piece == piece then Some k else None
 abbrev pub again : DebitMsg → List ℕ → Mark → Result Debited DevRefusal
 again c key k = if (k.postage == c.postage) && (k.class == c.class) then Ok (Again (marks.spell k key)) else Err (no.Conflict k.postage k.class)
 
+-- the answer to a piece that was the last one, otherwise this one
 abbrev pub unless_again : Option Mark → DebitMsg → List ℕ → Result Debited DevRefusal → Result Debited DevRefusal
 unless_again None c key otherwise = otherwise
 unless_again (Some k) c key otherwise = again c key k
 
+-- the answer to a debit: for another device it is refused, and the last piece is answered again
 abbrev pub debit_answer : Rules → State → DebitMsg → ℤ → Result Debited DevRefusal
 debit_answer ρ s c today =
     if c.device == s.device
@@ -122,7 +128,7 @@ HoldsAfter (Again x) = Unit {0}
 abbrev pub is_late : Rules → ℤ → ℤ → Bool
 is_late ρ today deadline = nat_lt 0 ρ.grace && lt_z deadline today
 
--- in which cases a transaction is not asked for, where none is outstanding
+-- when a transaction is not asked for, if no other is outstanding
 abbrev pub ask_rows : Rules → State → Kind → ℕ → ℤ → List (Bool × Result (State × List ℕ) DevRefusal)
 ask_rows ρ s k a today =
     (not (is_allowed k s.phase), Err (no.Phase s.phase))
@@ -140,11 +146,12 @@ amount_for Refund asked left = left
 amount_for Withdraw asked left = left
 amount_for _ asked left = 0
 
--- the customer of an enrolment is the caller's, else the kept one
+-- the customer of an enrolment is the caller's, otherwise the kept one
 abbrev pub customer_for : Kind → ℕ → ℕ → ℕ
 customer_for Enrol asked own = asked
 customer_for _ asked own = own
 
+-- the Request that a device makes, with its sums
 abbrev pub request_made : Rules → State → Kind → ℕ → ℕ → ℤ → Request
 request_made ρ s k who a today = record {
   version = ρ.version;
@@ -164,9 +171,11 @@ request_made ρ s k who a today = record {
 abbrev pub note_for : State → Request → List ℕ
 note_for s q = spell (m.Request q) s.key
 
+-- the record after a Request: it is outstanding
 abbrev pub after_ask : State → Request → State
 after_ask s q = record s { last_day = q.day; pending = Some q }
 
+-- the answer to what is asked for: the first refusal that holds, otherwise the record and the note
 abbrev pub ask_answer : Rules → State → Kind → ℕ → ℕ → ℤ → Result (State × List ℕ) DevRefusal
 ask_answer ρ s k who a today =
     let q : Request = request_made ρ s k who a today in
@@ -179,9 +188,11 @@ abbrev pub resend_answer : State → Option Request → Result (List ℕ) DevRef
 resend_answer s None = Err no.NothingPending
 resend_answer s (Some q) = Ok (note_for s q)
 
+-- the Done of the last request
 abbrev pub done_note : State → List ℕ
 done_note s = spell (m.Done (record { device = s.device; number = s.number })) s.key
 
+-- the answer to an acknowledgement: its Done, unless there was no request yet
 abbrev pub done_answer : State → Result (List ℕ) DevRefusal
 done_answer s = if s.number == 0 then Err no.NothingDone else Ok (done_note s)
 
@@ -191,6 +202,7 @@ done_answer s = if s.number == 0 then Err no.NothingDone else Ok (done_note s)
 abbrev pub is_stray : ReplyMsg → Request → Bool
 is_stray r q = not (same_kind r.kind q.kind) || (is_granted r.verdict && not (r.amount == q.amount))
 
+-- why a Reply is refused: it answers another request, or not as it was asked
 abbrev pub apply_rows : ReplyMsg → Request → List (Bool × Result State DevRefusal)
 apply_rows r q = (not (r.number == q.number), Err (no.Stale q.number)) ∷ (is_stray r q, Err (no.Stray q.kind)) ∷ []
 
@@ -211,15 +223,18 @@ granted Reset s q r = record s { registers = loaded s.registers q.amount; deadli
 granted Refund s q r = record s { registers = cleared s.registers }
 granted Withdraw s q r = record s { registers = cleared s.registers; phase = Withdrawn }
 
+-- the record after a Reply: granted or not, the request is no longer outstanding
 abbrev pub after_apply : State → Request → ReplyMsg → State
 after_apply s q r = if is_granted r.verdict then ended (granted q.kind s q r) q else ended s q
 
+-- the answer to a Reply: there has to be a request that it fits
 abbrev pub apply_answer : State → Option Request → ReplyMsg → Result State DevRefusal
 apply_answer s None r = Err no.NothingPending
 apply_answer s (Some q) r = first_holding (apply_rows r q) (Ok (after_apply s q r))
 
 -- == a new device, and what is shown ==
 
+-- the record of a device that was just made
 abbrev pub made_state : ℕ → List ℕ → State
 made_state device key = record {
   device = device;

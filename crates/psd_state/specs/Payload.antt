@@ -184,7 +184,7 @@ abbrev pub MarkWhole : Option Mark → Type 0
 MarkWhole None = Unit {0}
 MarkWhole (Some k) = marks.IsWhole k
 
--- a mark is kept exactly where there are pieces
+-- a mark is kept if and only if there are pieces
 abbrev pub IsKeptAt : ℕ → Option Mark → Type 0
 IsKeptAt n None = n ≡ 0
 IsKeptAt n (Some k) = 0 < n

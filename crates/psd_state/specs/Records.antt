@@ -1,4 +1,4 @@
--- The record of a device after a list of commits, the newest first, and the order in which its commits come.
+-- The record of a device after a list of commits, the newest first, and the order of its commits.
 use Rattle.std.specs.Prelude.{◌≡◌, ℕ, pos, ◌+◌, ◌<◌, List, [], ◌∷◌, Option, Some, None, IsSome, ◌==◌, if◌then◌else◌}
 use Rattle.bench_base.specs.declared.words.Verdict.{Verdict}
 use Rattle.bench_base.specs.declared.ledger.Commit.{Commit}

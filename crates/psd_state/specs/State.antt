@@ -14,6 +14,7 @@ use Rattle.psd_wire.specs.Grammar as grammar
 use Rattle.ledger_terms.specs.Rulings.{buys_limit}
 use Rattle.registers.specs.Sums.{Sums, Sound, total}
 
+-- the record of a device
 pub record State : Type 0 where
   pub device : ℕ
   -- the stored phase: a device in service is locked after its deadline, and stored as in service
@@ -22,7 +23,7 @@ pub record State : Type 0 where
   pub registers : Sums
   -- of the last transaction that was applied, and 0 before the first
   pub number : ℕ
-  -- the last day on which the device franks, and 0 before it is set
+  -- the last day for which the device franks, and 0 before it is set
   pub deadline : ℤ
   -- of the last debit or request, and 0 before the first
   pub last_day : ℤ
@@ -69,7 +70,7 @@ abbrev pub PendingOk : ℕ → ℕ → Phase → Sums → Option Request → Typ
 PendingOk device number phase s None = Unit {0}
 PendingOk device number phase s (Some q) = IsPending device number phase s q
 
--- what holds of the kept mark: there is one exactly where there are pieces
+-- what holds of the kept mark: there is one if and only if there are pieces
 abbrev pub MarkOk : ℕ → Sums → Option Mark → Type 0
 MarkOk device s None = s.pieces ≡ 0
 MarkOk device s (Some k) = (0 < s.pieces) × IsKept device s k

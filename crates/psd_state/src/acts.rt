@@ -59,7 +59,7 @@ pub fn debit_commit(device: DevNo, command: &DebitMsg, day: DayNo) -> Commit
     }
 }
 
-/// Makes the device under a key. `Made` exactly where it was made before.
+/// Makes the device under a key. `Made` if and only if it was made before.
 pub fn make_act(device: DevNo, key: &Key, state: &Option<ReadyRecord>) -> DeviceAct<()>
     ensures { result ≡ act_of.make_act device key.now state.now }
 {
@@ -73,7 +73,7 @@ pub fn make_act(device: DevNo, key: &Key, state: &Option<ReadyRecord>) -> Device
     }
 }
 
-/// Marks a piece: see `DevRec::debit`. `Blank`, before its refusals, exactly where there is no record. The mark of the last
+/// Marks a piece: see `DevRec::debit`. `Blank`, before its refusals, if and only if there is no record. The mark of the last
 /// piece is given once more without a commit.
 pub fn debit_act(
     device: DevNo,
@@ -116,7 +116,7 @@ fn franked_act(
     }
 }
 
-/// Asks for a transaction: see `DevRec::ask`. `Blank`, before its refusals, exactly where there is no record. The customer
+/// Asks for a transaction: see `DevRec::ask`. `Blank`, before its refusals, if and only if there is no record. The customer
 /// counts for an enrolment only, and the amount, in mills, for a reset only.
 pub fn ask_act(
     device: DevNo,

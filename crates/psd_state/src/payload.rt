@@ -66,7 +66,7 @@ impl DevRec {
         (self.deadline, self.last_day)
     }
 
-    /// The record of this device that the bytes read as, in version 1 or 2; None exactly where they read as none.
+    /// The record of this device that the bytes read as, in version 1 or 2; None if and only if they read as none.
     pub fn read_payload(device: DevNo, payload: &[u8; 209]) -> Option<DevRec>
         ensures found { IfSome result (λ s. (s.device ≡ device) × ReadsAs payload.now s) }
         ensures none { IfNone result ((s : State) → s.device ≡ device → ReadsAs payload.now s → ⊥) }

@@ -1,4 +1,4 @@
--- A fault is answered exactly where it is the first that holds.
+-- A fault is answered if and only if it is the first that holds.
 use Rattle.std.proofs.Common.{◌≡◌, ◌≢◌, ◌↔◌, ℕ, ◌+◌, List, length, get_or, take, drop, sym, ap, ◌∙◌, refl, arith, subst, Result, Ok, Err, Option, Some, None, IsSome, IsErr, Bool, true, false, inl, inr, eqb-true, eq-eqb, ne_eqb, ◌==◌, if◌then◌else◌, nat_lt}
 use Rattle.std.specs.Int.{w32, cast_signed}
 use Rattle.std.proofs.lemmas.Bool.{ltb-false, ltb-true}

@@ -578,7 +578,7 @@ filled bytes new short same =
     ∙ ap₂ (λ a b. a ++ b) (take_at bytes rest (length bytes) refl)
     (ap (take 32) (drop_at bytes rest (0 + length bytes) (omega arith) ∙ drop-replicate (length bytes) 87 0) ∙ take-replicate 32 (87 - length bytes) 0 (omega (arith, short)))
 
--- bytes with 32 zeros behind them read as a message exactly where they are its body
+-- bytes with 32 zeros behind them read as a message if and only if they are its body
 pub body_found : (bytes : List ℕ) → IsBytes (bytes ++ replicate 32 0)
     → IfSome (coded_in (read (bytes ++ replicate 32 0))) (λ x. IsCoded x × IsWhole x × (body x ≡ bytes))
 body_found bytes h = if_some (coded_in (read (bytes ++ replicate 32 0))) _

@@ -1,4 +1,4 @@
--- The messages, of which a Request and a Reply have two versions. Each layout is a table of sizes, and a row of numbers.
+-- The messages; a Request and a Reply have two versions. Each layout is a table of sizes, and a row of numbers.
 use Rattle.std.specs.Prelude.{◌≡◌, ℕ, ◌≤◌, ◌-◌, ℤ, pos, Bool, true, false, ◌≤ℤ◌, List, [], ◌∷◌, ◌++◌, length, take, drop, get_or, Option, Some, None, Result, Ok, Err, ◌==◌, ◌&&◌, nat_lt, if◌then◌else◌, FitsSigned}
 use lib.Signed.{le_z}
 use Rattle.std.specs.Int.{w32, cast_unsigned, cast_signed}
@@ -20,6 +20,7 @@ use Rattle.psd_wire.specs.declared.message.DebitMsg.{DebitMsg}
 use Rattle.psd_wire.specs.declared.message.Message.{Message}
 use Rattle.psd_wire.specs.declared.message.Message.TheVariants as m
 
+-- the number of a kind
 abbrev pub kind_code : Kind → ℕ
 kind_code Enrol = 1
 kind_code Reset = 2
@@ -27,9 +28,11 @@ kind_code Audit = 3
 kind_code Refund = 4
 kind_code Withdraw = 5
 
+-- the kind of a number, if it has one
 unfoldable pub kind_of : ℕ → Option Kind
 kind_of n = if n == 1 then Some Enrol else if n == 2 then Some Reset else if n == 3 then Some Audit else if n == 4 then Some Refund else if n == 5 then Some Withdraw else None
 
+-- the number of a verdict
 abbrev pub verdict_code : Verdict → ℕ
 verdict_code Granted = 0
 verdict_code NotEnrolled = 1
@@ -39,6 +42,7 @@ verdict_code Suspended = 4
 verdict_code NoFunds = 5
 verdict_code Imbalance = 6
 
+-- the verdict of a number, if it has one
 unfoldable pub verdict_of : ℕ → Option Verdict
 verdict_of n = if n == 0 then Some Granted else if n == 1 then Some NotEnrolled else if n == 2 then Some EnrolledAlready else if n == 3 then Some NoCustomer else if n == 4 then Some Suspended else if n == 5 then Some NoFunds else if n == 6 then Some Imbalance else None
 
@@ -52,6 +56,7 @@ sum_size version = if version == 1 then Four else Eight
 abbrev pub request_table : Size → List Size
 request_table s = One ∷ One ∷ Four ∷ Four ∷ One ∷ Four ∷ s ∷ s ∷ s ∷ s ∷ Four ∷ Four ∷ []
 
+-- the numbers of a Request, field by field
 abbrev pub request_values : Request → List ℕ
 request_values q = q.version ∷ 1 ∷ q.device ∷ q.number ∷ kind_code q.kind ∷ q.customer ∷ q.amount ∷ q.ascending ∷ q.descending ∷ q.refunded ∷ q.pieces ∷ cast_unsigned w32 q.day ∷ []
 
@@ -59,6 +64,7 @@ request_values q = q.version ∷ 1 ∷ q.device ∷ q.number ∷ kind_code q.kin
 abbrev pub reply_table : Size → List Size
 reply_table s = One ∷ One ∷ Four ∷ Four ∷ One ∷ One ∷ s ∷ Four ∷ Four ∷ []
 
+-- those of a Reply
 abbrev pub reply_values : ReplyMsg → List ℕ
 reply_values r = r.version ∷ 2 ∷ r.device ∷ r.number ∷ kind_code r.kind ∷ verdict_code r.verdict ∷ r.amount ∷ cast_unsigned w32 r.deadline ∷ r.origin ∷ []
 
@@ -66,6 +72,7 @@ reply_values r = r.version ∷ 2 ∷ r.device ∷ r.number ∷ kind_code r.kind 
 abbrev pub done_table : List Size
 done_table = One ∷ One ∷ Four ∷ Four ∷ []
 
+-- those of a Done
 abbrev pub done_values : DoneMsg → List ℕ
 done_values r = 1 ∷ 3 ∷ r.device ∷ r.number ∷ []
 
@@ -73,6 +80,7 @@ done_values r = 1 ∷ 3 ∷ r.device ∷ r.number ∷ []
 abbrev pub debit_table : List Size
 debit_table = One ∷ One ∷ Four ∷ Four ∷ Four ∷ Two ∷ []
 
+-- those of a Debit
 abbrev pub debit_values : DebitMsg → List ℕ
 debit_values r = 1 ∷ 16 ∷ r.device ∷ r.piece ∷ r.postage ∷ r.class ∷ []
 
@@ -138,6 +146,7 @@ size_of v t =
     then (if t == 1 then Some 71 else if t == 2 then Some 56 else if t == 3 then Some 42 else if t == 16 then Some 16 else if t == 17 then Some 66 else None)
     else (if t == 1 then Some 87 else if t == 2 then Some 60 else None)
 
+-- what follows from a value, or this fault without one
 abbrev pub given : {A B : Type 0} → Unread → Option A → (A → Result B Unread) → Result B Unread
 given e None f = Err e
 given e (Some a) f = f a
@@ -146,6 +155,7 @@ given e (Some a) f = f a
 unfoldable pub day_of : ℤ → Option ℤ
 day_of z = if le_z (pos 10957) z && le_z z (pos 84005) then Some z else None
 
+-- the Request with these numbers, of this kind and day
 abbrev pub request_from : List ℕ → Kind → ℤ → Request
 request_from vs kind day = record {
   version = get_or vs 0 0;
@@ -161,12 +171,15 @@ request_from vs kind day = record {
   day = day;
 }
 
+-- the Request in these numbers, if its kind and its day are valid
 abbrev pub request_in : List ℕ → Result Message Unread
 request_in vs = given unread.Kind (kind_of (get_or vs 4 0)) (λ kind. given unread.Day (day_of (cast_signed w32 (get_or vs 11 0))) (λ day. Ok (m.Request (request_from vs kind day))))
 
+-- the Request in these bytes
 unfoldable pub request_at : List ℕ → Result Message Unread
 request_at bytes = request_in (values 0 (request_table (sum_size (get_or bytes 0 0))) bytes)
 
+-- the Reply with these numbers, of this kind and verdict
 abbrev pub reply_from : List ℕ → Kind → Verdict → ReplyMsg
 reply_from vs kind verdict = record {
   version = get_or vs 0 0;
@@ -179,31 +192,40 @@ reply_from vs kind verdict = record {
   origin = get_or vs 8 0;
 }
 
+-- the Reply in these numbers, if its kind and its verdict are valid
 abbrev pub reply_in : List ℕ → Result Message Unread
 reply_in vs = given unread.Kind (kind_of (get_or vs 4 0)) (λ kind. given unread.Verdict (verdict_of (get_or vs 5 0)) (λ verdict. Ok (m.Reply (reply_from vs kind verdict))))
 
+-- the Reply in these bytes
 unfoldable pub reply_at : List ℕ → Result Message Unread
 reply_at bytes = reply_in (values 0 (reply_table (sum_size (get_or bytes 0 0))) bytes)
 
+-- the Done with these numbers
 abbrev pub done_from : List ℕ → DoneMsg
 done_from vs = record { device = get_or vs 2 0; number = get_or vs 3 0 }
 
+-- the Done in these bytes
 unfoldable pub done_at : List ℕ → Message
 done_at bytes = m.Done (done_from (values 0 done_table bytes))
 
+-- the Debit with these numbers
 abbrev pub debit_from : List ℕ → DebitMsg
 debit_from vs = record { device = get_or vs 2 0; piece = get_or vs 3 0; postage = get_or vs 4 0; class = get_or vs 5 0 }
 
+-- the Debit in these bytes
 unfoldable pub debit_at : List ℕ → Message
 debit_at bytes = m.Debit (debit_from (values 0 debit_table bytes))
 
+-- a Release of these bytes, if they are a mark
 abbrev pub if_mark : {A F : Type 0} → Result A F → List ℕ → Result Message Unread
 if_mark (Ok x) bytes = Ok (m.Release bytes)
 if_mark (Err e) bytes = Err unread.Mark
 
+-- the Release in these bytes
 unfoldable pub release_at : List ℕ → Result Message Unread
 release_at bytes = if_mark (read_mark (drop 2 bytes)) (drop 2 bytes)
 
+-- the message in these bytes, by its tag
 abbrev pub by_tag : ℕ → List ℕ → Result Message Unread
 by_tag t bytes =
     if t == 1 then request_at bytes

@@ -31,13 +31,13 @@ pub struct ReplyMsg {
     pub kind: Kind,
     pub verdict: Verdict,
     pub amount: u64,
-    /// The last day on which the device may debit, where the reply sets one; else 0.
+    /// The last day that the device may debit, if the reply sets one; otherwise 0.
     pub deadline: i32,
     /// The postal code of the place where the device is registered.
     pub origin: u32,
 }
 
-/// A device tells the centre that it applied the reply of this number.
+/// A device reports to the centre that it applied the reply of this number.
 #[derive(Clone, Copy)]
 pub struct DoneMsg {
     pub device: u32,

@@ -286,7 +286,7 @@ pub fn code_matches_by(bytes: &[u8], key: &ReadyKey) -> bool
     key.matches(&bytes[..front], &bytes[front..])
 }
 
-/// The message whose spelling under the key the bytes are, among those that end in a code; None exactly where
+/// The message whose spelling under the key the bytes are, among those that end in a code; None if and only if
 /// they are the spelling of none.
 pub fn read_under(bytes: &[u8], key: &Key) -> Option<Message>
     ensures found { IfSome result (λ x. IsCoded x × IsWhole x × (spell x key.now ≡ bytes.now)) }
@@ -307,7 +307,7 @@ pub fn read_under_by(bytes: &[u8], key: &ReadyKey) -> Option<Message>
     }
 }
 
-/// The message whose body the bytes are, among those that end in a code; None exactly where they are the body of
+/// The message whose body the bytes are, among those that end in a code; None if and only if they are the body of
 /// none. A body is all but the code.
 pub fn read_body(bytes: &[u8]) -> Option<Message>
     ensures found { IfSome result (λ x. IsCoded x × IsWhole x × (body x ≡ bytes.now)) }

@@ -21,6 +21,7 @@ pub record Sound (s : Sums) : Type 0 where
   pub within : total s ≤ limit
   pub pieces : s.pieces ≤ s.ascending
 
+-- the sums of a new device
 abbrev pub zeros : Sums
 zeros = record { ascending = 0; descending = 0; refunded = 0; pieces = 0 }
 

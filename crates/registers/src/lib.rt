@@ -45,7 +45,7 @@ impl Registers {
         }
     }
 
-    /// The registers of these numbers; None exactly where the sums are above the limit, or the pieces above ascending.
+    /// The registers of these numbers; None if and only if the sums are above the limit, or the pieces above ascending.
     pub fn of(ascending: u64, descending: u64, refunded: u64, pieces: u32) -> Option<Registers>
         ensures valid { IsSome result ↔ Sound (record { ascending = ascending; descending = descending; refunded = refunded; pieces = pieces }) }
         ensures value { IfSome result (λ r. r ≡ record { ascending = ascending; descending = descending; refunded = refunded; pieces = pieces }) }
@@ -111,7 +111,7 @@ impl Registers {
         self.ascending + self.descending + self.refunded
     }
 
-    /// The postage of one piece moves from descending to ascending. Err with descending exactly where the postage is
+    /// The postage of one piece moves from descending to ascending. Err with descending if and only if the postage is
     /// more. It is at least 1, and fewer pieces than 4,294,967,295 were marked.
     pub fn debit(&self, postage: u32) -> Result<Registers, u64>
         requires postage { 1 ≤ postage }
@@ -131,7 +131,7 @@ impl Registers {
         })
     }
 
-    /// The amount is added to descending. Err with the sum of all three exactly where it and the amount are above the
+    /// The amount is added to descending. Err with the sum of all three if and only if it and the amount are above the
     /// limit.
     pub fn load(&self, amount: u32) -> Result<Registers, u64>
         ensures exact { result ≡ load_answer self.now amount }

@@ -28,7 +28,7 @@ pub trait Cells: Drop + Sized {
 
     ghost room: { Self → Room size };
 
-    /// Takes the memory for so many cells. AllocError is want of memory.
+    /// Takes the memory for so many cells. AllocError is lack of memory.
     fn new(alloc: Global, cells: u32) -> Result<Self, AllocError>
         ensures { IfOk result (λ k. cells_of (room k) ≡ cells) };
 

@@ -15,7 +15,7 @@ pub struct RowRoom<R: Rows> {
 }
 
 impl<R: Rows> RowRoom<R> {
-    /// Takes the memory. AllocError is want of memory.
+    /// Takes the memory. AllocError is lack of memory.
     pub fn new(alloc: Global) -> Result<RowRoom<R>, AllocError> {
         let cells = R::Memory::new(alloc, R::cells())?;
         let rows = R::new(alloc)?;

@@ -27,7 +27,7 @@ pub trait Rows: Drop + Sized {
     fn cells() -> u32
         ensures { result ≡ table.cells };
 
-    /// The memory of what is kept. AllocError is want of memory.
+    /// The memory of what is kept. AllocError is lack of memory.
     fn new(alloc: Global) -> Result<Self, AllocError>;
 
     /// Keeps no row.

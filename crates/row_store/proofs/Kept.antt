@@ -52,7 +52,7 @@ module _ {R : Type 0} (decoded : ℕ → List ℕ → Option R) where
     at : row_of (row_at (seen_in decoded cells held) k) ≡ row_held decoded k (held k)
     at = seen_row cells (ReadsAs decoded) (λ j. row_held decoded j (held j)) held (filled_of cells held read) k lt
 
-    -- a cell has a row exactly where it has a payload
+    -- a cell has a row if and only if it has a payload
     pub some_held : is_some (row_of (row_at (seen_in decoded cells held) k)) ≡ is_some (payload_of (held k))
     some_held = ap (λ (o : Option R). is_some o) at ∙ held_some k (held k) (read k lt)
 

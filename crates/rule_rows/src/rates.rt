@@ -25,7 +25,7 @@ const NO_DOCUMENTS: &[&str] = &[
     "class = [",
 ];
 
-/// Documents that are no rate file, each but for one thing.
+/// Documents that are no rate file, each except for one thing.
 const NO_RATES: &[&str] = &[
     "",
     "zones = 0",

@@ -40,7 +40,7 @@ module _ (n : Nodes) where
       stands = subst (λ (x : Reply). Stands n new.bench (entries τ todays_rules L d.event d.text x)) (sym did.told) (steps_on old new d L did s u).stands;
     }
 
-    -- what holds of each event where the bench stands for a history and nothing is forged
+    -- what holds of each event where the bench represents a history and nothing is forged
     pub each_while : (P : Ledger → Done → Type 0) → ((old new : SceneOf n) (d : Done) (L : Ledger) → DidEvent n old new d → StandsFor n τ old.bench L → Unforged L d.event → P L d)
         → (old new : SceneOf n) (deeds : List Done) (L : Ledger) → DidEvents n old new deeds → StandsFor n τ old.bench L → RunWhile τ Unforged P L deeds
     each_while P law old new [] L did s = tt

@@ -1,4 +1,4 @@
--- At each moment of a run the bench stands for the ledger so far, and so does what a stop of the process leaves.
+-- At each moment of a run the bench represents the ledger so far, and so does what a stop of the process leaves.
 use Rattle.std.proofs.Common.{List, [], ◌∷◌}
 use Rattle.bench_base.specs.Ledger.{Ledger}
 use Rattle.bench_base.specs.Rules.{todays_rules, editions}

@@ -27,7 +27,7 @@ side_said k word outcome given P Q before now more r = record {
 }
 
 module _ (n : Nodes) (old new : SceneOf n) (stands : Stands n old.bench []) where
-  -- a bench that stands for nothing stands for the empty history
+  -- a bench that represents nothing represents the empty history
   pub stands_for_none : (τ : Tariff) → StandsFor n τ old.bench []
   stands_for_none τ = record { history = History.nothing; stands = stands }
 

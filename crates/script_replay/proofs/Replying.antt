@@ -66,7 +66,7 @@ module _ (n : Nodes)
         did.2,
       )
 
--- for want of memory nothing was done but to read some of the rates
+-- for lack of memory nothing was done but to read some of the rates
 pub wanted : {D C H V E : Type 0} (old new : Bench D C H V) (before now : Outside) (e : Event) (result : Result Reply E) → OnErr result ((new ≡ old) × WantsMemory e old.day before now)
     → OnErr result ((e ≡ ev.Rates) × Leaves (Run status.Memory) (scene old before) (scene new now))
 wanted old new before now e (Ok reply) want = want

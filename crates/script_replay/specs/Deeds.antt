@@ -11,6 +11,7 @@ use Rattle.desk_runs.specs.Deeds.{Done}
 abbrev pub rates_of : List Done → List ℕ
 rates_of deeds = flat_map (λ (d : Done). d.text) deeds
 
+-- what the printer took in them
 abbrev pub printed_of : List Done → List ℕ
 printed_of deeds = flat_map (λ (d : Done). d.printed) deeds
 

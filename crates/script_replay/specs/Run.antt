@@ -47,7 +47,7 @@ Prints τ H d = IsPrinted d.reply (print_of (plan τ todays_rules H d.event d.te
 abbrev pub Sane : Ledger → Done → Type 0
 Sane H d = IsSane d.reply
 
--- What a run leaves, by its end: all is as the deeds left it; but for want of memory, which a `rates` on a day may find, some of the
+-- What a run leaves, by its end: all is as the deeds left it; except for lack of memory, which a `rates` on a day may find, some of the
 -- rates may be taken.
 abbrev pub Leaves : {D C H V : Type 0} → SideStatus → Scene D C H V → Scene D C H V → Type 0
 Leaves (Run status.Done) behind now = now ≡ behind
@@ -61,7 +61,7 @@ Leaves Stopped behind now = now ≡ behind
 
 module _ (n : Nodes) where
   -- By a history for which the bench stood, with a run begun: each reply is one that its event may get there, and as long as
-  -- nothing from outside is forged the bench stands for what the deeds leave, which is lawful and paid for to the letter box, and no
+  -- nothing from outside is forged the bench represents what the deeds leave, which is lawful and paid for to the letter box, and no
   -- reply is one that never comes where devices and centre are honest. A printer that tells what it took has the marks of the events. Where no storage and no
   -- stream failed and no fuse was armed, each reply is the answer: of a node that comes on with an open commit one of its two, and
   -- where no commit was open at the beginning the answer itself.

@@ -16,7 +16,7 @@ use Rattle.line_runs.specs.declared.status.Status.{Status}
 use Rattle.line_runs.specs.declared.status.Status.TheVariants as status
 use Rattle.line_runs.specs.declared.status.SideStatus.TheVariants.{Run}
 
--- the bytes that are left of the script and that the report took, where they are told, and the faults of each; the rates and the printer
+-- the bytes that are left of the script and that the report took, if they are known, and the faults of each; the rates and the printer
 pub record Streams : Type 0 where
   pub left : Option (List ℕ)
   pub read_faults : ℕ
@@ -44,7 +44,7 @@ pub record Ran (outcome : Status) (given : List (List ℕ)) (WasDone : List Done
 
 -- why a run over the words that were given ends so
 pub record EndsRun (outcome : Status) (given : List (List ℕ)) (before now : Streams) : Type 0 where
-  -- Done, Script and TooLong come exactly where the bytes of the script say so, and only a fault of a stream and want of memory hinder them
+  -- Done, Script and TooLong come if and only if the bytes of the script say so, and only a fault of a stream and lack of memory hinder them
   pub exact : given ≡ program_words Replay → IfSome before.left (λ bytes. IsByScript (Run outcome) → (s : Status) → (outcome ≡ s) ↔ EndsAs script_grammar s bytes)
   pub words : (outcome ≡ status.Words) ↔ AreNone given
   pub untouched : outcome ≡ status.Words → now ≡ before

@@ -1,5 +1,5 @@
--- Each moment of a run, up to the first forged event: between two events the bench stands for the ledger so far, and a stop of the process at any moment leaves
--- what stands for it too.
+-- Each moment of a run, up to the first forged event: between two events the bench represents the ledger so far, and a stop of the process at any moment leaves
+-- what represents it too.
 use Rattle.std.specs.Prelude.{ℕ, List, [], ◌∷◌}
 use Rattle.bench_base.specs.declared.ledger.Entry.TheVariants.{Begin}
 use Rattle.bench_base.specs.Ledger.{Ledger, counted}
@@ -19,20 +19,20 @@ abbrev pub IsAllPaid : Ledger → Type 0
 IsAllPaid H = Always (λ P. (d : ℕ) → Paid (counted P) d) H
 
 module _ (n : Nodes) where
-  -- the bench stands for this history
+  -- the bench represents this history
   pub record StandsFor (τ : Tariff) (bench : BenchOf n) (L : Ledger) : Type 0 where
     pub history : History τ editions L
     pub stands : Stands n bench L
 
-  -- Before an event and behind the last: the bench stands for the ledger so far, which is lawful and paid for to the letter box; and what a
-  -- stop of the process leaves stands for that ledger with a new run begun.
+  -- Before an event and behind the last: the bench represents the ledger so far, which is lawful and paid for to the letter box; and what a
+  -- stop of the process leaves represents that ledger with a new run begun.
   pub record IsBetween (τ : Tariff) (bench : BenchOf n) (L : Ledger) : Type 0 where
     pub stands : StandsFor τ bench L
     pub lawful : Lawful todays_rules L
     pub paid : IsAllPaid L
     pub left : LeftFor n τ bench bench (Begin ∷ L)
 
-  -- So it is at each moment of the deeds; and what a stop within an event leaves stands for the ledger before it with the commit of the event,
+  -- So it is at each moment of the deeds; and what a stop within an event leaves represents the ledger before it with the commit of the event,
   -- if it has one, open.
   abbrev pub Throughout : Tariff → Ledger → (old new : SceneOf n) (deeds : List Done) → DidEvents n old new deeds → Type 0
   Throughout τ L old new [] did = IsBetween τ old.bench L

@@ -138,7 +138,7 @@ fn replay<S: BufSource, K: Sink, M: Fuse + Drop, N: Nv, R: Source, P: Sink>(
 ///
 /// Each event is done by a step of the bench; that holds of each whether or not a history leads to what the storages show. For
 /// every history for which the bench stood, and whose storages tell what they hold, each reply is one that its event may get,
-/// the bench stands for what the events leave, and that ledger is lawful, as long as nothing from outside is forged. Whatever the
+/// the bench represents what the events leave, and that ledger is lawful, as long as nothing from outside is forged. Whatever the
 /// storages tell, a failure of power, storage or a stream is answered only as often as they and the cuts account for; so where none
 /// failed, no fuse was armed and no `cut` was answered, each reply is its event's answer.
 pub fn run<S: BufSource, R: Source, K: Sink, P: Sink, N: Nv + Drop>(

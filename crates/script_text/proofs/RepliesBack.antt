@@ -1,4 +1,4 @@
--- A reply is told by its text, but for the number in a fault of a mark.
+-- A reply is told by its text, except for the number in a fault of a mark.
 use Rattle.std.proofs.Common.{◌≡◌, ℕ, ℤ, List, length, drop, true, false, Option, Some, None, cond, eqb, refl, sym, ap, ◌∙◌, arith, codes}
 use Rattle.bench_base.specs.declared.words.Phase.{Phase}
 use Rattle.bench_base.specs.declared.words.Kind.{Kind}

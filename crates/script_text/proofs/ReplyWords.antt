@@ -128,7 +128,7 @@ parts_printed (of_state s ∷ parts) plain h = (state_printed s, parts_printed p
 parts_printed (of_cause cause ∷ parts) plain h = (unread_printed cause, parts_printed parts plain h)
 parts_printed (of_fault fault ∷ parts) plain h = (fault_printed fault, parts_printed parts plain h)
 
--- the last line of each of these stands for all variants that no line above it names
+-- the last line of each of these represents all variants that no line above it names
 dev_plain : (r : DevRefusal) → are_plain (dev_parts r) ≡ true
 dev_plain dev.Blank = refl
 dev_plain r = refl

@@ -14,11 +14,12 @@ ask_words Enrol customer amount = kind_word Enrol ∷ decimal customer ∷ []
 ask_words Reset customer amount = kind_word Reset ∷ decimal amount ∷ []
 ask_words kind customer amount = kind_word kind ∷ []
 
+-- the keyword for a suspension, and for its end
 abbrev pub flag_word : Bool → List ℕ
 flag_word true = codes "suspend"
 flag_word false = codes "resume"
 
--- the words of an event; a day has its date behind this word
+-- the words of an event; a day has its date after this word
 abbrev pub words_of : Event → List (List ℕ)
 words_of (ev.Day t) = codes "day" ∷ []
 words_of ev.Rates = codes "rates" ∷ []
@@ -49,7 +50,7 @@ words_of (ev.ScanHex scan bytes) = codes "scan" ∷ decimal scan ∷ codes "hex"
 words_of (ev.Reconcile d) = codes "reconcile" ∷ device_word d ∷ []
 words_of ev.End = codes "end" ∷ []
 
--- these words, and behind them the date of the day that an event sets
+-- these words, and after them the date of the day that an event sets
 abbrev pub AreDated : Option ℤ → List (List ℕ) → List (List ℕ) → Type 0
 AreDated None front ws = ws ≡ front
 AreDated (Some t) front ws = (date : List ℕ) × IsDateText t date × (ws ≡ front ++ date ∷ [])

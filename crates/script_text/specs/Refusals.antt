@@ -22,6 +22,7 @@ use Rattle.bench_base.specs.declared.refusals.ScanRefusal.{ScanRefusal}
 use Rattle.bench_base.specs.declared.refusals.ScanRefusal.TheVariants as scan
 use Rattle.script_words.specs.Words.{kind_word}
 
+-- the word for a phase of a device
 abbrev pub phase_word : Phase → List ℕ
 phase_word phase.Blank = codes "blank"
 phase_word phase.Manufactured = codes "manufactured"
@@ -30,12 +31,14 @@ phase_word phase.InService = codes "in-service"
 phase_word phase.Locked = codes "locked"
 phase_word phase.Withdrawn = codes "withdrawn"
 
+-- the word for a state of a job
 abbrev pub state_word : JobState → List ℕ
 state_word state.Ordered = codes "ordered"
 state_word state.Held = codes "held"
 state_word state.Begun = codes "begun"
 state_word state.Closed = codes "closed"
 
+-- the word for why bytes are no message
 abbrev pub unread_word : Unread → List ℕ
 unread_word unread.Length = codes "length"
 unread_word unread.Version = codes "version"
@@ -45,13 +48,13 @@ unread_word unread.Verdict = codes "verdict"
 unread_word unread.Day = codes "day"
 unread_word unread.Mark = codes "mark"
 
--- the number that a fault of a mark carries isn't told
+-- the number that a fault of a mark carries isn't shown
 abbrev pub fault_word : MarkFault → List ℕ
 fault_word (fault.Length n) = codes "length"
 fault_word (fault.Version n) = codes "version"
 fault_word (fault.Algorithm n) = codes "algorithm"
 
--- a word of a refusal: one that stands in each text of it, or the word of what it carries
+-- a word of a refusal: one that each text of it has, or the word of what it carries
 pub data Part : Type 0 where
   said : List ℕ → Part
   -- a number of 32, of 16 and of 64 bits
@@ -66,6 +69,7 @@ pub data Part : Type 0 where
   of_cause : Unread → Part
   of_fault : MarkFault → Part
 
+-- the word of a part
 abbrev pub part_word : Part → List ℕ
 part_word (said w) = w
 part_word (of_number n) = decimal n
@@ -81,6 +85,7 @@ part_word (of_fault fault) = fault_word fault
 
 -- == the refusals ==
 
+-- the parts of each refusal of a device
 abbrev pub dev_parts : DevRefusal → List Part
 dev_parts dev.Blank = said (codes "blank") ∷ []
 dev_parts dev.Made = said (codes "made") ∷ []
@@ -103,6 +108,7 @@ dev_parts dev.NothingDone = said (codes "nothing") ∷ said (codes "done") ∷ [
 dev_parts dev.BadCode = said (codes "bad") ∷ said (codes "code") ∷ []
 dev_parts (dev.Unread cause) = said (codes "unread") ∷ of_cause cause ∷ []
 
+-- those of the centre
 abbrev pub centre_parts : CentreRefusal → List Part
 centre_parts (centre.Unread cause) = said (codes "unread") ∷ of_cause cause ∷ []
 centre_parts (centre.UnknownDevice d) = said (codes "unknown") ∷ said (codes "device") ∷ of_number d ∷ []
@@ -117,11 +123,13 @@ centre_parts (centre.Conflict amount) = said (codes "conflict") ∷ of_number am
 centre_parts (centre.BadAmount amount) = said (codes "bad") ∷ said (codes "amount") ∷ of_number amount ∷ []
 centre_parts (centre.DepositsFull total) = said (codes "deposits") ∷ said (codes "full") ∷ of_sum total ∷ []
 
+-- those of the rates
 abbrev pub rate_parts : RateRefusal → List Part
 rate_parts rate.NoClass = said (codes "no") ∷ said (codes "class") ∷ []
 rate_parts (rate.NoZone zones) = said (codes "no") ∷ said (codes "zone") ∷ of_number zones ∷ []
 rate_parts (rate.TooHeavy grams) = said (codes "too") ∷ said (codes "heavy") ∷ of_number grams ∷ []
 
+-- those of the host
 abbrev pub host_parts : HostRefusal → List Part
 host_parts host.NoRates = said (codes "no") ∷ said (codes "rates") ∷ []
 host_parts (host.Rate r) = rate_parts r
@@ -136,6 +144,7 @@ host_parts (host.OtherPiece piece) = said (codes "other") ∷ said (codes "piece
 host_parts (host.OtherPostage postage) = said (codes "other") ∷ said (codes "postage") ∷ of_number postage ∷ []
 host_parts (host.OtherClass class) = said (codes "other") ∷ said (codes "class") ∷ of_short class ∷ []
 
+-- those of the verifier
 abbrev pub scan_parts : ScanRefusal → List Part
 scan_parts (scan.Unread fault) = said (codes "unread") ∷ of_fault fault ∷ []
 scan_parts (scan.Unknown d) = said (codes "unknown") ∷ said (codes "device") ∷ of_number d ∷ []
@@ -148,17 +157,21 @@ scan_parts scan.Known = said (codes "known") ∷ []
 
 -- == their words ==
 
+-- the words of a refusal of a device
 unfoldable pub dev_words : DevRefusal → List (List ℕ)
 dev_words r = map part_word (dev_parts r)
 
+-- those of the centre
 unfoldable pub centre_words : CentreRefusal → List (List ℕ)
 centre_words r = map part_word (centre_parts r)
 
 abbrev pub rate_words : RateRefusal → List (List ℕ)
 rate_words r = map part_word (rate_parts r)
 
+-- those of the host
 unfoldable pub host_words : HostRefusal → List (List ℕ)
 host_words r = map part_word (host_parts r)
 
+-- those of the verifier
 unfoldable pub scan_words : ScanRefusal → List (List ℕ)
 scan_words r = map part_word (scan_parts r)

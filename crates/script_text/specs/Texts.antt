@@ -9,6 +9,7 @@ use Rattle.bench_base.specs.declared.events.Reply.TheVariants as reply
 use Rattle.script_text.specs.Refusals.{phase_word, dev_words, centre_words, host_words, scan_words}
 use Rattle.script_words.specs.Words.{joined, device_word, node_word, hex_word, kind_word, new_word}
 
+-- the number that a reply shows for a verdict
 abbrev pub verdict_number : Verdict → ℕ
 verdict_number Granted = 0
 verdict_number NotEnrolled = 1
@@ -18,6 +19,7 @@ verdict_number Suspended = 4
 verdict_number NoFunds = 5
 verdict_number Imbalance = 6
 
+-- the same in digits
 abbrev pub verdict_word : Verdict → List ℕ
 verdict_word v = decimal (verdict_number v)
 
@@ -26,6 +28,7 @@ abbrev pub flagged_word : Bool → List ℕ
 flagged_word true = codes "suspended"
 flagged_word false = codes "resumed"
 
+-- the kind of the outstanding request, or `none`
 abbrev pub pending_word : Option Kind → List ℕ
 pending_word None = codes "none"
 pending_word (Some kind) = kind_word kind

@@ -1,4 +1,4 @@
--- The ranges of the numbers in a reply, and what its text tells of it.
+-- The ranges of the numbers in a reply, and what its text shows of it.
 use Rattle.std.specs.Prelude.{◌≡◌, ℕ, ◌<◌, ◌^◌, List, [], ◌∷◌, length, Option, Some, None, FitsSigned}
 use Rattle.std.specs.Int.{w32}
 use Rattle.bench_base.specs.declared.words.Kind.{Kind}

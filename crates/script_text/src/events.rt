@@ -58,7 +58,7 @@ fn read_behind(keyword: Keyword, rest: &[u8]) -> Result<Event, LineFault>
     }
 }
 
-/// The event that the line spells; an error exactly where it spells none.
+/// The event that the line spells; an error if and only if it spells none.
 #[inline(always)]
 pub fn read_event(line: &[u8]) -> Result<Event, LineFault>
     ensures found { IfOk result (λ e. IsWholeEvent e × Spells e line.now) }

@@ -73,7 +73,7 @@ fn by_number(words: &[String]) -> Option<Words>
     }
 }
 
-/// What these words call the program for: exactly `replay`, or `generate SEED COUNT`. None exactly where they are of neither form.
+/// What these words call the program for: exactly `replay`, or `generate SEED COUNT`. None if and only if they are of neither form.
 pub fn read_words(words: &[String]) -> Option<Words>
     ensures found { IfSome result (λ w. AreInRange w × (map string_bytes words.now ≡ program_words w)) }
     ensures none { IfNone result ((w : Words) → AreInRange w → map string_bytes words.now ≢ program_words w) }

@@ -22,7 +22,7 @@ AreLower-at [] h k lt = absurd (omega (arith, lt))
 AreLower-at (c ∷ cs) h zero lt = h.0
 AreLower-at (c ∷ cs) h (suc k) lt = AreLower-at cs h.1 k (omega (arith, lt))
 
--- what a digit stands for
+-- what a digit represents
 pub figure_of : (c : ℕ) → 48 ≤ c → c ≤ 57 → slice_index lower_digits (c - 48) ≡ c
 figure_of c h k = glyph (c - 48) (omega (arith, h, k)) ∙ omega (arith, h)
 

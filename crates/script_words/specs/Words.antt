@@ -26,9 +26,11 @@ unfoldable pub words_in : List ℕ → List (List ℕ)
 words_in [] = [] ∷ []
 words_in (c ∷ line) = if c == 32 then [] ∷ words_in line else longer c (words_in line)
 
+-- the word for a device: `d` and its number
 abbrev pub device_word : ℕ → List ℕ
 device_word d = codes "d" ++ decimal d
 
+-- the word for a node
 abbrev pub node_word : Node → List ℕ
 node_word (Device d) = device_word d
 node_word Centre = codes "centre"
@@ -39,14 +41,16 @@ node_word Verifier = codes "verifier"
 abbrev pub hex_word : List ℕ → List ℕ
 hex_word bytes = encode_lower bytes
 
+-- a byte in two hexadecimal digits
 abbrev pub byte_word : ℕ → List ℕ
 byte_word b = hex_word (b ∷ [])
 
--- the digits of the bytes, or a dash where there are none
+-- the digits of the bytes, or a dash for no bytes
 abbrev pub given_word : List ℕ → List ℕ
 given_word [] = codes "-"
 given_word (b ∷ bytes) = hex_word (b ∷ bytes)
 
+-- the word for a kind of transaction
 abbrev pub kind_word : Kind → List ℕ
 kind_word Enrol = codes "enrol"
 kind_word Reset = codes "reset"
@@ -54,6 +58,7 @@ kind_word Audit = codes "audit"
 kind_word Refund = codes "refund"
 kind_word Withdraw = codes "withdraw"
 
+-- whether something was answered before: `again` or `new`
 abbrev pub new_word : Bool → List ℕ
 new_word true = codes "again"
 new_word false = codes "new"

@@ -24,7 +24,7 @@ pub fn number(word: &[u8]) -> Option<u64>
     digits(word)
 }
 
-// What a lower-case hexadecimal digit stands for; 255 for any other byte.
+// What a lower-case hexadecimal digit represents; 255 for any other byte.
 fn value_of(digit: u8) -> u8
     ensures digit { result < 16 → slice_index lower_digits result ≡ digit }
     ensures other { 16 ≤ result → IsLowerDigit digit → ⊥ }

@@ -6,7 +6,7 @@ ghost use Rattle.psd_audit.specs.Dates.{read_on};
 // The most digits of a number of 64 bits.
 const WIDE_DIGITS: usize = 20;
 
-// The number that these decimal digits write; None exactly where a byte is no digit.
+// The number that these decimal digits write; None if and only if a byte is no digit.
 fn wide_digits(word: &[u8]) -> Option<u128>
     requires { length word.now ≤ 20 }
     ensures value { MatchOption result (all_ascii_digits word.now ≡ false)

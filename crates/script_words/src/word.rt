@@ -14,7 +14,7 @@ pub trait Word: Copy {
     /// The value lies in its range.
     ghost fits: { Self → Type 0 };
 
-    /// The value of this word; None exactly where it is no value's.
+    /// The value of this word; None if and only if it is no value's.
     fn read(word: &[u8]) -> Option<Self>
         ensures found { IfSome result (λ v. fits v × (word.now ≡ text v)) }
         ensures none { IfNone result ((v : Self) → fits v → word.now ≢ text v) };

@@ -40,7 +40,7 @@ Either false one other = other
 abbrev pub IsSame : ℕ → List ℕ → ClaimRow → Type 0
 IsSame w mark x = (x.customer ≡ w) × (x.mark ≡ mark)
 
--- what follows a commit by how it ended: after Ok what was meant to, at a worn cell that answer, and else the end of the run
+-- what follows a commit by how it ended: after Ok what was meant to, at a worn cell that answer, and otherwise the end of the run
 abbrev pub Follows : Result (Unit {0}) StoreFail → Said → Next → Said → Next → Type 0
 Follows (Ok done) meant then now next = (now ≡ meant) × (next ≡ then)
 Follows (Err fail.Worn) meant then now next = (now ≡ said.Worn) × (next ≡ Say)

@@ -25,7 +25,7 @@ use Rattle.spoil_claims.specs.declared.desk.Desk.{Desk}
 abbrev pub KeepsNone : {N : Type 0} {own : nv.Ghosts N} → Desk N own → Type 0
 KeepsNone desk = (c : ℕ) → kept (rows_of desk) c ≡ None
 
--- A desk without a claim, and a bench that stood for the empty ledger, did the deeds: all that is said of a run with claims by a history is so.
+-- A desk without a claim, and a bench that represented the empty ledger, did the deeds: all that is said of a run with claims by a history is so.
 pub record DidFreshClaims (n : Nodes) {N : Type 0} (own : nv.Ghosts N) (old new : SceneOf n) (outcome : SideStatus) (deeds : List (SideDeed ClaimLine)) : Type 0 where
   pub before : Desk N own
   pub after : Desk N own

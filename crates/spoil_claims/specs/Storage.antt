@@ -39,12 +39,12 @@ module _ {N : Type 0} {g : Ghosts N} where
 
   -- Whether a commit failed, and which was torn; and what each image of the storage shows.
   pub record LeavesStorage (old new : Desk N g) (outcome : SideStatus) (deeds : List (SideDeed ClaimLine)) (torn : Option ClaimRow) : Type 0 where
-    -- the run was stopped exactly where a commit failed
+    -- the run was stopped if and only if a commit failed
     pub stops : (outcome ≡ Stopped) ↔ HasBroken deeds
     pub failed : (has_failed new ≡ true) ↔ ((has_failed old ≡ true) ⊎ (outcome ≡ Stopped))
     -- where one had failed before, this one answered Failed, and nothing was written
     pub before : has_failed old ≡ true → (torn ≡ None) × IsUntouched old new
-    -- else it answered Power, where power was cut, or Fault, where the count of faults rose; and it is the one that was torn
+    -- otherwise it answered Power, where power was cut, or Fault, where the count of faults rose; and it is the one that was torn
     pub why : has_failed old ≡ false → outcome ≡ Stopped → IsSome torn × (WasCut (meters_of old) (meters_of new) ⊎ Rose (meters_of old).faults (meters_of new).faults)
     pub whole : (outcome ≡ Stopped → ⊥) → torn ≡ None
     -- each image shows the claims, or those with the torn commit

@@ -144,7 +144,7 @@ fn read_behind(line: &[u8], word: &[u8], rest: &[u8]) -> Option<ClaimLine>
     None
 }
 
-/// The line of the desk that the bytes are; None exactly where they are none.
+/// The line of the desk that the bytes are; None if and only if they are none.
 pub fn read_claim_line(line: &[u8]) -> Option<ClaimLine>
     ensures found { IfSome result (λ own. IsClaimLine own line.now) }
     ensures none { IfNone result ((own : TheLine) → IsClaimLine own line.now → ⊥) }

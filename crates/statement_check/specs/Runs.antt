@@ -72,7 +72,7 @@ pub record Recomputed (outcome : Status) (left0 left1 taken0 taken1 : Option (Li
   pub appended : Appends taken0 taken1 text
   pub ends : EndsWith outcome bytes (IsAtEnd left1) text
 
--- The bytes have one verdict, which was answered and written; it is good exactly where they are a statement.
+-- The bytes have one verdict, which was answered and written; it is good if and only if they are a statement.
 pub record IsAnswered (outcome : Status) (bytes : List ℕ) (taken0 taken1 : Option (List ℕ)) : Type 0 where
   pub verdict : Verdict
   pub has : HasVerdict verdict bytes

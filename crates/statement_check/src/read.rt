@@ -129,7 +129,7 @@ fn read_behind(word: &[u8], rest: &[u8]) -> Option<StatementLine>
     None
 }
 
-/// The line of a statement that the bytes are; None exactly where they are none.
+/// The line of a statement that the bytes are; None if and only if they are none.
 pub fn read_statement_line(bytes: &[u8]) -> Option<StatementLine>
     ensures found { IfSome result (λ line. IsLineOf line bytes.now) }
     ensures none { IfNone result ((line : TheLine) → IsLineOf line bytes.now → ⊥) }

@@ -1,4 +1,4 @@
-//! What ends a test: an assertion that is written out would be proved in each function anew.
+//! What ends a test: an assertion that is written out would be proved in each function again.
 use std::process::Abort;
 
 /// This holds.

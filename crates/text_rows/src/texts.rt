@@ -12,7 +12,7 @@ use script_text::{Summary, Words, is_skipped, read_event, read_words, write_repl
 use std::alloc::{AllocError, Global};
 use std::process::Abort;
 
-/// This holds. An assertion that is written out would be proved in each function anew.
+/// This holds. An assertion that is written out would be proved in each function again.
 fn holds(rt: &impl Abort, is: bool, what: &str) {
     assert!(rt; is, "{what}");
 }
@@ -41,7 +41,7 @@ fn of_key(key: &Key) -> u32 {
     u32::from(key[17])
 }
 
-// The second of three bytes, and else the last one.
+// The second of three bytes, and otherwise the last one.
 fn last(bytes: &Given) -> u32 {
     match bytes.as_slice() {
         [] => 0,

@@ -55,7 +55,7 @@ read_fine : (x : Reply) → is_failure x ≡ false → fails_to_read (told_by x)
 read_fine r.RatesFault wrong = absurd (true≢false wrong)
 read_fine _ is = refl
 
--- what is told as the loss of power is that reply
+-- what is reported as the loss of power is that reply
 pub power_back : (x : Reply) (m : Node) → told x ≡ r.Power m → x ≡ r.Power m
 power_back (r.Power n) m is = is
 power_back _ m is = cc

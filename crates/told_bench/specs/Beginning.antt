@@ -40,7 +40,7 @@ AreBlank devices = (i : ℕ) (s : Seat DeviceRecord State) → slice_get devices
 
 -- == nodes that are switched off ==
 
--- a node that is off, and else as it was
+-- a node that is off, and otherwise as it was
 abbrev pub shut : {R X : Type 0} → Seat R X → Seat R X
 shut s = record s { on = false }
 
@@ -49,7 +49,7 @@ pub record ShutsAt (place : ℕ) (old new : List (Seat DeviceRecord State)) : Ty
   pub at : slice_get old place ≡ Some was
   pub set : new ≡ slice_set old place (shut was)
 
--- each device is off, and else as it was
+-- each device is off, and otherwise as it was
 pub record AreShut (old new : List (Seat DeviceRecord State)) : Type 0 where
   pub size : length new ≡ length old
   pub each : (i : ℕ) (t : Seat DeviceRecord State) → slice_get new i ≡ Some t

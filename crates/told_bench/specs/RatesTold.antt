@@ -16,7 +16,7 @@ use Rattle.told_bench.specs.declared.judging.Finding.TheVariants.{Wrong, Memory}
 abbrev pub text_of_rates : List ℕ → List ℕ
 text_of_rates left = take 65537 left
 
--- the answer to a text that reads so; want of memory has none
+-- the answer to a text that reads so; lack of memory has none
 abbrev pub reply_to : Result RateTable RatesFail → Option Reply
 reply_to (Ok x) = Some (r.Rates (length x.classes) x.zones)
 reply_to (Err (fail.Length n)) = Some r.RatesLength

@@ -122,7 +122,7 @@ count_in Verifier H = verifier.counting.count (bench_kinds.verifier.seen tt (cou
 
 -- == what is answered ==
 
--- the reply where it is done, and else this refusal
+-- the reply where it is done, and otherwise this refusal
 abbrev pub done_or : Reply → Option Reply → Reply
 done_or refusal None = refusal
 done_or refusal (Some reply) = reply

@@ -117,7 +117,7 @@ impl Auditor {
     ghost use Rattle.bench_base.specs.declared.ledger.Entry.TheVariants.{Begin};
     ghost use Rattle.told_bench.specs.Seeing.{IsReady, Sees, audit_of};
 
-    /// An auditor of blank nodes, of which nothing was told: what the empty ledger shows. AllocError is want of memory.
+    /// An auditor of blank nodes, of which nothing was told: what the empty ledger shows. AllocError is lack of memory.
     pub fn new(alloc: Global) -> Result<Auditor, AllocError>
         ensures ready { IfOk result (λ a. IsReady (audit_of a)) }
         ensures blank { IfOk result (λ a. Sees (audit_of a) []) }

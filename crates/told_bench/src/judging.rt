@@ -246,9 +246,9 @@ pub(crate) fn send(auditor: &mut Auditor, heard: Heard) -> Result<usize, Finding
     }
 }
 
-/// Judges the line of an event, where these bytes of the rates are left. `Ok`, with how many of them the event took, exactly where it may get a reply
-/// of that line; the auditor then has what the ledger shows that the reply leaves. `Wrong`, with the answer that was due, exactly where it may get
-/// none; the auditor has what it had. `Memory` is want of memory, for rates, a message or a mark.
+/// Judges the line of an event, where these bytes of the rates are left. `Ok`, with how many of them the event took, if and only if it may get a reply
+/// of that line; the auditor then has what the ledger shows that the reply leaves. `Wrong`, with the answer that was due, if and only if it may get
+/// none; the auditor has what it had. `Memory` is lack of memory, for rates, a message or a mark.
 pub fn judge(
     alloc: Global,
     auditor: &mut Auditor,

@@ -22,7 +22,7 @@ fn first_of(left: &[u8]) -> &[u8]
     }
 }
 
-// The answer to a text that reads so; none for want of memory.
+// The answer to a text that reads so; none for lack of memory.
 fn due_to(read: &Result<Rates, RatesFail>) -> Option<Reply>
     ensures { result ≡ reply_to «read».now }
 {

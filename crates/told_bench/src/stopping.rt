@@ -112,7 +112,7 @@ fn begins_both_ups(auditor: &Auditor, due: &Reply, front: &[u8]) -> bool
     begins(due, front) && other_up(auditor, due, front).is_some()
 }
 
-/// The answer that is due to the event, which the auditor leaves as it was: no reply has a line end in its line. AllocError is want of memory, for rates or a message.
+/// The answer that is due to the event, which the auditor leaves as it was: no reply has a line end in its line. AllocError is lack of memory, for rates or a message.
 pub fn due_to(
     alloc: Global,
     auditor: &mut Auditor,
@@ -133,7 +133,7 @@ pub fn due_to(
     }
 }
 
-// Tells the event as one in which this node lost its power, if it may be told so. True exactly where it may.
+// Tells the event as one in which this node lost its power, if it may be told so. True if and only if it may.
 fn lose_power_at(
     alloc: Global,
     auditor: &mut Auditor,
@@ -187,7 +187,7 @@ fn begins_failure(node: &Node, front: &[u8]) -> bool
     begins(&Reply::Power(*node), front) || begins(&Reply::Fault(*node), front)
 }
 
-// Tells the event as one in which this node lost its power, if a failure of the node begins so, and it may be told so. True exactly where both hold.
+// Tells the event as one in which this node lost its power, if a failure of the node begins so, and it may be told so. True if and only if both hold.
 fn lose_power_there(
     alloc: Global,
     auditor: &mut Auditor,
@@ -213,7 +213,7 @@ fn lose_power_there(
     }
 }
 
-// Tells the event as one in which a node lost its power: the first of all a failure of which begins so, and that may be told so. True exactly where there is one.
+// Tells the event as one in which a node lost its power: the first of all a failure of which begins so, and that may be told so. True if and only if there is one.
 fn lose_power(
     alloc: Global,
     auditor: &mut Auditor,
@@ -262,11 +262,11 @@ fn tell_done(
     }
 }
 
-/// Judges bytes that a report ends with, where the line of this event should stand: none, some or all of it, without its line end. `Ok` exactly where they are
+/// Judges bytes that a report ends with, where the line of this event should stand: none, some or all of it, without its line end. `Ok` if and only if they are
 /// the front of the line of a reply that the event may get. A reply comes after its event, so the event was done, and is told with a reply that begins so: this one.
 /// None is where that is in doubt, since nothing stands there, or a failure of a node begins so, or either of its `up`s. The event is then told as one in which
-/// its node lost its power, where it may be told so: the next `up` says whether its commit counts. `Wrong`, with the answer that was due, exactly where they are the
-/// front of none; the auditor has what it had. More than 256 bytes are never the front of one, whatever the auditor has. `Memory` is want of memory, for rates, a
+/// its node lost its power, where it may be told so: the next `up` says whether its commit counts. `Wrong`, with the answer that was due, if and only if they are the
+/// front of none; the auditor has what it had. More than 256 bytes are never the front of one, whatever the auditor has. `Memory` is lack of memory, for rates, a
 /// message or a mark.
 pub fn stop(
     alloc: Global,

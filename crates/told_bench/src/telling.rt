@@ -70,7 +70,7 @@ impl Auditor {
         self.day
     }
 
-    /// What the device answers to `status` on that day where it is on, by the commits that count. None exactly where it was not made.
+    /// What the device answers to `status` on that day where it is on, by the commits that count. None if and only if it was not made.
     pub fn status_of(&self, device: DevNo, day: DayNo) -> Option<Reply>
         requires ready { IsReady (audit_of self.now) }
         ensures by_record { OfDevice device (audit_of self.now) (λ s. result ≡ status_by device day (seen_of s.record)) }
@@ -84,7 +84,7 @@ impl Auditor {
         done(&device_act(device, day, &DeviceCall::Status, &seat.record.state))
     }
 
-    /// What the centre answers to `balance` where it is on, in mills, by the commits that count. None exactly where the customer is not open.
+    /// What the centre answers to `balance` where it is on, in mills, by the commits that count. None if and only if the customer is not open.
     pub fn balance_of(&self, customer: Customer) -> Option<Reply>
         ensures by_record { result ≡ balance_by customer (cells_of (audit_of self.now).centre.record) }
         ensures by_ledger { (H : Ledger) → Sees (audit_of self.now) H → result ≡ balance_by customer (centre_in H) }
@@ -99,7 +99,7 @@ impl Auditor {
         ))
     }
 
-    /// What the device shows of its record on that day, by the commits that count. None exactly where it was not made.
+    /// What the device shows of its record on that day, by the commits that count. None if and only if it was not made.
     pub fn shown_of(&self, device: DevNo, day: DayNo) -> Option<DevView>
         requires ready { IsReady (audit_of self.now) }
         ensures by_record { OfDevice device (audit_of self.now) (λ s. result ≡ shown_by day (seen_of s.record)) }
@@ -131,7 +131,7 @@ impl Auditor {
         )
     }
 
-    /// What the centre keeps of the device, by the commits that count. None exactly where it is not registered.
+    /// What the centre keeps of the device, by the commits that count. None if and only if it is not registered.
     pub fn device_row(&self, device: DevNo) -> Option<&DeviceRow>
         ensures by_record { option_copied result ≡ device_row_by device (cells_of (audit_of self.now).centre.record) }
         ensures by_ledger { (H : Ledger) → Sees (audit_of self.now) H → option_copied result ≡ device_row_by device (centre_in H) }
@@ -139,7 +139,7 @@ impl Auditor {
         self.centre.record.accounts().device(device.get())
     }
 
-    /// What the centre keeps of the customer, by the commits that count. None exactly where it is not open.
+    /// What the centre keeps of the customer, by the commits that count. None if and only if it is not open.
     pub fn customer_row(&self, customer: Customer) -> Option<&CustomerRow>
         ensures by_record { option_copied result ≡ customer_row_by customer (cells_of (audit_of self.now).centre.record) }
         ensures by_ledger { (H : Ledger) → Sees (audit_of self.now) H → option_copied result ≡ customer_row_by customer (centre_in H) }

@@ -53,9 +53,9 @@ fn judge_view(
     }
 }
 
-/// Judges the line of an event that asks this of the device on that day. `Ok`, with the message that was sent and the mark that was released, exactly where the
+/// Judges the line of an event that asks this of the device on that day. `Ok`, with the message that was sent and the mark that was released, if and only if the
 /// event may get a reply of that line, at each history at which the device is seen as the seat shows: the seat then shows the device at the ledger
-/// that the reply leaves. `Err`, with the answer that was due, exactly where it may get none; the seat rests.
+/// that the reply leaves. `Err`, with the answer that was due, if and only if it may get none; the seat rests.
 pub fn judge_device(
     seat: &mut Seat<DeviceRecord, DevRec>,
     device: DevNo,

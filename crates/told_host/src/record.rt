@@ -78,7 +78,7 @@ fn no_cells(alloc: Global) -> Result<Vec<Option<(u32, JobRow)>>, AllocError>
 impl HostRecord {
     ghost use Rattle.told_host.specs.Cells.{cells_of};
 
-    /// A host without a job: as it is seen before the first commit. AllocError is want of memory.
+    /// A host without a job: as it is seen before the first commit. AllocError is lack of memory.
     pub fn blank(alloc: Global) -> Result<HostRecord, AllocError>
         ensures { IfOk result (λ r. cells_of r ≡ seen_after []) }
     {

@@ -140,8 +140,8 @@ pub(crate) fn take_outcome<R: Record<X>, X: Copy>(
     }
 }
 
-/// Judges the line of a call of a node by its act. `Ok`, with the message that it sent, exactly where the call may get a reply of that
-/// line: the node is left as that reply tells. `Err`, with the answer that was due, exactly where it may get none: the node rests.
+/// Judges the line of a call of a node by its act. `Ok`, with the message that it sent, if and only if the call may get a reply of that
+/// line: the node is left as that reply tells. `Err`, with the answer that was due, if and only if it may get none: the node rests.
 pub fn judge_call<R: Record<X>, X: Copy>(
     seat: &mut Seat<R, X>,
     node: &Node,

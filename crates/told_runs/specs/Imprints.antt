@@ -25,7 +25,7 @@ taken_whole mark = record { mark = mark; taken = Whole }
 abbrev pub failed_in : List ℕ → Given
 failed_in mark = record { mark = mark; taken = Failed }
 
--- In an event with this reply, whose plan prints this mark, the printer was given this: the mark that is told as printed, or in whose line the printer failed,
+-- In an event with this reply, whose plan prints this mark, the printer was given this: the mark that is reported as printed, or in whose line the printer failed,
 -- and else nothing.
 pub record IsGiven (reply : Reply) (mark : Option (List ℕ)) (given : Option Given) : Type 0 where
   pub whole : (job : ℕ) → reply ≡ r.Printed job → (x : List ℕ) × (mark ≡ Some x) × (given ≡ Some (taken_whole x))

@@ -97,7 +97,7 @@ fn turn<S: Source, R: Source>(
 /// source's count of faults rose.
 ///
 /// What the printer was given in the lines that were paired is put behind the imprints, and what is open of it where the run was stopped. An event whose answer is
-/// begun was done; where that is in doubt a stop is told as one in which a node lost its power, if it may have. So a run over what was kept may be audited next. No
+/// begun was done; where that is in doubt a stop is reported as one in which a node lost its power, if it may have. So a run over what was kept may be audited next. No
 /// answer is judged of an event that brings forged bytes: the audit ends there.
 pub fn audit_run<S: Source, R: Source>(
     alloc: Global,

@@ -108,7 +108,7 @@ fn no_cells(alloc: Global) -> Result<Vec<Option<(u32, Held)>>, AllocError>
 impl ScanRecord {
     ghost use Rattle.told_scans.specs.Cells.{cells_of};
 
-    /// A verifier without a row: as it is seen before the first commit. AllocError is want of memory.
+    /// A verifier without a row: as it is seen before the first commit. AllocError is lack of memory.
     pub fn blank(alloc: Global) -> Result<ScanRecord, AllocError>
         ensures { IfOk result (λ r. cells_of r ≡ seen_after []) }
     {

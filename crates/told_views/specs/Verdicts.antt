@@ -50,7 +50,7 @@ module _ {N S X C : Type 0} (n : Counting S X) (kind : Kind N S C) (m : Node) (d
 
   module _ (τ : Tariff) (H : Ledger) (e : Event) (line : List ℕ) where
     -- The line is that of this reply, which the event may get at this ledger: the node is seen so at the ledger that it leaves, all
-    -- else is as it was but for what was sent, and any other reply that the event may get with that line leaves the same ledger.
+    -- otherwise is as it was except for what was sent, and any other reply that the event may get with that line leaves the same ledger.
     pub record MovesSo (w : View S) (sent released : Option (List ℕ)) (reply : Reply) : Type 0 where
       pub text : text_of reply ≡ line
       pub whole : IsWholeReply reply

@@ -70,7 +70,7 @@ scans_behind n payload long h =
 abbrev zeros_of : ℕ → List ℕ
 zeros_of n = replicate n 0
 
--- they are zeros exactly where no piece is accepted
+-- they are zeros if and only if no piece is accepted
 pub none_accepted : (n : ℕ) (payload : List ℕ) → length payload ≡ 8 + 4 * n → IsBytes payload → ((j : ℕ) → get_or (listed n (λ i. word_at (2 + i) payload)) j 0 ≡ 0)
     → replicate (length (drop 8 payload)) 0 ≡ drop 8 payload
 none_accepted n payload long h none =

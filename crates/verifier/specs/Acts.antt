@@ -18,6 +18,7 @@ use Rattle.verifier.specs.declared.acts.Spot.{Spot}
 use Rattle.verifier.specs.Answers.{scan_answer}
 use Rattle.verifier.specs.Seen.{Seen, key_at, spot_in}
 
+-- what a call of the verifier does
 abbrev pub ScanAct : Type 0 → Type 0
 ScanAct A = Act Change ScanRefusal A
 
@@ -36,6 +37,7 @@ abbrev pub trusted_act : ℕ → List ℕ → Bool → ScanAct (Unit {0})
 trusted_act d key true = Refuse no.Known
 trusted_act d key false = Commits (c.Trusted d key) (change.Trust d key) tt
 
+-- a key is trusted for the device, by what is looked up
 abbrev pub trust_by : ℕ → List ℕ → LookUps → ScanAct (Unit {0})
 trust_by d key at = trusted_act d key (is_some (at.key d))
 
@@ -44,6 +46,7 @@ trust_act d key s = trust_by d key (in_rows s)
 
 -- == a scan ==
 
+-- what is answered of an accepted mark
 abbrev pub told : Mark → Bool → Accepted
 told k again = record { device = k.device; piece = k.piece; again = again }
 
@@ -62,6 +65,7 @@ abbrev pub marked_act : ℕ → List ℕ → Mark → ℤ → Option (List ℕ) 
 marked_act n bytes k today None spot = Refuse (no.Unknown k.device)
 marked_act n bytes k today (Some key) spot = if has_code key bytes then spot_act n k today spot else Refuse no.BadCode
 
+-- the act of a scan, by what its bytes read as
 abbrev pub read_act : ℕ → List ℕ → ℤ → LookUps → Result (Mark × List ℕ) MarkFault → ScanAct Accepted
 read_act n bytes today at (Err fault) = Refuse (no.Unread fault)
 read_act n bytes today at (Ok k) = marked_act n bytes k.0 today (at.key k.0.device) (at.spot k.0.device k.0.piece)

@@ -1,4 +1,4 @@
--- What the verifier answers of a mark of a trusted device: the first refusal that holds, else whether its piece was accepted before. Days are
+-- What the verifier answers of a mark of a trusted device: the first refusal that holds, otherwise whether its piece was accepted before. Days are
 -- since 1970-01-01.
 use lib.Signed.{lt_z}
 use Rattle.std.specs.Prelude.{ℕ, ℤ, pos, ◌+ℤ◌, Bool, true, false, List, [], ◌∷◌, Option, Some, None, Result, Ok, Err, ◌==◌, if◌then◌else◌}
@@ -6,6 +6,7 @@ use Rattle.bench_base.specs.declared.refusals.ScanRefusal.{ScanRefusal}
 use Rattle.bench_base.specs.declared.refusals.ScanRefusal.TheVariants as no
 use Rattle.bench_base.specs.Rows.{first_holding}
 
+-- why a new piece is not accepted: a mark of a later day, one older than 30 days, no block left
 abbrev pub scan_rows : ℤ → ℤ → Bool → List (Bool × Result Bool ScanRefusal)
 scan_rows day today full =
     (lt_z today day, Err (no.Future day))

@@ -1,4 +1,4 @@
--- How each call of the verifier is told, and what the ledger plans for it: its act, by what is looked up in the commits, the newest first.
+-- How each call of the verifier is reported, and what the ledger plans for it: its act, by what is looked up in the commits, the newest first.
 use Rattle.std.specs.Prelude.{ℕ, ℤ, ◌+◌, List, length, Option, unwrap_or}
 use Rattle.bench_base.specs.declared.sizes.TheConstants.{FIRST_BLOCK}
 use Rattle.bench_base.specs.declared.ledger.Commit.{Commit}
@@ -20,6 +20,7 @@ use Rattle.verifier.specs.Acts.{ScanAct, LookUps, trust_by, scan_by}
 abbrev pub says : {A : Type 0} → (A → Said) → ScanAct A → Act Change Reply Said
 says say act = saying r.ScanRefused say act
 
+-- the reply to a key that is trusted
 abbrev pub told_trusted : ℕ → Unit {0} → Said
 told_trusted d u = replies (r.Trusted d)
 
@@ -33,12 +34,14 @@ told_accepted n a = replies (r.Accepted a.device a.piece n a.again)
 abbrev pub spot_after : List (ℕ × ℕ) → Option ℕ → Option ℕ → Spot
 spot_after xs place first = record { cell = FIRST_BLOCK + unwrap_or place (length xs); accepted = first }
 
+-- what the verifier looks up, in a list of commits
 abbrev pub in_commits : List Commit → LookUps
 in_commits C = record {
   key = λ d. trusted d C;
   spot = λ d piece. spot_after (blocks C) (block_place d (block_of piece) (blocks C)) (accepted d piece C);
 }
 
+-- the plan of trusting a key
 abbrev pub trust_plan : ℕ → List ℕ → List Commit → Plan
 trust_plan d key C = said_plan (says (told_trusted d) (trust_by d key (in_commits C)))
 

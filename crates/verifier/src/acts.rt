@@ -24,7 +24,7 @@ pub type ScanAct<A> = Act<Change, ScanRefusal, A>;
 pub enum Change {
     /// Marks of the device are trusted under the key.
     Trust(DevNo, Key),
-    /// The cell holds this block of the device, whose piece at this place is accepted under the scan number.
+    /// The cell holds this block of the device, and the piece at this place is accepted under the scan number.
     Accept {
         cell: u32,
         device: DevNo,
@@ -34,7 +34,7 @@ pub enum Change {
     },
 }
 
-/// Where a piece is looked up.
+/// What is found of a piece.
 #[derive(Clone, Copy)]
 pub struct Spot {
     /// The cell of its block, or the next cell where that block is not in use.
@@ -51,7 +51,7 @@ pub struct Accepted {
     pub again: bool,
 }
 
-/// Trusts marks of the device under the key. `Known` exactly where they are trusted.
+/// Trusts marks of the device under the key. `Known` if and only if they are trusted.
 pub fn trust_act(device: DevNo, key: &Key, known: bool) -> ScanAct<()>
     ensures { result ≡ act_of.trusted_act device key.now known }
 {
@@ -111,7 +111,7 @@ fn spot_act(number: u32, device: DevNo, mark: &Mark, today: DayNo, spot: Spot) -
 /// Scans the bytes of a mark under this number. `key` is that of the mark's device made ready, where it is trusted, and
 /// `spot` where its piece is looked up.
 ///
-/// The first refusal that holds: `Unknown`, with its number, exactly where the device is not trusted; `BadCode` exactly
+/// The first refusal that holds: `Unknown`, with its number, if and only if the device is not trusted; `BadCode` exactly
 /// where the code does not match under the key; those of `scan`. A piece that was accepted before under the same number
 /// is told without a commit.
 pub fn scan_act(

@@ -108,7 +108,7 @@ impl BlockIndex {
         self.len
     }
 
-    /// The cell of the block; None exactly where it is not in the index.
+    /// The cell of the block; None if and only if it is not in the index.
     pub fn find(&self, device: u32, block: u32) -> Option<u32>
         ensures { result ≡ cell_in self.now device block }
     {

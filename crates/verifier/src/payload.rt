@@ -43,7 +43,7 @@ pub fn read_trust(device: DevNo, payload: &[u8; BLOCK_BYTES]) -> bool
     u32_at(payload, 0) == device.get() && is_zero(&payload[36..])
 }
 
-/// Device and number of the block that the payload reads as; None exactly where it reads as none.
+/// Device and number of the block that the payload reads as; None if and only if it reads as none.
 pub fn read_block(payload: &[u8; BLOCK_BYTES]) -> Option<(u32, u32)>
     ensures { MatchOption result ((d b : ℕ) (scans : List ℕ) → RowReadsAs (BlockRow d b scans) payload.now → ⊥)
         (λ x. RowReadsAs (BlockRow x.0 x.1 (scans_of payload.now)) payload.now) }

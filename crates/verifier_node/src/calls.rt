@@ -1,6 +1,6 @@
 //! The calls of the verifier. Days are since 1970-01-01.
 //!
-//! A call answers `Store` with `Failed`, before every refusal, exactly where an earlier call of this value answered Power or
+//! A call answers `Store` with `Failed`, before every refusal, if and only if an earlier call of this value answered Power or
 //! Fault; after every refusal it answers Power or Fault where its commit failed, and Worn where the cell of its change has
 //! 4,294,967,295 commits. A refusal, Worn, and an answer that needs no commit leave the verifier and its storage as they
 //! were.
@@ -18,7 +18,7 @@ use verifier::Accepted;
 impl<N: Nv> Verifier<N> {
     ghost use Rattle.verifier_node.specs.VerifierView.{seen_of, Performs};
 
-    /// Trusts marks of the device under the key. `Known` exactly where they are trusted.
+    /// Trusts marks of the device under the key. `Known` if and only if they are trusted.
     pub fn trust(&mut self, device: DevNo, key: &Key) -> Result<(), ScanFail>
         ensures { Performs (act_of.trust_act device key.now (seen_of self.old)) self.old self.new result }
     {
