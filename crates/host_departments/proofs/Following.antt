@@ -1,5 +1,5 @@
 -- Departments follow the ledger at each line of a run.
-use Rattle.std.proofs.Common.{◌≡◌, ℕ, List, [], ◌∷◌, Option, Some, None, ap, ◌∙◌, subst}
+use Rattle.std.proofs.Common.{ℕ, List, [], ◌∷◌, Option, Some, None, ap, ◌∙◌, subst}
 use Rattle.bench_base.specs.declared.ledger.Entry.TheVariants.{Begin}
 use Rattle.bench_base.specs.Ledger.{Ledger}
 use Rattle.bench_base.specs.Rules.{editions}
@@ -18,7 +18,7 @@ use Rattle.host_departments.specs.Answers.{Answer, IsTold, ByQuota, IsAnswered, 
 use Rattle.host_departments.specs.DepartmentLines.{IsLine}
 use Rattle.host_departments.specs.Follows.{TellsOrders, FollowLedger}
 use Rattle.host_departments.specs.Holds.{AreBacked, DepartmentsHold}
-use Rattle.host_departments.specs.Rows.{Rows, quota, spent}
+use Rattle.host_departments.specs.Rows.{Rows, spent}
 use Rattle.host_departments.specs.Texts.{spent_text}
 use Rattle.host_departments.specs.declared.row.DepartmentLine.{DepartmentLine}
 use Rattle.host_departments.specs.declared.row.DepartmentLine.TheVariants.{Quota, Assign, Spent, Print}

@@ -1,5 +1,5 @@
 //! A run with a manifest from nothing: over blank storages in memory.
-ghost use Rattle.std.specs.Prelude.{◌≡◌, ◌≢◌, [], IfSome, map, string_bytes, codes};
+ghost use Rattle.std.specs.Prelude.{◌≢◌, [], IfSome, map, string_bytes, codes};
 ghost use Rattle.bench.specs.Benches.{IsReady, Stands, bench_of};
 ghost use Rattle.script_replay.specs.Fresh.{IsOverFresh};
 ghost use Rattle.script_replay.specs.SidesFresh.{RanSideFresh};

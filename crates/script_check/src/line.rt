@@ -1,5 +1,5 @@
 //! The first word of a line that no event has there.
-ghost use Rattle.std.specs.Prelude.{◌≡◌, ◌↔◌, ◌+◌, ◌≤◌, ◌-◌, ◌⊎◌, [], ◌∷◌, length, slice_get, None, Some, IsNone, IfSome, MatchOption};
+ghost use Rattle.std.specs.Prelude.{◌≡◌, ◌↔◌, ◌+◌, ◌≤◌, ◌-◌, ◌⊎◌, [], ◌∷◌, slice_get, None, Some, IsNone, IfSome, MatchOption};
 ghost use Rattle.bench_base.specs.Ranges.{IsWholeEvent};
 ghost use Rattle.bench_base.specs.declared.events.Event.{Event};
 ghost use Rattle.script_check.specs.Keywords.{keyword_word};

@@ -1,6 +1,5 @@
 //! What is wrong with a whole script.
-ghost use Rattle.std.specs.Prelude.{◌≡◌, ◌≤◌, Err, IfOk};
-ghost use Rattle.bench_base.specs.Causes.{Rose};
+ghost use Rattle.std.specs.Prelude.{◌≤◌, Err, IfOk};
 
 use crate::fault::Fault;
 use crate::line::check_line;

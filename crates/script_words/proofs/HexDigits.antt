@@ -22,13 +22,6 @@ AreLower-at [] h k lt = absurd (omega (arith, lt))
 AreLower-at (c ∷ cs) h zero lt = h.0
 AreLower-at (c ∷ cs) h (suc k) lt = AreLower-at cs h.1 k (omega (arith, lt))
 
--- what a digit represents
-pub figure_of : (c : ℕ) → 48 ≤ c → c ≤ 57 → slice_index lower_digits (c - 48) ≡ c
-figure_of c h k = glyph (c - 48) (omega (arith, h, k)) ∙ omega (arith, h)
-
-pub letter_of : (c : ℕ) → 97 ≤ c → c ≤ 102 → slice_index lower_digits (c - 97 + 10) ≡ c
-letter_of c h k = letter_at (c - 97 + 10) (omega arith) (omega (arith, h, k)) ∙ omega (arith, h)
-
 lower_digit : (v : ℕ) → v < 16 → IsLowerDigit (slice_index lower_digits v)
 lower_digit v h =
     elim (cases_lt v 10) [

@@ -1,6 +1,5 @@
 -- What the storage of the claims shows at each moment of a move of the desk.
-use Rattle.std.proofs.Common.{◌≡◌, inl, inr, ℕ, ◌+◌, ◌-◌, List, Option, Some, None, Bool, true, false, ◌==◌, refl, ap}
-use Rattle.bench_base.specs.declared.events.Event.{Event}
+use Rattle.std.proofs.Common.{◌≡◌, inl, inr, ℕ, ◌+◌, List, Option, Some, None, Bool, true, false, ◌==◌, ap}
 use Rattle.bench_base.specs.declared.events.Reply.{Reply}
 use Rattle.nv_model.specs.declared.nv.Nv as nv
 use Rattle.node_turns.specs.declared.turn.Turn.{Turn}
@@ -12,10 +11,9 @@ use Rattle.desk_runs.specs.declared.desk.Next.{Next}
 use Rattle.desk_runs.specs.declared.desk.Next.TheVariants.{Say}
 use Rattle.desk_runs.proofs.Moving.{each_move}
 use Rattle.desk_runs.proofs.Stores.{shown_still, shown_commit}
-use Rattle.law_scans.specs.Acceptances.{IsAccepted}
 use Rattle.spoil_claims.specs.Claims.{kept, last_claim, credits}
 use Rattle.spoil_claims.specs.ClaimsDesk.{claims_desk}
-use Rattle.spoil_claims.specs.Courses.{Either, row_for, as_credited, scan_of, Says, ByFailed, Scans, ByKept, Begins, Credited, Scanned, GoesOn}
+use Rattle.spoil_claims.specs.Courses.{Either, row_for, as_credited, scan_of, Says, ByFailed, ByKept, Begins, Credited, Scanned, GoesOn}
 use Rattle.spoil_claims.specs.Payload.{decoded, spelled}
 use Rattle.spoil_claims.specs.Storage.{ShownMeanwhile}
 use Rattle.spoil_claims.specs.View.{said_of, has_failed, rows_of, view_of, Rests}

@@ -1,4 +1,4 @@
-use Rattle.std.proofs.Common.{◌≡◌, ◌≤◌, ℕ, ◌∙◌, Bool, subst, arith}
+use Rattle.std.proofs.Common.{◌≡◌, ℕ, ◌∙◌, Bool, subst, arith}
 use Rattle.told_bench.specs.Fronts.{LosesThere, NoneBelow}
 use Rattle.told_bench.specs.Seeing.{audit_of}
 use Rattle.told_bench.proofs.Stops.{one_more, all_below}
