@@ -31,7 +31,7 @@ use Rattle.psd_wire.specs.Codes.{has_code}
 use Rattle.ledger_terms.specs.Further.{SentAreRead, IsAddressed}
 use Rattle.ledger_laws.proofs.Histories.{message_sent}
 use Rattle.ledger_moves.specs.Tariffs.{Tariff}
-use Rattle.ledger_moves.specs.Moves.{plan, at_node, centre_plan, deliver_to, deliver_plan}
+use Rattle.ledger_moves.specs.Moves.{plan, at_node, addressee, deliver_plan, give_plan}
 use Rattle.centre_ledger.specs.declared.rows.DeviceRow.{DeviceRow}
 use Rattle.centre_ledger.specs.declared.rows.CustomerRow.{CustomerRow}
 use Rattle.centre_ledger.specs.declared.taking.CentreAnswer.{CentreAnswer}
@@ -271,13 +271,13 @@ module _ (H : Ledger) (known : IsKnown (seen_in (counted H))) (are : AreBooksOf 
       ∙ at_seen counting Centre seen_in H (says say seen) (commit_says _ r.CentreRefused say seen (own seen good)) (commit_says _ r.CentreRefused say seen (worn_alike seen good))
 
   -- what it is handed, by the next message
-  handed : (bytes : List ℕ) → IsBytes bytes → centre_plan bytes H ≡ seen_plan counting Centre (view_of H) (centre_act (call.Take (record { bytes = bytes; message = length (sent_in H) })) b)
-  handed bytes is =
+  handed : (today : ℤ) (bytes : List ℕ) → IsBytes bytes → give_plan todays_rules today Centre bytes H ≡ seen_plan counting Centre (view_of H) (centre_act (call.Take (record { bytes = bytes; message = length (sent_in H) })) b)
+  handed today bytes is =
       ap (λ (k : ℕ). at_node Centre H (take_plan k bytes C)) (sym (sent_many H)) ∙ at (told.told_taken (length (sent_in H))) (acts.take_by bytes) (take_good bytes is)
 
   -- a message that is delivered to the centre
   delivered : (today : ℤ) (bytes : List ℕ) (k : ℕ) (asked : Asked CentreCall) (x : Message) → IsAddressed x → takes.delivered_as bytes k (Ok x) ≡ take.Work (work.Centre asked)
-      → deliver_to todays_rules today bytes (Ok x) H ≡ centre_plan bytes H
+      → give_plan todays_rules today (addressee (Ok x)) bytes H ≡ give_plan todays_rules today Centre bytes H
   delivered today bytes k asked (m.Request q) own is = refl
   delivered today bytes k asked (m.Done q) own is = refl
   delivered today bytes k asked (m.Release x) own is = cc
@@ -293,9 +293,9 @@ module _ (H : Ledger) (known : IsKnown (seen_in (counted H))) (are : AreBooksOf 
   delivered_plan today k asked (Some bytes) there at bytes_are =
       let to = delivered_asked bytes (length (sent_in H)) asked (read bytes) at in
       let x = sent bytes (message_sent k bytes H there) in
-      ap (λ (y : Result Message Unread). deliver_to todays_rules today bytes y H) x.1
+      ap (λ (y : Result Message Unread). give_plan todays_rules today (addressee y) bytes H) x.1
       ∙ delivered today bytes (length (sent_in H)) asked x.0 x.2 (subst (λ (y : Result Message Unread). takes.delivered_as bytes (length (sent_in H)) y ≡ take.Work (work.Centre asked)) x.1 at)
-      ∙ handed bytes (subst AreBytes to bytes_are) ∙ ap (ByView today) (sym to)
+      ∙ handed today bytes (subst AreBytes to bytes_are) ∙ ap (ByView today) (sym to)
 
   pub planned_call : (τ : Tariff) (today : ℤ) (quote : Quote) → day_in H ≡ Some today → commits_in (seen_in C) ≡ count_of Centre C → (e : Event) (asked : Asked CentreCall)
       → taken (sent_in H) quote e ≡ Some (take.Work (work.Centre asked)) → IsWholeEvent e → AreBytes asked → plan τ todays_rules H e [] ≡ ByView today asked
@@ -309,7 +309,7 @@ module _ (H : Ledger) (known : IsKnown (seen_in (counted H))) (are : AreBooksOf 
     deposit = λ w n a whole bytes. rw day (at (told.told_deposited w n) (acts.deposit_by w n a) (deposit_good w n a whole.0));
     flag = λ w flag whole bytes. rw day (at (told.told_flagged w flag) (acts.flag_by w flag) (flag_good w flag whole));
     balance = λ w whole bytes. rw day (at (told.told_balance w) (acts.balance_by w) (balance_good w));
-    give = λ bytes whole are_bytes. rw day (handed bytes are_bytes);
+    give = λ bytes whole are_bytes. rw day (handed today bytes are_bytes);
     deliver = λ k asked is whole bytes. rw day (delivered_plan today k asked (message k H) refl (subst (λ (o : Option (List ℕ)). takes.message_taken k (length (sent_in H)) o ≡ take.Work (work.Centre asked)) (sent_at H k) is) bytes);
   })
 

@@ -28,7 +28,7 @@ use Rattle.psd_wire.specs.declared.message.Message.{Message}
 use Rattle.psd_wire.specs.declared.message.Message.TheVariants as m
 use Rattle.psd_wire.specs.Grammar.{read}
 use Rattle.ledger_moves.specs.Tariffs.{Tariff}
-use Rattle.ledger_moves.specs.Moves.{plan, at_node, host_plan, deliver_to, deliver_plan}
+use Rattle.ledger_moves.specs.Moves.{plan, at_node, addressee, deliver_plan, give_plan}
 use Rattle.host_jobs.specs.declared.rows.JobRow.{JobRow}
 use Rattle.host_jobs.specs.Answers.{order_answer, send_answer}
 use Rattle.host_jobs.specs.Acts.{HostAct, shelf_in, ordered_act, unless, debit_note, sent_act}
@@ -198,11 +198,11 @@ module _ (H : Ledger) (known : IsKnown (seen_after (counted H))) (turn : InTurn 
   sends : (j : ℕ) → at_node Host H (told.send_plan (length (sent_in H)) j C) ≡ seen_plan counting Host (view_of H) (host_act (call.Send (record { job = j; message = length (sent_in H) })) rows)
   sends j = at (told.told_sent j (length (sent_in H))) (acts.debit_message_act j rows) (send_good j) (acts.debit_message_by j (told.in_commits C)) (plans.sent j)
 
-  handed : (bytes : List ℕ) → host_plan bytes H ≡ seen_plan counting Host (view_of H) (host_act (call.Take (record { bytes = bytes })) rows)
-  handed bytes = at told.told_held (acts.take_act bytes rows) (take_good bytes) (acts.take_by bytes (told.in_commits C)) (plans.taken bytes)
+  handed : (today : ℤ) (bytes : List ℕ) → give_plan todays_rules today Host bytes H ≡ seen_plan counting Host (view_of H) (host_act (call.Take (record { bytes = bytes })) rows)
+  handed today bytes = at told.told_held (acts.take_act bytes rows) (take_good bytes) (acts.take_by bytes (told.in_commits C)) (plans.taken bytes)
 
   -- a message that is delivered to the host
-  delivered : (today : ℤ) (bytes : List ℕ) (k : ℕ) (asked : Asked HostCall) (x : Result Message Unread) → takes.delivered_as bytes k x ≡ take.Work (work.Host asked) → deliver_to todays_rules today bytes x H ≡ host_plan bytes H
+  delivered : (today : ℤ) (bytes : List ℕ) (k : ℕ) (asked : Asked HostCall) (x : Result Message Unread) → takes.delivered_as bytes k x ≡ take.Work (work.Host asked) → give_plan todays_rules today (addressee x) bytes H ≡ give_plan todays_rules today Host bytes H
   delivered today bytes k asked (Ok (m.Release x)) is = refl
   delivered today bytes k asked (Ok (m.Request q)) is = cc
   delivered today bytes k asked (Ok (m.Done q)) is = cc
@@ -216,7 +216,7 @@ module _ (H : Ledger) (known : IsKnown (seen_after (counted H))) (turn : InTurn 
   delivered_plan : (today : ℤ) (k : ℕ) (asked : Asked HostCall) (o : Option (List ℕ)) → takes.message_taken k (length (sent_in H)) o ≡ take.Work (work.Host asked) → deliver_plan todays_rules today k o H ≡ ByView today asked
   delivered_plan today k asked None is = cc
   delivered_plan today k asked (Some bytes) is =
-      delivered today bytes (length (sent_in H)) asked (read bytes) is ∙ handed bytes ∙ ap (ByView today) (sym (delivered_asked bytes (length (sent_in H)) asked (read bytes) is))
+      delivered today bytes (length (sent_in H)) asked (read bytes) is ∙ handed today bytes ∙ ap (ByView today) (sym (delivered_asked bytes (length (sent_in H)) asked (read bytes) is))
 
   pub planned_call : (τ : Tariff) (today : ℤ) → day_in H ≡ Some today → commits_in (seen_after C) ≡ count_of Host C → (e : Event) (asked : Asked HostCall)
       → taken (sent_in H) (quote_in τ H) e ≡ Some (take.Work (work.Host asked)) → IsWholeEvent e → plan τ todays_rules H e [] ≡ ByView today asked
@@ -231,7 +231,7 @@ module _ (H : Ledger) (known : IsKnown (seen_after (counted H))) (turn : InTurn 
     send = λ j whole. rw (day, sym (sent_many H)) (sends j);
     print = λ j whole. rw day (at (told.told_printed j) (acts.begin_print_act j rows) (print_good j) (acts.begin_print_by j (told.in_commits C)) (plans.begun j));
     close = λ j whole. rw day (at (told.told_closed j) (acts.close_act j rows) (close_good j) (acts.close_by j (told.in_commits C)) (plans.closed j));
-    give = λ bytes whole. rw day (handed bytes);
+    give = λ bytes whole. rw day (handed today bytes);
     deliver = λ k asked is whole. rw day (delivered_plan today k asked (message k H) (subst (λ (o : Option (List ℕ)). takes.message_taken k (length (sent_in H)) o ≡ take.Work (work.Host asked)) (sent_at H k) is));
   })
 

@@ -47,7 +47,7 @@ use Rattle.psd_state.specs.Seen.{counting}
 use Rattle.ledger_moves.specs.Tariffs.{Tariff}
 use Rattle.ledger_moves.specs.Devices as device
 use Rattle.ledger_moves.specs.Devices.{record_in, record_with}
-use Rattle.ledger_moves.specs.Moves.{plan, at_node, debit_by, deliver_to, deliver_plan, device_plan}
+use Rattle.ledger_moves.specs.Moves.{plan, at_node, debit_by, addressee, deliver_plan, give_plan}
 use Rattle.bench_views.specs.declared.calls.DeviceCall.{DeviceCall}
 use Rattle.bench_views.specs.declared.calls.DeviceCall.TheVariants.{Make, Debit, Ask, Resend, Ack, Status, Take}
 use Rattle.bench_views.specs.declared.taken.Taken.TheVariants as take
@@ -218,7 +218,7 @@ module _ (H : Ledger) (resending : ResendingRepeats) where
     take_is bytes today k o = plan_says _ _ _ _ (took_reply k) (took_tells k) (take_act todays_rules d bytes today (record_with d C o))
 
     -- what it is handed, by message k
-    handed : (bytes : List ℕ) (today : ℤ) (k : ℕ) → messages H ≡ k → device_plan todays_rules today d bytes H ≡ seen_plan counting (Device d) (view_of d H) (device_act d today (Take (record { bytes = bytes; message = k })) (record_in d C))
+    handed : (bytes : List ℕ) (today : ℤ) (k : ℕ) → messages H ≡ k → give_plan todays_rules today (Device d) bytes H ≡ seen_plan counting (Device d) (view_of d H) (device_act d today (Take (record { bytes = bytes; message = k })) (record_in d C))
     handed bytes today k is =
         ap (λ (n : ℕ). at_node (Device d) H (device.device_take todays_rules n today d bytes (read bytes) C (key_of d C))) is ∙ by_plan _ today (Take (record { bytes = bytes; message = k })) (take_is bytes today k (key_of d C))
 
@@ -231,9 +231,9 @@ module _ (H : Ledger) (resending : ResendingRepeats) where
       by false same = cc
 
   delivered : (today : ℤ) (d k : ℕ) (bytes : List ℕ) (asked : AskedOf DeviceCall) (x : Result Message Unread) → read bytes ≡ x → takes.delivered_as bytes k x ≡ take.Work (work.Device d asked)
-      → (deliver_to todays_rules today bytes x H ≡ device_plan todays_rules today d bytes H) × (asked ≡ Call (Take (record { bytes = bytes; message = k })))
-  delivered today d k bytes asked (Ok (m.Reply p)) reads is = let at = for_device today p.device d k bytes asked is in (ap (λ (i : ℕ). device_plan todays_rules today i bytes H) at.0, at.1)
-  delivered today d k bytes asked (Ok (m.Debit q)) reads is = let at = for_device today q.device d k bytes asked is in (ap (λ (i : ℕ). device_plan todays_rules today i bytes H) at.0, at.1)
+      → (give_plan todays_rules today (addressee x) bytes H ≡ give_plan todays_rules today (Device d) bytes H) × (asked ≡ Call (Take (record { bytes = bytes; message = k })))
+  delivered today d k bytes asked (Ok (m.Reply p)) reads is = let at = for_device today p.device d k bytes asked is in (ap (λ (i : ℕ). give_plan todays_rules today (Device i) bytes H) at.0, at.1)
+  delivered today d k bytes asked (Ok (m.Debit q)) reads is = let at = for_device today q.device d k bytes asked is in (ap (λ (i : ℕ). give_plan todays_rules today (Device i) bytes H) at.0, at.1)
   delivered today d k bytes asked (Ok (m.Release x)) reads is = cc
   delivered today d k bytes asked (Ok (m.Request q)) reads is = cc
   delivered today d k bytes asked (Ok (m.Done q)) reads is = cc
