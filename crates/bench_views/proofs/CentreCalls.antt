@@ -61,12 +61,13 @@ use Rattle.bench_views.specs.declared.taken.Work.TheVariants as work
 use Rattle.bench_views.specs.Taken as takes
 use Rattle.bench_views.specs.Taken.{taken}
 use Rattle.bench_views.specs.Tariff.{Quote}
-use Rattle.bench_views.specs.Centre.{seen_in, view_of, centre_act, centre_kind, place_in, AreBytes}
+use Rattle.bench_views.specs.Centre.{seen_in, centre_act, centre_kind, place_in, AreBytes}
 use Rattle.bench_views.specs.Messages.{sent_in}
 use Rattle.bench_views.proofs.Calling.{at_seen, IsWornAlike}
 use Rattle.bench_views.proofs.Events.{each_of_centre, one_of_eight}
 use Rattle.bench_views.proofs.CentreCommits.{HasCell, seen_put, worn}
 use Rattle.bench_views.proofs.Sent.{sent_many, sent_at}
+use Rattle.bench_views.proofs.Shown.{centre_view}
 use Rattle.bench_views.proofs.Steps.{IsQuiet, IsSaid, IsQuietAct, IsRight, quiet_says}
 
 -- == whose the commits are, and where they lie ==
@@ -256,14 +257,14 @@ module _ (H : Ledger) (known : IsKnown (seen_in (counted H))) (are : AreBooksOf 
   -- == its plan ==
 
   -- at the centre, the plan of an act is what is seen, by how it says what it answers
-  at : {A : Type 0} (say : A → Said) (act : LookUps → CentreAct A) → IsGood (act (in_books b)) → at_node Centre H (said_plan (says say (act (in_commits C)))) ≡ seen_plan counting Centre (view_of H) (says say (act (in_books b)))
+  at : {A : Type 0} (say : A → Said) (act : LookUps → CentreAct A) → IsGood (act (in_books b)) → at_node Centre H (said_plan (says say (act (in_commits C)))) ≡ seen_plan counting Centre (centre_view H) (says say (act (in_books b)))
   at say act good =
       let seen = act (in_books b) in
       ap (λ (x : LookUps). at_node Centre H (said_plan (says say (act x)))) (sym plans)
       ∙ at_seen counting Centre seen_in H (says say seen) (commit_says _ r.CentreRefused say seen (own seen good)) (commit_says _ r.CentreRefused say seen (worn_alike seen good))
 
   -- what it is handed, by the next message
-  handed : (today : ℤ) (bytes : List ℕ) → IsBytes bytes → give_plan todays_rules today Centre bytes H ≡ seen_plan counting Centre (view_of H) (centre_act (call.Take (record { bytes = bytes; message = length (sent_in H) })) b)
+  handed : (today : ℤ) (bytes : List ℕ) → IsBytes bytes → give_plan todays_rules today Centre bytes H ≡ seen_plan counting Centre (centre_view H) (centre_act (call.Take (record { bytes = bytes; message = length (sent_in H) })) b)
   handed today bytes is =
       ap (λ (k : ℕ). at_node Centre H (take_plan k bytes C)) (sym (sent_many H)) ∙ at (told.told_taken (length (sent_in H))) (acts.take_by bytes) (take_good bytes is)
 
@@ -275,7 +276,7 @@ module _ (H : Ledger) (known : IsKnown (seen_in (counted H))) (are : AreBooksOf 
       ap (λ (o : Option (List ℕ)). deliver_plan todays_rules today k o H) there ∙ ap (λ (n : Node). give_plan todays_rules today n bytes H) named
 
   abbrev ByView : ℤ → Asked CentreCall → Plan
-  ByView today asked = node_plan counting Centre (centre_kind.plan tt today (view_of H)) (view_of H) asked
+  ByView today asked = node_plan counting Centre (centre_kind.plan tt today (centre_view H)) (centre_view H) asked
 
   pub planned_call : (τ : Tariff) (today : ℤ) (quote : Quote) → day_in H ≡ Some today → commits_in (seen_in C) ≡ count_of Centre C → (e : Event) (asked : Asked CentreCall)
       → taken (sent_in H) quote e ≡ Some (take.Work (work.Centre asked)) → IsWholeEvent e → AreBytes asked → plan τ todays_rules H e [] ≡ ByView today asked

@@ -47,12 +47,13 @@ use Rattle.bench_views.specs.declared.taken.Work.TheVariants as work
 use Rattle.bench_views.specs.Taken as takes
 use Rattle.bench_views.specs.Taken.{taken}
 use Rattle.bench_views.specs.Tariff.{Quote, quote_in}
-use Rattle.bench_views.specs.Host.{view_of, host_act, host_kind}
+use Rattle.bench_views.specs.Host.{host_act, host_kind}
 use Rattle.bench_views.specs.Messages.{sent_in}
 use Rattle.bench_views.proofs.Calling.{at_seen, IsWornAlike}
 use Rattle.bench_views.proofs.Events.{each_of_host, same_taker}
 use Rattle.bench_views.proofs.HostCommits.{worn}
 use Rattle.bench_views.proofs.Sent.{sent_many, sent_at}
+use Rattle.bench_views.proofs.Shown.{host_view}
 use Rattle.bench_views.proofs.Steps.{IsQuiet, IsQuietAct, IsRight, quiet_says}
 
 -- == whose the commits are, and where they lie ==
@@ -174,16 +175,16 @@ module _ (H : Ledger) (known : IsKnown (seen_after (counted H))) (turn : InTurn 
   -- == its plan ==
 
   -- at the host, the plan of an act is what is seen, by how it says what it answers
-  at : {A : Type 0} (say : A → Said) (act : HostAct A) → IsGood act → (planned_as : HostAct A) → act ≡ planned_as → at_node Host H (said_plan (says say planned_as)) ≡ seen_plan counting Host (view_of H) (says say act)
+  at : {A : Type 0} (say : A → Said) (act : HostAct A) → IsGood act → (planned_as : HostAct A) → act ≡ planned_as → at_node Host H (said_plan (says say planned_as)) ≡ seen_plan counting Host (host_view H) (says say act)
   at {A} say act good planned_as is =
       ap (λ (x : HostAct A). at_node Host H (said_plan (says say x))) (sym is)
       ∙ at_seen counting Host seen_after H (says say act) (commit_says _ r.HostRefused say act (own act good)) (commit_says _ r.HostRefused say act (worn_alike act good))
 
   -- by the next message
-  sends : (j : ℕ) → at_node Host H (told.send_plan (length (sent_in H)) j C) ≡ seen_plan counting Host (view_of H) (host_act (call.Send (record { job = j; message = length (sent_in H) })) rows)
+  sends : (j : ℕ) → at_node Host H (told.send_plan (length (sent_in H)) j C) ≡ seen_plan counting Host (host_view H) (host_act (call.Send (record { job = j; message = length (sent_in H) })) rows)
   sends j = at (told.told_sent j (length (sent_in H))) (acts.debit_message_act j rows) (send_good j) (acts.debit_message_by j (told.in_commits C)) (plans.sent j)
 
-  handed : (today : ℤ) (bytes : List ℕ) → give_plan todays_rules today Host bytes H ≡ seen_plan counting Host (view_of H) (host_act (call.Take (record { bytes = bytes })) rows)
+  handed : (today : ℤ) (bytes : List ℕ) → give_plan todays_rules today Host bytes H ≡ seen_plan counting Host (host_view H) (host_act (call.Take (record { bytes = bytes })) rows)
   handed today bytes = at told.told_held (acts.take_act bytes rows) (take_good bytes) (acts.take_by bytes (told.in_commits C)) (plans.taken bytes)
 
   -- a message that the host takes is for it
@@ -193,7 +194,7 @@ module _ (H : Ledger) (known : IsKnown (seen_after (counted H))) (turn : InTurn 
       ∙ ap (λ (n : Node). give_plan todays_rules today n bytes H) (same_taker (addressee (read bytes)) Host (λ same. cc) to)
 
   abbrev ByView : ℤ → Asked HostCall → Plan
-  ByView today asked = node_plan counting Host (host_kind.plan tt today (view_of H)) (view_of H) asked
+  ByView today asked = node_plan counting Host (host_kind.plan tt today (host_view H)) (host_view H) asked
 
   pub planned_call : (τ : Tariff) (today : ℤ) → day_in H ≡ Some today → commits_in (seen_after C) ≡ count_of Host C → (e : Event) (asked : Asked HostCall)
       → taken (sent_in H) (quote_in τ H) e ≡ Some (take.Work (work.Host asked)) → IsWholeEvent e → plan τ todays_rules H e [] ≡ ByView today asked

@@ -55,12 +55,13 @@ use Rattle.bench_views.specs.declared.taken.Work.TheVariants as work
 use Rattle.bench_views.specs.Taken as takes
 use Rattle.bench_views.specs.Taken.{taken}
 use Rattle.bench_views.specs.Tariff.{Quote}
-use Rattle.bench_views.specs.Devices.{seen_in, view_of, asked, took, device_act, device_kind, IsKnown}
+use Rattle.bench_views.specs.Devices.{seen_in, asked, took, device_act, device_kind, IsKnown}
 use Rattle.bench_views.specs.Messages.{sent_in}
 use Rattle.bench_views.proofs.Calling.{plan_says, at_seen, IsWornAlike}
 use Rattle.bench_views.proofs.Counts.{worn_is}
 use Rattle.bench_views.proofs.Events.{each_asked, same_taker}
 use Rattle.bench_views.proofs.Sent.{sent_many, sent_at}
+use Rattle.bench_views.proofs.Shown.{device_view}
 
 -- == whose the commit is ==
 
@@ -153,13 +154,13 @@ module _ (H : Ledger) (resending : ResendingRepeats) where
     worn_alike act own = of_commit _ _ act own (λ c x is. worn_is d c C (own_cell d c is) known.few)
 
     -- at the device, the plan of its act is what is seen
-    at : (today : ℤ) (call : DeviceCall) → at_node (Device d) H (said_plan (device_act d today call (record_in d C))) ≡ seen_plan counting (Device d) (view_of d H) (device_act d today call (record_in d C))
+    at : (today : ℤ) (call : DeviceCall) → at_node (Device d) H (said_plan (device_act d today call (record_in d C))) ≡ seen_plan counting (Device d) (device_view d H) (device_act d today call (record_in d C))
     at today call =
         let act = device_act d today call (record_in d C) in
         at_seen counting (Device d) (seen_in d) H act (call_own d today call (record_in d C)) (worn_alike act (call_own d today call (record_in d C)))
 
     by_plan : (p : Plan) (today : ℤ) (call : DeviceCall) → p ≡ said_plan (device_act d today call (record_in d C))
-        → at_node (Device d) H p ≡ seen_plan counting (Device d) (view_of d H) (device_act d today call (record_in d C))
+        → at_node (Device d) H p ≡ seen_plan counting (Device d) (device_view d H) (device_act d today call (record_in d C))
     by_plan p today call is = ap (at_node (Device d) H) is ∙ at today call
 
     ask_is : (kind : Kind) (who amount : ℕ) (today : ℤ) (k : ℕ) (o : Option (List ℕ))
@@ -218,7 +219,7 @@ module _ (H : Ledger) (resending : ResendingRepeats) where
     take_is bytes today k o = plan_says _ _ _ _ (took_reply k) (took_tells k) (take_act todays_rules d bytes today (record_with d C o))
 
     -- what it is handed, by message k
-    handed : (bytes : List ℕ) (today : ℤ) (k : ℕ) → messages H ≡ k → give_plan todays_rules today (Device d) bytes H ≡ seen_plan counting (Device d) (view_of d H) (device_act d today (Take (record { bytes = bytes; message = k })) (record_in d C))
+    handed : (bytes : List ℕ) (today : ℤ) (k : ℕ) → messages H ≡ k → give_plan todays_rules today (Device d) bytes H ≡ seen_plan counting (Device d) (device_view d H) (device_act d today (Take (record { bytes = bytes; message = k })) (record_in d C))
     handed bytes today k is =
         ap (λ (n : ℕ). at_node (Device d) H (device.device_take todays_rules n today d bytes (read bytes) C (key_of d C))) is ∙ by_plan _ today (Take (record { bytes = bytes; message = k })) (take_is bytes today k (key_of d C))
 
@@ -232,7 +233,7 @@ module _ (H : Ledger) (resending : ResendingRepeats) where
   KnownAt d = IsKnown (seen_in d (counted H)) × ((key : List ℕ) → key_of d (counted H) ≡ Some key → IsRecordOf (state_of d key (counted H)) d (counted H))
 
   abbrev IsPlanned : Tariff → ℤ → Event → ℕ → AskedOf DeviceCall → Type 0
-  IsPlanned τ today e d asked = KnownAt d → plan τ todays_rules H e [] ≡ node_plan counting (Device d) (device_kind.plan d today (view_of d H)) (view_of d H) asked
+  IsPlanned τ today e d asked = KnownAt d → plan τ todays_rules H e [] ≡ node_plan counting (Device d) (device_kind.plan d today (device_view d H)) (device_view d H) asked
 
   pub planned : (τ : Tariff) (today : ℤ) (quote : Quote) → day_in H ≡ Some today → (e : Event) (d : ℕ) (asked : AskedOf DeviceCall) → taken (sent_in H) quote e ≡ Some (take.Work (work.Device d asked)) → IsPlanned τ today e d asked
   unfolding plan
