@@ -1,5 +1,5 @@
 -- A Reply that a device is handed, with its code, is the one of its ruling: it was sent, since nothing is forged.
-use Rattle.std.proofs.Common.{◌≡◌, ℕ, List, Some, true, Result, Ok, subst, sym, ◌∙◌}
+use Rattle.std.proofs.Common.{◌≡◌, ℕ, List, Some, true, Result, Ok, subst, sym, ◌∙◌, ap}
 use Rattle.bench_base.specs.declared.words.Node.TheVariants.{Device}
 use Rattle.bench_base.specs.declared.refusals.Unread.{Unread}
 use Rattle.bench_base.specs.declared.events.Event.{Event}
@@ -51,7 +51,8 @@ module _ (H : Ledger) (replied : RepliesAreRuled H) where
 
   given : (d : ℕ) (bytes : List ℕ) → IsKnown bytes (read bytes) (Device d) H → IsRuled H d bytes
   given d bytes known p reads own key made coded =
-      replied bytes p (subst (λ (x : Result Message Unread). IsKnown bytes x (Device d) H) reads known own key made coded) reads
+      let sent = subst (λ (x : Result Message Unread). IsKnown bytes x (Device d) H) reads known (ap Device (sym own)) key (ap (λ (e : ℕ). key_of e (counted H)) own ∙ made) coded in
+      replied bytes p sent reads
 
   pub genuine : (quote : Quote) (e : Event) (d : ℕ) (asked : Asked DeviceCall) → taken (sent_in H) quote e ≡ Some (take.Work (work.Device d asked)) → Unforged e H → OfAsked H d asked
   genuine quote = each_asked (sent_in H) quote (λ e d asked. Unforged e H → OfAsked H d asked) (record {

@@ -62,26 +62,11 @@ message_sent k bytes (_ ∷ H) h = message_sent k bytes H h
 
 -- bytes that were sent are known to whoever takes them
 known_sent : (bytes : List ℕ) (n : Node) (H : Ledger) (C : List Commit) (x : Message) → GenuineAs bytes x H C → IsSent bytes H → IsKnown bytes (Ok x) n H
-known_sent bytes (Device d) H C (m.Reply p) g s = λ _ _ _ _. s
-known_sent bytes (Device d) H C (m.Request q) g s = tt
-known_sent bytes (Device d) H C (m.Done q) g s = tt
-known_sent bytes (Device d) H C (m.Debit q) g s = tt
-known_sent bytes (Device d) H C (m.Release x) g s = tt
-known_sent bytes Centre H C (m.Request q) g s = λ _ _ _. s
-known_sent bytes Centre H C (m.Done q) g s = λ _ _ _. s
-known_sent bytes Centre H C (m.Reply p) g s = tt
-known_sent bytes Centre H C (m.Debit q) g s = tt
-known_sent bytes Centre H C (m.Release x) g s = tt
-known_sent bytes Host H C (m.Release x) g s = g
-known_sent bytes Host H C (m.Request q) g s = tt
-known_sent bytes Host H C (m.Reply q) g s = tt
-known_sent bytes Host H C (m.Done q) g s = tt
-known_sent bytes Host H C (m.Debit q) g s = tt
-known_sent bytes Verifier H C (m.Request q) g s = tt
-known_sent bytes Verifier H C (m.Reply q) g s = tt
-known_sent bytes Verifier H C (m.Done q) g s = tt
-known_sent bytes Verifier H C (m.Debit q) g s = tt
-known_sent bytes Verifier H C (m.Release q) g s = tt
+known_sent bytes n H C (m.Reply p) g s = λ to key has code. s
+known_sent bytes n H C (m.Request q) g s = λ to x has code. s
+known_sent bytes n H C (m.Done q) g s = λ to x has code. s
+known_sent bytes n H C (m.Release x) g s = λ to. g
+known_sent bytes n H C (m.Debit q) g s = λ to. tt
 
 module _ (τ : Tariff) (ρ : Rules) (carried : IsCarried ρ) (H : Ledger) (i : Inv ρ H) where
   at_ok : (n : Node) (p : Plan) → (is_on n H ≡ true → PlanOk ρ H p) → PlanOk ρ H (Moves.at_node n H p)
@@ -106,7 +91,7 @@ module _ (τ : Tariff) (ρ : Rules) (carried : IsCarried ρ) (H : Ledger) (i : I
       let asked = ruling_asked ρ p.device p.number (p.verdict, g.note) (counted H) i.good g.ruled_as in
       let it = note_reads ρ p.device p.number g.note (counted H) i.good asked in
       sent_device bytes today p.device (m.Reply p) day it.range.0 (λ q h. absurd (cc)) reads (known_sent bytes (Device p.device) H (counted H) (m.Reply p) g s)
-  by_tag bytes today (m.Debit q) day reads g s = sent_device bytes today q.device (m.Debit q) day g.0 (λ z h. subst IsCommand (debit_same h) g.1) reads tt
+  by_tag bytes today (m.Debit q) day reads g s = sent_device bytes today q.device (m.Debit q) day g.0 (λ z h. subst IsCommand (debit_same h) g.1) reads (λ to. tt)
     where
       debit_same : {a b : DebitMsg} → m.Debit a ≡ m.Debit b → a ≡ b
       debit_same h = cc
