@@ -139,9 +139,9 @@ module _ (pool : List (List ℕ)) (quote : Quote) where
 
     -- what is delivered is given to the node that takes it, if the message is there
     handed_each : (k : ℕ) (bytes : List ℕ) → slice_get pool k ≡ Some bytes → (n : Node) → takes.taker bytes ≡ n → (x : Taken) → takes.given_to n bytes next ≡ Some x → ByNode R D C H V (ev.Deliver k) x
-    handed_each k bytes there (Device d) to x h = found (ev.Deliver k) x (takes.to_device d bytes next) h (each.devices.deliver k d bytes there to)
-    handed_each k bytes there Centre to x h = found (ev.Deliver k) x (takes.to_centre bytes next) h (each.centre.deliver k bytes there to)
-    handed_each k bytes there Host to x h = found (ev.Deliver k) x (takes.to_host bytes) h (each.host.deliver k bytes there to)
+    handed_each k bytes there (Device d) to x h = found (ev.Deliver k) x (takes.of_device d (device.Take (record { bytes = bytes; message = next }))) h (each.devices.deliver k d bytes there to)
+    handed_each k bytes there Centre to x h = found (ev.Deliver k) x (takes.of_centre (call.Take (record { bytes = bytes; message = next }))) h (each.centre.deliver k bytes there to)
+    handed_each k bytes there Host to x h = found (ev.Deliver k) x (takes.of_host (host.Take (record { bytes = bytes }))) h (each.host.deliver k bytes there to)
     handed_each k bytes there Verifier to x h = absurd (none-some _ h)
 
     delivered_each : (k : ℕ) (o : Option (List ℕ)) → slice_get pool k ≡ o → (x : Taken) → message_taken k next o ≡ Some x → ByNode R D C H V (ev.Deliver k) x

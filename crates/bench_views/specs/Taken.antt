@@ -45,16 +45,7 @@ of_host call = take.Work (work.Host (Call call))
 abbrev pub of_verifier : VerifierCall → Taken
 of_verifier call = take.Work (work.Verifier (Call call))
 
--- bytes for a device, for the centre, for the host; and bytes that are scanned under number n
-abbrev pub to_device : ℕ → List ℕ → ℕ → Taken
-to_device d bytes k = of_device d (device.Take (record { bytes = bytes; message = k }))
-
-abbrev pub to_centre : List ℕ → ℕ → Taken
-to_centre bytes k = of_centre (centre.Take (record { bytes = bytes; message = k }))
-
-abbrev pub to_host : List ℕ → Taken
-to_host bytes = of_host (host.Take (record { bytes = bytes }))
-
+-- bytes that are scanned under number n
 abbrev pub to_scanner : ℕ → List ℕ → Taken
 to_scanner n bytes = of_verifier (verifier.Scan (record { number = n; bytes = bytes }))
 
@@ -76,9 +67,9 @@ taker bytes = stand_in (addressee (read bytes))
 
 -- bytes that are given to a node; the verifier is given none
 abbrev pub given_to : Node → List ℕ → ℕ → Option Taken
-given_to (Device d) bytes k = Some (to_device d bytes k)
-given_to Centre bytes k = Some (to_centre bytes k)
-given_to Host bytes k = Some (to_host bytes)
+given_to (Device d) bytes k = Some (of_device d (device.Take (record { bytes = bytes; message = k })))
+given_to Centre bytes k = Some (of_centre (centre.Take (record { bytes = bytes; message = k })))
+given_to Host bytes k = Some (of_host (host.Take (record { bytes = bytes })))
 given_to Verifier bytes k = None
 
 -- the message of this number, if it was sent, is given to the node that takes it

@@ -84,33 +84,6 @@ fn of_verifier(call: VerifierCall) -> Taken
     Taken::Work(Work::Verifier(Asked::Call(call)))
 }
 
-fn to_centre<'a>(bytes: &'a [u8], message: u32) -> Taken<'a>
-    ensures { result ≡ takes.to_centre bytes.now message }
-{
-    of_centre(CentreCall::Take(TakeRequestCall {
-        bytes: Handed::new(bytes),
-        message,
-    }))
-}
-
-fn to_device<'a>(device: DevNo, bytes: &'a [u8], message: u32) -> Taken<'a>
-    ensures { result ≡ takes.to_device device bytes.now message }
-{
-    let call = TakeReplyCall {
-        bytes: Handed::new(bytes),
-        message,
-    };
-    of_device(device, DeviceCall::Take(call))
-}
-
-fn to_host<'a>(bytes: &'a [u8]) -> Taken<'a>
-    ensures { result ≡ takes.to_host bytes.now }
-{
-    of_host(HostCall::Take(TakeReleaseCall {
-        bytes: Handed::new(bytes),
-    }))
-}
-
 fn to_scanner<'a>(number: u32, bytes: &'a [u8]) -> Taken<'a>
     ensures { result ≡ takes.to_scanner number bytes.now }
 {
@@ -146,10 +119,14 @@ fn taker(bytes: &[u8]) -> Node
 fn given_to<'a>(node: Node, bytes: &'a [u8], message: u32) -> Option<Taken<'a>>
     ensures { result ≡ takes.given_to node bytes.now message }
 {
+    let bytes = Handed::new(bytes);
     match node {
-        Node::Device(device) => Some(to_device(device, bytes, message)),
-        Node::Centre => Some(to_centre(bytes, message)),
-        Node::Host => Some(to_host(bytes)),
+        Node::Device(device) => Some(of_device(
+            device,
+            DeviceCall::Take(TakeReplyCall { bytes, message }),
+        )),
+        Node::Centre => Some(of_centre(CentreCall::Take(TakeRequestCall { bytes, message }))),
+        Node::Host => Some(of_host(HostCall::Take(TakeReleaseCall { bytes }))),
         Node::Verifier => None,
     }
 }
