@@ -1,11 +1,10 @@
 -- What an event of a node is, how it is given, and whom a failure is told of.
-use Rattle.std.proofs.Common.{◌≡◌, ◌≢◌, ◌⊎◌, inl, inr, ⊎_elim, ℕ, ℤ, List, Option, Some, None, Result, Ok, Err, Bool, true, false, length, refl, sym, ◌∙◌, ap, subst, true≢false}
-use Rattle.std.specs.Prelude.{◌&&◌, nat_le, slice_get, if◌then◌else◌}
+use Rattle.std.proofs.Common.{◌≡◌, ◌≢◌, ◌⊎◌, inl, inr, ⊎_elim, ℕ, ℤ, List, Option, Some, None, true, false, refl, sym, ◌∙◌, ap, subst, true≢false}
+use Rattle.std.specs.Prelude.{slice_get}
 use Rattle.std.proofs.lemmas.Bool.{cases_eq, false_from_ne_true}
 use Rattle.std.proofs.lemmas.Option.{same_Some}
 use Rattle.bench_base.specs.declared.words.Node.{Node}
 use Rattle.bench_base.specs.declared.words.Node.TheVariants.{Device, Centre, Host, Verifier}
-use Rattle.bench_base.specs.declared.refusals.Unread.{Unread}
 use Rattle.bench_base.specs.declared.events.Event.{Event}
 use Rattle.bench_base.specs.declared.events.Event.TheVariants as ev
 use Rattle.bench_base.specs.declared.events.Reply.{Reply}
@@ -16,9 +15,6 @@ use Rattle.bench_base.specs.Ranges.{IsWholeEvent}
 use Rattle.bench_base.specs.Replies.{tells_power, tells_fault, MayGet, MayFailAt}
 use Rattle.node_acts.specs.declared.asked.Asked.{Asked}
 use Rattle.node_acts.specs.declared.asked.Asked.TheVariants.{On, Off, Cut, Call}
-use Rattle.psd_wire.specs.declared.message.Message.{Message}
-use Rattle.psd_wire.specs.declared.message.Message.TheVariants as m
-use Rattle.psd_wire.specs.Grammar.{read}
 use Rattle.bench_views.specs.declared.calls.DeviceCall.{DeviceCall}
 use Rattle.bench_views.specs.declared.calls.DeviceCall.TheVariants as device
 use Rattle.bench_views.specs.declared.calls.CentreCall.{CentreCall}
@@ -32,8 +28,7 @@ use Rattle.bench_views.specs.declared.taken.Taken.TheVariants as take
 use Rattle.bench_views.specs.declared.taken.Work.{Work}
 use Rattle.bench_views.specs.declared.taken.Work.TheVariants as work
 use Rattle.bench_views.specs.Tariff.{Quote}
-use Rattle.bench_views.specs.Taken as takes
-use Rattle.bench_views.specs.Taken.{taken, as_given, as_given_by, as_scanned_by, addressee, IsPricedAsked}
+use Rattle.bench_views.specs.Taken.{taken, taker, as_given, as_given_by, as_scanned_by, IsPricedAsked}
 use Rattle.bench_views.proofs.Events.{each_asked, each_of_centre, each_of_host, each_of_verifier}
 use Rattle.node_acts.specs.Kinds.{OfCall}
 use Rattle.bench.specs.Calls.{asked_event, device_event, centre_event, host_event, verifier_event, device_call_event, centre_call_event, host_call_event, verifier_call_event, IsRangedCall, IsRangedJob, IsRangedScan}
@@ -132,37 +127,10 @@ needs_taken pool q e x is = needs e
     (λ t same. let wrong : Some (take.Day t) ≡ Some (take.Work x) = sym (ap (taken pool q) same) ∙ is in cc)
     (λ same. let wrong : Some take.End ≡ Some (take.Work x) = sym (ap (taken pool q) same) ∙ is in cc)
 
--- the event is the one that asks a node this
-abbrev GivenAs : Event → Taken → Type 0
-GivenAs x (take.Day t) = Unit {0}
-GivenAs x take.End = Unit {0}
-GivenAs x (take.Work work.Rates) = Unit {0}
-GivenAs x (take.Work (work.NoMessage k)) = Unit {0}
-GivenAs x (take.Work (work.Reconcile d)) = Unit {0}
-GivenAs x (take.Work (work.Device d asked)) = x ≡ device_event d asked
-GivenAs x (take.Work (work.Centre asked)) = x ≡ centre_event asked
-GivenAs x (take.Work (work.Host asked)) = x ≡ host_event asked
-GivenAs x (take.Work (work.Verifier asked)) = x ≡ verifier_event asked
-
-for_device_given : (bytes : List ℕ) (k d : ℕ) (t : Bool) → GivenAs (ev.Give (if t then Device d else Centre) bytes) (if t then takes.to_device d bytes k else takes.to_centre bytes k)
-for_device_given bytes k d true = refl
-for_device_given bytes k d false = refl
-
-read_given : (bytes : List ℕ) (k : ℕ) (x : Result Message Unread) → GivenAs (ev.Give (addressee x) bytes) (takes.delivered_as bytes k x)
-read_given bytes k (Ok (m.Reply p)) = for_device_given bytes k p.device (nat_le 1 p.device && nat_le p.device 8)
-read_given bytes k (Ok (m.Debit q)) = for_device_given bytes k q.device (nat_le 1 q.device && nat_le q.device 8)
-read_given bytes k (Ok (m.Release x)) = refl
-read_given bytes k (Ok (m.Request q)) = refl
-read_given bytes k (Ok (m.Done q)) = refl
-read_given bytes k (Err x) = refl
-
-message_given : (k next : ℕ) (o : Option (List ℕ)) → GivenAs (as_given_by k o) (takes.message_taken k next o)
-message_given k next None = tt
-message_given k next (Some bytes) = read_given bytes next (read bytes)
-
 module _ (pool : List (List ℕ)) (quote : Quote) where
-  delivered : (k : ℕ) (x : Taken) → takes.message_taken k (length pool) (slice_get pool k) ≡ x → GivenAs (as_given pool (ev.Deliver k)) x
-  delivered k x is = subst (λ (y : Taken). GivenAs (as_given pool (ev.Deliver k)) y) is (message_given k (length pool) (slice_get pool k))
+  -- what is delivered is given to the node that takes it
+  delivered : (k : ℕ) (bytes : List ℕ) (n : Node) → slice_get pool k ≡ Some bytes → taker bytes ≡ n → as_given pool (ev.Deliver k) ≡ ev.Give n bytes
+  delivered k bytes n there to = ap (as_given_by k) there ∙ ap (λ (m : Node). ev.Give m bytes) to
 
   pub device_given : (e : Event) (d : ℕ) (asked : Asked DeviceCall) → taken pool quote e ≡ Some (take.Work (work.Device d asked)) → as_given pool e ≡ device_event d asked
   device_given = each_asked pool quote (λ e d asked. as_given pool e ≡ device_event d asked) (record {
@@ -176,7 +144,7 @@ module _ (pool : List (List ℕ)) (quote : Quote) where
     ack = λ d. refl;
     status = λ d. refl;
     give = λ d bytes. refl;
-    deliver = λ k d asked is. delivered k (take.Work (work.Device d asked)) is;
+    deliver = λ k d bytes there to. delivered k bytes (Device d) there to;
   })
 
   pub centre_given : (e : Event) (asked : Asked CentreCall) → taken pool quote e ≡ Some (take.Work (work.Centre asked)) → as_given pool e ≡ centre_event asked
@@ -190,7 +158,7 @@ module _ (pool : List (List ℕ)) (quote : Quote) where
     flag = λ w suspended. refl;
     balance = λ w. refl;
     give = λ bytes. refl;
-    deliver = λ k asked is. delivered k (take.Work (work.Centre asked)) is;
+    deliver = λ k bytes there to. delivered k bytes Centre there to;
   })
 
   pub host_given : (e : Event) (asked : Asked HostCall) → taken pool quote e ≡ Some (take.Work (work.Host asked)) → as_given pool e ≡ host_event asked
@@ -203,7 +171,7 @@ module _ (pool : List (List ℕ)) (quote : Quote) where
     print = λ j. refl;
     close = λ j. refl;
     give = λ bytes. refl;
-    deliver = λ k asked is. delivered k (take.Work (work.Host asked)) is;
+    deliver = λ k bytes there to. delivered k bytes Host there to;
   })
 
   pub verifier_given : (e : Event) (asked : Asked VerifierCall) → taken pool quote e ≡ Some (take.Work (work.Verifier asked)) → as_given pool e ≡ verifier_event asked
@@ -218,40 +186,6 @@ module _ (pool : List (List ℕ)) (quote : Quote) where
 
   -- == the numbers of what a node is asked are those of the event ==
 
-  abbrev IsRangedTaken : Taken → Type 0
-  IsRangedTaken (take.Day t) = Unit {0}
-  IsRangedTaken take.End = Unit {0}
-  IsRangedTaken (take.Work work.Rates) = Unit {0}
-  IsRangedTaken (take.Work (work.NoMessage k)) = Unit {0}
-  IsRangedTaken (take.Work (work.Reconcile d)) = Unit {0}
-  IsRangedTaken (take.Work (work.Device d asked)) = Unit {0}
-  IsRangedTaken (take.Work (work.Centre asked)) = OfCall IsRangedCall asked
-  IsRangedTaken (take.Work (work.Host asked)) = OfCall IsRangedJob asked
-  IsRangedTaken (take.Work (work.Verifier asked)) = OfCall IsRangedScan asked
-
-  read_ranged : (bytes : List ℕ) (k : ℕ) (x : Result Message Unread) → IsRangedTaken (takes.delivered_as bytes k x)
-  read_ranged bytes k (Ok (m.Reply p)) = by (nat_le 1 p.device && nat_le p.device 8)
-    where
-      by : (t : Bool) → IsRangedTaken (if t then takes.to_device p.device bytes k else takes.to_centre bytes k)
-      by true = tt
-      by false = tt
-  read_ranged bytes k (Ok (m.Debit q)) = by (nat_le 1 q.device && nat_le q.device 8)
-    where
-      by : (t : Bool) → IsRangedTaken (if t then takes.to_device q.device bytes k else takes.to_centre bytes k)
-      by true = tt
-      by false = tt
-  read_ranged bytes k (Ok (m.Release x)) = tt
-  read_ranged bytes k (Ok (m.Request q)) = tt
-  read_ranged bytes k (Ok (m.Done q)) = tt
-  read_ranged bytes k (Err x) = tt
-
-  message_ranged : (k next : ℕ) (o : Option (List ℕ)) → IsRangedTaken (takes.message_taken k next o)
-  message_ranged k next None = tt
-  message_ranged k next (Some bytes) = read_ranged bytes next (read bytes)
-
-  handed : (k : ℕ) (x : Taken) → takes.message_taken k (length pool) (slice_get pool k) ≡ x → IsRangedTaken x
-  handed k x is = subst IsRangedTaken is (message_ranged k (length pool) (slice_get pool k))
-
   pub centre_ranged : (e : Event) (asked : Asked CentreCall) → taken pool quote e ≡ Some (take.Work (work.Centre asked)) → IsWholeEvent e → OfCall IsRangedCall asked
   centre_ranged = each_of_centre pool quote (λ e asked. IsWholeEvent e → OfCall IsRangedCall asked) (record {
     on = λ whole. tt;
@@ -263,7 +197,7 @@ module _ (pool : List (List ℕ)) (quote : Quote) where
     flag = λ w suspended whole. whole;
     balance = λ w whole. whole;
     give = λ bytes whole. tt;
-    deliver = λ k asked is whole. handed k (take.Work (work.Centre asked)) is;
+    deliver = λ k bytes there to whole. tt;
   })
 
   -- a price is one where the quote gives one
@@ -277,7 +211,7 @@ module _ (pool : List (List ℕ)) (quote : Quote) where
     print = λ j whole priced. tt;
     close = λ j whole priced. tt;
     give = λ bytes whole priced. tt;
-    deliver = λ k asked is whole priced. handed k (take.Work (work.Host asked)) is;
+    deliver = λ k bytes there to whole priced. tt;
   })
 
   pub verifier_ranged : (e : Event) (asked : Asked VerifierCall) → taken pool quote e ≡ Some (take.Work (work.Verifier asked)) → IsWholeEvent e → OfCall IsRangedScan asked

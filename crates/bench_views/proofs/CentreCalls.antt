@@ -1,9 +1,10 @@
 -- What the centre is called for: its plan, its commit, and what is seen of it afterwards.
 use Rattle.std.proofs.Common.{◌≡◌, ℕ, ℤ, ◌+◌, List, [], Option, Some, None, Bool, true, false, Result, Ok, Err, refl, sym, ◌∙◌, ap, subst, arith}
-use Rattle.std.specs.Prelude.{◌-◌, ◌&&◌, length, slice_get, nat_le, IfSome, if◌then◌else◌}
+use Rattle.std.specs.Prelude.{◌-◌, length, IfSome, if◌then◌else◌}
 use Rattle.std.proofs.lemmas.Bool.{lt-ltb, le-ltb}
+use Rattle.bench_base.specs.declared.words.Node.{Node}
 use Rattle.bench_base.specs.declared.words.Verdict.{Verdict}
-use Rattle.bench_base.specs.declared.words.Node.TheVariants.{Centre}
+use Rattle.bench_base.specs.declared.words.Node.TheVariants.{Device, Centre}
 use Rattle.bench_base.specs.declared.refusals.CentreRefusal.{CentreRefusal}
 use Rattle.bench_base.specs.declared.refusals.Unread.{Unread}
 use Rattle.bench_base.specs.declared.ledger.Commit.{Commit}
@@ -31,7 +32,7 @@ use Rattle.psd_wire.specs.Codes.{has_code}
 use Rattle.ledger_terms.specs.Further.{SentAreRead, IsAddressed}
 use Rattle.ledger_laws.proofs.Histories.{message_sent}
 use Rattle.ledger_moves.specs.Tariffs.{Tariff}
-use Rattle.ledger_moves.specs.Moves.{plan, at_node, centre_plan, deliver_to, deliver_plan}
+use Rattle.ledger_moves.specs.Moves.{plan, at_node, addressee, deliver_plan, give_plan}
 use Rattle.centre_ledger.specs.declared.rows.DeviceRow.{DeviceRow}
 use Rattle.centre_ledger.specs.declared.rows.CustomerRow.{CustomerRow}
 use Rattle.centre_ledger.specs.declared.taking.CentreAnswer.{CentreAnswer}
@@ -60,12 +61,13 @@ use Rattle.bench_views.specs.declared.taken.Work.TheVariants as work
 use Rattle.bench_views.specs.Taken as takes
 use Rattle.bench_views.specs.Taken.{taken}
 use Rattle.bench_views.specs.Tariff.{Quote}
-use Rattle.bench_views.specs.Centre.{seen_in, view_of, centre_act, centre_kind, place_in, AreBytes}
+use Rattle.bench_views.specs.Centre.{seen_in, centre_act, centre_kind, place_in, AreBytes}
 use Rattle.bench_views.specs.Messages.{sent_in}
 use Rattle.bench_views.proofs.Calling.{at_seen, IsWornAlike}
 use Rattle.bench_views.proofs.Events.{each_of_centre, one_of_eight}
 use Rattle.bench_views.proofs.CentreCommits.{HasCell, seen_put, worn}
 use Rattle.bench_views.proofs.Sent.{sent_many, sent_at}
+use Rattle.bench_views.proofs.Shown.{centre_view}
 use Rattle.bench_views.proofs.Steps.{IsQuiet, IsSaid, IsQuietAct, IsRight, quiet_says}
 
 -- == whose the commits are, and where they lie ==
@@ -173,25 +175,16 @@ call_quiet (call.Take c) b = quiet_says r.CentreRefused (told.told_taken c.messa
 
 -- == what it is handed ==
 
--- a message for a device that there can't be
-for_nobody : (bytes : List ℕ) (k : ℕ) (asked : Asked CentreCall) (d : ℕ) (t : Bool) → (if t then takes.to_device d bytes k else takes.to_centre bytes k) ≡ take.Work (work.Centre asked) → asked ≡ Call (call.Take (record { bytes = bytes; message = k }))
-for_nobody bytes k asked d true is = cc
-for_nobody bytes k asked d false is = cc
+-- a message that was sent names a device that is there, so the centre takes only what is for it
+for_device : (d : ℕ) → IsDevice d → takes.device_node d ≡ Centre → Device d ≡ Centre
+for_device d own is = subst (λ (there : Bool). (if there then Device d else Centre) ≡ Centre) (one_of_eight d own) is
 
-delivered_asked : (bytes : List ℕ) (k : ℕ) (asked : Asked CentreCall) (x : Result Message Unread) → takes.delivered_as bytes k x ≡ take.Work (work.Centre asked) → asked ≡ Call (call.Take (record { bytes = bytes; message = k }))
-delivered_asked bytes k asked (Ok (m.Request q)) is = cc
-delivered_asked bytes k asked (Ok (m.Done q)) is = cc
-delivered_asked bytes k asked (Err x) is = cc
-delivered_asked bytes k asked (Ok (m.Release x)) is = cc
-delivered_asked bytes k asked (Ok (m.Reply p)) is = for_nobody bytes k asked p.device (nat_le 1 p.device && nat_le p.device 8) is
-delivered_asked bytes k asked (Ok (m.Debit q)) is = for_nobody bytes k asked q.device (nat_le 1 q.device && nat_le q.device 8) is
-
--- a message that was sent names a device, and is none for the centre where it is for one
-not_centre : {P : Type 0} (d : ℕ) (bytes : List ℕ) (k : ℕ) (asked : Asked CentreCall) → IsDevice d → takes.for_device d bytes k ≡ take.Work (work.Centre asked) → P
-not_centre {P} d bytes k asked own is = by (subst (λ (t : Bool). (if t then takes.to_device d bytes k else takes.to_centre bytes k) ≡ take.Work (work.Centre asked)) (one_of_eight d own) is)
-  where
-    by : takes.to_device d bytes k ≡ take.Work (work.Centre asked) → P
-    by same = cc
+for_centre : (x : Message) → IsAddressed x → takes.stand_in (addressee (Ok x)) ≡ Centre → addressee (Ok x) ≡ Centre
+for_centre (m.Request q) own is = is
+for_centre (m.Done q) own is = is
+for_centre (m.Release x) own is = is
+for_centre (m.Reply p) own is = for_device p.device own is
+for_centre (m.Debit q) own is = for_device q.device own is
 
 -- == at a ledger ==
 
@@ -264,38 +257,26 @@ module _ (H : Ledger) (known : IsKnown (seen_in (counted H))) (are : AreBooksOf 
   -- == its plan ==
 
   -- at the centre, the plan of an act is what is seen, by how it says what it answers
-  at : {A : Type 0} (say : A → Said) (act : LookUps → CentreAct A) → IsGood (act (in_books b)) → at_node Centre H (said_plan (says say (act (in_commits C)))) ≡ seen_plan counting Centre (view_of H) (says say (act (in_books b)))
+  at : {A : Type 0} (say : A → Said) (act : LookUps → CentreAct A) → IsGood (act (in_books b)) → at_node Centre H (said_plan (says say (act (in_commits C)))) ≡ seen_plan counting Centre (centre_view H) (says say (act (in_books b)))
   at say act good =
       let seen = act (in_books b) in
       ap (λ (x : LookUps). at_node Centre H (said_plan (says say (act x)))) (sym plans)
       ∙ at_seen counting Centre seen_in H (says say seen) (commit_says _ r.CentreRefused say seen (own seen good)) (commit_says _ r.CentreRefused say seen (worn_alike seen good))
 
   -- what it is handed, by the next message
-  handed : (bytes : List ℕ) → IsBytes bytes → centre_plan bytes H ≡ seen_plan counting Centre (view_of H) (centre_act (call.Take (record { bytes = bytes; message = length (sent_in H) })) b)
-  handed bytes is =
+  handed : (today : ℤ) (bytes : List ℕ) → IsBytes bytes → give_plan todays_rules today Centre bytes H ≡ seen_plan counting Centre (centre_view H) (centre_act (call.Take (record { bytes = bytes; message = length (sent_in H) })) b)
+  handed today bytes is =
       ap (λ (k : ℕ). at_node Centre H (take_plan k bytes C)) (sym (sent_many H)) ∙ at (told.told_taken (length (sent_in H))) (acts.take_by bytes) (take_good bytes is)
 
-  -- a message that is delivered to the centre
-  delivered : (today : ℤ) (bytes : List ℕ) (k : ℕ) (asked : Asked CentreCall) (x : Message) → IsAddressed x → takes.delivered_as bytes k (Ok x) ≡ take.Work (work.Centre asked)
-      → deliver_to todays_rules today bytes (Ok x) H ≡ centre_plan bytes H
-  delivered today bytes k asked (m.Request q) own is = refl
-  delivered today bytes k asked (m.Done q) own is = refl
-  delivered today bytes k asked (m.Release x) own is = cc
-  delivered today bytes k asked (m.Reply p) own is = not_centre p.device bytes k asked own is
-  delivered today bytes k asked (m.Debit q) own is = not_centre q.device bytes k asked own is
+  -- a message that the centre takes is for it
+  delivered : (today : ℤ) (k : ℕ) (bytes : List ℕ) → message k H ≡ Some bytes → takes.taker bytes ≡ Centre → deliver_plan todays_rules today k (message k H) H ≡ give_plan todays_rules today Centre bytes H
+  delivered today k bytes there to =
+      let x = sent bytes (message_sent k bytes H there) in
+      let named : addressee (read bytes) ≡ Centre = ap addressee x.1 ∙ for_centre x.0 x.2 (subst (λ (y : Result Message Unread). takes.stand_in (addressee y) ≡ Centre) x.1 to) in
+      ap (λ (o : Option (List ℕ)). deliver_plan todays_rules today k o H) there ∙ ap (λ (n : Node). give_plan todays_rules today n bytes H) named
 
   abbrev ByView : ℤ → Asked CentreCall → Plan
-  ByView today asked = node_plan counting Centre (centre_kind.plan tt today (view_of H)) (view_of H) asked
-
-  delivered_plan : (today : ℤ) (k : ℕ) (asked : Asked CentreCall) (o : Option (List ℕ)) → message k H ≡ o → takes.message_taken k (length (sent_in H)) o ≡ take.Work (work.Centre asked) → AreBytes asked
-      → deliver_plan todays_rules today k o H ≡ ByView today asked
-  delivered_plan today k asked None there at bytes_are = cc
-  delivered_plan today k asked (Some bytes) there at bytes_are =
-      let to = delivered_asked bytes (length (sent_in H)) asked (read bytes) at in
-      let x = sent bytes (message_sent k bytes H there) in
-      ap (λ (y : Result Message Unread). deliver_to todays_rules today bytes y H) x.1
-      ∙ delivered today bytes (length (sent_in H)) asked x.0 x.2 (subst (λ (y : Result Message Unread). takes.delivered_as bytes (length (sent_in H)) y ≡ take.Work (work.Centre asked)) x.1 at)
-      ∙ handed bytes (subst AreBytes to bytes_are) ∙ ap (ByView today) (sym to)
+  ByView today asked = node_plan counting Centre (centre_kind.plan tt today (centre_view H)) (centre_view H) asked
 
   pub planned_call : (τ : Tariff) (today : ℤ) (quote : Quote) → day_in H ≡ Some today → commits_in (seen_in C) ≡ count_of Centre C → (e : Event) (asked : Asked CentreCall)
       → taken (sent_in H) quote e ≡ Some (take.Work (work.Centre asked)) → IsWholeEvent e → AreBytes asked → plan τ todays_rules H e [] ≡ ByView today asked
@@ -309,20 +290,14 @@ module _ (H : Ledger) (known : IsKnown (seen_in (counted H))) (are : AreBooksOf 
     deposit = λ w n a whole bytes. rw day (at (told.told_deposited w n) (acts.deposit_by w n a) (deposit_good w n a whole.0));
     flag = λ w flag whole bytes. rw day (at (told.told_flagged w flag) (acts.flag_by w flag) (flag_good w flag whole));
     balance = λ w whole bytes. rw day (at (told.told_balance w) (acts.balance_by w) (balance_good w));
-    give = λ bytes whole are_bytes. rw day (handed bytes are_bytes);
-    deliver = λ k asked is whole bytes. rw day (delivered_plan today k asked (message k H) refl (subst (λ (o : Option (List ℕ)). takes.message_taken k (length (sent_in H)) o ≡ take.Work (work.Centre asked)) (sent_at H k) is) bytes);
+    give = λ bytes whole are_bytes. rw day (handed today bytes are_bytes);
+    deliver = λ k bytes there to whole are_bytes. rw day (delivered today k bytes (sym (sent_at H k) ∙ there) to ∙ handed today bytes are_bytes);
   })
 
 -- == the numbers of a call ==
 
 abbrev IsWholeAsked : Asked CentreCall → Type 0
 IsWholeAsked = OfCall IsWholeCall
-
-delivered_whole : (k next : ℕ) (asked : Asked CentreCall) (o : Option (List ℕ)) → takes.message_taken k next o ≡ take.Work (work.Centre asked) → AreBytes asked → IsWholeAsked asked
-delivered_whole k next asked None is bytes_are = cc
-delivered_whole k next asked (Some bytes) is bytes_are =
-    let to = delivered_asked bytes next asked (read bytes) is in
-    subst IsWholeAsked (sym to) (subst AreBytes to bytes_are)
 
 -- they are those of its event, and of what it hands over
 pub whole_call : (H : Ledger) (quote : Quote) (e : Event) (c : CentreCall) → taken (sent_in H) quote e ≡ Some (take.Work (work.Centre (Call c))) → IsWholeEvent e → AreBytes (Call c) → IsWholeCall c
@@ -336,5 +311,5 @@ whole_call H quote e c of = each_of_centre (sent_in H) quote (λ i asked. IsWhol
   flag = λ w flag whole bytes. whole;
   balance = λ w whole bytes. whole;
   give = λ bytes whole are_bytes. are_bytes;
-  deliver = λ k asked is whole bytes. delivered_whole k (length (sent_in H)) asked (slice_get (sent_in H) k) is bytes;
+  deliver = λ k bytes there to whole are_bytes. are_bytes;
 }) e (Call c) of

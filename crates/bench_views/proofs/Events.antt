@@ -1,19 +1,16 @@
 -- The events of a bench, one after the other.
-use Rattle.std.proofs.Common.{◌≡◌, ℕ, ℤ, Bool, true, false, List, Option, Some, None, Result, Ok, Err, length, drop, refl, ap, subst, if◌then◌else◌, arith}
+use Rattle.std.proofs.Common.{◌≡◌, ◌≢◌, ℕ, ℤ, Bool, true, false, List, Option, Some, None, length, drop, refl, subst, if◌then◌else◌, arith}
 use Rattle.std.specs.Prelude.{slice_get, ◌&&◌, nat_le}
 use Rattle.std.proofs.lemmas.Bool.Decides.{nat_tests}
 use Rattle.std.proofs.lemmas.Option.{none-some, same_Some}
 use Rattle.bench_base.specs.Ranges.{IsDevice}
+use Rattle.bench_base.specs.declared.words.Node.{Node}
 use Rattle.bench_base.specs.declared.words.Kind.{Kind}
 use Rattle.bench_base.specs.declared.words.Node.TheVariants.{Device, Centre, Host, Verifier}
-use Rattle.bench_base.specs.declared.refusals.Unread.{Unread}
 use Rattle.bench_base.specs.declared.events.Event.{Event}
 use Rattle.bench_base.specs.declared.events.Event.TheVariants as ev
 use Rattle.node_acts.specs.declared.asked.Asked.{Asked}
 use Rattle.node_acts.specs.declared.asked.Asked.TheVariants.{On, Off, Cut, Call}
-use Rattle.psd_wire.specs.declared.message.Message.{Message}
-use Rattle.psd_wire.specs.declared.message.Message.TheVariants as m
-use Rattle.psd_wire.specs.Grammar.{read}
 use Rattle.bench_views.specs.declared.calls.DeviceCall.{DeviceCall}
 use Rattle.bench_views.specs.declared.calls.DeviceCall.TheVariants as device
 use Rattle.bench_views.specs.declared.calls.CentreCall.{CentreCall}
@@ -32,6 +29,17 @@ use Rattle.bench_views.specs.Taken.{taken, message_taken, scanned}
 
 pub same_work : {x y : Work} → Some (take.Work x) ≡ Some (take.Work y) → x ≡ y
 same_work h = cc
+
+-- who takes what is for another node than the centre is that node
+pub same_taker : (n m : Node) → Centre ≢ m → takes.stand_in n ≡ m → n ≡ m
+same_taker (Device d) m other is = by (nat_le 1 d && nat_le d 8) is
+  where
+    by : (there : Bool) → (if there then Device d else Centre) ≡ m → Device d ≡ m
+    by true same = same
+    by false same = absurd (other same)
+same_taker Centre m other is = is
+same_taker Host m other is = is
+same_taker Verifier m other is = is
 
 -- the number of a device is from 1 to 8
 pub one_of_eight : (d : ℕ) → IsDevice d → (nat_le 1 d && nat_le d 8) ≡ true
@@ -55,7 +63,7 @@ module _ (pool : List (List ℕ)) (quote : Quote) where
     pub ack : (d : ℕ) → P (ev.Ack d) d (Call (device.Ack (record { message = next })))
     pub status : (d : ℕ) → P (ev.Status d) d (Call device.Status)
     pub give : (d : ℕ) (bytes : List ℕ) → P (ev.Give (Device d) bytes) d (Call (device.Take (record { bytes = bytes; message = next })))
-    pub deliver : (k d : ℕ) (asked : Asked DeviceCall) → message_taken k next (slice_get pool k) ≡ take.Work (work.Device d asked) → P (ev.Deliver k) d asked
+    pub deliver : (k d : ℕ) (bytes : List ℕ) → slice_get pool k ≡ Some bytes → takes.taker bytes ≡ Device d → P (ev.Deliver k) d (Call (device.Take (record { bytes = bytes; message = next })))
 
   -- and of each event of the centre
   pub record EachOfCentre (P : Event → Asked CentreCall → Type 0) : Type 0 where
@@ -68,7 +76,7 @@ module _ (pool : List (List ℕ)) (quote : Quote) where
     pub flag : (w : ℕ) (suspended : Bool) → P (ev.Flag w suspended) (Call (call.Flag (record { customer = w; suspended = suspended })))
     pub balance : (w : ℕ) → P (ev.Balance w) (Call (call.Balance (record { customer = w })))
     pub give : (bytes : List ℕ) → P (ev.Give Centre bytes) (Call (call.Take (record { bytes = bytes; message = next })))
-    pub deliver : (k : ℕ) (asked : Asked CentreCall) → message_taken k next (slice_get pool k) ≡ take.Work (work.Centre asked) → P (ev.Deliver k) asked
+    pub deliver : (k : ℕ) (bytes : List ℕ) → slice_get pool k ≡ Some bytes → takes.taker bytes ≡ Centre → P (ev.Deliver k) (Call (call.Take (record { bytes = bytes; message = next })))
 
   -- of the host
   pub record EachOfHost (P : Event → Asked HostCall → Type 0) : Type 0 where
@@ -80,7 +88,7 @@ module _ (pool : List (List ℕ)) (quote : Quote) where
     pub print : (j : ℕ) → P (ev.Print j) (Call (host.Print (record { job = j })))
     pub close : (j : ℕ) → P (ev.Close j) (Call (host.Close (record { job = j })))
     pub give : (bytes : List ℕ) → P (ev.Give Host bytes) (Call (host.Take (record { bytes = bytes })))
-    pub deliver : (k : ℕ) (asked : Asked HostCall) → message_taken k next (slice_get pool k) ≡ take.Work (work.Host asked) → P (ev.Deliver k) asked
+    pub deliver : (k : ℕ) (bytes : List ℕ) → slice_get pool k ≡ Some bytes → takes.taker bytes ≡ Host → P (ev.Deliver k) (Call (host.Take (record { bytes = bytes })))
 
   -- of the verifier
   pub record EachOfVerifier (P : Event → Asked VerifierCall → Type 0) : Type 0 where
@@ -122,33 +130,23 @@ module _ (pool : List (List ℕ)) (quote : Quote) where
 
   module _ (R : Event → Taken → Type 0) (D : Event → ℕ → Asked DeviceCall → Type 0) (C : Event → Asked CentreCall → Type 0) (H : Event → Asked HostCall → Type 0) (V : Event → Asked VerifierCall → Type 0)
       (each : Each R D C H V) where
-    -- what is delivered is for a node, where the message is there
-    module _ (k : ℕ) (bytes : List ℕ) where
-      abbrev Holds : Taken → Type 0
-      Holds x = message_taken k next (slice_get pool k) ≡ x → ByNode R D C H V (ev.Deliver k) x
-
-      for_device : (d : ℕ) (t : Bool) → Holds (if t then takes.to_device d bytes next else takes.to_centre bytes next)
-      for_device d true is = each.devices.deliver k d (Call (device.Take (record { bytes = bytes; message = next }))) is
-      for_device d false is = each.centre.deliver k (Call (call.Take (record { bytes = bytes; message = next }))) is
-
-      delivered_as : (x : Result Message Unread) → Holds (takes.delivered_as bytes next x)
-      delivered_as (Ok (m.Reply p)) is = for_device p.device (nat_le 1 p.device && nat_le p.device 8) is
-      delivered_as (Ok (m.Debit q)) is = for_device q.device (nat_le 1 q.device && nat_le q.device 8) is
-      delivered_as (Ok (m.Release x)) is = each.host.deliver k (Call (host.Take (record { bytes = bytes }))) is
-      delivered_as (Ok (m.Request q)) is = each.centre.deliver k (Call (call.Take (record { bytes = bytes; message = next }))) is
-      delivered_as (Ok (m.Done q)) is = each.centre.deliver k (Call (call.Take (record { bytes = bytes; message = next }))) is
-      delivered_as (Err x) is = each.centre.deliver k (Call (call.Take (record { bytes = bytes; message = next }))) is
-
-    delivered_each : (k : ℕ) (o : Option (List ℕ)) → slice_get pool k ≡ o → ByNode R D C H V (ev.Deliver k) (message_taken k next o)
-    delivered_each k None is = each.quiet.deliver k is
-    delivered_each k (Some bytes) is = delivered_as k bytes (read bytes) (ap (message_taken k next) is)
-
     scanned_each : (n k : ℕ) (o : Option (List ℕ)) → slice_get pool k ≡ o → ByNode R D C H V (ev.ScanMsg n k) (scanned n k o)
     scanned_each n k None is = each.quiet.scan n k is
     scanned_each n k (Some bytes) is = each.verifier.message n k bytes is
 
     found : (e : Event) (x y : Taken) → Some y ≡ Some x → ByNode R D C H V e y → ByNode R D C H V e x
     found e x y is holds = subst (ByNode R D C H V e) (same_Some _ _ is) holds
+
+    -- what is delivered is given to the node that takes it, if the message is there
+    handed_each : (k : ℕ) (bytes : List ℕ) → slice_get pool k ≡ Some bytes → (n : Node) → takes.taker bytes ≡ n → (x : Taken) → takes.given_to n bytes next ≡ Some x → ByNode R D C H V (ev.Deliver k) x
+    handed_each k bytes there (Device d) to x h = found (ev.Deliver k) x (takes.of_device d (device.Take (record { bytes = bytes; message = next }))) h (each.devices.deliver k d bytes there to)
+    handed_each k bytes there Centre to x h = found (ev.Deliver k) x (takes.of_centre (call.Take (record { bytes = bytes; message = next }))) h (each.centre.deliver k bytes there to)
+    handed_each k bytes there Host to x h = found (ev.Deliver k) x (takes.of_host (host.Take (record { bytes = bytes }))) h (each.host.deliver k bytes there to)
+    handed_each k bytes there Verifier to x h = absurd (none-some _ h)
+
+    delivered_each : (k : ℕ) (o : Option (List ℕ)) → slice_get pool k ≡ o → (x : Taken) → message_taken k next o ≡ Some x → ByNode R D C H V (ev.Deliver k) x
+    delivered_each k None is x h = found (ev.Deliver k) x (take.Work (work.NoMessage k)) h (each.quiet.deliver k is)
+    delivered_each k (Some bytes) is x h = handed_each k bytes is (takes.taker bytes) refl x h
 
     pub each_taken : (e : Event) (x : Taken) → taken pool quote e ≡ Some x → ByNode R D C H V e x
     each_taken (ev.Day t) x h = found (ev.Day t) x (take.Day t) h (each.quiet.day t)
@@ -177,7 +175,7 @@ module _ (pool : List (List ℕ)) (quote : Quote) where
     each_taken (ev.Deposit w receipt amount) x h = found (ev.Deposit w receipt amount) x (take.Work (work.Centre (Call (call.Deposit (record { customer = w; receipt = receipt; amount = amount }))))) h (each.centre.deposit w receipt amount)
     each_taken (ev.Flag w suspended) x h = found (ev.Flag w suspended) x (take.Work (work.Centre (Call (call.Flag (record { customer = w; suspended = suspended }))))) h (each.centre.flag w suspended)
     each_taken (ev.Balance w) x h = found (ev.Balance w) x (take.Work (work.Centre (Call (call.Balance (record { customer = w }))))) h (each.centre.balance w)
-    each_taken (ev.Deliver k) x h = subst (ByNode R D C H V (ev.Deliver k)) (same_Some _ _ h) (delivered_each k (slice_get pool k) refl)
+    each_taken (ev.Deliver k) x h = delivered_each k (slice_get pool k) refl x h
     each_taken (ev.Give (Device d) bytes) x h = found (ev.Give (Device d) bytes) x (take.Work (work.Device d (Call (device.Take (record { bytes = bytes; message = next }))))) h (each.devices.give d bytes)
     each_taken (ev.Give Centre bytes) x h = found (ev.Give Centre bytes) x (take.Work (work.Centre (Call (call.Take (record { bytes = bytes; message = next }))))) h (each.centre.give bytes)
     each_taken (ev.Give Host bytes) x h = found (ev.Give Host bytes) x (take.Work (work.Host (Call (host.Take (record { bytes = bytes }))))) h (each.host.give bytes)
@@ -215,7 +213,7 @@ module _ (pool : List (List ℕ)) (quote : Quote) where
     ack = λ d. tt;
     status = λ d. tt;
     give = λ d bytes. tt;
-    deliver = λ k d asked is. tt;
+    deliver = λ k d bytes there to. tt;
   }
 
   no_centre : EachOfCentre (λ e asked. Unit {0})
@@ -229,7 +227,7 @@ module _ (pool : List (List ℕ)) (quote : Quote) where
     flag = λ w suspended. tt;
     balance = λ w. tt;
     give = λ bytes. tt;
-    deliver = λ k asked is. tt;
+    deliver = λ k bytes there to. tt;
   }
 
   no_host : EachOfHost (λ e asked. Unit {0})
@@ -242,7 +240,7 @@ module _ (pool : List (List ℕ)) (quote : Quote) where
     print = λ j. tt;
     close = λ j. tt;
     give = λ bytes. tt;
-    deliver = λ k asked is. tt;
+    deliver = λ k bytes there to. tt;
   }
 
   no_verifier : EachOfVerifier (λ e asked. Unit {0})

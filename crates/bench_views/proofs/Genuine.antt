@@ -1,12 +1,10 @@
 -- A Reply that a device is handed, with its code, is the one of its ruling: it was sent, since nothing is forged.
-use Rattle.std.proofs.Common.{◌≡◌, ℕ, List, Option, Some, None, true, Bool, false, Result, Ok, Err, refl, subst}
-use Rattle.std.specs.Prelude.{length, nat_le, ◌&&◌, if◌then◌else◌}
+use Rattle.std.proofs.Common.{◌≡◌, ℕ, List, Some, true, Result, Ok, subst, sym, ◌∙◌, ap}
 use Rattle.bench_base.specs.declared.words.Node.TheVariants.{Device}
 use Rattle.bench_base.specs.declared.refusals.Unread.{Unread}
 use Rattle.bench_base.specs.declared.events.Event.{Event}
-use Rattle.bench_base.specs.Ledger.{Ledger, IsSent, counted, message}
+use Rattle.bench_base.specs.Ledger.{Ledger, IsSent, counted}
 use Rattle.node_acts.specs.declared.asked.Asked.{Asked}
-use Rattle.node_acts.specs.declared.asked.Asked.TheVariants.{Call}
 use Rattle.node_acts.specs.Kinds.{OfCall}
 use Rattle.psd_wire.specs.declared.message.ReplyMsg.{ReplyMsg}
 use Rattle.psd_wire.specs.declared.message.Message.{Message}
@@ -22,7 +20,6 @@ use Rattle.bench_views.specs.declared.calls.DeviceCall.{DeviceCall}
 use Rattle.bench_views.specs.declared.calls.DeviceCall.TheVariants.{Make, Debit, Ask, Resend, Ack, Status, Take}
 use Rattle.bench_views.specs.declared.taken.Taken.TheVariants as take
 use Rattle.bench_views.specs.declared.taken.Work.TheVariants as work
-use Rattle.bench_views.specs.Taken as takes
 use Rattle.bench_views.specs.Taken.{taken}
 use Rattle.bench_views.specs.Tariff.{Quote}
 use Rattle.bench_views.specs.Messages.{sent_in}
@@ -54,27 +51,8 @@ module _ (H : Ledger) (replied : RepliesAreRuled H) where
 
   given : (d : ℕ) (bytes : List ℕ) → IsKnown bytes (read bytes) (Device d) H → IsRuled H d bytes
   given d bytes known p reads own key made coded =
-      replied bytes p (subst (λ (x : Result Message Unread). IsKnown bytes x (Device d) H) reads known own key made coded) reads
-
-  -- who takes the bytes of a message that was sent
-  for_device : (e d : ℕ) (bytes : List ℕ) (k : ℕ) (asked : Asked DeviceCall) → IsSent bytes H → takes.for_device e bytes k ≡ take.Work (work.Device d asked) → OfAsked H d asked
-  for_device e d bytes k asked sent is = by (nat_le 1 e && nat_le e 8) is
-    where
-      by : (t : Bool) → (if t then takes.to_device e bytes k else takes.to_centre bytes k) ≡ take.Work (work.Device d asked) → OfAsked H d asked
-      by true same = let to : Call (Take (record { bytes = bytes; message = k })) ≡ asked = cc in subst (OfAsked H d) to (was_sent d bytes sent)
-      by false same = cc
-
-  delivered : (d k : ℕ) (bytes : List ℕ) (asked : Asked DeviceCall) (x : Result Message Unread) → IsSent bytes H → takes.delivered_as bytes k x ≡ take.Work (work.Device d asked) → OfAsked H d asked
-  delivered d k bytes asked (Ok (m.Reply p)) sent is = for_device p.device d bytes k asked sent is
-  delivered d k bytes asked (Ok (m.Debit q)) sent is = for_device q.device d bytes k asked sent is
-  delivered d k bytes asked (Ok (m.Release x)) sent is = cc
-  delivered d k bytes asked (Ok (m.Request q)) sent is = cc
-  delivered d k bytes asked (Ok (m.Done q)) sent is = cc
-  delivered d k bytes asked (Err x) sent is = cc
-
-  message_asked : (k d next : ℕ) (asked : Asked DeviceCall) (o : Option (List ℕ)) → message k H ≡ o → takes.message_taken k next o ≡ take.Work (work.Device d asked) → OfAsked H d asked
-  message_asked k d next asked None at is = cc
-  message_asked k d next asked (Some bytes) at is = delivered d next bytes asked (read bytes) (message_sent k bytes H at) is
+      let sent = subst (λ (x : Result Message Unread). IsKnown bytes x (Device d) H) reads known (ap Device (sym own)) key (ap (λ (e : ℕ). key_of e (counted H)) own ∙ made) coded in
+      replied bytes p sent reads
 
   pub genuine : (quote : Quote) (e : Event) (d : ℕ) (asked : Asked DeviceCall) → taken (sent_in H) quote e ≡ Some (take.Work (work.Device d asked)) → Unforged e H → OfAsked H d asked
   genuine quote = each_asked (sent_in H) quote (λ e d asked. Unforged e H → OfAsked H d asked) (record {
@@ -88,5 +66,5 @@ module _ (H : Ledger) (replied : RepliesAreRuled H) where
     ack = λ d known. tt;
     status = λ d known. tt;
     give = λ d bytes known. given d bytes known;
-    deliver = λ k d asked is known. message_asked k d (length (sent_in H)) asked (message k H) refl (subst (λ (o : Option (List ℕ)). takes.message_taken k (length (sent_in H)) o ≡ take.Work (work.Device d asked)) (sent_at H k) is);
+    deliver = λ k d bytes there to known. was_sent d bytes (message_sent k bytes H (sym (sent_at H k) ∙ there));
   })

@@ -1,10 +1,10 @@
 -- What the host is called for: its plan, its commit, and what is seen of it afterwards.
-use Rattle.std.proofs.Common.{◌≡◌, ℕ, ℤ, List, [], Option, Some, None, Bool, true, false, Result, Ok, Err, refl, sym, ◌∙◌, ap, subst}
-use Rattle.std.specs.Prelude.{◌&&◌, length, slice_get, nat_le, if◌then◌else◌}
+use Rattle.std.proofs.Common.{◌≡◌, ℕ, ℤ, List, [], Option, Some, None, Result, Ok, Err, refl, sym, ◌∙◌, ap}
+use Rattle.std.specs.Prelude.{length, slice_get}
+use Rattle.bench_base.specs.declared.words.Node.{Node}
 use Rattle.bench_base.specs.declared.words.Node.TheVariants.{Host}
 use Rattle.bench_base.specs.declared.refusals.HostRefusal.{HostRefusal}
 use Rattle.bench_base.specs.declared.refusals.RateRefusal.{RateRefusal}
-use Rattle.bench_base.specs.declared.refusals.Unread.{Unread}
 use Rattle.bench_base.specs.declared.ledger.Commit.{Commit}
 use Rattle.bench_base.specs.declared.events.Event.{Event}
 use Rattle.bench_base.specs.declared.events.Reply.TheVariants as r
@@ -24,11 +24,9 @@ use Rattle.node_acts.specs.RowList.{commits_in}
 use Rattle.node_acts.specs.Said.{said_plan, seen_plan}
 use Rattle.node_acts.specs.Acts.{OfCommit}
 use Rattle.node_acts.proofs.OfCommits.{of_commit, of_both, commit_says}
-use Rattle.psd_wire.specs.declared.message.Message.{Message}
-use Rattle.psd_wire.specs.declared.message.Message.TheVariants as m
 use Rattle.psd_wire.specs.Grammar.{read}
 use Rattle.ledger_moves.specs.Tariffs.{Tariff}
-use Rattle.ledger_moves.specs.Moves.{plan, at_node, host_plan, deliver_to, deliver_plan}
+use Rattle.ledger_moves.specs.Moves.{plan, at_node, addressee, deliver_plan, give_plan}
 use Rattle.host_jobs.specs.declared.rows.JobRow.{JobRow}
 use Rattle.host_jobs.specs.Answers.{order_answer, send_answer}
 use Rattle.host_jobs.specs.Acts.{HostAct, shelf_in, ordered_act, unless, debit_note, sent_act}
@@ -49,12 +47,13 @@ use Rattle.bench_views.specs.declared.taken.Work.TheVariants as work
 use Rattle.bench_views.specs.Taken as takes
 use Rattle.bench_views.specs.Taken.{taken}
 use Rattle.bench_views.specs.Tariff.{Quote, quote_in}
-use Rattle.bench_views.specs.Host.{view_of, host_act, host_kind}
+use Rattle.bench_views.specs.Host.{host_act, host_kind}
 use Rattle.bench_views.specs.Messages.{sent_in}
 use Rattle.bench_views.proofs.Calling.{at_seen, IsWornAlike}
-use Rattle.bench_views.proofs.Events.{each_of_host}
+use Rattle.bench_views.proofs.Events.{each_of_host, same_taker}
 use Rattle.bench_views.proofs.HostCommits.{worn}
 use Rattle.bench_views.proofs.Sent.{sent_many, sent_at}
+use Rattle.bench_views.proofs.Shown.{host_view}
 use Rattle.bench_views.proofs.Steps.{IsQuiet, IsQuietAct, IsRight, quiet_says}
 
 -- == whose the commits are, and where they lie ==
@@ -97,19 +96,6 @@ IsWholeCall (call.Send c) = Unit {0}
 IsWholeCall (call.Print c) = Unit {0}
 IsWholeCall (call.Close c) = Unit {0}
 IsWholeCall (call.Take c) = Unit {0}
-
--- a message for a device is none for the host
-not_host : {P : Type 0} (d : ℕ) (bytes : List ℕ) (k : ℕ) (asked : Asked HostCall) (t : Bool) → (if t then takes.to_device d bytes k else takes.to_centre bytes k) ≡ take.Work (work.Host asked) → P
-not_host d bytes k asked true is = cc
-not_host d bytes k asked false is = cc
-
-delivered_asked : (bytes : List ℕ) (k : ℕ) (asked : Asked HostCall) (x : Result Message Unread) → takes.delivered_as bytes k x ≡ take.Work (work.Host asked) → asked ≡ Call (call.Take (record { bytes = bytes }))
-delivered_asked bytes k asked (Ok (m.Release x)) is = cc
-delivered_asked bytes k asked (Ok (m.Request q)) is = cc
-delivered_asked bytes k asked (Ok (m.Done q)) is = cc
-delivered_asked bytes k asked (Err x) is = cc
-delivered_asked bytes k asked (Ok (m.Reply p)) is = not_host p.device bytes k asked (nat_le 1 p.device && nat_le p.device 8) is
-delivered_asked bytes k asked (Ok (m.Debit q)) is = not_host q.device bytes k asked (nat_le 1 q.device && nat_le q.device 8) is
 
 -- == at a ledger ==
 
@@ -189,34 +175,26 @@ module _ (H : Ledger) (known : IsKnown (seen_after (counted H))) (turn : InTurn 
   -- == its plan ==
 
   -- at the host, the plan of an act is what is seen, by how it says what it answers
-  at : {A : Type 0} (say : A → Said) (act : HostAct A) → IsGood act → (planned_as : HostAct A) → act ≡ planned_as → at_node Host H (said_plan (says say planned_as)) ≡ seen_plan counting Host (view_of H) (says say act)
+  at : {A : Type 0} (say : A → Said) (act : HostAct A) → IsGood act → (planned_as : HostAct A) → act ≡ planned_as → at_node Host H (said_plan (says say planned_as)) ≡ seen_plan counting Host (host_view H) (says say act)
   at {A} say act good planned_as is =
       ap (λ (x : HostAct A). at_node Host H (said_plan (says say x))) (sym is)
       ∙ at_seen counting Host seen_after H (says say act) (commit_says _ r.HostRefused say act (own act good)) (commit_says _ r.HostRefused say act (worn_alike act good))
 
   -- by the next message
-  sends : (j : ℕ) → at_node Host H (told.send_plan (length (sent_in H)) j C) ≡ seen_plan counting Host (view_of H) (host_act (call.Send (record { job = j; message = length (sent_in H) })) rows)
+  sends : (j : ℕ) → at_node Host H (told.send_plan (length (sent_in H)) j C) ≡ seen_plan counting Host (host_view H) (host_act (call.Send (record { job = j; message = length (sent_in H) })) rows)
   sends j = at (told.told_sent j (length (sent_in H))) (acts.debit_message_act j rows) (send_good j) (acts.debit_message_by j (told.in_commits C)) (plans.sent j)
 
-  handed : (bytes : List ℕ) → host_plan bytes H ≡ seen_plan counting Host (view_of H) (host_act (call.Take (record { bytes = bytes })) rows)
-  handed bytes = at told.told_held (acts.take_act bytes rows) (take_good bytes) (acts.take_by bytes (told.in_commits C)) (plans.taken bytes)
+  handed : (today : ℤ) (bytes : List ℕ) → give_plan todays_rules today Host bytes H ≡ seen_plan counting Host (host_view H) (host_act (call.Take (record { bytes = bytes })) rows)
+  handed today bytes = at told.told_held (acts.take_act bytes rows) (take_good bytes) (acts.take_by bytes (told.in_commits C)) (plans.taken bytes)
 
-  -- a message that is delivered to the host
-  delivered : (today : ℤ) (bytes : List ℕ) (k : ℕ) (asked : Asked HostCall) (x : Result Message Unread) → takes.delivered_as bytes k x ≡ take.Work (work.Host asked) → deliver_to todays_rules today bytes x H ≡ host_plan bytes H
-  delivered today bytes k asked (Ok (m.Release x)) is = refl
-  delivered today bytes k asked (Ok (m.Request q)) is = cc
-  delivered today bytes k asked (Ok (m.Done q)) is = cc
-  delivered today bytes k asked (Err x) is = cc
-  delivered today bytes k asked (Ok (m.Reply p)) is = not_host p.device bytes k asked (nat_le 1 p.device && nat_le p.device 8) is
-  delivered today bytes k asked (Ok (m.Debit q)) is = not_host q.device bytes k asked (nat_le 1 q.device && nat_le q.device 8) is
+  -- a message that the host takes is for it
+  delivered : (today : ℤ) (k : ℕ) (bytes : List ℕ) → slice_get (sent_in H) k ≡ Some bytes → takes.taker bytes ≡ Host → deliver_plan todays_rules today k (message k H) H ≡ give_plan todays_rules today Host bytes H
+  delivered today k bytes there to =
+      ap (λ (o : Option (List ℕ)). deliver_plan todays_rules today k o H) (sym (sent_at H k) ∙ there)
+      ∙ ap (λ (n : Node). give_plan todays_rules today n bytes H) (same_taker (addressee (read bytes)) Host (λ same. cc) to)
 
   abbrev ByView : ℤ → Asked HostCall → Plan
-  ByView today asked = node_plan counting Host (host_kind.plan tt today (view_of H)) (view_of H) asked
-
-  delivered_plan : (today : ℤ) (k : ℕ) (asked : Asked HostCall) (o : Option (List ℕ)) → takes.message_taken k (length (sent_in H)) o ≡ take.Work (work.Host asked) → deliver_plan todays_rules today k o H ≡ ByView today asked
-  delivered_plan today k asked None is = cc
-  delivered_plan today k asked (Some bytes) is =
-      delivered today bytes (length (sent_in H)) asked (read bytes) is ∙ handed bytes ∙ ap (ByView today) (sym (delivered_asked bytes (length (sent_in H)) asked (read bytes) is))
+  ByView today asked = node_plan counting Host (host_kind.plan tt today (host_view H)) (host_view H) asked
 
   pub planned_call : (τ : Tariff) (today : ℤ) → day_in H ≡ Some today → commits_in (seen_after C) ≡ count_of Host C → (e : Event) (asked : Asked HostCall)
       → taken (sent_in H) (quote_in τ H) e ≡ Some (take.Work (work.Host asked)) → IsWholeEvent e → plan τ todays_rules H e [] ≡ ByView today asked
@@ -231,18 +209,14 @@ module _ (H : Ledger) (known : IsKnown (seen_after (counted H))) (turn : InTurn 
     send = λ j whole. rw (day, sym (sent_many H)) (sends j);
     print = λ j whole. rw day (at (told.told_printed j) (acts.begin_print_act j rows) (print_good j) (acts.begin_print_by j (told.in_commits C)) (plans.begun j));
     close = λ j whole. rw day (at (told.told_closed j) (acts.close_act j rows) (close_good j) (acts.close_by j (told.in_commits C)) (plans.closed j));
-    give = λ bytes whole. rw day (handed bytes);
-    deliver = λ k asked is whole. rw day (delivered_plan today k asked (message k H) (subst (λ (o : Option (List ℕ)). takes.message_taken k (length (sent_in H)) o ≡ take.Work (work.Host asked)) (sent_at H k) is));
+    give = λ bytes whole. rw day (handed today bytes);
+    deliver = λ k bytes there to whole. rw day (delivered today k bytes there to ∙ handed today bytes);
   })
 
 -- == the numbers of a call ==
 
 abbrev IsWholeAsked : Asked HostCall → Type 0
 IsWholeAsked = OfCall IsWholeCall
-
-delivered_whole : (k next : ℕ) (asked : Asked HostCall) (o : Option (List ℕ)) → takes.message_taken k next o ≡ take.Work (work.Host asked) → IsWholeAsked asked
-delivered_whole k next asked None is = cc
-delivered_whole k next asked (Some bytes) is = subst IsWholeAsked (sym (delivered_asked bytes next asked (read bytes) is)) tt
 
 -- they are those of its event
 pub whole_call : (H : Ledger) (quote : Quote) (e : Event) (c : HostCall) → taken (sent_in H) quote e ≡ Some (take.Work (work.Host (Call c))) → IsWholeEvent e → IsWholeCall c
@@ -255,5 +229,5 @@ whole_call H quote e c of = each_of_host (sent_in H) quote (λ i asked. IsWholeE
   print = λ j whole. tt;
   close = λ j whole. tt;
   give = λ bytes whole. tt;
-  deliver = λ k asked is whole. delivered_whole k (length (sent_in H)) asked (slice_get (sent_in H) k) is;
+  deliver = λ k bytes there to whole. tt;
 }) e (Call c) of

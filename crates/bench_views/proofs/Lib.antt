@@ -17,6 +17,7 @@ pub mod OfNone
 pub mod Plans
 mod Quiet
 pub mod RatesPlans
+mod Shown
 pub mod Steps
 pub mod Sent
 mod VerifierCalls

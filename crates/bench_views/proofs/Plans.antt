@@ -1,8 +1,9 @@
 -- The plan of an event of a device follows from what is seen of the device.
-use Rattle.std.proofs.Common.{◌≡◌, ◌≢◌, ℕ, ℤ, ◌∷◌, arith, List, [], Option, Some, None, Result, Ok, Err, Bool, true, false, refl, sym, ◌∙◌, ap, subst, if◌then◌else◌, rules}
+use Rattle.std.proofs.Common.{◌≡◌, ◌≢◌, ℕ, ℤ, ◌∷◌, arith, List, [], Option, Some, None, Result, Ok, Err, refl, sym, ◌∙◌, ap, subst, if◌then◌else◌, rules}
 use Rattle.bench_base.proofs.Rows.{first}
-use Rattle.std.specs.Prelude.{length, ◌+◌, ◌&&◌, nat_le, ◌==◌, IfSome}
+use Rattle.std.specs.Prelude.{length, ◌+◌, ◌==◌, IfSome, slice_get}
 use Rattle.bench_base.specs.declared.words.Kind.{Kind}
+use Rattle.bench_base.specs.declared.words.Node.{Node}
 use Rattle.bench_base.specs.declared.words.Node.TheVariants.{Device}
 use Rattle.bench_base.specs.declared.refusals.DevRefusal.{DevRefusal}
 use Rattle.bench_base.specs.declared.ledger.Entry.TheVariants as entry
@@ -37,7 +38,6 @@ use Rattle.psd_state.specs.declared.acts.Taken.TheVariants as taken_as
 use Rattle.psd_state.specs.Acts.{DeviceAct, make_act, franked_act, debit_act, asked_act, ask_act, applied_act, reply_rows, reply_act, message_act, take_act, told_act, resend_act, ack_act, status_act}
 use Rattle.node_acts.specs.declared.act.Act.{Act}
 use Rattle.node_acts.specs.declared.asked.Asked.{Asked as AskedOf}
-use Rattle.node_acts.specs.declared.asked.Asked.TheVariants.{Call}
 use Rattle.node_acts.specs.Kinds.{node_plan}
 use Rattle.node_acts.specs.Plans.{IsOfNode}
 use Rattle.node_acts.specs.Said.{tells, saying, said_plan, seen_plan}
@@ -47,7 +47,7 @@ use Rattle.psd_state.specs.Seen.{counting}
 use Rattle.ledger_moves.specs.Tariffs.{Tariff}
 use Rattle.ledger_moves.specs.Devices as device
 use Rattle.ledger_moves.specs.Devices.{record_in, record_with}
-use Rattle.ledger_moves.specs.Moves.{plan, at_node, debit_by, deliver_to, deliver_plan, device_plan}
+use Rattle.ledger_moves.specs.Moves.{plan, at_node, debit_by, addressee, deliver_plan, give_plan}
 use Rattle.bench_views.specs.declared.calls.DeviceCall.{DeviceCall}
 use Rattle.bench_views.specs.declared.calls.DeviceCall.TheVariants.{Make, Debit, Ask, Resend, Ack, Status, Take}
 use Rattle.bench_views.specs.declared.taken.Taken.TheVariants as take
@@ -55,12 +55,13 @@ use Rattle.bench_views.specs.declared.taken.Work.TheVariants as work
 use Rattle.bench_views.specs.Taken as takes
 use Rattle.bench_views.specs.Taken.{taken}
 use Rattle.bench_views.specs.Tariff.{Quote}
-use Rattle.bench_views.specs.Devices.{seen_in, view_of, asked, took, device_act, device_kind, IsKnown}
+use Rattle.bench_views.specs.Devices.{seen_in, asked, took, device_act, device_kind, IsKnown}
 use Rattle.bench_views.specs.Messages.{sent_in}
 use Rattle.bench_views.proofs.Calling.{plan_says, at_seen, IsWornAlike}
 use Rattle.bench_views.proofs.Counts.{worn_is}
-use Rattle.bench_views.proofs.Events.{each_asked}
+use Rattle.bench_views.proofs.Events.{each_asked, same_taker}
 use Rattle.bench_views.proofs.Sent.{sent_many, sent_at}
+use Rattle.bench_views.proofs.Shown.{device_view}
 
 -- == whose the commit is ==
 
@@ -153,13 +154,13 @@ module _ (H : Ledger) (resending : ResendingRepeats) where
     worn_alike act own = of_commit _ _ act own (λ c x is. worn_is d c C (own_cell d c is) known.few)
 
     -- at the device, the plan of its act is what is seen
-    at : (today : ℤ) (call : DeviceCall) → at_node (Device d) H (said_plan (device_act d today call (record_in d C))) ≡ seen_plan counting (Device d) (view_of d H) (device_act d today call (record_in d C))
+    at : (today : ℤ) (call : DeviceCall) → at_node (Device d) H (said_plan (device_act d today call (record_in d C))) ≡ seen_plan counting (Device d) (device_view d H) (device_act d today call (record_in d C))
     at today call =
         let act = device_act d today call (record_in d C) in
         at_seen counting (Device d) (seen_in d) H act (call_own d today call (record_in d C)) (worn_alike act (call_own d today call (record_in d C)))
 
     by_plan : (p : Plan) (today : ℤ) (call : DeviceCall) → p ≡ said_plan (device_act d today call (record_in d C))
-        → at_node (Device d) H p ≡ seen_plan counting (Device d) (view_of d H) (device_act d today call (record_in d C))
+        → at_node (Device d) H p ≡ seen_plan counting (Device d) (device_view d H) (device_act d today call (record_in d C))
     by_plan p today call is = ap (at_node (Device d) H) is ∙ at today call
 
     ask_is : (kind : Kind) (who amount : ℕ) (today : ℤ) (k : ℕ) (o : Option (List ℕ))
@@ -218,40 +219,21 @@ module _ (H : Ledger) (resending : ResendingRepeats) where
     take_is bytes today k o = plan_says _ _ _ _ (took_reply k) (took_tells k) (take_act todays_rules d bytes today (record_with d C o))
 
     -- what it is handed, by message k
-    handed : (bytes : List ℕ) (today : ℤ) (k : ℕ) → messages H ≡ k → device_plan todays_rules today d bytes H ≡ seen_plan counting (Device d) (view_of d H) (device_act d today (Take (record { bytes = bytes; message = k })) (record_in d C))
+    handed : (bytes : List ℕ) (today : ℤ) (k : ℕ) → messages H ≡ k → give_plan todays_rules today (Device d) bytes H ≡ seen_plan counting (Device d) (device_view d H) (device_act d today (Take (record { bytes = bytes; message = k })) (record_in d C))
     handed bytes today k is =
         ap (λ (n : ℕ). at_node (Device d) H (device.device_take todays_rules n today d bytes (read bytes) C (key_of d C))) is ∙ by_plan _ today (Take (record { bytes = bytes; message = k })) (take_is bytes today k (key_of d C))
 
-  -- a message for device d
-  for_device : (today : ℤ) (e d k : ℕ) (bytes : List ℕ) (asked : AskedOf DeviceCall) → takes.for_device e bytes k ≡ take.Work (work.Device d asked) → (e ≡ d) × (asked ≡ Call (Take (record { bytes = bytes; message = k })))
-  for_device today e d k bytes asked is = by (nat_le 1 e && nat_le e 8) is
-    where
-      by : (b : Bool) → (if b then takes.to_device e bytes k else takes.to_centre bytes k) ≡ take.Work (work.Device d asked) → (e ≡ d) × (asked ≡ Call (Take (record { bytes = bytes; message = k })))
-      by true same = (cc, cc)
-      by false same = cc
-
-  delivered : (today : ℤ) (d k : ℕ) (bytes : List ℕ) (asked : AskedOf DeviceCall) (x : Result Message Unread) → read bytes ≡ x → takes.delivered_as bytes k x ≡ take.Work (work.Device d asked)
-      → (deliver_to todays_rules today bytes x H ≡ device_plan todays_rules today d bytes H) × (asked ≡ Call (Take (record { bytes = bytes; message = k })))
-  delivered today d k bytes asked (Ok (m.Reply p)) reads is = let at = for_device today p.device d k bytes asked is in (ap (λ (i : ℕ). device_plan todays_rules today i bytes H) at.0, at.1)
-  delivered today d k bytes asked (Ok (m.Debit q)) reads is = let at = for_device today q.device d k bytes asked is in (ap (λ (i : ℕ). device_plan todays_rules today i bytes H) at.0, at.1)
-  delivered today d k bytes asked (Ok (m.Release x)) reads is = cc
-  delivered today d k bytes asked (Ok (m.Request q)) reads is = cc
-  delivered today d k bytes asked (Ok (m.Done q)) reads is = cc
-  delivered today d k bytes asked (Err x) reads is = cc
+  -- a message that device d takes is for it
+  delivered : (today : ℤ) (k d : ℕ) (bytes : List ℕ) → slice_get (sent_in H) k ≡ Some bytes → takes.taker bytes ≡ Device d → deliver_plan todays_rules today k (message k H) H ≡ give_plan todays_rules today (Device d) bytes H
+  delivered today k d bytes there to =
+      ap (λ (o : Option (List ℕ)). deliver_plan todays_rules today k o H) (sym (sent_at H k) ∙ there)
+      ∙ ap (λ (n : Node). give_plan todays_rules today n bytes H) (same_taker (addressee (read bytes)) (Device d) (λ same. cc) to)
 
   abbrev KnownAt : ℕ → Type 0
   KnownAt d = IsKnown (seen_in d (counted H)) × ((key : List ℕ) → key_of d (counted H) ≡ Some key → IsRecordOf (state_of d key (counted H)) d (counted H))
 
   abbrev IsPlanned : Tariff → ℤ → Event → ℕ → AskedOf DeviceCall → Type 0
-  IsPlanned τ today e d asked = KnownAt d → plan τ todays_rules H e [] ≡ node_plan counting (Device d) (device_kind.plan d today (view_of d H)) (view_of d H) asked
-
-  delivered_plan : (τ : Tariff) (today : ℤ) (k d : ℕ) (asked : AskedOf DeviceCall) (o : Option (List ℕ)) → message k H ≡ o → takes.message_taken k (length (sent_in H)) o ≡ take.Work (work.Device d asked) → KnownAt d
-      → deliver_plan todays_rules today k o H ≡ node_plan counting (Device d) (device_kind.plan d today (view_of d H)) (view_of d H) asked
-  delivered_plan τ today k d asked None at is known = cc
-  delivered_plan τ today k d asked (Some bytes) at is known =
-      let to = delivered today d (length (sent_in H)) bytes asked (read bytes) refl is in
-      to.0 ∙ handed d known.0 known.1 bytes today (length (sent_in H)) (sym (sent_many H))
-      ∙ ap (λ (a : AskedOf DeviceCall). node_plan counting (Device d) (device_kind.plan d today (view_of d H)) (view_of d H) a) (sym to.1)
+  IsPlanned τ today e d asked = KnownAt d → plan τ todays_rules H e [] ≡ node_plan counting (Device d) (device_kind.plan d today (device_view d H)) (device_view d H) asked
 
   pub planned : (τ : Tariff) (today : ℤ) (quote : Quote) → day_in H ≡ Some today → (e : Event) (d : ℕ) (asked : AskedOf DeviceCall) → taken (sent_in H) quote e ≡ Some (take.Work (work.Device d asked)) → IsPlanned τ today e d asked
   unfolding plan
@@ -267,5 +249,5 @@ module _ (H : Ledger) (resending : ResendingRepeats) where
     ack = λ d known. rw (day, sym (sent_many H)) (by_plan d known.0 known.1 _ today (Ack (record { message = length (sent_in H) })) (ack_is d known.0 known.1 today (length (sent_in H)) (key_of d (counted H))));
     status = λ d known. rw day (by_plan d known.0 known.1 _ today Status (plan_says _ _ _ _ (λ w. refl) (λ w. refl) (status_act today (record_in d (counted H)))));
     give = λ d bytes known. rw day (handed d known.0 known.1 bytes today (length (sent_in H)) (sym (sent_many H)));
-    deliver = λ k d asked is known. rw day (delivered_plan τ today k d asked (message k H) refl (subst (λ (o : Option (List ℕ)). takes.message_taken k (length (sent_in H)) o ≡ take.Work (work.Device d asked)) (sent_at H k) is) known);
+    deliver = λ k d bytes there to known. rw day (delivered today k d bytes there to ∙ handed d known.0 known.1 bytes today (length (sent_in H)) (sym (sent_many H)));
   })

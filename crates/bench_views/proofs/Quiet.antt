@@ -27,16 +27,15 @@ use Rattle.bench_views.specs.declared.taken.Work.{Work}
 use Rattle.bench_views.specs.declared.taken.Work.TheVariants as work
 use Rattle.bench_views.specs.Taken.{taken}
 use Rattle.bench_views.specs.Tariff.{Quote}
-use Rattle.bench_views.specs.Centre as centre_views
 use Rattle.bench_views.specs.Comparing.{stood, compared, compare}
-use Rattle.bench_views.specs.Devices as device_views
 use Rattle.bench_views.specs.Follows.{quiet_by}
 use Rattle.bench_views.specs.Kinds.{bench_kinds}
 use Rattle.bench_views.specs.Messages.{sent_in}
 use Rattle.bench_views.proofs.Events.{each_quiet, IsOfNone}
 use Rattle.bench_views.proofs.Sent.{sent_at}
+use Rattle.bench_views.proofs.Shown.{device_view, centre_view}
 
-module _ (H : Ledger) (same : in_books (books_in (centre_views.view_of H).state) ≡ in_commits (counted H)) where
+module _ (H : Ledger) (same : in_books (books_in (centre_view H).state) ≡ in_commits (counted H)) where
   abbrev C : List Commit
   C = counted H
 
@@ -51,7 +50,7 @@ module _ (H : Ledger) (same : in_books (books_in (centre_views.view_of H).state)
   -- == comparing ==
 
   abbrev stands : ℕ → CentreAct Standing
-  stands d = standing_act d (books_in (centre_views.view_of H).state)
+  stands d = standing_act d (books_in (centre_view H).state)
 
   -- to say how a device stands commits nothing
   stood_refuses : (d held : ℕ) (o : Option Standing) → said_plan (says (told_standing d held) (stood_act d o)) ≡ refuse (stood d held (stood_act d o))
@@ -62,7 +61,7 @@ module _ (H : Ledger) (same : in_books (books_in (centre_views.view_of H).state)
   compared_is d None = refl
   compared_is d (Some key) =
       let total = ascending d C + descending d C in
-      ap (λ (at : LookUps). said_plan (says (told_standing d total) (stand_by d at))) (sym same) ∙ stood_refuses d total ((in_books (books_in (centre_views.view_of H).state)).standing d)
+      ap (λ (at : LookUps). said_plan (says (told_standing d total) (stand_by d at))) (sym same) ∙ stood_refuses d total ((in_books (books_in (centre_view H).state)).standing d)
 
   -- a reply that commits nothing, at a node
   at_quiet : (m : Node) (x : Reply) → at_node m H (refuse x) ≡ refuse (if is_on m H then x else r.OffNode m)
@@ -72,7 +71,7 @@ module _ (H : Ledger) (same : in_books (books_in (centre_views.view_of H).state)
       by true = refl
       by false = refl
 
-  compare_is : (d : ℕ) → at_node (Device d) H (at_node Centre H (reconcile_plan d (key_of d C) C)) ≡ refuse (compare d (device_views.view_of d H) (centre_views.view_of H))
+  compare_is : (d : ℕ) → at_node (Device d) H (at_node Centre H (reconcile_plan d (key_of d C) C)) ≡ refuse (compare d (device_view d H) (centre_view H))
   compare_is d =
       ap (λ (p : Plan). at_node (Device d) H (at_node Centre H p)) (compared_is d (key_of d C))
       ∙ ap (at_node (Device d) H) (at_quiet Centre (compared d (record_with d C (key_of d C)) (stands d)))

@@ -36,12 +36,13 @@ use Rattle.bench_views.specs.declared.taken.Taken.TheVariants as take
 use Rattle.bench_views.specs.declared.taken.Work.TheVariants as work
 use Rattle.bench_views.specs.Taken.{taken}
 use Rattle.bench_views.specs.Tariff.{Quote}
-use Rattle.bench_views.specs.Verifier.{view_of, verifier_act, verifier_kind, AreBytes}
+use Rattle.bench_views.specs.Verifier.{verifier_act, verifier_kind, AreBytes}
 use Rattle.bench_views.specs.Messages.{sent_in}
 use Rattle.bench_views.proofs.Calling.{at_seen, IsWornAlike}
 use Rattle.bench_views.proofs.Counts.{top_is}
 use Rattle.bench_views.proofs.Events.{each_of_verifier}
 use Rattle.bench_views.proofs.Sent.{sent_at}
+use Rattle.bench_views.proofs.Shown.{verifier_view}
 use Rattle.bench_views.proofs.Steps.{IsQuiet, IsQuietAct, IsRight, quiet_says}
 
 -- the numbers of the call fit their fields
@@ -113,17 +114,17 @@ module _ (H : Ledger) (recorded : IsRecorded (counted H)) (known : IsKnown (seen
   -- == its plan ==
 
   -- at the verifier, the plan of an act is what is seen, by how it says what it answers
-  at : {A : Type 0} (say : A → Said) (act : ScanAct A) → IsGood act → (planned_as : ScanAct A) → act ≡ planned_as → at_node Verifier H (said_plan (says say planned_as)) ≡ seen_plan counting Verifier (view_of H) (says say act)
+  at : {A : Type 0} (say : A → Said) (act : ScanAct A) → IsGood act → (planned_as : ScanAct A) → act ≡ planned_as → at_node Verifier H (said_plan (says say planned_as)) ≡ seen_plan counting Verifier (verifier_view H) (says say act)
   at {A} say act good planned_as is =
       ap (λ (x : ScanAct A). at_node Verifier H (said_plan (says say x))) (sym is)
       ∙ at_seen counting Verifier seen_after H (says say act) (commit_says _ r.ScanRefused say act (own act good)) (commit_says _ r.ScanRefused say act (worn_alike act good))
 
   -- bytes that are scanned
-  scans : (today : ℤ) (n : ℕ) (bytes : List ℕ) → IsCount n → IsBytes bytes → scan_plan n today bytes H ≡ seen_plan counting Verifier (view_of H) (verifier_act today (call.Scan (record { number = n; bytes = bytes })) s)
+  scans : (today : ℤ) (n : ℕ) (bytes : List ℕ) → IsCount n → IsBytes bytes → scan_plan n today bytes H ≡ seen_plan counting Verifier (verifier_view H) (verifier_act today (call.Scan (record { number = n; bytes = bytes })) s)
   scans today n bytes count are = at (told_accepted n) (scan_act n bytes today s) (scan_good n bytes today count are) (scan_by n bytes today (in_commits C)) (plans.scanned n bytes today)
 
   abbrev ByView : ℤ → Asked VerifierCall → Plan
-  ByView today asked = node_plan counting Verifier (verifier_kind.plan tt today (view_of H)) (view_of H) asked
+  ByView today asked = node_plan counting Verifier (verifier_kind.plan tt today (verifier_view H)) (verifier_view H) asked
 
   pub planned_call : (τ : Tariff) (today : ℤ) (quote : Quote) → day_in H ≡ Some today → commits_in (seen_after C) ≡ count_of Verifier C → (e : Event) (asked : Asked VerifierCall)
       → taken (sent_in H) quote e ≡ Some (take.Work (work.Verifier asked)) → IsWholeEvent e → AreBytes asked → plan τ todays_rules H e [] ≡ ByView today asked

@@ -6,14 +6,12 @@ use Rattle.bench_base.specs.declared.ledger.Commit.{Commit}
 use Rattle.bench_base.specs.declared.events.Reply.{Reply}
 use Rattle.bench_base.specs.Cells.{Place, OfRow, OfCustomer}
 use Rattle.bench_base.specs.Cells as cells
-use Rattle.bench_base.specs.Ledger.{Ledger}
 use Rattle.bench_base.specs.Table.{IsBytes}
 use Rattle.node_acts.specs.declared.act.Act.{Act}
 use Rattle.node_acts.specs.declared.asked.Asked.{Asked}
-use Rattle.node_acts.specs.Views.{View}
 use Rattle.node_acts.specs.declared.said.Said.{Said}
 use Rattle.node_acts.specs.Said.{kind_by}
-use Rattle.node_acts.specs.Kinds.{Kind, view_in, OfCall}
+use Rattle.node_acts.specs.Kinds.{Kind, OfCall}
 use Rattle.node_acts.specs.RowList.{listed}
 use Rattle.centre_ledger.specs.Books.{Books}
 use Rattle.centre_ledger.specs.declared.rows.Row.{Row}
@@ -39,10 +37,6 @@ cell_after k C = option_map (λ r. (cells.commits_at (place_in k) C, r)) (row_in
 
 abbrev pub seen_in : List Commit → Seen
 seen_in C = listed CENTRE_CELLS (λ k. cell_after k C)
-
--- what the bench sees of the centre
-abbrev pub view_of : Ledger → View Seen
-view_of H = view_in Centre seen_in H
 
 -- == its calls ==
 

@@ -7,13 +7,12 @@ use Rattle.bench_base.specs.declared.events.DevView.{DevView}
 use Rattle.bench_base.specs.declared.events.Reply.{Reply}
 use Rattle.bench_base.specs.declared.events.Reply.TheVariants as r
 use Rattle.bench_base.specs.Rules.{todays_rules}
-use Rattle.bench_base.specs.Ledger.{Ledger, count_of}
+use Rattle.bench_base.specs.Ledger.{count_of}
 use Rattle.node_acts.specs.declared.act.Act.{Act}
 use Rattle.node_acts.specs.declared.said.Said.{Said}
 use Rattle.node_acts.specs.declared.said.GivenOut.TheVariants.{Released}
 use Rattle.node_acts.specs.Said.{replies, gives, sends, saying, kind_by}
-use Rattle.node_acts.specs.Views.{View}
-use Rattle.node_acts.specs.Kinds.{Kind, view_in}
+use Rattle.node_acts.specs.Kinds.{Kind}
 use Rattle.psd_wire.specs.declared.message.Message.TheVariants as m
 use Rattle.psd_wire.specs.Grammar.{spell}
 use Rattle.psd_state.specs.State.{State, Holds}
@@ -29,10 +28,6 @@ use Rattle.bench_views.specs.declared.calls.DeviceCall.TheVariants.{Make, Debit,
 
 abbrev pub seen_in : ℕ → List Commit → Seen
 seen_in d C = record { count = count_of (Device d) C; state = record_in d C }
-
--- what the bench sees of device d
-abbrev pub view_of : ℕ → Ledger → View Seen
-view_of d H = view_in (Device d) (seen_in d) H
 
 -- == what it says ==
 

@@ -1,12 +1,10 @@
 -- The host, as the ledger shows it to the bench, and what a call of it does by that alone. Postage is in mills.
 use Rattle.bench_base.specs.declared.words.Node.TheVariants.{Host}
 use Rattle.bench_base.specs.declared.events.Reply.{Reply}
-use Rattle.bench_base.specs.Ledger.{Ledger}
 use Rattle.node_acts.specs.declared.act.Act.{Act}
 use Rattle.node_acts.specs.declared.said.Said.{Said}
 use Rattle.node_acts.specs.Said.{kind_by}
-use Rattle.node_acts.specs.Views.{View}
-use Rattle.node_acts.specs.Kinds.{Kind, view_in}
+use Rattle.node_acts.specs.Kinds.{Kind}
 use Rattle.host_jobs.specs.declared.rows.JobRow.{JobRow}
 use Rattle.host_jobs.specs.Rows.{Jobs}
 use Rattle.host_jobs.specs.Records.{seen_after}
@@ -15,14 +13,6 @@ use Rattle.host_jobs.specs.Acts as acts
 use Rattle.host_jobs.specs.Plans.{says, told_ordered, told_sent, told_printed, told_closed, told_held}
 use Rattle.bench_views.specs.declared.calls.HostCall.{HostCall}
 use Rattle.bench_views.specs.declared.calls.HostCall.TheVariants as call
-
--- == its record ==
-
--- what the bench sees of the host
-abbrev pub view_of : Ledger → View Seen
-view_of H = view_in Host seen_after H
-
--- == its calls ==
 
 abbrev pub host_act : HostCall → Jobs → Act JobRow Reply Said
 host_act (call.Order c) rows = says told_ordered (acts.order_act c.device c.piece c.class c.price rows)

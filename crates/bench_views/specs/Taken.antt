@@ -1,18 +1,16 @@
 -- The events that the bench takes: whom each is for, and what it asks. The pool is the messages of the run, the first that was sent
 -- first; the quote is what a piece costs by the rates of the run.
-use Rattle.std.specs.Prelude.{ℕ, ◌&&◌, List, drop, length, slice_get, Option, Some, None, Result, Ok, Err, nat_le, if◌then◌else◌}
+use Rattle.std.specs.Prelude.{ℕ, ◌&&◌, List, drop, length, slice_get, Option, Some, None, nat_le, if◌then◌else◌}
 use Rattle.bench_base.specs.declared.words.Node.{Node}
 use Rattle.bench_base.specs.declared.words.Node.TheVariants.{Device, Centre, Host, Verifier}
-use Rattle.bench_base.specs.declared.refusals.Unread.{Unread}
 use Rattle.bench_base.specs.declared.events.Event.{Event}
 use Rattle.bench_base.specs.declared.events.Event.TheVariants as ev
 use Rattle.node_acts.specs.declared.asked.Asked.{Asked}
 use Rattle.node_acts.specs.declared.asked.Asked.TheVariants.{On, Off, Cut, Call}
 use Rattle.node_acts.specs.Kinds.{OfCall}
-use Rattle.psd_wire.specs.declared.message.Message.{Message}
-use Rattle.psd_wire.specs.declared.message.Message.TheVariants as m
 use Rattle.psd_wire.specs.Grammar.{read}
 use Rattle.host_jobs.specs.ActLaws.{IsPrice}
+use Rattle.ledger_moves.specs.Moves.{addressee}
 use Rattle.bench_views.specs.Tariff.{Quote}
 use Rattle.bench_views.specs.declared.calls.DeviceCall.{DeviceCall}
 use Rattle.bench_views.specs.declared.calls.DeviceCall.TheVariants as device
@@ -47,16 +45,7 @@ of_host call = take.Work (work.Host (Call call))
 abbrev pub of_verifier : VerifierCall → Taken
 of_verifier call = take.Work (work.Verifier (Call call))
 
--- bytes for a device, for the centre, for the host; and bytes that are scanned under number n
-abbrev pub to_device : ℕ → List ℕ → ℕ → Taken
-to_device d bytes k = of_device d (device.Take (record { bytes = bytes; message = k }))
-
-abbrev pub to_centre : List ℕ → ℕ → Taken
-to_centre bytes k = of_centre (centre.Take (record { bytes = bytes; message = k }))
-
-abbrev pub to_host : List ℕ → Taken
-to_host bytes = of_host (host.Take (record { bytes = bytes }))
-
+-- bytes that are scanned under number n
 abbrev pub to_scanner : ℕ → List ℕ → Taken
 to_scanner n bytes = of_verifier (verifier.Scan (record { number = n; bytes = bytes }))
 
@@ -65,37 +54,33 @@ to_scanner n bytes = of_verifier (verifier.Scan (record { number = n; bytes = by
 abbrev pub device_node : ℕ → Node
 device_node d = if nat_le 1 d && nat_le d 8 then Device d else Centre
 
--- a message for device d
-abbrev pub for_device : ℕ → List ℕ → ℕ → Taken
-for_device d bytes k = if nat_le 1 d && nat_le d 8 then to_device d bytes k else to_centre bytes k
+-- the node of a bench that takes what is for this node
+abbrev pub stand_in : Node → Node
+stand_in (Device d) = device_node d
+stand_in Centre = Centre
+stand_in Host = Host
+stand_in Verifier = Verifier
 
--- a message goes to the node of its tag
-abbrev pub delivered_as : List ℕ → ℕ → Result Message Unread → Taken
-delivered_as bytes k (Ok (m.Reply p)) = for_device p.device bytes k
-delivered_as bytes k (Ok (m.Debit q)) = for_device q.device bytes k
-delivered_as bytes k (Ok (m.Release x)) = to_host bytes
-delivered_as bytes k (Ok (m.Request q)) = to_centre bytes k
-delivered_as bytes k (Ok (m.Done q)) = to_centre bytes k
-delivered_as bytes k (Err x) = to_centre bytes k
+-- the node that takes a message of these bytes
+abbrev pub taker : List ℕ → Node
+taker bytes = stand_in (addressee (read bytes))
 
-abbrev pub delivered : List ℕ → ℕ → Taken
-delivered bytes k = delivered_as bytes k (read bytes)
+-- bytes that are given to a node; the verifier is given none
+abbrev pub given_to : Node → List ℕ → ℕ → Option Taken
+given_to (Device d) bytes k = Some (of_device d (device.Take (record { bytes = bytes; message = k })))
+given_to Centre bytes k = Some (of_centre (centre.Take (record { bytes = bytes; message = k })))
+given_to Host bytes k = Some (of_host (host.Take (record { bytes = bytes })))
+given_to Verifier bytes k = None
 
-abbrev pub message_taken : ℕ → ℕ → Option (List ℕ) → Taken
-message_taken k next None = take.Work (work.NoMessage k)
-message_taken k next (Some bytes) = delivered bytes next
+-- the message of this number, if it was sent, is given to the node that takes it
+abbrev pub message_taken : ℕ → ℕ → Option (List ℕ) → Option Taken
+message_taken k next None = Some (take.Work (work.NoMessage k))
+message_taken k next (Some bytes) = given_to (taker bytes) bytes next
 
 -- a message is scanned from its third byte on, where the mark of a Release begins
 abbrev pub scanned : ℕ → ℕ → Option (List ℕ) → Taken
 scanned n k None = take.Work (work.NoMessage k)
 scanned n k (Some bytes) = to_scanner n (drop 2 bytes)
-
--- bytes that are given to a node; the verifier is given none
-abbrev pub given_to : Node → List ℕ → ℕ → Option Taken
-given_to (Device d) bytes k = Some (to_device d bytes k)
-given_to Centre bytes k = Some (to_centre bytes k)
-given_to Host bytes k = Some (to_host bytes)
-given_to Verifier bytes k = None
 
 -- what an event asks; a message that it sends is the next one
 abbrev pub taken : List (List ℕ) → Quote → Event → Option Taken
@@ -115,7 +100,7 @@ taken pool quote (ev.OpenCustomer w) = Some (of_centre (centre.Open (record { cu
 taken pool quote (ev.Deposit w receipt amount) = Some (of_centre (centre.Deposit (record { customer = w; receipt = receipt; amount = amount })))
 taken pool quote (ev.Flag w suspended) = Some (of_centre (centre.Flag (record { customer = w; suspended = suspended })))
 taken pool quote (ev.Balance w) = Some (of_centre (centre.Balance (record { customer = w })))
-taken pool quote (ev.Deliver k) = Some (message_taken k (length pool) (slice_get pool k))
+taken pool quote (ev.Deliver k) = message_taken k (length pool) (slice_get pool k)
 taken pool quote (ev.Give n bytes) = given_to n bytes (length pool)
 taken pool quote (ev.Order d piece class grams zone) = Some (of_host (host.Order (record { device = d; piece = piece; class = class; grams = grams; zone = zone; price = quote class grams zone })))
 taken pool quote (ev.Send j) = Some (of_host (host.Send (record { job = j; message = length pool })))
@@ -129,18 +114,9 @@ taken pool quote ev.End = Some take.End
 
 -- == what is delivered, and what is scanned ==
 
--- whom a message is for, by what it reads as
-abbrev pub addressee : Result Message Unread → Node
-addressee (Ok (m.Reply p)) = device_node p.device
-addressee (Ok (m.Debit q)) = device_node q.device
-addressee (Ok (m.Release x)) = Host
-addressee (Ok (m.Request q)) = Centre
-addressee (Ok (m.Done q)) = Centre
-addressee (Err x) = Centre
-
 abbrev pub as_given_by : ℕ → Option (List ℕ) → Event
 as_given_by k None = ev.Deliver k
-as_given_by k (Some bytes) = ev.Give (addressee (read bytes)) bytes
+as_given_by k (Some bytes) = ev.Give (taker bytes) bytes
 
 abbrev pub as_scanned_by : ℕ → ℕ → Option (List ℕ) → Event
 as_scanned_by n k None = ev.ScanMsg n k

@@ -2,14 +2,12 @@
 use Rattle.std.specs.Prelude.{ℤ}
 use Rattle.bench_base.specs.declared.words.Node.TheVariants.{Verifier}
 use Rattle.bench_base.specs.declared.events.Reply.{Reply}
-use Rattle.bench_base.specs.Ledger.{Ledger}
 use Rattle.bench_base.specs.Table.{IsBytes}
 use Rattle.node_acts.specs.declared.act.Act.{Act}
 use Rattle.node_acts.specs.declared.asked.Asked.{Asked}
 use Rattle.node_acts.specs.declared.said.Said.{Said}
 use Rattle.node_acts.specs.Said.{kind_by}
-use Rattle.node_acts.specs.Views.{View}
-use Rattle.node_acts.specs.Kinds.{Kind, view_in, OfCall}
+use Rattle.node_acts.specs.Kinds.{Kind, OfCall}
 use Rattle.verifier.specs.declared.acts.Change.{Change}
 use Rattle.verifier.specs.Records.{seen_after}
 use Rattle.verifier.specs.Seen.{Seen, counting}
@@ -17,14 +15,6 @@ use Rattle.verifier.specs.Acts.{trust_act, scan_act}
 use Rattle.verifier.specs.Plans.{says, told_trusted, told_accepted}
 use Rattle.bench_views.specs.declared.calls.VerifierCall.{VerifierCall}
 use Rattle.bench_views.specs.declared.calls.VerifierCall.TheVariants as call
-
--- == its record ==
-
--- what the bench sees of the verifier
-abbrev pub view_of : Ledger → View Seen
-view_of H = view_in Verifier seen_after H
-
--- == its calls ==
 
 abbrev pub verifier_act : ℤ → VerifierCall → Seen → Act Change Reply Said
 verifier_act today (call.Trust c) s = says (told_trusted c.device) (trust_act c.device c.key s)

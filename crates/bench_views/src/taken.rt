@@ -84,33 +84,6 @@ fn of_verifier(call: VerifierCall) -> Taken
     Taken::Work(Work::Verifier(Asked::Call(call)))
 }
 
-fn to_centre<'a>(bytes: &'a [u8], message: u32) -> Taken<'a>
-    ensures { result ≡ takes.to_centre bytes.now message }
-{
-    of_centre(CentreCall::Take(TakeRequestCall {
-        bytes: Handed::new(bytes),
-        message,
-    }))
-}
-
-fn to_device<'a>(device: DevNo, bytes: &'a [u8], message: u32) -> Taken<'a>
-    ensures { result ≡ takes.to_device device bytes.now message }
-{
-    let call = TakeReplyCall {
-        bytes: Handed::new(bytes),
-        message,
-    };
-    of_device(device, DeviceCall::Take(call))
-}
-
-fn to_host<'a>(bytes: &'a [u8]) -> Taken<'a>
-    ensures { result ≡ takes.to_host bytes.now }
-{
-    of_host(HostCall::Take(TakeReleaseCall {
-        bytes: Handed::new(bytes),
-    }))
-}
-
 fn to_scanner<'a>(number: u32, bytes: &'a [u8]) -> Taken<'a>
     ensures { result ≡ takes.to_scanner number bytes.now }
 {
@@ -120,34 +93,51 @@ fn to_scanner<'a>(number: u32, bytes: &'a [u8]) -> Taken<'a>
     }))
 }
 
-// A message for the device of this number. Each message that was sent names one of 1 to 8.
-fn for_device<'a>(device: u32, bytes: &'a [u8], message: u32) -> Taken<'a>
-    ensures { result ≡ takes.for_device device bytes.now message }
+// The device of this number, or the centre if there is none. Each message that was sent names one of 1 to 8.
+fn device_node(device: u32) -> Node
+    ensures { result ≡ takes.device_node device }
 {
     match DevNo::new(device) {
-        Some(device) => to_device(device, bytes, message),
-        None => to_centre(bytes, message),
+        Some(device) => Node::Device(device),
+        None => Node::Centre,
     }
 }
 
-// A message goes to the node of its tag.
-fn delivered<'a>(bytes: &'a [u8], message: u32) -> Taken<'a>
-    ensures { result ≡ takes.delivered bytes.now message }
+// The node that takes a message of these bytes.
+fn taker(bytes: &[u8]) -> Node
+    ensures { result ≡ takes.taker bytes.now }
 {
     match read_message(bytes) {
-        Ok(Message::Reply(reply)) => for_device(reply.device, bytes, message),
-        Ok(Message::Debit(debit)) => for_device(debit.device, bytes, message),
-        Ok(Message::Release(_)) => to_host(bytes),
-        Ok(Message::Request(_) | Message::Done(_)) | Err(_) => to_centre(bytes, message),
+        Ok(Message::Reply(reply)) => device_node(reply.device),
+        Ok(Message::Debit(debit)) => device_node(debit.device),
+        Ok(Message::Release(_)) => Node::Host,
+        Ok(Message::Request(_) | Message::Done(_)) | Err(_) => Node::Centre,
     }
 }
 
-fn message_taken<'a>(number: u32, next: u32, message: Option<&'a Note>) -> Taken<'a>
+// Bytes that are given to a node; the verifier is given none.
+fn given_to<'a>(node: Node, bytes: &'a [u8], message: u32) -> Option<Taken<'a>>
+    ensures { result ≡ takes.given_to node bytes.now message }
+{
+    let bytes = Handed::new(bytes);
+    match node {
+        Node::Device(device) => Some(of_device(
+            device,
+            DeviceCall::Take(TakeReplyCall { bytes, message }),
+        )),
+        Node::Centre => Some(of_centre(CentreCall::Take(TakeRequestCall { bytes, message }))),
+        Node::Host => Some(of_host(HostCall::Take(TakeReleaseCall { bytes }))),
+        Node::Verifier => None,
+    }
+}
+
+// The message of this number is given to the node that takes it.
+fn message_taken<'a>(number: u32, next: u32, message: Option<&'a Note>) -> Option<Taken<'a>>
     ensures { result ≡ takes.message_taken number next (option_copied message.entry) }
 {
     match message {
-        Some(message) => delivered(message.as_slice(), next),
-        None => Taken::Work(Work::NoMessage(number)),
+        Some(message) => given_to(taker(message.as_slice()), message.as_slice(), next),
+        None => Some(Taken::Work(Work::NoMessage(number))),
     }
 }
 
@@ -167,18 +157,6 @@ fn scanned<'a>(scan: u32, number: u32, message: Option<&'a Note>) -> Taken<'a>
     match message {
         Some(message) => to_scanner(scan, behind_tag(message.as_slice())),
         None => Taken::Work(Work::NoMessage(number)),
-    }
-}
-
-// Bytes that are given to a node; the verifier is given none.
-fn given_to<'a>(node: Node, bytes: &'a [u8], message: u32) -> Option<Taken<'a>>
-    ensures { result ≡ takes.given_to node bytes.now message }
-{
-    match node {
-        Node::Device(device) => Some(to_device(device, bytes, message)),
-        Node::Centre => Some(to_centre(bytes, message)),
-        Node::Host => Some(to_host(bytes)),
-        Node::Verifier => None,
     }
 }
 
@@ -295,11 +273,7 @@ pub fn take<'a>(event: &'a Event, messages: &'a [Note], rates: &Option<Rates>) -
         Event::Balance(customer) => Some(of_centre(CentreCall::Balance(BalanceCall {
             customer: *customer,
         }))),
-        Event::Deliver(number) => Some(message_taken(
-            *number,
-            next,
-            messages.get(*number as usize),
-        )),
+        Event::Deliver(number) => message_taken(*number, next, messages.get(*number as usize)),
         Event::Give { node, bytes } => given_to(*node, bytes.as_slice(), next),
         Event::Order {
             device,

@@ -3,7 +3,6 @@ use Rattle.std.proofs.Common.{◌≡◌, ℕ, ℤ, pos, ◌+◌, List, [], ◌�
 use Rattle.std.specs.Prelude.{nat_lt}
 use Rattle.bench_base.specs.declared.words.Node.{Node}
 use Rattle.bench_base.specs.declared.words.Node.TheVariants.{Device, Centre, Host, Verifier}
-use Rattle.bench_base.specs.declared.refusals.Unread.{Unread}
 use Rattle.bench_base.specs.declared.ledger.Commit.{Commit}
 use Rattle.bench_base.specs.declared.ledger.Entry.{Entry}
 use Rattle.bench_base.specs.declared.ledger.Entry.TheVariants as e
@@ -22,8 +21,6 @@ use Rattle.node_acts.specs.declared.act.Act.{Act}
 use Rattle.node_acts.specs.declared.said.Said.{Said}
 use Rattle.node_acts.specs.Said.{tells, saying, said_plan}
 use Rattle.node_acts.specs.declared.act.Act.TheVariants.{Refuse, Tell, Commits}
-use Rattle.psd_wire.specs.declared.message.Message.{Message}
-use Rattle.psd_wire.specs.declared.message.Message.TheVariants as m
 use Rattle.psd_wire.specs.Grammar.{read}
 use Rattle.ledger_terms.specs.Devices.{key_of, number, pending}
 use Rattle.psd_state.specs.State.{State}
@@ -120,19 +117,11 @@ module _ (H : Ledger) where
   taken_ok d k (taken.Applied n v) = tt
   taken_ok d k (taken.Released piece x again) = (tt, tt)
 
-  device_ok : (d : ℕ) (today : ℤ) (bytes : List ℕ) → Clean (moves.device_plan todays_rules today d bytes H)
-  device_ok d today bytes =
-      let s = device.record_with d (counted H) (key_of d (counted H)) in
-      at (Device d) _ (acts_ok d (device.taken_reply d (messages H)) (device.taken_tell d (messages H)) (acts.message_act todays_rules d bytes today s (read bytes)) (taken_ok d (messages H)))
-
   -- == the centre ==
 
   took_ok : (k : ℕ) (a : CentreAnswer) → ByTold ShowsItsCount (told_by (centre.told_taken k a).reply) (tells (centre.told_taken k a))
   took_ok k (answer.Ruled d n v note again) = tt
   took_ok k (answer.Settled d n again) = tt
-
-  centre_ok : (bytes : List ℕ) → Clean (moves.centre_plan bytes H)
-  centre_ok bytes = at Centre _ (said_ok r.CentreRefused (centre.told_taken (messages H)) (centre_acts.take_by bytes (centre.in_commits (counted H))) (λ x. tt) (took_ok (messages H)))
 
   reconcile_ok : (d : ℕ) (key : Option (List ℕ)) → Clean (moves.reconcile_plan d key (counted H))
   reconcile_ok d None = sure tt
@@ -143,28 +132,19 @@ module _ (H : Ledger) where
   host_take_ok : (bytes : List ℕ) → Clean (host.take_plan bytes (counted H))
   host_take_ok bytes = said_ok r.HostRefused host.told_held (take_by bytes (host.in_commits (counted H))) (λ x. tt) (λ j. tt)
 
-  host_ok : (bytes : List ℕ) → Clean (moves.host_plan bytes H)
-  host_ok bytes = at Host _ (host_take_ok bytes)
-
   -- == bytes that are handed to a node ==
 
-  deliver_to_ok : (today : ℤ) (bytes : List ℕ) (x : Result Message Unread) → Clean (moves.deliver_to todays_rules today bytes x H)
-  deliver_to_ok today bytes (Ok (m.Reply p)) = device_ok p.device today bytes
-  deliver_to_ok today bytes (Ok (m.Debit q)) = device_ok q.device today bytes
-  deliver_to_ok today bytes (Ok (m.Release x)) = host_ok bytes
-  deliver_to_ok today bytes (Ok (m.Request q)) = centre_ok bytes
-  deliver_to_ok today bytes (Ok (m.Done q)) = centre_ok bytes
-  deliver_to_ok today bytes (Err x) = centre_ok bytes
+  give_ok : (today : ℤ) (n : Node) (bytes : List ℕ) → Clean (moves.give_plan todays_rules today n bytes H)
+  give_ok today (Device d) bytes =
+      let s = device.record_with d (counted H) (key_of d (counted H)) in
+      at (Device d) _ (acts_ok d (device.taken_reply d (messages H)) (device.taken_tell d (messages H)) (acts.message_act todays_rules d bytes today s (read bytes)) (taken_ok d (messages H)))
+  give_ok today Centre bytes = at Centre _ (said_ok r.CentreRefused (centre.told_taken (messages H)) (centre_acts.take_by bytes (centre.in_commits (counted H))) (λ x. tt) (took_ok (messages H)))
+  give_ok today Host bytes = at Host _ (host_take_ok bytes)
+  give_ok today Verifier bytes = sure tt
 
   deliver_ok : (today : ℤ) (k : ℕ) (o : Option (List ℕ)) → Clean (moves.deliver_plan todays_rules today k o H)
   deliver_ok today k None = sure tt
-  deliver_ok today k (Some bytes) = deliver_to_ok today bytes (read bytes)
-
-  give_ok : (today : ℤ) (n : Node) (bytes : List ℕ) → Clean (moves.give_plan todays_rules today n bytes H)
-  give_ok today (Device d) bytes = device_ok d today bytes
-  give_ok today Centre bytes = centre_ok bytes
-  give_ok today Host bytes = host_ok bytes
-  give_ok today Verifier bytes = sure tt
+  deliver_ok today k (Some bytes) = give_ok today (moves.addressee (read bytes)) bytes
 
   -- == the verifier ==
 

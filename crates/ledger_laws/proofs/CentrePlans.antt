@@ -374,14 +374,14 @@ module _ (ρ : Rules) (H : Ledger) (i : Inv ρ H) (on : is_on Centre H ≡ true)
       keyed : (w : Option (ℕ × List ℕ)) → registered q.device C ≡ w → OkTold (centre.told_taken k) (request_act bytes q (option_map (λ x. device_row_with q.device C x) w) (centre.in_commits C))
       keyed None has = no_ok (no.UnknownDevice q.device) tt
       keyed (Some x) has = chosen (λ (act : CentreAct CentreAnswer). OkTold (centre.told_taken k) act) (has_code x.1 bytes) _ _
-          (λ t. rule_ok bytes q k reads x has (known x has t))
+          (λ t. rule_ok bytes q k reads x has (known refl x has t))
           (λ _. no_ok no.BadCode tt)
   taken_ok k bytes (Ok (m.Done q)) reads known = keyed (registered q.device C) refl
     where
       keyed : (w : Option (ℕ × List ℕ)) → registered q.device C ≡ w → OkTold (centre.told_taken k) (done_act bytes q (option_map (λ x. device_row_with q.device C x) w))
       keyed None has = no_ok (no.UnknownDevice q.device) tt
       keyed (Some x) has = chosen (λ (act : CentreAct CentreAnswer). OkTold (centre.told_taken k) act) (has_code x.1 bytes) _ _
-          (λ t. settle_ok q bytes k x reads (known x has t))
+          (λ t. settle_ok q bytes k x reads (known refl x has t))
           (λ _. no_ok no.BadCode tt)
   taken_ok k bytes (Ok (m.Reply p)) reads known = no_ok (no.Unread unread.Tag) tt
   taken_ok k bytes (Ok (m.Debit p)) reads known = no_ok (no.Unread unread.Tag) tt

@@ -504,7 +504,7 @@ module _ (ρ : Rules) (carried : IsCarried ρ) (H : Ledger) (i : Inv ρ H) where
           (refuse_ok d (no.WrongDevice p.device) tt, (refuse_ok d no.BadCode tt, tt))
           (λ rows.
           let own = own_reply d bytes p key rows in
-          let sent = known own.device key has own.code in
+          let sent = known (ap Device (sym own.device)) key (ap (λ (e : ℕ). key_of e (counted H)) own.device ∙ has) own.code in
           apply_ok d k p (state_of d key (counted H)) on own.device (genuine_at bytes (m.Reply p) H (counted H) (i.sents bytes sent) reads) (pending d (counted H)) refl)
   device_ok d k t bytes on device day (Ok (m.Debit q)) reads known fits =
       subst (PlanOk ρ H) (released_plan d k q.piece (acts.debit_act ρ d q t (Devices.record_in d (counted H))))

@@ -62,26 +62,11 @@ message_sent k bytes (_ ∷ H) h = message_sent k bytes H h
 
 -- bytes that were sent are known to whoever takes them
 known_sent : (bytes : List ℕ) (n : Node) (H : Ledger) (C : List Commit) (x : Message) → GenuineAs bytes x H C → IsSent bytes H → IsKnown bytes (Ok x) n H
-known_sent bytes (Device d) H C (m.Reply p) g s = λ _ _ _ _. s
-known_sent bytes (Device d) H C (m.Request q) g s = tt
-known_sent bytes (Device d) H C (m.Done q) g s = tt
-known_sent bytes (Device d) H C (m.Debit q) g s = tt
-known_sent bytes (Device d) H C (m.Release x) g s = tt
-known_sent bytes Centre H C (m.Request q) g s = λ _ _ _. s
-known_sent bytes Centre H C (m.Done q) g s = λ _ _ _. s
-known_sent bytes Centre H C (m.Reply p) g s = tt
-known_sent bytes Centre H C (m.Debit q) g s = tt
-known_sent bytes Centre H C (m.Release x) g s = tt
-known_sent bytes Host H C (m.Release x) g s = g
-known_sent bytes Host H C (m.Request q) g s = tt
-known_sent bytes Host H C (m.Reply q) g s = tt
-known_sent bytes Host H C (m.Done q) g s = tt
-known_sent bytes Host H C (m.Debit q) g s = tt
-known_sent bytes Verifier H C (m.Request q) g s = tt
-known_sent bytes Verifier H C (m.Reply q) g s = tt
-known_sent bytes Verifier H C (m.Done q) g s = tt
-known_sent bytes Verifier H C (m.Debit q) g s = tt
-known_sent bytes Verifier H C (m.Release q) g s = tt
+known_sent bytes n H C (m.Reply p) g s = λ to key has code. s
+known_sent bytes n H C (m.Request q) g s = λ to x has code. s
+known_sent bytes n H C (m.Done q) g s = λ to x has code. s
+known_sent bytes n H C (m.Release x) g s = λ to. g
+known_sent bytes n H C (m.Debit q) g s = λ to. tt
 
 module _ (τ : Tariff) (ρ : Rules) (carried : IsCarried ρ) (H : Ledger) (i : Inv ρ H) where
   at_ok : (n : Node) (p : Plan) → (is_on n H ≡ true → PlanOk ρ H p) → PlanOk ρ H (Moves.at_node n H p)
@@ -89,37 +74,37 @@ module _ (τ : Tariff) (ρ : Rules) (carried : IsCarried ρ) (H : Ledger) (i : I
 
   -- == bytes that are handed to a node ==
 
-  sent_device : (bytes : List ℕ) (today : ℤ) (d : ℕ) (x : Message) → IsDay today → IsDevice d → ((q : DebitMsg) → x ≡ m.Debit q → IsCommand q) → read bytes ≡ Ok x → IsKnown bytes (Ok x) (Device d) H → PlanOk ρ H (Moves.device_plan ρ today d bytes H)
+  sent_device : (bytes : List ℕ) (today : ℤ) (d : ℕ) (x : Message) → IsDay today → IsDevice d → ((q : DebitMsg) → x ≡ m.Debit q → IsCommand q) → read bytes ≡ Ok x → IsKnown bytes (Ok x) (Device d) H → PlanOk ρ H (Moves.give_plan ρ today (Device d) bytes H)
   sent_device bytes today d x day device class reads known = at_ok (Device d) _ (λ on.
       subst (λ z. PlanOk ρ H (Devices.device_take ρ (messages H) today d bytes z (counted H) (key_of d (counted H)))) (sym reads)
       (device_ok ρ carried H i d (messages H) today bytes on device day (Ok x) reads known (λ q h. class q (ok_same h))))
 
-  sent_host : (bytes : List ℕ) (x : Message) → read bytes ≡ Ok x → IsKnown bytes (Ok x) Host H → PlanOk ρ H (Moves.host_plan bytes H)
-  sent_host bytes x reads known = at_ok Host _ (λ on. subst (λ z. PlanOk ρ H (said_plan (host.says host.told_held (message_act z (host.in_commits (counted H)))))) (sym reads) (host_ok ρ carried H i bytes (Ok x) on known))
+  sent_host : (bytes : List ℕ) (today : ℤ) (x : Message) → read bytes ≡ Ok x → IsKnown bytes (Ok x) Host H → PlanOk ρ H (Moves.give_plan ρ today Host bytes H)
+  sent_host bytes today x reads known = at_ok Host _ (λ on. subst (λ z. PlanOk ρ H (said_plan (host.says host.told_held (message_act z (host.in_commits (counted H)))))) (sym reads) (host_ok ρ carried H i bytes (Ok x) on known))
 
-  sent_centre : (bytes : List ℕ) (x : Message) → read bytes ≡ Ok x → IsKnown bytes (Ok x) Centre H → PlanOk ρ H (Moves.centre_plan bytes H)
-  sent_centre bytes x reads known = at_ok Centre _ (λ on. centre_ok ρ H i on (messages H) bytes (subst (λ z. IsKnown bytes z Centre H) (sym reads) known))
+  sent_centre : (bytes : List ℕ) (today : ℤ) (x : Message) → read bytes ≡ Ok x → IsKnown bytes (Ok x) Centre H → PlanOk ρ H (Moves.give_plan ρ today Centre bytes H)
+  sent_centre bytes today x reads known = at_ok Centre _ (λ on. centre_ok ρ H i on (messages H) bytes (subst (λ z. IsKnown bytes z Centre H) (sym reads) known))
 
   -- a message that was sent names one of the devices
-  by_tag : (bytes : List ℕ) (today : ℤ) (x : Message) → IsDay today → read bytes ≡ Ok x → GenuineAs bytes x H (counted H) → IsSent bytes H → PlanOk ρ H (Moves.deliver_to ρ today bytes (Ok x) H)
+  by_tag : (bytes : List ℕ) (today : ℤ) (x : Message) → IsDay today → read bytes ≡ Ok x → GenuineAs bytes x H (counted H) → IsSent bytes H → PlanOk ρ H (Moves.give_plan ρ today (Moves.addressee (Ok x)) bytes H)
   by_tag bytes today (m.Reply p) day reads g s =
       let asked = ruling_asked ρ p.device p.number (p.verdict, g.note) (counted H) i.good g.ruled_as in
       let it = note_reads ρ p.device p.number g.note (counted H) i.good asked in
       sent_device bytes today p.device (m.Reply p) day it.range.0 (λ q h. absurd (cc)) reads (known_sent bytes (Device p.device) H (counted H) (m.Reply p) g s)
-  by_tag bytes today (m.Debit q) day reads g s = sent_device bytes today q.device (m.Debit q) day g.0 (λ z h. subst IsCommand (debit_same h) g.1) reads tt
+  by_tag bytes today (m.Debit q) day reads g s = sent_device bytes today q.device (m.Debit q) day g.0 (λ z h. subst IsCommand (debit_same h) g.1) reads (λ to. tt)
     where
       debit_same : {a b : DebitMsg} → m.Debit a ≡ m.Debit b → a ≡ b
       debit_same h = cc
-  by_tag bytes today (m.Release x) day reads g s = sent_host bytes (m.Release x) reads (known_sent bytes Host H (counted H) (m.Release x) g s)
-  by_tag bytes today (m.Request q) day reads g s = sent_centre bytes (m.Request q) reads (known_sent bytes Centre H (counted H) (m.Request q) g s)
-  by_tag bytes today (m.Done q) day reads g s = sent_centre bytes (m.Done q) reads (known_sent bytes Centre H (counted H) (m.Done q) g s)
+  by_tag bytes today (m.Release x) day reads g s = sent_host bytes today (m.Release x) reads (known_sent bytes Host H (counted H) (m.Release x) g s)
+  by_tag bytes today (m.Request q) day reads g s = sent_centre bytes today (m.Request q) reads (known_sent bytes Centre H (counted H) (m.Request q) g s)
+  by_tag bytes today (m.Done q) day reads g s = sent_centre bytes today (m.Done q) reads (known_sent bytes Centre H (counted H) (m.Done q) g s)
 
   deliver_ok : (k : ℕ) (today : ℤ) → IsDay today → (x : Option (List ℕ)) → message k H ≡ x → PlanOk ρ H (Moves.deliver_plan ρ today k x H)
   deliver_ok k today day None h = ok_refuse ρ H (r.NoMessage k) refl tt
   deliver_ok k today day (Some bytes) h =
       let s = message_sent k bytes H h in
       let g = i.sents bytes s in
-      subst (λ z. PlanOk ρ H (Moves.deliver_to ρ today bytes z H)) (sym g.reads) (by_tag bytes today g.what day g.reads g.vouched s)
+      subst (λ z. PlanOk ρ H (Moves.give_plan ρ today (Moves.addressee z) bytes H)) (sym g.reads) (by_tag bytes today g.what day g.reads g.vouched s)
 
   -- a Debit that bytes read as fits its fields
   debit_fits : (bytes : List ℕ) → IsBytes bytes → (q : DebitMsg) → read bytes ≡ Ok (m.Debit q) → IsCommand q

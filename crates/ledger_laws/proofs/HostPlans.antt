@@ -229,7 +229,7 @@ module _ (ρ : Rules) (carried : IsCarried ρ) (H : Ledger) (i : Inv ρ H) where
   release_ok x on sure (Ok k) reads = hold_ok x k reads on sure (open_job k.0.device (counted H)) refl
 
   pub host_ok : (bytes : List ℕ) (x : Result Message Unread) → is_on Host H ≡ true → IsKnown bytes x Host H → OkTold host.told_held (message_act x (host.in_commits (counted H)))
-  host_ok bytes (Ok (m.Release x)) on known = release_ok x on known (read_mark x) refl
+  host_ok bytes (Ok (m.Release x)) on known = release_ok x on (known refl) (read_mark x) refl
   host_ok bytes (Ok (m.Request q)) on known = no_host (no.Unread unread.Tag)
   host_ok bytes (Ok (m.Reply q)) on known = no_host (no.Unread unread.Tag)
   host_ok bytes (Ok (m.Done q)) on known = no_host (no.Unread unread.Tag)

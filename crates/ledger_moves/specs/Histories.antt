@@ -1,7 +1,6 @@
 -- Histories: the ledgers that whole events make, whatever fails, where nothing that comes from outside is forged.
 use Rattle.std.specs.Prelude.{◌≡◌, ℕ, true, List, [], ◌∷◌, Some, Result, Ok, Err}
 use Rattle.bench_base.specs.declared.words.Node.{Node}
-use Rattle.bench_base.specs.declared.words.Node.TheVariants.{Device, Centre, Host, Verifier}
 use Rattle.bench_base.specs.declared.refusals.Unread.{Unread}
 use Rattle.bench_base.specs.declared.refusals.MarkFault.{MarkFault}
 use Rattle.bench_base.specs.declared.ledger.Entry.TheVariants as e
@@ -20,42 +19,24 @@ use Rattle.psd_wire.specs.Codes.{has_code}
 use Rattle.ledger_terms.specs.Devices.{key_of}
 use Rattle.ledger_terms.specs.Centres.{registered}
 use Rattle.ledger_moves.specs.Tariffs.{Tariff}
-use Rattle.ledger_moves.specs.Moves.{Moves, entries}
-
--- P of the device, where the node is one
-abbrev pub OfDevice : (ℕ → Type 0) → Node → Type 0
-OfDevice P (Device d) = P d
-OfDevice P Centre = Unit {0}
-OfDevice P Host = Unit {0}
-OfDevice P Verifier = Unit {0}
-
--- P, where the node is the centre, or the host
-abbrev pub OfCentre : Type 0 → Node → Type 0
-OfCentre P (Device d) = Unit {0}
-OfCentre P Centre = P
-OfCentre P Host = Unit {0}
-OfCentre P Verifier = Unit {0}
-
--- this is asked if the node is the host
-abbrev pub OfHost : Type 0 → Node → Type 0
-OfHost P (Device d) = Unit {0}
-OfHost P Centre = Unit {0}
-OfHost P Host = P
-OfHost P Verifier = Unit {0}
+use Rattle.ledger_moves.specs.Moves.{addressee, Moves, entries}
 
 -- what has the code of this registered device was sent
 abbrev pub IsSentBy : List ℕ → ℕ → Ledger → Type 0
 IsSentBy bytes d H = (x : ℕ × List ℕ) → registered d (counted H) ≡ Some x → has_code x.1 bytes ≡ true → IsSent bytes H
 
--- bytes that are given to a node were sent before, or released as a mark, where they have the code of whoever they name
+-- a Reply, a Request or a Done was sent before, if it has the code of the device that it names; the mark of a Release was released before, whatever its code
+abbrev pub IsSentOrReleased : List ℕ → Result Message Unread → Ledger → Type 0
+IsSentOrReleased bytes (Ok (m.Reply p)) H = (key : List ℕ) → key_of p.device (counted H) ≡ Some key → has_code key bytes ≡ true → IsSent bytes H
+IsSentOrReleased bytes (Ok (m.Request q)) H = IsSentBy bytes q.device H
+IsSentOrReleased bytes (Ok (m.Done q)) H = IsSentBy bytes q.device H
+IsSentOrReleased bytes (Ok (m.Release x)) H = IsReleased x H
+IsSentOrReleased bytes (Ok (m.Debit q)) H = Unit {0}
+IsSentOrReleased bytes (Err x) H = Unit {0}
+
+-- so it is of bytes that are given to the node that they are for
 abbrev pub IsKnown : List ℕ → Result Message Unread → Node → Ledger → Type 0
-IsKnown bytes (Ok (m.Reply p)) n H =
-    OfDevice (λ d. p.device ≡ d → (key : List ℕ) → key_of d (counted H) ≡ Some key → has_code key bytes ≡ true → IsSent bytes H) n
-IsKnown bytes (Ok (m.Request q)) n H = OfCentre (IsSentBy bytes q.device H) n
-IsKnown bytes (Ok (m.Done q)) n H = OfCentre (IsSentBy bytes q.device H) n
-IsKnown bytes (Ok (m.Release x)) n H = OfHost (IsReleased x H) n
-IsKnown bytes (Ok (m.Debit q)) n H = Unit {0}
-IsKnown bytes (Err x) n H = Unit {0}
+IsKnown bytes x n H = n ≡ addressee x → IsSentOrReleased bytes x H
 
 -- scanned bytes were released before, where they have the code of the trusted device that they name
 abbrev pub IsKnownMark : List ℕ → Result (Mark × List ℕ) MarkFault → Ledger → Type 0

@@ -61,36 +61,24 @@ price_by τ class grams zone (Some text) = Some (τ.price text class grams zone)
 
 -- == bytes that are handed to a node ==
 
--- a device with a key and what it holds takes bytes
-abbrev pub device_plan : Rules → ℤ → ℕ → List ℕ → Ledger → Plan
-device_plan ρ today d bytes H = at_node (Device d) H (device.device_take ρ (messages H) today d bytes (read bytes) (counted H) (key_of d (counted H)))
+-- the node takes these bytes if it is on; the verifier takes none
+abbrev pub give_plan : Rules → ℤ → Node → List ℕ → Ledger → Plan
+give_plan ρ today (Device d) bytes H = at_node (Device d) H (device.device_take ρ (messages H) today d bytes (read bytes) (counted H) (key_of d (counted H)))
+give_plan ρ today Centre bytes H = at_node Centre H (centre.take_plan (messages H) bytes (counted H))
+give_plan ρ today Host bytes H = at_node Host H (host.take_plan bytes (counted H))
+give_plan ρ today Verifier bytes H = refuse (r.OffNode Verifier)
 
--- the centre takes these bytes
-abbrev pub centre_plan : List ℕ → Ledger → Plan
-centre_plan bytes H = at_node Centre H (centre.take_plan (messages H) bytes (counted H))
+-- the node that a message is for, by what it reads as: a Reply and a Debit name their device, a Release is for the host, and the centre takes all others
+abbrev pub addressee : Result Message Unread → Node
+addressee (Ok (m.Reply p)) = Device p.device
+addressee (Ok (m.Debit q)) = Device q.device
+addressee (Ok (m.Release x)) = Host
+addressee _ = Centre
 
--- the host takes these bytes
-abbrev pub host_plan : List ℕ → Ledger → Plan
-host_plan bytes H = at_node Host H (host.take_plan bytes (counted H))
-
--- a message goes to the node of its tag
-abbrev pub deliver_to : Rules → ℤ → List ℕ → Result Message Unread → Ledger → Plan
-deliver_to ρ today bytes (Ok (m.Reply p)) H = device_plan ρ today p.device bytes H
-deliver_to ρ today bytes (Ok (m.Debit q)) H = device_plan ρ today q.device bytes H
-deliver_to ρ today bytes (Ok (m.Release x)) H = host_plan bytes H
-deliver_to ρ today bytes _ H = centre_plan bytes H
-
--- the message of this number goes to the node that it is for; a number without a message is refused
+-- the message of this number is given to the node that it is for; a number without a message is refused
 abbrev pub deliver_plan : Rules → ℤ → ℕ → Option (List ℕ) → Ledger → Plan
 deliver_plan ρ today k None H = refuse (r.NoMessage k)
-deliver_plan ρ today k (Some bytes) H = deliver_to ρ today bytes (read bytes) H
-
--- the node is given these bytes
-abbrev pub give_plan : Rules → ℤ → Node → List ℕ → Ledger → Plan
-give_plan ρ today (Device d) bytes H = device_plan ρ today d bytes H
-give_plan ρ today Centre bytes H = centre_plan bytes H
-give_plan ρ today Host bytes H = host_plan bytes H
-give_plan ρ today Verifier bytes H = refuse (r.OffNode Verifier)
+deliver_plan ρ today k (Some bytes) H = give_plan ρ today (addressee (read bytes)) bytes H
 
 -- the verifier scans these bytes
 abbrev pub scan_plan : ℕ → ℤ → List ℕ → Ledger → Plan
@@ -116,46 +104,47 @@ on_plan n H = if is_on n H then refuse (r.OnAlready n) else told (r.Up n (count_
 abbrev pub debit_by : ℕ → ℕ → ℕ → ℕ → DebitMsg
 debit_by d piece postage class = record { device = d; piece = piece; postage = postage; class = class }
 
--- the plan of an event on a day; text is what a `rates` takes
-abbrev pub plan_on : Tariff → Rules → Ledger → Event → List ℕ → ℤ → Plan
-plan_on τ ρ H (ev.Day t) text today = told (r.Day t) (e.Day t ∷ [])
-plan_on τ ρ H ev.End text today = refuse r.End
-plan_on τ ρ H ev.Rates text today = rates_plan τ text
-plan_on τ ρ H (ev.On n) text today = on_plan n H
-plan_on τ ρ H (ev.Off n) text today = at_node n H (told (r.Down n) (e.Down n ∷ []))
-plan_on τ ρ H (ev.Cut n calls keep byte) text today = refuse (r.CutSet n)
-plan_on τ ρ H (ev.Make d key) text today = at_node (Device d) H (device.make_plan d key (counted H) (key_of d (counted H)))
-plan_on τ ρ H (ev.Debit d piece postage class) text today =
-    at_node (Device d) H (device.debit_plan ρ (device.shown d piece) d (debit_by d piece postage class) today (counted H) (key_of d (counted H)))
-plan_on τ ρ H (ev.Ask d kind who a) text today = at_node (Device d) H (device.ask_plan ρ d kind who a today (messages H) (counted H) (key_of d (counted H)))
-plan_on τ ρ H (ev.Resend d) text today = at_node (Device d) H (device.resend_plan d (messages H) (key_of d (counted H)) (pending d (counted H)))
-plan_on τ ρ H (ev.Ack d) text today = at_node (Device d) H (device.ack_plan d (messages H) (counted H) (key_of d (counted H)))
-plan_on τ ρ H (ev.Status d) text today = at_node (Device d) H (device.status_plan d today (counted H) (key_of d (counted H)))
-plan_on τ ρ H (ev.Register d origin key) text today = at_node Centre H (centre.register_plan d origin key (counted H))
-plan_on τ ρ H (ev.OpenCustomer w) text today = at_node Centre H (centre.open_plan w (counted H))
-plan_on τ ρ H (ev.Deposit w n a) text today = at_node Centre H (centre.deposit_plan w n a (counted H))
-plan_on τ ρ H (ev.Flag w flag) text today = at_node Centre H (centre.flag_plan w flag (counted H))
-plan_on τ ρ H (ev.Balance w) text today = at_node Centre H (centre.balance_plan w (counted H))
-plan_on τ ρ H (ev.Deliver k) text today = deliver_plan ρ today k (message k H) H
-plan_on τ ρ H (ev.Give n bytes) text today = give_plan ρ today n bytes H
-plan_on τ ρ H (ev.Order d piece class grams zone) text today =
-    at_node Host H (host.order_plan d piece class (price_by τ class grams zone (rates_in H)) (counted H))
-plan_on τ ρ H (ev.Send j) text today = at_node Host H (host.send_plan (messages H) j (counted H))
-plan_on τ ρ H (ev.Print j) text today = at_node Host H (host.print_plan j (counted H))
-plan_on τ ρ H (ev.Close j) text today = at_node Host H (host.close_plan j (counted H))
-plan_on τ ρ H (ev.Trust d key) text today = at_node Verifier H (scans.trust_plan d key (counted H))
-plan_on τ ρ H (ev.ScanMsg n k) text today = scan_sent n today k (message k H) H
-plan_on τ ρ H (ev.ScanHex n bytes) text today = scan_plan n today bytes H
-plan_on τ ρ H (ev.Reconcile d) text today = at_node (Device d) H (at_node Centre H (reconcile_plan d (key_of d (counted H)) (counted H)))
-
--- the plan, where there is a day
+-- the plan on a day, if there is one
 abbrev pub on_day : (ℤ → Plan) → Option ℤ → Plan
 on_day p None = refuse r.NoDay
 on_day p (Some today) = p today
 
--- an event that needs no day doesn't look at it
-abbrev pub plan_at : Tariff → Rules → Ledger → Event → List ℕ → Option ℤ → Plan
-plan_at τ ρ H x text day = if needs_day x then on_day (plan_on τ ρ H x text) day else plan_on τ ρ H x text (pos 0)
+module _ (τ : Tariff) (ρ : Rules) (H : Ledger) where
+  -- the plan of an event on a day; text is what a `rates` takes
+  abbrev pub plan_on : Event → List ℕ → ℤ → Plan
+  plan_on (ev.Day t) text today = told (r.Day t) (e.Day t ∷ [])
+  plan_on ev.End text today = refuse r.End
+  plan_on ev.Rates text today = rates_plan τ text
+  plan_on (ev.On n) text today = on_plan n H
+  plan_on (ev.Off n) text today = at_node n H (told (r.Down n) (e.Down n ∷ []))
+  plan_on (ev.Cut n calls keep byte) text today = refuse (r.CutSet n)
+  plan_on (ev.Make d key) text today = at_node (Device d) H (device.make_plan d key (counted H) (key_of d (counted H)))
+  plan_on (ev.Debit d piece postage class) text today =
+      at_node (Device d) H (device.debit_plan ρ (device.shown d piece) d (debit_by d piece postage class) today (counted H) (key_of d (counted H)))
+  plan_on (ev.Ask d kind who a) text today = at_node (Device d) H (device.ask_plan ρ d kind who a today (messages H) (counted H) (key_of d (counted H)))
+  plan_on (ev.Resend d) text today = at_node (Device d) H (device.resend_plan d (messages H) (key_of d (counted H)) (pending d (counted H)))
+  plan_on (ev.Ack d) text today = at_node (Device d) H (device.ack_plan d (messages H) (counted H) (key_of d (counted H)))
+  plan_on (ev.Status d) text today = at_node (Device d) H (device.status_plan d today (counted H) (key_of d (counted H)))
+  plan_on (ev.Register d origin key) text today = at_node Centre H (centre.register_plan d origin key (counted H))
+  plan_on (ev.OpenCustomer w) text today = at_node Centre H (centre.open_plan w (counted H))
+  plan_on (ev.Deposit w n a) text today = at_node Centre H (centre.deposit_plan w n a (counted H))
+  plan_on (ev.Flag w flag) text today = at_node Centre H (centre.flag_plan w flag (counted H))
+  plan_on (ev.Balance w) text today = at_node Centre H (centre.balance_plan w (counted H))
+  plan_on (ev.Deliver k) text today = deliver_plan ρ today k (message k H) H
+  plan_on (ev.Give n bytes) text today = give_plan ρ today n bytes H
+  plan_on (ev.Order d piece class grams zone) text today =
+      at_node Host H (host.order_plan d piece class (price_by τ class grams zone (rates_in H)) (counted H))
+  plan_on (ev.Send j) text today = at_node Host H (host.send_plan (messages H) j (counted H))
+  plan_on (ev.Print j) text today = at_node Host H (host.print_plan j (counted H))
+  plan_on (ev.Close j) text today = at_node Host H (host.close_plan j (counted H))
+  plan_on (ev.Trust d key) text today = at_node Verifier H (scans.trust_plan d key (counted H))
+  plan_on (ev.ScanMsg n k) text today = scan_sent n today k (message k H) H
+  plan_on (ev.ScanHex n bytes) text today = scan_plan n today bytes H
+  plan_on (ev.Reconcile d) text today = at_node (Device d) H (at_node Centre H (reconcile_plan d (key_of d (counted H)) (counted H)))
+
+  -- an event that needs no day doesn't look at it
+  abbrev pub plan_at : Event → List ℕ → Option ℤ → Plan
+  plan_at x text day = if needs_day x then on_day (plan_on x text) day else plan_on x text (pos 0)
 
 -- what the event does at this ledger if nothing fails
 unfoldable pub plan : Tariff → Rules → Ledger → Event → List ℕ → Plan

@@ -52,7 +52,7 @@ next_of P (x ∷ a) e b each = next_of P a e b each.1
 
 known : (H : Ledger) (x : Brought) → AreOnlyDebits x → AreKnown x H
 known H Nothing debit = tt
-known H (Handed n bytes) debit = subst (λ x. IsKnown bytes x n H) (sym debit.1) tt
+known H (Handed n bytes) debit = subst (λ x. IsKnown bytes x n H) (sym debit.1) (λ to. tt)
 known H (Scanned bytes) debit = absurd debit
 
 pub none_forged : (τ : Tariff) (H : Ledger) (done : List Done) → AllByRecursion GivesOnlyDebits (events_of done) → AreUnforged τ Unforged H done

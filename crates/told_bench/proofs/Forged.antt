@@ -77,24 +77,31 @@ key_kept : (d : ℕ) (C : List Commit) (k : Option (List ℕ)) → option_map (�
 key_kept d C None = refl
 key_kept d C (Some key) = refl
 
+same_device : {d e : ℕ} → Device d ≡ Device e → e ≡ d
+same_device to = cc
+
 reply_tells : (bytes : List ℕ) (known : ByteSet (List ℕ)) (d : ℕ) (H : Ledger) → Has bytes known ↔ IsSent bytes H → (x : Result Message Unread)
     → TellsNot (forged_reply (record_in d (counted H)) d bytes known x) (IsKnown bytes x (Device d) H)
 reply_tells bytes known d H same (Ok (m.Reply p)) = by (p.device == d) refl
   where
-    Own : Type 0
-    Own = (key : List ℕ) → key_of d (counted H) ≡ Some key → has_code key bytes ≡ true → IsSent bytes H
-
     u : Bool
     u = is_unknown bytes (option_map (λ s. s.key) (record_in d (counted H))) known
 
-    by : (t : Bool) → (p.device == d) ≡ t → TellsNot (t && u) (p.device ≡ d → Own)
-    by true is = under u (p.device ≡ d) Own (eqb-true p.device d is) (keys_tell bytes known (IsSent bytes H) same _ (key_of d (counted H)) (key_kept d (counted H) (key_of d (counted H))))
-    by false is = λ named. absurd (unlike p.device d is named)
-reply_tells bytes known d H same (Ok (m.Request q)) = tt
-reply_tells bytes known d H same (Ok (m.Done q)) = tt
-reply_tells bytes known d H same (Ok (m.Release x)) = tt
-reply_tells bytes known d H same (Ok (m.Debit q)) = tt
-reply_tells bytes known d H same (Err x) = tt
+    -- under the key of the device that it names
+    of : ℕ → Type 0
+    of e = (key : List ℕ) → key_of e (counted H) ≡ Some key → has_code key bytes ≡ true → IsSent bytes H
+
+    by : (t : Bool) → (p.device == d) ≡ t → TellsNot (t && u) (Device d ≡ Device p.device → of p.device)
+    by true is =
+        let one = eqb-true p.device d is in
+        under u (Device d ≡ Device p.device) (of p.device) (ap Device (sym one))
+        (subst (λ (e : ℕ). TellsNot u (of e)) (sym one) (keys_tell bytes known (IsSent bytes H) same _ (key_of d (counted H)) (key_kept d (counted H) (key_of d (counted H)))))
+    by false is = λ to. absurd (unlike p.device d is (same_device to))
+reply_tells bytes known d H same (Ok (m.Request q)) = λ to. absurd (cc)
+reply_tells bytes known d H same (Ok (m.Done q)) = λ to. absurd (cc)
+reply_tells bytes known d H same (Ok (m.Release x)) = λ to. absurd (cc)
+reply_tells bytes known d H same (Ok (m.Debit q)) = λ to. tt
+reply_tells bytes known d H same (Err x) = λ to. tt
 
 -- == the centre ==
 
@@ -160,34 +167,34 @@ module _ (bytes : List ℕ) (known : ByteSet (List ℕ)) (H : Ledger) (same : Ha
       by false is = λ x made code. absurd (no_device d is (registered_range d (counted H) x range made))
 
   message_tells : (x : Result Message Unread) → TellsNot (forged_message rows bytes known x) (IsKnown bytes x Centre H)
-  message_tells (Ok (m.Request q)) = by_tells q.device
-  message_tells (Ok (m.Done q)) = by_tells q.device
-  message_tells (Ok (m.Reply p)) = tt
-  message_tells (Ok (m.Release x)) = tt
-  message_tells (Ok (m.Debit q)) = tt
-  message_tells (Err x) = tt
+  message_tells (Ok (m.Request q)) = under (forged_by rows q.device bytes known) (Centre ≡ Centre) (IsSentBy bytes q.device H) refl (by_tells q.device)
+  message_tells (Ok (m.Done q)) = under (forged_by rows q.device bytes known) (Centre ≡ Centre) (IsSentBy bytes q.device H) refl (by_tells q.device)
+  message_tells (Ok (m.Reply p)) = λ to. absurd (cc)
+  message_tells (Ok (m.Release x)) = λ to. absurd (cc)
+  message_tells (Ok (m.Debit q)) = λ to. tt
+  message_tells (Err x) = λ to. tt
 
 -- == the host ==
 
 release_tells : (bytes : List ℕ) (known : ByteSet (List ℕ)) (H : Ledger) → ((mark : List ℕ) → Has mark known ↔ IsReleased mark H) → (x : Result Message Unread) → TellsNot (forged_release known x) (IsKnown bytes x Host H)
-release_tells bytes known H same (Ok (m.Release x)) = by (has x known) refl
+release_tells bytes known H same (Ok (m.Release x)) = under (not (has x known)) (Host ≡ Host) (IsReleased x H) refl (by (has x known) refl)
   where
     by : (t : Bool) → has x known ≡ t → TellsNot (not t) (IsReleased x H)
     by true is = (same x).0 is
     by false is = λ released. true≢false (sym ((same x).1 released) ∙ is)
-release_tells bytes known H same (Ok (m.Request q)) = tt
-release_tells bytes known H same (Ok (m.Done q)) = tt
-release_tells bytes known H same (Ok (m.Reply p)) = tt
-release_tells bytes known H same (Ok (m.Debit q)) = tt
-release_tells bytes known H same (Err x) = tt
+release_tells bytes known H same (Ok (m.Request q)) = λ to. absurd (cc)
+release_tells bytes known H same (Ok (m.Done q)) = λ to. absurd (cc)
+release_tells bytes known H same (Ok (m.Reply p)) = λ to. absurd (cc)
+release_tells bytes known H same (Ok (m.Debit q)) = λ to. tt
+release_tells bytes known H same (Err x) = λ to. tt
 
 verifier_tells : (bytes : List ℕ) (H : Ledger) (x : Result Message Unread) → IsKnown bytes x Verifier H
-verifier_tells bytes H (Ok (m.Release x)) = tt
-verifier_tells bytes H (Ok (m.Request q)) = tt
-verifier_tells bytes H (Ok (m.Done q)) = tt
-verifier_tells bytes H (Ok (m.Reply p)) = tt
-verifier_tells bytes H (Ok (m.Debit q)) = tt
-verifier_tells bytes H (Err x) = tt
+verifier_tells bytes H (Ok (m.Release x)) = λ to. absurd (cc)
+verifier_tells bytes H (Ok (m.Request q)) = λ to. absurd (cc)
+verifier_tells bytes H (Ok (m.Done q)) = λ to. absurd (cc)
+verifier_tells bytes H (Ok (m.Reply p)) = λ to. absurd (cc)
+verifier_tells bytes H (Ok (m.Debit q)) = λ to. tt
+verifier_tells bytes H (Err x) = λ to. tt
 
 -- == scanned bytes ==
 

@@ -2,7 +2,6 @@
 use Rattle.std.proofs.Common.{◌≡◌, ℕ, ℤ, pos, ◌+◌, List, [], ◌∷◌, length, drop, Option, Some, None, Bool, true, false, if◌then◌else◌, nat_lt, Result, Ok, Err, true≢false, refl, sym, ◌∙◌, ap}
 use Rattle.bench_base.specs.declared.words.Node.{Node}
 use Rattle.bench_base.specs.declared.words.Node.TheVariants.{Device, Centre, Host, Verifier}
-use Rattle.bench_base.specs.declared.refusals.Unread.{Unread}
 use Rattle.bench_base.specs.declared.ledger.Commit.{Commit}
 use Rattle.bench_base.specs.declared.ledger.Entry.{Entry}
 use Rattle.bench_base.specs.declared.ledger.Entry.TheVariants as entry
@@ -22,8 +21,6 @@ use Rattle.node_acts.specs.declared.act.Act.TheVariants.{Refuse, Tell, Commits}
 use Rattle.node_acts.specs.declared.said.Said.{Said}
 use Rattle.node_acts.specs.Said.{saying, said_plan}
 use Rattle.psd_wire.specs.declared.message.DebitMsg.{DebitMsg}
-use Rattle.psd_wire.specs.declared.message.Message.{Message}
-use Rattle.psd_wire.specs.declared.message.Message.TheVariants as m
 use Rattle.psd_wire.specs.Grammar.{read}
 use Rattle.psd_state.specs.declared.acts.Taken.{Taken}
 use Rattle.psd_state.specs.declared.acts.Taken.TheVariants as taken
@@ -144,33 +141,15 @@ scans_plan n bytes today C = says r.ScanRefused (scans.told_accepted n) (scan_by
 
 -- == of bytes that are handed to a node ==
 
-module _ (ρ : Rules) (today : ℤ) (bytes : List ℕ) (H : Ledger) where
-  to_device : (d : ℕ) → NoPrint (moves.device_plan ρ today d bytes H)
-  to_device d = at (Device d) H _ (planned d (device.taken_reply d (messages H)) (device.taken_tell d (messages H)) _ (took d (messages H)))
-
-  to_centre : NoPrint (moves.centre_plan bytes H)
-  to_centre = at Centre H _ (centred (centre.told_taken (messages H)) (centre_take_by bytes (centre.in_commits (counted H))) (took_answer (messages H)))
-
-  to_host : NoPrint (moves.host_plan bytes H)
-  to_host = at Host H _ (host_takes bytes (counted H))
-
-  delivers_to : (x : Result Message Unread) → NoPrint (moves.deliver_to ρ today bytes x H)
-  delivers_to (Ok (m.Reply p)) = to_device p.device
-  delivers_to (Ok (m.Debit q)) = to_device q.device
-  delivers_to (Ok (m.Release x)) = to_host
-  delivers_to (Ok (m.Request q)) = to_centre
-  delivers_to (Ok (m.Done q)) = to_centre
-  delivers_to (Err x) = to_centre
-
-  gives_to : (n : Node) → NoPrint (moves.give_plan ρ today n bytes H)
-  gives_to (Device d) = to_device d
-  gives_to Centre = to_centre
-  gives_to Host = to_host
-  gives_to Verifier = record { is = refl }
+gives_to : (ρ : Rules) (today : ℤ) (bytes : List ℕ) (H : Ledger) (n : Node) → NoPrint (moves.give_plan ρ today n bytes H)
+gives_to ρ today bytes H (Device d) = at (Device d) H _ (planned d (device.taken_reply d (messages H)) (device.taken_tell d (messages H)) _ (took d (messages H)))
+gives_to ρ today bytes H Centre = at Centre H _ (centred (centre.told_taken (messages H)) (centre_take_by bytes (centre.in_commits (counted H))) (took_answer (messages H)))
+gives_to ρ today bytes H Host = at Host H _ (host_takes bytes (counted H))
+gives_to ρ today bytes H Verifier = record { is = refl }
 
 delivers : (ρ : Rules) (today : ℤ) (k : ℕ) (o : Option (List ℕ)) (H : Ledger) → NoPrint (moves.deliver_plan ρ today k o H)
 delivers ρ today k None H = record { is = refl }
-delivers ρ today k (Some bytes) H = delivers_to ρ today bytes H (read bytes)
+delivers ρ today k (Some bytes) H = gives_to ρ today bytes H (moves.addressee (read bytes))
 
 scans_sent : (n : ℕ) (today : ℤ) (k : ℕ) (o : Option (List ℕ)) (H : Ledger) → NoPrint (moves.scan_sent n today k o H)
 scans_sent n today k None H = record { is = refl }

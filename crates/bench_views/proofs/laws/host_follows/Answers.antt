@@ -25,6 +25,7 @@ use Rattle.bench_views.proofs.Asked.{plan_alike, commit_own, stepped, plan_tame,
 use Rattle.bench_views.proofs.Following.{followed}
 use Rattle.bench_views.proofs.HostCalls as calls
 use Rattle.bench_views.proofs.HostCommits as commits
+use Rattle.bench_views.proofs.Shown.{host_view}
 use Rattle.bench_views.proofs.Steps as steps
 use Rattle.bench_views.proofs.laws.host_follows.Goals as goal
 
@@ -33,7 +34,7 @@ returns c τ H e today asked h unforged day whole of fits known next_known =
     let editions = c.histories.ensures.today in
     let turn = (c.orders.ensures.ordered τ todays_rules _ H editions h).turns in
     let n = host.counting in
-    let v = views.view_of H in
+    let v = host_view H in
     let act : HostCall → Act JobRow Reply Said = λ k. views.host_act k (host.rows_in v.state) in
     let call_plan : HostCall → Plan = λ k. seen_plan n Host v (act k) in
     let call_commit : HostCall → Option (Commit × host.Seen) = λ k. commit_of n v (act k) in

@@ -39,6 +39,7 @@ use Rattle.bench_views.proofs.Following.{followed}
 use Rattle.bench_views.proofs.Genuine.{genuine, OfAsked}
 use Rattle.bench_views.proofs.Plans.{planned, call_own}
 use Rattle.bench_views.proofs.Quiet.{planned_quiet}
+use Rattle.bench_views.proofs.Shown.{device_view, centre_view}
 use Rattle.bench_views.proofs.Steps as steps
 use Rattle.bench_views.proofs.laws.nodes_follow.Goals as goal
 
@@ -49,7 +50,7 @@ returns-clause-devices c d τ H e today asked h unforged day whole of ready know
     let nexts = c.orders.ensures.next τ todays_rules _ H editions h e [] whole unforged in
     let laws = c.record_follows_the_commits.ensures in
     let n = device.counting in
-    let v = devices.view_of d H in
+    let v = device_view d H in
     let act : DeviceCall → Act State Reply Said = λ k. devices.device_act d today k v.state.state in
     let call_plan : DeviceCall → Plan = λ k. seen_plan n (Device d) v (act k) in
     let call_commit : DeviceCall → Option (Commit × device.Seen) = λ k. commit_of n v (act k) in
@@ -76,7 +77,7 @@ returns-clause-centre c τ H e today asked h unforged day whole of bytes known n
     let editions = c.histories.ensures.today in
     let ordered = c.orders.ensures.ordered τ todays_rules _ H editions h in
     let n = centre.counting in
-    let v = views.view_of H in
+    let v = centre_view H in
     let act : CentreCall → Act Row Reply Said = λ k. views.centre_act k (centre.books_in v.state) in
     let call_plan : CentreCall → Plan = λ k. seen_plan n Centre v (act k) in
     let call_commit : CentreCall → Option (Commit × centre.Seen) = λ k. commit_of n v (act k) in
@@ -104,4 +105,4 @@ returns-clause-quiet c τ H e today x reply h day is known answers =
     let editions = c.histories.ensures.today in
     let ordered = c.orders.ensures.ordered τ todays_rules _ H editions h in
     let are = books_of (counted H) ordered.centre (c.counts.ensures.ranges τ todays_rules _ H editions h) (c.withdrawals.ensures τ todays_rules _ H editions h) known.sound in
-    planned_quiet H (c.acts_follow_the_commits.ensures.planned (centre.books_in (views.view_of H).state) (counted H) known.sound are) τ today (quote_in τ H) day e x is reply answers
+    planned_quiet H (c.acts_follow_the_commits.ensures.planned (centre.books_in (centre_view H).state) (counted H) known.sound are) τ today (quote_in τ H) day e x is reply answers

@@ -23,6 +23,7 @@ use Rattle.bench_views.specs.Tariff.{quote_in}
 use Rattle.bench_views.specs.Messages.{sent_in}
 use Rattle.bench_views.proofs.Asked.{plan_alike, commit_own, stepped, plan_tame, said_tame}
 use Rattle.bench_views.proofs.Following.{followed}
+use Rattle.bench_views.proofs.Shown.{verifier_view}
 use Rattle.bench_views.proofs.Steps as steps
 use Rattle.bench_views.proofs.VerifierCalls as calls
 use Rattle.bench_views.proofs.laws.verifier_follows.Goals as goal
@@ -36,7 +37,7 @@ returns c τ H e today asked h unforged day whole of bytes known next_known =
     let follow = c.acts_follow_the_commits.ensures.follows in
     let are_planned = c.acts_follow_the_commits.ensures.planned in
     let n = verifier.counting in
-    let v = views.view_of H in
+    let v = verifier_view H in
     let act : VerifierCall → Act Change Reply Said = λ k. views.verifier_act today k v.state in
     let call_plan : VerifierCall → Plan = λ k. seen_plan n Verifier v (act k) in
     let call_commit : VerifierCall → Option (Commit × verifier.Seen) = λ k. commit_of n v (act k) in
