@@ -22,7 +22,6 @@ impl<'a, M: Fuse + Drop, T: Tell, P: Sink> Turns<CentreCall<'a>, T, P> for Centr
     ghost CameTo = { λ d today c s t p q told. calls.Told ⟦<CentreNode<M> as Node>⟧ M.Nv M.Fuse.own views.centre_kind node.Centre tt today
         (calls.centre_call_event c) (Call c) (T.IsOf told) s t p q };
 
-    #[inline(never)]
     fn called(&mut self, _number: (), _day: DayNo, asked: &CentreCall<'a>, _printer: &mut P) -> T {
         hands_bytes(asked);
         let callee = CentreCallee;

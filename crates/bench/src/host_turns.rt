@@ -22,7 +22,6 @@ impl<'a, M: Fuse + Drop, T: Tell, P: Sink> Turns<HostCall<'a>, T, P> for HostNod
     ghost CameTo = { λ d today c s t p q told. calls.Told ⟦<HostNode<M> as Node>⟧ M.Nv M.Fuse.own views.host_kind node.Host tt today
         (calls.host_call_event c) (Call c) (T.IsOf told) s t p q };
 
-    #[inline(never)]
     fn called(&mut self, _number: (), _day: DayNo, asked: &HostCall<'a>, printer: &mut P) -> T {
         let callee = HostCallee;
         match asked {

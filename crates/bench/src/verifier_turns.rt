@@ -22,7 +22,6 @@ impl<'a, M: Fuse + Drop, T: Tell, P: Sink> Turns<VerifierCall<'a>, T, P> for Ver
     ghost CameTo = { λ d today c s t p q told. calls.Told ⟦<VerifierNode<M> as Node>⟧ M.Nv M.Fuse.own views.verifier_kind node.Verifier tt today
         (calls.verifier_call_event c) (Call c) (T.IsOf told) s t p q };
 
-    #[inline(never)]
     fn called(&mut self, _number: (), day: DayNo, asked: &VerifierCall<'a>, _printer: &mut P) -> T {
         scans_bytes(asked);
         let callee = VerifierCallee { day };

@@ -21,8 +21,13 @@ use nv_store::{MountCause, mount_lent};
 use psd_state::{DevRec, ReadyRecord, keep};
 
 // The record that a cell with so many commits holds: None where it is blank, and Err where the payload reads as no record
-// of this device.
-fn record_in(device: DevNo, count: u32, payload: &[u8; RECORD_BYTES]) -> Result<Option<DevRec>, ()>
+// of this device. A record that was kept before saves time if its key is the same.
+fn record_in(
+    device: DevNo,
+    count: u32,
+    payload: &[u8; RECORD_BYTES],
+    kept: &Option<ReadyRecord>,
+) -> Result<Option<DevRec>, ()>
     ensures holds { IfOk result (λ state. IsHeld count state (one_held count payload.now)) }
     ensures own { IfOk result (λ state. IfSome state (IsOwn device)) }
     ensures filled { IfErr result (λ x. count ≢ 0) }
@@ -31,7 +36,7 @@ fn record_in(device: DevNo, count: u32, payload: &[u8; RECORD_BYTES]) -> Result<
     if count == 0 {
         return Ok(None);
     }
-    match DevRec::read_payload(device, payload) {
+    match DevRec::read_payload(device, payload, kept) {
         Some(record) => Ok(Some(record)),
         None => Err(()),
     }
@@ -75,7 +80,7 @@ impl<N: Nv> DeviceNode<N> {
             Err(MountCause::Size(_)) => return Err(BootFail::Damaged),
             Err(MountCause::Mixed(_)) => return Err(BootFail::Damaged),
         };
-        let Ok(state) = record_in(device, head.count, &payload) else {
+        let Ok(state) = record_in(device, head.count, &payload, &self.state) else {
             return Err(BootFail::Damaged);
         };
         self.wear = Wear::new(&head);

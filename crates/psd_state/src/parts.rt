@@ -16,7 +16,8 @@ ghost use Rattle.psd_state.specs.Payload.{fields_at, filled, body_room, pending_
 use bench_base::fields::{i32_at, put_i32, put_u32, put_u64, u32_at, u64_at};
 use bench_base::numbers::DevNo;
 use bench_base::words::{Key, Phase};
-use indicium::{Mark, read_indicium, verify_mark, write_coded};
+use hmac_core::ReadyKey;
+use indicium::{Mark, read_indicium, verify_mark, verify_mark_by, write_coded};
 use psd_wire::{Message, Request, read_body, read_under, write_body};
 use registers::Registers;
 
@@ -132,12 +133,24 @@ pub fn read_filled(bytes: &[u8]) -> Option<Request>
     request_of(read_body(&bytes[..front]))
 }
 
-/// The mark whose spelling under the key the bytes are, and its code.
-pub fn read_mark(bytes: &[u8], key: &Key) -> Option<(Mark, [u8; 32])>
+// Whether the bytes are a mark's spelling under the key. If the ready key is of this key, it saves time.
+fn is_genuine(bytes: &[u8], key: &Key, ready: Option<&ReadyKey>) -> bool
+    ensures { IsTrue result ↔ marks.IsSpelled bytes.now key.now }
+{
+    if let Some(ready) = ready {
+        if ready.key() == key {
+            return verify_mark_by(bytes, ready);
+        }
+    }
+    verify_mark(bytes, key)
+}
+
+/// The mark whose spelling under the key the bytes are, and its code. A ready key saves time if it is of this key.
+pub fn read_mark(bytes: &[u8], key: &Key, ready: Option<&ReadyKey>) -> Option<(Mark, [u8; 32])>
     ensures found { IfSome result (λ x. marks.IsWhole x.0 × (marks.spell x.0 key.now ≡ bytes.now) × (hmac key.now (marks.body x.0) ≡ x.1)) }
     ensures none { IfNone result ((k : TheMark) → marks.IsWhole k → marks.spell k key.now ≡ bytes.now → ⊥) }
 {
-    if !verify_mark(bytes, key) {
+    if !is_genuine(bytes, key, ready) {
         return None;
     }
     match read_indicium(bytes) {
@@ -294,8 +307,8 @@ pub fn read_second_pending(flag: u8, bytes: &[u8]) -> Option<Option<Request>>
     }
 }
 
-/// The mark that was kept, by the count of pieces and its bytes.
-pub fn read_kept(pieces: u32, bytes: &[u8], key: &Key) -> Option<Kept>
+/// The mark that was kept, by the count of pieces and its bytes. A ready key saves time if it is of this key.
+pub fn read_kept(pieces: u32, bytes: &[u8], key: &Key, ready: Option<&ReadyKey>) -> Option<Kept>
     requires { length bytes.now ≡ 64 }
     ensures found { IfSome result (λ k. MarkWhole k.mark × IsKeptAt pieces k.mark × (mark_part key.now k.mark ≡ bytes.now)) }
     ensures code { IfSome result (λ k. kept_code key.now k.mark ≡ k.code) }
@@ -308,7 +321,7 @@ pub fn read_kept(pieces: u32, bytes: &[u8], key: &Key) -> Option<Kept>
         }
         return None;
     }
-    match read_mark(bytes, key) {
+    match read_mark(bytes, key, ready) {
         Some(found) => {
             let code = found.1;
             Some(Kept {

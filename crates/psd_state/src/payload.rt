@@ -12,10 +12,12 @@ use crate::parts::{
     Fields, Kept, code_of_pending, first_fields, head_bytes, is_zero, mark_bytes, middle_bytes,
     pending_bytes, phase_from, read_first_pending, read_kept, read_second_pending, second_fields,
 };
+use crate::ready_record::ReadyRecord;
 use crate::record::DevRec;
 use crate::words::is_allowed;
 use bench_base::numbers::DevNo;
 use bench_base::words::{Key, Kind, Phase};
+use hmac_core::ReadyKey;
 use indicium::Mark;
 use psd_wire::Request;
 use registers::Registers;
@@ -66,21 +68,35 @@ impl DevRec {
         (self.deadline, self.last_day)
     }
 
-    /// The record of this device that the bytes read as, in version 1 or 2; None if and only if they read as none.
-    pub fn read_payload(device: DevNo, payload: &[u8; 209]) -> Option<DevRec>
+    /// The record of this device that the bytes read as, in version 1 or 2; None if and only if they read as none. A record
+    /// that was kept before saves time if its key is the same.
+    pub fn read_payload(
+        device: DevNo,
+        payload: &[u8; 209],
+        kept: &Option<ReadyRecord>,
+    ) -> Option<DevRec>
         ensures found { IfSome result (λ s. (s.device ≡ device) × ReadsAs payload.now s) }
         ensures none { IfNone result ((s : State) → s.device ≡ device → ReadsAs payload.now s → ⊥) }
     {
+        let ready = ready_key(kept);
         if payload[4] < 16 {
-            read_first(device, payload)
+            read_first(device, payload, ready)
         } else {
-            read_second(device, payload)
+            read_second(device, payload, ready)
         }
     }
 }
 
+// The key of a record that was kept.
+fn ready_key(kept: &Option<ReadyRecord>) -> Option<&ReadyKey> {
+    match kept {
+        Some(kept) => Some(kept.key()),
+        None => None,
+    }
+}
+
 // A payload of version 1, whose sums, request and mark are of that version too.
-fn read_first(device: DevNo, payload: &[u8]) -> Option<DevRec>
+fn read_first(device: DevNo, payload: &[u8], ready: Option<&ReadyKey>) -> Option<DevRec>
     requires { length payload.now ≡ 209 }
     ensures found { IfSome result (λ s. (s.device ≡ device) × IsOld s × (spelled 1 s ≡ payload.now)) }
     ensures sound { IfSome result Holds }
@@ -91,7 +107,7 @@ fn read_first(device: DevNo, payload: &[u8]) -> Option<DevRec>
     let Some(pending) = read_first_pending(fields.pending, &payload[74..145], &fields.key) else {
         return None;
     };
-    let Some(kept) = read_kept(fields.pieces, &payload[145..209], &fields.key) else {
+    let Some(kept) = read_kept(fields.pieces, &payload[145..209], &fields.key, ready) else {
         return None;
     };
     if !is_old(&fields, &kept.mark) {
@@ -101,7 +117,7 @@ fn read_first(device: DevNo, payload: &[u8]) -> Option<DevRec>
 }
 
 // A payload of version 2.
-fn read_second(device: DevNo, payload: &[u8]) -> Option<DevRec>
+fn read_second(device: DevNo, payload: &[u8], ready: Option<&ReadyKey>) -> Option<DevRec>
     requires { length payload.now ≡ 209 }
     ensures found { IfSome result (λ s. (s.device ≡ device) × (spelled 2 s ≡ payload.now)) }
     ensures sound { IfSome result Holds }
@@ -112,7 +128,7 @@ fn read_second(device: DevNo, payload: &[u8]) -> Option<DevRec>
     let Some(pending) = read_second_pending(fields.pending, &payload[86..141]) else {
         return None;
     };
-    let Some(kept) = read_kept(fields.pieces, &payload[141..205], &fields.key) else {
+    let Some(kept) = read_kept(fields.pieces, &payload[141..205], &fields.key, ready) else {
         return None;
     };
     if !is_zero(&payload[205..209]) {

@@ -360,7 +360,7 @@ fn day(rt: &impl Abort, number: i32) -> DayNo {
 }
 
 fn record(rt: &impl Abort, payload: &[u8; 209]) -> DevRec {
-    DevRec::read_payload(device_1(rt), payload).expect(rt, "a record")
+    DevRec::read_payload(device_1(rt), payload, &None).expect(rt, "a record")
 }
 
 fn made(rt: &impl Abort) -> DevRec {
@@ -683,7 +683,7 @@ fn marks_of_version_1(rt: HostRuntime) {
 }
 
 fn is_read(rt: &impl Abort, payload: &[u8; 209]) -> bool {
-    DevRec::read_payload(device_1(rt), payload).is_some()
+    DevRec::read_payload(device_1(rt), payload, &None).is_some()
 }
 
 // Whether the bytes with one changed are a record.

@@ -13,6 +13,9 @@ ranked d b e is =
     let parts = and_parts (e.device == d) (e.block == b) is in
     ap₂ (λ x y. rank x y) (eqb-true e.device d parts.0) (eqb-true e.block b parts.1)
 
+pub of_block : (d b : ℕ) (e : Entry) → e.device ≡ d → e.block ≡ b → is_of d b e ≡ true
+of_block d b e device block = rw (eq-eqb e.device d device, eq-eqb e.block b block) refl
+
 pub not_less : (d b : ℕ) (e : Entry) → rank_of e < rank d b → is_of d b e ≡ false
 not_less d b e lt = elim (cases_Bool (is_of d b e)) [ inl is ↦ absurd (omega (arith, lt, ranked d b e is)) | inr isnt ↦ isnt ]
 
@@ -205,8 +208,5 @@ fresh_behind es place e ordered none small behind k le lt = elim (cases_eq (rank
       let words : x.device < 2 ^ 32 = ordered.words k in
       let device : x.device ≡ e.device = omega (arith, same, words, small) in
       let block : x.block ≡ e.block = omega (arith, same, words, small) in
-      absurd (true≢false (sym (own x device block) ∙ not_found es e.device e.block none k lt))
+      absurd (true≢false (sym (of_block e.device e.block x device block) ∙ not_found es e.device e.block none k lt))
 ]
-  where
-    own : (x : Entry) → x.device ≡ e.device → x.block ≡ e.block → is_of e.device e.block x ≡ true
-    own x device block = rw (eq-eqb x.device e.device device, eq-eqb x.block e.block block) refl

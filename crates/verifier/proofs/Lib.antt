@@ -8,4 +8,5 @@ pub mod Indexed
 pub mod Laid
 pub mod LawActs
 pub mod Passed
+pub mod Settled
 pub mod Words

@@ -1,11 +1,15 @@
 //! The blocks in use, by number and device.
-ghost use Rattle.std.specs.Prelude.{◌≡◌, ◌↔◌, ◌+◌, ◌<◌, ◌≤◌, ℕ, List, [], IsTrue, None, length, get_or};
-ghost use Rattle.bench_base.specs.declared.sizes.TheConstants.{MOST_BLOCKS};
-ghost use Rattle.verifier.specs.Index.{cell_in, with_cell, rank, rank_of, AreOrdered, nothing};
+ghost use Rattle.std.specs.Prelude.{◌≡◌, ◌↔◌, ◌+◌, ◌<◌, ◌≤◌, ℕ, List, [], IsTrue, None, MatchBool, IsPermutation, length, take, get_or};
+ghost use Rattle.std.specs.List.Sorted.{IsNonDecreasingBy};
+ghost use Rattle.bench_base.specs.declared.sizes.TheConstants.{MOST_BLOCKS, VERIFIER_CELLS, FIRST_BLOCK};
+ghost use Rattle.verifier.specs.Index.{cell_in, with_cell, rank, rank_of, AreOrdered, AreRising, HaveTie, IsEntryOf, HasBlocks, HasTwice, nothing};
 ghost use Rattle.verifier.specs.Index as index;
 
-use bench_base::sizes::MOST_BLOCKS;
+use bench_base::sizes::{FIRST_BLOCK, MOST_BLOCKS};
 use std::marker::Model;
+
+// How many numbers a device can have.
+const DEVICES: u64 = 0x1_0000_0000;
 
 /// A block in use.
 #[derive(Clone, Copy)]
@@ -50,6 +54,72 @@ fn is_of(entry: &Entry, device: u32, block: u32) -> bool
     ensures { result ≡ index.is_of device block entry.now }
 {
     entry.device == device && entry.block == block
+}
+
+// Where the block of the entry stands in the order.
+fn entry_rank(entry: &Entry) -> u64
+    ensures { result ≡ rank_of entry.now }
+{
+    u64::from(entry.block) * DEVICES + u64::from(entry.device)
+}
+
+// Writes the entries of the cells before `end` to the front of the array. How many they are.
+fn write_entries<F: Fn(u32) -> (u32, u32)>(
+    entries: &mut [Entry; MOST_BLOCKS],
+    end: u32,
+    block_of: F,
+) -> usize
+    requires from { FIRST_BLOCK ≤ end }
+    requires room { end ≤ VERIFIER_CELLS }
+    requires callable { (cell : ℕ) → cell < end → F.pre block_of cell }
+    ensures size { length entries.new ≡ MOST_BLOCKS }
+    ensures many { FIRST_BLOCK + result ≡ end }
+    ensures written { (i : ℕ) → i < result → IsEntryOf (F.post block_of) (FIRST_BLOCK + i) (get_or entries.new i nothing) }
+{
+    for cell in FIRST_BLOCK..end {
+        let block = block_of(cell);
+        entries[(cell - FIRST_BLOCK) as usize] = Entry {
+            device: block.0,
+            block: block.1,
+            cell,
+        };
+    }
+    (end - FIRST_BLOCK) as usize
+}
+
+// Whether no two of the entries, which are sorted, are of one block.
+fn are_apart(entries: &[Entry]) -> bool
+    requires { IsNonDecreasingBy rank_of entries.now }
+    ensures { MatchBool result (AreRising entries.now) (HaveTie entries.now) }
+{
+    for later in 1..entries.len() {
+        let before = entry_rank(&entries[later - 1]);
+        let rank = entry_rank(&entries[later]);
+        if before == rank {
+            return false;
+        }
+    }
+    true
+}
+
+// Brings the entries in order.
+fn sort(entries: &mut [Entry])
+    ensures moved { IsPermutation entries.old entries.new }
+    ensures len { length entries.new ≡ length entries.old }
+    ensures sorted { IsNonDecreasingBy rank_of entries.new }
+{
+    entries.sort_unstable_by_key(|entry| entry_rank(entry));
+}
+
+// Brings the first entries of the array in order. Whether no two of them are of one block.
+fn settle(entries: &mut [Entry; MOST_BLOCKS], len: usize) -> bool
+    requires { len ≤ MOST_BLOCKS }
+    ensures size { length entries.new ≡ MOST_BLOCKS }
+    ensures moved { IsPermutation (take len entries.old) (take len entries.new) }
+    ensures apart { MatchBool result (AreRising (take len entries.new)) (HaveTie (take len entries.new)) }
+{
+    sort(&mut entries[..len]);
+    are_apart(&entries[..len])
 }
 
 // How many entries come before this block.
@@ -118,6 +188,25 @@ impl BlockIndex {
             Some(entries[place].cell)
         } else {
             None
+        }
+    }
+
+    /// Has the blocks of the cells before `end`, in any order, in the place of all others. Device and number of the block
+    /// of a cell are what `block_of` answers. False if two cells hold one block.
+    pub fn fill<F: Fn(u32) -> (u32, u32)>(&mut self, end: u32, block_of: F) -> bool
+        requires from { FIRST_BLOCK ≤ end }
+        requires room { end ≤ VERIFIER_CELLS }
+        requires callable { (cell : ℕ) → cell < end → F.pre block_of cell }
+        ensures { (blocks : ℕ → ℕ × ℕ) → ((cell : ℕ) (block : ℕ × ℕ) → cell < end → F.post block_of cell block → block ≡ blocks cell)
+            → MatchBool result (HasBlocks self.new blocks end) (HasTwice blocks end) }
+    {
+        let len = write_entries(&mut self.entries, end, block_of);
+        if settle(&mut self.entries, len) {
+            self.len = len;
+            true
+        } else {
+            self.len = 0;
+            false
         }
     }
 

@@ -96,43 +96,6 @@ none_indexed s each es empty = record {
     none k d b lt (Some (TrustRow e key)) fits held = no_pair d b held
     none k d b lt (Some (BlockRow e c scans)) fits held = omega (arith, lt, fits.place)
 
--- a block more
-pub more_indexed : (s : Seen) (es new : List Entry) (n d b : ℕ) → FIRST_BLOCK ≤ n → IsIndexed s es n → block_in (row_in s n) ≡ Some (d, b) → IsSome (row_at s n) → cell_in es d b ≡ None → IsSome (key_at s d)
-    → IsAdded es new d b n → IsIndexed s new (n + 1)
-more_indexed s es new n d b from is here_is some fresh key added = record {
-  many = omega (arith, is.many, added.more);
-  found = λ k e c lt held. elim (cases_eq k n) [
-    | inl same ↦
-        let own : pair d b ≡ pair e c = same_Some _ _ (sym here_is ∙ ap (λ j. block_in (row_in s j)) (sym same) ∙ held) in
-        added.added e c ∙ ap (λ (x : ℕ × ℕ). with_cell d b n es x.0 x.1) (sym own) ∙ ap (λ t. if t then Some n else cell_in es d b) (own_block d b) ∙ ap (λ j. Some j) (sym same)
-    | inr differs ↦
-        let before = is.found k e c (omega (arith, lt, differs)) held in
-        added.added e c ∙ ap (λ t. if t then Some n else cell_in es e c) (other e c (λ own. some_none (sym before ∙ ap (λ (x : ℕ × ℕ). cell_in es x.0 x.1) (sym own) ∙ fresh))) ∙ before
-  ];
-  only = λ e c k found. by e c k (same_block (d, b) e c) refl (sym (added.added e c) ∙ found);
-  trusted = λ k e c lt held. elim (cases_eq k n) [
-    | inl same ↦
-        let own : pair d b ≡ pair e c = same_Some _ _ (sym here_is ∙ ap (λ j. block_in (row_in s j)) (sym same) ∙ held) in
-        subst (λ x. IsSome (key_at s x)) (ap (λ (x : ℕ × ℕ). x.0) own) key
-    | inr differs ↦ is.trusted k e c (omega (arith, lt, differs)) held
-  ];
-  packed = λ k from lt. elim (cases_eq k n) [
-    | inl same ↦ subst (λ j. IsSome (row_at s j)) (sym same) some
-    | inr differs ↦ is.packed k from (omega (arith, lt, differs))
-  ];
-}
-  where
-    other : (e c : ℕ) → (pair d b ≡ pair e c → ⊥) → same_block (d, b) e c ≡ false
-    other e c differs = elim (cases_Bool (same_block (d, b) e c)) [ inl own ↦ absurd (differs (is_block (d, b) e c own)) | inr isnt ↦ isnt ]
-
-    by : (e c k : ℕ) (t : Bool) → same_block (d, b) e c ≡ t → with_cell d b n es e c ≡ Some k → (k < n + 1) × (block_in (row_in s k) ≡ Some (e, c))
-    by e c k true own found =
-        let last : n ≡ k = same_Some _ _ (sym (ap (λ t. if t then Some n else cell_in es e c) own) ∙ found) in
-        (omega (arith, last), ap (λ j. block_in (row_in s j)) (sym last) ∙ here_is ∙ ap (λ (x : ℕ × ℕ). Some x) (is_block (d, b) e c own))
-    by e c k false own found =
-        let before = is.only e c k (sym (ap (λ t. if t then Some n else cell_in es e c) own) ∙ found) in
-        (omega (arith, before.0), before.1)
-
 -- == a commit ==
 
 -- where cells hold the same blocks, the index stays
@@ -251,7 +214,7 @@ can_index s es sound (change.Accept cell d b place n) fits is true blank =
     can_add s (counting.after s (change.Accept cell d b place n)) es es cell d b sound fits.sound (own_place s sound x fits).place fits.inside (blank refl) (ap (λ (o : Option Row). block_in o) (here_row s sound x fits)) (here_at s sound x fits) (there_at s sound x fits) is
 
 -- a cell of a key holds no block before or after
-key_blocks : (o : Option Row) (k : ℕ) → k < FIRST_BLOCK → IfSome o (IsRowAt k) → block_in o ≡ None
+pub key_blocks : (o : Option Row) (k : ℕ) → k < FIRST_BLOCK → IfSome o (IsRowAt k) → block_in o ≡ None
 key_blocks None k lt fits = refl
 key_blocks (Some (TrustRow e key)) k lt fits = refl
 key_blocks (Some (BlockRow e c scans)) k lt fits = absurd (omega (arith, lt, fits.place))

@@ -96,10 +96,6 @@ pub payload_none : (h : Option Held) → None ≡ payload_of h → h ≡ None
 payload_none None is = refl
 payload_none (Some h) is = absurd (some_none (sym is))
 
-pub payload_some : (h : Option Held) (payload : List ℕ) → Some payload ≡ payload_of h → IsSome h
-payload_some None payload is = absurd (some_none is)
-payload_some (Some h) payload is = refl
-
 module _ (held : ℕ → Option Held) (filled : HoldRows held) where
   -- a key
   trust_key : (k : ℕ) (o : Option (List ℕ)) → k < FIRST_BLOCK → key_in (option_map (row_of k) o) ≡ option_map key_of o

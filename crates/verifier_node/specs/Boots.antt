@@ -2,12 +2,12 @@
 use Rattle.std.specs.Prelude.{◌≡◌, ◌⊎◌, ℕ, ◌+◌, ◌<◌, ◌≤◌, List, length, Option, Some, None, IsSome}
 use Rattle.bench_base.specs.declared.sizes.TheConstants.{MOST_COMMITS, VERIFIER_CELLS, FIRST_BLOCK}
 use Rattle.nv_store.specs.Slot.{Held}
-use Rattle.nv_store.specs.Store.{count_of}
+use Rattle.nv_store.specs.Store.{count_of, payload_of}
 use Rattle.node_acts.specs.RowList.{row_at}
 use Rattle.row_node.specs.Kept.{IsFilled, HoldsForeign}
 use Rattle.verifier.specs.declared.index.Entry.{Entry}
 use Rattle.verifier.specs.Index.{cell_in, IsIndexOf}
-use Rattle.verifier.specs.Payload.{IsPayloadOf}
+use Rattle.verifier.specs.Payload.{IsPayloadOf, word_at}
 use Rattle.verifier.specs.Seen.{Seen, row_in, block_in, key_at, AreTogether}
 use Rattle.verifier_node.specs.Payloads.{rows_held, seen_held, HoldRows}
 
@@ -23,6 +23,21 @@ HasForeign held = HoldsForeign VERIFIER_CELLS IsPayloadOf held
 -- each payload reads as a row
 abbrev pub AreRead : (ℕ → Option Held) → Type 0
 AreRead held = (k : ℕ) → k < VERIFIER_CELLS → CellRead held k
+
+-- device and number of the block that a payload spells; 0 and 0 if there is none
+abbrev pub block_spelled : Option (List ℕ) → ℕ × ℕ
+block_spelled None = (0, 0)
+block_spelled (Some payload) = (word_at 0 payload, word_at 1 payload)
+
+-- device and number of the block in cell k
+abbrev pub block_held : (ℕ → Option Held) → ℕ → ℕ × ℕ
+block_held held k = block_spelled (payload_of (held k))
+
+-- each cell of blocks before n holds a block, whose device is trusted
+pub record AreListed (held : ℕ → Option Held) (n : ℕ) : Type 0 where
+  pub from : FIRST_BLOCK ≤ n
+  pub blocks : (k : ℕ) → FIRST_BLOCK ≤ k → k < n → block_in (row_in (seen_held held) k) ≡ Some (block_held held k)
+  pub trusted : (k : ℕ) → FIRST_BLOCK ≤ k → k < n → IsSome (key_at (seen_held held) (block_held held k).0)
 
 -- the index has the blocks of the cells before n, which have no gap, and whose devices are trusted
 pub record IsIndexed (s : Seen) (es : List Entry) (n : ℕ) : Type 0 where

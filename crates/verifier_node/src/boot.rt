@@ -1,14 +1,14 @@
 //! The rows of the verifier out of its cells.
-ghost use Rattle.std.specs.Prelude.{◌≡◌, ◌+◌, ◌<◌, ◌≤◌, [], Some, None, OnOk, OnErr, IfOk, MatchBool};
-ghost use Rattle.bench_base.specs.declared.sizes.TheConstants.{VERIFIER_CELLS, FIRST_BLOCK};
+ghost use Rattle.std.specs.Prelude.{◌≡◌, ◌+◌, ◌<◌, ◌≤◌, Some, None, OnOk, OnErr, IfOk, MatchBool};
+ghost use Rattle.bench_base.specs.declared.sizes.TheConstants.{VERIFIER_CELLS};
 ghost use Rattle.nv_store.specs.RoomView.{cells_of, kept_in};
 ghost use Rattle.nv_store.specs.Store.{payload_of};
 ghost use Rattle.verifier.specs.Payload.{IsPayloadOf, row_of};
 ghost use Rattle.verifier.specs.Rows.{Row};
-ghost use Rattle.verifier_node.specs.Payloads.{seen_held, HoldRows};
-ghost use Rattle.verifier_node.specs.Boots.{CellRead, AreRead, HasForeign, IsIndexed, AreBlank, HasGap, Breaks, HoldNone, HoldSound};
+ghost use Rattle.verifier_node.specs.Payloads.{HoldRows};
+ghost use Rattle.verifier_node.specs.Boots.{CellRead, AreRead, HasForeign, block_held, AreListed, AreBlank, HasGap, Breaks, HoldNone, HoldSound};
 
-use crate::cells::{is_blank, key_of};
+use crate::cells::{is_blank, is_trusted};
 use bench_base::numbers::DevNo;
 use bench_base::sizes::{BLOCK_BYTES, FIRST_BLOCK, VERIFIER_CELLS};
 use nv_store::{Room, get_room};
@@ -51,38 +51,36 @@ fn are_read(room: &Room<BLOCK_BYTES>) -> bool
     true
 }
 
-// Adds the block of a cell to the index. False where its device is not trusted, or another cell holds it.
-fn index_block(
-    room: &Room<BLOCK_BYTES>,
-    index: &mut BlockIndex,
-    cell: u32,
-    payload: &[u8; BLOCK_BYTES],
-) -> bool
+// Device and number of the block in a cell; 0 and 0 if the cell is blank.
+fn block_at(room: &Room<BLOCK_BYTES>, cell: u32) -> (u32, u32)
     requires cells { cells_of room.now ≡ VERIFIER_CELLS }
-    requires filled { HoldRows (kept_in room.now) }
-    requires from { FIRST_BLOCK ≤ cell }
     requires inside { cell < VERIFIER_CELLS }
-    requires payload { payload_of (kept_in room.now cell) ≡ Some payload.now }
-    requires indexed { IsIndexed (seen_held (kept_in room.now)) index.old cell }
-    ensures { MatchBool result (IsIndexed (seen_held (kept_in room.now)) index.new (cell + 1)) (Breaks (kept_in room.now)) }
+    ensures { result ≡ block_held (kept_in room.now) cell }
 {
-    let block = block_in(payload);
-    if index.find(block.0, block.1).is_some() {
-        return false;
+    match get_room(room, cell) {
+        Some(payload) => block_in(payload),
+        None => (0, 0),
     }
-    if key_of(room, block.0).is_none() {
-        return false;
-    }
-    index.insert(block.0, block.1, cell);
-    true
 }
 
-// Adds the blocks to the index, up to the first blank cell, which is answered. Err where they break a condition together.
-fn index_blocks(room: &Room<BLOCK_BYTES>, index: &mut BlockIndex) -> Result<u32, ()>
+// Whether the device of the block in a cell is trusted.
+fn is_listed(room: &Room<BLOCK_BYTES>, cell: u32, payload: &[u8; BLOCK_BYTES]) -> bool
+    requires cells { cells_of room.now ≡ VERIFIER_CELLS }
+    requires filled { HoldRows (kept_in room.now) }
+    requires inside { cell < VERIFIER_CELLS }
+    requires payload { payload_of (kept_in room.now cell) ≡ Some payload.now }
+    requires listed { AreListed (kept_in room.now) cell }
+    ensures { MatchBool result (AreListed (kept_in room.now) (cell + 1)) (Breaks (kept_in room.now)) }
+{
+    let block = block_in(payload);
+    is_trusted(room, block.0)
+}
+
+// The first blank cell after the blocks, or the number of cells. Err if the device of a block before it is not trusted.
+fn end_of_blocks(room: &Room<BLOCK_BYTES>) -> Result<u32, ()>
     requires cells { cells_of room.now ≡ VERIFIER_CELLS }
     requires read { AreRead (kept_in room.now) }
-    requires empty { index.old ≡ [] }
-    ensures indexed { IfOk result (IsIndexed (seen_held (kept_in room.now)) index.new) }
+    ensures listed { IfOk result (AreListed (kept_in room.now)) }
     ensures inside { IfOk result (λ cell. cell ≤ VERIFIER_CELLS) }
     ensures blank { IfOk result (λ cell. cell < VERIFIER_CELLS → kept_in room.now cell ≡ None) }
     ensures breaks { OnErr result (Breaks (kept_in room.now)) }
@@ -91,7 +89,7 @@ fn index_blocks(room: &Room<BLOCK_BYTES>, index: &mut BlockIndex) -> Result<u32,
         let Some(payload) = get_room(room, cell) else {
             return Ok(cell);
         };
-        if !index_block(room, index, cell, payload) {
+        if !is_listed(room, cell, payload) {
             return Err(());
         }
     }
@@ -118,14 +116,16 @@ pub fn index_rows(room: &Room<BLOCK_BYTES>, index: &mut BlockIndex) -> Result<()
     ensures sound { OnOk result (HoldSound (kept_in room.now) index.new) }
     ensures none { OnErr result (HoldNone (kept_in room.now)) }
 {
-    index.clear();
     if !are_read(room) {
         return Err(());
     }
-    let Ok(first) = index_blocks(room, index) else {
+    let Ok(end) = end_of_blocks(room) else {
         return Err(());
     };
-    if are_blank(room, first) {
+    if !index.fill(end, |cell| block_at(room, cell)) {
+        return Err(());
+    }
+    if are_blank(room, end) {
         Ok(())
     } else {
         Err(())

@@ -1,5 +1,5 @@
 //! What the cells of the verifier's memory tell, and what a change makes of one.
-ghost use Rattle.std.specs.Prelude.{◌≡◌, ◌<◌, ◌≤◌, MatchBool, IsSome, None, get_or};
+ghost use Rattle.std.specs.Prelude.{◌≡◌, ◌<◌, ◌≤◌, MatchBool, IsSome, is_some, None, get_or};
 ghost use Rattle.bench_base.specs.declared.sizes.TheConstants.{VERIFIER_CELLS, FIRST_BLOCK, BLOCK_PIECES};
 ghost use Rattle.nv_store.specs.RoomView.{cells_of, kept_in};
 ghost use Rattle.verifier.specs.ActLaws.{IsFit};
@@ -37,6 +37,21 @@ pub fn key_of(room: &Room<BLOCK_BYTES>, device: u32) -> Option<Key>
         Some(payload) => Some(key_in(payload)),
         None => None,
     }
+}
+
+/// Whether marks of the device are trusted under a key.
+pub fn is_trusted(room: &Room<BLOCK_BYTES>, device: u32) -> bool
+    requires cells { cells_of room.now ≡ VERIFIER_CELLS }
+    requires filled { HoldRows (kept_in room.now) }
+    ensures { result ≡ is_some (key_at (seen_held (kept_in room.now)) device) }
+{
+    if device == 0 {
+        return false;
+    }
+    if device > FIRST_BLOCK {
+        return false;
+    }
+    get_room(room, device - 1).is_some()
 }
 
 /// The scan under which the piece at this place of the block in a cell was accepted.

@@ -3,12 +3,12 @@ use Rattle.psd_state.proofs.Under.{genuine_found, genuine_read}
 use Rattle.psd_state.proofs.parts.read_mark.Goals as goal
 use Rattle.bench_base.proofs.Facts.{not_so, is_so}
 
-pub returns-then-not-verify_mark-clause-none : goal.returns-then-not-verify_mark-clause-none
-returns-then-not-verify_mark-clause-none c = λ k w e. not_so _ _ c.verify_mark.ensures c.if-not-verify_mark.true (k, w, sym e)
+pub returns-then-not-is_genuine-clause-none : goal.returns-then-not-is_genuine-clause-none
+returns-then-not-is_genuine-clause-none c = λ k w e. not_so _ _ c.is_genuine.ensures c.if-not-is_genuine.true (k, w, sym e)
 
 pub returns-in-Ok-clause-found : goal.returns-in-Ok-clause-found
 returns-in-Ok-clause-found c =
-    genuine_found c.args.bytes.now c.args.key.now c.in-Ok.found c.in-Ok.ensures.found (is_so _ _ c.verify_mark.ensures c.if-not-verify_mark.false)
+    genuine_found c.args.bytes.now c.args.key.now c.in-Ok.found c.in-Ok.ensures.found (is_so _ _ c.is_genuine.ensures c.if-not-is_genuine.false)
 
 pub returns-in-Err-clause-none : goal.returns-in-Err-clause-none
 returns-in-Err-clause-none c =
