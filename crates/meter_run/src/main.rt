@@ -15,7 +15,7 @@ use bench_base::stream::{IoSink, IoSource};
 use centre_statement::run_statement;
 use host_departments::run_departments;
 use mail_manifest::run_manifest;
-use nv_file::{FileNv, remember};
+use nv_file::{FileNv, StoreFile, remember};
 use opening::{Opened, Side, hold_folder, open_files};
 use program_calls::{Call, Exit, OpenFault, Uses, exit_of, read_call};
 use script_replay::run::run;
@@ -24,7 +24,7 @@ use spoil_claims::run_claims;
 use statement_check::run_recompute;
 use std::process::ExitCode;
 use std::{env, io};
-use store_files::{BENCH_STORES, STORES, split_stores};
+use store_files::{BENCH_STORES, CLAIMS, DEPARTMENTS, STORES, split_stores, with_own};
 use text_streams::ReadAhead;
 
 /// How much of the script is read ahead, in bytes.
@@ -66,22 +66,52 @@ fn bench_over(rt: &HostRuntime, stores: Vec<FileNv>) -> Result<Bench<FileNv>, Op
     }
 }
 
-// Remembers a clean end: no call on a storage failed, and all that was written is on the disk. If it can't be remembered the next start writes the storages again.
-fn remember_end(rt: &HostRuntime, bench: Bench<FileNv>, remembered: Option<String>)
+// A storage beside those of the bench that a run used, and whether no call on it failed and all that was written is on the disk.
+#[derive(Clone, Copy)]
+struct Own {
+    file: StoreFile,
+    is_settled: bool,
+}
+
+fn own_of(file: StoreFile, store: &FileNv) -> Own {
+    Own {
+        file,
+        is_settled: store.is_settled(),
+    }
+}
+
+// Whether no call on a storage of the bench failed, and all that was written is on the disk.
+fn is_settled(bench: Bench<FileNv>) -> bool
     requires ready { IsReady (bench_of bench) }
 {
     let stores = bench.into_stores();
-    if stores.devices.iter().all(|store| store.is_settled())
+    stores.devices.iter().all(|store| store.is_settled())
         && stores.centre.is_settled()
         && stores.host.is_settled()
         && stores.verifier.is_settled()
-    {
-        let before = match &remembered {
-            Some(text) => text.as_str(),
-            None => "",
-        };
-        let _ = remember(rt, &STORES[..BENCH_STORES], before);
+}
+
+// Remembers a clean end, if each storage that was used is settled. If it can't be remembered the next start writes the storages again.
+fn remember_end(
+    rt: &HostRuntime,
+    bench: Bench<FileNv>,
+    own: Option<Own>,
+    remembered: Option<String>,
+)
+    requires ready { IsReady (bench_of bench) }
+{
+    if !is_settled(bench) {
+        return;
     }
+    let before = match &remembered {
+        Some(text) => text.as_str(),
+        None => "",
+    };
+    let _ = match own {
+        None => remember(rt, &STORES[..BENCH_STORES], before),
+        Some(own) if own.is_settled => remember(rt, &with_own(own.file), before),
+        Some(_) => Ok(()),
+    };
 }
 
 // Runs what the words say over what was opened, with whoever has lines of its own.
@@ -99,27 +129,36 @@ fn run_over(rt: &HostRuntime, words: &[String], opened: Opened) -> Result<SideSt
     };
     let mut script = ReadAhead::new(IoSource::new(rt.reader()), ahead);
     let mut report = IoSink::new(io::writer(rt));
+    let mut own = None;
     let ended = match side {
-        Side::Claims(mut desk) => run_claims(
-            rt.alloc(),
-            words,
-            &mut script,
-            &mut rates,
-            &mut report,
-            &mut printer,
-            &mut bench,
-            &mut desk,
-        ),
-        Side::Departments(mut departments) => run_departments(
-            rt.alloc(),
-            words,
-            &mut script,
-            &mut rates,
-            &mut report,
-            &mut printer,
-            &mut bench,
-            &mut departments,
-        ),
+        Side::Claims(mut desk) => {
+            let ended = run_claims(
+                rt.alloc(),
+                words,
+                &mut script,
+                &mut rates,
+                &mut report,
+                &mut printer,
+                &mut bench,
+                &mut desk,
+            );
+            own = Some(own_of(CLAIMS, &desk.shut().0));
+            ended
+        }
+        Side::Departments(mut departments) => {
+            let ended = run_departments(
+                rt.alloc(),
+                words,
+                &mut script,
+                &mut rates,
+                &mut report,
+                &mut printer,
+                &mut bench,
+                &mut departments,
+            );
+            own = Some(own_of(DEPARTMENTS, &departments.shut().0));
+            ended
+        }
         Side::Statement => run_statement(
             rt.alloc(),
             words,
@@ -148,7 +187,7 @@ fn run_over(rt: &HostRuntime, words: &[String], opened: Opened) -> Result<SideSt
             &mut bench,
         )),
     };
-    remember_end(rt, bench, remembered);
+    remember_end(rt, bench, own, remembered);
     Ok(ended)
 }
 

@@ -25,8 +25,10 @@ pub struct Starting<'a> {
     stores: Vec<FileNv>,
     /// Of each new file, whether there was none of its name.
     firsts: Vec<bool>,
-    /// What was remembered of the clean end behind which the storages are used as they are.
+    /// What was remembered of the last clean end.
     remembered: Option<String>,
+    /// Whether the storages are used as they are, after that clean end.
+    are_reused: bool,
 }
 
 impl Starting<'_> {
@@ -40,8 +42,12 @@ impl Starting<'_> {
         ensures unharmed { IfOk result (λ starting. All (λ nv. ⟦<FileNv as Nv>⟧.meters nv ≡ unharmed) (stores_of starting)) }
         ensures synced { IfOk result (λ starting. All (λ nv. unsynced nv ≡ nothing_unsynced) (stores_of starting)) }
     {
-        let remembered = recall(rt).filter(|text| are_as_remembered(rt, files, text.as_str()));
-        if remembered.is_some() {
+        let remembered = recall(rt);
+        let are_same = match &remembered {
+            Some(text) => are_as_remembered(rt, files, text.as_str()),
+            None => false,
+        };
+        if are_same {
             return Starting::reuse(rt, files, remembered);
         }
         let mut stores = Vec::new(rt.alloc());
@@ -62,7 +68,8 @@ impl Starting<'_> {
             files,
             stores,
             firsts,
-            remembered: None,
+            remembered,
+            are_reused: false,
         })
     }
 
@@ -91,6 +98,7 @@ impl Starting<'_> {
             stores,
             firsts: Vec::new(rt.alloc()),
             remembered,
+            are_reused: true,
         })
     }
 
@@ -103,8 +111,8 @@ impl Starting<'_> {
         self.stores.pop()
     }
 
-    /// Gives each storage its name, makes sure of the names, and hands out the storages with what was remembered of the clean end, which is forgotten. If that
-    /// fails at one its name is answered: those that were there hold what they held, and those that were made are removed again, if they can be.
+    /// Gives each storage its name, makes sure of the names, and hands out the storages with what was remembered of the last clean end, which is forgotten. If
+    /// that fails at one its name is answered: those that were there hold what they held, and those that were made are removed again, if they can be.
     pub fn settle<R: Files<File = File> + AllocGlobal>(
         self,
         rt: &R,
@@ -116,9 +124,10 @@ impl Starting<'_> {
             stores,
             firsts,
             remembered,
+            are_reused,
         } = self;
         let forgotten = forget(rt);
-        if remembered.is_some() {
+        if are_reused {
             return match forgotten {
                 Ok(()) => Ok((stores, remembered)),
                 Err(_) => Err(CLEAN),
@@ -137,12 +146,12 @@ impl Starting<'_> {
                 return Err(file.name);
             }
         }
-        Ok((stores, None))
+        Ok((stores, remembered))
     }
 
     /// Removes what was prepared. The storages are as they were before.
     pub fn discard<R: Files<File = File> + AllocGlobal>(self, rt: &R) {
-        if self.remembered.is_none() {
+        if !self.are_reused {
             discard_all(rt, self.files);
         }
     }
