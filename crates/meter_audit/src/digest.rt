@@ -15,7 +15,7 @@ fn put(hasher: &mut Sha256, bytes: &[u8]) {
     hasher.update(bytes);
 }
 
-/// The digest with this run behind the ones before: SHA-256 over the digest before, and of script, report and rates each the length and the bytes.
+/// The digest with this run after the ones before: SHA-256 over the digest before, and of script, report and rates each the length and the bytes.
 pub fn digest_with(before: &Sum, run: &Run) -> Sum {
     let mut hasher = Sha256::new();
     hasher.update(before);

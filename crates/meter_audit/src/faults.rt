@@ -11,6 +11,8 @@ pub enum Fault {
     File(String),
     #[error("cannot use {0}: it is no regular file")]
     Pipe(String),
+    #[error("cannot use {0}: it has more than 1048592 bytes")]
+    Rates(String),
     #[error("cannot use {0}: it has no run")]
     Folder(String),
     #[error("{0} was not stopped, so no answer is due")]
@@ -29,6 +31,7 @@ pub fn code_of(fault: &Fault) -> u8 {
         Fault::Words
         | Fault::File(_)
         | Fault::Pipe(_)
+        | Fault::Rates(_)
         | Fault::Folder(_)
         | Fault::Unstopped(_)
         | Fault::Write

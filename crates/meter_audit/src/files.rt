@@ -5,10 +5,10 @@ use audit_words::shown_text;
 use std::fs::{self, File};
 use std::io::{self, Read};
 
-/// The most bytes of rates that are read: as much as 16 `rates` of a run can take, 65,537 each.
+/// The most bytes that a file of rates may have: as many as 16 `rates` of a run can take, 65,537 each.
 const MOST_RATES: u64 = 1_048_592;
 
-// The text with another behind it.
+// The text with another after it.
 fn joined(rt: &HostRuntime, front: &str, back: &str) -> Result<String, Fault> {
     let mut text = or_memory(String::from_str(rt.alloc(), front))?;
     or_memory(text.push_str(back))?;
@@ -98,17 +98,34 @@ pub fn first_bytes(
     }
 }
 
+// What is said of a file of rates that has too many bytes.
+fn too_long(rt: &HostRuntime, file: &str) -> Fault {
+    match shown_text(rt.alloc(), file) {
+        Ok(text) => Fault::Rates(text),
+        Err(_) => Fault::Memory,
+    }
+}
+
+// The rates in this open file. A longer one is refused: a run with more than 16 `rates` could take more of it than is read, and a lawful report would be called wrong.
+fn all_rates(rt: &HostRuntime, file: &str, opened: File) -> Result<Vec<u8>, Fault> {
+    let rates = first_bytes(rt, file, opened, MOST_RATES + 1)?;
+    if rates.len() as u64 > MOST_RATES {
+        return Err(too_long(rt, file));
+    }
+    Ok(rates)
+}
+
 /// The rates in this file, which are those of every run.
 pub fn rates_in(rt: &HostRuntime, file: &str) -> Result<Vec<u8>, Fault> {
     let opened = open_file(rt, file)?;
-    first_bytes(rt, file, opened, MOST_RATES)
+    all_rates(rt, file, opened)
 }
 
 // The rates of a run by its own file. That it is missing is mentioned on standard error, which may take no line.
 fn own_rates(rt: &HostRuntime, name: &str) -> Result<Vec<u8>, Fault> {
     let file = joined(rt, name, ".rates")?;
     match File::open(rt, file.as_str()) {
-        Ok(opened) => first_bytes(rt, file.as_str(), opened, MOST_RATES),
+        Ok(opened) => all_rates(rt, file.as_str(), opened),
         Err(error) if error.kind() == io::ErrorKind::NotFound => {
             let missing = or_memory(shown_text(rt.alloc(), file.as_str()))?;
             let _ = eprintln!(rt; "no {missing}: taken as empty");

@@ -7,7 +7,7 @@ use std::fs;
 /// The ending of the file that makes a run.
 const SCRIPT: &str = ".script";
 
-// The folder's name with a slash behind it.
+// The folder's name with a slash after it.
 fn with_slash(rt: &HostRuntime, folder: &str) -> Result<String, Fault> {
     let mut front = or_memory(String::from_str(rt.alloc(), folder))?;
     if !folder.ends_with('/') {

@@ -9,7 +9,7 @@ use std::alloc::{AllocError, Global};
 use std::cell::RefCell;
 use std::io::Read;
 use told_bench::Auditor;
-use told_runs::{Ending, Imprint, Input, LINES, Verdict, audit_run, read_line};
+use told_runs::{Ending, Imprint, Input, Judgment, LINES, Verdict, audit_run, read_line};
 
 /// What came of a run. Numbers are those of lines of its script.
 #[derive(Clone, Copy)]
@@ -29,8 +29,8 @@ pub struct Judged {
     pub outcome: Outcome,
     /// How the script ended, if the run came to its end.
     pub ending: Ending,
-    /// How many lines of the report were answers.
-    pub answers: u64,
+    /// How many lines the report has, if the run is lawful.
+    pub answers: u32,
     /// Whether the report has no byte.
     pub is_empty: bool,
     /// The line of the script that was judged last, the answer that was due to it, and what the report has there, as they are shown.
@@ -39,17 +39,18 @@ pub struct Judged {
     pub found: String,
 }
 
-/// What a verdict says, with the line of the answer that was due.
+/// What a judgment says, with the line of the answer that was due.
 #[derive(Drop)]
 struct Told {
     outcome: Outcome,
+    answers: u32,
     due: Line,
 }
 
-// What the verdict says.
-fn told_by(verdict: &Verdict) -> Told {
+// What the judgment says.
+fn told_by(judgment: &Judgment) -> Told {
     let mut due = Line::new();
-    let outcome = match verdict {
+    let outcome = match &judgment.verdict {
         Verdict::Lawful(ending) => Outcome::Lawful(*ending),
         Verdict::Stopped(line) => Outcome::Stopped(*line),
         Verdict::Wrong(line, reply) => {
@@ -61,7 +62,11 @@ fn told_by(verdict: &Verdict) -> Told {
         Verdict::Memory => Outcome::Memory,
         Verdict::Unread(input, _) => Outcome::Unread(*input),
     };
-    Told { outcome, due }
+    Told {
+        outcome,
+        answers: judgment.answers,
+        due,
+    }
 }
 
 // How a script ended at the line of this number, which was this.
@@ -89,7 +94,7 @@ fn ending_of(outcome: Outcome, script: &[u8]) -> Ending {
     }
 }
 
-// What the report has for the line that was judged last. What it has for one that brings forged bytes was not read yet.
+// What the report has for the line that was judged last. What it has for one with forged bytes was not read yet.
 fn found_in<R: Read>(
     alloc: Global,
     outcome: Outcome,
@@ -106,15 +111,15 @@ fn found_in<R: Read>(
     last_taken(alloc, report, tail)
 }
 
-// Whether the reader gave nothing, and how many line ends it gave.
-fn given_by(tail: &RefCell<Tail>) -> (bool, u64) {
+// Whether the reader gave nothing.
+fn gave_nothing(tail: &RefCell<Tail>) -> bool {
     match tail.try_borrow() {
-        Ok(tail) => (tail.is_empty(), tail.line_ends()),
-        Err(_) => (false, 0),
+        Ok(tail) => tail.is_empty(),
+        Err(_) => false,
     }
 }
 
-/// Judges a run over what the auditor has, by what these read, each of which is read once: the imprints are put behind those of the runs before. AllocError is want
+/// Judges a run over what the auditor has, by what these read, each of which is read once: the imprints are added to those of the runs before. AllocError is lack
 /// of memory beside that of the verdict.
 pub fn judge_over<S: Read + Drop, R: Read + Drop>(
     alloc: Global,
@@ -134,12 +139,11 @@ pub fn judge_over<S: Read + Drop, R: Read + Drop>(
     let told = told_by(&audit_run(alloc, auditor, &mut script, &mut report, rates, imprints));
     let found = found_in(alloc, told.outcome, &mut report, &report_tail)?;
     let line = last_taken(alloc, &mut script, &script_tail)?;
-    let (is_empty, answers) = given_by(&report_tail);
     Ok(Judged {
         outcome: told.outcome,
         ending: ending_of(told.outcome, line.as_slice()),
-        answers,
-        is_empty,
+        answers: told.answers,
+        is_empty: gave_nothing(&report_tail),
         script: shown(alloc, line.as_slice())?,
         due: shown(alloc, told.due.as_slice())?,
         found: shown(alloc, found.as_slice())?,

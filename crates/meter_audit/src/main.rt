@@ -1,6 +1,6 @@
 //! The auditor's program: whether the reports that some meter wrote for these scripts may be those of a lawful meter. Each NAME is a
 //! run, in order: NAME.script, NAME.report and NAME.rates, which is empty where it is missing. Options ask for runs in a folder, for rates of all runs, for their
-//! prints, and for one of: what the auditor has behind the runs, what they came to, the journal of what they committed, and what was due behind a stop.
+//! prints, and for one of: what the auditor has after the runs, what they came to, the journal of what they committed, and what was due after a stop.
 #![tactic(auto)]
 
 mod checking;
@@ -36,7 +36,7 @@ use verdicts::FINDING;
 /// The exit status if nothing was found, but something is undecided.
 const UNDECIDED: u8 = 4;
 
-// The words behind the program's name.
+// The words after the program's name.
 fn given_words(rt: &HostRuntime) -> Result<Vec<String>, Fault> {
     let mut words = Vec::new(rt.alloc());
     let given = match env::args(rt) {
@@ -153,7 +153,7 @@ fn judge_words(
     })
 }
 
-// Ends the journal, which is closed on each way out: the exit status. That of a finding stays, and a fault before is the one that is told.
+// Ends the journal, which is closed on each way out: the exit status. That of a finding stays, and a fault before is the one that is reported.
 fn end_journal(
     rt: &HostRuntime,
     clerk: &mut Clerk,
@@ -203,7 +203,7 @@ fn called(rt: &HostRuntime) -> Result<u8, Fault> {
     }
 }
 
-// Standard error may take no line. The exit status tells the same.
+// Standard error may take no line. The exit status says the same.
 fn main(rt: HostRuntime) -> ExitCode {
     match called(&rt) {
         Ok(code) => ExitCode::from(code),

@@ -25,7 +25,7 @@ pub fn takes_output(asked: Asked) -> bool {
     }
 }
 
-/// Whether runs are gone over once more behind their verdicts, so that they have to be whole in memory.
+/// Whether runs are gone over once more after their verdicts, so that they have to be whole in memory.
 pub fn is_counted(asked: Asked) -> bool {
     match asked {
         Asked::Nothing | Asked::Table => false,
@@ -33,7 +33,7 @@ pub fn is_counted(asked: Asked) -> bool {
     }
 }
 
-// The runs of the folder, if one is named, and behind them those that are named.
+// The runs of the folder, if one is named, and after them those that are named.
 fn all_runs(
     rt: &HostRuntime,
     folder: &Option<String>,

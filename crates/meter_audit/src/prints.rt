@@ -40,14 +40,14 @@ struct Place {
     line: u32,
 }
 
-// How many bytes of a file of prints are looked at: those of the lines of so many marks, and one line behind them.
+// How many bytes of a file of prints are looked at: those of the lines of so many marks, and one line after them.
 fn most_bytes(count: usize) -> u64 {
     (count as u64)
         .saturating_mul(LINE as u64)
         .saturating_add(SHOWN as u64)
 }
 
-// The line that begins behind so many lines of marks, as it is shown.
+// The line that begins after so many lines of marks, as it is shown.
 fn line_at(alloc: Global, prints: &[u8], place: usize) -> Result<String, AllocError> {
     let start = place.saturating_mul(LINE).min(prints.len());
     let rest = &prints[start..];

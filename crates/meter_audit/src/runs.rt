@@ -24,7 +24,7 @@ pub struct Gathered {
     pub ends: Vec<usize>,
     /// Of each run that is gone over once more the digest up to it.
     pub digests: Vec<Sum>,
-    /// The last day that was told.
+    /// The last day that was reported.
     pub day: Option<DayNo>,
     /// Whether a run left something undecided that no later run decides.
     pub is_undecided: bool,
@@ -43,7 +43,7 @@ impl Gathered {
     }
 }
 
-/// Prints a verdict: where the journal goes to standard output, on standard error. That may take no line; the exit status tells the same.
+/// Prints a verdict: where the journal goes to standard output, on standard error. That may take no line; the exit status says the same.
 pub fn say(rt: &HostRuntime, asked: Asked, text: &str) -> Result<(), Fault> {
     if takes_output(asked) {
         let _ = eprintln!(rt; "{text}");

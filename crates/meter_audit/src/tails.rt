@@ -1,6 +1,6 @@
 //! Readers that keep what they gave last: the line of a finding is one of those that were judged, and no file is read again.
 use bench_base::stream::{IoSource, Source};
-use memchr::{memchr_iter, memrchr};
+use memchr::memrchr;
 use std::alloc::{AllocError, Global};
 use std::cell::RefCell;
 use std::io::{self, Read};
@@ -15,12 +15,11 @@ const LINE: usize = 601;
 /// How many bytes are kept: what is read at once, a line before that, and one to move.
 const KEPT: usize = AHEAD + 2 * LINE;
 
-/// The bytes that a reader gave last, and how many line ends it gave.
+/// The bytes that a reader gave last.
 #[derive(Drop)]
 pub struct Tail {
     kept: Vec<u8>,
     len: usize,
-    line_ends: u64,
     is_closed: bool,
 }
 
@@ -34,7 +33,7 @@ pub struct Watched<'a, R: Read> {
 /// A reader that is watched, line by line.
 pub type Lines<'a, R> = ReadAhead<IoSource<Watched<'a, R>>>;
 
-// The bytes without a line end behind them.
+// The bytes without the line end after them.
 fn without_line_end(bytes: &[u8]) -> &[u8] {
     if !bytes.is_empty() && bytes[bytes.len() - 1] == b'\n' {
         &bytes[..bytes.len() - 1]
@@ -59,7 +58,6 @@ impl Tail {
         Ok(Tail {
             kept,
             len: 0,
-            line_ends: 0,
             is_closed: false,
         })
     }
@@ -67,11 +65,6 @@ impl Tail {
     /// Whether the reader gave nothing.
     pub fn is_empty(&self) -> bool {
         self.len == 0
-    }
-
-    /// How many line ends the reader gave.
-    pub fn line_ends(&self) -> u64 {
-        self.line_ends
     }
 
     // Moves the last line to the front, if so many bytes find no room.
@@ -89,8 +82,6 @@ impl Tail {
 
     // Keeps what the reader gave.
     fn keep(&mut self, bytes: &[u8]) {
-        let count = memchr_iter(b'\n', bytes).count();
-        self.line_ends = self.line_ends.saturating_add(count as u64);
         self.make_room(bytes.len());
         let start = self.len.min(self.kept.len());
         let room = &mut self.kept.as_mut_slice()[start..];

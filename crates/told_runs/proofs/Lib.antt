@@ -1,4 +1,5 @@
 mod Comparing
+mod Counting
 mod Exact
 mod Fitted
 mod Giving

@@ -1,5 +1,6 @@
 -- Promised: public contracts name these.
 pub mod Audits
+pub mod Counted
 pub mod Fitting
 pub mod Imprints
 pub mod Prints
@@ -7,4 +8,5 @@ pub mod Reads
 pub mod Verdicts
 -- Bookkeeping: private calls and proofs alone name these.
 pub mod Stops
+pub mod Takes
 pub mod Turns

@@ -7,6 +7,7 @@ ghost use Rattle.line_runs.specs.Lines.{IsOneLine, ended};
 ghost use Rattle.told_bench.specs.Forging.{AtHistory};
 ghost use Rattle.told_bench.specs.Seeing.{IsReady, audit_of};
 ghost use Rattle.told_runs.specs.Reads.{FailsSo, HasScript};
+ghost use Rattle.told_runs.specs.Takes.{AnswerTakes};
 ghost use Rattle.told_runs.specs.Turns.{IsAnswer};
 ghost use Rattle.told_runs.specs.declared.verdict.Input.{Input};
 
@@ -45,6 +46,7 @@ fn judge_line<R: Source>(
     ensures few { length (audit_of auditor.new).messages ≤ length (audit_of auditor.old).messages + 1 }
     ensures answers { IsAnswer number event.now (ended line.now) rates.now (audit_of auditor.old) (audit_of auditor.new)
         imprints.old.items imprints.new.items (⟦<ReadAhead<R> as Source>⟧.left report.old) (⟦<ReadAhead<R> as Source>⟧.left report.new) result }
+    ensures counted { AnswerTakes 0 (⟦<ReadAhead<R> as Source>⟧.left report.old) (⟦<ReadAhead<R> as Source>⟧.left report.new) result }
     ensures later { ⟦<ReadAhead<R> as Source>⟧.faults report.old ≤ ⟦<ReadAhead<R> as Source>⟧.faults report.new }
     ensures failed { IfErr result (λ v. FailsSo Input.Report (⟦<ReadAhead<R> as Source>⟧.faults report.old) (⟦<ReadAhead<R> as Source>⟧.faults report.new) v × HasScript v) }
 {
@@ -84,6 +86,7 @@ fn hear<R: Source>(
     ensures few { length (audit_of auditor.new).messages ≤ length (audit_of auditor.old).messages + 1 }
     ensures answers { IsAnswer number event.now [] rates.now (audit_of auditor.old) (audit_of auditor.new) imprints.old.items imprints.new.items
         (⟦<ReadAhead<R> as Source>⟧.left report.old) (⟦<ReadAhead<R> as Source>⟧.left report.new) result }
+    ensures counted { AnswerTakes 1 (⟦<ReadAhead<R> as Source>⟧.left report.old) (⟦<ReadAhead<R> as Source>⟧.left report.new) result }
     ensures later { ⟦<ReadAhead<R> as Source>⟧.faults report.old ≤ ⟦<ReadAhead<R> as Source>⟧.faults report.new }
     ensures failed { IfErr result (λ v. FailsSo Input.Report (⟦<ReadAhead<R> as Source>⟧.faults report.old) (⟦<ReadAhead<R> as Source>⟧.faults report.new) v × HasScript v) }
 {
@@ -121,6 +124,7 @@ pub(crate) fn answer<R: Source>(
     ensures few { length (audit_of auditor.new).messages ≤ length (audit_of auditor.old).messages + 1 }
     ensures answers { IsAnswer number event.now [] rates.now (audit_of auditor.old) (audit_of auditor.new) imprints.old.items imprints.new.items
         (⟦<ReadAhead<R> as Source>⟧.left report.old) (⟦<ReadAhead<R> as Source>⟧.left report.new) result }
+    ensures counted { AnswerTakes 1 (⟦<ReadAhead<R> as Source>⟧.left report.old) (⟦<ReadAhead<R> as Source>⟧.left report.new) result }
     ensures later { ⟦<ReadAhead<R> as Source>⟧.faults report.old ≤ ⟦<ReadAhead<R> as Source>⟧.faults report.new }
     ensures failed { IfErr result (λ v. FailsSo Input.Report (⟦<ReadAhead<R> as Source>⟧.faults report.old) (⟦<ReadAhead<R> as Source>⟧.faults report.new) v × HasScript v) }
 {

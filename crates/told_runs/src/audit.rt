@@ -1,8 +1,10 @@
 //! The audit of one run.
-ghost use Rattle.std.specs.Prelude.{◌≡◌, ◌+◌, ◌<◌, ◌≤◌, drop, length, IfErr};
+ghost use Rattle.std.specs.Prelude.{◌≡◌, ◌+◌, ◌<◌, ◌≤◌, drop, length, IfErr, IfOk};
 ghost use Rattle.bench.specs.declared.benches.TheConstants.{MOST_MESSAGES};
 ghost use Rattle.told_bench.specs.Seeing.{IsReady, audit_of};
+ghost use Rattle.told_runs.specs.Counted.{HasAnswers};
 ghost use Rattle.told_runs.specs.Reads.{FailsSo};
+ghost use Rattle.told_runs.specs.Takes.{TurnTakes, answers_behind};
 ghost use Rattle.told_runs.specs.Turns.{IsTurn};
 ghost use Rattle.told_runs.specs.Verdicts.{AuditedOf};
 ghost use Rattle.told_runs.specs.declared.verdict.Input.{Input};
@@ -10,7 +12,7 @@ ghost use Rattle.told_runs.specs.declared.verdict.Input.{Input};
 use crate::answers::answer;
 use crate::ends::{LINES, missing_at, over};
 use crate::imprint::Imprint;
-use crate::verdict::{Ending, Input, Verdict};
+use crate::verdict::{Ending, Input, Judgment, Verdict};
 use bench_base::stream::Source;
 use line_runs::lines::{LineRead, read_line};
 use script_text::{is_skipped, read_event};
@@ -18,10 +20,11 @@ use std::alloc::Global;
 use text_streams::ReadAhead;
 use told_bench::Auditor;
 
-// What a line took of the rates, in bytes; and whether the script has ended behind it, without a line end.
+// What a line took: of the rates in bytes, and of the report in lines; and whether the script has ended behind it, without a line end.
 #[derive(Clone, Copy)]
 pub(crate) struct Step {
     pub rates: usize,
+    pub answers: u32,
     pub is_last: bool,
 }
 
@@ -33,6 +36,29 @@ pub fn behind(bytes: &[u8], taken: usize) -> &[u8]
         &bytes[taken..]
     } else {
         &[]
+    }
+}
+
+// The verdict, with the answers before it, and that to `end`, if the run is lawful and has it.
+fn judged(verdict: Verdict, answers: u32) -> Judgment
+    requires few { answers ≤ 1000000 }
+    ensures verdict { result.verdict ≡ verdict }
+    ensures answers { result.answers ≡ answers + answers_behind verdict }
+{
+    let last = match verdict {
+        Verdict::Lawful(Ending::Done) => 1,
+        Verdict::Lawful(Ending::Script(_))
+        | Verdict::Lawful(Ending::TooLong)
+        | Verdict::Stopped(_)
+        | Verdict::Wrong(_, _)
+        | Verdict::Forged(_)
+        | Verdict::More(_)
+        | Verdict::Memory
+        | Verdict::Unread(_, _) => 0,
+    };
+    Judgment {
+        verdict,
+        answers: answers + last,
     }
 }
 
@@ -56,6 +82,8 @@ fn turn<S: Source, R: Source>(
     ensures turns { IsTurn number rates.now (audit_of auditor.old) (audit_of auditor.new) imprints.old.items imprints.new.items
         (⟦<ReadAhead<S> as Source>⟧.left script.old) (⟦<ReadAhead<S> as Source>⟧.left script.new) (⟦<ReadAhead<R> as Source>⟧.left report.old) (⟦<ReadAhead<R> as Source>⟧.left report.new) result }
     ensures script_later { ⟦<ReadAhead<S> as Source>⟧.faults script.old ≤ ⟦<ReadAhead<S> as Source>⟧.faults script.new }
+    ensures counted { TurnTakes (⟦<ReadAhead<R> as Source>⟧.left report.old) (⟦<ReadAhead<R> as Source>⟧.left report.new) result }
+    ensures few_answers { IfOk result (λ step. step.answers ≤ 1) }
     ensures script_failed { IfErr result (FailsSo Input.Script (⟦<ReadAhead<S> as Source>⟧.faults script.old) (⟦<ReadAhead<S> as Source>⟧.faults script.new)) }
     ensures report_later { ⟦<ReadAhead<R> as Source>⟧.faults report.old ≤ ⟦<ReadAhead<R> as Source>⟧.faults report.new }
     ensures report_failed { IfErr result (FailsSo Input.Report (⟦<ReadAhead<R> as Source>⟧.faults report.old) (⟦<ReadAhead<R> as Source>⟧.faults report.new)) }
@@ -69,6 +97,7 @@ fn turn<S: Source, R: Source>(
             if is_skipped(line) {
                 return Ok(Step {
                     rates: 0,
+                    answers: 0,
                     is_last: !is_ended,
                 });
             }
@@ -79,6 +108,7 @@ fn turn<S: Source, R: Source>(
                     ) {
                         Ok(rates) => Ok(Step {
                             rates,
+                            answers: 1,
                             is_last: !is_ended,
                         }),
                         Err(verdict) => Err(verdict),
@@ -96,6 +126,8 @@ fn turn<S: Source, R: Source>(
 /// Script and report are read once, a line at a time, and no further than the verdict asks for: what it says holds whatever stands behind that. `Unread` comes only where a
 /// source's count of faults rose.
 ///
+/// Each line of a report that is lawful is one answer, and they are counted.
+///
 /// What the printer was given in the lines that were paired is put behind the imprints, and what is open of it where the run was stopped. An event whose answer is
 /// begun was done; where that is in doubt a stop is reported as one in which a node lost its power, if it may have. So a run over what was kept may be audited next. No
 /// answer is judged of an event that brings forged bytes: the audit ends there.
@@ -106,20 +138,22 @@ pub fn audit_run<S: Source, R: Source>(
     report: &mut ReadAhead<R>,
     rates: &[u8],
     imprints: &mut Vec<Imprint>,
-) -> Verdict
+) -> Judgment
     requires ready { IsReady (audit_of auditor.old) }
     ensures ready { IsReady (audit_of auditor.new) }
-    ensures audited { AuditedOf result (⟦<ReadAhead<S> as Source>⟧.left script.old) (⟦<ReadAhead<S> as Source>⟧.left script.new) (⟦<ReadAhead<R> as Source>⟧.left report.old) (⟦<ReadAhead<R> as Source>⟧.left report.new) rates.now
+    ensures audited { AuditedOf result.verdict (⟦<ReadAhead<S> as Source>⟧.left script.old) (⟦<ReadAhead<S> as Source>⟧.left script.new) (⟦<ReadAhead<R> as Source>⟧.left report.old) (⟦<ReadAhead<R> as Source>⟧.left report.new) rates.now
         (audit_of auditor.old) (audit_of auditor.new) imprints.old.items imprints.new.items }
+    ensures counted { HasAnswers result.answers (⟦<ReadAhead<R> as Source>⟧.left report.old) (⟦<ReadAhead<R> as Source>⟧.left report.new) result.verdict }
     ensures script_later { ⟦<ReadAhead<S> as Source>⟧.faults script.old ≤ ⟦<ReadAhead<S> as Source>⟧.faults script.new }
-    ensures script_failed { FailsSo Input.Script (⟦<ReadAhead<S> as Source>⟧.faults script.old) (⟦<ReadAhead<S> as Source>⟧.faults script.new) result }
+    ensures script_failed { FailsSo Input.Script (⟦<ReadAhead<S> as Source>⟧.faults script.old) (⟦<ReadAhead<S> as Source>⟧.faults script.new) result.verdict }
     ensures report_later { ⟦<ReadAhead<R> as Source>⟧.faults report.old ≤ ⟦<ReadAhead<R> as Source>⟧.faults report.new }
-    ensures report_failed { FailsSo Input.Report (⟦<ReadAhead<R> as Source>⟧.faults report.old) (⟦<ReadAhead<R> as Source>⟧.faults report.new) result }
+    ensures report_failed { FailsSo Input.Report (⟦<ReadAhead<R> as Source>⟧.faults report.old) (⟦<ReadAhead<R> as Source>⟧.faults report.new) result.verdict }
 {
     auditor.begin();
     let mut line_buf = [0; 600];
     let mut answer_buf = [0; 600];
     let mut left = rates;
+    let mut answers = 0;
     for count in 0..LINES {
         match turn(
             alloc,
@@ -132,14 +166,21 @@ pub fn audit_run<S: Source, R: Source>(
             report,
             left,
         ) {
-            Err(verdict) => return verdict,
+            Err(verdict) => return judged(verdict, answers),
             Ok(step) => {
                 left = behind(left, step.rates);
+                answers += step.answers;
                 if step.is_last {
-                    return over(missing_at(count + 2), count + 2, report);
+                    return Judgment {
+                        verdict: over(missing_at(count + 2), count + 2, report),
+                        answers,
+                    };
                 }
             }
         }
     }
-    over(Ending::TooLong, LINES + 1, report)
+    Judgment {
+        verdict: over(Ending::TooLong, LINES + 1, report),
+        answers,
+    }
 }

@@ -3,6 +3,7 @@ ghost use Rattle.std.specs.Prelude.{◌≤◌, []};
 ghost use Rattle.line_runs.specs.Ends.{EndsAt};
 ghost use Rattle.desk_runs.specs.Scripts.{script_grammar};
 ghost use Rattle.told_runs.specs.Reads.{FailsSo, HasScript, IsRead, OfTexts};
+ghost use Rattle.told_runs.specs.Takes.{EndsAfter};
 ghost use Rattle.told_runs.specs.Turns.{IsOver};
 ghost use Rattle.told_runs.specs.Verdicts.{status_of};
 ghost use Rattle.told_runs.specs.declared.verdict.Input.{Input};
@@ -30,6 +31,7 @@ pub(crate) fn missing_at(number: u32) -> Ending
 // What is said where the script ends so at the line of this number, by what is left of the report.
 pub(crate) fn over<R: Source>(end: Ending, number: u32, report: &mut ReadAhead<R>) -> Verdict
     ensures over { (read : IsRead (⟦<ReadAhead<R> as Source>⟧.left report.old) (⟦<ReadAhead<R> as Source>⟧.left report.new)) × OfTexts read (λ behind told. IsOver end number behind result) }
+    ensures counted { EndsAfter end 0 (⟦<ReadAhead<R> as Source>⟧.left report.old) (⟦<ReadAhead<R> as Source>⟧.left report.new) result }
     ensures later { ⟦<ReadAhead<R> as Source>⟧.faults report.old ≤ ⟦<ReadAhead<R> as Source>⟧.faults report.new }
     ensures failed { FailsSo Input.Report (⟦<ReadAhead<R> as Source>⟧.faults report.old) (⟦<ReadAhead<R> as Source>⟧.faults report.new) result × HasScript result }
 {

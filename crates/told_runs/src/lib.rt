@@ -15,4 +15,4 @@ pub use ends::LINES;
 pub use imprint::{Given, Imprint, Taken};
 pub use line_runs::lines::read_line;
 pub use prints::{Match, match_prints};
-pub use verdict::{Ending, Input, Verdict};
+pub use verdict::{Ending, Input, Judgment, Verdict};

@@ -1,9 +1,10 @@
 //! Where a report ends before the line end of an answer.
-ghost use Rattle.std.specs.Prelude.{◌≡◌, ◌+◌, ◌<◌, ◌≤◌, ℕ, length};
+ghost use Rattle.std.specs.Prelude.{◌≡◌, ◌≢◌, ◌+◌, ◌<◌, ◌≤◌, ℕ, length};
 ghost use Rattle.bench_base.specs.Ranges.{IsWholeEvent};
 ghost use Rattle.bench.specs.declared.benches.TheConstants.{MOST_MESSAGES};
 ghost use Rattle.told_bench.specs.Seeing.{IsReady, audit_of};
 ghost use Rattle.told_runs.specs.Stops.{StopsSo};
+ghost use Rattle.told_runs.specs.declared.verdict.Ending.{Ending};
 ghost use Rattle.told_runs.specs.declared.verdict.Verdict.{Verdict};
 
 use crate::imprint::{Imprint, due_mark, keep, open_in};
@@ -27,6 +28,7 @@ pub(crate) fn stopped(
     requires few { length (audit_of auditor.old).messages < MOST_MESSAGES }
     ensures ready { IsReady (audit_of auditor.new) }
     ensures few { length (audit_of auditor.new).messages ≤ length (audit_of auditor.old).messages + 1 }
+    ensures unlawful { (end : Ending) → result ≢ Verdict.Lawful end }
     ensures short { (n : ℕ) → result ≡ Verdict.Stopped n → length report.now ≤ 256 }
     ensures stops { StopsSo number event.now report.now rates.now (audit_of auditor.old) (audit_of auditor.new) imprints.old.items imprints.new.items result }
 {

@@ -42,3 +42,11 @@ pub enum Verdict {
     /// This failed to be read at the line of this number. The lines before it may be so.
     Unread(Input, u32),
 }
+
+/// What an audit says of one run, and how many answers it judged.
+#[derive(Clone, Copy)]
+pub struct Judgment {
+    pub verdict: Verdict,
+    /// How many lines the report has, if the run is lawful: each is the answer to an event.
+    pub answers: u32,
+}

@@ -1,5 +1,6 @@
 use Rattle.std.proofs.Common.{arith}
 use Rattle.told_bench.specs.Seeing.{audit_of}
+use Rattle.told_runs.proofs.Counting.{line_taken}
 use Rattle.told_runs.proofs.ReadTurns.{line_then, cut_line, no_line, long_answer, unread_answer}
 use Rattle.told_runs.proofs.answers.hear.Goals as goal
 
@@ -26,3 +27,16 @@ returns-in-Long-clause-answers g c =
 pub returns-in-Fault-clause-answers : goal.returns-in-Fault-clause-answers
 returns-in-Fault-clause-answers g c =
     unread_answer c.args.number c.requires.inside c.args.event.now c.args.rates.now (audit_of c.args.auditor.now) (audit_of c.args.auditor.now) c.args.imprints.now.items _ _ c.read_line.new.buf c.in-Fault.ensures.taken
+
+pub returns-then-is_ended-clause-counted : goal.returns-then-is_ended-clause-counted
+returns-then-is_ended-clause-counted g c =
+    line_taken _ _ _ c.read_line.new.buf c.in-Line.len c.in-Line.is_ended c.judge_line.result c.if-is_ended.true c.in-Line.ensures.taken c.judge_line.ensures.counted
+
+pub returns-else-is_ended-clause-counted : goal.returns-else-is_ended-clause-counted
+returns-else-is_ended-clause-counted g c = λ end lawful. absurd (c.stopped.ensures.unlawful end lawful)
+
+pub returns-in-End-clause-counted : goal.returns-in-End-clause-counted
+returns-in-End-clause-counted g c = λ end lawful. absurd (c.stopped-in-End.ensures.unlawful end lawful)
+
+pub returns-in-Long-clause-counted : goal.returns-in-Long-clause-counted
+returns-in-Long-clause-counted g c = λ end lawful. absurd (c.stopped-in-Long.ensures.unlawful end lawful)

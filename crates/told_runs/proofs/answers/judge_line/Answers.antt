@@ -1,5 +1,6 @@
 use Rattle.std.proofs.Common.{◌++◌, ◌∙◌, refl}
 use Rattle.told_bench.specs.Seeing.{audit_of}
+use Rattle.told_runs.proofs.Counting.{took_none}
 use Rattle.told_runs.proofs.WasRead.{of_map, nothing}
 use Rattle.told_runs.proofs.ReadTurns.{unanswered}
 use Rattle.told_runs.proofs.Turning.{wrong, wants, goes_on, ends_here}
@@ -46,3 +47,9 @@ returns-in-Err-clause-answers g c =
     (λ behind script line lines begins.
     let w = wants c.args.number c.requires.inside script line lines c.args.event.now begins (ended c.args.line.now ++ behind) c.args.rates.now (audit_of c.args.auditor.now) (audit_of c.judge.new.auditor) c.args.imprints.now.items in
     (w.0, c.in-Err.ensures.err ∙ w.1))
+
+pub returns-in-Some-clause-counted : goal.returns-in-Some-clause-counted
+returns-in-Some-clause-counted g c = c.over.ensures.counted
+
+pub returns-in-Ok-keep-clause-counted : goal.returns-in-Ok-keep-clause-counted
+returns-in-Ok-keep-clause-counted g c = took_none _

@@ -1,5 +1,7 @@
 use Rattle.std.proofs.Common.{take, refl}
 use Rattle.told_bench.specs.Seeing.{audit_of}
+use Rattle.told_runs.specs.declared.verdict.Ending.TheVariants as ends
+use Rattle.told_runs.proofs.Counting.{took_none, took_at_end}
 use Rattle.told_runs.proofs.ReadTurns.{script_fails, script_ends, script_long, script_bad, script_skips, event_goes, event_falls}
 use Rattle.told_runs.proofs.Turning.{line_of_event, bad_line}
 use Rattle.told_runs.proofs.WasRead.{first_line}
@@ -41,3 +43,21 @@ returns-in-Err-answer-clause-turns g c =
     (take c.in-Line.len c.read_line.new.buf) _ (first_line _ _ c.read_line.new.buf c.in-Line.len c.in-Line.is_ended c.in-Line.ensures.taken)
     c.in-Ok.event (line_of_event c.read_event.result c.in-Ok.event (take c.in-Line.len c.read_line.new.buf) c.read_event.ensures.found c.in-Ok.is)
     (audit_of c.answer.new.auditor) c.answer.new.imprints.items _ _ c.in-Err-answer.verdict c.in-Err-answer.ensures.answers
+
+pub returns-then-is_skipped-clause-counted : goal.returns-then-is_skipped-clause-counted
+returns-then-is_skipped-clause-counted g c = took_none _
+
+pub returns-in-End-clause-counted : goal.returns-in-End-clause-counted
+returns-in-End-clause-counted g c = took_at_end (ends.Script c.args.number) 0 _ _ c.over.result refl c.over.ensures.counted
+
+pub returns-in-Long-clause-counted : goal.returns-in-Long-clause-counted
+returns-in-Long-clause-counted g c = took_at_end (ends.Script c.args.number) 0 _ _ c.over-in-Long.result refl c.over-in-Long.ensures.counted
+
+pub returns-in-Err-clause-counted : goal.returns-in-Err-clause-counted
+returns-in-Err-clause-counted g c = took_at_end (ends.Script c.args.number) 0 _ _ c.over-in-Err.result refl c.over-in-Err.ensures.counted
+
+pub returns-in-Ok-answer-clause-counted : goal.returns-in-Ok-answer-clause-counted
+returns-in-Ok-answer-clause-counted g c = c.in-Ok-answer.ensures.counted
+
+pub returns-in-Err-answer-clause-counted : goal.returns-in-Err-answer-clause-counted
+returns-in-Err-answer-clause-counted g c = took_at_end ends.Done 1 _ _ c.in-Err-answer.verdict refl c.in-Err-answer.ensures.counted

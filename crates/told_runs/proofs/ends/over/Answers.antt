@@ -1,3 +1,4 @@
+use Rattle.told_runs.proofs.Counting.{took_end}
 use Rattle.told_runs.proofs.ReadTurns.{said_lawful, said_line, said_long}
 use Rattle.told_runs.proofs.ends.over.Goals as goal
 
@@ -9,3 +10,6 @@ returns-in-Line-clause-over g c = said_line c.args.end c.args.number _ _ c.read_
 
 pub returns-in-Long-clause-over : goal.returns-in-Long-clause-over
 returns-in-Long-clause-over g c = said_long c.args.end c.args.number _ _ c.read_line.new.buf c.in-Long.ensures.taken
+
+pub returns-in-End-clause-counted : goal.returns-in-End-clause-counted
+returns-in-End-clause-counted g c = λ e lawful. (cc, took_end _ _ c.read_line.new.buf c.in-End.ensures.taken)
