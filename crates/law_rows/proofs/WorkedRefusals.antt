@@ -82,27 +82,27 @@ refusals_step_11 r = row_step sample first_rules _ _ refusals_ledger refusals_le
 
 refusals_step_12 : IsRow sample first_rules (drop 13 refusals_steps) refusals_ledger refusals_ledger → IsRow sample first_rules (drop 12 refusals_steps) refusals_ledger refusals_ledger
 unfolding plan read spell body number spelled request_at reply_at done_at debit_at release_at kind_of verdict_of size_of day_of marks.body marks.spell marks.mark_at marks.read_mark has_code hmac first_words schedule rounds compress hash_after digest_bytes sha256 request_in adds takes verdict verdict_by reply_to mark_after customer_sum same_kind is_worn
-refusals_step_12 r = row_step sample first_rules _ _ refusals_ledger refusals_ledger refusals_ledger tt ((tt, (lit≤ tt, bytes_below (1 ∷ 17 ∷ []) refl)), inl refl) refl r
+refusals_step_12 r = row_step sample first_rules _ _ refusals_ledger refusals_ledger refusals_ledger (λ same. tt) ((tt, (lit≤ tt, bytes_below (1 ∷ 17 ∷ []) refl)), inl refl) refl r
 
 refusals_step_13 : IsRow sample first_rules (drop 14 refusals_steps) refusals_ledger refusals_ledger → IsRow sample first_rules (drop 13 refusals_steps) refusals_ledger refusals_ledger
 unfolding plan read spell body number spelled request_at reply_at done_at debit_at release_at kind_of verdict_of size_of day_of marks.body marks.spell marks.mark_at marks.read_mark has_code hmac first_words schedule rounds compress hash_after digest_bytes sha256 request_in adds takes verdict verdict_by reply_to mark_after customer_sum same_kind is_worn
-refusals_step_13 r = row_step sample first_rules _ _ refusals_ledger refusals_ledger refusals_ledger tt ((tt, (lit≤ tt, bytes_below [] refl)), inl refl) refl r
+refusals_step_13 r = row_step sample first_rules _ _ refusals_ledger refusals_ledger refusals_ledger (λ same. tt) ((tt, (lit≤ tt, bytes_below [] refl)), inl refl) refl r
 
 refusals_step_14 : IsRow sample first_rules (drop 15 refusals_steps) refusals_ledger refusals_ledger → IsRow sample first_rules (drop 14 refusals_steps) refusals_ledger refusals_ledger
 unfolding plan read spell body number spelled request_at reply_at done_at debit_at release_at kind_of verdict_of size_of day_of marks.body marks.spell marks.mark_at marks.read_mark has_code hmac first_words schedule rounds compress hash_after digest_bytes sha256 request_in adds takes verdict verdict_by reply_to mark_after customer_sum same_kind is_worn
-refusals_step_14 r = row_step sample first_rules _ _ refusals_ledger refusals_ledger refusals_ledger tt ((tt, (lit≤ tt, bytes_below (3 ∷ 1 ∷ []) refl)), inl refl) refl r
+refusals_step_14 r = row_step sample first_rules _ _ refusals_ledger refusals_ledger refusals_ledger (λ same. tt) ((tt, (lit≤ tt, bytes_below (3 ∷ 1 ∷ []) refl)), inl refl) refl r
 
 refusals_step_15 : IsRow sample first_rules (drop 16 refusals_steps) refusals_ledger refusals_ledger → IsRow sample first_rules (drop 15 refusals_steps) refusals_ledger refusals_ledger
 unfolding plan read spell body number spelled request_at reply_at done_at debit_at release_at kind_of verdict_of size_of day_of marks.body marks.spell marks.mark_at marks.read_mark has_code hmac first_words schedule rounds compress hash_after digest_bytes sha256 request_in adds takes verdict verdict_by reply_to mark_after customer_sum same_kind is_worn
-refusals_step_15 r = row_step sample first_rules _ _ refusals_ledger refusals_ledger refusals_ledger tt ((tt, (lit≤ tt, bytes_below (1 ∷ 99 ∷ []) refl)), inl refl) refl r
+refusals_step_15 r = row_step sample first_rules _ _ refusals_ledger refusals_ledger refusals_ledger (λ same. tt) ((tt, (lit≤ tt, bytes_below (1 ∷ 99 ∷ []) refl)), inl refl) refl r
 
 refusals_step_16 : IsRow sample first_rules (drop 17 refusals_steps) refusals_ledger refusals_ledger → IsRow sample first_rules (drop 16 refusals_steps) refusals_ledger refusals_ledger
 unfolding plan read spell body number spelled request_at reply_at done_at debit_at release_at kind_of verdict_of size_of day_of marks.body marks.spell marks.mark_at marks.read_mark has_code hmac first_words schedule rounds compress hash_after digest_bytes sha256 request_in adds takes verdict verdict_by reply_to mark_after customer_sum same_kind is_worn
-refusals_step_16 r = row_step sample first_rules _ _ refusals_ledger refusals_ledger refusals_ledger tt (((lit≤ tt, lit≤ tt), (lit≤ tt, bytes_below debit_other refl)), inl refl) refl r
+refusals_step_16 r = row_step sample first_rules _ _ refusals_ledger refusals_ledger refusals_ledger (λ same. tt) (((lit≤ tt, lit≤ tt), (lit≤ tt, bytes_below debit_other refl)), inl refl) refl r
 
 refusals_step_17 : IsRow sample first_rules (drop 18 refusals_steps) refusals_ledger refusals_ledger → IsRow sample first_rules (drop 17 refusals_steps) refusals_ledger refusals_ledger
 unfolding plan read spell body number spelled request_at reply_at done_at debit_at release_at kind_of verdict_of size_of day_of marks.body marks.spell marks.mark_at marks.read_mark has_code hmac first_words schedule rounds compress hash_after digest_bytes sha256 request_in adds takes verdict verdict_by reply_to mark_after customer_sum same_kind is_worn
-refusals_step_17 r = row_step sample first_rules _ _ refusals_ledger refusals_ledger refusals_ledger tt (((lit≤ tt, lit≤ tt), (lit≤ tt, bytes_below debit_2 refl)), inl refl) refl r
+refusals_step_17 r = row_step sample first_rules _ _ refusals_ledger refusals_ledger refusals_ledger (λ same. tt) (((lit≤ tt, lit≤ tt), (lit≤ tt, bytes_below debit_2 refl)), inl refl) refl r
 
 pub refusals_row : IsRow sample first_rules refusals_steps settled_ledger refusals_ledger
 refusals_row = refusals_step_0 (refusals_step_1 (refusals_step_2 (refusals_step_3 (refusals_step_4 (refusals_step_5 (refusals_step_6 (refusals_step_7 (refusals_step_8 (refusals_step_9 (refusals_step_10 (refusals_step_11 (refusals_step_12 (refusals_step_13 (refusals_step_14 (refusals_step_15 (refusals_step_16 (refusals_step_17 (row_done sample first_rules refusals_ledger))))))))))))))))))
@@ -129,15 +129,15 @@ scans_9 = e.Commit (c.Accepted 1 2 3) ∷ scans_8
 
 scans_step_0 : IsRow sample first_rules (drop 1 scans_steps) scans_1 scans_ledger → IsRow sample first_rules (drop 0 scans_steps) ordinary_ledger scans_ledger
 unfolding plan read spell body number spelled request_at reply_at done_at debit_at release_at kind_of verdict_of size_of day_of marks.body marks.spell marks.mark_at marks.read_mark has_code hmac first_words schedule rounds compress hash_after digest_bytes sha256 request_in adds takes verdict verdict_by reply_to mark_after customer_sum same_kind is_worn
-scans_step_0 r = row_step sample first_rules _ _ ordinary_ledger scans_1 scans_ledger tt (((lit≤ tt, lit≤ tt), (lit≤ tt, bytes_below debit_2 refl)), inl refl) refl r
+scans_step_0 r = row_step sample first_rules _ _ ordinary_ledger scans_1 scans_ledger (λ same. tt) (((lit≤ tt, lit≤ tt), (lit≤ tt, bytes_below debit_2 refl)), inl refl) refl r
 
 scans_step_1 : IsRow sample first_rules (drop 2 scans_steps) scans_2 scans_ledger → IsRow sample first_rules (drop 1 scans_steps) scans_1 scans_ledger
 unfolding plan read spell body number spelled request_at reply_at done_at debit_at release_at kind_of verdict_of size_of day_of marks.body marks.spell marks.mark_at marks.read_mark has_code hmac first_words schedule rounds compress hash_after digest_bytes sha256 request_in adds takes verdict verdict_by reply_to mark_after customer_sum same_kind is_worn
-scans_step_1 r = row_step sample first_rules _ _ scans_1 scans_2 scans_ledger tt (((lit≤ tt, lit≤ tt), (lit≤ tt, bytes_below debit_2 refl)), inl refl) refl r
+scans_step_1 r = row_step sample first_rules _ _ scans_1 scans_2 scans_ledger (λ same. tt) (((lit≤ tt, lit≤ tt), (lit≤ tt, bytes_below debit_2 refl)), inl refl) refl r
 
 scans_step_2 : IsRow sample first_rules (drop 3 scans_steps) scans_3 scans_ledger → IsRow sample first_rules (drop 2 scans_steps) scans_2 scans_ledger
 unfolding plan read spell body number spelled request_at reply_at done_at debit_at release_at kind_of verdict_of size_of day_of marks.body marks.spell marks.mark_at marks.read_mark has_code hmac first_words schedule rounds compress hash_after digest_bytes sha256 request_in adds takes verdict verdict_by reply_to mark_after customer_sum same_kind is_worn
-scans_step_2 r = row_step sample first_rules _ _ scans_2 scans_3 scans_ledger tt (((lit≤ tt, lit≤ tt), (lit≤ tt, bytes_below debit_3 refl)), inl refl) refl r
+scans_step_2 r = row_step sample first_rules _ _ scans_2 scans_3 scans_ledger (λ same. tt) (((lit≤ tt, lit≤ tt), (lit≤ tt, bytes_below debit_3 refl)), inl refl) refl r
 
 scans_step_3 : IsRow sample first_rules (drop 4 scans_steps) scans_3 scans_ledger → IsRow sample first_rules (drop 3 scans_steps) scans_3 scans_ledger
 unfolding plan read spell body number spelled request_at reply_at done_at debit_at release_at kind_of verdict_of size_of day_of marks.body marks.spell marks.mark_at marks.read_mark has_code hmac first_words schedule rounds compress hash_after digest_bytes sha256 request_in adds takes verdict verdict_by reply_to mark_after customer_sum same_kind is_worn
