@@ -1,4 +1,5 @@
 pub mod Behind
+pub mod Checking
 pub mod Firsts
 pub mod InPlace
 pub mod InSlots

@@ -1,6 +1,10 @@
 -- Promised: public contracts name these.
+pub mod Checks
+pub mod Texts
 pub mod Wrong
 -- Of this crate alone.
 pub mod Forms
 pub mod Keywords
 pub mod Slots
+-- Bookkeeping: private calls and proofs alone name these.
+pub mod Turns

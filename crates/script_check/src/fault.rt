@@ -1,4 +1,7 @@
 //! What is wrong with a line, and the text of it.
+ghost use Rattle.std.specs.Prelude.{Some, option_map};
+ghost use Rattle.script_check.specs.Texts.{fault_text, found_text, hint_text, slot_text, wanted_text, word_text};
+
 use crate::shown::Shown;
 use crate::slots::Slot;
 use std::fmt;
@@ -63,6 +66,8 @@ pub enum Fault<'a> {
 }
 
 impl fmt::Display for Slot {
+    ghost output = { λ s. Some (slot_text s) };
+
     fn fmt<W: fmt::Write>(&self, f: &mut fmt::Formatter<W>) -> fmt::Result {
         f.write_str(match self {
             Slot::Date => "a date from 2000-01-01 to 2199-12-31",
@@ -85,6 +90,8 @@ impl fmt::Display for Slot {
 }
 
 impl fmt::Display for Wanted {
+    ghost output = { λ w. Some (wanted_text w) };
+
     fn fmt<W: fmt::Write>(&self, f: &mut fmt::Formatter<W>) -> fmt::Result {
         match self {
             Wanted::Keyword => f.write_str("the first word of an event"),
@@ -96,6 +103,8 @@ impl fmt::Display for Wanted {
 }
 
 impl fmt::Display for Hint {
+    ghost output = { λ h. Some (hint_text h) };
+
     fn fmt<W: fmt::Write>(&self, f: &mut fmt::Formatter<W>) -> fmt::Result {
         f.write_str(match self {
             Hint::Nothing => "",
@@ -109,18 +118,36 @@ impl fmt::Display for Hint {
     }
 }
 
-impl<'a> fmt::Display for WordFault<'a> {
+// What is found at the place of a word: it, or the end of the line.
+#[derive(Clone, Copy)]
+struct Found<'a>(Option<&'a [u8]>);
+
+impl<'a> fmt::Display for Found<'a> {
+    ghost output = { λ f. Some (found_text (option_map (λ w. w.now) f.0)) };
+
     fn fmt<W: fmt::Write>(&self, f: &mut fmt::Formatter<W>) -> fmt::Result {
-        write!(f, "word {}: expected {}, found ", self.place, self.wanted)?;
-        match self.found {
-            Some(word) => write!(f, "{}", Shown(word))?,
-            None => f.write_str("the end of the line")?,
+        match self.0 {
+            Some(word) => write!(f, "{}", Shown(word)),
+            None => f.write_str("the end of the line"),
         }
-        write!(f, "{}", self.hint)
+    }
+}
+
+impl<'a> fmt::Display for WordFault<'a> {
+    ghost output = { λ f. Some (word_text f) };
+
+    fn fmt<W: fmt::Write>(&self, f: &mut fmt::Formatter<W>) -> fmt::Result {
+        let place = self.place;
+        let wanted = self.wanted;
+        let found = Found(self.found);
+        let hint = self.hint;
+        write!(f, "word {place}: expected {wanted}, found {found}{hint}")
     }
 }
 
 impl<'a> fmt::Display for Fault<'a> {
+    ghost output = { λ f. Some (fault_text f) };
+
     fn fmt<W: fmt::Write>(&self, f: &mut fmt::Formatter<W>) -> fmt::Result {
         match self {
             Fault::Word(fault) => write!(f, "{fault}"),

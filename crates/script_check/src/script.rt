@@ -1,5 +1,13 @@
 //! What is wrong with a whole script.
-ghost use Rattle.std.specs.Prelude.{◌≤◌, Err, IfOk};
+ghost use Rattle.std.specs.Prelude.{◌≡◌, ◌≢◌, ◌↔◌, ◌+◌, ◌≤◌, ◌&&◌, ◌++◌, false, codes, Err, IfOk, IsTrue, OnOk};
+ghost use Rattle.std.specs.Io.KnownBytes.{Appends};
+ghost use Rattle.bench_base.specs.Causes.{Rose};
+ghost use Rattle.script_check.specs.Checks.{Checks, FailsSo};
+ghost use Rattle.script_check.specs.Texts.{line_text};
+ghost use Rattle.script_check.specs.Turns.{LineSteps, LooksAt, LooksBehind, LooksOver, Steps};
+ghost use Rattle.script_check.specs.declared.fault.Fault.{Fault};
+ghost use Rattle.script_check.specs.declared.script.CheckFail.{CheckFail};
+ghost use Rattle.script_check.specs.declared.script.Step.{Step};
 
 use crate::fault::Fault;
 use crate::line::check_line;
@@ -47,7 +55,12 @@ fn tell<K: Sink>(
     number: u32,
     fault: Fault<'_>,
     faults: &mut K,
-) -> Result<(), CheckFail> {
+) -> Result<(), CheckFail>
+    ensures told { OnOk result (Appends (K.taken faults.old) (K.taken faults.new) (line_text number fault.entry)) }
+    ensures read { result ≢ Err CheckFail.Read }
+    ensures later { K.faults faults.old ≤ K.faults faults.new }
+    ensures write { result ≡ Err CheckFail.Write → Rose (K.faults faults.old) (K.faults faults.new) }
+{
     let Ok(text) = format!(in alloc; "line {number}: {fault}\n") else {
         return Err(CheckFail::Memory);
     };
@@ -63,61 +76,154 @@ fn look_at<K: Sink>(
     number: u32,
     line: &[u8],
     faults: &mut K,
-) -> Result<bool, CheckFail> {
+) -> Result<bool, CheckFail>
+    ensures looks { IfOk result (λ is_right. LooksAt number line.now is_right (K.taken faults.old) (K.taken faults.new)) }
+    ensures read { result ≢ Err CheckFail.Read }
+    ensures later { K.faults faults.old ≤ K.faults faults.new }
+    ensures write { result ≡ Err CheckFail.Write → Rose (K.faults faults.old) (K.faults faults.new) }
+{
     if is_skipped(line) {
         return Ok(true);
     }
     match check_line(line) {
         None => Ok(true),
-        Some(fault) => {
-            tell(alloc, number, Fault::Word(fault), faults)?;
-            Ok(false)
-        }
+        Some(fault) => match tell(alloc, number, Fault::Word(fault), faults) {
+            Ok(()) => Ok(false),
+            Err(fail) => Err(fail),
+        },
     }
 }
 
-// Whether nothing stands behind `end`, which is the line before this number.
+// Writes that the line of this number is after `end`.
+fn tell_behind<K: Sink>(alloc: Global, number: u32, faults: &mut K) -> Result<bool, CheckFail>
+    ensures wrong { IfOk result (λ is_right. is_right ≡ false) }
+    ensures told { OnOk result (Appends (K.taken faults.old) (K.taken faults.new) (line_text number Fault.BehindEnd)) }
+    ensures read { result ≢ Err CheckFail.Read }
+    ensures later { K.faults faults.old ≤ K.faults faults.new }
+    ensures write { result ≡ Err CheckFail.Write → Rose (K.faults faults.old) (K.faults faults.new) }
+{
+    match tell(alloc, number, Fault::BehindEnd, faults) {
+        Ok(()) => Ok(false),
+        Err(fail) => Err(fail),
+    }
+}
+
+// Whether nothing is after `end`, which is the line before this number.
 fn look_behind<S: BufSource, K: Sink>(
     alloc: Global,
     number: u32,
     buf: &mut [u8; 600],
     script: &mut S,
     faults: &mut K,
-) -> Result<bool, CheckFail> {
+) -> Result<bool, CheckFail>
+    ensures looks { IfOk result (λ is_right. LooksBehind number is_right (S.left script.old) (S.left script.new) (K.taken faults.old) (K.taken faults.new)) }
+    ensures fails { FailsSo (S.faults script.old) (S.faults script.new) (K.faults faults.old) (K.faults faults.new) result }
+{
     match read_line(script, buf) {
         LineRead::End => Ok(true),
         LineRead::Fault => Err(CheckFail::Read),
-        LineRead::Line(_, _) | LineRead::Long => {
-            tell(alloc, number, Fault::BehindEnd, faults)?;
-            Ok(false)
-        }
+        LineRead::Line(_, _) => tell_behind(alloc, number, faults),
+        LineRead::Long => tell_behind(alloc, number, faults),
     }
 }
 
-// What follows a line that was looked at, and with which nothing is wrong, or something is.
-fn go_on<S: BufSource, K: Sink>(
+// Looks whether nothing is after `end`, with which the check is over.
+fn look_over<S: BufSource, K: Sink>(
     alloc: Global,
     number: u32,
-    is_end: bool,
-    is_ended: bool,
-    is_right: bool,
     buf: &mut [u8; 600],
     script: &mut S,
     faults: &mut K,
 ) -> Result<Step, CheckFail>
-    requires inside { number ≤ 1000000 }
+    ensures looks { IfOk result (LooksOver number (S.left script.old) (S.left script.new) (K.taken faults.old) (K.taken faults.new)) }
+    ensures fails { FailsSo (S.faults script.old) (S.faults script.new) (K.faults faults.old) (K.faults faults.new) result }
 {
-    if !is_ended {
-        tell(alloc, number, Fault::NoLineEnd, faults)?;
-        if !is_end {
-            tell(alloc, number + 1, Fault::NoEnd, faults)?;
-        }
-        return Ok(Step::Over(false));
+    match look_behind(alloc, number, buf, script, faults) {
+        Ok(is_right) => Ok(Step::Over(is_right)),
+        Err(fail) => Err(fail),
     }
-    if is_end {
-        return Ok(Step::Over(look_behind(alloc, number + 1, buf, script, faults)?));
+}
+
+// Writes what is wrong at the line of this number, with which the check is over.
+fn tell_last<K: Sink>(
+    alloc: Global,
+    number: u32,
+    fault: Fault<'_>,
+    faults: &mut K,
+) -> Result<Step, CheckFail>
+    ensures over { IfOk result (λ step. step ≡ Step.Over false) }
+    ensures told { OnOk result (Appends (K.taken faults.old) (K.taken faults.new) (line_text number fault.entry)) }
+    ensures read { result ≢ Err CheckFail.Read }
+    ensures later { K.faults faults.old ≤ K.faults faults.new }
+    ensures write { result ≡ Err CheckFail.Write → Rose (K.faults faults.old) (K.faults faults.new) }
+{
+    match tell(alloc, number, fault, faults) {
+        Ok(()) => Ok(Step::Over(false)),
+        Err(fail) => Err(fail),
     }
-    Ok(Step::On(is_right))
+}
+
+// Writes that the last line, of this number, has no line end, and that no `end` follows it.
+fn tell_unended<K: Sink>(alloc: Global, number: u32, faults: &mut K) -> Result<Step, CheckFail>
+    requires inside { number ≤ 1000000 }
+    ensures over { IfOk result (λ step. step ≡ Step.Over false) }
+    ensures told { OnOk result (Appends (K.taken faults.old) (K.taken faults.new) (line_text number Fault.NoLineEnd ++ line_text (number + 1) Fault.NoEnd)) }
+    ensures read { result ≢ Err CheckFail.Read }
+    ensures later { K.faults faults.old ≤ K.faults faults.new }
+    ensures write { result ≡ Err CheckFail.Write → Rose (K.faults faults.old) (K.faults faults.new) }
+{
+    match tell(alloc, number, Fault::NoLineEnd, faults) {
+        Ok(()) => tell_last(alloc, number + 1, Fault::NoEnd, faults),
+        Err(fail) => Err(fail),
+    }
+}
+
+// Looks at the last line of a script, of this number, which has no line end and is not `end`.
+fn look_at_last<K: Sink>(
+    alloc: Global,
+    number: u32,
+    line: &[u8],
+    faults: &mut K,
+) -> Result<Step, CheckFail>
+    requires inside { number ≤ 1000000 }
+    ensures looks { IfOk result (LineSteps number line.now false (K.taken faults.old) (K.taken faults.new)) }
+    ensures read { result ≢ Err CheckFail.Read }
+    ensures later { K.faults faults.old ≤ K.faults faults.new }
+    ensures write { result ≡ Err CheckFail.Write → Rose (K.faults faults.old) (K.faults faults.new) }
+{
+    match look_at(alloc, number, line, faults) {
+        Ok(_) => tell_unended(alloc, number, faults),
+        Err(fail) => Err(fail),
+    }
+}
+
+// Looks at the line of this number, which is not `end`.
+fn look_at_line<K: Sink>(
+    alloc: Global,
+    number: u32,
+    line: &[u8],
+    is_ended: bool,
+    faults: &mut K,
+) -> Result<Step, CheckFail>
+    requires inside { number ≤ 1000000 }
+    ensures looks { IfOk result (LineSteps number line.now is_ended (K.taken faults.old) (K.taken faults.new)) }
+    ensures read { result ≢ Err CheckFail.Read }
+    ensures later { K.faults faults.old ≤ K.faults faults.new }
+    ensures write { result ≡ Err CheckFail.Write → Rose (K.faults faults.old) (K.faults faults.new) }
+{
+    if is_ended {
+        return match look_at(alloc, number, line, faults) {
+            Ok(is_right) => Ok(Step::On(is_right)),
+            Err(fail) => Err(fail),
+        };
+    }
+    look_at_last(alloc, number, line, faults)
+}
+
+fn is_end(line: &[u8]) -> bool
+    ensures { IsTrue result ↔ (line.now ≡ codes "end") }
+{
+    line == b"end".as_slice()
 }
 
 // Reads the line of this number and looks at it.
@@ -129,26 +235,30 @@ fn turn<S: BufSource, K: Sink>(
     faults: &mut K,
 ) -> Result<Step, CheckFail>
     requires inside { number ≤ 1000000 }
+    ensures steps { IfOk result (Steps number (S.left script.old) (S.left script.new) (K.taken faults.old) (K.taken faults.new)) }
+    ensures fails { FailsSo (S.faults script.old) (S.faults script.new) (K.faults faults.old) (K.faults faults.new) result }
 {
     match read_line(script, buf) {
         LineRead::Fault => Err(CheckFail::Read),
-        LineRead::Long => {
-            tell(alloc, number, Fault::Long, faults)?;
-            Ok(Step::Over(false))
-        }
-        LineRead::End => {
-            tell(alloc, number, Fault::NoEnd, faults)?;
-            Ok(Step::Over(false))
-        }
+        LineRead::Long => tell_last(alloc, number, Fault::Long, faults),
+        LineRead::End => tell_last(alloc, number, Fault::NoEnd, faults),
         LineRead::Line(len, is_ended) => {
             let line = &buf[..len as usize];
-            let is_end = line == b"end".as_slice();
-            let is_right = look_at(alloc, number, line, faults)?;
-            go_on(
-                alloc, number, is_end, is_ended, is_right, buf, script, faults,
-            )
+            if is_end(line) {
+                if is_ended {
+                    return look_over(alloc, number + 1, buf, script, faults);
+                }
+                return tell_last(alloc, number, Fault::NoLineEnd, faults);
+            }
+            look_at_line(alloc, number, line, is_ended, faults)
         }
     }
+}
+
+fn both(one: bool, other: bool) -> bool
+    ensures { result ≡ one && other }
+{
+    one && other
 }
 
 /// Looks at each line of a script, up to its `end`, and writes each fault as a line: `line N: ` and its text, N counted from 1.
@@ -160,24 +270,28 @@ pub fn check_script<S: BufSource, K: Sink>(
     script: &mut S,
     faults: &mut K,
 ) -> Result<Checked, CheckFail>
-    ensures few { IfOk result (λ c. c.lines ≤ 1000000) }
+    ensures checks { IfOk result (λ c. Checks c (S.left script.old) (S.left script.new) (K.taken faults.old) (K.taken faults.new)) }
+    ensures fails { FailsSo (S.faults script.old) (S.faults script.new) (K.faults faults.old) (K.faults faults.new) result }
 {
     let mut buf = [0; 600];
     let mut is_well_formed = true;
     for count in 0..LINES {
-        match turn(alloc, count + 1, &mut buf, script, faults)? {
-            Step::On(is_right) => is_well_formed = is_well_formed && is_right,
-            Step::Over(is_right) => {
+        match turn(alloc, count + 1, &mut buf, script, faults) {
+            Err(fail) => return Err(fail),
+            Ok(Step::On(is_right)) => is_well_formed = both(is_well_formed, is_right),
+            Ok(Step::Over(is_right)) => {
                 return Ok(Checked {
                     lines: count + 1,
-                    is_well_formed: is_well_formed && is_right,
+                    is_well_formed: both(is_well_formed, is_right),
                 });
             }
         }
     }
-    tell(alloc, LINES, Fault::TooLong, faults)?;
-    Ok(Checked {
-        lines: LINES,
-        is_well_formed: false,
-    })
+    match tell(alloc, LINES, Fault::TooLong, faults) {
+        Ok(()) => Ok(Checked {
+            lines: LINES,
+            is_well_formed: false,
+        }),
+        Err(fail) => Err(fail),
+    }
 }
