@@ -91,6 +91,14 @@ fn is_settled(bench: Bench<FileNv>) -> bool
         && stores.verifier.is_settled()
 }
 
+// The text, or none.
+fn text_of(text: &Option<String>) -> &str {
+    match text {
+        Some(text) => text.as_str(),
+        None => "",
+    }
+}
+
 // Remembers a clean end, if each storage that was used is settled. If it can't be remembered the next start writes the storages again.
 fn remember_end(
     rt: &HostRuntime,
@@ -103,10 +111,7 @@ fn remember_end(
     if !is_settled(bench) {
         return;
     }
-    let before = match &remembered {
-        Some(text) => text.as_str(),
-        None => "",
-    };
+    let before = text_of(&remembered);
     let _ = match own {
         None => remember(rt, &STORES[..BENCH_STORES], before),
         Some(own) if own.is_settled => remember(rt, &with_own(own.file), before),
