@@ -13,6 +13,14 @@ pub data Brought : Type 0 where
   -- they are scanned
   Scanned : List ℕ → Brought
 
+-- the message of the run that an event is about
+pub data About : Type 0 where
+  NoMessage : About
+  -- the message of this number is delivered
+  Delivered : ℕ → About
+  -- under a number, the message of this number is scanned
+  ScannedAs : ℕ → ℕ → About
+
 -- what an event needs, and what it may do
 pub record Needs : Type 0 where
   -- the node that it is for; nothing if it is the bench's own, or if a message names the node
@@ -31,10 +39,12 @@ pub record Needs : Type 0 where
   pub rates : Bool
   -- what it takes from outside
   pub brings : Brought
+  -- the message that it is about
+  pub message : About
 
 -- the bench's own: it needs nothing, it sets the day, or it reads the rates to come
 abbrev pub apart : Needs
-apart = record { node = None; day = false; on = false; commits = false; calls = 0; sets = None; rates = false; brings = Nothing }
+apart = record { node = None; day = false; on = false; commits = false; calls = 0; sets = None; rates = false; brings = Nothing; message = NoMessage }
 
 -- it sets the day
 abbrev pub dates : ℤ → Needs
@@ -64,9 +74,9 @@ changes n = record apart { node = Some n; day = true; on = true; commits = true;
 abbrev pub takes : Node → Brought → Needs
 takes n bytes = record (changes n) { brings = bytes }
 
--- of the node that a message is for
-abbrev pub delivers : Needs
-delivers = record apart { day = true; on = true; commits = true; calls = 6 }
+-- of the node that this message is for
+abbrev pub delivers : ℕ → Needs
+delivers k = record apart { day = true; on = true; commits = true; calls = 6; message = Delivered k }
 
 -- the row of each event
 abbrev pub needs : Event → Needs
@@ -86,14 +96,14 @@ needs (ev.OpenCustomer w) = changes Centre
 needs (ev.Deposit w receipt amount) = changes Centre
 needs (ev.Flag w suspended) = changes Centre
 needs (ev.Balance w) = asks Centre
-needs (ev.Deliver k) = delivers
+needs (ev.Deliver k) = delivers k
 needs (ev.Give n bytes) = takes n (Handed n bytes)
 needs (ev.Order d piece class grams zone) = changes Host
 needs (ev.Send j) = asks Host
 needs (ev.Print j) = changes Host
 needs (ev.Close j) = changes Host
 needs (ev.Trust d key) = changes Verifier
-needs (ev.ScanMsg scan k) = changes Verifier
+needs (ev.ScanMsg scan k) = record (changes Verifier) { message = ScannedAs scan k }
 needs (ev.ScanHex scan bytes) = takes Verifier (Scanned bytes)
 needs (ev.Reconcile d) = asks (Device d)
 needs ev.End = apart

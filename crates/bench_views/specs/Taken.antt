@@ -5,6 +5,7 @@ use Rattle.bench_base.specs.declared.words.Node.{Node}
 use Rattle.bench_base.specs.declared.words.Node.TheVariants.{Device, Centre, Host, Verifier}
 use Rattle.bench_base.specs.declared.events.Event.{Event}
 use Rattle.bench_base.specs.declared.events.Event.TheVariants as ev
+use Rattle.bench_base.specs.Events.{About, NoMessage, Delivered, ScannedAs, needs}
 use Rattle.node_acts.specs.declared.asked.Asked.{Asked}
 use Rattle.node_acts.specs.declared.asked.Asked.TheVariants.{On, Off, Cut, Call}
 use Rattle.node_acts.specs.Kinds.{OfCall}
@@ -122,36 +123,16 @@ abbrev pub as_scanned_by : ℕ → ℕ → Option (List ℕ) → Event
 as_scanned_by n k None = ev.ScanMsg n k
 as_scanned_by n k (Some bytes) = ev.ScanHex n (drop 2 bytes)
 
+-- an event by the message that it is about
+abbrev pub as_given_by_message : List (List ℕ) → Event → About → Event
+as_given_by_message pool e NoMessage = e
+as_given_by_message pool e (Delivered k) = as_given_by k (slice_get pool k)
+as_given_by_message pool e (ScannedAs scan k) = as_scanned_by scan k (slice_get pool k)
+
 -- to deliver a message is to give its bytes to the node that it is for, and to scan one is to scan its bytes; of any other event
 -- nothing is changed
 abbrev pub as_given : List (List ℕ) → Event → Event
-as_given pool (ev.Deliver k) = as_given_by k (slice_get pool k)
-as_given pool (ev.ScanMsg scan k) = as_scanned_by scan k (slice_get pool k)
-as_given pool (ev.Day t) = ev.Day t
-as_given pool ev.Rates = ev.Rates
-as_given pool (ev.Make d key) = ev.Make d key
-as_given pool (ev.On n) = ev.On n
-as_given pool (ev.Off n) = ev.Off n
-as_given pool (ev.Cut n calls keep byte) = ev.Cut n calls keep byte
-as_given pool (ev.Debit d piece postage class) = ev.Debit d piece postage class
-as_given pool (ev.Ask d kind who amount) = ev.Ask d kind who amount
-as_given pool (ev.Resend d) = ev.Resend d
-as_given pool (ev.Ack d) = ev.Ack d
-as_given pool (ev.Status d) = ev.Status d
-as_given pool (ev.Register d origin key) = ev.Register d origin key
-as_given pool (ev.OpenCustomer w) = ev.OpenCustomer w
-as_given pool (ev.Deposit w receipt amount) = ev.Deposit w receipt amount
-as_given pool (ev.Flag w suspended) = ev.Flag w suspended
-as_given pool (ev.Balance w) = ev.Balance w
-as_given pool (ev.Give n bytes) = ev.Give n bytes
-as_given pool (ev.Order d piece class grams zone) = ev.Order d piece class grams zone
-as_given pool (ev.Send j) = ev.Send j
-as_given pool (ev.Print j) = ev.Print j
-as_given pool (ev.Close j) = ev.Close j
-as_given pool (ev.Trust d key) = ev.Trust d key
-as_given pool (ev.ScanHex scan bytes) = ev.ScanHex scan bytes
-as_given pool (ev.Reconcile d) = ev.Reconcile d
-as_given pool ev.End = ev.End
+as_given pool e = as_given_by_message pool e (needs e).message
 
 -- == prices ==
 
