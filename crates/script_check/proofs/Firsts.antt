@@ -1,15 +1,11 @@
 -- The first word that no event has there.
 use Rattle.std.proofs.Common.{◌≡◌, ◌≢◌, ℕ, suc, ◌+◌, ◌-◌, ◌≤◌, ◌<◌, ◌⊎◌, List, [], ◌∷◌, ◌++◌, length, take, refl, sym, subst, inl, inr, arith, codes}
 use Rattle.bench_base.specs.declared.events.Event.TheVariants as ev
-use Rattle.script_text.specs.declared.keyword.Keyword.{Keyword as Theirs}
-use Rattle.script_text.specs.declared.keyword.Keyword.TheVariants as theirs
-use Rattle.script_text.specs.Keywords.{keyword_word as their_word}
 use Rattle.script_text.proofs.ByKeyword.{no_keyword}
 use Rattle.script_check.specs.Forms.{first_form, second_form, AreInPlace, IsTaken}
-use Rattle.script_check.specs.Keywords.{keyword_word}
+use Rattle.script_text.specs.Keywords.{keyword_word}
 use Rattle.script_check.specs.Wrong.{BeginAnEvent, IsFirstWrong}
-use Rattle.script_check.specs.declared.keyword.Keyword.{Keyword}
-use Rattle.script_check.specs.declared.keyword.Keyword.TheVariants as kw
+use Rattle.script_text.specs.declared.keyword.Keyword.{Keyword}
 use Rattle.script_check.proofs.InPlace.{completed, fewer}
 use Rattle.script_check.proofs.MadeEvents.{made_first, made_second}
 use Rattle.script_check.proofs.NoEvents.{none_begins}
@@ -65,36 +61,7 @@ wrong_behind k ws first second most place one two le le' which is =
 pub wrong_alone : (k : Keyword) (place : ℕ) → place ≡ 2 → IsFirstWrong place (keyword_word k ∷ [])
 wrong_alone k place is = at_place 1 place (keyword_word k ∷ []) (omega (arith, is)) (omega arith) (begin_first k [] tt) (λ more begin. omega (arith, more))
 
-their_keyword : (w : List ℕ) → ((k : Keyword) → w ≢ keyword_word k) → (k : Theirs) → w ≢ their_word k
-their_keyword w none theirs.Day = none kw.Day
-their_keyword w none theirs.Rates = none kw.Rates
-their_keyword w none theirs.Make = none kw.Make
-their_keyword w none theirs.On = none kw.On
-their_keyword w none theirs.Off = none kw.Off
-their_keyword w none theirs.Cut = none kw.Cut
-their_keyword w none theirs.Debit = none kw.Debit
-their_keyword w none theirs.Ask = none kw.Ask
-their_keyword w none theirs.Resend = none kw.Resend
-their_keyword w none theirs.Ack = none kw.Ack
-their_keyword w none theirs.Status = none kw.Status
-their_keyword w none theirs.Register = none kw.Register
-their_keyword w none theirs.Customer = none kw.Customer
-their_keyword w none theirs.Deposit = none kw.Deposit
-their_keyword w none theirs.Suspend = none kw.Suspend
-their_keyword w none theirs.Resume = none kw.Resume
-their_keyword w none theirs.Balance = none kw.Balance
-their_keyword w none theirs.Deliver = none kw.Deliver
-their_keyword w none theirs.Give = none kw.Give
-their_keyword w none theirs.Order = none kw.Order
-their_keyword w none theirs.Send = none kw.Send
-their_keyword w none theirs.Print = none kw.Print
-their_keyword w none theirs.Close = none kw.Close
-their_keyword w none theirs.Trust = none kw.Trust
-their_keyword w none theirs.Scan = none kw.Scan
-their_keyword w none theirs.Reconcile = none kw.Reconcile
-their_keyword w none theirs.End = none kw.End
-
 -- a line whose first word is no keyword
 pub wrong_first : (w : List ℕ) (ws : List (List ℕ)) (place : ℕ) → place ≡ 1 → ((k : Keyword) → w ≢ keyword_word k) → IsFirstWrong place (w ∷ ws)
 wrong_first w ws place is none =
-    at_place 0 place (w ∷ ws) is (omega arith) (ev.End, codes "end" ∷ [], tt, refl) (λ some b. no_keyword w b.1 (their_keyword w none) b.0 b.2 b.3)
+    at_place 0 place (w ∷ ws) is (omega arith) (ev.End, codes "end" ∷ [], tt, refl) (λ some b. no_keyword w b.1 none b.0 b.2 b.3)

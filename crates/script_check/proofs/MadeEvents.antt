@@ -6,9 +6,9 @@ use Rattle.bench_base.specs.declared.events.Event.TheVariants as ev
 use Rattle.bench_base.specs.Ranges.{IsWholeEvent}
 use Rattle.script_text.specs.Grammar.{AreWordsOf}
 use Rattle.script_check.specs.Forms.{first_form, second_form}
-use Rattle.script_check.specs.Keywords.{keyword_word}
-use Rattle.script_check.specs.declared.keyword.Keyword.{Keyword}
-use Rattle.script_check.specs.declared.keyword.Keyword.TheVariants as kw
+use Rattle.script_text.specs.Keywords.{keyword_word}
+use Rattle.script_text.specs.declared.keyword.Keyword.{Keyword}
+use Rattle.script_text.specs.declared.keyword.Keyword.TheVariants as kw
 use Rattle.script_check.proofs.InPlace.{Fits}
 
 -- some event has these words

@@ -5,13 +5,12 @@ use Rattle.bench_base.specs.declared.words.Kind.TheVariants.{Enrol, Reset, Audit
 use Rattle.bench_base.specs.Ranges.{IsAsk, IsDevice}
 use Rattle.script_text.specs.Grammar.{ask_words}
 use Rattle.script_text.specs.Reading.{AreNoWords}
-use Rattle.script_text.specs.declared.keyword.Keyword.TheVariants as theirs
 use Rattle.script_text.proofs.ByKeyword.{no_event}
 use Rattle.script_words.specs.Words.{device_word}
 use Rattle.script_check.specs.Forms.{first_form, second_form, AreInPlace}
-use Rattle.script_check.specs.Keywords.{keyword_word}
-use Rattle.script_check.specs.declared.keyword.Keyword.{Keyword}
-use Rattle.script_check.specs.declared.keyword.Keyword.TheVariants as kw
+use Rattle.script_text.specs.Keywords.{keyword_word}
+use Rattle.script_text.specs.declared.keyword.Keyword.{Keyword}
+use Rattle.script_text.specs.declared.keyword.Keyword.TheVariants as kw
 use Rattle.script_check.proofs.InPlace.{Fits, front_of}
 
 behind : (v w : List ℕ) (vs ws : List (List ℕ)) → v ∷ vs ≡ w ∷ ws → vs ≡ ws
@@ -35,7 +34,7 @@ module _ (front rest : List (List ℕ)) where
   second k not h = not (front_of (second_form k) front rest h)
 
   no_ask : NotFirst kw.Ask → NotSecond kw.Ask → AreNoWords (codes "ask" ∷ ws)
-  no_ask not not_plain = no_event theirs.Ask ws (λ d kind c a whole are. by_kind d kind c a whole.0 whole.1 (behind _ _ _ _ are))
+  no_ask not not_plain = no_event kw.Ask ws (λ d kind c a whole are. by_kind d kind c a whole.0 whole.1 (behind _ _ _ _ are))
     where
       by_kind : (d : ℕ) (kind : Kind) (c a : ℕ) → IsDevice d → IsAsk kind c a → ws ≡ device_word d ∷ ask_words kind c a → ⊥
       by_kind d Enrol c a fits part e = first kw.Ask not (device_word d, _, e, (d, fits, refl), (codes "enrol", _, refl, inl refl, (decimal c, [], refl, (c, part.0, refl), refl)))
@@ -45,30 +44,30 @@ module _ (front rest : List (List ℕ)) where
       by_kind d Withdraw c a fits part e = second kw.Ask not_plain (device_word d, _, e, (d, fits, refl), (codes "withdraw", [], refl, inr (inr refl), refl))
 
   pub none_begins : (k : Keyword) → NotFirst k → NotSecond k → AreNoWords (keyword_word k ∷ ws)
-  none_begins kw.Day n m = no_event theirs.Day ws (λ t whole are. first kw.Day n (are.0, [], behind _ _ _ _ are.2, (t, whole, are.1), refl))
-  none_begins kw.Rates n m = no_event theirs.Rates ws (λ whole are. first kw.Rates n (behind _ _ _ _ are))
-  none_begins kw.Make n m = no_event theirs.Make ws (λ d key whole are. first kw.Make n (_, _, behind _ _ _ _ are, (d, whole.0, refl), (_, [], refl, (key, whole.1, refl), refl)))
-  none_begins kw.On n m = no_event theirs.On ws (λ node whole are. first kw.On n (_, [], behind _ _ _ _ are, (node, whole, refl), refl))
-  none_begins kw.Off n m = no_event theirs.Off ws (λ node whole are. first kw.Off n (_, [], behind _ _ _ _ are, (node, whole, refl), refl))
-  none_begins kw.Cut n m = no_event theirs.Cut ws (λ node calls keep byte whole are.
+  none_begins kw.Day n m = no_event kw.Day ws (λ t whole are. first kw.Day n (are.0, [], behind _ _ _ _ are.2, (t, whole, are.1), refl))
+  none_begins kw.Rates n m = no_event kw.Rates ws (λ whole are. first kw.Rates n (behind _ _ _ _ are))
+  none_begins kw.Make n m = no_event kw.Make ws (λ d key whole are. first kw.Make n (_, _, behind _ _ _ _ are, (d, whole.0, refl), (_, [], refl, (key, whole.1, refl), refl)))
+  none_begins kw.On n m = no_event kw.On ws (λ node whole are. first kw.On n (_, [], behind _ _ _ _ are, (node, whole, refl), refl))
+  none_begins kw.Off n m = no_event kw.Off ws (λ node whole are. first kw.Off n (_, [], behind _ _ _ _ are, (node, whole, refl), refl))
+  none_begins kw.Cut n m = no_event kw.Cut ws (λ node calls keep byte whole are.
       first kw.Cut n (_, _, behind _ _ _ _ are, (node, whole.0, refl), (_, _, refl, (calls, whole.1, refl), (_, _, refl, (keep, whole.2, refl), (_, [], refl, (byte, whole.3, refl), refl)))))
-  none_begins kw.Debit n m = no_event theirs.Debit ws (λ d piece postage class whole are.
+  none_begins kw.Debit n m = no_event kw.Debit ws (λ d piece postage class whole are.
       first kw.Debit n (_, _, behind _ _ _ _ are, (d, whole.0, refl), (_, _, refl, (piece, whole.1, refl), (_, _, refl, (postage, whole.2, refl), (_, [], refl, (class, whole.3, refl), refl)))))
   none_begins kw.Ask n m = no_ask n m
-  none_begins kw.Resend n m = no_event theirs.Resend ws (λ d whole are. first kw.Resend n (_, [], behind _ _ _ _ are, (d, whole, refl), refl))
-  none_begins kw.Ack n m = no_event theirs.Ack ws (λ d whole are. first kw.Ack n (_, [], behind _ _ _ _ are, (d, whole, refl), refl))
-  none_begins kw.Status n m = no_event theirs.Status ws (λ d whole are. first kw.Status n (_, [], behind _ _ _ _ are, (d, whole, refl), refl))
-  none_begins kw.Register n m = no_event theirs.Register ws (λ d origin key whole are.
+  none_begins kw.Resend n m = no_event kw.Resend ws (λ d whole are. first kw.Resend n (_, [], behind _ _ _ _ are, (d, whole, refl), refl))
+  none_begins kw.Ack n m = no_event kw.Ack ws (λ d whole are. first kw.Ack n (_, [], behind _ _ _ _ are, (d, whole, refl), refl))
+  none_begins kw.Status n m = no_event kw.Status ws (λ d whole are. first kw.Status n (_, [], behind _ _ _ _ are, (d, whole, refl), refl))
+  none_begins kw.Register n m = no_event kw.Register ws (λ d origin key whole are.
       first kw.Register n (_, _, behind _ _ _ _ are, (d, whole.0, refl), (_, _, refl, (origin, whole.1, refl), (_, [], refl, (key, whole.2, refl), refl))))
-  none_begins kw.Customer n m = no_event theirs.Customer ws (λ c whole are. first kw.Customer n (_, [], behind _ _ _ _ are, (c, whole, refl), refl))
-  none_begins kw.Deposit n m = no_event theirs.Deposit ws (λ c receipt amount whole are.
+  none_begins kw.Customer n m = no_event kw.Customer ws (λ c whole are. first kw.Customer n (_, [], behind _ _ _ _ are, (c, whole, refl), refl))
+  none_begins kw.Deposit n m = no_event kw.Deposit ws (λ c receipt amount whole are.
       first kw.Deposit n (_, _, behind _ _ _ _ are, (c, whole.0, refl), (_, _, refl, (receipt, whole.1, refl), (_, [], refl, (amount, whole.2, refl), refl))))
-  none_begins kw.Suspend n m = no_event theirs.Suspend ws (λ c whole are. first kw.Suspend n (_, [], behind _ _ _ _ are, (c, whole, refl), refl))
-  none_begins kw.Resume n m = no_event theirs.Resume ws (λ c whole are. first kw.Resume n (_, [], behind _ _ _ _ are, (c, whole, refl), refl))
-  none_begins kw.Balance n m = no_event theirs.Balance ws (λ c whole are. first kw.Balance n (_, [], behind _ _ _ _ are, (c, whole, refl), refl))
-  none_begins kw.Deliver n m = no_event theirs.Deliver ws (λ k whole are. first kw.Deliver n (_, [], behind _ _ _ _ are, (k, whole, refl), refl))
-  none_begins kw.Give n m = no_event theirs.Give ws (λ node bytes whole are. first kw.Give n (_, _, behind _ _ _ _ are, (node, whole.0, refl), (_, [], refl, (bytes, whole.1, refl), refl)))
-  none_begins kw.Order n m = no_event theirs.Order ws (λ d piece class grams zone whole are.
+  none_begins kw.Suspend n m = no_event kw.Suspend ws (λ c whole are. first kw.Suspend n (_, [], behind _ _ _ _ are, (c, whole, refl), refl))
+  none_begins kw.Resume n m = no_event kw.Resume ws (λ c whole are. first kw.Resume n (_, [], behind _ _ _ _ are, (c, whole, refl), refl))
+  none_begins kw.Balance n m = no_event kw.Balance ws (λ c whole are. first kw.Balance n (_, [], behind _ _ _ _ are, (c, whole, refl), refl))
+  none_begins kw.Deliver n m = no_event kw.Deliver ws (λ k whole are. first kw.Deliver n (_, [], behind _ _ _ _ are, (k, whole, refl), refl))
+  none_begins kw.Give n m = no_event kw.Give ws (λ node bytes whole are. first kw.Give n (_, _, behind _ _ _ _ are, (node, whole.0, refl), (_, [], refl, (bytes, whole.1, refl), refl)))
+  none_begins kw.Order n m = no_event kw.Order ws (λ d piece class grams zone whole are.
       first kw.Order n (
         _,
         _,
@@ -88,13 +87,13 @@ module _ (front rest : List (List ℕ)) where
           ),
         ),
       ))
-  none_begins kw.Send n m = no_event theirs.Send ws (λ j whole are. first kw.Send n (_, [], behind _ _ _ _ are, (j, whole, refl), refl))
-  none_begins kw.Print n m = no_event theirs.Print ws (λ j whole are. first kw.Print n (_, [], behind _ _ _ _ are, (j, whole, refl), refl))
-  none_begins kw.Close n m = no_event theirs.Close ws (λ j whole are. first kw.Close n (_, [], behind _ _ _ _ are, (j, whole, refl), refl))
-  none_begins kw.Trust n m = no_event theirs.Trust ws (λ d key whole are. first kw.Trust n (_, _, behind _ _ _ _ are, (d, whole.0, refl), (_, [], refl, (key, whole.1, refl), refl)))
-  none_begins kw.Scan n m = no_event theirs.Scan ws (
+  none_begins kw.Send n m = no_event kw.Send ws (λ j whole are. first kw.Send n (_, [], behind _ _ _ _ are, (j, whole, refl), refl))
+  none_begins kw.Print n m = no_event kw.Print ws (λ j whole are. first kw.Print n (_, [], behind _ _ _ _ are, (j, whole, refl), refl))
+  none_begins kw.Close n m = no_event kw.Close ws (λ j whole are. first kw.Close n (_, [], behind _ _ _ _ are, (j, whole, refl), refl))
+  none_begins kw.Trust n m = no_event kw.Trust ws (λ d key whole are. first kw.Trust n (_, _, behind _ _ _ _ are, (d, whole.0, refl), (_, [], refl, (key, whole.1, refl), refl)))
+  none_begins kw.Scan n m = no_event kw.Scan ws (
     (λ scan k whole are. first kw.Scan n (_, _, behind _ _ _ _ are, (scan, whole.0, whole.1, refl), (codes "msg", _, refl, refl, (_, [], refl, (k, whole.2, refl), refl)))),
     (λ scan bytes whole are. second kw.Scan m (_, _, behind _ _ _ _ are, (scan, whole.0, whole.1, refl), (codes "hex", _, refl, refl, (_, [], refl, (bytes, whole.2, refl), refl)))),
   )
-  none_begins kw.Reconcile n m = no_event theirs.Reconcile ws (λ d whole are. first kw.Reconcile n (_, [], behind _ _ _ _ are, (d, whole, refl), refl))
-  none_begins kw.End n m = no_event theirs.End ws (λ whole are. first kw.End n (behind _ _ _ _ are))
+  none_begins kw.Reconcile n m = no_event kw.Reconcile ws (λ d whole are. first kw.Reconcile n (_, [], behind _ _ _ _ are, (d, whole, refl), refl))
+  none_begins kw.End n m = no_event kw.End ws (λ whole are. first kw.End n (behind _ _ _ _ are))

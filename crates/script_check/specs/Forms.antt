@@ -1,8 +1,8 @@
 -- The words that may follow the first word of a line.
 use Rattle.std.specs.Prelude.{ℕ, suc, ◌<◌, ◌≤◌, List, [], ◌∷◌, length, take}
 use Rattle.script_check.specs.Slots.{Takes}
-use Rattle.script_check.specs.declared.keyword.Keyword.{Keyword}
-use Rattle.script_check.specs.declared.keyword.Keyword.TheVariants as kw
+use Rattle.script_text.specs.declared.keyword.Keyword.{Keyword}
+use Rattle.script_text.specs.declared.keyword.Keyword.TheVariants as kw
 use Rattle.script_check.specs.declared.slots.Slot.{Slot}
 use Rattle.script_check.specs.declared.slots.Slot.TheVariants as slot
 

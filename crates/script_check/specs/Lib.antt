@@ -4,7 +4,6 @@ pub mod Texts
 pub mod Wrong
 -- Of this crate alone.
 pub mod Forms
-pub mod Keywords
 pub mod Slots
 -- Bookkeeping: private calls and proofs alone name these.
 pub mod Turns

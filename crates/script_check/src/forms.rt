@@ -3,8 +3,8 @@ ghost use Rattle.std.specs.Prelude.{◌≡◌, ◌≤◌, length};
 ghost use Rattle.script_check.specs.Forms.{first_form, second_form, IsTaken};
 ghost use Rattle.script_words.specs.Words.{words_in};
 
-use crate::keyword::Keyword;
 use crate::slots::{Slot, takes};
+use script_text::Keyword;
 use script_words::split_word;
 
 /// What follows the keyword.

@@ -3,7 +3,6 @@
 
 mod fault;
 mod forms;
-mod keyword;
 mod line;
 mod script;
 mod shown;

@@ -2,16 +2,15 @@
 ghost use Rattle.std.specs.Prelude.{◌≡◌, ◌↔◌, ◌+◌, ◌≤◌, ◌-◌, ◌⊎◌, [], ◌∷◌, slice_get, None, Some, IsNone, IfSome, MatchOption};
 ghost use Rattle.bench_base.specs.Ranges.{IsWholeEvent};
 ghost use Rattle.bench_base.specs.declared.events.Event.{Event};
-ghost use Rattle.script_check.specs.Keywords.{keyword_word};
+ghost use Rattle.script_text.specs.Keywords.{keyword_word};
 ghost use Rattle.script_check.specs.Wrong.{IsFirstWrong, IsWordAt, IsBehindAll};
 ghost use Rattle.script_text.specs.Grammar.{Spells};
 ghost use Rattle.script_words.specs.Words.{words_in};
 
 use crate::fault::{Hint, Wanted, WordFault};
 use crate::forms::{count_taken, form_behind, form_beside};
-use crate::keyword::{Keyword, read_keyword};
 use crate::slots::Slot;
-use script_text::read_event;
+use script_text::{Keyword, read_event, read_keyword};
 use script_words::split_word;
 
 // The word behind so many others.

@@ -1,7 +1,7 @@
 use Rattle.std.proofs.Common.{List, subst}
 use Rattle.script_words.specs.Words.{words_in}
 use Rattle.script_check.specs.Forms.{IsTaken}
-use Rattle.script_check.specs.Keywords.{keyword_word}
+use Rattle.script_text.specs.Keywords.{keyword_word}
 use Rattle.script_check.specs.declared.slots.Slot.{Slot}
 use Rattle.script_check.proofs.Behind.{found_for}
 use Rattle.script_check.proofs.Firsts.{wrong_behind}
