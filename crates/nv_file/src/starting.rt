@@ -3,7 +3,7 @@ ghost use Rattle.std.specs.Prelude.{◌≡◌, ◌↔◌, ◌++◌, ◌<◌, IfO
 ghost use Rattle.std.specs.List.{All};
 ghost use Rattle.nv_model.specs.Meters.{unharmed};
 ghost use Rattle.nv_file.specs.Files.{unsynced, nothing_unsynced};
-ghost use Rattle.nv_file.specs.Starts.{stores_of};
+ghost use Rattle.nv_file.specs.Starts.{are_reused, stores_of};
 
 use crate::clean::{CLEAN, are_as_remembered, forget, recall};
 use crate::file::FileNv;
@@ -107,6 +107,7 @@ impl Starting<'_> {
     pub fn take_last(&mut self) -> Option<FileNv>
         ensures last { stores_of self.old ≡ stores_of self.new ++ option_to_list result }
         ensures some { IsSome result ↔ (0 < length (stores_of self.old)) }
+        ensures reused { are_reused self.new ≡ are_reused self.old }
     {
         self.stores.pop()
     }
