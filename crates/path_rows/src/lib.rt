@@ -1,10 +1,6 @@
-//! Worked rows of the whole path, over streams and storages in memory.
+//! Tests of the whole path, over streams and storages in memory.
 #![tactic(auto)]
 
-#[cfg(test)]
-mod fault_rows;
-#[cfg(test)]
-mod ordinary_path;
 #[cfg(test)]
 mod stream_rows;
 #[cfg(test)]

@@ -1,5 +1,5 @@
 //! A report that is full, and one event alone, over blank storages.
-use crate::worked::{BLANK, Given, Outlet, SOUND, answer, run_both, told};
+use crate::worked::{Given, Outlet, SOUND, answer, run_both, told};
 use bench_base::events::Event;
 use bench_base::numbers::DevNo;
 use script_replay::status::Status;
@@ -15,7 +15,7 @@ fn a_full_report_ends_behind_the_event(rt: HostRuntime) -> Result<(), Fail> {
         ..told(SWITCH_ON.as_bytes(), 1)
     };
     let then = b"day 2026-03-01\non d1\nend\n".as_slice();
-    let (got, next) = run_both(rt.alloc(), &BLANK, &given, &told(then, 600))?;
+    let (got, next) = run_both(rt.alloc(), &given, &told(then, 600))?;
     assert!(rt; got.status == Status::WriteFault);
     assert_eq!(rt;
         got.report.as_slice(),

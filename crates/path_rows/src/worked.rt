@@ -10,8 +10,7 @@ use bench_base::events::Event;
 use bench_base::memory::{MemSink, MemSource};
 use bench_base::sizes::{CENTRE_BYTES, DEVICE_BYTES, VERIFIER_BYTES};
 use host_jobs::HOST_BYTES;
-use nv_model::{Failure, MemNv, Nv};
-use script_replay::fresh::run_fresh;
+use nv_model::{MemNv, Nv};
 use script_replay::run::run;
 use script_replay::status::Status;
 use script_text::write_reply;
@@ -19,37 +18,24 @@ use std::alloc::{AllocError, Global};
 use std::test::Fail;
 use text_streams::ReadAhead;
 
-/// What a bench is made over: blank storages, and the calls of device 1's storage that are to fail.
-#[derive(Clone, Copy)]
-pub struct Start<'a> {
-    pub plan: &'a [Failure],
-}
-
-/// All storages are blank.
-pub const BLANK: Start<'static> = Start { plan: &[] };
-
-/// A blank storage of so many bytes, and the calls of it that are to fail.
-fn storage(alloc: Global, bytes: u32, plan: &[Failure]) -> Result<MemNv, AllocError>
+/// A blank storage of so many bytes, of which no call fails.
+fn storage(alloc: Global, bytes: u32) -> Result<MemNv, AllocError>
     ensures { IfOk result (λ nv. Works (⟦<MemNv as Nv>⟧.meters nv)) }
 {
     let content = vec![in alloc; 0; bytes as usize]?;
-    let nv = MemNv::new(alloc, content, Vec::from_slice(alloc, plan)?, 400, 40_000)?;
+    let nv = MemNv::new(alloc, content, Vec::new(alloc), 400, 40_000)?;
     Ok(nv)
 }
 
-/// The storage of a device, of which number 0 is device 1.
-fn device_storage(alloc: Global, start: &Start, i: u32) -> Result<MemNv, AllocError>
+/// The storage of a device.
+fn device_storage(alloc: Global) -> Result<MemNv, AllocError>
     ensures { IfOk result (λ nv. Works (⟦<MemNv as Nv>⟧.meters nv)) }
 {
-    if i == 0 {
-        storage(alloc, DEVICE_BYTES, start.plan)
-    } else {
-        storage(alloc, DEVICE_BYTES, &[])
-    }
+    storage(alloc, DEVICE_BYTES)
 }
 
 /// The storages of a bench at the start.
-fn stores(alloc: Global, start: &Start) -> Result<Stores<MemNv>, AllocError>
+fn stores(alloc: Global) -> Result<Stores<MemNv>, AllocError>
     ensures eight { IfOk result (λ stores. length stores.devices.items ≡ 8) }
     ensures fresh { IfOk result (λ stores. All (λ nv. Works (⟦<MemNv as Nv>⟧.meters nv)) stores.devices.items) }
     ensures fresh_centre { IfOk result (λ stores. Works (⟦<MemNv as Nv>⟧.meters stores.centre)) }
@@ -58,11 +44,11 @@ fn stores(alloc: Global, start: &Start) -> Result<Stores<MemNv>, AllocError>
 {
     let mut devices = Vec::with_capacity(alloc, 8)?;
     for i in 0..8_u32 {
-        devices.push(device_storage(alloc, start, i)?)?;
+        devices.push(device_storage(alloc)?)?;
     }
-    let centre = storage(alloc, CENTRE_BYTES, &[])?;
-    let host = storage(alloc, HOST_BYTES, &[])?;
-    let verifier = storage(alloc, VERIFIER_BYTES, &[])?;
+    let centre = storage(alloc, CENTRE_BYTES)?;
+    let host = storage(alloc, HOST_BYTES)?;
+    let verifier = storage(alloc, VERIFIER_BYTES)?;
     Ok(Stores {
         devices,
         centre,
@@ -115,8 +101,8 @@ pub struct Given<'a> {
     pub printer: Outlet<'a>,
 }
 
-/// What a run is given where no stream fails, with these rates.
-pub fn told_rates<'a>(script: &'a [u8], rates: &'a [u8], piece: u32) -> Given<'a>
+/// What a run is given where no stream fails, with no rates.
+pub fn told<'a>(script: &'a [u8], piece: u32) -> Given<'a>
     requires { 1 ≤ piece }
     ensures { result.piece ≡ piece }
 {
@@ -125,18 +111,10 @@ pub fn told_rates<'a>(script: &'a [u8], rates: &'a [u8], piece: u32) -> Given<'a
         script,
         piece,
         read_fails: &[],
-        rates,
+        rates: &[],
         report: SOUND,
         printer: SOUND,
     }
-}
-
-/// What a run is given where no stream fails, with no rates.
-pub fn told<'a>(script: &'a [u8], piece: u32) -> Given<'a>
-    requires { 1 ≤ piece }
-    ensures { result.piece ≡ piece }
-{
-    told_rates(script, &[], piece)
 }
 
 /// What a run came to: its status, its report, and what it printed.
@@ -213,63 +191,12 @@ fn outcome(alloc: Global, given: &Given, bench: &mut Bench<MemNv>) -> Result<Run
     })
 }
 
-/// Runs what is given on the bench that `run_fresh` makes for it.
-pub fn run_blank(alloc: Global, given: &Given) -> Result<RunEnd, Fail>
-    requires some { 1 ≤ given.now.piece }
-{
-    let words = words_of(alloc, given.words)?;
-    let mut script = script_of(alloc, given)?;
-    let mut rates = source_of(alloc, given.rates)?;
-    let mut report = sink_of(alloc, &given.report)?;
-    let mut printer = sink_of(alloc, &given.printer)?;
-    let Some(status) = run_fresh(
-        alloc,
-        &words,
-        &mut script,
-        &mut rates,
-        &mut report,
-        &mut printer,
-    ) else {
-        return Err(Fail::from(AllocError));
-    };
-    Ok(RunEnd {
-        status,
-        report: Vec::from_slice(alloc, report.taken())?,
-        prints: Vec::from_slice(alloc, printer.taken())?,
-    })
-}
-
-/// Runs what is given on a bench that is made over these storages.
-fn run_over(alloc: Global, stores: Stores<MemNv>, given: &Given) -> Result<RunEnd, Fail>
-    requires some { 1 ≤ given.now.piece }
-    requires eight { length stores.devices.items ≡ 8 }
-    requires fresh { All (λ nv. Works (⟦<MemNv as Nv>⟧.meters nv)) stores.devices.items }
-    requires fresh_centre { Works (⟦<MemNv as Nv>⟧.meters stores.centre) }
-    requires fresh_host { Works (⟦<MemNv as Nv>⟧.meters stores.host) }
-    requires fresh_verifier { Works (⟦<MemNv as Nv>⟧.meters stores.verifier) }
-{
-    let mut bench = bench_of_stores(alloc, stores)?;
-    outcome(alloc, given, &mut bench)
-}
-
-/// Runs what is given on a bench that is made for it.
-pub fn run_once(alloc: Global, start: &Start, given: &Given) -> Result<RunEnd, Fail>
-    requires some { 1 ≤ given.now.piece }
-{
-    run_over(alloc, stores(alloc, start)?, given)
-}
-
 /// Runs one thing and then another, on one bench.
-pub fn run_both(
-    alloc: Global,
-    start: &Start,
-    first: &Given,
-    then: &Given,
-) -> Result<(RunEnd, RunEnd), Fail>
+pub fn run_both(alloc: Global, first: &Given, then: &Given) -> Result<(RunEnd, RunEnd), Fail>
     requires some { 1 ≤ first.now.piece }
     requires more { 1 ≤ then.now.piece }
 {
-    let mut bench = bench_of_stores(alloc, stores(alloc, start)?)?;
+    let mut bench = bench_of_stores(alloc, stores(alloc)?)?;
     let got = outcome(alloc, first, &mut bench)?;
     Ok((got, outcome(alloc, then, &mut bench)?))
 }
@@ -279,7 +206,7 @@ pub fn answer(alloc: Global, event: &Event, rates: &[u8]) -> Result<Vec<u8>, Fai
     requires whole { IsWholeEvent event.now }
 {
     // sample bench
-    let mut bench = bench_of_stores(alloc, stores(alloc, &BLANK)?)?;
+    let mut bench = bench_of_stores(alloc, stores(alloc)?)?;
     let mut rates = source_of(alloc, rates)?;
     let mut printer = sink_of(alloc, &SOUND)?;
     let turn = step(alloc, &mut bench, event, &mut rates, &mut printer)?;
