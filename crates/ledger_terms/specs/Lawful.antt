@@ -16,7 +16,7 @@ use Rattle.ledger_terms.specs.Centres.{ruled, settled, deposits, customer_bought
 use Rattle.ledger_terms.specs.Franking.{marked}
 use Rattle.ledger_terms.specs.InFlight.{ruling_of, acknowledged_resets, acknowledged_refunds, flight}
 
--- P holds of the list and of each list that it grew from
+-- P holds of the list and of each list that it grew from; lists grow at the front, so a list of what happened begins with the newest
 abbrev pub Always : {A : Type 0} → (List A → Type 0) → List A → Type 0
 Always P [] = P []
 Always P (x ∷ xs) = P (x ∷ xs) × Always P xs
@@ -189,7 +189,7 @@ Prints P = PrintedOnce P × HeldOnce P (counted P)
 
 -- == the whole ==
 
--- what holds of each prefix P
+-- what holds of P, all that had happened at some moment
 pub record LawfulAt (ρ : Rules) (P : Ledger) : Type 0 where
   pub numbering : Numbering (counted P)
   pub debits : Debits ρ (counted P)
@@ -201,6 +201,6 @@ pub record LawfulAt (ρ : Rules) (P : Ledger) : Type 0 where
   pub acceptances : Acceptances P
   pub prints : Prints P
 
--- a ledger is lawful where each of its prefixes is as the clauses say
+-- a ledger is lawful if the clauses held at each moment, from the first entry on
 abbrev pub Lawful : Rules → Ledger → Type 0
 Lawful ρ H = Always (LawfulAt ρ) H

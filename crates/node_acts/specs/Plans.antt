@@ -73,7 +73,7 @@ FailsTold p (WasDamaged m) = ⊥
 FailsTold p (PrinterFailed j) = p.reply ≡ r.Printed j
 FailsTold p RatesFailed = ⊥
 
--- a failure that may come in the place of the plan's reply
+-- the reply is a failure that may come in the place of the plan's reply: of power or storage if a node starts or commits, or of the printer
 abbrev pub Fails : Plan → Reply → Type 0
 Fails p reply = FailsTold p (told_by reply)
 

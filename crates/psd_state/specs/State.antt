@@ -23,7 +23,7 @@ pub record State : Type 0 where
   pub registers : Sums
   -- of the last transaction that was applied, and 0 before the first
   pub number : ℕ
-  -- the last day for which the device franks, and 0 before it is set
+  -- the last day on which the device franks any postage, and 0 before it is set
   pub deadline : ℤ
   -- of the last debit or request, and 0 before the first
   pub last_day : ℤ
