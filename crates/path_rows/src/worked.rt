@@ -11,6 +11,7 @@ use bench_base::memory::{MemSink, MemSource};
 use bench_base::sizes::{CENTRE_BYTES, DEVICE_BYTES, VERIFIER_BYTES};
 use host_jobs::HOST_BYTES;
 use nv_model::{MemNv, Nv};
+use script_replay::fresh::run_fresh;
 use script_replay::run::run;
 use script_replay::status::Status;
 use script_text::write_reply;
@@ -184,6 +185,32 @@ fn outcome(alloc: Global, given: &Given, bench: &mut Bench<MemNv>) -> Result<Run
         bench,
     );
     // end of sample
+    Ok(RunEnd {
+        status,
+        report: Vec::from_slice(alloc, report.taken())?,
+        prints: Vec::from_slice(alloc, printer.taken())?,
+    })
+}
+
+/// Runs what is given on the bench that `run_fresh` makes for it.
+pub fn run_blank(alloc: Global, given: &Given) -> Result<RunEnd, Fail>
+    requires some { 1 ≤ given.now.piece }
+{
+    let words = words_of(alloc, given.words)?;
+    let mut script = script_of(alloc, given)?;
+    let mut rates = source_of(alloc, given.rates)?;
+    let mut report = sink_of(alloc, &given.report)?;
+    let mut printer = sink_of(alloc, &given.printer)?;
+    let Some(status) = run_fresh(
+        alloc,
+        &words,
+        &mut script,
+        &mut rates,
+        &mut report,
+        &mut printer,
+    ) else {
+        return Err(Fail::from(AllocError));
+    };
     Ok(RunEnd {
         status,
         report: Vec::from_slice(alloc, report.taken())?,
