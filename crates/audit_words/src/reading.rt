@@ -1,4 +1,10 @@
 //! What the words of the auditor's program call for.
+ghost use Rattle.std.specs.Prelude.{◌≡◌, ◌↔◌, ℕ, List, map, codes, string_bytes, IfOk, IfErr, IsTrue};
+ghost use Rattle.std.specs.List.{Contains};
+ghost use Rattle.audit_words.specs.Calls as calls;
+ghost use Rattle.audit_words.specs.Calls.{IsCheck, Reads};
+ghost use Rattle.audit_words.specs.declared.reading.WordsFault.{WordsFault};
+
 use std::alloc::Global;
 
 /// What is printed beside the verdicts.
@@ -98,8 +104,10 @@ fn fill(place: &mut Option<String>, word: String) -> Result<(), WordsFault> {
     Ok(())
 }
 
-fn is_option(word: &str) -> bool {
-    word.starts_with("--")
+fn is_option(word: &str) -> bool
+    ensures { result ≡ calls.is_option word.now }
+{
+    word.as_bytes().starts_with(b"--")
 }
 
 // The name of the run, which may be given by its script.
@@ -199,19 +207,40 @@ fn read_audit(alloc: Global, words: Vec<String>) -> Result<Words, WordsFault> {
     reader.end()
 }
 
-fn has_word(words: &[String], wanted: &str) -> bool {
+fn is_word(word: &String, wanted: &str) -> bool
+    ensures { IsTrue result ↔ (string_bytes word.now ≡ wanted.now) }
+{
+    word.as_str() == wanted
+}
+
+fn has_word(words: &[String], wanted: &str) -> bool
+    ensures { IsTrue result ↔ Contains (map string_bytes words.now) wanted.now }
+{
     for at in 0..words.len() {
-        if words[at].as_str() == wanted {
+        if is_word(&words[at], wanted) {
             return true;
         }
     }
     false
 }
 
+// Whether the words are those of a look at a script: `--check` and the script alone.
+fn is_check(words: &[String]) -> bool
+    ensures { IsTrue result ↔ ((script : List ℕ) × IsCheck (map string_bytes words.now) script) }
+{
+    match words {
+        [word, script] => is_word(word, "--check") && !is_option(script.as_str()),
+        _ => false,
+    }
+}
+
 // What words that ask to look at a script ask for: the script alone.
-fn read_check(words: Vec<String>) -> Result<String, WordsFault> {
+fn read_check(words: Vec<String>) -> Result<String, WordsFault>
+    ensures found { IfOk result (λ script. IsCheck (map string_bytes words.items) (string_bytes script)) }
+    ensures none { IfErr result (λ fault. (fault ≡ WordsFault.Usage) × ((script : List ℕ) → IsCheck (map string_bytes words.items) script → ⊥)) }
+{
     let mut words = words;
-    if words.len() != 2 || words[0].as_str() != "--check" || is_option(words[1].as_str()) {
+    if !is_check(words.as_slice()) {
         return Err(WordsFault::Usage);
     }
     match words.pop() {
@@ -223,7 +252,9 @@ fn read_check(words: Vec<String>) -> Result<String, WordsFault> {
 /// What the words behind the program's name call for. Options stand in any order, also behind names; `--help` and `--version` take precedence over all others.
 /// WordsFault::Usage if a word that begins with `--` is no option, if an option lacks its file or is given twice, if more than one thing is asked for beside the verdicts,
 /// if no run is named, or if a script to be looked at stands not alone; WordsFault::Memory is lack of memory.
-pub fn read_call(alloc: Global, words: Vec<String>) -> Result<Call, WordsFault> {
+pub fn read_call(alloc: Global, words: Vec<String>) -> Result<Call, WordsFault>
+    ensures { Reads (map string_bytes words.items) result }
+{
     if has_word(words.as_slice(), "--help") {
         return Ok(Call::Help);
     }
@@ -231,7 +262,13 @@ pub fn read_call(alloc: Global, words: Vec<String>) -> Result<Call, WordsFault> 
         return Ok(Call::Version);
     }
     if has_word(words.as_slice(), "--check") {
-        return Ok(Call::Check(read_check(words)?));
+        return match read_check(words) {
+            Ok(script) => Ok(Call::Check(script)),
+            Err(fault) => Err(fault),
+        };
     }
-    Ok(Call::Audit(read_audit(alloc, words)?))
+    match read_audit(alloc, words) {
+        Ok(asked) => Ok(Call::Audit(asked)),
+        Err(fault) => Err(fault),
+    }
 }
