@@ -1,4 +1,6 @@
 //! What is counted over the lines of runs: each commit that counts, in the journal, and the rest for the page. Amounts are in mills.
+ghost use Rattle.std.specs.Prelude.{◌≡◌, ◌+◌, ◌-◌, ◌^◌, min, Some, MatchOption};
+
 use crate::seen::Seen;
 use crate::settling::{
     with_asked, with_class, with_job, with_money, with_piece, with_request, with_ruling,
@@ -21,7 +23,7 @@ pub struct Made {
     pub entry: Entry,
 }
 
-/// What runs came to, by the commits that count and the replies that were told.
+/// What runs came to, by the commits that count and the replies that were reported.
 #[derive(Drop)]
 pub struct Book {
     pub first_day: Option<DayNo>,
@@ -47,7 +49,9 @@ pub struct Book {
 }
 
 // The first of the two days that is known.
-fn known_day(day: &Option<DayNo>, other: &Option<DayNo>) -> Option<DayNo> {
+fn known_day(day: &Option<DayNo>, other: &Option<DayNo>) -> Option<DayNo>
+    ensures { MatchOption day.now (result ≡ other.now) (λ d. result ≡ Some d) }
+{
     match day {
         Some(day) => Some(*day),
         None => *other,
@@ -55,11 +59,13 @@ fn known_day(day: &Option<DayNo>, other: &Option<DayNo>) -> Option<DayNo> {
 }
 
 // The sum. All that was ever franked fits.
-fn add(sum: &mut u64, amount: u64) {
+fn add(sum: &mut u64, amount: u64)
+    ensures { sum.new ≡ min (sum.old + amount) (2 ^ 64 - 1) }
+{
     *sum = sum.saturating_add(amount);
 }
 
-// What was made, or that memory was wanting.
+// What was made, or lack of memory.
 fn or_memory<T>(made: Result<T, AllocError>) -> Result<T, BookFault> {
     match made {
         Ok(made) => Ok(made),
@@ -68,7 +74,9 @@ fn or_memory<T>(made: Result<T, AllocError>) -> Result<T, BookFault> {
 }
 
 // What the commit moved, without its sign.
-fn size_of(entry: &Entry) -> u64 {
+fn size_of(entry: &Entry) -> u64
+    ensures { MatchOption entry.now.amount (result ≡ 0) (λ amount. result ≡ amount.size) }
+{
     match entry.amount {
         Some(amount) => amount.size,
         None => 0,
@@ -102,7 +110,7 @@ fn at_of<'a>(names: &'a [String], place: Place) -> Option<At<'a>> {
     })
 }
 
-// What became of a print, if this was told of it.
+// What became of a print, if this was reported of it.
 fn printed(job: u32, line: &[u8]) -> Option<Deed> {
     if is_told(&Reply::Printed(job), line) {
         return Some(Deed::Printed);
@@ -113,7 +121,7 @@ fn printed(job: u32, line: &[u8]) -> Option<Deed> {
     None
 }
 
-// The entry with all that is known of its node behind the line.
+// The entry with all that is known of its node after the line.
 fn completed(entry: &Entry, seen: &Seen) -> Entry {
     let paid = with_money(entry, seen);
     match entry.deed {
@@ -183,7 +191,7 @@ impl Book {
         or_memory(self.incidents.note(place, mishap, day))
     }
 
-    // Counts the answer that was told.
+    // Counts the answer that was reported.
     fn hear_answer(
         &mut self,
         alloc: Global,
@@ -199,7 +207,7 @@ impl Book {
         Ok(())
     }
 
-    /// Counts what the line tells on this day, if this answer was due. BookFault::Memory is lack of memory.
+    /// Counts what the line reports on this day, if this answer was due. BookFault::Memory is lack of memory.
     pub fn hear(
         &mut self,
         alloc: Global,
@@ -218,7 +226,7 @@ impl Book {
         }
     }
 
-    /// Counts the day that was told last.
+    /// Counts the day that was reported last.
     pub fn date(&mut self, day: Option<DayNo>) {
         self.first_day = known_day(&self.first_day, &day);
         self.last_day = known_day(&day, &self.last_day);
@@ -321,7 +329,7 @@ impl Book {
         })
     }
 
-    /// What became of the print of this event, if the line tells it: a row that is no commit.
+    /// What became of the print of this event, if the line reports it: a row that is no commit.
     pub fn print_told(&mut self, day: Option<DayNo>, doing: &Doing, line: &[u8]) -> Option<Entry> {
         let job = printing(doing)?;
         let deed = printed(job, line)?;

@@ -1,4 +1,4 @@
-//! What is known of a node before and behind a line. Amounts are in mills.
+//! What is known of a node before and after a line. Amounts are in mills.
 use bench_base::numbers::Customer;
 use bench_base::words::{Kind, Verdict};
 use centre_ledger::DeviceRow;
@@ -21,7 +21,7 @@ pub struct Ruling {
     pub verdict: Verdict,
 }
 
-/// What is known of a node before and behind a line, and of the device that the commit is of: its customer and its last ruling.
+/// What is known of a node before and after a line, and of the device that the commit is of: its customer and its last ruling.
 #[derive(Clone, Copy)]
 pub struct Seen {
     pub before: Figures,

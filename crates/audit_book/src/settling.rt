@@ -1,16 +1,23 @@
-//! What the journal has of a commit that counts, by what is known of its node behind the line. Amounts are in mills.
+//! What the journal has of a commit that counts, by what is known of its node after the line. Amounts are in mills.
+ghost use Rattle.std.specs.Prelude.{◌≡◌, ◌+◌, ℕ, false, Some, None, IsSomeAnd, MatchBool, MatchOption};
+
 use crate::seen::Seen;
 use audit_journal::{Account, Amount, Entry};
 use audit_tally::{Ask, Job, Piece};
 use bench_base::words::{Kind, Node};
 
 // An amount that is not below 0.
-fn paid(size: u64) -> Amount {
+fn paid(size: u64) -> Amount
+    ensures { (result.minus ≡ false) × (result.size ≡ size) }
+{
     Amount { minus: false, size }
 }
 
 // What was added to the balance; nothing if there was none before, as of a device whose enrolment is ruled on.
-fn moved(before: Option<u64>, after: Option<u64>) -> Option<Amount> {
+fn moved(before: Option<u64>, after: Option<u64>) -> Option<Amount>
+    ensures unknown { after ≡ None → result ≡ None }
+    ensures added { (b a : ℕ) → before ≡ Some b → after ≡ Some a → IsSomeAnd result (λ m. MatchBool m.minus (b ≡ a + m.size) (b + m.size ≡ a)) }
+{
     let after = after?;
     let before = before.unwrap_or(after);
     if after < before {
@@ -77,7 +84,9 @@ fn asked_for(kind: Kind, asked: u64) -> Option<u64> {
 }
 
 /// The entry with the request that was ruled on.
-pub fn with_ruling(entry: &Entry, seen: &Seen) -> Entry {
+pub fn with_ruling(entry: &Entry, seen: &Seen) -> Entry
+    ensures { MatchOption seen.now.ruling (result ≡ entry.now) (λ r. (result.request ≡ Some r.kind) × (result.verdict ≡ Some r.verdict)) }
+{
     match seen.ruling {
         Some(ruling) => Entry {
             request: Some(ruling.kind),
@@ -90,7 +99,9 @@ pub fn with_ruling(entry: &Entry, seen: &Seen) -> Entry {
 }
 
 /// The entry with the request that the device has out.
-pub fn with_request(entry: &Entry, ask: Option<Ask>) -> Entry {
+pub fn with_request(entry: &Entry, ask: Option<Ask>) -> Entry
+    ensures { MatchOption ask (result ≡ entry.now) (λ a. (result.request ≡ Some a.kind) × (result.asked ≡ a.asked)) }
+{
     match ask {
         Some(ask) => Entry {
             request: Some(ask.kind),
@@ -102,7 +113,9 @@ pub fn with_request(entry: &Entry, ask: Option<Ask>) -> Entry {
 }
 
 /// The entry with the piece of the job.
-pub fn with_job(entry: &Entry, job: Option<Job>) -> Entry {
+pub fn with_job(entry: &Entry, job: Option<Job>) -> Entry
+    ensures { MatchOption job (result ≡ entry.now) (λ j. (result.device ≡ Some j.device) × (result.piece ≡ Some j.piece) × (result.class ≡ Some j.class)) }
+{
     match job {
         Some(job) => Entry {
             device: Some(job.device),
@@ -115,7 +128,9 @@ pub fn with_job(entry: &Entry, job: Option<Job>) -> Entry {
 }
 
 /// The entry with the job of the piece, its class and its postage.
-pub fn with_piece(entry: &Entry, piece: Option<Piece>) -> Entry {
+pub fn with_piece(entry: &Entry, piece: Option<Piece>) -> Entry
+    ensures { MatchOption piece (result ≡ entry.now) (λ p. (result.job ≡ p.job) × (result.class ≡ p.class)) }
+{
     match piece {
         Some(piece) => Entry {
             job: piece.job,

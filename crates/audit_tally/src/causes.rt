@@ -1,4 +1,4 @@
-//! Refusals, by their cause: how many, and where the first and the last were told.
+//! Refusals, by their cause: how many, and where the first and the last were reported.
 use crate::counts::one_more;
 use crate::place::Place;
 use audit_words::shown;

@@ -1,4 +1,6 @@
 //! How often replies came.
+ghost use Rattle.std.specs.Prelude.{◌≡◌, ◌+◌, ◌-◌, ◌^◌, min};
+
 use bench_base::events::Reply;
 use bench_base::refusals::ScanRefusal;
 
@@ -36,7 +38,7 @@ fn scan_refused(refusal: &ScanRefusal) -> Counted {
     }
 }
 
-// What is counted of a reply that was told.
+// What is counted of a reply that was reported.
 fn told_by(reply: &Reply) -> Counted {
     match reply {
         Reply::Marked { again, .. } | Reply::Released { again, .. } => { Counted::Released(*again) }
@@ -95,13 +97,19 @@ pub fn is_given_again(reply: &Reply) -> bool {
 }
 
 /// One more. Runs have at most 1,000,000 lines each, so the greatest number is never reached.
-pub fn one_more(count: &mut u64) {
+pub fn one_more(count: &mut u64)
+    ensures { count.new ≡ min (count.old + 1) (2 ^ 64 - 1) }
+{
     *count = count.saturating_add(1);
 }
 
 impl Tally {
     /// Nothing was counted.
-    pub fn new() -> Tally {
+    pub fn new() -> Tally
+        ensures marks { (result.released ≡ 0) × (result.released_again ≡ 0) }
+        ensures scans { (result.accepted ≡ 0) × (result.accepted_again ≡ 0) × (result.duplicates ≡ 0) }
+        ensures prints { result.printed ≡ 0 }
+    {
         Tally {
             released: 0,
             released_again: 0,
@@ -112,7 +120,7 @@ impl Tally {
         }
     }
 
-    /// Counts a reply that was told.
+    /// Counts a reply that was reported.
     pub fn count(&mut self, reply: &Reply) {
         match told_by(reply) {
             Counted::Nothing => {}

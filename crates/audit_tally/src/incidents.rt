@@ -42,7 +42,7 @@ pub struct Incidents {
     rows: Vec<Incident>,
 }
 
-// That this node lost its power, or its storage failed, if the line tells that.
+// That this node lost its power, or its storage failed, if the line reports that.
 fn failure_at(node: &Node, line: &[u8]) -> Option<Mishap> {
     if is_told(&Reply::Power(*node), line) {
         return Some(Mishap::Power(*node));
@@ -64,7 +64,7 @@ fn node_at(place: u32) -> Node {
     }
 }
 
-/// What went wrong if the line is not that of the answer that was due; `printing` is the job that was to be printed. None if it tells only that a commit in doubt counts.
+/// What went wrong if the line is not that of the answer that was due; `printing` is the job that was to be printed. None if it reports only that a commit in doubt counts.
 pub fn mishap_at(printing: Option<u32>, line: &[u8]) -> Option<Mishap> {
     if let Some(job) = printing {
         if is_told(&Reply::PrinterFault(job), line) {

@@ -1,4 +1,4 @@
-//! The commit that a reply tells of, by the event and the reply.
+//! The commit that a reply reports, by the event and the reply.
 use crate::doings::Doing;
 use audit_journal::{Amount, Deed, Entry};
 use bench_base::events::Reply;

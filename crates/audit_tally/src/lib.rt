@@ -1,4 +1,4 @@
-//! What an audit counts of lines, apart from what its auditor knows: the commit that a reply tells of, jobs, pieces, requests, refusals and failures.
+//! What an audit counts of lines, apart from what its auditor knows: the commit that a reply reports, jobs, pieces, requests, refusals and failures.
 #![tactic(auto)]
 
 mod causes;

@@ -1,4 +1,5 @@
-//! Where something was told.
+//! Where something was reported.
+ghost use Rattle.std.specs.Prelude.{◌≡◌, ◌↔◌, IsTrue};
 
 /// A line of a script: of the run of this place among all, counted from 0, and its number, counted from 1.
 #[derive(Clone, Copy)]
@@ -9,7 +10,9 @@ pub struct Place {
 
 impl Place {
     /// Whether it is the same line of the same run.
-    pub fn is_at(&self, other: &Place) -> bool {
+    pub fn is_at(&self, other: &Place) -> bool
+        ensures { IsTrue result ↔ ((self.now.run ≡ other.now.run) × (self.now.line ≡ other.now.line)) }
+    {
         self.run == other.run && self.line == other.line
     }
 }

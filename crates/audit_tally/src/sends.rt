@@ -72,7 +72,7 @@ impl Sends {
         self.jobs.clear();
     }
 
-    /// Keeps the message of a reply that was told, if it sent one. AllocError is lack of memory.
+    /// Keeps the message of a reply that was reported, if it sent one. AllocError is lack of memory.
     pub fn hear(&mut self, reply: &Reply) -> Result<(), AllocError> {
         if let Some(job) = sent_by(reply) {
             self.jobs.push(job)?;
