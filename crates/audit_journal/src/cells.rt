@@ -1,4 +1,4 @@
-//! What stands in the columns of a row.
+//! What is in the columns of a row.
 use crate::entry::{Account, Amount, At, Deed, Entry, Row};
 use crate::texts::date_text;
 use crate::words::{deed_word, kind_word, node_text, verdict_word};
@@ -6,13 +6,13 @@ use bench_base::numbers::{Customer, DayNo, DevNo};
 use bench_base::words::{Kind, Verdict};
 use std::alloc::{AllocError, Global};
 
-/// The names of the columns behind the run.
+/// The names of the columns after the run.
 pub const BEHIND_RUN: [&str; 17] = [
     "line", "day", "node", "kind", "request", "verdict", "device", "customer", "number", "piece",
     "job", "class", "asked", "amount", "account", "balance", "counted",
 ];
 
-/// What stands in a column.
+/// What is in a column.
 #[derive(Drop)]
 pub enum Cell {
     Empty,
@@ -126,44 +126,76 @@ fn class_number(class: Option<u16>) -> Option<u64> {
     }
 }
 
-// Adds what was done: line, day, node, kind, request and verdict.
-fn add_deed(alloc: Global, cells: &mut Vec<Cell>, row: &Row<'_>) -> Result<(), AllocError> {
-    let entry = &row.entry;
-    cells.push(number_cell(alloc, Some(row.at.line as u64))?)?;
-    cells.push(day_cell(alloc, entry.day)?)?;
-    cells.push(Cell::Words(node_text(alloc, &entry.node)?))?;
-    cells.push(Cell::Words(deed_text(alloc, entry)?))?;
-    cells.push(word_cell(alloc, request_word(entry.request))?)?;
-    cells.push(word_cell(alloc, ruling_word(entry.verdict))?)?;
+// Adds a column, if there was memory for what is in it.
+fn add_cell(cells: &mut Vec<Cell>, made: Result<Cell, AllocError>) -> Result<(), AllocError> {
+    cells.push(made?)?;
     Ok(())
 }
 
-// Adds of what it was done: device, customer, number, piece, job and class.
+// A column of these words, if there was memory for them.
+fn of_words(made: Result<String, AllocError>) -> Result<Cell, AllocError> {
+    Ok(Cell::Words(made?))
+}
+
+// Adds where and when it was done, and by whom: line, day and node.
+fn add_place(alloc: Global, cells: &mut Vec<Cell>, row: &Row<'_>) -> Result<(), AllocError> {
+    add_cell(cells, number_cell(alloc, Some(row.at.line as u64)))?;
+    add_cell(cells, day_cell(alloc, row.entry.day))?;
+    add_cell(cells, of_words(node_text(alloc, &row.entry.node)))
+}
+
+// Adds what was done: kind, request and verdict.
+fn add_deed(alloc: Global, cells: &mut Vec<Cell>, entry: &Entry) -> Result<(), AllocError> {
+    add_cell(cells, of_words(deed_text(alloc, entry)))?;
+    add_cell(cells, word_cell(alloc, request_word(entry.request)))?;
+    add_cell(cells, word_cell(alloc, ruling_word(entry.verdict)))
+}
+
+// Adds of whom it was done: device, customer and number.
 fn add_subject(alloc: Global, cells: &mut Vec<Cell>, entry: &Entry) -> Result<(), AllocError> {
-    cells.push(device_cell(alloc, entry.device)?)?;
-    cells.push(number_cell(alloc, customer_number(entry.customer))?)?;
-    cells.push(number_cell(alloc, Some(entry.number as u64))?)?;
-    cells.push(number_cell(alloc, widened(entry.piece))?)?;
-    cells.push(number_cell(alloc, widened(entry.job))?)?;
-    cells.push(number_cell(alloc, class_number(entry.class))?)?;
-    Ok(())
+    add_cell(cells, device_cell(alloc, entry.device))?;
+    add_cell(cells, number_cell(alloc, customer_number(entry.customer)))?;
+    add_cell(cells, number_cell(alloc, Some(entry.number as u64)))
 }
 
-// Adds what it moved: asked, amount, account and balance.
-fn add_money(alloc: Global, cells: &mut Vec<Cell>, entry: &Entry) -> Result<(), AllocError> {
-    cells.push(number_cell(alloc, entry.asked)?)?;
-    cells.push(amount_cell(alloc, entry.amount)?)?;
-    cells.push(account_cell(alloc, entry.account)?)?;
-    cells.push(number_cell(alloc, entry.balance)?)?;
-    Ok(())
+// Adds of which mail it was done: piece, job and class.
+fn add_mail(alloc: Global, cells: &mut Vec<Cell>, entry: &Entry) -> Result<(), AllocError> {
+    add_cell(cells, number_cell(alloc, widened(entry.piece)))?;
+    add_cell(cells, number_cell(alloc, widened(entry.job)))?;
+    add_cell(cells, number_cell(alloc, class_number(entry.class)))
 }
 
-/// What stands in the columns behind the run, in their order. AllocError is lack of memory.
+// Adds what it moved: asked and amount.
+fn add_amounts(alloc: Global, cells: &mut Vec<Cell>, entry: &Entry) -> Result<(), AllocError> {
+    add_cell(cells, number_cell(alloc, entry.asked))?;
+    add_cell(cells, amount_cell(alloc, entry.amount))
+}
+
+// Adds the account that it moved it in: account and balance.
+fn add_account(alloc: Global, cells: &mut Vec<Cell>, entry: &Entry) -> Result<(), AllocError> {
+    add_cell(cells, account_cell(alloc, entry.account))?;
+    add_cell(cells, number_cell(alloc, entry.balance))
+}
+
+// Adds what was done, of whom and of which mail: the columns up to the class.
+fn add_front(alloc: Global, cells: &mut Vec<Cell>, row: &Row<'_>) -> Result<(), AllocError> {
+    add_place(alloc, cells, row)?;
+    add_deed(alloc, cells, &row.entry)?;
+    add_subject(alloc, cells, &row.entry)?;
+    add_mail(alloc, cells, &row.entry)
+}
+
+// Adds what it moved, and where it came to count: the columns after the class.
+fn add_back(alloc: Global, cells: &mut Vec<Cell>, row: &Row<'_>) -> Result<(), AllocError> {
+    add_amounts(alloc, cells, &row.entry)?;
+    add_account(alloc, cells, &row.entry)?;
+    add_cell(cells, at_cell(alloc, row.counted))
+}
+
+/// What is in the columns after the run, in their order. AllocError is lack of memory.
 pub fn cells_of(alloc: Global, row: &Row<'_>) -> Result<Vec<Cell>, AllocError> {
     let mut cells = Vec::new(alloc);
-    add_deed(alloc, &mut cells, row)?;
-    add_subject(alloc, &mut cells, &row.entry)?;
-    add_money(alloc, &mut cells, &row.entry)?;
-    cells.push(at_cell(alloc, row.counted)?)?;
+    add_front(alloc, &mut cells, row)?;
+    add_back(alloc, &mut cells, row)?;
     Ok(cells)
 }

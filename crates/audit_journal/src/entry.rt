@@ -48,7 +48,7 @@ pub struct Entry {
     pub node: Node,
     pub deed: Deed,
     pub day: Option<DayNo>,
-    /// What a device asked for, of the four deeds of a request.
+    /// What a device asked for, of the four kinds of a request.
     pub request: Option<Kind>,
     /// How the centre ruled on the request.
     pub verdict: Option<Verdict>,
@@ -65,7 +65,7 @@ pub struct Entry {
     /// What was added to the balance, or the postage of an order or an acceptance, in mills.
     pub amount: Option<Amount>,
     pub account: Option<Account>,
-    /// The balance of the account behind the commit, in mills.
+    /// The balance of the account after the commit, in mills.
     pub balance: Option<u64>,
 }
 

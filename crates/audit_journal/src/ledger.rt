@@ -7,7 +7,7 @@ use audit_words::shown_text;
 use bench_base::numbers::DayNo;
 use std::alloc::{AllocError, Global};
 
-/// What stands before the first transaction.
+/// What comes before the first transaction.
 pub const HEAD: &str =
     "; The journal of a postage meter: a transaction for each commit that moves money.\n; An amount is in dollars: a mill is $0.001.\ndecimal-mark .\ncommodity $1.000\n\n";
 
@@ -58,7 +58,7 @@ fn description(alloc: Global, row: &Row<'_>) -> Result<String, AllocError> {
     format!(in alloc; "{deed} {who} {}, {place}", row.entry.number)
 }
 
-// What is said behind the description: the `up` at which the commit came to count.
+// What follows the description: the `up` at which the commit came to count.
 fn remark(alloc: Global, counted: Option<At<'_>>) -> Result<String, AllocError> {
     match counted {
         Some(up) => {
@@ -80,6 +80,26 @@ fn told_day(alloc: Global, day: Option<DayNo>, dated: DayNo) -> Result<String, A
     }
 }
 
+// The first line of a transaction: its date, what it is, and where it came to count if that was late.
+fn headline(alloc: Global, row: &Row<'_>, dated: DayNo) -> Result<String, AllocError> {
+    let date = date_text(alloc, dated.get())?;
+    let what = description(alloc, row)?;
+    let late = remark(alloc, row.counted)?;
+    format!(in alloc; "{date} {what}{late}\n")
+}
+
+// The transaction of these postings.
+fn posted(
+    alloc: Global,
+    row: &Row<'_>,
+    dated: DayNo,
+    postings: &str,
+) -> Result<String, AllocError> {
+    let head = headline(alloc, row, dated)?;
+    let day = told_day(alloc, row.entry.day, dated)?;
+    format!(in alloc; "{head}{day}{postings}\n")
+}
+
 /// The transaction of the row, dated so; None if it moves no money. AllocError is lack of memory.
 pub fn transaction(
     alloc: Global,
@@ -89,11 +109,10 @@ pub fn transaction(
     let Some(postings) = postings_of(alloc, &row.entry)? else {
         return Ok(None);
     };
-    let date = date_text(alloc, dated.get())?;
-    let what = description(alloc, row)?;
-    let late = remark(alloc, row.counted)?;
-    let day = told_day(alloc, row.entry.day, dated)?;
-    Ok(Some(format!(in alloc; "{date} {what}{late}\n{day}{postings}\n")?))
+    match posted(alloc, row, dated, postings.as_str()) {
+        Ok(text) => Ok(Some(text)),
+        Err(fault) => Err(fault),
+    }
 }
 
 /// The comment on a commit in doubt; None if such a commit moves no money. AllocError is lack of memory.

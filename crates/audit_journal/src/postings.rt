@@ -1,4 +1,4 @@
-//! The two postings of a transaction: what moved, from which account to which, and the balance behind it.
+//! The two postings of a transaction: what moved, from which account to which, and the balance after it.
 use crate::entry::{Account, Amount, Deed, Entry};
 use crate::texts::{dollars, signed_dollars};
 use bench_base::numbers::{Customer, DevNo};
@@ -29,7 +29,7 @@ fn transit(entry: &Entry) -> Option<Other> {
     }
 }
 
-// Where the money comes from, or goes to. None if the commit moves none.
+// The account that the money is taken from, or goes to. None if the commit moves none.
 fn other_of(entry: &Entry) -> Option<Other> {
     match entry.deed {
         Deed::Debited => Some(Other::Franked),
@@ -106,15 +106,36 @@ fn taken_from(amount: Amount) -> Amount {
     }
 }
 
+// The posting of the entry's account, with its balance.
+fn own_posting(alloc: Global, moving: &Moving) -> Result<String, AllocError> {
+    let account = account_name(alloc, moving.account)?;
+    let gets = signed_dollars(alloc, moving.amount)?;
+    let balance = assertion(alloc, moving.balance)?;
+    format!(in alloc; "    {account}  {gets}{balance}\n")
+}
+
+// The posting of the other account.
+fn other_posting(alloc: Global, moving: &Moving) -> Result<String, AllocError> {
+    let account = other_name(alloc, moving.other)?;
+    let gives = signed_dollars(alloc, taken_from(moving.amount))?;
+    format!(in alloc; "    {account}  {gives}\n")
+}
+
+// Both postings, a line each.
+fn both_postings(alloc: Global, moving: &Moving) -> Result<String, AllocError> {
+    let mut text = own_posting(alloc, moving)?;
+    let other = other_posting(alloc, moving)?;
+    text.push_str(other.as_str())?;
+    Ok(text)
+}
+
 /// The postings of the entry, a line each; None if it moves no money. AllocError is lack of memory.
 pub fn postings_of(alloc: Global, entry: &Entry) -> Result<Option<String>, AllocError> {
     let Some(moving) = moving_of(entry) else {
         return Ok(None);
     };
-    let own = account_name(alloc, moving.account)?;
-    let gets = signed_dollars(alloc, moving.amount)?;
-    let balance = assertion(alloc, moving.balance)?;
-    let other = other_name(alloc, moving.other)?;
-    let gives = signed_dollars(alloc, taken_from(moving.amount))?;
-    Ok(Some(format!(in alloc; "    {own}  {gets}{balance}\n    {other}  {gives}\n")?))
+    match both_postings(alloc, &moving) {
+        Ok(text) => Ok(Some(text)),
+        Err(fault) => Err(fault),
+    }
 }

@@ -9,7 +9,7 @@ use std::alloc::Global;
 pub const NAMES: &[u8] =
     b"run,line,day,node,kind,request,verdict,device,customer,number,piece,job,class,asked,amount,account,balance,counted\r\n";
 
-// What stands in the column, as bytes.
+// What is in the column, as bytes.
 fn bytes_of(cell: &Cell) -> &[u8] {
     match cell {
         Cell::Empty => &[],
@@ -29,7 +29,7 @@ fn record_of(alloc: Global, fields: &[&[u8]]) -> Result<Vec<u8>, csv::Error> {
     }
 }
 
-// The record of a run and of what stands in the columns behind it.
+// The record of a run and of what is in the columns after it.
 fn record_behind(alloc: Global, run: &str, cells: &[Cell]) -> Result<Vec<u8>, BookFault> {
     let mut fields = Vec::new(alloc);
     let Ok(()) = fields.push(run.as_bytes()) else {

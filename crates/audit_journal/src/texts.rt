@@ -16,7 +16,7 @@ pub fn dollars(alloc: Global, mills: u64) -> Result<String, AllocError> {
     format!(in alloc; "${}.{:03}", mills / 1000, mills % 1000)
 }
 
-/// The amount in dollars, with a minus behind the sign if it is below 0, such as `$-0.550`. AllocError is lack of memory.
+/// The amount in dollars, with a minus after the sign if it is below 0, such as `$-0.550`. AllocError is lack of memory.
 pub fn signed_dollars(alloc: Global, amount: Amount) -> Result<String, AllocError> {
     if amount.minus {
         format!(in alloc; "$-{}.{:03}", amount.size / 1000, amount.size % 1000)

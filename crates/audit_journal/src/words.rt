@@ -3,7 +3,7 @@ use crate::entry::Deed;
 use bench_base::words::{Kind, Node, Verdict};
 use std::alloc::{AllocError, Global};
 
-/// The word for what a commit did. That of a request stands behind `asked`.
+/// The word for what a commit did. That of a request follows `asked`.
 pub fn deed_word(deed: Deed) -> &'static str {
     match deed {
         Deed::Made => "made",

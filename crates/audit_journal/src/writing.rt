@@ -134,7 +134,7 @@ impl Journal {
         self.put_text(transaction(alloc, row, dated))
     }
 
-    /// Puts a row behind the others. BookFault::Write if standard output takes no more, BookFault::Memory is lack of memory.
+    /// Adds a row after the others. BookFault::Write if standard output takes no more, BookFault::Memory is lack of memory.
     pub fn add(&mut self, rt: &HostRuntime, row: &Row<'_>) -> Result<(), BookFault> {
         match self.form {
             Form::None => return Ok(()),

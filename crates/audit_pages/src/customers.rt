@@ -36,18 +36,37 @@ fn trade_of(auditor: &Auditor, customer: Customer) -> Trade {
     trade
 }
 
+// What a customer bought and got back.
+fn trade_text(alloc: Global, trade: &Trade) -> Result<String, AllocError> {
+    let bought = money_text(alloc, trade.bought)?;
+    let returned = money_text(alloc, trade.returned)?;
+    format!(in alloc; "bought {bought} returned {returned}")
+}
+
 // What a customer paid in, bought, got back and has left.
-fn trade_text(
+fn account_text(
     alloc: Global,
     deposits: u64,
     trade: &Trade,
     left: u64,
 ) -> Result<String, AllocError> {
     let deposits = money_text(alloc, deposits)?;
-    let bought = money_text(alloc, trade.bought)?;
-    let returned = money_text(alloc, trade.returned)?;
+    let traded = trade_text(alloc, trade)?;
     let left = money_text(alloc, left)?;
-    format!(in alloc; "deposits {deposits} bought {bought} returned {returned} balance {left}")
+    format!(in alloc; "deposits {deposits} {traded} balance {left}")
+}
+
+fn customer_text(
+    alloc: Global,
+    auditor: &Auditor,
+    customer: Customer,
+    deposits: u64,
+    is_suspended: bool,
+) -> Result<String, AllocError> {
+    let trade = trade_of(auditor, customer);
+    let account = account_text(alloc, deposits, &trade, auditor.left_of(customer))?;
+    let standing = if is_suspended { " suspended" } else { "" };
+    format!(in alloc; "customer {} {account}{standing}", customer.get())
 }
 
 // Prints what there is of a customer that is open.
@@ -55,15 +74,10 @@ fn tell_customer(rt: &HostRuntime, auditor: &Auditor, customer: Customer) -> Res
     let Some(row) = auditor.customer_row(customer) else {
         return Ok(());
     };
-    let trade = trade_of(auditor, customer);
-    let left = auditor.left_of(customer);
-    let Ok(text) = trade_text(rt.alloc(), row.deposits, &trade, left) else {
-        return Err(BookFault::Memory);
-    };
-    let standing = if row.suspended { " suspended" } else { "" };
+    let (deposits, is_suspended) = (row.deposits, row.suspended);
     say(
         rt,
-        format!(in rt.alloc(); "customer {} {text}{standing}", customer.get()),
+        customer_text(rt.alloc(), auditor, customer, deposits, is_suspended),
     )
 }
 

@@ -104,6 +104,23 @@ fn tell_pending(
     }
 }
 
+// Prints until when a device that was made franks, and what it has asked for.
+fn tell_view(
+    rt: &HostRuntime,
+    auditor: &Auditor,
+    book: &Book,
+    device: DevNo,
+    day: DayNo,
+) -> Result<(), BookFault>
+    requires ready { IsReady (audit_of auditor.now) }
+{
+    let Some(view) = auditor.shown_of(device, day) else {
+        return Ok(());
+    };
+    tell_deadline(rt, device, &view, day)?;
+    tell_pending(rt, auditor, book, device, &view)
+}
+
 // Prints what there is of a device that was made.
 fn tell_device(
     rt: &HostRuntime,
@@ -117,13 +134,9 @@ fn tell_device(
     let Some(status) = auditor.status_of(device, day) else {
         return Ok(());
     };
-    tell_reply(rt, &status)?;
-    tell_reply(rt, &auditor.reconcile_of(device))?;
-    let Some(view) = auditor.shown_of(device, day) else {
-        return Ok(());
-    };
-    tell_deadline(rt, device, &view, day)?;
-    tell_pending(rt, auditor, book, device, &view)
+    tell_reply(rt, status)?;
+    tell_reply(rt, auditor.reconcile_of(device))?;
+    tell_view(rt, auditor, book, device, day)
 }
 
 /// Prints what there is of each device that was made. BookFault::Write if standard output takes no more, BookFault::Memory is lack of memory.

@@ -80,16 +80,22 @@ fn outcome_words(outcome: Outcome) -> &'static str {
     }
 }
 
+// What went wrong, and on which day.
+fn dated_text(alloc: Global, incident: &Incident) -> Result<String, AllocError> {
+    let what = mishap_text(alloc, &incident.mishap)?;
+    let day = day_text(alloc, incident.day)?;
+    format!(in alloc; "{what}{day}")
+}
+
 fn incident_text(
     alloc: Global,
     names: &[String],
     incident: &Incident,
 ) -> Result<String, AllocError> {
     let place = place_text(alloc, names, &incident.place)?;
-    let what = mishap_text(alloc, &incident.mishap)?;
-    let day = day_text(alloc, incident.day)?;
+    let what = dated_text(alloc, incident)?;
     let outcome = outcome_words(incident.outcome);
-    format!(in alloc; "at {place}: {what}{day}{outcome}")
+    format!(in alloc; "at {place}: {what}{outcome}")
 }
 
 /// Prints what went wrong, in its order. BookFault::Write if standard output takes no more, BookFault::Memory is lack of memory.

@@ -1,4 +1,4 @@
-//! What is printed below the verdicts of an audit: the page of what the runs came to, and the table of what the auditor has behind them.
+//! What is printed below the verdicts of an audit: the page of what the runs came to, and the table of what the auditor has after them.
 #![tactic(auto)]
 
 mod customers;

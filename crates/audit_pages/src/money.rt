@@ -43,38 +43,61 @@ fn add_device(auditor: &Auditor, sums: &mut Sums, device: DevNo, view: &DevView)
     sums.devices = sums.devices.saturating_add(left);
 }
 
+// Adds what the device of this number has, if it was made.
+fn add_number(auditor: &Auditor, sums: &mut Sums, number: u32, day: DayNo)
+    requires ready { IsReady (audit_of auditor.now) }
+{
+    let Some(device) = DevNo::new(number) else {
+        return;
+    };
+    if let Some(view) = auditor.shown_of(device, day) {
+        add_device(auditor, sums, device, &view);
+    }
+}
+
 fn add_devices(auditor: &Auditor, sums: &mut Sums, day: DayNo)
     requires ready { IsReady (audit_of auditor.now) }
 {
     for number in 1..9 {
-        if let Some(device) = DevNo::new(number) {
-            if let Some(view) = auditor.shown_of(device, day) {
-                add_device(auditor, sums, device, &view);
-            }
-        }
+        add_number(auditor, sums, number, day);
+    }
+}
+
+// Adds what the customer paid in and has left, if it is open.
+fn add_customer(auditor: &Auditor, sums: &mut Sums, customer: Customer) {
+    if let Some(row) = auditor.customer_row(customer) {
+        sums.deposits = sums.deposits.saturating_add(row.deposits);
+        sums.customers = sums.customers.saturating_add(auditor.left_of(customer));
     }
 }
 
 fn add_customers(auditor: &Auditor, sums: &mut Sums) {
     for number in 1..65 {
         if let Some(customer) = Customer::new(number) {
-            if let Some(row) = auditor.customer_row(customer) {
-                sums.deposits = sums.deposits.saturating_add(row.deposits);
-                sums.customers = sums.customers.saturating_add(auditor.left_of(customer));
-            }
+            add_customer(auditor, sums, customer);
         }
     }
 }
 
-fn sums_text(alloc: Global, sums: &Sums, franked: u64) -> Result<String, AllocError> {
+// What customers paid in and have left.
+fn paid_text(alloc: Global, sums: &Sums) -> Result<String, AllocError> {
     let deposits = money_text(alloc, sums.deposits)?;
     let customers = money_text(alloc, sums.customers)?;
+    format!(in alloc; "deposits {deposits} customers {customers}")
+}
+
+// What is on the way to devices and on them.
+fn loaded_text(alloc: Global, sums: &Sums) -> Result<String, AllocError> {
     let way = money_text(alloc, sums.way)?;
     let devices = money_text(alloc, sums.devices)?;
+    format!(in alloc; "way {way} devices {devices}")
+}
+
+fn sums_text(alloc: Global, sums: &Sums, franked: u64) -> Result<String, AllocError> {
+    let paid = paid_text(alloc, sums)?;
+    let loaded = loaded_text(alloc, sums)?;
     let franked = money_text(alloc, franked)?;
-    format!(in alloc;
-        "money deposits {deposits} customers {customers} way {way} devices {devices} franked {franked}"
-    )
+    format!(in alloc; "money {paid} {loaded} franked {franked}")
 }
 
 /// Prints where the money is: the deposits are the sum of the others. BookFault::Write if standard output takes no more, BookFault::Memory is lack of memory.

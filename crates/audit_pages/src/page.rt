@@ -54,7 +54,7 @@ fn postage_text(alloc: Global, book: &Book) -> Result<String, AllocError> {
     format!(in alloc; "postage franked {franked} accepted {accepted}")
 }
 
-// Prints how far jobs came, what was told of marks, and the postage of pieces.
+// Prints how far jobs came, what was reported of marks, and the postage of pieces.
 fn tell_counts(rt: &HostRuntime, auditor: &Auditor, book: &Book) -> Result<(), BookFault> {
     say(rt, jobs_text(rt.alloc(), auditor, book))?;
     say(rt, marks_text(rt.alloc(), book))?;
@@ -96,8 +96,7 @@ fn tell_device_note(rt: &HostRuntime, auditor: &Auditor, device: DevNo) -> Resul
     tell_note(rt, auditor, &node)
 }
 
-// Prints the numbers of commits that are to be noted.
-fn tell_notes(rt: &HostRuntime, auditor: &Auditor) -> Result<(), BookFault>
+fn tell_device_notes(rt: &HostRuntime, auditor: &Auditor) -> Result<(), BookFault>
     requires ready { IsReady (audit_of auditor.now) }
 {
     for number in 1..9 {
@@ -105,6 +104,14 @@ fn tell_notes(rt: &HostRuntime, auditor: &Auditor) -> Result<(), BookFault>
             tell_device_note(rt, auditor, device)?;
         }
     }
+    Ok(())
+}
+
+// Prints the numbers of commits that are to be noted.
+fn tell_notes(rt: &HostRuntime, auditor: &Auditor) -> Result<(), BookFault>
+    requires ready { IsReady (audit_of auditor.now) }
+{
+    tell_device_notes(rt, auditor)?;
     tell_note(rt, auditor, &Node::Centre)?;
     tell_note(rt, auditor, &Node::Host)?;
     tell_note(rt, auditor, &Node::Verifier)
@@ -135,17 +142,27 @@ fn tell_digests(rt: &HostRuntime, names: &[String], digests: &[[u8; 32]]) -> Res
     Ok(())
 }
 
-// Prints what there is of jobs and pieces, of refusals, and of what went wrong.
-fn tell_lists(rt: &HostRuntime, names: &[String], book: &Book) -> Result<(), BookFault> {
+// Prints what there is of jobs and pieces.
+fn tell_mail(rt: &HostRuntime, book: &Book) -> Result<(), BookFault> {
     tell_open_jobs(rt, book.jobs.as_slice())?;
     tell_spoiled(rt, book)?;
-    tell_unaccepted(rt, &book.pieces)?;
+    tell_unaccepted(rt, &book.pieces)
+}
+
+// Prints what there is of refusals, and of what went wrong.
+fn tell_failures(rt: &HostRuntime, names: &[String], book: &Book) -> Result<(), BookFault> {
     tell_ungranted(rt, names, book.ungranted.as_slice())?;
     tell_causes(rt, names, book.causes.as_slice())?;
     tell_incidents(rt, names, book.incidents.as_slice())
 }
 
-/// Prints the page of these runs, each with its digest, if this is the last day that was told. Without one nothing was done in any run, and no device was made.
+// Prints what there is of jobs and pieces, of refusals, and of what went wrong.
+fn tell_lists(rt: &HostRuntime, names: &[String], book: &Book) -> Result<(), BookFault> {
+    tell_mail(rt, book)?;
+    tell_failures(rt, names, book)
+}
+
+/// Prints the page of these runs, each with its digest, if this is the last day that was reported. Without one nothing was done in any run, and no device was made.
 /// BookFault::Write if standard output takes no more, BookFault::Memory is lack of memory.
 pub fn tell_page(
     rt: &HostRuntime,

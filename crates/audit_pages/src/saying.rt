@@ -18,9 +18,9 @@ pub fn say(rt: &HostRuntime, text: Result<String, AllocError>) -> Result<(), Boo
 }
 
 /// Prints the line that a report has for this reply. BookFault::Write if standard output takes no more, BookFault::Memory is lack of memory.
-pub fn tell_reply(rt: &HostRuntime, reply: &Reply) -> Result<(), BookFault> {
+pub fn tell_reply(rt: &HostRuntime, reply: Reply) -> Result<(), BookFault> {
     let mut line = Line::new();
-    put_reply(&mut line, reply);
+    put_reply(&mut line, &reply);
     say(rt, shown(rt.alloc(), line.as_slice()))
 }
 

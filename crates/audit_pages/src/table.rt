@@ -1,4 +1,4 @@
-//! The table below the verdicts: what the auditor has behind the runs, a fact a line.
+//! The table below the verdicts: what the auditor has after the runs, a fact a line.
 ghost use Rattle.told_bench.specs.Seeing.{IsReady, audit_of};
 
 use crate::saying::{say, tell_reply};
@@ -47,7 +47,7 @@ fn tell_device(
 {
     let node = Node::Device(device);
     if let Some(status) = auditor.status_of(device, day) {
-        tell_reply(rt, &status)?;
+        tell_reply(rt, status)?;
         tell_commits(rt, auditor, &node)?;
     }
     tell_open(rt, auditor, &node)
@@ -64,13 +64,19 @@ fn tell_devices(rt: &HostRuntime, auditor: &Auditor, day: DayNo) -> Result<(), B
     Ok(())
 }
 
+// Prints the balance of the customer, if it is open.
+fn tell_balance(rt: &HostRuntime, auditor: &Auditor, customer: Customer) -> Result<(), BookFault> {
+    match auditor.balance_of(customer) {
+        Some(balance) => tell_reply(rt, balance),
+        None => Ok(()),
+    }
+}
+
 // Prints the balance of each customer that is open.
 fn tell_balances(rt: &HostRuntime, auditor: &Auditor) -> Result<(), BookFault> {
     for number in 1..65 {
         if let Some(customer) = Customer::new(number) {
-            if let Some(balance) = auditor.balance_of(customer) {
-                tell_reply(rt, &balance)?;
-            }
+            tell_balance(rt, auditor, customer)?;
         }
     }
     Ok(())
@@ -84,18 +90,32 @@ fn tell_node(rt: &HostRuntime, auditor: &Auditor, node: &Node) -> Result<(), Boo
     tell_open(rt, auditor, node)
 }
 
-/// Prints the table, if this is the last day that was told. Without one nothing was done in any run, and no device was made. BookFault::Write if standard output takes no
+// Prints the day, and what there is of the devices on it.
+fn tell_day(rt: &HostRuntime, auditor: &Auditor, day: DayNo) -> Result<(), BookFault>
+    requires ready { IsReady (audit_of auditor.now) }
+{
+    tell_reply(rt, Reply::Day(day))?;
+    tell_devices(rt, auditor, day)
+}
+
+// Prints what there is of the host and of the verifier.
+fn tell_others(rt: &HostRuntime, auditor: &Auditor) -> Result<(), BookFault>
+    requires ready { IsReady (audit_of auditor.now) }
+{
+    tell_node(rt, auditor, &Node::Host)?;
+    say(rt, format!(in rt.alloc(); "jobs {}", auditor.last_job()))?;
+    tell_node(rt, auditor, &Node::Verifier)
+}
+
+/// Prints the table, if this is the last day that was reported. Without one nothing was done in any run, and no device was made. BookFault::Write if standard output takes no
 /// more, BookFault::Memory is lack of memory.
 pub fn tell_table(rt: &HostRuntime, auditor: &Auditor, day: Option<DayNo>) -> Result<(), BookFault>
     requires ready { IsReady (audit_of auditor.now) }
 {
     if let Some(day) = day {
-        tell_reply(rt, &Reply::Day(day))?;
-        tell_devices(rt, auditor, day)?;
+        tell_day(rt, auditor, day)?;
     }
     tell_node(rt, auditor, &Node::Centre)?;
     tell_balances(rt, auditor)?;
-    tell_node(rt, auditor, &Node::Host)?;
-    say(rt, format!(in rt.alloc(); "jobs {}", auditor.last_job()))?;
-    tell_node(rt, auditor, &Node::Verifier)
+    tell_others(rt, auditor)
 }
