@@ -1,5 +1,5 @@
-//! Goes over runs that were judged once more, a line after the other, and has the book count what they tell. An auditor of its own is taken along: what is
-//! known of a node before and behind a line is what that tells.
+//! Goes over runs that were judged once more, a line after the other, and has the book count what they report. An auditor of its own goes along: what is
+//! known of a node before and after a line is what that knows.
 ghost use Rattle.std.specs.Prelude.{IfOk};
 ghost use Rattle.bench_base.specs.Ranges.{IsWholeEvent};
 ghost use Rattle.told_bench.specs.Seeing.{IsReady, audit_of};
@@ -61,7 +61,7 @@ fn due(
     }
 }
 
-/// Goes over runs behind the judgements on them.
+/// Goes over runs after they were judged.
 #[derive(Drop)]
 pub struct Clerk {
     pub auditor: Auditor,
@@ -78,7 +78,7 @@ fn known(auditor: &Auditor, made: &Option<Made>) -> Option<Figures>
     }
 }
 
-// Sees what became of this commit, by what was known of its node before the line and is behind it.
+// Sees what became of this commit, by what was known of its node before the line and is known after it.
 fn settle(
     rt: &HostRuntime,
     names: &[String],
@@ -100,7 +100,7 @@ fn settle(
     book.settle(rt, names, place, made, &seen)
 }
 
-// Adds a row for what became of a print, if the line tells it.
+// Adds a row for what became of a print, if the line reports it.
 fn tell_print(
     rt: &HostRuntime,
     names: &[String],
@@ -118,11 +118,11 @@ fn tell_print(
 }
 
 impl Clerk {
-    /// A clerk that went over no run, and a journal of this form. AllocError is lack of memory.
-    pub fn new(alloc: Global, form: Form) -> Result<Clerk, AllocError>
+    /// A clerk that went over no run, and a journal of this form. What is sent and released is kept, or not, which what is counted does not need. AllocError is lack of memory.
+    pub fn new(alloc: Global, form: Form, is_kept: bool) -> Result<Clerk, AllocError>
         ensures ready { IfOk result (λ c. IsReady (audit_of c.auditor)) }
     {
-        let auditor = Auditor::new(alloc)?;
+        let auditor = Auditor::new(alloc, is_kept)?;
         let book = Book::new(alloc, form)?;
         Ok(Clerk { auditor, book })
     }
@@ -147,6 +147,34 @@ impl Clerk {
         }
     }
 
+    // Settles the commit of an event with this line of the report, and counts the mark that it gives out and what became of its print.
+    fn finish(
+        &mut self,
+        rt: &HostRuntime,
+        names: &[String],
+        place: Place,
+        doing: &Doing,
+        made: &Option<Made>,
+        before: &Option<Figures>,
+        due: &Reply,
+        line: &[u8],
+    ) -> Result<(), BookFault>
+        requires ready { IsReady (audit_of self.old.auditor) }
+        ensures ready { IsReady (audit_of self.new.auditor) }
+    {
+        settle(
+            rt,
+            names,
+            place,
+            &self.auditor,
+            &mut self.book,
+            made,
+            before,
+        )?;
+        self.book.give_out(due, line);
+        tell_print(rt, names, place, &self.auditor, &mut self.book, doing, line)
+    }
+
     // Takes an event with its line of the report, where this answer was due without a failure.
     fn take_due(
         &mut self,
@@ -166,33 +194,13 @@ impl Clerk {
         let made = self.book.expected(place, self.auditor.day(), &doing, &due);
         let before = known(&self.auditor, &made);
         let taken = judged(rt.alloc(), &mut self.auditor, event, rates, line)?;
-        self.book.date(self.auditor.day());
-        self.book
-            .hear(rt.alloc(), place, self.auditor.day(), &doing, &due, line)?;
-        settle(
-            rt,
-            names,
-            place,
-            &self.auditor,
-            &mut self.book,
-            &made,
-            &before,
-        )?;
-        self.book.give_out(&due, line);
-        tell_print(
-            rt,
-            names,
-            place,
-            &self.auditor,
-            &mut self.book,
-            &doing,
-            line,
-        )?;
+        self.hear(rt.alloc(), place, &doing, &due, line)?;
+        self.finish(rt, names, place, &doing, &made, &before, &due, line)?;
         Ok(taken)
     }
 
-    // Hears a reply that a report begins, and ends with.
-    fn hear_begun(
+    // Counts the day, and what the line reports.
+    fn hear(
         &mut self,
         alloc: Global,
         place: Place,
@@ -256,31 +264,42 @@ impl Clerk {
             None => &[],
         };
         if !line.is_empty() {
-            self.hear_begun(rt.alloc(), place, &doing, &due, line)?;
+            self.hear(rt.alloc(), place, &doing, &due, line)?;
         }
         self.book.note(place, Mishap::Stop, self.auditor.day())?;
-        settle(
-            rt,
-            names,
-            place,
-            &self.auditor,
-            &mut self.book,
-            &made,
-            &before,
-        )?;
-        self.book.give_out(&due, line);
-        tell_print(
-            rt,
-            names,
-            place,
-            &self.auditor,
-            &mut self.book,
-            &doing,
-            line,
-        )
+        self.finish(rt, names, place, &doing, &made, &before, &due, line)
     }
 
-    // Goes over the first line of what is left, and gives what is left behind it. None if there is no line, or no answer to it.
+    // Takes the event of the first line of what is left, and gives what is left after it. None if there is no answer to it.
+    fn answer<'a>(
+        &mut self,
+        rt: &HostRuntime,
+        names: &[String],
+        place: Place,
+        left: Left<'a>,
+        stopped: Option<u32>,
+        event: &Event,
+    ) -> Result<Option<Left<'a>>, BookFault>
+        requires whole { IsWholeEvent event.now }
+        requires ready { IsReady (audit_of self.old.auditor) }
+        ensures ready { IsReady (audit_of self.new.auditor) }
+    {
+        let told = line_len(left.report);
+        if told == left.report.len() {
+            if stopped == Some(place.line) {
+                self.break_off(rt, names, place, event, left)?;
+            }
+            return Ok(None);
+        }
+        let taken = self.take(rt, names, place, event, left.rates, &left.report[..told])?;
+        Ok(Some(Left {
+            script: behind_line(left.script),
+            report: &left.report[told + 1..],
+            rates: behind(left.rates, taken),
+        }))
+    }
+
+    // Goes over the first line of what is left, and gives what is left after it. None if there is no line, or no answer to it.
     fn turn<'a>(
         &mut self,
         rt: &HostRuntime,
@@ -296,26 +315,14 @@ impl Clerk {
             return Ok(None);
         }
         let line = &left.script[..line_len(left.script)];
-        let script = behind_line(left.script);
         if is_skipped(line) {
+            let script = behind_line(left.script);
             return Ok(Some(Left { script, ..left }));
         }
-        let told = line_len(left.report);
-        let Ok(event) = &read_event(line) else {
-            return Ok(None);
-        };
-        if told == left.report.len() {
-            if stopped == Some(place.line) {
-                self.break_off(rt, names, place, event, left)?;
-            }
-            return Ok(None);
+        match &read_event(line) {
+            Ok(event) => self.answer(rt, names, place, left, stopped, event),
+            Err(_) => Ok(None),
         }
-        let taken = self.take(rt, names, place, event, left.rates, &left.report[..told])?;
-        Ok(Some(Left {
-            script,
-            report: &left.report[told + 1..],
-            rates: behind(left.rates, taken),
-        }))
     }
 
     /// Goes over the run of this place among the names, as far as its report has answers, and over the event of the line in which it was stopped.

@@ -1,4 +1,4 @@
-//! What the auditor knows of a node before or behind a line. Amounts are in mills.
+//! What the auditor knows of a node before or after a line. Amounts are in mills.
 ghost use Rattle.told_bench.specs.Seeing.{IsReady, audit_of};
 
 use audit_book::{Figures, Ruling, Seen, last_ruling};
@@ -72,7 +72,7 @@ fn ruling_for(auditor: &Auditor, entry: &Entry) -> Option<Ruling> {
     }
 }
 
-/// What is known of the node of the commit behind a line, beside what was known before.
+/// What is known of the node of the commit after a line, beside what was known before.
 pub fn seen_by(auditor: &Auditor, entry: &Entry, before: Figures) -> Seen
     requires ready { IsReady (audit_of auditor.now) }
 {

@@ -1,4 +1,4 @@
-//! Goes over runs that were judged once more: what they come to, in a book, and what was due behind a stop.
+//! Goes over runs that were judged once more: what they come to, in a book, and what was due after a stop.
 #![tactic(auto)]
 
 mod clerk;

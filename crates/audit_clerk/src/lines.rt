@@ -43,7 +43,7 @@ pub(crate) fn line_len(bytes: &[u8]) -> usize
     }
 }
 
-// What is left behind so many bytes.
+// What is left after so many bytes.
 pub(crate) fn behind(bytes: &[u8], taken: usize) -> &[u8] {
     if taken < bytes.len() {
         &bytes[taken..]
@@ -52,7 +52,7 @@ pub(crate) fn behind(bytes: &[u8], taken: usize) -> &[u8] {
     }
 }
 
-// What is left behind the first line and its line end.
+// What is left after the first line and its line end.
 pub(crate) fn behind_line(bytes: &[u8]) -> &[u8] {
     let end = line_len(bytes);
     if end < bytes.len() {

@@ -53,7 +53,7 @@ fn due_line(
     }
 }
 
-// Tells the event as one that was stopped in this answer, which is not the one that is due without a failure.
+// Has the auditor take the event for one that was stopped in this answer, which is not the one that is due without a failure.
 fn break_off(
     alloc: Global,
     auditor: &mut Auditor,
@@ -77,7 +77,7 @@ fn break_off(
     }
 }
 
-// What was due to the event, where the report ends so in its answer; the auditor is told it.
+// What was due to the event, where the report ends so in its answer; the auditor takes it so.
 fn due_in(
     alloc: Global,
     auditor: &mut Auditor,
@@ -109,7 +109,7 @@ fn put_line<K: Sink>(sink: &mut K, line: &[u8]) -> Result<(), BookFault> {
     }
 }
 
-// Writes what was due to the event of the first line of what is left: what is left behind it. None if that was the end.
+// Writes what was due to the event of the first line of what is left: what is left after it. None if that was the end.
 fn answer<'a, K: Sink>(
     alloc: Global,
     auditor: &mut Auditor,
@@ -138,7 +138,31 @@ fn answer<'a, K: Sink>(
     }
 }
 
-// Goes over the first line of what is left: what is left behind it. None if there is none, or nothing more is due.
+// Takes the event of the first line of what is left: what is left after it. None if nothing more is due.
+fn take<'a, K: Sink>(
+    alloc: Global,
+    auditor: &mut Auditor,
+    event: &Event,
+    left: Left<'a>,
+    sink: &mut K,
+) -> Result<Option<Left<'a>>, BookFault>
+    requires whole { IsWholeEvent event.now }
+    requires ready { IsReady (audit_of auditor.old) }
+    ensures ready { IsReady (audit_of auditor.new) }
+{
+    let told = line_len(left.report);
+    if told == left.report.len() {
+        return answer(alloc, auditor, event, left, sink);
+    }
+    let taken = judged(alloc, auditor, event, left.rates, &left.report[..told])?;
+    Ok(Some(Left {
+        script: behind_line(left.script),
+        report: &left.report[told + 1..],
+        rates: behind(left.rates, taken),
+    }))
+}
+
+// Goes over the first line of what is left: what is left after it. None if there is none, or nothing more is due.
 fn turn<'a, K: Sink>(
     alloc: Global,
     auditor: &mut Auditor,
@@ -152,26 +176,17 @@ fn turn<'a, K: Sink>(
         return Ok(None);
     }
     let line = &left.script[..line_len(left.script)];
-    let script = behind_line(left.script);
     if is_skipped(line) {
+        let script = behind_line(left.script);
         return Ok(Some(Left { script, ..left }));
     }
-    let Ok(event) = &read_event(line) else {
-        return Ok(None);
-    };
-    let told = line_len(left.report);
-    if told == left.report.len() {
-        return answer(alloc, auditor, event, left, sink);
+    match &read_event(line) {
+        Ok(event) => take(alloc, auditor, event, left, sink),
+        Err(_) => Ok(None),
     }
-    let taken = judged(alloc, auditor, event, left.rates, &left.report[..told])?;
-    Ok(Some(Left {
-        script,
-        report: &left.report[told + 1..],
-        rates: behind(left.rates, taken),
-    }))
 }
 
-/// Goes over a run behind what the auditor has, and writes the answers that were due from the line on in which it was stopped, a line each, as the report would have them, up to the
+/// Goes over a run after what the auditor has, and writes the answers that were due from the line on in which it was stopped, a line each, as the report would have them, up to the
 /// script's `end`, a bad line or its last one. Where a node's next `up` alone says what became of an event, it is taken as done without a failure. Nothing is written
 /// if the report ends in a failure of a node. BookFault::Counted if a line of the report is no answer to its event, BookFault::Write if the sink failed, BookFault::Memory is
 /// lack of memory.

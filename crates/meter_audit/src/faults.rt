@@ -15,6 +15,8 @@ pub enum Fault {
     Rates(String),
     #[error("cannot use {0}: it has no run")]
     Folder(String),
+    #[error("cannot use {0}: it changed while it was read")]
+    Changed(String),
     #[error("{0} was not stopped, so no answer is due")]
     Unstopped(String),
     #[error("cannot write standard output")]
@@ -33,6 +35,7 @@ pub fn code_of(fault: &Fault) -> u8 {
         | Fault::Pipe(_)
         | Fault::Rates(_)
         | Fault::Folder(_)
+        | Fault::Changed(_)
         | Fault::Unstopped(_)
         | Fault::Write
         | Fault::Counted => 2,

@@ -31,6 +31,17 @@ pub fn unusable_of(rt: &HostRuntime, name: &str, ending: &str) -> Fault {
     }
 }
 
+/// What is said of the script of a run that has bytes, which it had not when it was looked through.
+pub fn changed(rt: &HostRuntime, name: &str) -> Fault {
+    let Ok(file) = joined(rt, name, ".script") else {
+        return Fault::Memory;
+    };
+    match shown_text(rt.alloc(), file.as_str()) {
+        Ok(text) => Fault::Changed(text),
+        Err(_) => Fault::Memory,
+    }
+}
+
 // What is said of a file that is no regular one.
 fn irregular(rt: &HostRuntime, file: &str) -> Fault {
     match shown_text(rt.alloc(), file) {
@@ -54,6 +65,12 @@ pub fn want_regular(rt: &HostRuntime, file: &str) -> Result<(), Fault> {
         Ok(_) => Err(irregular(rt, file)),
         Err(_) => Err(unusable(rt, file)),
     }
+}
+
+/// Refuses the file of a run that has this ending if it is no regular one.
+pub fn want_regular_of(rt: &HostRuntime, name: &str, ending: &str) -> Result<(), Fault> {
+    let file = joined(rt, name, ending)?;
+    want_regular(rt, file.as_str())
 }
 
 // Whether what was opened is a folder, which can't be read.

@@ -18,6 +18,8 @@ pub enum Outcome {
     Stopped(u32),
     Wrong(u32),
     Forged(u32),
+    /// An event brings bytes, and what was sent and released is not kept.
+    Unkept,
     More(u32),
     Unread(Input),
     Memory,
@@ -58,6 +60,7 @@ fn told_by(judgment: &Judgment) -> Told {
             Outcome::Wrong(*line)
         }
         Verdict::Forged(line) => Outcome::Forged(*line),
+        Verdict::Unkept(_) => Outcome::Unkept,
         Verdict::More(line) => Outcome::More(*line),
         Verdict::Memory => Outcome::Memory,
         Verdict::Unread(input, _) => Outcome::Unread(*input),
@@ -89,6 +92,7 @@ fn ending_of(outcome: Outcome, script: &[u8]) -> Ending {
         Outcome::Stopped(_)
         | Outcome::Wrong(_)
         | Outcome::Forged(_)
+        | Outcome::Unkept
         | Outcome::Unread(_)
         | Outcome::Memory => Ending::Done,
     }

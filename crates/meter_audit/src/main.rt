@@ -12,6 +12,7 @@ mod judging;
 mod plan;
 mod prints;
 mod runs;
+mod scripts;
 mod tails;
 mod verdicts;
 
@@ -126,17 +127,17 @@ fn tell_below(
     }
 }
 
-// Judges what the words name over these auditors: the exit status.
+// Judges what was planned over these auditors: the exit status.
 fn judge_words(
     rt: &HostRuntime,
-    words: Words,
+    planned: Result<Plan, Fault>,
     auditor: &mut Auditor,
     clerk: &mut Clerk,
 ) -> Result<u8, Fault>
     requires ready { IsReady (audit_of auditor.old) }
     requires ready_clerk { IsReady (audit_of clerk.old.auditor) }
 {
-    let mut plan = plan_of(rt, words)?;
+    let mut plan = planned?;
     let mut gathered = Gathered::new(rt.alloc());
     if judge_all(rt, &plan, auditor, clerk, &mut gathered)? != 0 {
         return Ok(FINDING);
@@ -171,16 +172,27 @@ fn end_journal(
     }
 }
 
+// Whether a script may bring bytes.
+fn has_bytes(planned: &Result<Plan, Fault>) -> bool {
+    match planned {
+        Ok(plan) => plan.has_bytes,
+        Err(_) => false,
+    }
+}
+
 // Judges what the words name.
 fn audit(rt: &HostRuntime, words: Words) -> Result<u8, Fault> {
-    let Ok(mut auditor) = Auditor::new(rt.alloc()) else {
+    let form = form_of(words.asked);
+    let planned = plan_of(rt, words);
+    let is_kept = has_bytes(&planned);
+    let Ok(mut auditor) = Auditor::new(rt.alloc(), is_kept) else {
         return Err(Fault::Memory);
     };
-    let Ok(mut clerk) = Clerk::new(rt.alloc(), form_of(words.asked)) else {
+    let Ok(mut clerk) = Clerk::new(rt.alloc(), form, is_kept) else {
         return Err(Fault::Memory);
     };
     or_book(clerk.book.begin())?;
-    let judged = judge_words(rt, words, &mut auditor, &mut clerk);
+    let judged = judge_words(rt, planned, &mut auditor, &mut clerk);
     end_journal(rt, &mut clerk, judged)
 }
 

@@ -3,6 +3,7 @@ use crate::faults::{Fault, or_memory};
 use crate::files::{open_file, rates_in, want_regular};
 use crate::folders::runs_in;
 use crate::prints::Printed;
+use crate::scripts::may_bring_bytes;
 use audit_words::{Asked, Words};
 
 /// What is judged, and what is printed beside the verdicts.
@@ -15,6 +16,8 @@ pub struct Plan {
     pub rates: Option<Vec<u8>>,
     /// The file of the prints of all runs.
     pub printed: Option<Printed>,
+    /// Whether a script may have a `give` or a `scan N hex`: what runs send and release is then kept.
+    pub has_bytes: bool,
 }
 
 /// Whether a journal goes to standard output, or what was due; verdicts then go to standard error.
@@ -86,11 +89,13 @@ pub fn plan_of(rt: &HostRuntime, words: Words) -> Result<Plan, Fault> {
     let names = all_runs(rt, &folder, names)?;
     let rates = shared_rates(rt, &rates, names.len())?;
     let printed = open_prints(rt, prints)?;
+    let has_bytes = may_bring_bytes(rt, names.as_slice());
     Ok(Plan {
         names,
         asked,
         is_lenient,
         rates,
         printed,
+        has_bytes,
     })
 }

@@ -3,7 +3,7 @@ ghost use Rattle.told_bench.specs.Seeing.{IsReady, audit_of};
 
 use crate::digest::{NO_RUNS, Sum, digest_with};
 use crate::faults::{Fault, or_book, or_memory, or_write};
-use crate::files::{open_of, rates_of, unusable_of, whole_run};
+use crate::files::{changed, open_of, rates_of, unusable_of, whole_run};
 use crate::judging::{Judged, Outcome, judge_over};
 use crate::plan::{Plan, is_counted, takes_output};
 use crate::verdicts::{FINDING, is_finding, is_undecided, stopped_at, verdict_text};
@@ -64,6 +64,7 @@ pub fn say_finding(rt: &HostRuntime, asked: Asked, text: &str) -> u8 {
 fn tell(rt: &HostRuntime, asked: Asked, name: &str, judged: &Judged) -> Result<u8, Fault> {
     match judged.outcome {
         Outcome::Memory => return Err(Fault::Memory),
+        Outcome::Unkept => return Err(changed(rt, name)),
         Outcome::Unread(Input::Script) => return Err(unusable_of(rt, name, ".script")),
         Outcome::Unread(Input::Report) => return Err(unusable_of(rt, name, ".report")),
         Outcome::Lawful(_)

@@ -3,16 +3,19 @@ use bench_base::stream::{IoSource, Source};
 use memchr::memrchr;
 use std::alloc::{AllocError, Global};
 use std::cell::RefCell;
-use std::io::{self, Read};
+use std::io::{self, BufReader, Read};
 use text_streams::ReadAhead;
 
 /// How much is read at once, in bytes.
-const AHEAD: usize = 65_536;
+const BLOCK: usize = 65_536;
+
+/// How much of that is given at once, in bytes: the tail keeps a copy of it.
+const AHEAD: usize = 2_048;
 
 /// The most bytes that are taken of a line: its 600, and one more.
 const LINE: usize = 601;
 
-/// How many bytes are kept: what is read at once, a line before that, and one to move.
+/// How many bytes are kept: what is given at once, a line before that, and one to move.
 const KEPT: usize = AHEAD + 2 * LINE;
 
 /// The bytes that a reader gave last.
@@ -30,8 +33,8 @@ pub struct Watched<'a, R: Read> {
     tail: &'a RefCell<Tail>,
 }
 
-/// A reader that is watched, line by line.
-pub type Lines<'a, R> = ReadAhead<IoSource<Watched<'a, R>>>;
+/// A reader that is read in blocks and watched, line by line.
+pub type Lines<'a, R> = ReadAhead<IoSource<Watched<'a, BufReader<R>>>>;
 
 // The bytes without the line end after them.
 fn without_line_end(bytes: &[u8]) -> &[u8] {
@@ -121,6 +124,9 @@ pub fn lines_over<'a, R: Read + Drop>(
     inner: R,
     tail: &'a RefCell<Tail>,
 ) -> Result<Lines<'a, R>, AllocError> {
+    let Ok(inner) = BufReader::with_capacity(alloc, BLOCK, inner) else {
+        return Err(AllocError);
+    };
     let ahead = vec![in alloc; 0; AHEAD]?;
     Ok(ReadAhead::new(IoSource::new(Watched { inner, tail }), ahead))
 }

@@ -10,7 +10,11 @@ pub const FINDING: u8 = 1;
 pub fn is_finding(judged: &Judged) -> bool {
     match judged.outcome {
         Outcome::Wrong(_) | Outcome::Forged(_) | Outcome::More(_) => true,
-        Outcome::Lawful(_) | Outcome::Stopped(_) | Outcome::Unread(_) | Outcome::Memory => false,
+        Outcome::Lawful(_)
+        | Outcome::Stopped(_)
+        | Outcome::Unkept
+        | Outcome::Unread(_)
+        | Outcome::Memory => false,
     }
 }
 
@@ -29,6 +33,7 @@ pub fn stopped_at(judged: &Judged) -> Option<u32> {
         Outcome::Lawful(_)
         | Outcome::Wrong(_)
         | Outcome::Forged(_)
+        | Outcome::Unkept
         | Outcome::More(_)
         | Outcome::Unread(_)
         | Outcome::Memory => None,
@@ -81,6 +86,8 @@ pub fn verdict_text(alloc: Global, name: &str, judged: &Judged) -> Result<String
             format!(in alloc; "forged {name} line {line}\nscript {script}\nfound {found}")
         }
         Outcome::More(line) => more_text(alloc, name, line, judged),
-        Outcome::Unread(_) | Outcome::Memory => format!(in alloc; "{name} was not judged"),
+        Outcome::Unkept | Outcome::Unread(_) | Outcome::Memory => {
+            format!(in alloc; "{name} was not judged")
+        }
     }
 }

@@ -1,15 +1,17 @@
 -- Whether bytes are forged, by the ledger.
-use Rattle.std.proofs.Common.{◌≡◌, ◌↔◌, ℕ, List, [], ◌∷◌, Bool, true, false, not, ◌&&◌, nat_le, if◌then◌else◌, Option, Some, None, option_map, Result, Ok, Err, ◌==◌, refl, sym, ◌∙◌, ap, subst, true≢false, arith}
+use Rattle.std.proofs.Common.{◌≡◌, ◌↔◌, ℕ, List, [], ◌∷◌, Bool, true, false, not, ◌&&◌, nat_le, if◌then◌else◌, Option, Some, None, option_map, Result, Ok, Err, ◌==◌, IsTrue, refl, sym, ◌∙◌, ap, subst, true≢false, arith}
 use Rattle.std.specs.Prelude.{All}
 use Rattle.std.proofs.lemmas.Bool.{eqb-true}
 use Rattle.std.proofs.lemmas.Bool.Decides.{nat_tests}
 use Rattle.std.proofs.lemmas.List.Elements.{All-head, All-tail}
+use Rattle.bench_base.specs.declared.events.Event.{Event}
 use Rattle.bench_base.specs.declared.words.Node.{Node}
 use Rattle.bench_base.specs.declared.words.Node.TheVariants.{Device, Centre, Host, Verifier}
 use Rattle.bench_base.specs.declared.refusals.Unread.{Unread}
 use Rattle.bench_base.specs.declared.refusals.MarkFault.{MarkFault}
 use Rattle.bench_base.specs.declared.ledger.Commit.{Commit}
 use Rattle.bench_base.specs.declared.ledger.Commit.TheVariants as c
+use Rattle.bench_base.specs.Events.{Brought, Nothing, brought_by}
 use Rattle.bench_base.specs.Ranges.{IsDevice, InRange}
 use Rattle.bench_base.specs.Ledger.{Ledger, IsSent, IsReleased, counted}
 use Rattle.bench_base.specs.Scans.{trusted}
@@ -30,7 +32,7 @@ use Rattle.verifier.proofs.After.{key_after}
 use Rattle.ledger_terms.specs.Devices.{key_of}
 use Rattle.ledger_terms.specs.Centres.{registered}
 use Rattle.ledger_moves.specs.Devices.{record_with, record_in}
-use Rattle.ledger_moves.specs.Histories.{IsKnown, IsKnownMark, IsSentBy}
+use Rattle.ledger_moves.specs.Histories.{AreKnown, IsKnown, IsKnownMark, IsSentBy}
 use Rattle.bench_views.specs.Centre.{seen_in}
 use Rattle.bench_views.proofs.CentreRows.{device_seen}
 use Rattle.told_centre.specs.Cells as centre_cells
@@ -38,9 +40,9 @@ use Rattle.told_scans.specs.Cells as scan_cells
 use Rattle.told_device.specs.Records.{seen_of}
 use Rattle.told_bench.specs.declared.known.ByteSet.{ByteSet}
 use Rattle.told_bench.specs.Known.{Has, has}
-use Rattle.told_bench.specs.Seeing.{Audit, Sees}
+use Rattle.told_bench.specs.Seeing.{Audit, Sees, keeps}
 use Rattle.told_bench.specs.Telling.{OfDevice}
-use Rattle.told_bench.specs.Forging.{is_unknown, forged_reply, forged_by, forged_message, forged_release, forged_mark, GivesForged, TellsNot}
+use Rattle.told_bench.specs.Forging.{is_unknown, forged_reply, forged_by, forged_message, forged_release, forged_mark, GivesForged, AreForged, BringsForged, TellsForged, TellsNot}
 use Rattle.told_bench.proofs.Shown.{device_shown}
 
 -- == what is told of one is told of the other ==
@@ -205,29 +207,37 @@ mark_tells bytes known s H same keys (Err fault) = tt
 
 -- == by what the auditor has ==
 
-module _ (a : Audit) (H : Ledger) (sees : Sees a H) (bytes : List ℕ) (x : Result Message Unread) where
+module _ (a : Audit) (kept : IsTrue (keeps a)) (H : Ledger) (sees : Sees a H) (bytes : List ℕ) (x : Result Message Unread) where
   told_reply : (d : ℕ) (b : Bool) → OfDevice d a (λ s. b ≡ forged_reply (seen_of s.record).state d bytes a.known.sent x) → TellsNot b (IsKnown bytes x (Device d) H)
   told_reply d b of =
       let shown = device_shown a H sees d (λ (v : View device.Seen). forged_reply v.state.state d bytes a.known.sent x) b (record { place = of.place; is_device = of.is_device; seat = of.seat; at = of.at; holds = of.holds }) in
-      subst (λ (t : Bool). TellsNot t (IsKnown bytes x (Device d) H)) (sym shown) (reply_tells bytes a.known.sent d H (sees.known.sent bytes) x)
+      subst (λ (t : Bool). TellsNot t (IsKnown bytes x (Device d) H)) (sym shown) (reply_tells bytes a.known.sent d H (sees.known.sent kept bytes) x)
 
   told_message : All InRange (counted H) → (b : Bool) → b ≡ forged_message (centre.books_in (centre_cells.cells_of a.centre.record)) bytes a.known.sent x → TellsNot b (IsKnown bytes x Centre H)
   told_message range b is =
       let shown = is ∙ ap (λ (v : View centre.Seen). forged_message (centre.books_in v.state) bytes a.known.sent x) sees.run.centre in
-      subst (λ (t : Bool). TellsNot t (IsKnown bytes x Centre H)) (sym shown) (message_tells bytes a.known.sent H (sees.known.sent bytes) range x)
+      subst (λ (t : Bool). TellsNot t (IsKnown bytes x Centre H)) (sym shown) (message_tells bytes a.known.sent H (sees.known.sent kept bytes) range x)
 
   told_release : (b : Bool) → b ≡ forged_release a.known.released x → TellsNot b (IsKnown bytes x Host H)
-  told_release b is = subst (λ (t : Bool). TellsNot t (IsKnown bytes x Host H)) (sym is) (release_tells bytes a.known.released H sees.known.released x)
+  told_release b is = subst (λ (t : Bool). TellsNot t (IsKnown bytes x Host H)) (sym is) (release_tells bytes a.known.released H (sees.known.released kept) x)
 
-pub told_given : (a : Audit) (H : Ledger) → Sees a H → All InRange (counted H) → (n : Node) (bytes : List ℕ) (b : Bool) → GivesForged a n bytes b → TellsNot b (IsKnown bytes (read bytes) n H)
-told_given a H sees range (Device d) bytes b is = told_reply a H sees bytes (read bytes) d b is
-told_given a H sees range Centre bytes b is = told_message a H sees bytes (read bytes) range b is
-told_given a H sees range Host bytes b is = told_release a H sees bytes (read bytes) b is
-told_given a H sees range Verifier bytes b is = subst (λ (t : Bool). TellsNot t (IsKnown bytes (read bytes) Verifier H)) (sym is) (verifier_tells bytes H (read bytes))
+pub told_given : (a : Audit) → IsTrue (keeps a) → (H : Ledger) → Sees a H → All InRange (counted H) → (n : Node) (bytes : List ℕ) (b : Bool) → GivesForged a n bytes b → TellsNot b (IsKnown bytes (read bytes) n H)
+told_given a kept H sees range (Device d) bytes b is = told_reply a kept H sees bytes (read bytes) d b is
+told_given a kept H sees range Centre bytes b is = told_message a kept H sees bytes (read bytes) range b is
+told_given a kept H sees range Host bytes b is = told_release a kept H sees bytes (read bytes) b is
+told_given a kept H sees range Verifier bytes b is = subst (λ (t : Bool). TellsNot t (IsKnown bytes (read bytes) Verifier H)) (sym is) (verifier_tells bytes H (read bytes))
 
-pub told_mark : (a : Audit) (H : Ledger) (sees : Sees a H) (bytes : List ℕ) (x : Result (Mark × List ℕ) MarkFault) → All InRange (counted H) → (b : Bool)
+pub told_mark : (a : Audit) (kept : IsTrue (keeps a)) (H : Ledger) (sees : Sees a H) (bytes : List ℕ) (x : Result (Mark × List ℕ) MarkFault) → All InRange (counted H) → (b : Bool)
     → b ≡ forged_mark (scan_cells.cells_of a.verifier.record) bytes a.known.released x → TellsNot b (IsKnownMark bytes x H)
-told_mark a H sees bytes x range b is =
+told_mark a kept H sees bytes x range b is =
     subst (λ (t : Bool). TellsNot t (IsKnownMark bytes x H)) (sym is)
-    (mark_tells bytes a.known.released (scan_cells.cells_of a.verifier.record) H (sees.known.released bytes)
+    (mark_tells bytes a.known.released (scan_cells.cells_of a.verifier.record) H (sees.known.released kept bytes)
     (λ d. ap (λ (v : View verifier.Seen). verifier.key_at v.state d) sees.run.verifier ∙ key_after (counted H) d range) x)
+
+-- == nothing is brought ==
+
+pub none_forged : (a : Audit) (e : Event) → brought_by e ≡ Nothing → BringsForged a e false
+none_forged a e is = subst (λ (x : Brought). AreForged a x false) (sym is) refl
+
+pub none_told : (a : Audit) (e : Event) → brought_by e ≡ Nothing → TellsForged a e false
+none_told a e is = λ τ H history sees. subst (λ (x : Brought). TellsNot false (AreKnown x H)) (sym is) tt

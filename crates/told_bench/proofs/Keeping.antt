@@ -1,5 +1,5 @@
 -- What is kept of all runs follows the ledger.
-use Rattle.std.proofs.Common.{◌⊎◌, ◌↔◌, inl, inr, ℕ, List, [], ◌∷◌, Option, None}
+use Rattle.std.proofs.Common.{◌≡◌, ◌⊎◌, ◌↔◌, inl, inr, ℕ, List, [], ◌∷◌, false, true≢false, IsTrue, Option, None, refl, sym, ◌∙◌}
 use Rattle.bench_base.specs.declared.ledger.Entry.TheVariants.{Begin}
 use Rattle.bench_base.specs.Ledger.{Ledger, IsSent, IsReleased}
 use Rattle.told_views.specs.Verdicts.{Adds}
@@ -15,14 +15,30 @@ joined a b L c = (
 
 pub knows_more : (sent released : Option (List ℕ)) (old new : Known) (H L : Ledger) → Learns sent released old new → Knows old H → Adds sent released H L → Knows new L
 knows_more sent released old new H L learns knows adds = record {
-  sent = λ bytes. joined (learns.sends bytes) (knows.sent bytes) (IsSent bytes L) (adds.sends bytes);
-  released = λ mark. joined (learns.releases mark) (knows.released mark) (IsReleased mark L) (adds.releases mark);
+  sent = λ kept bytes.
+      let was : IsTrue old.is_kept = sym learns.kept ∙ kept in
+      joined (learns.sends was bytes) (knows.sent was bytes) (IsSent bytes L) (adds.sends bytes);
+  released = λ kept mark.
+      let was : IsTrue old.is_kept = sym learns.kept ∙ kept in
+      joined (learns.releases was mark) (knows.released was mark) (IsReleased mark L) (adds.releases mark);
+}
+
+-- nothing is kept where it is not
+pub learns_none : (sent released : Option (List ℕ)) (k : Known) → k.is_kept ≡ false → Learns sent released k k
+learns_none sent released k none = record {
+  kept = refl;
+  sends = λ kept. absurd (true≢false (sym kept ∙ none));
+  releases = λ kept. absurd (true≢false (sym kept ∙ none));
 }
 
 pub knows_same : (old new : Known) (H : Ledger) → KeepsSame old new → Knows old H → Knows new H
 knows_same old new H keeps knows = record {
-  sent = λ bytes. (λ has. (knows.sent bytes).0 ((keeps.sent bytes).0 has), λ is. (keeps.sent bytes).1 ((knows.sent bytes).1 is));
-  released = λ mark. (λ has. (knows.released mark).0 ((keeps.released mark).0 has), λ is. (keeps.released mark).1 ((knows.released mark).1 is));
+  sent = λ kept bytes.
+      let was : IsTrue old.is_kept = sym keeps.kept ∙ kept in
+      (λ has. (knows.sent was bytes).0 ((keeps.sent bytes).0 has), λ is. (keeps.sent bytes).1 ((knows.sent was bytes).1 is));
+  released = λ kept mark.
+      let was : IsTrue old.is_kept = sym keeps.kept ∙ kept in
+      (λ has. (knows.released was mark).0 ((keeps.released mark).0 has), λ is. (keeps.released mark).1 ((knows.released was mark).1 is));
 }
 
 pub knows_begun : (k : Known) (H : Ledger) → Knows k H → Knows k (Begin ∷ H)
@@ -30,8 +46,8 @@ knows_begun k H knows = record { sent = knows.sent; released = knows.released }
 
 pub knows_blank : (k : Known) → IsBlank k → Knows k []
 knows_blank k blank = record {
-  sent = λ bytes. (λ has. absurd (blank.sent bytes has), λ is. absurd is);
-  released = λ mark. (λ has. absurd (blank.released mark has), λ is. absurd is);
+  sent = λ kept bytes. (λ has. absurd (blank.sent bytes has), λ is. absurd is);
+  released = λ kept mark. (λ has. absurd (blank.released mark has), λ is. absurd is);
 }
 
 -- nothing is added to a ledger that has the same messages and marks

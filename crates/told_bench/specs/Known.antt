@@ -48,17 +48,19 @@ pub record IsBlank (k : Known) : Type 0 where
   pub sent : (bytes : List ℕ) → Has bytes k.sent → ⊥
   pub released : (mark : List ℕ) → Has mark k.released → ⊥
 
--- this message and this mark are kept too, if there are any
+-- if it is kept, this message and this mark are kept too, if there are any
 pub record Learns (sent released : Option (List ℕ)) (old new : Known) : Type 0 where
-  pub sends : (bytes : List ℕ) → Has bytes new.sent ↔ ((sent ≡ Some bytes) ⊎ Has bytes old.sent)
-  pub releases : (mark : List ℕ) → Has mark new.released ↔ ((released ≡ Some mark) ⊎ Has mark old.released)
+  pub kept : new.is_kept ≡ old.is_kept
+  pub sends : IsTrue old.is_kept → (bytes : List ℕ) → Has bytes new.sent ↔ ((sent ≡ Some bytes) ⊎ Has bytes old.sent)
+  pub releases : IsTrue old.is_kept → (mark : List ℕ) → Has mark new.released ↔ ((released ≡ Some mark) ⊎ Has mark old.released)
 
 -- the same messages and marks are kept
 pub record KeepsSame (old new : Known) : Type 0 where
+  pub kept : new.is_kept ≡ old.is_kept
   pub sent : (bytes : List ℕ) → Has bytes new.sent ↔ Has bytes old.sent
   pub released : (mark : List ℕ) → Has mark new.released ↔ Has mark old.released
 
--- WHAT IS KEPT is what was sent and released at the ledger, in any run
+-- WHAT IS KEPT is what was sent and released at the ledger, in any run, if it is kept at all
 pub record Knows (k : Known) (H : Ledger) : Type 0 where
-  pub sent : (bytes : List ℕ) → Has bytes k.sent ↔ IsSent bytes H
-  pub released : (mark : List ℕ) → Has mark k.released ↔ IsReleased mark H
+  pub sent : IsTrue k.is_kept → (bytes : List ℕ) → Has bytes k.sent ↔ IsSent bytes H
+  pub released : IsTrue k.is_kept → (mark : List ℕ) → Has mark k.released ↔ IsReleased mark H

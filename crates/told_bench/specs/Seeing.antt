@@ -1,5 +1,5 @@
 -- What an auditor has, and when that is what a ledger shows.
-use Rattle.std.specs.Prelude.{◌≡◌, ℕ, ℤ, ◌+◌, List, ◌++◌, Option, Some, length, slice_get}
+use Rattle.std.specs.Prelude.{◌≡◌, ℕ, ℤ, ◌+◌, Bool, List, ◌++◌, Option, Some, length, slice_get}
 use Rattle.bench_base.specs.declared.words.Node.TheVariants.{Device, Centre, Host, Verifier}
 use Rattle.bench_base.specs.Ledger.{Ledger}
 use Rattle.node_acts.specs.Kinds.{view_in}
@@ -48,6 +48,10 @@ audit_of a = record {
   known = a.known;
 }
 
+-- whether it keeps what was sent and released
+abbrev pub keeps : Audit → Bool
+keeps a = a.known.is_kept
+
 abbrev pub AreSettled : List (Seat DeviceRecord State) → Type 0
 AreSettled devices = (i : ℕ) (s : Seat DeviceRecord State) → slice_get devices i ≡ Some s → device.IsSettled s
 
@@ -67,7 +71,7 @@ pub record SeesRun (a : Audit) (H : Ledger) : Type 0 where
   pub host : host.view_of a.host ≡ view_in Host (bench_kinds.host.seen tt) H
   pub verifier : verifier.view_of a.verifier ≡ view_in Verifier (bench_kinds.verifier.seen tt) H
 
--- WHAT THE AUDITOR HAS is what the ledger shows: of the run, of each node, and of what was sent and released in all runs
+-- WHAT THE AUDITOR HAS is what the ledger shows: of the run, of each node, and of what was sent and released in all runs, if it keeps that
 pub record Sees (a : Audit) (H : Ledger) : Type 0 where
   pub run : SeesRun a H
   pub known : Knows a.known H

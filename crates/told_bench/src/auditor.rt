@@ -115,11 +115,13 @@ impl Auditor {
     ghost use Rattle.std.specs.Prelude.{[], ◌∷◌};
     ghost use Rattle.bench_base.specs.Ledger.{Ledger};
     ghost use Rattle.bench_base.specs.declared.ledger.Entry.TheVariants.{Begin};
-    ghost use Rattle.told_bench.specs.Seeing.{IsReady, Sees, audit_of};
+    ghost use Rattle.told_bench.specs.Seeing.{IsReady, Sees, audit_of, keeps};
 
-    /// An auditor of blank nodes, of which nothing was told: what the empty ledger shows. AllocError is lack of memory.
-    pub fn new(alloc: Global) -> Result<Auditor, AllocError>
+    /// An auditor of blank nodes, of which nothing was told: what the empty ledger shows. What is sent and released is kept, or not: what is never kept takes no memory.
+    /// AllocError is lack of memory.
+    pub fn new(alloc: Global, is_kept: bool) -> Result<Auditor, AllocError>
         ensures ready { IfOk result (λ a. IsReady (audit_of a)) }
+        ensures kept { IfOk result (λ a. keeps (audit_of a) ≡ is_kept) }
         ensures blank { IfOk result (λ a. Sees (audit_of a) []) }
     {
         let devices = blank_devices(alloc)?;
@@ -133,7 +135,7 @@ impl Auditor {
             day: None,
             rates: None,
             messages: Vec::new(alloc),
-            known: Known::new(alloc),
+            known: Known::new(alloc, is_kept),
         })
     }
 
@@ -142,6 +144,7 @@ impl Auditor {
         requires ready { IsReady (audit_of self.old) }
         ensures ready { IsReady (audit_of self.new) }
         ensures no_messages { (audit_of self.new).messages ≡ [] }
+        ensures kept { keeps (audit_of self.new) ≡ keeps (audit_of self.old) }
         ensures sees { (H : Ledger) → Sees (audit_of self.old) H → Sees (audit_of self.new) (Begin ∷ H) }
     {
         self.day = None;

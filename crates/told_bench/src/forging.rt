@@ -1,6 +1,6 @@
 //! Whether an event brings forged bytes from outside, and what makes that quick.
-ghost use Rattle.std.specs.Prelude.{◌≡◌, Some, OnOk, option_map};
-ghost use Rattle.bench_base.specs.Events.{brought_by};
+ghost use Rattle.std.specs.Prelude.{◌≡◌, ◌≢◌, Some, IfSome, IfNone, IsTrue, IsFalse, MatchBool, OnOk, option_map};
+ghost use Rattle.bench_base.specs.Events.{Nothing, brought_by};
 ghost use Rattle.indicium.specs.Marks.{read_mark};
 ghost use Rattle.psd_wire.specs.Codes.{has_code};
 ghost use Rattle.psd_wire.specs.Grammar.{read};
@@ -9,7 +9,7 @@ ghost use Rattle.told_device.specs.Records.{seen_of};
 ghost use Rattle.told_scans.specs.Cells as scans;
 ghost use Rattle.told_bench.specs.Forging as forging;
 ghost use Rattle.told_bench.specs.Forging.{GivesForged, BringsForged, TellsForged, IsFoundFor, IsSame, brought_as};
-ghost use Rattle.told_bench.specs.Seeing.{IsReady, audit_of};
+ghost use Rattle.told_bench.specs.Seeing.{IsReady, audit_of, keeps};
 ghost use Rattle.told_bench.specs.Telling.{OfDevice};
 
 use crate::auditor::Auditor;
@@ -185,6 +185,7 @@ fn brought(event: &Event) -> Brings<'_>
 pub fn index(alloc: Global, auditor: &mut Auditor, event: &Event) -> Result<(), AllocError>
     requires ready { IsReady (audit_of auditor.old) }
     ensures ready { IsReady (audit_of auditor.new) }
+    ensures kept { keeps (audit_of auditor.new) ≡ keeps (audit_of auditor.old) }
     ensures same { IsSame (audit_of auditor.old) (audit_of auditor.new) }
     ensures found { OnOk result (IsFoundFor event.now (audit_of auditor.new).known) }
 {
@@ -198,10 +199,10 @@ pub fn index(alloc: Global, auditor: &mut Auditor, event: &Event) -> Result<(), 
     }
 }
 
-/// Whether the event brings something forged: bytes of a `give` or of a `scan hex` that have the right code of whoever they name and that
-/// no node sent, or released, in any run before; or a mark for the host, which has no key, that was not released.
-pub fn is_forged(auditor: &Auditor, event: &Event) -> bool
+// Whether the event brings something forged, by an auditor that keeps what was sent and released.
+fn brings_forged(auditor: &Auditor, event: &Event) -> bool
     requires ready { IsReady (audit_of auditor.now) }
+    requires kept { IsTrue (keeps (audit_of auditor.now)) }
     ensures by_record { BringsForged (audit_of auditor.now) event.now result }
     ensures by_ledger { TellsForged (audit_of auditor.now) event.now result }
 {
@@ -216,5 +217,36 @@ pub fn is_forged(auditor: &Auditor, event: &Event) -> bool
             &auditor.known.released,
         ),
         Brings::Nothing => false,
+    }
+}
+
+// Whether the event brings no bytes.
+fn brings_nothing(event: &Event) -> bool
+    ensures { MatchBool result (brought_by event.now ≡ Nothing) (brought_by event.now ≢ Nothing) }
+{
+    match &brought(event) {
+        Brings::Nothing => true,
+        Brings::Handed(_, _) => false,
+        Brings::Scanned(_) => false,
+    }
+}
+
+/// Whether the event brings something forged: bytes of a `give` or of a `scan hex` that have the right code of whoever they name and that
+/// no node sent, or released, in any run before; or a mark for the host, which has no key, that was not released. None only if it brings bytes and the auditor does
+/// not keep what was sent and released.
+pub fn is_forged(auditor: &Auditor, event: &Event) -> Option<bool>
+    requires ready { IsReady (audit_of auditor.now) }
+    ensures unkept { IfNone result (IsFalse (keeps (audit_of auditor.now))) }
+    ensures brings { IfNone result (brought_by event.now ≢ Nothing) }
+    ensures by_record { IfSome result (λ b. BringsForged (audit_of auditor.now) event.now b) }
+    ensures by_ledger { IfSome result (λ b. TellsForged (audit_of auditor.now) event.now b) }
+{
+    if auditor.known.is_kept {
+        return Some(brings_forged(auditor, event));
+    }
+    if brings_nothing(event) {
+        Some(false)
+    } else {
+        None
     }
 }

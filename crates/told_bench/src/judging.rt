@@ -6,7 +6,7 @@ ghost use Rattle.bench_views.specs.Verifier as verifiers;
 ghost use Rattle.bench.specs.declared.benches.TheConstants.{MOST_MESSAGES};
 ghost use Rattle.told_bench.specs.Placed.{DeviceJudged, ComparesInPlace};
 ghost use Rattle.told_bench.specs.Plainly.{IsPlainly, SendsHeard, heard_of, heard_of_device, heard_of_host, heard_of_rates};
-ghost use Rattle.told_bench.specs.Seeing.{AreSettled, IsReady, audit_of};
+ghost use Rattle.told_bench.specs.Seeing.{AreSettled, IsReady, audit_of, keeps};
 ghost use Rattle.told_bench.specs.Judging.{AtEach, AtEachRun, IsHeard, IsJudged};
 
 use crate::auditor::Auditor;
@@ -227,11 +227,12 @@ pub(crate) fn hear(
     }
 }
 
-// Sends the message that was heard of, if there is one, and keeps it, and the mark.
+// Sends the message that was heard of, if there is one, and keeps it and the mark, if that is kept.
 pub(crate) fn send(auditor: &mut Auditor, heard: Heard) -> Result<usize, Finding>
     requires ready { IsReady (audit_of auditor.old) }
     ensures ready { IsReady (audit_of auditor.new) }
     ensures few { length (audit_of auditor.new).messages ≤ length (audit_of auditor.old).messages + 1 }
+    ensures kept { keeps (audit_of auditor.new) ≡ keeps (audit_of auditor.old) }
     ensures sent { SendsHeard heard (audit_of auditor.old) (audit_of auditor.new) result }
 {
     if auditor.known.learn(&heard.sent, &heard.released).is_err() {
@@ -261,6 +262,7 @@ pub fn judge(
     requires few { length (audit_of auditor.old).messages < MOST_MESSAGES }
     ensures ready { IsReady (audit_of auditor.new) }
     ensures few { length (audit_of auditor.new).messages ≤ length (audit_of auditor.old).messages + 1 }
+    ensures kept { keeps (audit_of auditor.new) ≡ keeps (audit_of auditor.old) }
     ensures judged { AtEach (audit_of auditor.old) event.now (λ τ H. IsJudged τ H event.now left.now line.now (audit_of auditor.new) result) }
 {
     match hear(alloc, auditor, event, left, line) {

@@ -98,31 +98,38 @@ impl<K: AsBytes> ByteSet<K> {
     }
 }
 
-/// The messages that were sent and the marks that were released, over all runs.
+/// The messages that were sent and the marks that were released, over all runs, if they are kept.
 #[derive(Drop)]
 pub struct Known {
+    pub(crate) is_kept: bool,
     pub(crate) sent: ByteSet<Note>,
     pub(crate) released: ByteSet<[u8; 64]>,
 }
 
 impl Known {
-    pub(crate) fn new(alloc: Global) -> Known
-        ensures { IsBlank result }
+    pub(crate) fn new(alloc: Global, is_kept: bool) -> Known
+        ensures blank { IsBlank result }
+        ensures kept { result.is_kept ≡ is_kept }
     {
         Known {
+            is_kept,
             sent: ByteSet::new(alloc),
             released: ByteSet::new(alloc),
         }
     }
 
-    // Takes up what an event sent and released.
+    // Keeps what an event sent and released, if that is kept.
     pub(crate) fn learn(
         &mut self,
         sent: &Option<Note>,
         released: &Option<[u8; 64]>,
     ) -> Result<(), AllocError>
-        ensures { OnOk result (Learns sent.now released.now self.old self.new) }
+        ensures kept { self.new.is_kept ≡ self.old.is_kept }
+        ensures learns { OnOk result (Learns sent.now released.now self.old self.new) }
     {
+        if !self.is_kept {
+            return Ok(());
+        }
         if let Some(note) = sent {
             self.sent.put(*note)?;
         }

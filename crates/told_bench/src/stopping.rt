@@ -9,7 +9,7 @@ ghost use Rattle.script_text.specs.Texts.{text_of};
 ghost use Rattle.script_text.specs.Told.{IsWholeReply};
 ghost use Rattle.told_bench.specs.Fronts.{number_of, IsFound, BeginsOtherUp, BeginsCutPrint, BeginsRatesFault, BeginsBothUps, BeginsFailure, IsDue, Comes, LosesAt, LosesThere, Loses};
 ghost use Rattle.told_bench.specs.Judging.{AtEach, IsTold};
-ghost use Rattle.told_bench.specs.Seeing.{IsReady, Sees, audit_of};
+ghost use Rattle.told_bench.specs.Seeing.{IsReady, Sees, audit_of, keeps};
 ghost use Rattle.told_bench.specs.Stopping.{IsFrontOf, IsStopped};
 
 use crate::auditor::Auditor;
@@ -123,6 +123,7 @@ pub fn due_to(
     requires ready { IsReady (audit_of auditor.old) }
     requires few { length (audit_of auditor.old).messages < MOST_MESSAGES }
     ensures ready { IsReady (audit_of auditor.new) }
+    ensures kept { keeps (audit_of auditor.new) ≡ keeps (audit_of auditor.old) }
     ensures unsent { (audit_of auditor.new).messages ≡ (audit_of auditor.old).messages }
     ensures due { AtEach (audit_of auditor.old) event.now (λ τ H. IfOk result (λ due. IsDue τ H event.now left.now due × Sees (audit_of auditor.new) H)) }
 {
@@ -145,6 +146,7 @@ fn lose_power_at(
     requires ready { IsReady (audit_of auditor.old) }
     requires few { length (audit_of auditor.old).messages < MOST_MESSAGES }
     ensures ready { IsReady (audit_of auditor.new) }
+    ensures kept { keeps (audit_of auditor.new) ≡ keeps (audit_of auditor.old) }
     ensures few { length (audit_of auditor.new).messages ≤ length (audit_of auditor.old).messages + 1 }
     ensures unsent { IfOk result (λ b. b ≡ false → (audit_of auditor.new).messages ≡ (audit_of auditor.old).messages) }
     ensures lost { AtEach (audit_of auditor.old) event.now (λ τ H. IfOk result (λ b. LosesAt τ H event.now left.now node.now (audit_of auditor.new) b)) }
@@ -201,6 +203,7 @@ fn lose_power_there(
     requires ready { IsReady (audit_of auditor.old) }
     requires few { length (audit_of auditor.old).messages < MOST_MESSAGES }
     ensures ready { IsReady (audit_of auditor.new) }
+    ensures kept { keeps (audit_of auditor.new) ≡ keeps (audit_of auditor.old) }
     ensures few { length (audit_of auditor.new).messages ≤ length (audit_of auditor.old).messages + 1 }
     ensures unsent { IfOk result (λ b. b ≡ false → (audit_of auditor.new).messages ≡ (audit_of auditor.old).messages) }
     ensures lost { AtEach (audit_of auditor.old) event.now (λ τ H. IfOk result (λ b. LosesThere τ H event.now left.now front.now node.now (audit_of auditor.new) b)) }
@@ -225,6 +228,7 @@ fn lose_power(
     requires ready { IsReady (audit_of auditor.old) }
     requires few { length (audit_of auditor.old).messages < MOST_MESSAGES }
     ensures ready { IsReady (audit_of auditor.new) }
+    ensures kept { keeps (audit_of auditor.new) ≡ keeps (audit_of auditor.old) }
     ensures few { length (audit_of auditor.new).messages ≤ length (audit_of auditor.old).messages + 1 }
     ensures unsent { IfOk result (λ b. b ≡ false → (audit_of auditor.new).messages ≡ (audit_of auditor.old).messages) }
     ensures lost { AtEach (audit_of auditor.old) event.now (λ τ H. IfOk result (λ b. Loses τ H event.now left.now front.now (audit_of auditor.new) b)) }
@@ -251,6 +255,7 @@ fn tell_done(
     requires ready { IsReady (audit_of auditor.old) }
     requires few { length (audit_of auditor.old).messages < MOST_MESSAGES }
     ensures ready { IsReady (audit_of auditor.new) }
+    ensures kept { keeps (audit_of auditor.new) ≡ keeps (audit_of auditor.old) }
     ensures few { length (audit_of auditor.new).messages ≤ length (audit_of auditor.old).messages + 1 }
     ensures done { AtEach (audit_of auditor.old) event.now (λ τ H. OnOk result ((x : Reply) × IsTold τ H event.now left.now (text_of reply.now) (audit_of auditor.new) x)) }
 {
@@ -279,6 +284,7 @@ pub fn stop(
     requires ready { IsReady (audit_of auditor.old) }
     requires few { length (audit_of auditor.old).messages < MOST_MESSAGES }
     ensures ready { IsReady (audit_of auditor.new) }
+    ensures kept { keeps (audit_of auditor.new) ≡ keeps (audit_of auditor.old) }
     ensures few { length (audit_of auditor.new).messages ≤ length (audit_of auditor.old).messages + 1 }
     ensures stopped { AtEach (audit_of auditor.old) event.now (λ τ H. IsStopped τ H event.now left.now front.now (audit_of auditor.new) result) }
     ensures short { IsOk result → length front.now ≤ 256 }

@@ -34,7 +34,7 @@ use Rattle.told_runs.specs.Fitting.{FitsPrinted, AreTold, rates_after, FitsFirst
 use Rattle.told_runs.specs.declared.verdict.Ending.{Ending}
 use Rattle.told_runs.specs.declared.verdict.Ending.TheVariants.{Done as Ended, Script, TooLong}
 use Rattle.told_runs.specs.declared.verdict.Verdict.{Verdict}
-use Rattle.told_runs.specs.declared.verdict.Verdict.TheVariants.{Lawful, Stopped, Wrong, Forged, More, Memory, Unread}
+use Rattle.told_runs.specs.declared.verdict.Verdict.TheVariants.{Lawful, Stopped, Wrong, Forged, Unkept, More, Memory, Unread}
 use Rattle.told_runs.proofs.Fitted.{Made, made, lawful_ends, stopped_begins}
 use Rattle.told_runs.proofs.MadePrinted.{made_printed}
 use Rattle.told_runs.proofs.Comparing.{front_one, Compared, longer, shorter, compare, one_split}
@@ -140,6 +140,7 @@ module _ (one : (x y : Reply) → IsWholeReply x → IsWholeReply y → text_of 
       let same : falls.2.line ≡ y = cc (falls.2.rest_is, rest_is) in
       let event : d.event ≡ falls.1 = one_event_of d.event falls.1 y reads.is.0.whole falls.2.is.whole reads.is.0.spells (subst (λ (z : List ℕ). Spells falls.1 z) same falls.2.is.spells) in
       absurd (so.0 (subst (λ (f : Event). Unforged f K) event are.0.unforged))
+  goes_past (Unkept n) number rest told_is falls τ K l new so inside d more lines x reads goes rest_is text are = tt
   goes_past Memory number rest told_is falls τ K l new so inside d more lines x reads goes rest_is text are = tt
   goes_past (Unread input n) number rest told_is falls τ K l new so inside d more lines x reads goes rest_is text are = tt
 
@@ -147,6 +148,7 @@ module _ (one : (x y : Reply) → IsWholeReply x → IsWholeReply y → text_of 
   ends_there : (v : Verdict) (number : ℕ) (rest : List (List ℕ)) (told_is : List ℕ) (falls : FallsAt number rest told_is v) (τ : Tariff) (K : Ledger) (l : List ℕ) (new : Audit) → IsSo τ K l new number rest told_is v falls
       → (end : Ending) → EndsAt script_grammar (status_of end) number rest → EndsTold τ K l end told_is → IsLawful v
   ends_there (Lawful e) number rest told_is falls τ K l new so end at ends = inl (e, refl)
+  ends_there (Unkept n) number rest told_is falls τ K l new so end at ends = inr tt
   ends_there Memory number rest told_is falls τ K l new so end at ends = inr tt
   ends_there (Unread input n) number rest told_is falls τ K l new so end at ends = inr tt
   ends_there (Stopped n) number rest told_is falls τ K l new so Ended at ends =
@@ -220,6 +222,7 @@ module _ (one : (x y : Reply) → IsWholeReply x → IsWholeReply y → text_of 
       by (Stopped n) at is = inl (ap (λ (k : ℕ). Stopped k) at.0)
       by (Wrong n due) at is = absurd (not_wrong at.1 due (one_next number number rest e at.1 next at.2) at.3 is.1)
       by (Forged n) at is = absurd (is.0 (subst (λ (x : Event). Unforged x K) (begins.1 ∙ one_next number number rest e at.1 next at.2) begins.2.unforged))
+      by (Unkept n) at is = inr tt
       by Memory at is = inr tt
       by (Unread input n) at is = inr tt
 

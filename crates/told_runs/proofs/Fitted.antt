@@ -19,7 +19,7 @@ use Rattle.told_runs.specs.Fitting.{AreTold, rates_after, EndsTold, BeginsTold}
 use Rattle.told_runs.specs.declared.verdict.Ending.{Ending}
 use Rattle.told_runs.specs.declared.verdict.Ending.TheVariants.{Done as Ended, Script, TooLong}
 use Rattle.told_runs.specs.declared.verdict.Verdict.{Verdict}
-use Rattle.told_runs.specs.declared.verdict.Verdict.TheVariants.{Lawful, Stopped, Wrong, Forged, More, Memory, Unread}
+use Rattle.told_runs.specs.declared.verdict.Verdict.TheVariants.{Lawful, Stopped, Wrong, Forged, Unkept, More, Memory, Unread}
 
 -- deeds of these pairs, behind which P holds
 pub record Made (τ : Tariff) (P : Ledger → List ℕ → Type 0) (H : Ledger) (left : List ℕ) (a : List Pair) : Type 0 where
@@ -77,6 +77,7 @@ module _ (τ : Tariff) (K : Ledger) (l : List ℕ) (new : Audit) (number : ℕ) 
   lawful_ends (Stopped n) falls so end is = absurd (cc is)
   lawful_ends (Wrong n due) falls so end is = absurd (cc is)
   lawful_ends (Forged n) falls so end is = absurd (cc is)
+  lawful_ends (Unkept n) falls so end is = absurd (cc is)
   lawful_ends (More n) falls so end is = absurd (cc is)
   lawful_ends Memory falls so end is = absurd (cc is)
   lawful_ends (Unread input n) falls so end is = absurd (cc is)
@@ -91,6 +92,7 @@ module _ (τ : Tariff) (K : Ledger) (l : List ℕ) (new : Audit) (number : ℕ) 
   stopped_begins (Lawful e) falls so n is = absurd (cc is)
   stopped_begins (Wrong k due) falls so n is = absurd (cc is)
   stopped_begins (Forged k) falls so n is = absurd (cc is)
+  stopped_begins (Unkept k) falls so n is = absurd (cc is)
   stopped_begins (More k) falls so n is = absurd (cc is)
   stopped_begins Memory falls so n is = absurd (cc is)
   stopped_begins (Unread input k) falls so n is = absurd (cc is)
@@ -101,6 +103,7 @@ none_open number rest told (Lawful e) falls end is = refl
 none_open number rest told (Stopped n) falls end is = absurd (cc is)
 none_open number rest told (Wrong n due) falls end is = refl
 none_open number rest told (Forged n) falls end is = refl
+none_open number rest told (Unkept n) falls end is = refl
 none_open number rest told (More n) falls end is = refl
 none_open number rest told Memory falls end is = refl
 none_open number rest told (Unread input n) falls end is = refl

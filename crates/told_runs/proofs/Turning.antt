@@ -3,6 +3,7 @@ use Rattle.std.proofs.Common.{◌≡◌, ◌≢◌, ◌⊎◌, ℕ, ◌<◌, ◌
 use Rattle.bench_base.specs.declared.events.Event.{Event}
 use Rattle.bench_base.specs.declared.events.Event.TheVariants as ev
 use Rattle.bench_base.specs.declared.events.Reply.{Reply}
+use Rattle.bench_base.specs.Events.{Nothing, brought_by}
 use Rattle.bench_base.specs.Ledger.{Ledger}
 use Rattle.bench_base.specs.Ranges.{IsWholeEvent}
 use Rattle.bench_base.specs.Rules.{todays_rules, editions}
@@ -25,7 +26,7 @@ use Rattle.script_replay.specs.Deeds.{ledger_by}
 use Rattle.told_bench.specs.declared.judging.Finding.TheVariants as found
 use Rattle.told_bench.specs.Forging.{AtHistory}
 use Rattle.told_bench.specs.Judging.{AtEach, IsJudged, text_with}
-use Rattle.told_bench.specs.Seeing.{Audit, Sees}
+use Rattle.told_bench.specs.Seeing.{Audit, Sees, keeps}
 use Rattle.told_runs.specs.Imprints.{IsGiven, IsDueMark, GivesSo, imprint_at}
 use Rattle.told_runs.specs.Verdicts.{Skipped, Answered, status_of, IsEvent, HasLine, has_line, has_front, IsAnswered}
 use Rattle.told_runs.specs.Stops.{StopsSo}
@@ -36,7 +37,7 @@ use Rattle.told_runs.specs.declared.verdict.Ending.{Ending}
 use Rattle.told_runs.specs.declared.verdict.Ending.TheVariants as ends
 use Rattle.told_runs.specs.declared.verdict.Input.TheVariants as input
 use Rattle.told_runs.specs.declared.verdict.Verdict.{Verdict}
-use Rattle.told_runs.specs.declared.verdict.Verdict.TheVariants.{Lawful, Stopped, Wrong, Forged, More, Memory, Unread}
+use Rattle.told_runs.specs.declared.verdict.Verdict.TheVariants.{Lawful, Stopped, Wrong, Forged, Unkept, More, Memory, Unread}
 use Rattle.told_runs.proofs.Giving.{given_by}
 use Rattle.told_runs.proofs.Paired.{over_falls}
 
@@ -69,6 +70,10 @@ module _ (number : ℕ) (inside : number ≤ 1000000) (script line lines : List 
   pub forged : (before : List Imprint) → AtHistory old (λ H. Unforged e H → ⊥) → FellPut number script report rates old old before before (Forged number)
   forged before brings = (record { falls = (refl, e, is_event); so = λ τ H texts history seen. (brings τ H history seen, seen) }, sym (append-nil before))
 
+  -- or bytes, and the auditor does not keep what was sent and released
+  pub unkept : (before : List Imprint) → brought_by e ≢ Nothing → keeps old ≡ false → FellPut number script report rates old old before before (Unkept number)
+  unkept before brings none = (record { falls = (refl, e, is_event, brings); so = λ τ H texts history seen. (none, seen) }, sym (append-nil before))
+
   -- the report ends before the line end of its answer
   pub stops : (v : Verdict) (before after : List Imprint) → IsOneLine report → IsUnforgedThere → StopsSo number e report rates old new before after v → FellPut number script report rates old new before after v
   stops (Stopped n) before after one unforged stop = (
@@ -92,6 +97,7 @@ module _ (number : ℕ) (inside : number ≤ 1000000) (script line lines : List 
   stops (Lawful end) before after one unforged stop = absurd stop
   stops (More n) before after one unforged stop = absurd stop
   stops (Forged n) before after one unforged stop = absurd stop
+  stops (Unkept n) before after one unforged stop = absurd stop
 
   -- there was no memory
   pub wants : (before : List Imprint) → FellPut number script report rates old new before before Memory
@@ -116,6 +122,7 @@ module _ (number : ℕ) (inside : number ≤ 1000000) (script line lines : List 
   too_long (Lawful end) front behind before after is one never unforged stop = absurd stop
   too_long (More n) front behind before after is one never unforged stop = absurd stop
   too_long (Forged n) front behind before after is one never unforged stop = absurd stop
+  too_long (Unkept n) front behind before after is one never unforged stop = absurd stop
   too_long (Unread text n) front behind before after is one never unforged stop = absurd stop
 
   module _ (answer behind : List ℕ) (has : HasLine report answer behind) where

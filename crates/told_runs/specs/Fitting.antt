@@ -24,7 +24,7 @@ use Rattle.told_runs.specs.declared.imprint.Imprint.{Imprint}
 use Rattle.told_runs.specs.declared.verdict.Ending.{Ending}
 use Rattle.told_runs.specs.declared.verdict.Ending.TheVariants.{Done as Ended, Script, TooLong}
 use Rattle.told_runs.specs.declared.verdict.Verdict.{Verdict}
-use Rattle.told_runs.specs.declared.verdict.Verdict.TheVariants.{Lawful, Stopped, Wrong, Forged, More, Memory, Unread}
+use Rattle.told_runs.specs.declared.verdict.Verdict.TheVariants.{Lawful, Stopped, Wrong, Forged, Unkept, More, Memory, Unread}
 
 -- each may be told in turn, at the ledger and with the rates that those before it leave
 abbrev pub AreTold : Tariff → Ledger → List ℕ → List Done → Type 0
@@ -80,12 +80,13 @@ module _ (τ : Tariff) (H : Ledger) (script report rates : List ℕ) where
     pub run : IsRun τ H rates (done_in deeds)
     pub prints_are : prints ≡ printed_of (done_in deeds)
 
--- no more was judged, since there was no memory or what is to be read could not be
+-- no more was judged, since there was no memory, what is to be read could not be, or an event brings bytes and nothing is kept by which forged ones are told
 abbrev pub IsCutShort : Verdict → Type 0
 IsCutShort (Lawful end) = ⊥
 IsCutShort (Stopped n) = ⊥
 IsCutShort (Wrong n due) = ⊥
 IsCutShort (Forged n) = ⊥
+IsCutShort (Unkept n) = Unit {0}
 IsCutShort (More n) = ⊥
 IsCutShort Memory = Unit {0}
 IsCutShort (Unread input n) = Unit {0}

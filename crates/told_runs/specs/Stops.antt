@@ -12,7 +12,7 @@ use Rattle.told_runs.specs.Imprints.{IsLeftOpen, imprint_at}
 use Rattle.told_runs.specs.declared.imprint.Given.{Given}
 use Rattle.told_runs.specs.declared.imprint.Imprint.{Imprint}
 use Rattle.told_runs.specs.declared.verdict.Verdict.{Verdict}
-use Rattle.told_runs.specs.declared.verdict.Verdict.TheVariants.{Lawful, Stopped, Wrong, Forged, More, Memory, Unread}
+use Rattle.told_runs.specs.declared.verdict.Verdict.TheVariants.{Lawful, Stopped, Wrong, Forged, Unkept, More, Memory, Unread}
 
 -- The event of the line of this number; these bytes of the report and of the rates are left.
 module _ (number : ℕ) (e : Event) (report rates : List ℕ) (old new : Audit) (before after : List Imprint) where
@@ -29,4 +29,5 @@ module _ (number : ℕ) (e : Event) (report rates : List ℕ) (old new : Audit) 
   StopsSo (Lawful end) = ⊥
   StopsSo (More n) = ⊥
   StopsSo (Forged n) = ⊥
+  StopsSo (Unkept n) = ⊥
   StopsSo (Unread input n) = ⊥

@@ -5,7 +5,7 @@ use Rattle.told_runs.specs.declared.audit.Step.{Step}
 use Rattle.told_runs.specs.declared.verdict.Ending.{Ending}
 use Rattle.told_runs.specs.declared.verdict.Ending.TheVariants.{Done as Ended, Script, TooLong}
 use Rattle.told_runs.specs.declared.verdict.Verdict.{Verdict}
-use Rattle.told_runs.specs.declared.verdict.Verdict.TheVariants.{Lawful, Stopped, Wrong, Forged, More, Memory, Unread}
+use Rattle.told_runs.specs.declared.verdict.Verdict.TheVariants.{Lawful, Stopped, Wrong, Forged, Unkept, More, Memory, Unread}
 
 -- where the run is lawful, its script ended so, and so many lines of the report were taken for that
 abbrev pub EndsAfter : Ending → ℕ → Option (List ℕ) → Option (List ℕ) → Verdict → Type 0
@@ -27,6 +27,7 @@ answers_behind (Lawful end) = answers_at end
 answers_behind (Stopped n) = 0
 answers_behind (Wrong n due) = 0
 answers_behind (Forged n) = 0
+answers_behind (Unkept n) = 0
 answers_behind (More n) = 0
 answers_behind Memory = 0
 answers_behind (Unread input n) = 0

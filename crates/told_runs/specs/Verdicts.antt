@@ -1,10 +1,11 @@
 -- What an audit of one run says: how far the lines of a script and of its report were paired, and where that ended, by the bytes alone; and what
 -- of it may be so, at each ledger that the auditor sees as the run begins.
-use Rattle.std.specs.Prelude.{◌≡◌, ℕ, ◌+◌, ◌<◌, ◌≤◌, List, [], ◌∷◌, ◌++◌, length, map, drop, flat_map, Option, None}
+use Rattle.std.specs.Prelude.{◌≡◌, ◌≢◌, ℕ, ◌+◌, ◌<◌, ◌≤◌, List, [], ◌∷◌, ◌++◌, length, map, drop, flat_map, false, Option, None}
 use Rattle.std.specs.List.{AllByRecursion}
 use Rattle.bench_base.specs.declared.events.Event.{Event}
 use Rattle.bench_base.specs.declared.events.Event.TheVariants as ev
 use Rattle.bench_base.specs.declared.events.Reply.{Reply}
+use Rattle.bench_base.specs.Events.{Nothing, brought_by}
 use Rattle.bench_base.specs.declared.ledger.Entry.TheVariants.{Begin}
 use Rattle.bench_base.specs.Ledger.{Ledger}
 use Rattle.bench_base.specs.Rules.{todays_rules, editions}
@@ -25,7 +26,7 @@ use Rattle.desk_runs.specs.Scripts.{script_grammar}
 use Rattle.script_replay.specs.Deeds.{ledger_by}
 use Rattle.told_bench.specs.Judging.{IsUntold}
 use Rattle.told_bench.specs.Stopping.{IsBegun, IsUnbegun}
-use Rattle.told_bench.specs.Seeing.{Audit, Sees}
+use Rattle.told_bench.specs.Seeing.{Audit, Sees, keeps}
 use Rattle.told_runs.specs.Audits.{MayTell}
 use Rattle.told_runs.specs.Imprints.{IsGiven, IsLeftOpen, imprint_at}
 use Rattle.told_runs.specs.Reads.{IsRead, OfTexts}
@@ -34,7 +35,7 @@ use Rattle.told_runs.specs.declared.imprint.Imprint.{Imprint}
 use Rattle.told_runs.specs.declared.verdict.Ending.{Ending}
 use Rattle.told_runs.specs.declared.verdict.Ending.TheVariants.{Done as Ended, Script, TooLong}
 use Rattle.told_runs.specs.declared.verdict.Verdict.{Verdict}
-use Rattle.told_runs.specs.declared.verdict.Verdict.TheVariants.{Lawful, Stopped, Wrong, Forged, More, Memory, Unread}
+use Rattle.told_runs.specs.declared.verdict.Verdict.TheVariants.{Lawful, Stopped, Wrong, Forged, Unkept, More, Memory, Unread}
 
 -- == lines of the script, each with its line of the report ==
 
@@ -108,7 +109,7 @@ pub record EndsSo (number : ℕ) (rest : List (List ℕ)) (told : List ℕ) (end
 
 -- The verdict falls at the line of this number, where these lines of the script and these bytes of the report are left: the two end together; the report goes
 -- on behind the end of the script; it ends before the line end of the next answer, where this is open of what was printed; it has a line for the next event, or ends
--- before its line end, which the event can't get; there is a next event, which brings something forged, or for which there was no memory; or the script or the
+-- before its line end, which the event can't get; there is a next event, which brings something forged, or bytes, or for which there was no memory; or the script or the
 -- report could not be read there.
 abbrev pub FallsAt : ℕ → List (List ℕ) → List ℕ → Verdict → Type 0
 FallsAt number rest told (Lawful end) = EndsSo number rest told end []
@@ -116,6 +117,7 @@ FallsAt number rest told (More n) = (n ≡ number) × (end : Ending) × (behind 
 FallsAt number rest told (Stopped n) = (n ≡ number) × (e : Event) × (given : Option Given) × IsEvent number rest e × IsOneLine told
 FallsAt number rest told (Wrong n due) = (n ≡ number) × (e : Event) × IsEvent number rest e × HasSome told
 FallsAt number rest told (Forged n) = (n ≡ number) × (e : Event) × IsEvent number rest e
+FallsAt number rest told (Unkept n) = (n ≡ number) × (e : Event) × IsEvent number rest e × (brought_by e ≢ Nothing)
 FallsAt number rest told Memory = (e : Event) × IsEvent number rest e
 FallsAt number rest told (Unread input n) = n ≡ number
 
@@ -126,6 +128,7 @@ last_given number rest told (More n) at = None
 last_given number rest told (Stopped n) at = at.2
 last_given number rest told (Wrong n due) at = None
 last_given number rest told (Forged n) at = None
+last_given number rest told (Unkept n) at = None
 last_given number rest told Memory at = None
 last_given number rest told (Unread input n) at = None
 
@@ -161,13 +164,14 @@ module _ (τ : Tariff) (H : Ledger) (left : List ℕ) (now : Audit) where
 
   -- What the verdict says where it falls: the end may be so; the next event brings nothing forged, and what the report ends with may be the front of the line of a
   -- reply, and the auditor sees a ledger that the event may have left, as `Leaves` says; it brings nothing forged, and may not get what the report
-  -- has; or it brings something forged.
+  -- has; it brings something forged; or the auditor does not keep what was sent and released.
   abbrev pub IsSo : (number : ℕ) (rest : List (List ℕ)) (told : List ℕ) (v : Verdict) → FallsAt number rest told v → Type 0
   IsSo number rest told (Lawful end) at = MayEnd end told [] at.report
   IsSo number rest told (More n) at = MayEnd at.1 told at.2 at.3.report
   IsSo number rest told (Stopped n) at = Unforged at.1 H × IsBegun τ H at.1 left told now × IsLeftOpen τ H at.1 told at.2
   IsSo number rest told (Wrong n due) at = Unforged at.1 H × IsWrong at.1 due told at.3
   IsSo number rest told (Forged n) at = (Unforged at.1 H → ⊥) × Sees now H
+  IsSo number rest told (Unkept n) at = (keeps now ≡ false) × Sees now H
   IsSo number rest told Memory at = Unit {0}
   IsSo number rest told (Unread input n) at = Unit {0}
 

@@ -1,11 +1,11 @@
 //! The answer that a report has for an event.
-ghost use Rattle.std.specs.Prelude.{◌+◌, ◌<◌, ◌≤◌, [], length, IfErr};
+ghost use Rattle.std.specs.Prelude.{◌≡◌, ◌+◌, ◌<◌, ◌≤◌, [], length, IfErr};
 ghost use Rattle.bench_base.specs.Ranges.{IsWholeEvent};
 ghost use Rattle.bench.specs.declared.benches.TheConstants.{MOST_MESSAGES};
 ghost use Rattle.ledger_moves.specs.Histories.{Unforged};
 ghost use Rattle.line_runs.specs.Lines.{IsOneLine, ended};
 ghost use Rattle.told_bench.specs.Forging.{AtHistory};
-ghost use Rattle.told_bench.specs.Seeing.{IsReady, audit_of};
+ghost use Rattle.told_bench.specs.Seeing.{IsReady, audit_of, keeps};
 ghost use Rattle.told_runs.specs.Reads.{FailsSo, HasScript};
 ghost use Rattle.told_runs.specs.Takes.{AnswerTakes};
 ghost use Rattle.told_runs.specs.Turns.{IsAnswer};
@@ -43,6 +43,7 @@ fn judge_line<R: Source>(
     requires ready { IsReady (audit_of auditor.old) }
     requires few { length (audit_of auditor.old).messages < MOST_MESSAGES }
     ensures ready { IsReady (audit_of auditor.new) }
+    ensures kept { keeps (audit_of auditor.new) ≡ keeps (audit_of auditor.old) }
     ensures few { length (audit_of auditor.new).messages ≤ length (audit_of auditor.old).messages + 1 }
     ensures answers { IsAnswer number event.now (ended line.now) rates.now (audit_of auditor.old) (audit_of auditor.new)
         imprints.old.items imprints.new.items (⟦<ReadAhead<R> as Source>⟧.left report.old) (⟦<ReadAhead<R> as Source>⟧.left report.new) result }
@@ -83,6 +84,7 @@ fn hear<R: Source>(
     requires ready { IsReady (audit_of auditor.old) }
     requires few { length (audit_of auditor.old).messages < MOST_MESSAGES }
     ensures ready { IsReady (audit_of auditor.new) }
+    ensures kept { keeps (audit_of auditor.new) ≡ keeps (audit_of auditor.old) }
     ensures few { length (audit_of auditor.new).messages ≤ length (audit_of auditor.old).messages + 1 }
     ensures answers { IsAnswer number event.now [] rates.now (audit_of auditor.old) (audit_of auditor.new) imprints.old.items imprints.new.items
         (⟦<ReadAhead<R> as Source>⟧.left report.old) (⟦<ReadAhead<R> as Source>⟧.left report.new) result }
@@ -121,6 +123,7 @@ pub(crate) fn answer<R: Source>(
     requires ready { IsReady (audit_of auditor.old) }
     requires few { length (audit_of auditor.old).messages < MOST_MESSAGES }
     ensures ready { IsReady (audit_of auditor.new) }
+    ensures kept { keeps (audit_of auditor.new) ≡ keeps (audit_of auditor.old) }
     ensures few { length (audit_of auditor.new).messages ≤ length (audit_of auditor.old).messages + 1 }
     ensures answers { IsAnswer number event.now [] rates.now (audit_of auditor.old) (audit_of auditor.new) imprints.old.items imprints.new.items
         (⟦<ReadAhead<R> as Source>⟧.left report.old) (⟦<ReadAhead<R> as Source>⟧.left report.new) result }
@@ -131,7 +134,10 @@ pub(crate) fn answer<R: Source>(
     if index(alloc, auditor, event).is_err() {
         return Err(Verdict::Memory);
     }
-    if is_forged(auditor, event) {
+    let Some(forged) = is_forged(auditor, event) else {
+        return Err(Verdict::Unkept(number));
+    };
+    if forged {
         return Err(Verdict::Forged(number));
     }
     hear(alloc, auditor, imprints, number, event, buf, report, rates)

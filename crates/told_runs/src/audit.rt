@@ -1,7 +1,7 @@
 //! The audit of one run.
 ghost use Rattle.std.specs.Prelude.{◌≡◌, ◌+◌, ◌<◌, ◌≤◌, drop, length, IfErr, IfOk};
 ghost use Rattle.bench.specs.declared.benches.TheConstants.{MOST_MESSAGES};
-ghost use Rattle.told_bench.specs.Seeing.{IsReady, audit_of};
+ghost use Rattle.told_bench.specs.Seeing.{IsReady, audit_of, keeps};
 ghost use Rattle.told_runs.specs.Counted.{HasAnswers};
 ghost use Rattle.told_runs.specs.Reads.{FailsSo};
 ghost use Rattle.told_runs.specs.Takes.{TurnTakes, answers_behind};
@@ -52,6 +52,7 @@ fn judged(verdict: Verdict, answers: u32) -> Judgment
         | Verdict::Stopped(_)
         | Verdict::Wrong(_, _)
         | Verdict::Forged(_)
+        | Verdict::Unkept(_)
         | Verdict::More(_)
         | Verdict::Memory
         | Verdict::Unread(_, _) => 0,
@@ -78,6 +79,7 @@ fn turn<S: Source, R: Source>(
     requires ready { IsReady (audit_of auditor.old) }
     requires few { length (audit_of auditor.old).messages < MOST_MESSAGES }
     ensures ready { IsReady (audit_of auditor.new) }
+    ensures kept { keeps (audit_of auditor.new) ≡ keeps (audit_of auditor.old) }
     ensures few { length (audit_of auditor.new).messages ≤ length (audit_of auditor.old).messages + 1 }
     ensures turns { IsTurn number rates.now (audit_of auditor.old) (audit_of auditor.new) imprints.old.items imprints.new.items
         (⟦<ReadAhead<S> as Source>⟧.left script.old) (⟦<ReadAhead<S> as Source>⟧.left script.new) (⟦<ReadAhead<R> as Source>⟧.left report.old) (⟦<ReadAhead<R> as Source>⟧.left report.new) result }
@@ -130,7 +132,9 @@ fn turn<S: Source, R: Source>(
 ///
 /// What the printer was given in the lines that were paired is put behind the imprints, and what is open of it where the run was stopped. An event whose answer is
 /// begun was done; where that is in doubt a stop is reported as one in which a node lost its power, if it may have. So a run over what was kept may be audited next. No
-/// answer is judged of an event that brings forged bytes: the audit ends there.
+/// answer is judged of an event that brings forged bytes: the audit ends there. It also ends at an event that brings bytes if the auditor does not keep what was sent and
+/// released; an auditor that keeps it judges each.
+#[inline(always)]
 pub fn audit_run<S: Source, R: Source>(
     alloc: Global,
     auditor: &mut Auditor,
@@ -141,6 +145,7 @@ pub fn audit_run<S: Source, R: Source>(
 ) -> Judgment
     requires ready { IsReady (audit_of auditor.old) }
     ensures ready { IsReady (audit_of auditor.new) }
+    ensures kept { keeps (audit_of auditor.new) ≡ keeps (audit_of auditor.old) }
     ensures audited { AuditedOf result.verdict (⟦<ReadAhead<S> as Source>⟧.left script.old) (⟦<ReadAhead<S> as Source>⟧.left script.new) (⟦<ReadAhead<R> as Source>⟧.left report.old) (⟦<ReadAhead<R> as Source>⟧.left report.new) rates.now
         (audit_of auditor.old) (audit_of auditor.new) imprints.old.items imprints.new.items }
     ensures counted { HasAnswers result.answers (⟦<ReadAhead<R> as Source>⟧.left report.old) (⟦<ReadAhead<R> as Source>⟧.left report.new) result.verdict }

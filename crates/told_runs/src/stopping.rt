@@ -2,7 +2,7 @@
 ghost use Rattle.std.specs.Prelude.{◌≡◌, ◌≢◌, ◌+◌, ◌<◌, ◌≤◌, ℕ, length};
 ghost use Rattle.bench_base.specs.Ranges.{IsWholeEvent};
 ghost use Rattle.bench.specs.declared.benches.TheConstants.{MOST_MESSAGES};
-ghost use Rattle.told_bench.specs.Seeing.{IsReady, audit_of};
+ghost use Rattle.told_bench.specs.Seeing.{IsReady, audit_of, keeps};
 ghost use Rattle.told_runs.specs.Stops.{StopsSo};
 ghost use Rattle.told_runs.specs.declared.verdict.Ending.{Ending};
 ghost use Rattle.told_runs.specs.declared.verdict.Verdict.{Verdict};
@@ -27,6 +27,7 @@ pub(crate) fn stopped(
     requires ready { IsReady (audit_of auditor.old) }
     requires few { length (audit_of auditor.old).messages < MOST_MESSAGES }
     ensures ready { IsReady (audit_of auditor.new) }
+    ensures kept { keeps (audit_of auditor.new) ≡ keeps (audit_of auditor.old) }
     ensures few { length (audit_of auditor.new).messages ≤ length (audit_of auditor.old).messages + 1 }
     ensures unlawful { (end : Ending) → result ≢ Verdict.Lawful end }
     ensures short { (n : ℕ) → result ≡ Verdict.Stopped n → length report.now ≤ 256 }

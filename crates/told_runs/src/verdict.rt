@@ -35,6 +35,8 @@ pub enum Verdict {
     /// The lines before the line of this number may be so, and its event brings forged bytes: with the right code of whoever they name, or as a mark
     /// for the host, and not sent or released in any run before. What the report has for it is not looked at.
     Forged(u32),
+    /// The lines before the line of this number may be so, and its event brings bytes; but the auditor does not keep what was sent and released, by which forged ones are told.
+    Unkept(u32),
     /// The script ends at the line of this number, and the report goes on behind.
     More(u32),
     /// There was no memory, for rates or for a message.

@@ -7,6 +7,7 @@ use Rattle.told_bench.proofs.stopping.lose_power.Goals as goal
 pub loop-number-preserved : goal.loop-number-preserved
 loop-number-preserved c = record {
   ready = c.lose_power_there.ensures.ready;
+  kept = c.lose_power_there.ensures.kept ∙ c.loop-number.invariant.kept;
   first = omega (arith, c.loop-number.invariant.first);
   unsent = c.in_ok-lose_power_there.ensures.unsent c.if-branch.false ∙ c.loop-number.invariant.unsent;
   rests = λ τ H texts history unforged sees.

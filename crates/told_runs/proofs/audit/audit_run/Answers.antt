@@ -1,4 +1,4 @@
-use Rattle.std.proofs.Common.{◌≡◌, ℕ, List, length, ap, arith, refl}
+use Rattle.std.proofs.Common.{◌≡◌, ℕ, ◌∙◌, List, length, ap, arith, refl}
 use Rattle.told_bench.specs.Seeing.{audit_of}
 use Rattle.told_runs.specs.declared.verdict.Ending.TheVariants.{TooLong}
 use Rattle.told_runs.specs.Takes.{answers_behind}
@@ -9,6 +9,7 @@ use Rattle.told_runs.proofs.audit.audit_run.Goals as goal
 pub loop-count-init : goal.loop-count-init
 loop-count-init g c = record {
   ready = c.begin.ensures.ready;
+  kept = c.begin.ensures.kept;
   few = omega (arith, ap (λ (l : List (List ℕ)). length l) c.begin.ensures.no_messages);
   counted = took_none _;
   few_answers = omega arith;
@@ -30,6 +31,7 @@ returns-then-step-clause-audited g c =
 pub loop-count-preserved : goal.loop-count-preserved
 loop-count-preserved g c = record {
   ready = c.in-Ok.ensures.ready;
+  kept = c.in-Ok.ensures.kept ∙ c.loop-count.invariant.kept;
   few = omega (arith, c.in-Ok.ensures.few, c.loop-count.invariant.few);
   counted = took_more _ _ _ c.loop-count.answers c.in-Ok.step.answers _ c.loop-count.invariant.counted c.in-Ok.ensures.counted refl;
   few_answers = omega (arith, c.in-Ok.ensures.few_answers, c.loop-count.invariant.few_answers);

@@ -1,6 +1,6 @@
-use Rattle.std.proofs.Common.{◌-◌, ◌≤◌, length, take, drop}
+use Rattle.std.proofs.Common.{◌≡◌, ◌-◌, ◌≤◌, length, take, drop}
 use Rattle.std.specs.Io.KnownBytes.{prepend_known}
-use Rattle.told_bench.specs.Seeing.{IsReady, audit_of}
+use Rattle.told_bench.specs.Seeing.{IsReady, audit_of, keeps}
 use Rattle.told_runs.specs.Counted.{TookLines}
 use Rattle.told_runs.specs.Turns.{IsProgress}
 use Rattle.told_runs.proofs.audit.audit_run.Given as goal
@@ -8,6 +8,7 @@ use Rattle.told_runs.proofs.audit.audit_run.Given as goal
 abbrev pub invariant-loop-count : goal.invariant-loop-count
 invariant-loop-count g l = record {
   ready : IsReady (audit_of l.auditor);
+  kept : keeps (audit_of l.auditor) ≡ keeps (audit_of l.fn.auditor);
   few : length (audit_of l.auditor).messages ≤ l.count;
   counted : TookLines l.answers
       (prepend_known (take (l.fn.report.end - l.fn.report.at) (drop l.fn.report.at l.fn.report.buffer.items)) (g.R.Source.left l.fn.report.inner))

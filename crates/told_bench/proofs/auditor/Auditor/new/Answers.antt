@@ -9,4 +9,4 @@ returns-clause-ready c =
 pub returns-clause-blank : goal.returns-clause-blank
 returns-clause-blank c =
     blank_sees c.in_ok-devices.devices.items c.blank_centre.result c.in_ok-host.host c.in_ok-verifier.verifier c.new.result.items c.new-2.result
-    c.new.ensures.items c.new-2.ensures c.in_ok-devices.ensures.blank c.blank_centre.ensures c.in_ok-host.ensures c.in_ok-verifier.ensures
+    c.new.ensures.items c.new-2.ensures.blank c.in_ok-devices.ensures.blank c.blank_centre.ensures c.in_ok-host.ensures c.in_ok-verifier.ensures
