@@ -14,7 +14,7 @@ use bench_base::events::Reply;
 use bench_base::numbers::{DayNo, DevNo};
 use bench_base::words::{JobState, Node, Verdict};
 use std::alloc::{AllocError, Global};
-use told_nodes::is_told;
+use trace_nodes::is_told;
 
 /// A commit, and the line whose event made it.
 #[derive(Clone, Copy)]

@@ -2,7 +2,7 @@
 //! known of a node before and after a line is what that knows.
 ghost use Rattle.std.specs.Prelude.{IfOk};
 ghost use Rattle.bench_base.specs.Ranges.{IsWholeEvent};
-ghost use Rattle.told_bench.specs.Seeing.{IsReady, audit_of};
+ghost use Rattle.trace_bench.specs.Seeing.{IsReady, audit_of};
 
 use crate::figures::{figures_of, owner_of, seen_by};
 use crate::hearing::{judged, line_of};
@@ -14,7 +14,7 @@ use bench::MOST_MESSAGES;
 use bench_base::events::{Event, Reply};
 use script_text::{Line, is_skipped, read_event};
 use std::alloc::{AllocError, Global};
-use told_bench::{Auditor, Finding, due_to, stop};
+use trace_bench::{Auditor, Finding, due_to, stop};
 
 // What judgements say of a line whose answer was found to be missing, or to be begun: the line of the reply with which its event was done, or none if that is in doubt.
 fn broken_off(

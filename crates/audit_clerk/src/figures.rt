@@ -1,11 +1,11 @@
 //! What the auditor knows of a node before or after a line. Amounts are in mills.
-ghost use Rattle.told_bench.specs.Seeing.{IsReady, audit_of};
+ghost use Rattle.trace_bench.specs.Seeing.{IsReady, audit_of};
 
 use audit_book::{Figures, Ruling, Seen, last_ruling};
 use audit_journal::{Deed, Entry};
 use bench_base::numbers::{Customer, DevNo};
 use bench_base::words::Node;
-use told_bench::Auditor;
+use trace_bench::Auditor;
 
 // The descending register of the device.
 fn descending(auditor: &Auditor, device: DevNo) -> Option<u64>

@@ -1,13 +1,13 @@
 //! What judgements say of lines that were judged before.
 ghost use Rattle.bench_base.specs.Ranges.{IsWholeEvent};
-ghost use Rattle.told_bench.specs.Seeing.{IsReady, audit_of};
+ghost use Rattle.trace_bench.specs.Seeing.{IsReady, audit_of};
 
 use audit_journal::BookFault;
 use bench::MOST_MESSAGES;
 use bench_base::events::{Event, Reply};
 use script_text::{Line, put_reply};
 use std::alloc::Global;
-use told_bench::{Auditor, Finding, judge};
+use trace_bench::{Auditor, Finding, judge};
 
 // What judgements say of a line that was judged before: how many bytes of the rates it took.
 pub(crate) fn judged(

@@ -1,6 +1,6 @@
 //! Goes over a run that was stopped, and writes the answers that were due from there on.
 ghost use Rattle.bench_base.specs.Ranges.{IsWholeEvent};
-ghost use Rattle.told_bench.specs.Seeing.{IsReady, audit_of};
+ghost use Rattle.trace_bench.specs.Seeing.{IsReady, audit_of};
 
 use crate::hearing::{judged, line_of};
 use crate::lines::{LINES, Left, Run, behind, behind_line, line_len};
@@ -11,7 +11,7 @@ use bench_base::stream::Sink;
 use script_text::{Line, is_skipped, read_event};
 use std::alloc::Global;
 use text_streams::put_text;
-use told_bench::{Auditor, Finding, begins, due_to, stop};
+use trace_bench::{Auditor, Finding, begins, due_to, stop};
 
 /// What was due to an event.
 #[derive(Drop)]

@@ -3,7 +3,7 @@ use crate::saying::say;
 use audit_journal::{BookFault, money_text};
 use bench_base::numbers::{Customer, DevNo};
 use std::alloc::{AllocError, Global};
-use told_bench::Auditor;
+use trace_bench::Auditor;
 
 /// What a customer's devices bought and gave back.
 #[derive(Clone, Copy)]

@@ -1,5 +1,5 @@
 //! The devices on a page: what each shows, how it and the centre compare, its deadline, and what it has asked for. Amounts are in mills.
-ghost use Rattle.told_bench.specs.Seeing.{IsReady, audit_of};
+ghost use Rattle.trace_bench.specs.Seeing.{IsReady, audit_of};
 
 use crate::rulings::ruling_of;
 use crate::saying::{say, tell_reply};
@@ -10,7 +10,7 @@ use bench_base::events::DevView;
 use bench_base::numbers::{DayNo, DevNo};
 use bench_base::words::Phase;
 use std::alloc::{AllocError, Global};
-use told_bench::Auditor;
+use trace_bench::Auditor;
 
 /// How many days after its deadline a device still franks small postage.
 const DAYS_OF_GRACE: i32 = 7;

@@ -1,5 +1,5 @@
 //! Where the money is: with customers, on the way to a device, on devices, or franked. Amounts are in mills.
-ghost use Rattle.told_bench.specs.Seeing.{IsReady, audit_of};
+ghost use Rattle.trace_bench.specs.Seeing.{IsReady, audit_of};
 
 use crate::rulings::ruling_of;
 use crate::saying::say;
@@ -9,7 +9,7 @@ use bench_base::events::DevView;
 use bench_base::numbers::{Customer, DayNo, DevNo};
 use bench_base::words::{Kind, Verdict};
 use std::alloc::{AllocError, Global};
-use told_bench::Auditor;
+use trace_bench::Auditor;
 
 /// The sums of all customers and devices.
 #[derive(Clone, Copy)]

@@ -1,5 +1,5 @@
 //! The page below the verdicts: what the runs came to, a fact a line. Amounts are in mills, with dollars beside them.
-ghost use Rattle.told_bench.specs.Seeing.{IsReady, audit_of};
+ghost use Rattle.trace_bench.specs.Seeing.{IsReady, audit_of};
 
 use crate::customers::tell_customers;
 use crate::devices::tell_devices;
@@ -13,7 +13,7 @@ use audit_words::shown_text;
 use bench_base::numbers::{DayNo, DevNo};
 use bench_base::words::Node;
 use std::alloc::{AllocError, Global};
-use told_bench::Auditor;
+use trace_bench::Auditor;
 
 fn days_text(alloc: Global, first: DayNo, last: DayNo) -> Result<String, AllocError> {
     let from = date_text(alloc, first.get())?;

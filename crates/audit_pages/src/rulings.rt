@@ -1,7 +1,7 @@
 //! How the centre ruled.
 use audit_book::{Ruling, last_ruling};
 use bench_base::numbers::DevNo;
-use told_bench::Auditor;
+use trace_bench::Auditor;
 
 /// The last ruling of the centre on the device, by the commits that count. None if there was none.
 pub(crate) fn ruling_of(auditor: &Auditor, device: DevNo) -> Option<Ruling> {

@@ -1,5 +1,5 @@
 //! The table below the verdicts: what the auditor has after the runs, a fact a line.
-ghost use Rattle.told_bench.specs.Seeing.{IsReady, audit_of};
+ghost use Rattle.trace_bench.specs.Seeing.{IsReady, audit_of};
 
 use crate::saying::{say, tell_reply};
 use audit_journal::{BookFault, node_text};
@@ -7,7 +7,7 @@ use bench_base::events::Reply;
 use bench_base::numbers::{Customer, DayNo, DevNo};
 use bench_base::words::Node;
 use std::alloc::{AllocError, Global};
-use told_bench::Auditor;
+use trace_bench::Auditor;
 
 fn commits_text(alloc: Global, node: &Node, commits: u64) -> Result<String, AllocError> {
     let word = node_text(alloc, node)?;

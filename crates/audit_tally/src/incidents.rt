@@ -4,7 +4,7 @@ use bench_base::events::Reply;
 use bench_base::numbers::{DayNo, DevNo};
 use bench_base::words::Node;
 use std::alloc::{AllocError, Global};
-use told_nodes::is_told;
+use trace_nodes::is_told;
 
 /// What went wrong at a line.
 #[derive(Clone, Copy)]

@@ -20,30 +20,30 @@ use Rattle.nv_model.specs.declared.nv.Nv as nv
 use Rattle.node_acts.specs.Kinds.{view_in}
 use Rattle.node_acts.specs.Plans.{after}
 use Rattle.node_acts.specs.Views.{View}
-use Rattle.node_seat.specs.declared.node.Node.{Ghosts}
-use Rattle.node_seat.specs.Stands as node
+use Rattle.node_storage.specs.declared.node.Node.{Ghosts}
+use Rattle.node_storage.specs.Stands as node
 use Rattle.node_turns.specs.Adds.{Adds}
 use Rattle.node_turns.specs.NodeTurns.{Switches}
 use Rattle.node_turns.specs.Turns.{turn_of, in_order}
 use Rattle.ledger_moves.specs.Tariffs.{Tariff}
 use Rattle.ledger_moves.specs.Moves.{plan}
 use Rattle.host_rates.specs.Laws.{KeptPrices}
-use Rattle.bench_views.specs.declared.taken.Taken.{Taken}
-use Rattle.bench_views.specs.declared.taken.Taken.TheVariants as take
-use Rattle.bench_views.specs.declared.taken.Work.{Work}
-use Rattle.bench_views.specs.declared.taken.Work.TheVariants as work
-use Rattle.bench_views.specs.Follows.{OthersAreQuiet, quiet_by}
-use Rattle.bench_views.specs.Tariff.{quote}
-use Rattle.bench_views.specs.Taken.{taken, as_given}
-use Rattle.bench_views.proofs.Events.{same_work}
-use Rattle.bench_views.proofs.OfNone.{IsQuietAs, quiet_is, plan_day, plan_end, plan_none}
+use Rattle.bench_abstraction.specs.declared.taken.Taken.{Taken}
+use Rattle.bench_abstraction.specs.declared.taken.Taken.TheVariants as take
+use Rattle.bench_abstraction.specs.declared.taken.Work.{Work}
+use Rattle.bench_abstraction.specs.declared.taken.Work.TheVariants as work
+use Rattle.bench_abstraction.specs.Follows.{OthersAreQuiet, quiet_by}
+use Rattle.bench_abstraction.specs.Tariff.{quote}
+use Rattle.bench_abstraction.specs.Taken.{taken, as_given}
+use Rattle.bench_abstraction.proofs.Events.{same_work}
+use Rattle.bench_abstraction.proofs.OfNone.{IsQuietAs, quiet_is, plan_day, plan_end, plan_none}
 use Rattle.bench.specs.Benches.{Nodes, OfState, Of, IsReady, Stands, BenchOf}
 use Rattle.bench.specs.Outside.{Outside, ReadsRates}
 use Rattle.bench.specs.Steps.{Steps, DoesAsked, ComparesViews}
 use Rattle.bench.proofs.EachKind.{all_rest, of_all, of_with}
 use Rattle.bench.proofs.Events.{given_alike}
 use Rattle.bench.proofs.Making.{get_some}
-use Rattle.bench_views.proofs.RatesPlans.{taken_by}
+use Rattle.bench_abstraction.proofs.RatesPlans.{taken_by}
 use Rattle.bench.proofs.Quiet.{SwitchesIs, asking, quiet}
 use Rattle.bench.proofs.Unprinted.{IsUnprinted}
 

@@ -6,14 +6,14 @@ use Rattle.node_acts.specs.declared.asked.Asked.{Asked}
 use Rattle.node_turns.specs.declared.turn.Turn.{Turn}
 use Rattle.node_turns.specs.NodeTurns.{NodeTurn}
 use Rattle.node_turns.specs.Printing.{NodePrints}
-use Rattle.bench_views.specs.declared.calls.DeviceCall.{DeviceCall}
-use Rattle.bench_views.specs.declared.calls.CentreCall.{CentreCall}
-use Rattle.bench_views.specs.declared.calls.HostCall.{HostCall}
-use Rattle.bench_views.specs.declared.calls.VerifierCall.{VerifierCall}
-use Rattle.bench_views.specs.declared.taken.Taken.TheVariants as take
-use Rattle.bench_views.specs.declared.taken.Work.TheVariants as work
-use Rattle.bench_views.specs.Tariff.{quote}
-use Rattle.bench_views.specs.Taken.{taken}
+use Rattle.bench_abstraction.specs.declared.calls.DeviceCall.{DeviceCall}
+use Rattle.bench_abstraction.specs.declared.calls.CentreCall.{CentreCall}
+use Rattle.bench_abstraction.specs.declared.calls.HostCall.{HostCall}
+use Rattle.bench_abstraction.specs.declared.calls.VerifierCall.{VerifierCall}
+use Rattle.bench_abstraction.specs.declared.taken.Taken.TheVariants as take
+use Rattle.bench_abstraction.specs.declared.taken.Work.TheVariants as work
+use Rattle.bench_abstraction.specs.Tariff.{quote}
+use Rattle.bench_abstraction.specs.Taken.{taken}
 use Rattle.bench.specs.Benches.{Nodes, devices, centre, host, verifier, BenchOf}
 use Rattle.bench.specs.Calls.{DeviceTurn, device_event, centre_event, host_event, verifier_event}
 use Rattle.bench.specs.Outside.{Outside}

@@ -10,8 +10,8 @@ use Rattle.bench_base.specs.declared.words.Node.{Node}
 use Rattle.bench_base.specs.declared.words.Node.TheVariants.{Device, Centre, Host, Verifier}
 use Rattle.nv_model.specs.declared.nv.Nv as nv
 use Rattle.node_acts.specs.Kinds.{view_in}
-use Rattle.node_seat.specs.declared.node.Node.{Ghosts}
-use Rattle.node_seat.specs.Stands as node
+use Rattle.node_storage.specs.declared.node.Node.{Ghosts}
+use Rattle.node_storage.specs.Stands as node
 use Rattle.bench.specs.Benches.{Nodes, Of, Stands, BenchOf}
 use Rattle.bench.specs.Places.{Pairs, IsStopped, Begun, StopsAt}
 use Rattle.bench.proofs.Making.{get_some, pairs_at, pairs_length}

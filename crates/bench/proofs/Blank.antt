@@ -10,7 +10,7 @@ use Rattle.nv_store.specs.Store.{Shows}
 use Rattle.nv_store.specs.Current.{current_none}
 use Rattle.node_acts.specs.Kinds.{view_in}
 use Rattle.node_acts.specs.RowList.{RowList, row_at}
-use Rattle.node_seat.specs.Stands.{StoreStands}
+use Rattle.node_storage.specs.Stands.{StoreStands}
 use Rattle.row_node.specs.Shows.{IsHeldAs, ShowsRows}
 use Rattle.bench.specs.Benches.{Nodes, OneKind, IsBlank, AreBlank, StoreStandsOff, StoresStand, store_of, bytes_of}
 use Rattle.bench.specs.Benches as benches

@@ -13,7 +13,7 @@ use Rattle.centre_ledger.specs.Seen.{books_in, device_in, customer_in}
 use Rattle.centre_ledger.proofs.Kept.{none_kept}
 use Rattle.centre_protocol.specs.Payloads.{IsIn}
 use Rattle.centre_protocol.specs.Sound.{IsSound}
-use Rattle.bench_views.specs.Centre.{cell_after, seen_in}
+use Rattle.bench_abstraction.specs.Centre.{cell_after, seen_in}
 
 no_cell : (k : ℕ) → cell_after k [] ≡ None
 no_cell k = by (nat_lt k 8) refl

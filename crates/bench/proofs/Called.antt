@@ -18,8 +18,8 @@ use Rattle.node_acts.specs.Acts.{TellsOf, commit_of}
 use Rattle.node_acts.specs.Kinds.{Kind}
 use Rattle.node_acts.specs.Said.{seen_plan}
 use Rattle.node_acts.specs.Views.{View}
-use Rattle.node_seat.specs.declared.node.Node.{Ghosts}
-use Rattle.node_seat.specs.Shown.{IsFitting}
+use Rattle.node_storage.specs.declared.node.Node.{Ghosts}
+use Rattle.node_storage.specs.Shown.{IsFitting}
 use Rattle.node_turns.specs.declared.turn.Turn.{Turn}
 use Rattle.node_turns.specs.Calling.{Called}
 use Rattle.node_turns.specs.NodeTurns.{NodeTurn}

@@ -6,8 +6,8 @@ use Rattle.bench_base.specs.declared.events.Event.TheVariants as ev
 use Rattle.bench_base.specs.declared.events.Reply.TheVariants as r
 use Rattle.node_acts.specs.Plans.{IsOfNode}
 use Rattle.node_acts.proofs.OfCommits.{of_commit, commit_says}
-use Rattle.node_seat.specs.declared.node.Node.{Ghosts}
-use Rattle.node_seat.specs.Shown.{IsFitting}
+use Rattle.node_storage.specs.declared.node.Node.{Ghosts}
+use Rattle.node_storage.specs.Shown.{IsFitting}
 use Rattle.centre_ledger.specs.declared.rows.Row.{Row}
 use Rattle.centre_ledger.specs.declared.rows.CustomerRow.{CustomerRow}
 use Rattle.psd_wire.specs.Grammar.{read}
@@ -20,9 +20,9 @@ use Rattle.centre_ledger.specs.Books.{Books, AreSound, device_at, customer_at, l
 use Rattle.centre_ledger.specs.Plans.{told_registered, told_opened, told_deposited, told_flagged, told_balance, told_taken}
 use Rattle.centre_ledger.proofs.Own.{register_own, open_own, flag_own, deposit_own, left_own, take_own}
 use Rattle.centre_ledger.proofs.SoundActs.{leaves}
-use Rattle.bench_views.specs.declared.calls.CentreCall.{CentreCall}
-use Rattle.bench_views.specs.declared.calls.CentreCall.TheVariants as call
-use Rattle.bench_views.specs.Centre.{centre_act, IsBytesCall}
+use Rattle.bench_abstraction.specs.declared.calls.CentreCall.{CentreCall}
+use Rattle.bench_abstraction.specs.declared.calls.CentreCall.TheVariants as call
+use Rattle.bench_abstraction.specs.Centre.{centre_act, IsBytesCall}
 use Rattle.bench.specs.Calls.{centre_call_event, IsRangedCall}
 use Rattle.bench.proofs.Calls.{polite_says, CommitsNone, told_made, told_none}
 use Rattle.node_turns.proofs.Calls.{IsCallOf, IsToldBy, MayRefuse, MaySay}

@@ -6,7 +6,7 @@ use Rattle.bench_base.specs.declared.events.Reply.{Reply}
 use Rattle.bench_base.specs.Events.{calls_of}
 use Rattle.bench_base.specs.Replies.{tells_power, tells_fault}
 use Rattle.nv_model.specs.Meters.{Meters}
-use Rattle.node_seat.proofs.Rests.{uses_none}
+use Rattle.node_storage.proofs.Rests.{uses_none}
 use Rattle.node_turns.specs.Costs.{Charged}
 
 -- what was not charged was charged with nothing

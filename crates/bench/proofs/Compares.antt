@@ -16,7 +16,7 @@ use Rattle.centre_ledger.specs.Acts.{CentreAct, standing_act}
 use Rattle.centre_ledger.specs.Seen as centre
 use Rattle.centre_ledger.specs.Seen.{books_in}
 use Rattle.centre_ledger.specs.declared.standing.Standing.{Standing}
-use Rattle.bench_views.specs.Comparing.{stood, compared, compare}
+use Rattle.bench_abstraction.specs.Comparing.{stood, compared, compare}
 use Rattle.bench.proofs.Answered.{Answers}
 
 each_stood : (P : Reply → Type 0) (d held : ℕ) → ((x : CentreRefusal) → P (r.CentreRefused x)) → ((a b : ℕ) (c : Option (Kind × ℕ)) → P (r.Reconciled d a b c)) → (act : CentreAct Standing) → P (stood d held act)

@@ -16,8 +16,8 @@ use Rattle.indicium.specs.declared.Mark.{Mark}
 use Rattle.indicium.specs.Marks as marks
 use Rattle.node_acts.proofs.OfCommits.{commit_says}
 use Rattle.psd_state.proofs.Released.{commit_released}
-use Rattle.node_seat.specs.declared.node.Node.{Ghosts}
-use Rattle.node_seat.specs.Shown.{IsFitting}
+use Rattle.node_storage.specs.declared.node.Node.{Ghosts}
+use Rattle.node_storage.specs.Shown.{IsFitting}
 use Rattle.psd_wire.specs.declared.message.DebitMsg.{DebitMsg}
 use Rattle.psd_wire.specs.declared.message.ReplyMsg.{ReplyMsg}
 use Rattle.psd_wire.specs.declared.message.Request.{Request}
@@ -33,11 +33,11 @@ use Rattle.psd_state.specs.declared.debiting.Debited.TheVariants.{New, Again}
 use Rattle.psd_state.specs.declared.acts.Taken.{Taken}
 use Rattle.psd_state.specs.declared.acts.Taken.TheVariants as taken_as
 use Rattle.ledger_moves.specs.Moves.{debit_by}
-use Rattle.bench_views.specs.declared.calls.DeviceCall.{DeviceCall}
-use Rattle.bench_views.specs.declared.calls.DeviceCall.TheVariants.{Make, Debit, Ask, Resend, Ack, Status, Take}
-use Rattle.bench_views.specs.Devices as views
-use Rattle.bench_views.specs.Devices.{device_act}
-use Rattle.bench_views.proofs.Plans.{call_own}
+use Rattle.bench_abstraction.specs.declared.calls.DeviceCall.{DeviceCall}
+use Rattle.bench_abstraction.specs.declared.calls.DeviceCall.TheVariants.{Make, Debit, Ask, Resend, Ack, Status, Take}
+use Rattle.bench_abstraction.specs.Devices as views
+use Rattle.bench_abstraction.specs.Devices.{device_act}
+use Rattle.bench_abstraction.proofs.Plans.{call_own}
 use Rattle.bench.specs.Calls.{device_call_event}
 use Rattle.bench.proofs.Calls.{polite_says, CommitsNone, told_made, told_none}
 use Rattle.node_turns.proofs.Calls.{IsCallOf, IsToldBy, MayRefuse, MaySay}

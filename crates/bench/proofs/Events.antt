@@ -15,21 +15,21 @@ use Rattle.bench_base.specs.Ranges.{IsWholeEvent}
 use Rattle.bench_base.specs.Replies.{tells_power, tells_fault, MayGet, MayFailAt}
 use Rattle.node_acts.specs.declared.asked.Asked.{Asked}
 use Rattle.node_acts.specs.declared.asked.Asked.TheVariants.{On, Off, Cut, Call}
-use Rattle.bench_views.specs.declared.calls.DeviceCall.{DeviceCall}
-use Rattle.bench_views.specs.declared.calls.DeviceCall.TheVariants as device
-use Rattle.bench_views.specs.declared.calls.CentreCall.{CentreCall}
-use Rattle.bench_views.specs.declared.calls.CentreCall.TheVariants as call
-use Rattle.bench_views.specs.declared.calls.HostCall.{HostCall}
-use Rattle.bench_views.specs.declared.calls.HostCall.TheVariants as host
-use Rattle.bench_views.specs.declared.calls.VerifierCall.{VerifierCall}
-use Rattle.bench_views.specs.declared.calls.VerifierCall.TheVariants as verifier
-use Rattle.bench_views.specs.declared.taken.Taken.{Taken}
-use Rattle.bench_views.specs.declared.taken.Taken.TheVariants as take
-use Rattle.bench_views.specs.declared.taken.Work.{Work}
-use Rattle.bench_views.specs.declared.taken.Work.TheVariants as work
-use Rattle.bench_views.specs.Tariff.{Quote}
-use Rattle.bench_views.specs.Taken.{taken, taker, as_given, as_given_by, as_scanned_by, IsPricedAsked}
-use Rattle.bench_views.proofs.Events.{each_asked, each_of_centre, each_of_host, each_of_verifier}
+use Rattle.bench_abstraction.specs.declared.calls.DeviceCall.{DeviceCall}
+use Rattle.bench_abstraction.specs.declared.calls.DeviceCall.TheVariants as device
+use Rattle.bench_abstraction.specs.declared.calls.CentreCall.{CentreCall}
+use Rattle.bench_abstraction.specs.declared.calls.CentreCall.TheVariants as call
+use Rattle.bench_abstraction.specs.declared.calls.HostCall.{HostCall}
+use Rattle.bench_abstraction.specs.declared.calls.HostCall.TheVariants as host
+use Rattle.bench_abstraction.specs.declared.calls.VerifierCall.{VerifierCall}
+use Rattle.bench_abstraction.specs.declared.calls.VerifierCall.TheVariants as verifier
+use Rattle.bench_abstraction.specs.declared.taken.Taken.{Taken}
+use Rattle.bench_abstraction.specs.declared.taken.Taken.TheVariants as take
+use Rattle.bench_abstraction.specs.declared.taken.Work.{Work}
+use Rattle.bench_abstraction.specs.declared.taken.Work.TheVariants as work
+use Rattle.bench_abstraction.specs.Tariff.{Quote}
+use Rattle.bench_abstraction.specs.Taken.{taken, taker, as_given, as_given_by, as_scanned_by, IsPricedAsked}
+use Rattle.bench_abstraction.proofs.Events.{each_asked, each_of_centre, each_of_host, each_of_verifier}
 use Rattle.node_acts.specs.Kinds.{OfCall}
 use Rattle.bench.specs.Calls.{asked_event, device_event, centre_event, host_event, verifier_event, device_call_event, centre_call_event, host_call_event, verifier_call_event, IsRangedCall, IsRangedJob, IsRangedScan}
 

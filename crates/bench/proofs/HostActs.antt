@@ -10,8 +10,8 @@ use Rattle.node_acts.specs.declared.said.Said.{Said}
 use Rattle.node_acts.specs.declared.said.Printed.{Printed as Print}
 use Rattle.node_acts.specs.Acts.{TellsOf}
 use Rattle.node_acts.proofs.OfCommits.{of_commit, commit_says}
-use Rattle.node_seat.specs.declared.node.Node.{Ghosts}
-use Rattle.node_seat.specs.Shown.{IsFitting}
+use Rattle.node_storage.specs.declared.node.Node.{Ghosts}
+use Rattle.node_storage.specs.Shown.{IsFitting}
 use Rattle.node_turns.proofs.Calls.{IsCallOf, IsToldBy, MayRefuse}
 use Rattle.node_turns.proofs.Printed.{PrintsSo}
 use Rattle.psd_wire.specs.Grammar.{read}
@@ -25,9 +25,9 @@ use Rattle.host_jobs.specs.Rows.{Jobs, job_row, tops_in}
 use Rattle.host_jobs.specs.Soundness.{AreSound, IsNext}
 use Rattle.host_jobs.proofs.Own.{order_own, print_own, close_own, take_own}
 use Rattle.host_jobs.proofs.SoundActs.{leaves}
-use Rattle.bench_views.specs.declared.calls.HostCall.{HostCall}
-use Rattle.bench_views.specs.declared.calls.HostCall.TheVariants as call
-use Rattle.bench_views.specs.Host.{host_act}
+use Rattle.bench_abstraction.specs.declared.calls.HostCall.{HostCall}
+use Rattle.bench_abstraction.specs.declared.calls.HostCall.TheVariants as call
+use Rattle.bench_abstraction.specs.Host.{host_act}
 use Rattle.bench.specs.Calls.{host_call_event, IsRangedJob}
 use Rattle.bench.proofs.Calls.{polite_says, CommitsNone, told_made, told_none}
 

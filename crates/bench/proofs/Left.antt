@@ -5,8 +5,8 @@ use Rattle.bench_base.specs.declared.words.Node.{Node}
 use Rattle.bench_base.specs.declared.ledger.Entry.TheVariants as entry
 use Rattle.bench_base.specs.Ledger.{Ledger}
 use Rattle.node_acts.specs.Kinds.{view_in}
-use Rattle.node_seat.specs.Stands as node
-use Rattle.node_seat.specs.Stands.{StoreStands}
+use Rattle.node_storage.specs.Stands as node
+use Rattle.node_storage.specs.Stands.{StoreStands}
 use Rattle.bench.specs.Benches.{Places, Nodes, OfState, OfChange, At, IsReady, Stands, StoresStand, BenchOf}
 use Rattle.bench.specs.Steps.{AreLeft, HoldsImage}
 use Rattle.bench.proofs.EachKind.{AllRest, of_with, at_both, still}

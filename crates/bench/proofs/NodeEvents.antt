@@ -18,8 +18,8 @@ use Rattle.nv_store.specs.Mounts.{Mounts}
 use Rattle.nv_store.specs.Store.{UsesCommit}
 use Rattle.node_acts.specs.declared.asked.Asked.{Asked}
 use Rattle.node_acts.specs.Kinds.{view_in, node_commit}
-use Rattle.node_seat.specs.Stands as node
-use Rattle.node_seat.specs.Stands.{StoreStands, times_of, meters_of, HasDamage, IsArmed}
+use Rattle.node_storage.specs.Stands as node
+use Rattle.node_storage.specs.Stands.{StoreStands, times_of, meters_of, HasDamage, IsArmed}
 use Rattle.node_turns.specs.declared.turn.Turn.{Turn}
 use Rattle.node_turns.specs.Costs.{Charged}
 use Rattle.node_turns.specs.NodeTurns.{NodeTurn, Switches}
@@ -28,13 +28,13 @@ use Rattle.host_rates.specs.Laws.{KeptPrices}
 use Rattle.ledger_moves.specs.Tariffs.{Tariff}
 use Rattle.ledger_moves.specs.Moves as ledger
 use Rattle.ledger_moves.specs.Moves.{plan}
-use Rattle.bench_views.specs.declared.taken.Taken.TheVariants as take
-use Rattle.bench_views.specs.declared.taken.Work.{Work}
-use Rattle.bench_views.specs.declared.taken.Work.TheVariants as work
-use Rattle.bench_views.specs.Tariff.{quote}
-use Rattle.bench_views.specs.Taken.{taken, as_given}
-use Rattle.bench_views.specs.Follows.{Follows, FollowsAlways}
-use Rattle.bench_views.proofs.Events.{same_work}
+use Rattle.bench_abstraction.specs.declared.taken.Taken.TheVariants as take
+use Rattle.bench_abstraction.specs.declared.taken.Work.{Work}
+use Rattle.bench_abstraction.specs.declared.taken.Work.TheVariants as work
+use Rattle.bench_abstraction.specs.Tariff.{quote}
+use Rattle.bench_abstraction.specs.Taken.{taken, as_given}
+use Rattle.bench_abstraction.specs.Follows.{Follows, FollowsAlways}
+use Rattle.bench_abstraction.proofs.Events.{same_work}
 use Rattle.bench.specs.Benches.{Nodes, OneKind, OfChange, At, IsReady, Stands, devices, centre, host, verifier, BenchOf}
 use Rattle.bench.specs.Outside.{Outside}
 use Rattle.bench_base.specs.Replies.{tells_failure}
@@ -42,7 +42,7 @@ use Rattle.bench.specs.Steps.{notes_in, Steps, StepsByViews, DoesAsked, ShowsLed
 use Rattle.bench.proofs.Events.{IsOfNode, no_day}
 use Rattle.bench.proofs.EachKind.{OthersRest}
 use Rattle.bench.proofs.OneNode as one
-use Rattle.bench_views.proofs.RatesPlans.{taken_by}
+use Rattle.bench_abstraction.proofs.RatesPlans.{taken_by}
 use Rattle.bench.proofs.OneTurn.{NodeDid, NodeDidOn, at_alone, at_unwritten, at_damaged, at_on}
 use Rattle.bench.proofs.Sets.{get_set_same, get_set_other, set_there, same_some}
 

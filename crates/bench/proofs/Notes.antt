@@ -16,9 +16,9 @@ use Rattle.node_turns.specs.declared.turn.Turn.{Turn}
 use Rattle.node_turns.specs.Adds.{Adds, AddsTold, AddsDone, LeavesOpen, Brings, Nothing, ADay, SomeRates, AMark, AMessage, AMarkInMessage, APrint, brings, is_message, names_message}
 use Rattle.node_turns.specs.Turns.{in_order}
 use Rattle.node_turns.specs.Turns as turns
-use Rattle.bench_views.specs.Messages.{sent_in, SendsNone, IsFew}
+use Rattle.bench_abstraction.specs.Messages.{sent_in, SendsNone, IsFew}
 use Rattle.bench.specs.Steps.{notes_of, notes_in}
-use Rattle.bench_views.proofs.Sent.{sends_none as none_sent}
+use Rattle.bench_abstraction.proofs.Sent.{sends_none as none_sent}
 
 -- an entry that sends nothing is passed over
 passed : (x : Entry) (T : List Entry) (rest : List (Option Entry)) → SendsNone (x ∷ T) → turns.sent_in (Some x ∷ rest) ≡ turns.sent_in rest

@@ -20,19 +20,19 @@ use Rattle.node_acts.specs.declared.asked.Asked.{Asked}
 use Rattle.node_acts.specs.Kinds.{Kind, view_in}
 use Rattle.node_acts.specs.Plans.{after, MayReply, view_after, view_told, with_torn}
 use Rattle.node_acts.specs.Views.{Counting, View, torn, stopped, started, up_with}
-use Rattle.node_seat.specs.declared.node.Node.{Ghosts}
-use Rattle.node_seat.specs.Shown.{Allowed, ShowsNext, IsAfter, IsNext, Sound}
-use Rattle.node_seat.specs.Stands as node
-use Rattle.node_seat.specs.Stands.{StoreStands, times_of}
+use Rattle.node_storage.specs.declared.node.Node.{Ghosts}
+use Rattle.node_storage.specs.Shown.{Allowed, ShowsNext, IsAfter, IsNext, Sound}
+use Rattle.node_storage.specs.Stands as node
+use Rattle.node_storage.specs.Stands.{StoreStands, times_of}
 use Rattle.node_turns.specs.declared.turn.Turn.{Turn}
 use Rattle.node_turns.specs.NodeTurns.{NodeTurn, MovesView}
 use Rattle.node_turns.specs.Turns.{in_order}
 use Rattle.ledger_moves.specs.Tariffs.{Tariff}
 use Rattle.ledger_moves.specs.Moves.{plan, entries}
-use Rattle.bench_views.specs.Kinds.{Kinds}
-use Rattle.bench_views.specs.Follows.{OthersStay, Follows, Replied, plan_by, commit_by}
-use Rattle.bench_views.proofs.Views.{same_node_self}
-use Rattle.bench_views.specs.Messages.{sent_in}
+use Rattle.bench_abstraction.specs.Kinds.{Kinds}
+use Rattle.bench_abstraction.specs.Follows.{OthersStay, Follows, Replied, plan_by, commit_by}
+use Rattle.bench_abstraction.proofs.Views.{same_node_self}
+use Rattle.bench_abstraction.specs.Messages.{sent_in}
 use Rattle.bench.proofs.Notes.{few_notes}
 use Rattle.bench.specs.Steps.{notes_in, ShowsCommit, ShowsLedger, HoldsImage, with_open, after_stop}
 

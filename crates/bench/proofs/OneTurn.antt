@@ -18,9 +18,9 @@ use Rattle.nv_store.specs.Mounts.{Mounts}
 use Rattle.node_acts.specs.Kinds.{view_in}
 use Rattle.node_acts.specs.Plans.{after}
 use Rattle.node_acts.specs.Views.{View}
-use Rattle.node_seat.specs.Stands as node
-use Rattle.node_seat.specs.Stands.{StoreStands, times_of, meters_of, HasDamage, IsArmed}
-use Rattle.node_seat.proofs.Rests.{mounts_none}
+use Rattle.node_storage.specs.Stands as node
+use Rattle.node_storage.specs.Stands.{StoreStands, times_of, meters_of, HasDamage, IsArmed}
+use Rattle.node_storage.proofs.Rests.{mounts_none}
 use Rattle.node_turns.specs.declared.turn.Turn.{Turn}
 use Rattle.node_turns.specs.Adds.{Adds}
 use Rattle.node_turns.specs.Costs.{Charged}
@@ -34,12 +34,12 @@ use Rattle.ledger_moves.specs.Tariffs.{Tariff}
 use Rattle.ledger_moves.specs.Histories.{History, Unforged}
 use Rattle.ledger_moves.specs.Moves as ledger
 use Rattle.ledger_moves.specs.Moves.{Moves, plan}
-use Rattle.bench_views.specs.declared.taken.Taken.TheVariants as take
-use Rattle.bench_views.specs.declared.taken.Work.TheVariants as work
-use Rattle.bench_views.specs.Tariff.{quote}
-use Rattle.bench_views.specs.Taken.{taken, as_given}
-use Rattle.bench_views.specs.Messages.{sent_in}
-use Rattle.bench_views.specs.Follows.{OthersStay, Rests}
+use Rattle.bench_abstraction.specs.declared.taken.Taken.TheVariants as take
+use Rattle.bench_abstraction.specs.declared.taken.Work.TheVariants as work
+use Rattle.bench_abstraction.specs.Tariff.{quote}
+use Rattle.bench_abstraction.specs.Taken.{taken, as_given}
+use Rattle.bench_abstraction.specs.Messages.{sent_in}
+use Rattle.bench_abstraction.specs.Follows.{OthersStay, Rests}
 use Rattle.bench.specs.Benches.{Places, Nodes, OneKind, OfState, OfChange, At, Of, By, IsReady, Stands, StoresStand, StoreStandsOff, store_of, devices, centre, host, verifier, BenchOf}
 use Rattle.bench.specs.Outside.{Feed, Outside}
 use Rattle.bench.specs.Steps.{Steps, StepsOn, StepsAlone, ShowsLedger, HoldsImage, AreLeft, StayClosed, Leaves, UsesFuse, notes_in, sending, with_open, after_stop}

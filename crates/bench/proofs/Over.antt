@@ -10,9 +10,9 @@ use Rattle.nv_model.specs.declared.nv.Nv as nv
 use Rattle.nv_model.specs.Moments.{Times, Image}
 use Rattle.node_acts.specs.Kinds.{view_in}
 use Rattle.node_acts.specs.Views.{View, stopped}
-use Rattle.node_seat.specs.declared.node.Node.{Ghosts}
-use Rattle.node_seat.specs.Stands as node
-use Rattle.node_seat.specs.Stands.{StoreStands}
+use Rattle.node_storage.specs.declared.node.Node.{Ghosts}
+use Rattle.node_storage.specs.Stands as node
+use Rattle.node_storage.specs.Stands.{StoreStands}
 use Rattle.host_rates.specs.Tables.{RateTable}
 use Rattle.bench.specs.Benches.{Nodes, BenchOf, OneKind, Of, HasDay, Stands, StoreStandsOff, StoresStand, store_of}
 use Rattle.bench.specs.Benches as benches

@@ -17,9 +17,9 @@ use Rattle.bench_base.specs.Ledger.{Ledger, torn_of}
 use Rattle.nv_store.specs.Mounts.{Mounts}
 use Rattle.node_acts.specs.Kinds.{view_in}
 use Rattle.node_acts.specs.Plans.{after}
-use Rattle.node_seat.specs.Stands as node
-use Rattle.node_seat.specs.Stands.{times_of, meters_of}
-use Rattle.node_seat.proofs.Rests.{mounts_none}
+use Rattle.node_storage.specs.Stands as node
+use Rattle.node_storage.specs.Stands.{times_of, meters_of}
+use Rattle.node_storage.proofs.Rests.{mounts_none}
 use Rattle.node_turns.specs.declared.turn.Turn.{Turn}
 use Rattle.node_turns.specs.Adds.{Adds}
 use Rattle.node_turns.specs.NodeTurns.{Switches, OnlyCalls}
@@ -27,12 +27,12 @@ use Rattle.node_turns.specs.Turns.{in_order, made_in, turn_of}
 use Rattle.ledger_moves.specs.Tariffs.{Tariff}
 use Rattle.ledger_moves.specs.Histories.{History, Unforged}
 use Rattle.ledger_moves.specs.Moves.{Moves, plan}
-use Rattle.bench_views.specs.declared.taken.Taken.TheVariants as take
-use Rattle.bench_views.specs.declared.taken.Work.{Work}
-use Rattle.bench_views.specs.declared.taken.Work.TheVariants as work
-use Rattle.bench_views.specs.Tariff.{IsOfTexts, quote}
-use Rattle.bench_views.specs.Taken.{taken, as_given}
-use Rattle.bench_views.proofs.Events.{same_work}
+use Rattle.bench_abstraction.specs.declared.taken.Taken.TheVariants as take
+use Rattle.bench_abstraction.specs.declared.taken.Work.{Work}
+use Rattle.bench_abstraction.specs.declared.taken.Work.TheVariants as work
+use Rattle.bench_abstraction.specs.Tariff.{IsOfTexts, quote}
+use Rattle.bench_abstraction.specs.Taken.{taken, as_given}
+use Rattle.bench_abstraction.proofs.Events.{same_work}
 use Rattle.bench.specs.Benches.{Bench, Places, Nodes, OfState, OfChange, Of, At, IsReady, Stands, StoresStand, BenchOf}
 use Rattle.bench.specs.Outside.{Outside, ReadsRates}
 use Rattle.bench.specs.Steps.{Steps, StepsOn, StepsByViews, StepsAlone, DoesAsked, FindsOff, ShowsLedger, AreLeft, StayClosed, Leaves, notes_in, sending, with_open, after_stop}

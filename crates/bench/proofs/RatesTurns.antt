@@ -13,7 +13,7 @@ use Rattle.bench_base.specs.Rules.{todays_rules, editions}
 use Rattle.bench_base.specs.Ledger.{Ledger, rates_in, torn_of}
 use Rattle.node_acts.specs.Kinds.{view_in}
 use Rattle.node_acts.specs.Plans.{after}
-use Rattle.node_seat.specs.Stands as node
+use Rattle.node_storage.specs.Stands as node
 use Rattle.node_turns.specs.declared.turn.Turn.{Turn}
 use Rattle.node_turns.specs.Adds.{Adds}
 use Rattle.node_turns.specs.Turns.{turn_of, in_order, made_in}
@@ -25,9 +25,9 @@ use Rattle.host_rates.specs.Answers.{answer}
 use Rattle.ledger_moves.specs.Tariffs.{Tariff}
 use Rattle.ledger_moves.specs.Histories.{History}
 use Rattle.ledger_moves.specs.Moves.{plan}
-use Rattle.bench_views.specs.declared.taken.Work.TheVariants as work
-use Rattle.bench_views.specs.Tariff.{IsOfTexts}
-use Rattle.bench_views.proofs.RatesPlans.{plan_of, planned, are_rates, plan_rates}
+use Rattle.bench_abstraction.specs.declared.taken.Work.TheVariants as work
+use Rattle.bench_abstraction.specs.Tariff.{IsOfTexts}
+use Rattle.bench_abstraction.proofs.RatesPlans.{plan_of, planned, are_rates, plan_rates}
 use Rattle.bench.specs.Benches.{Nodes, OfState, IsReady, Stands, BenchOf}
 use Rattle.bench.specs.Outside.{Outside, ReadsText, ReadsRates, failed, read, rates_turn, rates_after}
 use Rattle.bench.specs.Steps.{Steps, notes_in}

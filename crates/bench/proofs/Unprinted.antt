@@ -9,7 +9,7 @@ use Rattle.bench_base.specs.Replies.{MayGet}
 use Rattle.nv_model.specs.declared.nv.Nv as nv
 use Rattle.node_acts.specs.declared.asked.Asked.{Asked}
 use Rattle.node_acts.specs.Kinds.{Kind}
-use Rattle.node_seat.specs.declared.node.Node.{Ghosts}
+use Rattle.node_storage.specs.declared.node.Node.{Ghosts}
 use Rattle.node_turns.specs.Printing.{Printer, PrinterDid, NodePrints}
 
 -- a reply that tells nothing of the printer

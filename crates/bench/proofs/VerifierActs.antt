@@ -9,8 +9,8 @@ use Rattle.bench_base.specs.declared.events.Reply.TheVariants as r
 use Rattle.bench_base.proofs.Rows.{chosen}
 use Rattle.node_acts.specs.Plans.{IsOfNode}
 use Rattle.node_acts.proofs.OfCommits.{of_commit, commit_says}
-use Rattle.node_seat.specs.declared.node.Node.{Ghosts}
-use Rattle.node_seat.specs.Shown.{IsFitting}
+use Rattle.node_storage.specs.declared.node.Node.{Ghosts}
+use Rattle.node_storage.specs.Shown.{IsFitting}
 use Rattle.node_turns.proofs.Calls.{IsCallOf, IsToldBy, MayRefuse}
 use Rattle.indicium.specs.declared.Mark.{Mark}
 use Rattle.indicium.specs.Marks.{read_mark}
@@ -24,9 +24,9 @@ use Rattle.verifier.specs.ActLaws.{IsFit, LeavesSound, SoundActs}
 use Rattle.verifier.specs.Seen.{Seen, AreSound, key_at, spot_in}
 use Rattle.verifier.specs.Plans.{told_trusted, told_accepted}
 use Rattle.verifier.proofs.LawActs.{leaves}
-use Rattle.bench_views.specs.declared.calls.VerifierCall.{VerifierCall}
-use Rattle.bench_views.specs.declared.calls.VerifierCall.TheVariants as call
-use Rattle.bench_views.specs.Verifier.{verifier_act, IsBytesCall}
+use Rattle.bench_abstraction.specs.declared.calls.VerifierCall.{VerifierCall}
+use Rattle.bench_abstraction.specs.declared.calls.VerifierCall.TheVariants as call
+use Rattle.bench_abstraction.specs.Verifier.{verifier_act, IsBytesCall}
 use Rattle.bench.specs.Calls.{verifier_call_event, IsRangedScan}
 use Rattle.bench.proofs.Calls.{polite_says, told_made}
 

@@ -12,21 +12,21 @@ use Rattle.node_acts.specs.declared.act.Started.{Started}
 use Rattle.node_acts.specs.declared.asked.Asked.{Asked}
 use Rattle.node_acts.specs.declared.asked.Asked.TheVariants.{On, Off, Cut, Call}
 use Rattle.node_acts.specs.Kinds.{Kind}
-use Rattle.node_seat.specs.declared.node.Node.{Ghosts}
-use Rattle.node_seat.specs.Starts.{StartDoes, StopDoes, ArmDoes}
+use Rattle.node_storage.specs.declared.node.Node.{Ghosts}
+use Rattle.node_storage.specs.Starts.{StartDoes, StopDoes, ArmDoes}
 use Rattle.node_turns.specs.declared.turn.Turn.{Turn}
 use Rattle.node_turns.specs.NodeTurns.{NodeTurn}
 use Rattle.node_turns.specs.Printing.{Printer, NodePrints}
 use Rattle.node_turns.specs.Turns.{turn_of, start_turn, stop_turn}
-use Rattle.bench_views.specs.declared.calls.DeviceCall.{DeviceCall}
-use Rattle.bench_views.specs.declared.calls.DeviceCall.TheVariants.{Make, Debit, Ask, Resend, Ack, Status, Take}
-use Rattle.bench_views.specs.declared.calls.CentreCall.{CentreCall}
-use Rattle.bench_views.specs.declared.calls.CentreCall.TheVariants as call
+use Rattle.bench_abstraction.specs.declared.calls.DeviceCall.{DeviceCall}
+use Rattle.bench_abstraction.specs.declared.calls.DeviceCall.TheVariants.{Make, Debit, Ask, Resend, Ack, Status, Take}
+use Rattle.bench_abstraction.specs.declared.calls.CentreCall.{CentreCall}
+use Rattle.bench_abstraction.specs.declared.calls.CentreCall.TheVariants as call
 use Rattle.host_jobs.specs.ActLaws.{IsPrice}
-use Rattle.bench_views.specs.declared.calls.HostCall.{HostCall}
-use Rattle.bench_views.specs.declared.calls.HostCall.TheVariants as host
-use Rattle.bench_views.specs.declared.calls.VerifierCall.{VerifierCall}
-use Rattle.bench_views.specs.declared.calls.VerifierCall.TheVariants as verifier
+use Rattle.bench_abstraction.specs.declared.calls.HostCall.{HostCall}
+use Rattle.bench_abstraction.specs.declared.calls.HostCall.TheVariants as host
+use Rattle.bench_abstraction.specs.declared.calls.VerifierCall.{VerifierCall}
+use Rattle.bench_abstraction.specs.declared.calls.VerifierCall.TheVariants as verifier
 
 -- == events ==
 

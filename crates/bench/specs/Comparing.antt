@@ -9,7 +9,7 @@ use Rattle.psd_device.specs.NodeView as device_view
 use Rattle.centre_ledger.specs.Seen as centre
 use Rattle.row_node.specs.NodeView as centre_view
 use Rattle.centre_protocol.specs.NodeView.{CentreNode}
-use Rattle.bench_views.specs.Comparing.{compare}
+use Rattle.bench_abstraction.specs.Comparing.{compare}
 
 -- a node as it runs, which has no open commit
 abbrev pub running_device : {M : Type 0} {g : Ghosts M} → DeviceNode M g → View device.Seen

@@ -23,10 +23,10 @@ use Rattle.node_acts.specs.declared.asked.Asked.{Asked}
 use Rattle.node_acts.specs.Kinds.{Kind, view_in}
 use Rattle.node_acts.specs.Plans.{after}
 use Rattle.node_acts.specs.Views.{View}
-use Rattle.node_seat.specs.declared.node.Node.{Ghosts}
-use Rattle.node_seat.specs.Shown.{Allowed}
-use Rattle.node_seat.specs.Stands as node
-use Rattle.node_seat.specs.Stands.{times_of, meters_of, HasDamage, IsArmed}
+use Rattle.node_storage.specs.declared.node.Node.{Ghosts}
+use Rattle.node_storage.specs.Shown.{Allowed}
+use Rattle.node_storage.specs.Stands as node
+use Rattle.node_storage.specs.Stands.{times_of, meters_of, HasDamage, IsArmed}
 use Rattle.node_turns.specs.declared.turn.Turn.{Turn}
 use Rattle.node_turns.specs.Adds.{Adds, names_message}
 use Rattle.node_turns.specs.Costs.{Charged}
@@ -38,11 +38,11 @@ use Rattle.ledger_moves.specs.Tariffs.{Tariff}
 use Rattle.ledger_moves.specs.Moves as ledger
 use Rattle.ledger_moves.specs.Moves.{Moves, plan}
 use Rattle.ledger_moves.specs.Histories.{History}
-use Rattle.bench_views.specs.declared.taken.Taken.TheVariants as take
-use Rattle.bench_views.specs.declared.taken.Work.{Work}
-use Rattle.bench_views.specs.declared.taken.Work.TheVariants as work
-use Rattle.bench_views.specs.Tariff.{quote}
-use Rattle.bench_views.specs.Taken.{taken, as_given}
+use Rattle.bench_abstraction.specs.declared.taken.Taken.TheVariants as take
+use Rattle.bench_abstraction.specs.declared.taken.Work.{Work}
+use Rattle.bench_abstraction.specs.declared.taken.Work.TheVariants as work
+use Rattle.bench_abstraction.specs.Tariff.{quote}
+use Rattle.bench_abstraction.specs.Taken.{taken, as_given}
 use Rattle.bench.specs.Benches.{Bench, BenchOf, Places, Nodes, At, Stands, StoresStand, ForEach, store_of}
 use Rattle.bench.specs.Outside.{Outside, ReadsRates}
 

@@ -4,7 +4,7 @@ ghost use Rattle.std.specs.Vec.{vec_capacity};
 ghost use Rattle.bench_base.specs.declared.ledger.Entry.TheVariants.{Begin};
 ghost use Rattle.bench_base.specs.declared.words.Node.{Node as NodeNo};
 ghost use Rattle.bench_base.specs.Ledger.{Ledger};
-ghost use Rattle.bench_views.specs.Kinds.{bench_kinds};
+ghost use Rattle.bench_abstraction.specs.Kinds.{bench_kinds};
 ghost use Rattle.bench.specs.declared.benches.TheConstants.{MOST_MESSAGES};
 ghost use Rattle.std.specs.Option.{option_copied};
 
@@ -15,7 +15,7 @@ use bench_base::numbers::DayNo;
 use centre_protocol::{CentreNode, CentreRoom};
 use host_node::{HostNode, HostRoom};
 use host_rates::Rates;
-use node_seat::Node;
+use node_storage::Node;
 use nv_model::{Fuse, Fused, Nv};
 use psd_device::DeviceNode;
 use std::alloc::{AllocError, Global};
@@ -80,9 +80,9 @@ impl<M: Fuse + Drop, N: Nv> BenchOver<M, N> {
         self.rates = None;
         self.messages.clear();
         stop_all(&mut self.devices);
-        let _centre_was_on = node_seat::stop(&mut self.centre);
-        let _host_was_on = node_seat::stop(&mut self.host);
-        let _verifier_was_on = node_seat::stop(&mut self.verifier);
+        let _centre_was_on = node_storage::stop(&mut self.centre);
+        let _host_was_on = node_storage::stop(&mut self.host);
+        let _verifier_was_on = node_storage::stop(&mut self.verifier);
     }
 }
 

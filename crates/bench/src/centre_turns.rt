@@ -2,17 +2,17 @@
 use crate::node_turn::Turns;
 use bench_base::numbers::DayNo;
 use bench_base::stream::Sink;
-use bench_calls::{CentreCallee, hands_bytes};
-use bench_views::CentreCall;
+use call_handlers::{CentreCallee, hands_bytes};
+use bench_abstraction::CentreCall;
 use centre_protocol::CentreNode;
-use node_seat::Node;
+use node_storage::Node;
 use node_turns::{Tell, call_node};
 use nv_model::Fuse;
 
 impl<'a, M: Fuse + Drop, T: Tell, P: Sink> Turns<CentreCall<'a>, T, P> for CentreNode<M> {
     ghost use Rattle.bench_base.specs.declared.words.Node.TheVariants as node;
     ghost use Rattle.node_acts.specs.declared.asked.Asked.TheVariants.{Call};
-    ghost use Rattle.bench_views.specs.Centre as views;
+    ghost use Rattle.bench_abstraction.specs.Centre as views;
     ghost use Rattle.bench.specs.Calls as calls;
 
     ghost IsRanged = { λ c. calls.IsRangedCall c };

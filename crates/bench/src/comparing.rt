@@ -5,10 +5,10 @@ ghost use Rattle.bench.specs.Comparing.{Shows, ShowsAt};
 use bench_base::events::Reply;
 use bench_base::numbers::DevNo;
 use bench_base::words::Node as NodeNo;
-use bench_calls::compared;
+use call_handlers::compared;
 use centre_ledger::{BooksOf, standing_act};
 use centre_protocol::CentreNode;
-use node_seat::Node;
+use node_storage::Node;
 use nv_model::Fuse;
 use psd_device::DeviceNode;
 

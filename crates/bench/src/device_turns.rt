@@ -2,17 +2,17 @@
 ghost use Rattle.std.specs.Prelude.{◌≡◌, length};
 ghost use Rattle.node_turns.specs.declared.turn.Turn.{Turn};
 ghost use Rattle.node_turns.specs.Printing.{printer_of};
-ghost use Rattle.bench_views.specs.Devices.{device_kind};
+ghost use Rattle.bench_abstraction.specs.Devices.{device_kind};
 ghost use Rattle.bench.specs.Calls.{DeviceTurn};
 
 use crate::node_turn::{Turns, node_turn};
 use bench_base::numbers::{DayNo, DevNo};
 use bench_base::stream::Sink;
 use bench_base::words::Node as NodeNo;
-use bench_calls::{DeviceCallee, StatusCall};
-use bench_views::DeviceCall;
+use call_handlers::{DeviceCallee, StatusCall};
+use bench_abstraction::DeviceCall;
 use node_acts::Asked;
-use node_seat::Node;
+use node_storage::Node;
 use node_turns::{Tell, call_node};
 use nv_model::Fuse;
 use psd_device::DeviceNode;

@@ -2,17 +2,17 @@
 use crate::node_turn::Turns;
 use bench_base::numbers::DayNo;
 use bench_base::stream::Sink;
-use bench_calls::HostCallee;
-use bench_views::HostCall;
+use call_handlers::HostCallee;
+use bench_abstraction::HostCall;
 use host_node::HostNode;
-use node_seat::Node;
+use node_storage::Node;
 use node_turns::{Tell, call_printing};
 use nv_model::Fuse;
 
 impl<'a, M: Fuse + Drop, T: Tell, P: Sink> Turns<HostCall<'a>, T, P> for HostNode<M> {
     ghost use Rattle.bench_base.specs.declared.words.Node.TheVariants as node;
     ghost use Rattle.node_acts.specs.declared.asked.Asked.TheVariants.{Call};
-    ghost use Rattle.bench_views.specs.Host as views;
+    ghost use Rattle.bench_abstraction.specs.Host as views;
     ghost use Rattle.bench.specs.Calls as calls;
 
     ghost IsRanged = { λ c. calls.IsRangedJob c };

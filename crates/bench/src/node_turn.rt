@@ -7,7 +7,7 @@ use bench_base::numbers::DayNo;
 use bench_base::stream::Sink;
 use bench_base::words::Node as NodeNo;
 use node_acts::Asked;
-use node_seat::Arms;
+use node_storage::Arms;
 use node_turns::{Tell, cut, start, stop};
 
 /// A kind of nodes, of which calls C are asked: how a call is told, and what the printer takes in it.

@@ -2,9 +2,9 @@
 use crate::node_turn::Turns;
 use bench_base::numbers::DayNo;
 use bench_base::stream::Sink;
-use bench_calls::{VerifierCallee, scans_bytes};
-use bench_views::VerifierCall;
-use node_seat::Node;
+use call_handlers::{VerifierCallee, scans_bytes};
+use bench_abstraction::VerifierCall;
+use node_storage::Node;
 use node_turns::{Tell, call_node};
 use nv_model::Fuse;
 use verifier_node::VerifierNode;
@@ -12,7 +12,7 @@ use verifier_node::VerifierNode;
 impl<'a, M: Fuse + Drop, T: Tell, P: Sink> Turns<VerifierCall<'a>, T, P> for VerifierNode<M> {
     ghost use Rattle.bench_base.specs.declared.words.Node.TheVariants as node;
     ghost use Rattle.node_acts.specs.declared.asked.Asked.TheVariants.{Call};
-    ghost use Rattle.bench_views.specs.Verifier as views;
+    ghost use Rattle.bench_abstraction.specs.Verifier as views;
     ghost use Rattle.bench.specs.Calls as calls;
 
     ghost IsRanged = { λ c. calls.IsRangedScan c };

@@ -5,7 +5,7 @@ use Rattle.std.proofs.lemmas.List.{get_or_past}
 use Rattle.bench_base.specs.declared.sizes.TheConstants.{MOST_COMMITS, CENTRE_CELLS}
 use Rattle.nv_store.specs.Slot.{Held}
 use Rattle.nv_store.specs.Store.{count_of}
-use Rattle.node_seat.proofs.Called.{if_false}
+use Rattle.node_storage.proofs.Called.{if_false}
 use Rattle.row_node.specs.Kept.{IsFilled, seen_by}
 use Rattle.centre_ledger.specs.declared.rows.DeviceRow.{DeviceRow}
 use Rattle.centre_ledger.specs.declared.rows.CustomerRow.{CustomerRow}

@@ -7,7 +7,7 @@ use Rattle.bench_base.specs.Ranges.{IsDevice, IsCustomer}
 use Rattle.node_acts.specs.RowList.{row_at, row_of, put}
 use Rattle.node_acts.specs.RowLaws.{listed_long, listed_at, listed_is, listed_same, put_here, put_other}
 use Rattle.nv_store.specs.Slot.{Held}
-use Rattle.node_seat.proofs.Called.{if_true, if_false}
+use Rattle.node_storage.proofs.Called.{if_true, if_false}
 use Rattle.row_node.specs.Kept.{IsFilled, seen_by, seen_row}
 use Rattle.centre_ledger.specs.declared.rows.DeviceRow.{DeviceRow}
 use Rattle.centre_ledger.specs.declared.rows.CustomerRow.{CustomerRow}

@@ -16,7 +16,7 @@ use centre_ledger::{
     CentreAnswer, Deposit, Standing, balance_act, deposit_act, flag_act, open_act, register_act,
     standing_act, take_act,
 };
-use node_seat::answer;
+use node_storage::answer;
 use nv_model::Nv;
 
 impl<N: Nv> Centre<N> {

@@ -11,9 +11,9 @@ use Rattle.line_runs.specs.Runs.{EndsIn, Replayed}
 use Rattle.line_runs.specs.declared.status.Status.TheVariants as status
 use Rattle.line_runs.specs.declared.status.SideStatus.{SideStatus}
 use Rattle.line_runs.specs.declared.status.SideStatus.TheVariants.{Run, Stopped}
-use Rattle.desk_runs.specs.Deeds.{Done}
-use Rattle.desk_runs.specs.Desks.{world, side_lines, Does}
-use Rattle.desk_runs.specs.SideDeeds.{SideDeed, steps_of}
+use Rattle.line_extensions.specs.Deeds.{Done}
+use Rattle.line_extensions.specs.Desks.{world, side_lines, Does}
+use Rattle.line_extensions.specs.SideDeeds.{SideDeed, steps_of}
 use Rattle.script_replay.specs.Chains.{SceneOf, scene, DidEvents}
 use Rattle.script_replay.specs.Sides.{StepsBy, DidSide, RanSide, EndsSide}
 use Rattle.script_replay.specs.Streams.{Streams}
@@ -24,7 +24,7 @@ use Rattle.centre_statement.specs.StatementsDesk.{statements_desk}
 use Rattle.centre_statement.specs.declared.desk.StatementDesk.{StatementDesk}
 use Rattle.centre_statement.specs.declared.lines.OwnLine.{OwnLine}
 use Rattle.centre_statement.proofs.Stating.{Laws, none_broken, all_stated, starts_with}
-use Rattle.desk_runs.proofs.Wanting.{no_words}
+use Rattle.line_extensions.proofs.Wanting.{no_words}
 
 -- == each line of a run is what its deed says ==
 

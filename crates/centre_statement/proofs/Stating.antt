@@ -19,12 +19,12 @@ use Rattle.node_turns.specs.declared.turn.Turn.{Turn}
 use Rattle.node_turns.specs.Turns.{in_order}
 use Rattle.script_text.specs.Told.{IsWholeReply}
 use Rattle.line_runs.specs.Deeds.{Reads}
-use Rattle.desk_runs.specs.Deeds.{Done, Skipped, Did}
-use Rattle.desk_runs.specs.Desks.{World, world, Asks, Does, DidOwn, side_lines}
-use Rattle.desk_runs.specs.SideDeeds.{SideDeed, Plain, Own, Broken, IsBroken, steps_of}
-use Rattle.desk_runs.specs.Wants.{IsStep}
-use Rattle.desk_runs.specs.declared.desk.Next.{Next}
-use Rattle.desk_runs.specs.declared.desk.Next.TheVariants.{Step, Say, Stop}
+use Rattle.line_extensions.specs.Deeds.{Done, Skipped, Did}
+use Rattle.line_extensions.specs.Desks.{World, world, Asks, Does, DidOwn, side_lines}
+use Rattle.line_extensions.specs.SideDeeds.{SideDeed, Plain, Own, Broken, IsBroken, steps_of}
+use Rattle.line_extensions.specs.Wants.{IsStep}
+use Rattle.line_extensions.specs.declared.desk.Next.{Next}
+use Rattle.line_extensions.specs.declared.desk.Next.TheVariants.{Step, Say, Stop}
 use Rattle.ledger_terms.specs.Editions.{Editions}
 use Rattle.ledger_laws.specs.Laws.{ForHistories}
 use Rattle.ledger_moves.specs.Histories.{History}
@@ -34,7 +34,7 @@ use Rattle.ledger_terms.specs.Centres.{balance}
 use Rattle.ledger_laws.specs.Nexts.{IsOpen}
 use Rattle.bench.specs.Benches.{Nodes, Stands}
 use Rattle.bench.specs.Steps.{StepsOn}
-use Rattle.bench_views.specs.Tariff.{IsOfTexts}
+use Rattle.bench_abstraction.specs.Tariff.{IsOfTexts}
 use Rattle.script_replay.specs.Chains.{SceneOf, DidEvent}
 use Rattle.script_replay.specs.Deeds.{ledger_by, ledger_after, AreUnforged}
 use Rattle.script_replay.specs.Run.{Unforged}
@@ -55,7 +55,7 @@ use Rattle.centre_statement.specs.declared.said.Said.TheVariants as said
 use Rattle.centre_statement.proofs.Asking as asking
 use Rattle.centre_statement.proofs.Counting.{GoesWith, Lists, Listed, Kept, Sound}
 use Rattle.centre_statement.proofs.Turns.{IsSmall, turn_seen}
-use Rattle.desk_runs.proofs.Wanting.{step_event, ends_at}
+use Rattle.line_extensions.proofs.Wanting.{step_event, ends_at}
 
 -- the texts of the desk's answer
 abbrev pub texts_in : View → List (List ℕ)

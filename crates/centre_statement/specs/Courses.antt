@@ -4,8 +4,8 @@ use Rattle.bench_base.specs.declared.events.Event.TheVariants as ev
 use Rattle.bench_base.specs.declared.events.Reply.{Reply}
 use Rattle.bench_base.specs.declared.events.Reply.TheVariants as r
 use Rattle.node_turns.specs.declared.turn.Turn.{Turn}
-use Rattle.desk_runs.specs.declared.desk.Next.{Next}
-use Rattle.desk_runs.specs.declared.desk.Next.TheVariants.{Step, Say}
+use Rattle.line_extensions.specs.declared.desk.Next.{Next}
+use Rattle.line_extensions.specs.declared.desk.Next.TheVariants.{Step, Say}
 use Rattle.statement_check.specs.declared.line.Movement.{Movement}
 use Rattle.centre_statement.specs.Desk.{View, Opened, seen}
 use Rattle.centre_statement.specs.declared.lines.OwnLine.{OwnLine}

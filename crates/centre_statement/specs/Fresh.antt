@@ -2,9 +2,9 @@
 use Rattle.std.specs.Prelude.{◌≡◌, List, [], ◌∷◌, None}
 use Rattle.bench_base.specs.declared.ledger.Entry.TheVariants.{Begin}
 use Rattle.bench.specs.Benches.{Nodes}
-use Rattle.bench_views.specs.Tariff.{IsOfTexts}
+use Rattle.bench_abstraction.specs.Tariff.{IsOfTexts}
 use Rattle.line_runs.specs.declared.status.SideStatus.{SideStatus}
-use Rattle.desk_runs.specs.SideDeeds.{SideDeed, steps_of}
+use Rattle.line_extensions.specs.SideDeeds.{SideDeed, steps_of}
 use Rattle.ledger_moves.specs.Tariffs.{Tariff}
 use Rattle.script_replay.specs.Chains.{SceneOf}
 use Rattle.script_replay.specs.Deeds.{AreUnforged}

@@ -5,8 +5,8 @@ use Rattle.bench_base.specs.declared.events.Reply.{Reply}
 use Rattle.bench_base.specs.declared.events.Reply.TheVariants as r
 use Rattle.bench_base.specs.declared.ledger.Commit.{Commit}
 use Rattle.bench_base.specs.Ledger.{Ledger, counted}
-use Rattle.desk_runs.specs.Deeds.{Done, done_in}
-use Rattle.desk_runs.specs.SideDeeds.{SideDeed, Plain, Own, Broken}
+use Rattle.line_extensions.specs.Deeds.{Done, done_in}
+use Rattle.line_extensions.specs.SideDeeds.{SideDeed, Plain, Own, Broken}
 use Rattle.ledger_moves.specs.Tariffs.{Tariff}
 use Rattle.ledger_terms.specs.Centres.{balance}
 use Rattle.script_replay.specs.Deeds.{ledger_after}

@@ -1,6 +1,6 @@
 //! What the desk does for an own line: before the balance is told, and after it.
 ghost use Rattle.std.specs.Prelude.{◌≡◌, ◌<◌, ◌≤◌, [], Some, None, IfOk, OnErr, length, slice_get};
-ghost use Rattle.desk_runs.specs.Wants.{MayAsk};
+ghost use Rattle.line_extensions.specs.Wants.{MayAsk};
 ghost use Rattle.centre_statement.specs.Courses.{MayWant, IsPlain, Begins, Answers, ByBalance, Closes, IfOpening, IfClosing, saying, opened, closed_with};
 ghost use Rattle.centre_statement.specs.Desk.{view_of};
 ghost use Rattle.centre_statement.specs.OwnLines.{IsLine};
@@ -13,7 +13,7 @@ use crate::lines::OwnLine;
 use crate::said::Said;
 use bench_base::events::{Event, Reply};
 use bench_base::numbers::Customer;
-use desk_runs::Next;
+use line_extensions::Next;
 use script_words::Line;
 use std::alloc::{AllocError, Global};
 

@@ -11,7 +11,7 @@ ghost use Rattle.centre_statement.specs.declared.lines.OwnLine.TheVariants as ow
 use crate::desk::StatementDesk;
 use crate::lines::read_own_line;
 use bench_base::events::Event;
-use desk_runs::{Desk, Next};
+use line_extensions::{Desk, Next};
 use node_turns::Turn;
 use script_words::Line;
 use std::alloc::{AllocError, Global};

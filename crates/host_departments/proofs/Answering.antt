@@ -13,15 +13,15 @@ use Rattle.nv_store.specs.declared.room.Room.{Room}
 use Rattle.node_acts.specs.RowList.{is_worn, put}
 use Rattle.node_turns.specs.Turns.{sent_in}
 use Rattle.node_turns.specs.declared.turn.Turn.{Turn}
-use Rattle.desk_runs.specs.Deeds.{Done, Skipped, Did}
-use Rattle.desk_runs.specs.Desks.{World, world, Asks, Does}
-use Rattle.desk_runs.specs.SideDeeds.{SideDeed, Plain, Own, Broken}
-use Rattle.desk_runs.specs.declared.desk.Desk.{Ghosts}
-use Rattle.desk_runs.specs.declared.desk.Next.{Next}
-use Rattle.desk_runs.specs.declared.desk.Next.TheVariants.{Step, Say, Stop}
-use Rattle.desk_runs.specs.Stops.{HasBroken, IsUntouched}
-use Rattle.desk_runs.proofs.Lines.{BrokenLast}
-use Rattle.desk_runs.proofs.Stores.{Goes, Breaks, Ends, goes_rests, goes_same, goes_on, breaks_later, breaks_before, came_by}
+use Rattle.line_extensions.specs.Deeds.{Done, Skipped, Did}
+use Rattle.line_extensions.specs.Desks.{World, world, Asks, Does}
+use Rattle.line_extensions.specs.SideDeeds.{SideDeed, Plain, Own, Broken}
+use Rattle.line_extensions.specs.declared.desk.Desk.{Ghosts}
+use Rattle.line_extensions.specs.declared.desk.Next.{Next}
+use Rattle.line_extensions.specs.declared.desk.Next.TheVariants.{Step, Say, Stop}
+use Rattle.line_extensions.specs.Stops.{HasBroken, IsUntouched}
+use Rattle.line_extensions.proofs.Lines.{BrokenLast}
+use Rattle.line_extensions.proofs.Stores.{Goes, Breaks, Ends, goes_rests, goes_same, goes_on, breaks_later, breaks_before, came_by}
 use Rattle.row_store.specs.Commits.{CommitsRow}
 use Rattle.host_departments.specs.Answers.{Asked, Answer, IsTold, IsCommitted, IsTakenIn, IsLimited, IsSent, IsAssignTold, ByQuota, IsAnswered, CellCommit, IsCutJob, AreDone, IsOwnTold, IsOwnCut, AreAnswered}
 use Rattle.host_departments.specs.Heard.{IsTaken}
@@ -41,7 +41,7 @@ use Rattle.host_departments.specs.declared.row.DepartmentRow.{DepartmentRow}
 use Rattle.host_departments.specs.declared.row.DepartmentRow.TheVariants as row
 use Rattle.host_departments.specs.declared.said.Said.{Said}
 use Rattle.host_departments.specs.declared.said.Said.TheVariants as said
-use Rattle.desk_runs.proofs.Wanting.{no_step, no_say, step_event, ends_at}
+use Rattle.line_extensions.proofs.Wanting.{no_step, no_say, step_event, ends_at}
 
 -- the step was done, and this is its turn
 abbrev pub Tells : {B : Type 0} → (B → B → Done → Turn → Type 0) → Done → Turn → Type 0

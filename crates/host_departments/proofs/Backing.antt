@@ -21,14 +21,14 @@ use Rattle.ledger_terms.specs.Editions.{Editions}
 use Rattle.ledger_moves.specs.Moves as moves
 use Rattle.ledger_moves.specs.Moves.{plan}
 use Rattle.ledger_moves.specs.Tariffs.{Tariff}
-use Rattle.law_sends.specs.Orders.{ordered_postage, IsSentFor}
-use Rattle.law_sends.proofs.Kept.{ordered_entry, ordered_kept}
-use Rattle.law_sends.proofs.Sending.{sent_for}
-use Rattle.bench_views.specs.Tariff.{IsOfTexts}
+use Rattle.send_laws.specs.Orders.{ordered_postage, IsSentFor}
+use Rattle.send_laws.proofs.Kept.{ordered_entry, ordered_kept}
+use Rattle.send_laws.proofs.Sending.{sent_for}
+use Rattle.bench_abstraction.specs.Tariff.{IsOfTexts}
 use Rattle.bench.specs.Benches.{Nodes}
-use Rattle.desk_runs.specs.Deeds.{Done, Skipped, Did}
-use Rattle.desk_runs.specs.SideDeeds.{SideDeed, Plain, Own, Broken, steps_of}
-use Rattle.desk_runs.specs.Stops.{with_commit}
+use Rattle.line_extensions.specs.Deeds.{Done, Skipped, Did}
+use Rattle.line_extensions.specs.SideDeeds.{SideDeed, Plain, Own, Broken, steps_of}
+use Rattle.line_extensions.specs.Stops.{with_commit}
 use Rattle.script_replay.specs.Chains.{SceneOf, DidEvents}
 use Rattle.script_replay.specs.Deeds.{ledger_by, ledger_after, AreUnforged}
 use Rattle.script_replay.specs.Run.{Unforged}

@@ -6,10 +6,10 @@ use Rattle.std.proofs.lemmas.Bool.Decides.{nat_tests}
 use Rattle.nv_model.specs.declared.nv.Nv as nv
 use Rattle.node_acts.specs.RowList.{put}
 use Rattle.node_turns.specs.declared.turn.Turn.{Turn}
-use Rattle.desk_runs.specs.Deeds.{Done, Skipped, Did}
-use Rattle.desk_runs.specs.SideDeeds.{SideDeed, Plain, Own, Broken}
-use Rattle.desk_runs.specs.Stops.{with_commit}
-use Rattle.desk_runs.proofs.Lines.{BrokenLast}
+use Rattle.line_extensions.specs.Deeds.{Done, Skipped, Did}
+use Rattle.line_extensions.specs.SideDeeds.{SideDeed, Plain, Own, Broken}
+use Rattle.line_extensions.specs.Stops.{with_commit}
+use Rattle.line_extensions.proofs.Lines.{BrokenLast}
 use Rattle.host_departments.specs.Answers.{Asked, CellCommit, IsFree, IsCutShort, AreAnswered}
 use Rattle.host_departments.specs.DepartmentLines.{IsLine}
 use Rattle.host_departments.specs.Rows.{Rows, quota, or_zero, spent, first_cell, department_of, Keeps, Has, IsSound}

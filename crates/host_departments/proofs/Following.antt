@@ -5,10 +5,10 @@ use Rattle.bench_base.specs.Ledger.{Ledger}
 use Rattle.bench_base.specs.Rules.{editions}
 use Rattle.ledger_terms.specs.Editions.{Editions}
 use Rattle.ledger_moves.specs.Tariffs.{Tariff}
-use Rattle.bench_views.specs.Tariff.{IsOfTexts}
+use Rattle.bench_abstraction.specs.Tariff.{IsOfTexts}
 use Rattle.bench.specs.Benches.{Nodes}
-use Rattle.desk_runs.specs.Deeds.{Skipped, Did}
-use Rattle.desk_runs.specs.SideDeeds.{SideDeed, Plain, Own, Broken}
+use Rattle.line_extensions.specs.Deeds.{Skipped, Did}
+use Rattle.line_extensions.specs.SideDeeds.{SideDeed, Plain, Own, Broken}
 use Rattle.script_replay.specs.Chains.{SceneOf}
 use Rattle.script_replay.specs.Deeds.{ledger_by, ledger_after}
 use Rattle.script_replay.specs.Sides.{StepsBy}

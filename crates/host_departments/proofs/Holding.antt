@@ -6,7 +6,7 @@ use Rattle.bench_base.specs.Rules.{editions}
 use Rattle.ledger_terms.specs.Editions.{Editions}
 use Rattle.ledger_moves.specs.Histories.{History}
 use Rattle.ledger_moves.specs.Tariffs.{Tariff}
-use Rattle.law_sends.proofs.Sending.{order_of}
+use Rattle.send_laws.proofs.Sending.{order_of}
 use Rattle.host_departments.specs.Holds.{AreBacked, ordered_at, DepartmentsHold}
 use Rattle.host_departments.specs.Rows.{Rows, row_in, first_cell, or_zero, postage_in, postage_at}
 use Rattle.host_departments.specs.declared.row.DepartmentRow.{DepartmentRow}

@@ -5,13 +5,13 @@ use Rattle.bench_base.specs.declared.events.Reply.{Reply}
 use Rattle.nv_model.specs.declared.nv.Nv as nv
 use Rattle.node_turns.specs.Turns.{sent_in}
 use Rattle.node_turns.specs.declared.turn.Turn.{Turn}
-use Rattle.desk_runs.specs.Desks.{World, Does}
-use Rattle.desk_runs.specs.Deeds.{Done}
-use Rattle.desk_runs.specs.Moves.{EachMove}
-use Rattle.desk_runs.specs.SideDeeds.{SideDeed}
-use Rattle.desk_runs.specs.declared.desk.Next.{Next}
-use Rattle.desk_runs.proofs.Moving.{each_move}
-use Rattle.desk_runs.proofs.Stores.{Meanwhile, shown_still, shown_commit}
+use Rattle.line_extensions.specs.Desks.{World, Does}
+use Rattle.line_extensions.specs.Deeds.{Done}
+use Rattle.line_extensions.specs.Moves.{EachMove}
+use Rattle.line_extensions.specs.SideDeeds.{SideDeed}
+use Rattle.line_extensions.specs.declared.desk.Next.{Next}
+use Rattle.line_extensions.proofs.Moving.{each_move}
+use Rattle.line_extensions.proofs.Stores.{Meanwhile, shown_still, shown_commit}
 use Rattle.host_departments.specs.Courses.{Either, Says, ByFailed, Tries, Assigns, AssignsBy, SpentBy, Begins, TakesBy, Hears, GoesOn}
 use Rattle.host_departments.specs.DepartmentsDesk.{departments_desk}
 use Rattle.host_departments.specs.Payload.{decoded, spelled}

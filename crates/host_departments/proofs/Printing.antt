@@ -10,18 +10,18 @@ use Rattle.bench_base.specs.Replies.{MayGet}
 use Rattle.nv_model.specs.declared.nv.Nv as nv
 use Rattle.node_acts.specs.RowList.{put}
 use Rattle.node_turns.specs.declared.turn.Turn.{Turn}
-use Rattle.bench_views.specs.Taken.{as_given, as_given_by, as_scanned_by}
+use Rattle.bench_abstraction.specs.Taken.{as_given, as_given_by, as_scanned_by}
 use Rattle.bench.specs.Benches.{Nodes}
-use Rattle.desk_runs.specs.Deeds.{Done, Skipped, Did}
-use Rattle.desk_runs.specs.Events.{IsLineOf}
-use Rattle.desk_runs.specs.SideDeeds.{SideDeed, Plain, Own, Broken, steps_of}
+use Rattle.line_extensions.specs.Deeds.{Done, Skipped, Did}
+use Rattle.line_extensions.specs.Events.{IsLineOf}
+use Rattle.line_extensions.specs.SideDeeds.{SideDeed, Plain, Own, Broken, steps_of}
 use Rattle.host_departments.specs.Answers.{Asked, Answer, IsTold, IsCommitted, IsTakenIn, IsSent, IsAssignTold, ByQuota, IsAnswered, CellCommit, IsCutShort, AreDone, AreAnswered}
 use Rattle.host_departments.specs.Courses.{Either}
 use Rattle.host_departments.specs.DepartmentLines.{IsLine}
 use Rattle.host_departments.specs.DepartmentsDesk.{departments_desk}
 use Rattle.std.specs.List.{AllByRecursion}
 use Rattle.line_runs.specs.Deeds.{Reads}
-use Rattle.desk_runs.specs.Desks.{side_lines}
+use Rattle.line_extensions.specs.Desks.{side_lines}
 use Rattle.host_departments.specs.Ran.{AllAssigned}
 use Rattle.script_replay.specs.Chains.{SceneOf}
 use Rattle.script_replay.specs.Sides.{StepsBy}

@@ -6,9 +6,9 @@ use Rattle.bench_base.specs.declared.events.Event.TheVariants as ev
 use Rattle.script_words.specs.Words.{words_in}
 use Rattle.script_text.proofs.EventWords.{words_spelled}
 use Rattle.script_text.proofs.EventsBack.{one_event_of}
-use Rattle.desk_runs.specs.Events.{IsLineOf}
+use Rattle.line_extensions.specs.Events.{IsLineOf}
 use Rattle.host_departments.specs.DepartmentLines.{IsBehind, IsDepartmentLine}
-use Rattle.desk_runs.specs.Wants.{IsEvent}
+use Rattle.line_extensions.specs.Wants.{IsEvent}
 use Rattle.host_departments.specs.Passes.{Passes, IsPrintOf}
 use Rattle.host_departments.specs.Rows.{Rows, IsDepartment}
 use Rattle.host_departments.specs.declared.row.DepartmentLine.{DepartmentLine}

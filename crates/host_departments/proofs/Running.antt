@@ -13,11 +13,11 @@ use Rattle.line_runs.specs.Deeds.{Reads}
 use Rattle.line_runs.specs.declared.status.Status.TheVariants as status
 use Rattle.line_runs.specs.declared.status.SideStatus.{SideStatus}
 use Rattle.line_runs.specs.declared.status.SideStatus.TheVariants.{Run}
-use Rattle.desk_runs.specs.Deeds.{Done}
-use Rattle.desk_runs.specs.Desks.{World, world, side_lines}
-use Rattle.desk_runs.specs.SideDeeds.{SideDeed, steps_of}
-use Rattle.desk_runs.proofs.Lines.{AtLast}
-use Rattle.desk_runs.proofs.Stores.{Ends, leaves}
+use Rattle.line_extensions.specs.Deeds.{Done}
+use Rattle.line_extensions.specs.Desks.{World, world, side_lines}
+use Rattle.line_extensions.specs.SideDeeds.{SideDeed, steps_of}
+use Rattle.line_extensions.proofs.Lines.{AtLast}
+use Rattle.line_extensions.proofs.Stores.{Ends, leaves}
 use Rattle.script_replay.specs.Chains.{SceneOf, scene, DidEvents}
 use Rattle.script_replay.specs.Run.{Leaves}
 use Rattle.script_replay.specs.Sides.{StepsBy, DidSide}
@@ -40,7 +40,7 @@ use Rattle.host_departments.proofs.Meanwhile.{all_shown}
 use Rattle.host_departments.proofs.Places.{one_department}
 use Rattle.host_departments.proofs.Printing.{prints_by, all_printed}
 use Rattle.host_departments.proofs.Showing.{shows_now}
-use Rattle.desk_runs.proofs.Wanting.{desk_left}
+use Rattle.line_extensions.proofs.Wanting.{desk_left}
 
 -- the first moment of a run
 first_between : (n : Nodes) (τ : Tariff) (L : Ledger) (old new : SceneOf n) (deeds : List Done) (did : DidEvents n old new deeds) → Throughout n τ L old new deeds did → IsBetween n τ old.bench L

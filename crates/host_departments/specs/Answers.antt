@@ -6,9 +6,9 @@ use Rattle.node_acts.specs.RowList.{is_worn, put}
 use Rattle.node_turns.specs.Turns.{sent_in}
 use Rattle.node_turns.specs.declared.turn.Turn.{Turn}
 use Rattle.script_text.specs.Texts.{text_of}
-use Rattle.desk_runs.specs.Deeds.{Done, Skipped, Did}
-use Rattle.desk_runs.specs.SideDeeds.{SideDeed, Plain, Own, Broken}
-use Rattle.desk_runs.specs.Stops.{RowCommit}
+use Rattle.line_extensions.specs.Deeds.{Done, Skipped, Did}
+use Rattle.line_extensions.specs.SideDeeds.{SideDeed, Plain, Own, Broken}
+use Rattle.line_extensions.specs.Stops.{RowCommit}
 use Rattle.host_departments.specs.Courses.{Either}
 use Rattle.host_departments.specs.DepartmentLines.{IsLine}
 use Rattle.host_departments.specs.Heard.{IsTaken}

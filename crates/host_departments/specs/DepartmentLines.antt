@@ -3,7 +3,7 @@ use Rattle.std.specs.Prelude.{◌≡◌, ℕ, List, [], ◌∷◌, codes, decima
 use Rattle.bench_base.specs.Ranges.{IsWord}
 use Rattle.bench_base.specs.declared.events.Event.TheVariants as ev
 use Rattle.script_words.specs.Words.{words_in}
-use Rattle.desk_runs.specs.Events.{IsLineOf}
+use Rattle.line_extensions.specs.Events.{IsLineOf}
 use Rattle.host_departments.specs.Rows.{IsDepartment}
 use Rattle.host_departments.specs.declared.row.DepartmentLine.{DepartmentLine}
 use Rattle.host_departments.specs.declared.row.DepartmentLine.TheVariants.{Quota, Assign, Spent, Print}

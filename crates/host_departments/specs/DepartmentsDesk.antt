@@ -2,7 +2,7 @@
 use Rattle.std.specs.Prelude.{◌≡◌}
 use Rattle.nv_model.specs.declared.nv.Nv as nv
 use Rattle.node_turns.specs.Turns.{sent_in}
-use Rattle.desk_runs.specs.declared.desk.Desk.{Ghosts}
+use Rattle.line_extensions.specs.declared.desk.Desk.{Ghosts}
 use Rattle.host_departments.specs.Courses.{Begins, GoesOn}
 use Rattle.host_departments.specs.DepartmentLines.{IsLine, IsDepartmentLine}
 use Rattle.host_departments.specs.Passes.{Passes}

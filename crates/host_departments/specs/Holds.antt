@@ -3,7 +3,7 @@ use Rattle.std.specs.Prelude.{◌≡◌, ℕ, ◌+◌, List, Option, Some, None,
 use Rattle.bench_base.specs.declared.ledger.Commit.{Commit}
 use Rattle.bench_base.specs.declared.ledger.Commit.TheVariants.{Ordered}
 use Rattle.bench_base.specs.Ledger.{Ledger, counted}
-use Rattle.law_sends.specs.Orders.{ordered_postage}
+use Rattle.send_laws.specs.Orders.{ordered_postage}
 use Rattle.host_departments.specs.Rows.{Rows, row_in, first_cell, IsDepartment, sum_to, or_zero, spent}
 use Rattle.host_departments.specs.declared.row.DepartmentRow.{DepartmentRow}
 use Rattle.host_departments.specs.declared.row.DepartmentRow.TheVariants.{Quota, Job}

@@ -6,8 +6,8 @@ use Rattle.bench_base.specs.declared.events.Event.TheVariants as ev
 use Rattle.script_words.specs.Words.{joined, words_in}
 use Rattle.script_text.specs.Grammar.{IsSkipped}
 use Rattle.script_text.proofs.EventsBack.{one_event_of, no_event_skipped}
-use Rattle.desk_runs.specs.Events.{IsLineOf}
-use Rattle.desk_runs.specs.Wants.{IsAlone}
+use Rattle.line_extensions.specs.Events.{IsLineOf}
+use Rattle.line_extensions.specs.Wants.{IsAlone}
 use Rattle.host_departments.specs.DepartmentLines.{IsDepartmentLine}
 use Rattle.host_departments.specs.declared.row.DepartmentLine.{DepartmentLine}
 use Rattle.host_departments.specs.declared.row.DepartmentLine.TheVariants.{Quota, Assign, Spent, Print}

@@ -1,7 +1,7 @@
 //! What is done for a line about departments: before its message, and after it.
 ghost use Rattle.std.specs.Prelude.{◌≡◌, ◌≤◌, ◌<◌, ℕ, ◌+◌, ◌-◌, Some, None, IfSome, IfNone, IsSome};
 ghost use Rattle.bench_base.specs.Ranges.{IsPostage, IsWord};
-ghost use Rattle.desk_runs.specs.Wants.{MayAsk, IsStep};
+ghost use Rattle.line_extensions.specs.Wants.{MayAsk, IsStep};
 ghost use Rattle.node_acts.specs.RowList.{put};
 ghost use Rattle.host_departments.specs.Courses.{Says, Tries, Assigns, Free, Begins, Hears, Sent, TakesBy};
 ghost use Rattle.host_departments.specs.DepartmentLines.{IsLine};
@@ -21,7 +21,7 @@ use crate::row::{CELLS, DepartmentLine, DepartmentRow, JOBS};
 use crate::said::Said;
 use bench_base::events::Event;
 use bench_base::refusals::StoreFail;
-use desk_runs::Next;
+use line_extensions::Next;
 use nv_model::Nv;
 use row_store::commit_row;
 

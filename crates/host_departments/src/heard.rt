@@ -8,7 +8,7 @@ use crate::row::MOST_POSTAGE;
 use bench_base::bytes::Note;
 use bench_base::events::Reply;
 use bench_base::ledger::{Commit, Entry};
-use desk_runs::Hear;
+use line_extensions::Hear;
 use node_acts::Said;
 use node_turns::Tell;
 use psd_wire::{Message, read_message};

@@ -3,7 +3,7 @@ ghost use Rattle.std.specs.Prelude.{◌≡◌, ◌↔◌, ℕ, [], ◌∷◌, de
 ghost use Rattle.bench_base.specs.Ranges.{IsWord};
 ghost use Rattle.bench_base.specs.declared.events.Event.TheVariants as ev;
 ghost use Rattle.script_words.specs.Words.{words_in};
-ghost use Rattle.desk_runs.specs.Events.{IsLineOf};
+ghost use Rattle.line_extensions.specs.Events.{IsLineOf};
 ghost use Rattle.host_departments.specs.DepartmentLines.{IsBehind, IsDepartmentLine};
 ghost use Rattle.host_departments.specs.Rows.{IsDepartment};
 ghost use Rattle.host_departments.specs.declared.row.DepartmentLine.{DepartmentLine as TheLine};

@@ -15,7 +15,7 @@ use crate::lines::read_department_line;
 use crate::row::DepartmentLine;
 use crate::said::Said;
 use bench_base::events::Event;
-use desk_runs::{Desk, Next};
+use line_extensions::{Desk, Next};
 use nv_model::Nv;
 use script_words::Line;
 use std::alloc::{AllocError, Global};

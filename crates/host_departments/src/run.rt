@@ -1,7 +1,7 @@
 //! A run over a script with departments beside the bench.
 ghost use Rattle.std.specs.Prelude.{map, string_bytes, codes};
 ghost use Rattle.bench.specs.Benches.{IsReady, bench_of};
-ghost use Rattle.desk_runs.specs.Desks.{world};
+ghost use Rattle.line_extensions.specs.Desks.{world};
 ghost use Rattle.script_replay.specs.Chains.{scene_of};
 ghost use Rattle.script_replay.specs.Sides.{RanSide, EndsSide, CompletesSide};
 ghost use Rattle.script_replay.specs.Streams.{streams_of};
@@ -31,16 +31,16 @@ pub fn run_departments<S: BufSource, R: Source, K: Sink, P: Sink, N: Nv + Drop>(
 ) -> SideStatus
     requires ready { IsReady (bench_of bench.old) }
     ensures ready { IsReady (bench_of bench.new) }
-    ensures ran { RanSide ⟦<Departments<N> as desk_runs::Desk>⟧ (codes "departments") result (map string_bytes words.now)
+    ensures ran { RanSide ⟦<Departments<N> as line_extensions::Desk>⟧ (codes "departments") result (map string_bytes words.now)
         (DidDepartments ⟦<Bench<N> as HasNodes>⟧.nodes N.Nv
         (world (scene_of R.Source P.Sink bench.old rates.old printer.old) desk.old)
         (world (scene_of R.Source P.Sink bench.new rates.new printer.new) desk.new) result)
         (streams_of S.Source K.Sink R.Source P.Sink script.old report.old rates.old printer.old)
         (streams_of S.Source K.Sink R.Source P.Sink script.new report.new rates.new printer.new) }
-    ensures ends { EndsSide ⟦<Departments<N> as desk_runs::Desk>⟧ (codes "departments") result (map string_bytes words.now)
+    ensures ends { EndsSide ⟦<Departments<N> as line_extensions::Desk>⟧ (codes "departments") result (map string_bytes words.now)
         (streams_of S.Source K.Sink R.Source P.Sink script.old report.old rates.old printer.old)
         (streams_of S.Source K.Sink R.Source P.Sink script.new report.new rates.new printer.new) }
-    ensures completes { CompletesSide ⟦<Departments<N> as desk_runs::Desk>⟧ (codes "departments") result
+    ensures completes { CompletesSide ⟦<Departments<N> as line_extensions::Desk>⟧ (codes "departments") result
         (map string_bytes words.now)
         (streams_of S.Source K.Sink R.Source P.Sink script.old report.old rates.old printer.old)
         (streams_of S.Source K.Sink R.Source P.Sink script.new report.new rates.new printer.new) }

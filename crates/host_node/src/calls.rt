@@ -14,7 +14,7 @@ use bench_base::bytes::Note;
 use bench_base::numbers::DevNo;
 use bench_base::refusals::{HostFail, RateRefusal};
 use host_jobs::{Ordered, begin_print_act, close_act, debit_message_act, order_act, take_act};
-use node_seat::answer;
+use node_storage::answer;
 use nv_model::Nv;
 
 impl<N: Nv> Host<N> {

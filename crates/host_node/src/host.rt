@@ -2,8 +2,8 @@
 ghost use Rattle.std.specs.Prelude.{◌≡◌, ◌≢◌, IfOk, IfErr, MatchResult, Err, false};
 ghost use Rattle.host_jobs.specs.declared.sizes.TheConstants.{JOB_BYTES, HOST_BYTES};
 ghost use Rattle.nv_store.specs.Turns.{Kept as WithPower};
-ghost use Rattle.node_seat.specs.Does.{Reads, Spends, SpendsOne, SyncsOnce};
-ghost use Rattle.node_seat.specs.Ends.{end_of_boot};
+ghost use Rattle.node_storage.specs.Does.{Reads, Spends, SpendsOne, SyncsOnce};
+ghost use Rattle.node_storage.specs.Ends.{end_of_boot};
 ghost use Rattle.host_jobs.specs.Seen.{counting};
 ghost use Rattle.host_jobs.specs.Soundness.{IsKept};
 ghost use Rattle.host_node.specs.Payloads.{IsDamaged};

@@ -5,17 +5,17 @@ use Rattle.std.proofs.lemmas.Option.{same_Some}
 use Rattle.bench_base.specs.declared.events.Event.{Event}
 use Rattle.bench_base.specs.declared.events.Reply.{Reply}
 use Rattle.node_turns.specs.declared.turn.Turn.{Turn}
-use Rattle.desk_runs.specs.Deeds.{Done, Skipped, Did}
-use Rattle.desk_runs.specs.Desks.{World, world, Asks, Does}
-use Rattle.desk_runs.specs.SideDeeds.{SideDeed, Plain, Own, Broken}
-use Rattle.desk_runs.specs.declared.desk.Next.{Next}
-use Rattle.desk_runs.specs.declared.desk.Next.TheVariants.{Step, Say, Stop}
+use Rattle.line_extensions.specs.Deeds.{Done, Skipped, Did}
+use Rattle.line_extensions.specs.Desks.{World, world, Asks, Does}
+use Rattle.line_extensions.specs.SideDeeds.{SideDeed, Plain, Own, Broken}
+use Rattle.line_extensions.specs.declared.desk.Next.{Next}
+use Rattle.line_extensions.specs.declared.desk.Next.TheVariants.{Step, Say, Stop}
 use Rattle.mail_manifest.specs.Answers.{IsTold, AreScanned, IsChecked, IsAnsweredOn, IsAnsweredBare, IsAnswered, AreAnswered}
 use Rattle.mail_manifest.specs.Causes.{Either, Finds}
 use Rattle.mail_manifest.specs.CheckerDesk.{checker_desk}
 use Rattle.mail_manifest.specs.Courses.{scan_of, yes_of, Answers, Scans, ByCause, BeginsOn, BeginsBare, BeginsWith, GoesBy, Scanned, GoesOn}
-use Rattle.law_scans.specs.Acceptances.{IsAccepted}
-use Rattle.law_scans.proofs.Accepting.{accepted_by}
+use Rattle.scan_laws.specs.Acceptances.{IsAccepted}
+use Rattle.scan_laws.proofs.Accepting.{accepted_by}
 use Rattle.mail_manifest.specs.Listings.{Listing, opened, with_mark, code_of}
 use Rattle.mail_manifest.specs.Texts.{said_texts, open_text, piece_text, code_text, yes_text, no_piece_text}
 use Rattle.mail_manifest.specs.View.{listing_of, said_of}
@@ -25,7 +25,7 @@ use Rattle.mail_manifest.specs.declared.opening.ManifestLine.TheVariants.{Open, 
 use Rattle.mail_manifest.specs.declared.said.Said.{Said}
 use Rattle.mail_manifest.specs.declared.said.Said.TheVariants as said
 use Rattle.mail_manifest.proofs.Judging.{either_by, either_any, yes_is_good}
-use Rattle.desk_runs.proofs.Wanting.{IsSay, step_event, ends_at}
+use Rattle.line_extensions.proofs.Wanting.{IsSay, step_event, ends_at}
 
 -- what is wanted, by its kind
 abbrev IsStop : Next → Type 0

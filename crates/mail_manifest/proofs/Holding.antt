@@ -12,19 +12,19 @@ use Rattle.bench_base.specs.Ledger.{Ledger, counted}
 use Rattle.bench_base.specs.Rules.{editions}
 use Rattle.bench_base.specs.Scans.{accepted}
 use Rattle.bench_base.proofs.Facts.{ok_same}
-use Rattle.desk_runs.specs.Deeds.{Done, Skipped, Did}
-use Rattle.desk_runs.specs.SideDeeds.{SideDeed, Plain, Own, Broken, steps_in, steps_of}
+use Rattle.line_extensions.specs.Deeds.{Done, Skipped, Did}
+use Rattle.line_extensions.specs.SideDeeds.{SideDeed, Plain, Own, Broken, steps_in, steps_of}
 use Rattle.indicium.specs.declared.Mark.{Mark}
 use Rattle.indicium.specs.Marks.{read_mark}
 use Rattle.ledger_terms.specs.Editions.{Editions}
 use Rattle.ledger_moves.specs.Histories.{History}
 use Rattle.ledger_moves.specs.Tariffs.{Tariff}
-use Rattle.law_deeds.specs.Deeds.{AllMoved, IsAcceptedAs}
-use Rattle.law_deeds.proofs.Going.{scanned_among}
-use Rattle.law_deeds.proofs.Sums.{sums_alike}
-use Rattle.law_scans.specs.Acceptances.{IsAccepted, IsOfPiece}
-use Rattle.law_scans.proofs.Entries.{accepted_within}
-use Rattle.law_scans.proofs.Marked.{released_postage, one_number}
+use Rattle.run_laws.specs.Deeds.{AllMoved, IsAcceptedAs}
+use Rattle.run_laws.proofs.Going.{scanned_among}
+use Rattle.run_laws.proofs.Sums.{sums_alike}
+use Rattle.scan_laws.specs.Acceptances.{IsAccepted, IsOfPiece}
+use Rattle.scan_laws.proofs.Entries.{accepted_within}
+use Rattle.scan_laws.proofs.Marked.{released_postage, one_number}
 use Rattle.script_replay.specs.Deeds.{ledger_after}
 use Rattle.mail_manifest.specs.Answers.{AreAccepted, IsGood, IsAnswered, AreAnswered}
 use Rattle.mail_manifest.specs.Holds.{IsMail, debit_in, debited_in_all, ManifestHolds, IsYes, IsGoodBehind, YesHolds}

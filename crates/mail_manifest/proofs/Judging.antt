@@ -4,7 +4,7 @@ use Rattle.std.specs.Prelude.{codes, ◌↔◌}
 use Rattle.std.proofs.lemmas.Option.{same_Some}
 use Rattle.bench_base.specs.declared.events.Reply.{Reply}
 use Rattle.bench_base.proofs.Facts.{some_none, unlike}
-use Rattle.desk_runs.specs.Deeds.{Done}
+use Rattle.line_extensions.specs.Deeds.{Done}
 use Rattle.mail_manifest.specs.Answers.{AreScanned, IsJudged, AreAccepted, IsGood}
 use Rattle.mail_manifest.specs.Causes.{Either, Finds}
 use Rattle.mail_manifest.specs.Holds.{IsYes}

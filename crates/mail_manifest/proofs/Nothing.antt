@@ -1,7 +1,7 @@
 -- What a run with a manifest did, from nothing.
 use Rattle.std.proofs.Common.{List, []}
 use Rattle.line_runs.specs.declared.status.SideStatus.{SideStatus}
-use Rattle.desk_runs.specs.SideDeeds.{SideDeed, steps_of}
+use Rattle.line_extensions.specs.SideDeeds.{SideDeed, steps_of}
 use Rattle.bench.specs.Benches.{Nodes, Stands}
 use Rattle.script_replay.specs.Chains.{SceneOf}
 use Rattle.script_replay.proofs.Nothing.{stands_for_none, bench_fresh}

@@ -4,15 +4,15 @@ use Rattle.std.specs.Io.KnownBytes.{IsAtEnd}
 use Rattle.bench_base.specs.declared.ledger.Entry.TheVariants.{Begin}
 use Rattle.bench_base.specs.Rules.{editions}
 use Rattle.ledger_terms.specs.Editions.{Editions}
-use Rattle.law_deeds.proofs.Going.{all_moved}
+use Rattle.run_laws.proofs.Going.{all_moved}
 use Rattle.bench.specs.Benches.{Nodes}
 use Rattle.line_runs.specs.declared.status.Status.TheVariants as status
 use Rattle.line_runs.specs.declared.status.SideStatus.{SideStatus}
 use Rattle.line_runs.specs.declared.status.SideStatus.TheVariants.{Run, Stopped}
 use Rattle.line_runs.specs.Runs.{EndsIn, Replayed}
-use Rattle.desk_runs.specs.Deeds.{Skipped, Did}
-use Rattle.desk_runs.specs.Desks.{world, side_lines}
-use Rattle.desk_runs.specs.SideDeeds.{SideDeed, Plain, Own, Broken, IsBroken, steps_of}
+use Rattle.line_extensions.specs.Deeds.{Skipped, Did}
+use Rattle.line_extensions.specs.Desks.{world, side_lines}
+use Rattle.line_extensions.specs.SideDeeds.{SideDeed, Plain, Own, Broken, IsBroken, steps_of}
 use Rattle.script_replay.specs.Chains.{SceneOf, scene}
 use Rattle.script_replay.specs.Run.{Leaves}
 use Rattle.script_replay.specs.SideLaws.{told}
@@ -27,7 +27,7 @@ use Rattle.mail_manifest.specs.declared.checker.Checker.{Checker}
 use Rattle.mail_manifest.specs.declared.opening.ManifestLine.{ManifestLine}
 use Rattle.mail_manifest.proofs.Answering.{all_answered}
 use Rattle.mail_manifest.proofs.Holding.{yes_holds}
-use Rattle.desk_runs.proofs.Wanting.{desk_left, no_words}
+use Rattle.line_extensions.proofs.Wanting.{desk_left, no_words}
 
 module _ (n : Nodes) (today : Editions editions) (old new : SceneOf n) (before after : Checker) (outcome : SideStatus) (none : listing_of before ≡ None) where
   pub did_manifest : (deeds : List (SideDeed ManifestLine)) → DidSide n checker_desk (world old before) (world new after) outcome deeds → DidManifest n old new outcome deeds

@@ -3,9 +3,9 @@ use Rattle.std.specs.Prelude.{◌≡◌, ◌⊎◌, ℕ, ◌+◌, ◌-◌, List,
 use Rattle.bench_base.specs.declared.events.Event.{Event}
 use Rattle.bench_base.specs.declared.events.Event.TheVariants as ev
 use Rattle.bench_base.specs.declared.events.Reply.{Reply}
-use Rattle.law_scans.specs.Acceptances.{IsAccepted}
-use Rattle.desk_runs.specs.declared.desk.Next.{Next}
-use Rattle.desk_runs.specs.declared.desk.Next.TheVariants.{Step, Say}
+use Rattle.scan_laws.specs.Acceptances.{IsAccepted}
+use Rattle.line_extensions.specs.declared.desk.Next.{Next}
+use Rattle.line_extensions.specs.declared.desk.Next.TheVariants.{Step, Say}
 use Rattle.mail_manifest.specs.Causes.{Either, Finds}
 use Rattle.mail_manifest.specs.Listings.{Listing, opened, with_mark, mark_at, code_of}
 use Rattle.mail_manifest.specs.View.{listing_of, said_of}

@@ -4,12 +4,12 @@ use Rattle.bench_base.specs.declared.ledger.Commit.{Commit}
 use Rattle.bench_base.specs.declared.ledger.Commit.TheVariants.{Accepted}
 use Rattle.bench_base.specs.declared.refusals.MarkFault.{MarkFault}
 use Rattle.bench_base.specs.Ledger.{Ledger, IsReleased, counted}
-use Rattle.desk_runs.specs.Deeds.{Done}
-use Rattle.desk_runs.specs.SideDeeds.{SideDeed, Own}
+use Rattle.line_extensions.specs.Deeds.{Done}
+use Rattle.line_extensions.specs.SideDeeds.{SideDeed, Own}
 use Rattle.indicium.specs.declared.Mark.{Mark}
 use Rattle.indicium.specs.Marks.{read_mark}
 use Rattle.ledger_terms.specs.Further.{postage_of}
-use Rattle.law_scans.specs.Acceptances.{IsOfPiece}
+use Rattle.scan_laws.specs.Acceptances.{IsOfPiece}
 use Rattle.mail_manifest.specs.Answers.{AreAnswered}
 use Rattle.mail_manifest.specs.Listings.{Listing, mark_at}
 use Rattle.mail_manifest.specs.Texts.{yes_text}

@@ -4,7 +4,7 @@ use Rattle.std.specs.Prelude.{codes}
 use Rattle.script_words.specs.Words.{joined, words_in}
 use Rattle.script_text.specs.Grammar.{IsSkipped}
 use Rattle.script_words.proofs.Splits.{joined_words_in}
-use Rattle.desk_runs.specs.Wants.{IsAlone}
+use Rattle.line_extensions.specs.Wants.{IsAlone}
 use Rattle.mail_manifest.specs.ManifestLines.{IsManifestLine, line_words}
 use Rattle.mail_manifest.specs.declared.opening.ManifestLine.{ManifestLine}
 

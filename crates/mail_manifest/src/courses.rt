@@ -2,7 +2,7 @@
 ghost use Rattle.std.specs.Prelude.{◌≡◌, ◌≢◌, ◌↔◌, ◌-◌, ◌<◌, ◌≤◌, ◌+◌, Some, None, IfOk, OnErr, IsTrue, length};
 ghost use Rattle.bench_base.specs.Ranges.{IsWholeEvent};
 ghost use Rattle.bench_base.specs.declared.events.Event.TheVariants as ev;
-ghost use Rattle.desk_runs.specs.Wants.{MayAsk, IsStep};
+ghost use Rattle.line_extensions.specs.Wants.{MayAsk, IsStep};
 ghost use Rattle.mail_manifest.specs.Causes.{Finds, FindsMarks};
 ghost use Rattle.mail_manifest.specs.Courses.{Answers, Scanning, Begins, Scanned, scan_of, yes_of};
 ghost use Rattle.mail_manifest.specs.Listings.{IsOpening, opened, with_mark, code_of};
@@ -19,8 +19,8 @@ use crate::opening::{ManifestLine, Opening};
 use crate::said::Said;
 use bench_base::bytes::Given;
 use bench_base::events::{Event, Reply};
-use desk_runs::Next;
-use law_scans::accepted::is_accepted;
+use line_extensions::Next;
+use scan_laws::accepted::is_accepted;
 use std::alloc::{AllocError, Global};
 
 // The scan of a mark under this number.

@@ -13,7 +13,7 @@ use crate::checker::Checker;
 use crate::lines::read_manifest_line;
 use crate::said::Said;
 use bench_base::events::{Event, Reply};
-use desk_runs::{Desk, Next};
+use line_extensions::{Desk, Next};
 use script_words::Line;
 use std::alloc::{AllocError, Global};
 

@@ -9,7 +9,7 @@ ghost use Rattle.script_replay.specs.Streams.{streams_of};
 use crate::checker::Checker;
 use bench::{Bench, HasNodes};
 use bench_base::stream::{Sink, Source};
-use desk_runs::Desk;
+use line_extensions::Desk;
 use ledger_laws::laws::histories;
 use nv_model::Nv;
 use script_replay::side::run_side;

@@ -1,5 +1,5 @@
 //! A run is judged: what is said of it, by the bytes that were judged.
-ghost use Rattle.told_bench.specs.Seeing.{IsReady, audit_of};
+ghost use Rattle.trace_bench.specs.Seeing.{IsReady, audit_of};
 
 use crate::tails::{Lines, Tail, last_taken, lines_over};
 use audit_words::shown;
@@ -8,8 +8,8 @@ use script_text::{Line, put_reply};
 use std::alloc::{AllocError, Global};
 use std::cell::RefCell;
 use std::io::Read;
-use told_bench::Auditor;
-use told_runs::{Ending, Imprint, Input, Judgment, LINES, Verdict, audit_run, read_line};
+use trace_bench::Auditor;
+use trace_runs::{Ending, Imprint, Input, Judgment, LINES, Verdict, audit_run, read_line};
 
 /// What came of a run. Numbers are those of lines of its script.
 #[derive(Clone, Copy)]

@@ -16,7 +16,7 @@ mod scripts;
 mod tails;
 mod verdicts;
 
-ghost use Rattle.told_bench.specs.Seeing.{IsReady, audit_of};
+ghost use Rattle.trace_bench.specs.Seeing.{IsReady, audit_of};
 
 use audit_clerk::Clerk;
 use audit_journal::Form;
@@ -31,7 +31,7 @@ use prints::judge_prints;
 use runs::{Gathered, judge_all, say, say_finding};
 use std::process::ExitCode;
 use std::{env, io};
-use told_bench::Auditor;
+use trace_bench::Auditor;
 use verdicts::FINDING;
 
 /// The exit status if nothing was found, but something is undecided.

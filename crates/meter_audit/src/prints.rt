@@ -6,7 +6,7 @@ use memchr::memchr;
 use std::alloc::{AllocError, Global};
 use std::fs::File;
 use text_streams::put_digits;
-use told_runs::{Imprint, Match, Taken, match_prints};
+use trace_runs::{Imprint, Match, Taken, match_prints};
 
 /// The digits of a mark.
 const DIGITS: usize = 128;

@@ -1,5 +1,5 @@
 //! Runs are judged in order, up to the first finding, and gone over once more if that is asked for.
-ghost use Rattle.told_bench.specs.Seeing.{IsReady, audit_of};
+ghost use Rattle.trace_bench.specs.Seeing.{IsReady, audit_of};
 
 use crate::digest::{NO_RUNS, Sum, digest_with};
 use crate::faults::{Fault, or_book, or_memory, or_write};
@@ -13,8 +13,8 @@ use bench_base::numbers::DayNo;
 use bench_base::stream::IoSink;
 use std::alloc::Global;
 use std::io;
-use told_bench::Auditor;
-use told_runs::{Imprint, Input};
+use trace_bench::Auditor;
+use trace_runs::{Imprint, Input};
 
 /// What was gathered over the runs.
 #[derive(Drop)]

@@ -4,7 +4,7 @@ use bench_base::stream::IoSource;
 use line_runs::lines::{LineRead, read_line};
 use std::fs::File;
 use text_streams::ReadAhead;
-use told_runs::LINES;
+use trace_runs::LINES;
 
 /// How much of a script is read at once, in bytes.
 const AHEAD: usize = 65_536;

@@ -1,7 +1,7 @@
 //! Verdicts as they are printed.
 use crate::judging::{Judged, Outcome};
 use std::alloc::{AllocError, Global};
-use told_runs::Ending;
+use trace_runs::Ending;
 
 /// The exit status of a finding: what can't be so, what is forged, or a report that goes on.
 pub const FINDING: u8 = 1;

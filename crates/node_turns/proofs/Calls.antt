@@ -35,11 +35,11 @@ use Rattle.node_acts.specs.declared.said.GivenOut.TheVariants.{Released, Printed
 use Rattle.node_acts.specs.Said.{IsPlain, planned_commit, with_given, with_sent, tells, seen_plan, said_reply, said_entries}
 use Rattle.node_acts.specs.Kinds.{Kind}
 use Rattle.node_acts.proofs.Told.{Tells, tells_call}
-use Rattle.node_seat.specs.declared.node.Node.{Ghosts}
-use Rattle.node_seat.specs.Ends.{end_of}
-use Rattle.node_seat.specs.Shown.{Allowed, IsAfter, IsNext, IsFitting}
-use Rattle.node_seat.specs.Stands.{times_of, meters_of, Stands}
-use Rattle.node_seat.proofs.Rests.{mounts_none}
+use Rattle.node_storage.specs.declared.node.Node.{Ghosts}
+use Rattle.node_storage.specs.Ends.{end_of}
+use Rattle.node_storage.specs.Shown.{Allowed, IsAfter, IsNext, IsFitting}
+use Rattle.node_storage.specs.Stands.{times_of, meters_of, Stands}
+use Rattle.node_storage.proofs.Rests.{mounts_none}
 use Rattle.node_turns.specs.Adds.{Adds, AddsTold, AddsDone, brings}
 use Rattle.node_turns.specs.Costs.{Charged}
 use Rattle.node_turns.specs.NodeTurns.{NodeTurn}

@@ -26,10 +26,10 @@ use Rattle.node_acts.specs.Plans.{after_told, with_commit, done_plan, act_entrie
 use Rattle.node_acts.specs.Said.{tells, with_sent, with_given, planned_commit, seen_plan, said_reply}
 use Rattle.node_acts.specs.Kinds.{Kind}
 use Rattle.node_acts.proofs.Told.{Tells, tells_call}
-use Rattle.node_seat.specs.declared.node.Node.{Ghosts}
-use Rattle.node_seat.specs.Shown.{IsFitting}
-use Rattle.node_seat.specs.Stands.{meters_of, Stands}
-use Rattle.node_seat.specs.Calls.{CallDoes}
+use Rattle.node_storage.specs.declared.node.Node.{Ghosts}
+use Rattle.node_storage.specs.Shown.{IsFitting}
+use Rattle.node_storage.specs.Stands.{meters_of, Stands}
+use Rattle.node_storage.specs.Calls.{CallDoes}
 use Rattle.node_turns.specs.declared.turn.Turn.{Turn}
 use Rattle.node_turns.specs.NodeTurns.{NodeTurn, plan_by}
 use Rattle.node_turns.specs.Calling.{Called}

@@ -16,11 +16,11 @@ use Rattle.node_acts.specs.Acts.{commit_of, outcome_in, outcome_of, MayCome, May
 use Rattle.node_acts.specs.Said.{saying, planned_commit}
 use Rattle.node_acts.specs.Views.{Counting, View}
 use Rattle.node_acts.proofs.OfCommits.{said_commit}
-use Rattle.node_seat.specs.declared.node.Node.{Ghosts}
-use Rattle.node_seat.specs.Ends.{end_of_call, end_of, is_done}
-use Rattle.node_seat.specs.Shown.{Allowed, IsAfter, IsNext, IsFitting}
-use Rattle.node_seat.specs.Stands.{times_of, meters_of, Stands}
-use Rattle.node_seat.specs.Calls.{CallDoes, Wrote}
+use Rattle.node_storage.specs.declared.node.Node.{Ghosts}
+use Rattle.node_storage.specs.Ends.{end_of_call, end_of, is_done}
+use Rattle.node_storage.specs.Shown.{Allowed, IsAfter, IsNext, IsFitting}
+use Rattle.node_storage.specs.Stands.{times_of, meters_of, Stands}
+use Rattle.node_storage.specs.Calls.{CallDoes, Wrote}
 use Rattle.node_turns.specs.declared.turn.Turn.{Turn}
 use Rattle.node_turns.specs.Calling.{commit_in, said_outcome, Called, UsesMade}
 use Rattle.node_turns.specs.Turns.{told_turn, call_turn}

@@ -21,12 +21,12 @@ use Rattle.node_acts.specs.Views.{Counting, View, stopped}
 use Rattle.node_acts.specs.Starts.{MayStart, after_start, leaves_on, HasRead}
 use Rattle.node_acts.specs.Plans.{after, MayReply, view_after}
 use Rattle.node_acts.specs.Kinds.{Kind}
-use Rattle.node_seat.specs.declared.node.Node.{Ghosts}
-use Rattle.node_seat.specs.Shown.{Allowed}
-use Rattle.node_seat.specs.Stands.{times_of, HasDamage, IsArmed, Stands}
-use Rattle.node_seat.specs.Starts.{StartDoes, StopDoes, ArmDoes}
-use Rattle.node_seat.specs.Ends.{end_of_start}
-use Rattle.node_seat.proofs.Rests.{uses_none, mounts_none}
+use Rattle.node_storage.specs.declared.node.Node.{Ghosts}
+use Rattle.node_storage.specs.Shown.{Allowed}
+use Rattle.node_storage.specs.Stands.{times_of, HasDamage, IsArmed, Stands}
+use Rattle.node_storage.specs.Starts.{StartDoes, StopDoes, ArmDoes}
+use Rattle.node_storage.specs.Ends.{end_of_start}
+use Rattle.node_storage.proofs.Rests.{uses_none, mounts_none}
 use Rattle.node_turns.specs.Adds.{Adds}
 use Rattle.node_turns.specs.Costs.{Charged}
 use Rattle.node_turns.specs.NodeTurns.{Switches, NodeTurn}

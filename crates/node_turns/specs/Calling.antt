@@ -12,10 +12,10 @@ use Rattle.node_acts.specs.Said.{tells}
 use Rattle.nv_model.specs.declared.nv.Nv as nv
 use Rattle.nv_model.specs.Meters.{Meters}
 use Rattle.nv_store.specs.Store.{UsesCommit}
-use Rattle.node_seat.specs.declared.node.Node.{Ghosts}
-use Rattle.node_seat.specs.Calls.{CallDoes}
-use Rattle.node_seat.specs.Ends.{is_done}
-use Rattle.node_seat.specs.Stands.{meters_of}
+use Rattle.node_storage.specs.declared.node.Node.{Ghosts}
+use Rattle.node_storage.specs.Calls.{CallDoes}
+use Rattle.node_storage.specs.Ends.{is_done}
+use Rattle.node_storage.specs.Stands.{meters_of}
 use Rattle.node_turns.specs.declared.turn.Turn.{Turn}
 use Rattle.node_turns.specs.Turns.{turn_of}
 

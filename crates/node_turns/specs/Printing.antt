@@ -23,8 +23,8 @@ use Rattle.nv_model.specs.declared.nv.Nv as nv
 use Rattle.node_acts.specs.declared.asked.Asked.{Asked}
 use Rattle.node_acts.specs.Views.{View}
 use Rattle.node_acts.specs.Kinds.{Kind}
-use Rattle.node_seat.specs.declared.node.Node.{Ghosts}
-use Rattle.node_seat.specs.Stands.{Stands}
+use Rattle.node_storage.specs.declared.node.Node.{Ghosts}
+use Rattle.node_storage.specs.Stands.{Stands}
 use Rattle.node_turns.specs.declared.turn.Turn.{Turn}
 use Rattle.node_turns.specs.NodeTurns.{plan_by}
 use Rattle.node_turns.specs.Turns.{turn_of, call_turn}

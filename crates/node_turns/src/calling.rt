@@ -16,7 +16,7 @@ use bench_base::events::Reply;
 use bench_base::ledger::{Commit, Entry};
 use bench_base::stream::Sink;
 use node_acts::{Act, Call, Callee, GivenOut, Outcome, Printed};
-use node_seat::{Node, perform};
+use node_storage::{Node, perform};
 use text_streams::print_mark;
 
 // The commit that the act makes.

@@ -2,7 +2,7 @@
 ghost use Rattle.std.specs.Prelude.{Bool, []};
 ghost use Rattle.bench_base.specs.declared.events.Reply.{Reply};
 ghost use Rattle.node_acts.specs.declared.act.Started.{Started};
-ghost use Rattle.node_seat.specs.Starts.{StartDoes, StopDoes, ArmDoes};
+ghost use Rattle.node_storage.specs.Starts.{StartDoes, StopDoes, ArmDoes};
 ghost use Rattle.node_turns.specs.Turns as turns;
 
 use crate::tell::Tell;
@@ -10,8 +10,8 @@ use bench_base::events::Reply;
 use bench_base::ledger::Entry;
 use bench_base::words::Node as NodeNo;
 use node_acts::Started;
-use node_seat as seat;
-use node_seat::{Arms, Node};
+use node_storage as seat;
+use node_storage::{Arms, Node};
 
 fn started<T: Tell>(node: &NodeNo, started: Started) -> T
     ensures { T.IsOf result (turns.start_turn node.now started) }

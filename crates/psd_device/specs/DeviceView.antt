@@ -7,7 +7,7 @@ use Rattle.bench_base.specs.declared.sizes.TheConstants.{DEVICE_BYTES}
 use Rattle.nv_model.specs.declared.nv.Nv.{Ghosts}
 use Rattle.nv_ring.specs.declared.wear.Wear.{Wear}
 use Rattle.node_acts.specs.Acts.{commit_in}
-use Rattle.node_seat.specs.Performed.{Performed}
+use Rattle.node_storage.specs.Performed.{Performed}
 use Rattle.bench_base.specs.declared.words.Kind.{Kind}
 use Rattle.bench_base.specs.Rules.{todays_rules}
 use Rattle.psd_wire.specs.declared.message.DebitMsg.{DebitMsg}

@@ -13,7 +13,7 @@ use bench_base::bytes::Note;
 use bench_base::numbers::DayNo;
 use bench_base::refusals::DevFail;
 use bench_base::words::{Key, Kind};
-use node_seat::answer;
+use node_storage::answer;
 use nv_model::Nv;
 use psd_state::{DevStatus, Franked, Taken, acts};
 use psd_wire::DebitMsg;

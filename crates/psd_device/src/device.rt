@@ -10,7 +10,7 @@ use crate::node::DeviceNode;
 use bench_base::ledger::Commit;
 use bench_base::refusals::DevFail;
 use bench_base::sizes::SLOTS;
-use node_seat::Running;
+use node_storage::Running;
 use nv_model::{Fused, Nv};
 use psd_state::DeviceAct;
 

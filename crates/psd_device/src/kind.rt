@@ -13,7 +13,7 @@ ghost use Rattle.psd_device.specs.NodeLaws as laws;
 use crate::node::DeviceNode;
 use bench_base::numbers::DevNo;
 use bench_base::refusals::{BootFail, StoreFail};
-use node_seat::{Arms, Node};
+use node_storage::{Arms, Node};
 use nv_model::{Fuse, Nv, NvFail};
 use psd_state::DevRec;
 

@@ -11,9 +11,9 @@ use Rattle.nv_store.specs.RoomView.{cells_of, kept_in}
 use Rattle.nv_store.specs.Rooms.{RoomCommits}
 use Rattle.nv_store.specs.declared.room.Room.{Room}
 use Rattle.node_acts.specs.RowList.{RowList, is_worn}
-use Rattle.node_seat.specs.Does.{Commits, Stores, Spends, Writes}
-use Rattle.node_seat.specs.Ends.{begins, end_of_commit, leaves_running}
-use Rattle.node_seat.proofs.Fails.{ends_running, spent_failed, writes_as}
+use Rattle.node_storage.specs.Does.{Commits, Stores, Spends, Writes}
+use Rattle.node_storage.specs.Ends.{begins, end_of_commit, leaves_running}
+use Rattle.node_storage.proofs.Fails.{ends_running, spent_failed, writes_as}
 use Rattle.row_node.specs.Kept.{seen_fills, still_filled, seen_put, between_seen}
 use Rattle.row_node.specs.Tables.{Table, Filled, Keeps, IsShown, counting, fill_of, seen_of}
 use Rattle.row_node.specs.Laws.{Laws, IsBlank, IsNext, IsCommitted, Takes}

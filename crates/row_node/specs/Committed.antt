@@ -3,8 +3,8 @@ use Rattle.std.specs.Prelude.{◌≡◌, Result, OnErr, IsErrOf, is_ok}
 use Rattle.bench_base.specs.declared.refusals.StoreFail.{StoreFail}
 use Rattle.bench_base.specs.declared.refusals.StoreFail.TheVariants.{Worn}
 use Rattle.nv_model.specs.declared.nv.Nv as nv
-use Rattle.node_seat.specs.Does.{Commits, Stores, Writes}
-use Rattle.node_seat.specs.Ends.{begins, end_of_commit, leaves_running}
+use Rattle.node_storage.specs.Does.{Commits, Stores, Writes}
+use Rattle.node_storage.specs.Ends.{begins, end_of_commit, leaves_running}
 use Rattle.row_node.specs.Tables.{IsShown, counting, fill_of}
 use Rattle.row_node.specs.NodeView.{storage_in, seen_in, is_on}
 use Rattle.row_node.specs.declared.cells.Cells as cells

@@ -7,7 +7,7 @@ use Rattle.nv_model.specs.Moments.{Only}
 use Rattle.node_acts.specs.RowList.{RowList}
 use Rattle.node_acts.specs.declared.act.Act.{Act}
 use Rattle.node_acts.specs.declared.act.Act.TheVariants.{Commits}
-use Rattle.node_seat.specs.Performed.{Performed}
+use Rattle.node_storage.specs.Performed.{Performed}
 use Rattle.row_node.specs.Tables.{IsShown, bytes_of, counting, fill_of}
 use Rattle.row_node.specs.NodeView.{storage_in, seen_in}
 use Rattle.row_node.specs.declared.cells.Cells as cells

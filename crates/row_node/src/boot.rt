@@ -2,8 +2,8 @@
 ghost use Rattle.std.specs.Prelude.{◌≡◌, ◌≢◌, OnOk, IsErrOf, Err, false, is_ok};
 ghost use Rattle.nv_store.specs.RoomView.{cells_of, kept_in};
 ghost use Rattle.nv_store.specs.Rooms.{RoomRuns};
-ghost use Rattle.node_seat.specs.Does.{Reads, Spends, SyncsOnce};
-ghost use Rattle.node_seat.specs.Ends.{end_of_boot};
+ghost use Rattle.node_storage.specs.Does.{Reads, Spends, SyncsOnce};
+ghost use Rattle.node_storage.specs.Ends.{end_of_boot};
 ghost use Rattle.row_node.specs.Tables.{IsDamaged, bytes_of};
 ghost use Rattle.row_node.specs.Boots.{Found};
 

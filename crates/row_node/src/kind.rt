@@ -9,7 +9,7 @@ use crate::room::RowRoom;
 use crate::rows::Rows;
 use bench_base::refusals::{BootFail, StoreFail};
 use node_acts::Holds;
-use node_seat::{Arms, Node};
+use node_storage::{Arms, Node};
 use nv_model::{Fuse, Nv, NvFail};
 
 impl<N: Nv, R: Rows> Node for RowNode<N, R> {

@@ -3,7 +3,7 @@ ghost use Rattle.std.specs.Prelude.{◌≡◌, ◌<◌, true, false};
 ghost use Rattle.nv_model.specs.Meters.{Restarts};
 ghost use Rattle.nv_store.specs.RoomView.{cells_of, kept_in};
 ghost use Rattle.nv_store.specs.Rooms.{RoomRuns};
-ghost use Rattle.node_seat.specs.Does.{Reads};
+ghost use Rattle.node_storage.specs.Does.{Reads};
 ghost use Rattle.node_acts.specs.RowList.{is_worn};
 ghost use Rattle.row_node.specs.Tables.{Filled, bytes_of, counting};
 ghost use Rattle.row_node.specs.Unique.{filled_one};

@@ -1,8 +1,8 @@
 //! A running node of rows: its rows in its storage, and the commit of it that failed.
 ghost use Rattle.std.specs.Prelude.{◌≡◌, ◌≢◌, IfOk, IfErr, MatchResult, Err, false, not, is_some};
 ghost use Rattle.nv_store.specs.Turns.{Kept};
-ghost use Rattle.node_seat.specs.Does.{Reads, Spends, SpendsOne, SyncsOnce};
-ghost use Rattle.node_seat.specs.Ends.{end_of_boot};
+ghost use Rattle.node_storage.specs.Does.{Reads, Spends, SpendsOne, SyncsOnce};
+ghost use Rattle.node_storage.specs.Ends.{end_of_boot};
 ghost use Rattle.row_node.specs.Tables.{IsDamaged, bytes_of, counting};
 ghost use Rattle.row_node.specs.NodeView.{storage_in, is_on};
 ghost use Rattle.row_node.specs.Boots.{AllShowSound};
@@ -13,7 +13,7 @@ use crate::rows::Rows;
 use bench_base::ledger::Commit;
 use bench_base::refusals::{BootFail, Fail};
 use node_acts::Act;
-use node_seat::Running;
+use node_storage::Running;
 use nv_model::{Fused, Nv};
 
 /// A node of rows that was on when it was taken, and the commit that failed, after which no other is tried.

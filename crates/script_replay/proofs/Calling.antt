@@ -3,10 +3,10 @@ use Rattle.std.proofs.Common.{◌≡◌, ℕ, List, [], Option, Some, sym, ◌�
 use Rattle.script_text.specs.declared.program.Words.{Words}
 use Rattle.script_text.specs.declared.program.Words.TheVariants.{Replay, Generate}
 use Rattle.script_text.specs.Programs.{program_words, AreInRange}
-use Rattle.desk_runs.specs.Deeds.{Done, done_in}
+use Rattle.line_extensions.specs.Deeds.{Done, done_in}
 use Rattle.script_replay.specs.Generated.{Generated}
 use Rattle.line_runs.specs.Runs.{Replayed}
-use Rattle.desk_runs.specs.Scripts.{script_lines}
+use Rattle.line_extensions.specs.Scripts.{script_lines}
 use Rattle.script_replay.specs.Streams.{Streams, AreNone, Ran}
 use Rattle.line_runs.specs.declared.status.Status.{Status}
 use Rattle.line_runs.proofs.Turns.{said}

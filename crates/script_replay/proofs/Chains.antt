@@ -8,11 +8,11 @@ use Rattle.ledger_moves.specs.Tariffs.{Tariff}
 use Rattle.ledger_moves.specs.Moves as moves
 use Rattle.ledger_moves.specs.Moves.{entries}
 use Rattle.ledger_moves.specs.Histories.{History}
-use Rattle.bench_views.specs.Tariff.{IsOfTexts}
+use Rattle.bench_abstraction.specs.Tariff.{IsOfTexts}
 use Rattle.bench.specs.Benches.{Nodes, Stands}
 use Rattle.bench.specs.Steps.{StepsOn}
 use Rattle.script_replay.specs.Chains.{DidEvent, DidEvents, SceneOf}
-use Rattle.desk_runs.specs.Deeds.{Done}
+use Rattle.line_extensions.specs.Deeds.{Done}
 use Rattle.script_replay.specs.Deeds.{ledger_by, ledger_after, RunWhile, AreUnforged}
 use Rattle.script_replay.specs.Run.{Unforged, Moves, Sane}
 use Rattle.script_replay.specs.Throughout.{StandsFor}

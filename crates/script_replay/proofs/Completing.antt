@@ -2,10 +2,10 @@
 use Rattle.std.proofs.Common.{◌≡◌, ℕ, List, Option, Some, None, refl, ap}
 use Rattle.std.specs.Prelude.{IfSome, ◌↔◌}
 use Rattle.bench_base.specs.Causes.{Rose}
-use Rattle.desk_runs.specs.Deeds.{Done, done_in, Deed}
+use Rattle.line_extensions.specs.Deeds.{Done, done_in, Deed}
 use Rattle.script_replay.specs.Generated.{EndsWith}
-use Rattle.desk_runs.specs.ScriptLaws.{script_fits}
-use Rattle.desk_runs.specs.Scripts.{script_grammar, script_lines}
+use Rattle.line_extensions.specs.ScriptLaws.{script_fits}
+use Rattle.line_extensions.specs.Scripts.{script_grammar, script_lines}
 use Rattle.line_runs.specs.Ends.{EndsAs, IsByScript}
 use Rattle.line_runs.specs.Runs.{Replayed}
 use Rattle.script_replay.specs.Streams.{Streams, Ran, Completes}

@@ -11,11 +11,11 @@ use Rattle.bench_base.specs.declared.words.Node.TheVariants.{Device, Centre, Hos
 use Rattle.bench_base.specs.Events.{calls_of}
 use Rattle.bench_base.specs.Replies.{tells_power, tells_fault, tells_cut, MayGet, tells_printer, tells_rates}
 use Rattle.nv_model.specs.Meters.{Meters, Uses}
-use Rattle.node_seat.specs.declared.node.Node.{Ghosts}
-use Rattle.node_seat.specs.Stands.{meters_of}
+use Rattle.node_storage.specs.declared.node.Node.{Ghosts}
+use Rattle.node_storage.specs.Stands.{meters_of}
 use Rattle.node_turns.specs.Costs.{Charged}
 use Rattle.node_turns.specs.Printing.{Printer}
-use Rattle.bench_views.specs.Taken.{as_given}
+use Rattle.bench_abstraction.specs.Taken.{as_given}
 use Rattle.bench.specs.Benches.{Nodes, At, IsReady, BenchOf}
 use Rattle.bench.specs.Outside.{Outside}
 use Rattle.bench.specs.Costs.{Balanced, armed, one_if}
@@ -23,7 +23,7 @@ use Rattle.bench.specs.Places.{Begun, IsStopped}
 use Rattle.bench.proofs.Making.{pairs_at}
 use Rattle.script_replay.specs.Chains.{Scene, scene, DidEvent, DidEvents, SceneOf}
 use Rattle.script_replay.specs.Counts.{BalancedAt, AreBalanced, FaultsTold}
-use Rattle.desk_runs.specs.Deeds.{Done}
+use Rattle.line_extensions.specs.Deeds.{Done}
 use Rattle.script_replay.specs.Run.{Leaves}
 use Rattle.line_runs.specs.declared.status.Status.TheVariants as status
 use Rattle.line_runs.specs.declared.status.SideStatus.{SideStatus}

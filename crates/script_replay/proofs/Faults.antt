@@ -17,12 +17,12 @@ use Rattle.host_rates.specs.Answers.{answer}
 use Rattle.text_streams.specs.Texts.{print_line}
 use Rattle.node_turns.specs.declared.turn.Turn.{Turn}
 use Rattle.node_turns.specs.Printing.{Printer, PrinterDid}
-use Rattle.bench_views.specs.Taken.{as_given, as_given_by, as_scanned_by}
+use Rattle.bench_abstraction.specs.Taken.{as_given, as_given_by, as_scanned_by}
 use Rattle.bench.specs.Costs.{one_if}
 use Rattle.bench.specs.Outside.{Feed, rates_turn, ReadsText, ReadsNothing, ReadsRates}
 use Rattle.script_replay.specs.Counts.{FaultsTold}
 use Rattle.script_replay.specs.Marks.{IsPrinted}
-use Rattle.desk_runs.proofs.Texts.{cut_off}
+use Rattle.line_extensions.proofs.Texts.{cut_off}
 
 -- == to deliver a message is to give its bytes, and to scan one is to scan its bytes; any other event is given as it is ==
 

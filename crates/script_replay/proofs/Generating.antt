@@ -14,7 +14,7 @@ use Rattle.node_turns.specs.Printing.{Printer}
 use Rattle.bench_base.specs.Events.{Brought, Nothing, Handed, Scanned, brought_by}
 use Rattle.ledger_moves.specs.Histories.{IsKnown, AreKnown}
 use Rattle.ledger_moves.specs.Tariffs.{Tariff}
-use Rattle.bench_views.specs.Taken.{as_given, as_given_by, as_scanned_by}
+use Rattle.bench_abstraction.specs.Taken.{as_given, as_given_by, as_scanned_by}
 use Rattle.bench.specs.Benches.{Nodes}
 use Rattle.bench.specs.Outside.{Outside, Feed}
 use Rattle.generator.specs.Events.{generated}
@@ -23,7 +23,7 @@ use Rattle.script_text.specs.Summaries.{Tally, tally_of, one_in, column_of}
 use Rattle.script_text.specs.declared.column.Column.{Column}
 use Rattle.script_text.specs.declared.column.Column.TheVariants as column
 use Rattle.script_replay.specs.Chains.{DidEvent, DidEvents, SceneOf}
-use Rattle.desk_runs.specs.Deeds.{Done}
+use Rattle.line_extensions.specs.Deeds.{Done}
 use Rattle.script_replay.specs.Deeds.{ledger_by, AreUnforged}
 use Rattle.script_replay.specs.Generated.{events_of, replies_of, summary_line, EndsWith, InTheMidst, Generated}
 use Rattle.script_replay.specs.Run.{Unforged}

@@ -3,8 +3,8 @@ use Rattle.std.proofs.Common.{◌≡◌, ℕ, List, IsSome}
 use Rattle.script_text.specs.declared.program.Words.TheVariants.{Replay}
 use Rattle.script_text.specs.Programs.{program_words}
 use Rattle.bench.specs.Benches.{Nodes, BenchOf}
-use Rattle.desk_runs.specs.Deeds.{Done, done_in}
-use Rattle.desk_runs.specs.Scripts.{script_lines}
+use Rattle.line_extensions.specs.Deeds.{Done, done_in}
+use Rattle.line_extensions.specs.Scripts.{script_lines}
 use Rattle.line_runs.proofs.Turns.{said}
 use Rattle.line_runs.specs.declared.status.Status.{Status}
 use Rattle.line_runs.specs.declared.status.SideStatus.TheVariants.{Run}

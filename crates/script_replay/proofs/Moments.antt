@@ -6,12 +6,12 @@ use Rattle.ledger_terms.specs.Editions.{Editions}
 use Rattle.ledger_laws.specs.Laws.{ForHistories, Holds}
 use Rattle.ledger_moves.specs.Tariffs.{Tariff}
 use Rattle.ledger_moves.specs.Histories.{History}
-use Rattle.bench_views.specs.Tariff.{IsOfTexts}
+use Rattle.bench_abstraction.specs.Tariff.{IsOfTexts}
 use Rattle.bench.specs.Benches.{Nodes, IsReady}
 use Rattle.bench.proofs.EachKind.{all_rest}
 use Rattle.bench.proofs.Left.{rest_stopped}
 use Rattle.script_replay.specs.Chains.{DidEvents, SceneOf}
-use Rattle.desk_runs.specs.Deeds.{Done}
+use Rattle.line_extensions.specs.Deeds.{Done}
 use Rattle.script_replay.specs.Deeds.{ledger_by}
 use Rattle.script_replay.specs.Throughout.{StandsFor, IsBetween, Throughout}
 use Rattle.script_replay.proofs.Chains.{steps_on, stands_then}

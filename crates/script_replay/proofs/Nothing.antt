@@ -6,10 +6,10 @@ use Rattle.ledger_moves.specs.Tariffs.{Tariff}
 use Rattle.line_runs.proofs.Turns.{said}
 use Rattle.line_runs.specs.declared.status.Status.{Status}
 use Rattle.line_runs.specs.declared.status.SideStatus.{SideStatus}
-use Rattle.desk_runs.specs.Deeds.{Done}
-use Rattle.desk_runs.specs.Desks.{side_lines}
-use Rattle.desk_runs.specs.SideDeeds.{SideDeed}
-use Rattle.desk_runs.specs.declared.desk.Desk.{Ghosts}
+use Rattle.line_extensions.specs.Deeds.{Done}
+use Rattle.line_extensions.specs.Desks.{side_lines}
+use Rattle.line_extensions.specs.SideDeeds.{SideDeed}
+use Rattle.line_extensions.specs.declared.desk.Desk.{Ghosts}
 use Rattle.script_replay.specs.Chains.{SceneOf}
 use Rattle.script_replay.specs.Fresh.{DidFresh}
 use Rattle.script_replay.specs.Run.{DidRun}

@@ -5,9 +5,9 @@ use Rattle.script_text.specs.Grammar.{IsSkipped}
 use Rattle.script_text.specs.Told.{IsWholeReply}
 use Rattle.line_runs.specs.Turns.{AreDone, Reported, DidLine}
 use Rattle.line_runs.specs.declared.status.SideStatus.{SideStatus}
-use Rattle.desk_runs.specs.Deeds.{Done, Deed, Did, Skipped, line_of, IsEnd, GoesOn}
-use Rattle.desk_runs.specs.Events.{IsLineOf}
-use Rattle.desk_runs.specs.Scripts.{script_lines}
+use Rattle.line_extensions.specs.Deeds.{Done, Deed, Did, Skipped, line_of, IsEnd, GoesOn}
+use Rattle.line_extensions.specs.Events.{IsLineOf}
+use Rattle.line_extensions.specs.Scripts.{script_lines}
 
 module _ {B : Type 0} (Does : B → B → List Deed → Type 0) (Leaves : SideStatus → B → B → Type 0) (chain : AreDone Does Leaves) where
   -- a line that is skipped is done

@@ -10,7 +10,7 @@ use Rattle.bench.specs.Benches.{Bench, Nodes, IsReady, BenchOf}
 use Rattle.bench.specs.Outside.{Outside, WantsMemory}
 use Rattle.bench.specs.Steps.{Steps}
 use Rattle.script_replay.specs.Chains.{scene, DidEvent}
-use Rattle.desk_runs.specs.Deeds.{Done, done}
+use Rattle.line_extensions.specs.Deeds.{Done, done}
 use Rattle.script_replay.specs.Sides.{StepsBy}
 use Rattle.script_replay.specs.Run.{Leaves}
 use Rattle.line_runs.specs.declared.status.Status.TheVariants as status

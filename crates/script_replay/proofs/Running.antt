@@ -9,11 +9,11 @@ use Rattle.ledger_terms.specs.Editions.{Editions}
 use Rattle.ledger_laws.specs.Laws.{ForHistories, Holds}
 use Rattle.ledger_moves.specs.Tariffs.{Tariff}
 use Rattle.ledger_moves.specs.Histories.{History}
-use Rattle.bench_views.specs.Tariff.{IsOfTexts}
+use Rattle.bench_abstraction.specs.Tariff.{IsOfTexts}
 use Rattle.bench.specs.Benches.{Nodes, IsReady, Stands, BenchOf}
 use Rattle.bench.specs.Places.{Begun}
 use Rattle.script_replay.specs.Chains.{scene, DidEvents, SceneOf}
-use Rattle.desk_runs.specs.Deeds.{Done}
+use Rattle.line_extensions.specs.Deeds.{Done}
 use Rattle.script_replay.specs.Deeds.{printed_of, ledger_after, AreUnforged}
 use Rattle.script_replay.specs.Fresh.{DidFresh}
 use Rattle.script_replay.specs.Run.{Unforged, Leaves, DidOver, DidRun}

@@ -13,10 +13,10 @@ use Rattle.line_runs.specs.Turns.{Ended}
 use Rattle.line_runs.specs.declared.status.Status.TheVariants as status
 use Rattle.line_runs.specs.declared.status.SideStatus.{SideStatus}
 use Rattle.line_runs.specs.declared.status.SideStatus.TheVariants.{Run}
-use Rattle.desk_runs.specs.Desks.{World, world, SideLeaves, Does}
-use Rattle.desk_runs.specs.DeskLaws.{bench_part}
-use Rattle.desk_runs.specs.SideDeeds.{SideDeed, steps_of}
-use Rattle.desk_runs.specs.declared.desk.Desk.{Ghosts}
+use Rattle.line_extensions.specs.Desks.{World, world, SideLeaves, Does}
+use Rattle.line_extensions.specs.DeskLaws.{bench_part}
+use Rattle.line_extensions.specs.SideDeeds.{SideDeed, steps_of}
+use Rattle.line_extensions.specs.declared.desk.Desk.{Ghosts}
 use Rattle.script_replay.specs.Chains.{scene, DidEvents, SceneOf}
 use Rattle.script_replay.specs.Run.{Leaves}
 use Rattle.script_replay.specs.Sides.{StepsBy, DidSide}

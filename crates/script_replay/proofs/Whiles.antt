@@ -5,7 +5,7 @@ use Rattle.bench_base.specs.Rules.{editions}
 use Rattle.ledger_moves.specs.Histories.{History}
 use Rattle.ledger_moves.specs.Tariffs.{Tariff}
 use Rattle.bench.specs.Benches.{Nodes}
-use Rattle.desk_runs.specs.Deeds.{Done}
+use Rattle.line_extensions.specs.Deeds.{Done}
 use Rattle.script_replay.specs.Chains.{SceneOf, DidEvents}
 use Rattle.script_replay.specs.Deeds.{ledger_by, ledger_after, RunWhile, AreUnforged}
 use Rattle.script_replay.specs.Run.{Unforged}

@@ -13,7 +13,7 @@ use Rattle.bench.specs.declared.benches.BenchOver.{BenchOver}
 use Rattle.bench.specs.Benches.{Bench, Nodes, IsReady, bench_of}
 use Rattle.bench.specs.Outside.{Outside, outside}
 use Rattle.bench.specs.Steps.{Steps}
-use Rattle.desk_runs.specs.Deeds.{Done, Deed, done_in}
+use Rattle.line_extensions.specs.Deeds.{Done, Deed, done_in}
 use Rattle.script_replay.specs.Marks.{IsPrinted}
 
 -- a bench and its two streams

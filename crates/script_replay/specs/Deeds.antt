@@ -5,7 +5,7 @@ use Rattle.bench_base.specs.Ledger.{Ledger}
 use Rattle.bench_base.specs.Rules.{todays_rules}
 use Rattle.ledger_moves.specs.Tariffs.{Tariff}
 use Rattle.ledger_moves.specs.Moves.{entries}
-use Rattle.desk_runs.specs.Deeds.{Done}
+use Rattle.line_extensions.specs.Deeds.{Done}
 
 -- what they took of the rates, and what the printer took in them
 abbrev pub rates_of : List Done → List ℕ

@@ -7,7 +7,7 @@ use Rattle.bench_base.specs.Ledger.{Ledger}
 use Rattle.ledger_moves.specs.Tariffs.{Tariff}
 use Rattle.script_text.specs.Summaries.{Tally, tally_of, summary_text}
 use Rattle.generator.specs.Events.{generated}
-use Rattle.desk_runs.specs.Deeds.{Done}
+use Rattle.line_extensions.specs.Deeds.{Done}
 use Rattle.script_replay.specs.Deeds.{AreUnforged}
 use Rattle.line_runs.specs.Lines.{ended, IsCutOff}
 use Rattle.script_replay.specs.Run.{Unforged}

@@ -6,9 +6,9 @@ use Rattle.bench_base.specs.declared.ledger.Entry.TheVariants.{Begin}
 use Rattle.bench_base.specs.Rules.{todays_rules}
 use Rattle.ledger_terms.specs.Lawful.{Lawful}
 use Rattle.ledger_moves.specs.Tariffs.{Tariff}
-use Rattle.bench_views.specs.Tariff.{IsOfTexts}
-use Rattle.desk_runs.specs.Deeds.{Done, done_in}
-use Rattle.desk_runs.specs.Scripts.{script_grammar, script_lines}
+use Rattle.bench_abstraction.specs.Tariff.{IsOfTexts}
+use Rattle.line_extensions.specs.Deeds.{Done, done_in}
+use Rattle.line_extensions.specs.Scripts.{script_grammar, script_lines}
 use Rattle.line_runs.specs.Ends.{EndsAs, IsByScript}
 use Rattle.line_runs.specs.Runs.{Replayed}
 use Rattle.line_runs.specs.declared.status.Status.{Status}

@@ -13,13 +13,13 @@ use Rattle.ledger_moves.specs.Tariffs.{Tariff}
 use Rattle.ledger_moves.specs.Moves as moves
 use Rattle.ledger_moves.specs.Moves.{plan}
 use Rattle.ledger_moves.specs.Histories as histories
-use Rattle.bench_views.specs.Tariff.{IsOfTexts}
+use Rattle.bench_abstraction.specs.Tariff.{IsOfTexts}
 use Rattle.bench.specs.Benches.{Nodes, BenchOf}
 use Rattle.bench.specs.Outside.{WantsMemory}
 use Rattle.bench.specs.Places.{Begun}
 use Rattle.script_replay.specs.Chains.{Scene, scene, DidEvents, SceneOf}
 use Rattle.script_replay.specs.Counts.{AreBalanced}
-use Rattle.desk_runs.specs.Deeds.{Done}
+use Rattle.line_extensions.specs.Deeds.{Done}
 use Rattle.script_replay.specs.Deeds.{rates_of, printed_of, ledger_after, RunWhile, AreUnforged}
 use Rattle.script_replay.specs.Marks.{IsPrinted}
 use Rattle.script_replay.specs.Throughout.{IsAllPaid, StandsFor, Throughout}

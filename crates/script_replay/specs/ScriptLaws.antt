@@ -5,8 +5,8 @@ use Rattle.line_runs.specs.declared.status.SideStatus.{SideStatus}
 use Rattle.line_runs.specs.declared.status.SideStatus.TheVariants.{Run, Stopped}
 use Rattle.line_runs.specs.Turns.{AreDone}
 use Rattle.bench.specs.Benches.{Nodes}
-use Rattle.desk_runs.specs.Deeds.{Done, done_in}
-use Rattle.desk_runs.specs.ScriptLaws.{done_both}
+use Rattle.line_extensions.specs.Deeds.{Done, done_in}
+use Rattle.line_extensions.specs.ScriptLaws.{done_both}
 use Rattle.script_replay.specs.Chains.{Scene, DidEvents, DidDeeds, SceneOf}
 use Rattle.script_replay.specs.Run.{Leaves}
 

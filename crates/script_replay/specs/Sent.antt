@@ -4,7 +4,7 @@ use Rattle.std.proofs.lemmas.List.{length-append}
 use Rattle.bench.specs.Benches.{Nodes}
 use Rattle.bench.specs.Steps.{notes_of, notes_in}
 use Rattle.script_replay.specs.Chains.{DidEvents, SceneOf}
-use Rattle.desk_runs.specs.Deeds.{Done}
+use Rattle.line_extensions.specs.Deeds.{Done}
 use Rattle.node_turns.specs.Turns.{sent_in}
 
 one_note : (o : Option (List ℕ)) → length (notes_of o) ≤ 1

@@ -4,17 +4,17 @@ use Rattle.bench_base.specs.declared.events.Event.{Event}
 use Rattle.bench_base.specs.declared.events.Event.TheVariants as ev
 use Rattle.bench_base.specs.Replies.{MayGet}
 use Rattle.node_turns.specs.declared.turn.Turn.{Turn}
-use Rattle.bench_views.specs.Taken.{as_given}
+use Rattle.bench_abstraction.specs.Taken.{as_given}
 use Rattle.bench.specs.Benches.{Bench, Nodes}
 use Rattle.bench.proofs.Notes.{scan_names}
 use Rattle.line_runs.specs.declared.status.Status.{Status}
 use Rattle.line_runs.specs.declared.status.Status.TheVariants as status
 use Rattle.line_runs.specs.declared.status.SideStatus.{SideStatus}
 use Rattle.line_runs.specs.declared.status.SideStatus.TheVariants.{Run, Stopped}
-use Rattle.desk_runs.specs.Deeds.{Done}
-use Rattle.desk_runs.specs.Desks.{World, SideLeaves}
-use Rattle.desk_runs.specs.DeskLaws.{IsChain}
-use Rattle.desk_runs.specs.Wants.{IsQuiet}
+use Rattle.line_extensions.specs.Deeds.{Done}
+use Rattle.line_extensions.specs.Desks.{World, SideLeaves}
+use Rattle.line_extensions.specs.DeskLaws.{IsChain}
+use Rattle.line_extensions.specs.Wants.{IsQuiet}
 use Rattle.script_replay.specs.Chains.{Scene, DidEvents, SceneOf}
 use Rattle.script_replay.specs.Run.{Leaves}
 use Rattle.script_replay.specs.ScriptLaws.{all_done}

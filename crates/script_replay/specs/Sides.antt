@@ -9,10 +9,10 @@ use Rattle.line_runs.specs.declared.status.Status.{Status}
 use Rattle.line_runs.specs.declared.status.Status.TheVariants as status
 use Rattle.line_runs.specs.declared.status.SideStatus.{SideStatus}
 use Rattle.line_runs.specs.declared.status.SideStatus.TheVariants.{Run, Stopped}
-use Rattle.desk_runs.specs.Deeds.{Done}
-use Rattle.desk_runs.specs.Desks.{World, world, SideLeaves, side_grammar, side_lines, Does}
-use Rattle.desk_runs.specs.SideDeeds.{SideDeed, steps_of}
-use Rattle.desk_runs.specs.declared.desk.Desk.{Ghosts}
+use Rattle.line_extensions.specs.Deeds.{Done}
+use Rattle.line_extensions.specs.Desks.{World, world, SideLeaves, side_grammar, side_lines, Does}
+use Rattle.line_extensions.specs.SideDeeds.{SideDeed, steps_of}
+use Rattle.line_extensions.specs.declared.desk.Desk.{Ghosts}
 use Rattle.script_replay.specs.Chains.{scene, DidEvent, SceneOf}
 use Rattle.script_replay.specs.Run.{DidRun, Leaves}
 use Rattle.script_replay.specs.Streams.{Streams}

@@ -2,8 +2,8 @@
 use Rattle.std.specs.Prelude.{ℕ, List}
 use Rattle.bench.specs.Benches.{Nodes, BenchOf}
 use Rattle.line_runs.specs.declared.status.SideStatus.{SideStatus}
-use Rattle.desk_runs.specs.SideDeeds.{SideDeed}
-use Rattle.desk_runs.specs.declared.desk.Desk.{Ghosts}
+use Rattle.line_extensions.specs.SideDeeds.{SideDeed}
+use Rattle.line_extensions.specs.declared.desk.Desk.{Ghosts}
 use Rattle.script_replay.specs.Chains.{SceneOf, scene}
 use Rattle.script_replay.specs.Sides.{RanSide, EndsSide, CompletesSide}
 use Rattle.script_replay.specs.Streams.{Streams}

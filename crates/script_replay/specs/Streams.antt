@@ -7,11 +7,11 @@ use Rattle.bench.specs.Outside.{Outside, outside}
 use Rattle.script_text.specs.declared.program.Words.{Words}
 use Rattle.script_text.specs.declared.program.Words.TheVariants.{Replay, Generate}
 use Rattle.script_text.specs.Programs.{program_words, AreInRange}
-use Rattle.desk_runs.specs.Deeds.{Done, done_in}
+use Rattle.line_extensions.specs.Deeds.{Done, done_in}
 use Rattle.line_runs.specs.Ends.{EndsAs, IsByScript, IsComplete}
 use Rattle.line_runs.specs.Runs.{Replayed}
 use Rattle.script_replay.specs.Generated.{Generated}
-use Rattle.desk_runs.specs.Scripts.{script_grammar, script_lines}
+use Rattle.line_extensions.specs.Scripts.{script_grammar, script_lines}
 use Rattle.line_runs.specs.declared.status.Status.{Status}
 use Rattle.line_runs.specs.declared.status.Status.TheVariants as status
 use Rattle.line_runs.specs.declared.status.SideStatus.TheVariants.{Run}

@@ -11,7 +11,7 @@ use Rattle.ledger_moves.specs.Histories.{History, Unforged}
 use Rattle.bench.specs.Benches.{Nodes, BenchOf, Stands}
 use Rattle.bench.specs.Steps.{LeftFor, after_stop}
 use Rattle.script_replay.specs.Chains.{DidEvents, SceneOf}
-use Rattle.desk_runs.specs.Deeds.{Done}
+use Rattle.line_extensions.specs.Deeds.{Done}
 use Rattle.script_replay.specs.Deeds.{ledger_by}
 
 -- at each moment each device's accepted mail was franked, and what it franked was bought

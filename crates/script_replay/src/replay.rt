@@ -2,11 +2,11 @@
 ghost use Rattle.std.specs.Prelude.{length};
 ghost use Rattle.bench.specs.Benches.{IsReady};
 ghost use Rattle.script_replay.specs.Chains.{scene_of, SceneOver, DidDeeds};
-ghost use Rattle.desk_runs.specs.Deeds.{Deed};
+ghost use Rattle.line_extensions.specs.Deeds.{Deed};
 ghost use Rattle.script_replay.specs.Run.{Leaves};
-ghost use Rattle.desk_runs.specs.Scripts.{script_lines};
+ghost use Rattle.line_extensions.specs.Scripts.{script_lines};
 ghost use Rattle.script_replay.specs.ScriptLaws.{are_done};
-ghost use Rattle.desk_runs.specs.ScriptLaws.{script_fits};
+ghost use Rattle.line_extensions.specs.ScriptLaws.{script_fits};
 
 use crate::run::do_line;
 use bench::{BenchOver, HasNodes};

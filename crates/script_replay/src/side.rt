@@ -1,7 +1,7 @@
 //! A run over a script with a desk beside the bench.
 ghost use Rattle.std.specs.Prelude.{◌≡◌, ◌↔◌, ◌∷◌, [], true, false, map, string_bytes, IsTrue};
 ghost use Rattle.bench.specs.Benches.{IsReady, bench_of};
-ghost use Rattle.desk_runs.specs.Desks.{world};
+ghost use Rattle.line_extensions.specs.Desks.{world};
 ghost use Rattle.script_replay.specs.Chains.{scene_of};
 ghost use Rattle.script_replay.specs.Sides.{DidSide, RanSide, EndsSide, CompletesSide};
 ghost use Rattle.script_replay.specs.Streams.{streams_of};
@@ -9,7 +9,7 @@ ghost use Rattle.script_replay.specs.Streams.{streams_of};
 use crate::steps::OnBench;
 use bench::{Bench, HasNodes};
 use bench_base::stream::{Sink, Source};
-use desk_runs::{AtBench, Desk};
+use line_extensions::{AtBench, Desk};
 use ledger_laws::laws::histories;
 use line_runs::run_lines;
 use line_runs::status::{SideStatus, Status};

@@ -11,7 +11,7 @@ ghost use Rattle.line_runs.specs.declared.status.SideStatus.TheVariants as side;
 use bench::{BenchOver, HasNodes, react};
 use bench_base::events::Event;
 use bench_base::stream::{Sink, Source};
-use desk_runs::{Hear, Stepper};
+use line_extensions::{Hear, Stepper};
 use nv_model::{Fuse, Nv};
 use std::alloc::{AllocError, Global};
 use std::marker::PhantomData;

@@ -14,20 +14,20 @@ use Rattle.nv_store.specs.declared.room.Room.{Room}
 use Rattle.node_acts.specs.RowList.{is_worn, put}
 use Rattle.node_turns.specs.declared.turn.Turn.{Turn}
 use Rattle.script_text.specs.Texts.{text_of}
-use Rattle.desk_runs.specs.Deeds.{Done, Skipped, Did}
-use Rattle.desk_runs.specs.Desks.{World, world, Asks, Does}
-use Rattle.desk_runs.specs.SideDeeds.{SideDeed, Plain, Own, Broken}
-use Rattle.desk_runs.specs.declared.desk.Desk.{Ghosts}
-use Rattle.desk_runs.specs.declared.desk.Next.{Next}
-use Rattle.desk_runs.specs.declared.desk.Next.TheVariants.{Say, Stop}
+use Rattle.line_extensions.specs.Deeds.{Done, Skipped, Did}
+use Rattle.line_extensions.specs.Desks.{World, world, Asks, Does}
+use Rattle.line_extensions.specs.SideDeeds.{SideDeed, Plain, Own, Broken}
+use Rattle.line_extensions.specs.declared.desk.Desk.{Ghosts}
+use Rattle.line_extensions.specs.declared.desk.Next.{Next}
+use Rattle.line_extensions.specs.declared.desk.Next.TheVariants.{Say, Stop}
 use Rattle.row_store.specs.Commits.{CommitsRow}
 use Rattle.row_store.specs.Seen.{seen_in}
 use Rattle.spoil_claims.specs.Answers.{IsTold, IsCreditedNow, IsScanned, IsAgain, IsNewTold, IsClaimTold, IsAnswered, IsCutCredit, IsNewCut, IsClaimCut, IsCutShort, AreAnswered}
 use Rattle.spoil_claims.specs.Claims.{Claims, IsHere, claim_at, kept, last_claim, credits, mark_of, scan_number}
 use Rattle.spoil_claims.specs.ClaimsDesk.{claims_desk}
 use Rattle.spoil_claims.specs.Courses.{Either, row_for, as_credited, scan_of, Follows, Says, ByFailed, Scans, Repeats, ByKept, Begins, Credited, Scanned, GoesOn}
-use Rattle.law_scans.specs.Acceptances.{IsAccepted}
-use Rattle.law_scans.proofs.Accepting.{accepted_by}
+use Rattle.scan_laws.specs.Acceptances.{IsAccepted}
+use Rattle.scan_laws.proofs.Accepting.{accepted_by}
 use Rattle.spoil_claims.specs.Payload.{decoded, spelled}
 use Rattle.spoil_claims.specs.Texts.{said_texts, credited_text, credits_text, wrong_claim_text}
 use Rattle.spoil_claims.specs.View.{said_of, has_failed, rows_of, store_of, Rests}
@@ -39,7 +39,7 @@ use Rattle.spoil_claims.specs.declared.desk.Desk.{Desk}
 use Rattle.spoil_claims.specs.declared.said.Said.{Said}
 use Rattle.spoil_claims.specs.declared.said.Said.TheVariants as said
 use Rattle.spoil_claims.proofs.Keeping.{rows_long, kept_inside, put_claim}
-use Rattle.desk_runs.proofs.Wanting.{no_step, no_say, step_event, ends_at}
+use Rattle.line_extensions.proofs.Wanting.{no_step, no_say, step_event, ends_at}
 
 either_by : {P Q X Y : Type 0} (b : Bool) → (P → X) → (Q → Y) → Either b P Q → Either b X Y
 either_by true f h either = f either

@@ -20,17 +20,17 @@ use Rattle.node_acts.specs.RowList.{row_at, row_of, commits_at, put}
 use Rattle.node_acts.specs.RowLaws.{put_long, put_other}
 use Rattle.script_text.specs.Texts.{text_of}
 use Rattle.line_runs.specs.Deeds.{Reads}
-use Rattle.desk_runs.specs.Deeds.{Done, Skipped, Did}
-use Rattle.desk_runs.specs.Desks.{side_lines}
-use Rattle.desk_runs.specs.Events.{IsLineOf}
-use Rattle.desk_runs.specs.SideDeeds.{SideDeed, Plain, Own, Broken, steps_of}
+use Rattle.line_extensions.specs.Deeds.{Done, Skipped, Did}
+use Rattle.line_extensions.specs.Desks.{side_lines}
+use Rattle.line_extensions.specs.Events.{IsLineOf}
+use Rattle.line_extensions.specs.SideDeeds.{SideDeed, Plain, Own, Broken, steps_of}
 use Rattle.ledger_moves.specs.Moves.{plan}
 use Rattle.ledger_moves.specs.Tariffs.{Tariff}
-use Rattle.law_scans.specs.Acceptances.{EachAccepted, IsScanOf}
-use Rattle.law_scans.proofs.Entries.{accepted_kept, accepted_entry, released_kept, released_entry, each_of, of_each, begin_each, told_each}
-use Rattle.law_scans.proofs.Plans.{plan_brings}
-use Rattle.law_deeds.specs.Deeds.{AllMoved}
-use Rattle.law_deeds.proofs.Going.{all_moved, first_moved, rest_moved, after_both, scanned as accepted_by_scan}
+use Rattle.scan_laws.specs.Acceptances.{EachAccepted, IsScanOf}
+use Rattle.scan_laws.proofs.Entries.{accepted_kept, accepted_entry, released_kept, released_entry, each_of, of_each, begin_each, told_each}
+use Rattle.scan_laws.proofs.Plans.{plan_brings}
+use Rattle.run_laws.specs.Deeds.{AllMoved}
+use Rattle.run_laws.proofs.Going.{all_moved, first_moved, rest_moved, after_both, scanned as accepted_by_scan}
 use Rattle.script_replay.specs.Deeds.{ledger_by, ledger_after, RunWhile, AreUnforged}
 use Rattle.script_replay.specs.Run.{Unforged, Moves}
 use Rattle.spoil_claims.specs.Answers.{IsTold, IsCreditedNow, IsScanned, IsNewTold, IsClaimTold, IsAnswered, IsNewCut, IsClaimCut, IsCutShort, AreAnswered, IsCutCredit}
@@ -38,7 +38,7 @@ use Rattle.spoil_claims.specs.ClaimLines.{IsScan, IsClaimLine}
 use Rattle.spoil_claims.specs.Claims.{Claims, IsHere, claim_at, kept, last_claim, mark_in, mark_of, scan_number}
 use Rattle.spoil_claims.specs.ClaimsDesk.{claims_desk}
 use Rattle.spoil_claims.specs.Courses.{Either, row_for, as_credited}
-use Rattle.law_scans.specs.Acceptances.{IsAccepted}
+use Rattle.scan_laws.specs.Acceptances.{IsAccepted}
 use Rattle.spoil_claims.specs.Holds.{IsCredited, IsClaimed, IsUsedUp, AreBacked}
 use Rattle.spoil_claims.specs.declared.claim.ClaimLine.{ClaimLine}
 use Rattle.spoil_claims.specs.declared.claim.ClaimLine.TheVariants.{Claim, Credits, Reserved}

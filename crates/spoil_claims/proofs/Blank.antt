@@ -2,7 +2,7 @@
 use Rattle.std.proofs.Common.{◌≡◌, ℕ, ◌-◌, ◌<◌, ◌≤◌, List, [], length, replicate, None, sym, ap, ◌∙◌, subst, arith}
 use Rattle.bench_base.specs.Ledger.{Ledger}
 use Rattle.bench_base.proofs.Facts.{some_none}
-use Rattle.law_scans.specs.Acceptances.{EachAccepted}
+use Rattle.scan_laws.specs.Acceptances.{EachAccepted}
 use Rattle.node_acts.specs.RowList.{row_of}
 use Rattle.nv_model.specs.Moments.{Image, Nested, Only}
 use Rattle.nv_model.specs.declared.nv.Nv as nv

@@ -7,11 +7,11 @@ use Rattle.bench_base.specs.Rules.{editions}
 use Rattle.nv_model.specs.declared.nv.Nv as nv
 use Rattle.ledger_terms.specs.Editions.{Editions}
 use Rattle.ledger_moves.specs.Tariffs.{Tariff}
-use Rattle.law_deeds.proofs.Going.{all_moved}
+use Rattle.run_laws.proofs.Going.{all_moved}
 use Rattle.line_runs.specs.Deeds.{Reads}
-use Rattle.desk_runs.specs.Deeds.{Done, Skipped, Did}
-use Rattle.desk_runs.specs.Desks.{side_lines}
-use Rattle.desk_runs.specs.SideDeeds.{SideDeed, Plain, Own, Broken, steps_of}
+use Rattle.line_extensions.specs.Deeds.{Done, Skipped, Did}
+use Rattle.line_extensions.specs.Desks.{side_lines}
+use Rattle.line_extensions.specs.SideDeeds.{SideDeed, Plain, Own, Broken, steps_of}
 use Rattle.script_replay.specs.Deeds.{ledger_by, ledger_after, RunWhile}
 use Rattle.script_replay.specs.Run.{Unforged, Moves}
 use Rattle.script_replay.proofs.Whiles.{AreHistories, first_history, later_histories, first_while, later_while}

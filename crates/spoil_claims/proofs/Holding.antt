@@ -13,8 +13,8 @@ use Rattle.ledger_terms.specs.Editions.{Editions}
 use Rattle.ledger_terms.specs.Further.{postage_of}
 use Rattle.ledger_moves.specs.Histories.{History}
 use Rattle.ledger_moves.specs.Tariffs.{Tariff}
-use Rattle.law_scans.proofs.Marked.{released_postage, one_number}
-use Rattle.law_deeds.proofs.Sums.{sums_alike}
+use Rattle.scan_laws.proofs.Marked.{released_postage, one_number}
+use Rattle.run_laws.proofs.Sums.{sums_alike}
 use Rattle.spoil_claims.specs.Claims.{Claims, claim_at, kept, mark_in, mark_of, postage_in, scan_number, credit_of}
 use Rattle.spoil_claims.specs.Holds.{IsCredited, AreBacked, debit_in, debit_of, ClaimsHold}
 use Rattle.spoil_claims.specs.declared.claim.ClaimRow.{ClaimRow}

@@ -3,14 +3,14 @@ use Rattle.std.proofs.Common.{◌≡◌, inl, inr, ℕ, ◌+◌, List, Option, S
 use Rattle.bench_base.specs.declared.events.Reply.{Reply}
 use Rattle.nv_model.specs.declared.nv.Nv as nv
 use Rattle.node_turns.specs.declared.turn.Turn.{Turn}
-use Rattle.desk_runs.specs.Desks.{World, Does}
-use Rattle.desk_runs.specs.Deeds.{Done}
-use Rattle.desk_runs.specs.Moves.{EachMove}
-use Rattle.desk_runs.specs.SideDeeds.{SideDeed}
-use Rattle.desk_runs.specs.declared.desk.Next.{Next}
-use Rattle.desk_runs.specs.declared.desk.Next.TheVariants.{Say}
-use Rattle.desk_runs.proofs.Moving.{each_move}
-use Rattle.desk_runs.proofs.Stores.{shown_still, shown_commit}
+use Rattle.line_extensions.specs.Desks.{World, Does}
+use Rattle.line_extensions.specs.Deeds.{Done}
+use Rattle.line_extensions.specs.Moves.{EachMove}
+use Rattle.line_extensions.specs.SideDeeds.{SideDeed}
+use Rattle.line_extensions.specs.declared.desk.Next.{Next}
+use Rattle.line_extensions.specs.declared.desk.Next.TheVariants.{Say}
+use Rattle.line_extensions.proofs.Moving.{each_move}
+use Rattle.line_extensions.proofs.Stores.{shown_still, shown_commit}
 use Rattle.spoil_claims.specs.Claims.{kept, last_claim, credits}
 use Rattle.spoil_claims.specs.ClaimsDesk.{claims_desk}
 use Rattle.spoil_claims.specs.Courses.{Either, row_for, as_credited, scan_of, Says, ByFailed, ByKept, Begins, Credited, Scanned, GoesOn}

@@ -2,8 +2,8 @@
 use Rattle.std.proofs.Common.{◌≡◌, List, [], false}
 use Rattle.nv_model.specs.declared.nv.Nv as nv
 use Rattle.line_runs.specs.declared.status.SideStatus.{SideStatus}
-use Rattle.desk_runs.specs.Desks.{world}
-use Rattle.desk_runs.specs.SideDeeds.{SideDeed, steps_of}
+use Rattle.line_extensions.specs.Desks.{world}
+use Rattle.line_extensions.specs.SideDeeds.{SideDeed, steps_of}
 use Rattle.bench.specs.Benches.{Nodes, Stands}
 use Rattle.script_replay.specs.Chains.{SceneOf}
 use Rattle.script_replay.proofs.Nothing.{stands_for_none, bench_fresh}

@@ -11,7 +11,7 @@ use Rattle.script_words.specs.Words.{words_in, hex_word, given_word}
 use Rattle.script_text.proofs.EventWords.{words_spelled}
 use Rattle.script_text.proofs.EventsBack.{one_event_of}
 use Rattle.script_text.proofs.ReadBack.{given_in, given_again, given_is}
-use Rattle.desk_runs.specs.Events.{IsLineOf}
+use Rattle.line_extensions.specs.Events.{IsLineOf}
 use Rattle.spoil_claims.specs.ClaimLines.{IsClaim, IsClaimLine, IsScan, IsScanEvent}
 use Rattle.spoil_claims.specs.declared.claim.ClaimLine.{ClaimLine}
 use Rattle.spoil_claims.specs.declared.claim.ClaimLine.TheVariants.{Claim, Credits, Reserved}

@@ -4,7 +4,7 @@ use Rattle.std.specs.Prelude.{IfSome}
 use Rattle.bench_base.specs.declared.ledger.Entry.TheVariants.{Begin}
 use Rattle.bench_base.specs.Ledger.{Ledger}
 use Rattle.nv_model.specs.Moments.{Nested}
-use Rattle.desk_runs.specs.Deeds.{Done}
+use Rattle.line_extensions.specs.Deeds.{Done}
 use Rattle.ledger_moves.specs.Tariffs.{Tariff}
 use Rattle.script_replay.specs.Deeds.{ledger_after, RunWhile, AreUnforged}
 use Rattle.std.specs.List.{AllByRecursion}
@@ -16,8 +16,8 @@ use Rattle.line_runs.specs.Deeds.{Lines, Reads}
 use Rattle.line_runs.specs.declared.status.Status.TheVariants as status
 use Rattle.line_runs.specs.declared.status.SideStatus.{SideStatus}
 use Rattle.line_runs.specs.declared.status.SideStatus.TheVariants.{Run}
-use Rattle.desk_runs.specs.Desks.{World, world, side_lines}
-use Rattle.desk_runs.specs.SideDeeds.{SideDeed, steps_of}
+use Rattle.line_extensions.specs.Desks.{World, world, side_lines}
+use Rattle.line_extensions.specs.SideDeeds.{SideDeed, steps_of}
 use Rattle.script_replay.specs.Chains.{SceneOf, scene}
 use Rattle.script_replay.specs.Run.{Unforged, Moves, Leaves}
 use Rattle.script_replay.specs.SideLaws.{told}
@@ -28,8 +28,8 @@ use Rattle.spoil_claims.specs.Claims.{Claims}
 use Rattle.spoil_claims.specs.ClaimsDesk.{claims_desk}
 use Rattle.spoil_claims.specs.Ran.{DidClaims}
 use Rattle.spoil_claims.specs.Holds.{AreBacked}
-use Rattle.desk_runs.specs.Stops.{HasBroken}
-use Rattle.desk_runs.proofs.Lines.{AtLast}
+use Rattle.line_extensions.specs.Stops.{HasBroken}
+use Rattle.line_extensions.proofs.Lines.{AtLast}
 use Rattle.spoil_claims.specs.Storage.{with_torn, LeavesStorage}
 use Rattle.spoil_claims.specs.View.{has_failed, rows_of}
 use Rattle.spoil_claims.specs.declared.claim.ClaimLine.{ClaimLine}
@@ -41,7 +41,7 @@ use Rattle.spoil_claims.proofs.Following.{follow_all}
 use Rattle.spoil_claims.proofs.Holding.{claims_hold}
 use Rattle.spoil_claims.proofs.Meanwhile.{all_shown}
 use Rattle.spoil_claims.proofs.Stopping.{shows_now, Goes, BreaksBy, IsCutAfter, Ends, all_end}
-use Rattle.desk_runs.proofs.Wanting.{desk_left}
+use Rattle.line_extensions.proofs.Wanting.{desk_left}
 
 abbrev Read : {N : Type 0} → nv.Ghosts N → Lines (SideDeed ClaimLine)
 Read own = side_lines (claims_desk own)

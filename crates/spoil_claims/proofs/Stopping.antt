@@ -17,20 +17,20 @@ use Rattle.row_node.specs.Shows.{ShowsRows}
 use Rattle.row_store.specs.Commits.{CommitsRow}
 use Rattle.row_store.specs.Seen.{ReadsAs, row_held}
 use Rattle.row_store.proofs.Kept.{filled_of}
-use Rattle.desk_runs.specs.Deeds.{Done, Skipped, Did}
-use Rattle.desk_runs.specs.Desks.{World, world, Asks, Does}
-use Rattle.desk_runs.specs.SideDeeds.{SideDeed, Plain, Own, Broken, steps_in, steps_of}
-use Rattle.desk_runs.specs.Wants.{IsStep}
-use Rattle.desk_runs.specs.declared.desk.Next.{Next}
-use Rattle.desk_runs.specs.declared.desk.Next.TheVariants.{Say, Stop}
-use Rattle.desk_runs.specs.Stops.{HasBroken, RowCommit}
-use Rattle.desk_runs.proofs.Stores as stores
-use Rattle.desk_runs.proofs.Lines.{BrokenLast}
+use Rattle.line_extensions.specs.Deeds.{Done, Skipped, Did}
+use Rattle.line_extensions.specs.Desks.{World, world, Asks, Does}
+use Rattle.line_extensions.specs.SideDeeds.{SideDeed, Plain, Own, Broken, steps_in, steps_of}
+use Rattle.line_extensions.specs.Wants.{IsStep}
+use Rattle.line_extensions.specs.declared.desk.Next.{Next}
+use Rattle.line_extensions.specs.declared.desk.Next.TheVariants.{Say, Stop}
+use Rattle.line_extensions.specs.Stops.{HasBroken, RowCommit}
+use Rattle.line_extensions.proofs.Stores as stores
+use Rattle.line_extensions.proofs.Lines.{BrokenLast}
 use Rattle.spoil_claims.specs.Answers.{IsCutCredit}
 use Rattle.spoil_claims.specs.Claims.{Claims, kept, last_claim, credits}
 use Rattle.spoil_claims.specs.ClaimsDesk.{claims_desk}
 use Rattle.spoil_claims.specs.Courses.{Either, row_for, as_credited, scan_of, Follows, Says, ByFailed, Scans, ByKept, Begins, Credited, Scanned, GoesOn}
-use Rattle.law_scans.specs.Acceptances.{IsAccepted}
+use Rattle.scan_laws.specs.Acceptances.{IsAccepted}
 use Rattle.spoil_claims.specs.Payload.{decoded, spelled}
 use Rattle.spoil_claims.specs.Storage.{IsUntouched}
 use Rattle.spoil_claims.specs.View.{said_of, has_failed, rows_of, storage_of, store_of, view_of, Rests}
@@ -42,7 +42,7 @@ use Rattle.spoil_claims.specs.declared.desk.Desk.{Desk}
 use Rattle.spoil_claims.specs.declared.said.Said.{Said}
 use Rattle.spoil_claims.specs.declared.said.Said.TheVariants as said
 use Rattle.spoil_claims.proofs.Answering.{rests_rows, open_kept, scan_cut}
-use Rattle.desk_runs.proofs.Wanting.{no_step, no_say, ends_at}
+use Rattle.line_extensions.proofs.Wanting.{no_step, no_say, ends_at}
 
 no_stop : (next : Next) → next ≡ Say → next ≡ Stop → ⊥
 no_stop next say stop = no_say next stop (sym say)

@@ -4,12 +4,12 @@ use Rattle.bench_base.specs.declared.events.Event.TheVariants as ev
 use Rattle.indicium.specs.declared.Mark.{Mark}
 use Rattle.node_acts.specs.RowList.{is_worn, put}
 use Rattle.script_text.specs.Texts.{text_of}
-use Rattle.desk_runs.specs.Deeds.{Done, Skipped, Did}
-use Rattle.desk_runs.specs.SideDeeds.{SideDeed, Plain, Own, Broken}
+use Rattle.line_extensions.specs.Deeds.{Done, Skipped, Did}
+use Rattle.line_extensions.specs.SideDeeds.{SideDeed, Plain, Own, Broken}
 use Rattle.spoil_claims.specs.ClaimLines.{IsClaimLine}
 use Rattle.spoil_claims.specs.Claims.{Claims, IsHere, kept, scan_number, last_claim, mark_of, credits}
 use Rattle.spoil_claims.specs.Courses.{Either, IsSame, row_for, as_credited}
-use Rattle.law_scans.specs.Acceptances.{IsAccepted}
+use Rattle.scan_laws.specs.Acceptances.{IsAccepted}
 use Rattle.spoil_claims.specs.Texts.{credited_text, credits_text, wrong_claim_text}
 use Rattle.spoil_claims.specs.declared.claim.ClaimRow.{ClaimRow}
 use Rattle.spoil_claims.specs.declared.claim.ClaimLine.{ClaimLine}

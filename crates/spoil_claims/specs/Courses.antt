@@ -7,9 +7,9 @@ use Rattle.bench_base.specs.declared.refusals.StoreFail.TheVariants as fail
 use Rattle.indicium.specs.declared.Mark.{Mark}
 use Rattle.nv_model.specs.declared.nv.Nv.{Ghosts}
 use Rattle.nv_store.specs.Fails.{ends_failed}
-use Rattle.law_scans.specs.Acceptances.{IsAccepted}
-use Rattle.desk_runs.specs.declared.desk.Next.{Next}
-use Rattle.desk_runs.specs.declared.desk.Next.TheVariants.{Step, Say, Stop}
+use Rattle.scan_laws.specs.Acceptances.{IsAccepted}
+use Rattle.line_extensions.specs.declared.desk.Next.{Next}
+use Rattle.line_extensions.specs.declared.desk.Next.TheVariants.{Step, Say, Stop}
 use Rattle.row_store.specs.Commits.{CommitsRow}
 use Rattle.spoil_claims.specs.Claims.{kept, last_claim, credits, mark_of, scan_number}
 use Rattle.spoil_claims.specs.Payload.{decoded, spelled}

@@ -1,8 +1,8 @@
 -- What is answered to the lines of a run, by the ledger at each of them.
 use Rattle.std.specs.Prelude.{◌≡◌, ℕ, List, [], ◌∷◌}
 use Rattle.bench_base.specs.Ledger.{Ledger, counted}
-use Rattle.desk_runs.specs.Deeds.{Skipped, Did}
-use Rattle.desk_runs.specs.SideDeeds.{SideDeed, Plain, Own, Broken}
+use Rattle.line_extensions.specs.Deeds.{Skipped, Did}
+use Rattle.line_extensions.specs.SideDeeds.{SideDeed, Plain, Own, Broken}
 use Rattle.ledger_moves.specs.Tariffs.{Tariff}
 use Rattle.script_replay.specs.Deeds.{ledger_by, ledger_after, AreUnforged}
 use Rattle.script_replay.specs.Run.{Unforged}

@@ -7,7 +7,7 @@ use Rattle.bench_base.specs.Scans.{accepted}
 use Rattle.indicium.specs.declared.Mark.{Mark}
 use Rattle.node_acts.specs.RowList.{row_of}
 use Rattle.ledger_terms.specs.Further.{postage_of}
-use Rattle.law_scans.specs.Acceptances.{EachAccepted}
+use Rattle.scan_laws.specs.Acceptances.{EachAccepted}
 use Rattle.spoil_claims.specs.Claims.{Claims, IsHere, kept, mark_of, scan_number, credits}
 use Rattle.spoil_claims.specs.declared.claim.ClaimRow.{ClaimRow}
 

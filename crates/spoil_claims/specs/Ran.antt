@@ -4,11 +4,11 @@ use Rattle.bench_base.specs.declared.ledger.Entry.TheVariants.{Begin}
 use Rattle.bench_base.specs.Ledger.{Ledger}
 use Rattle.nv_model.specs.declared.nv.Nv as nv
 use Rattle.line_runs.specs.declared.status.SideStatus.{SideStatus}
-use Rattle.desk_runs.specs.Desks.{World, world}
-use Rattle.desk_runs.specs.Moves.{EachMove}
-use Rattle.desk_runs.specs.SideDeeds.{SideDeed, steps_of}
+use Rattle.line_extensions.specs.Desks.{World, world}
+use Rattle.line_extensions.specs.Moves.{EachMove}
+use Rattle.line_extensions.specs.SideDeeds.{SideDeed, steps_of}
 use Rattle.ledger_moves.specs.Tariffs.{Tariff}
-use Rattle.bench_views.specs.Tariff.{IsOfTexts}
+use Rattle.bench_abstraction.specs.Tariff.{IsOfTexts}
 use Rattle.bench.specs.Benches.{Nodes}
 use Rattle.script_replay.specs.Chains.{SceneOf, scene}
 use Rattle.script_replay.specs.Deeds.{ledger_after, AreUnforged}

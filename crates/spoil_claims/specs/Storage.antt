@@ -6,9 +6,9 @@ use Rattle.nv_model.specs.Moments.{Image}
 use Rattle.nv_model.specs.declared.nv.Nv.{Ghosts}
 use Rattle.line_runs.specs.declared.status.SideStatus.{SideStatus}
 use Rattle.line_runs.specs.declared.status.SideStatus.TheVariants.{Stopped}
-use Rattle.desk_runs.specs.SideDeeds.{SideDeed}
-use Rattle.desk_runs.specs.Stops as stops
-use Rattle.desk_runs.specs.Stops.{HasBroken}
+use Rattle.line_extensions.specs.SideDeeds.{SideDeed}
+use Rattle.line_extensions.specs.Stops as stops
+use Rattle.line_extensions.specs.Stops.{HasBroken}
 use Rattle.node_acts.specs.RowList.{put}
 use Rattle.row_store.specs.Seen.{ReadsAs}
 use Rattle.row_node.specs.Shows.{ShowsRows}

@@ -4,7 +4,7 @@ use Rattle.nv_model.specs.declared.nv.Nv.{Ghosts}
 use Rattle.nv_store.specs.RoomView.{cells_of, kept_in}
 use Rattle.nv_store.specs.declared.room.Room.{Room}
 use Rattle.row_store.specs.Commits.{RowView}
-use Rattle.desk_runs.specs.Stops.{DeskView}
+use Rattle.line_extensions.specs.Stops.{DeskView}
 use Rattle.row_store.specs.Seen.{seen_in}
 use Rattle.spoil_claims.specs.Claims.{Claims}
 use Rattle.spoil_claims.specs.Payload.{decoded}

@@ -2,7 +2,7 @@
 ghost use Rattle.std.specs.Prelude.{◌≡◌, ◌⊎◌, ◌↔◌, ◌-◌, ◌≤◌, Some, None, IfSome, IsOk, IsTrue, length};
 ghost use Rattle.bench_base.specs.Ranges.{IsWholeEvent};
 ghost use Rattle.bench_base.specs.declared.events.Event.TheVariants as ev;
-ghost use Rattle.desk_runs.specs.Wants.{MayAsk, IsStep};
+ghost use Rattle.line_extensions.specs.Wants.{MayAsk, IsStep};
 ghost use Rattle.node_acts.specs.RowList.{put};
 ghost use Rattle.indicium.specs.Marks.{read_mark};
 ghost use Rattle.spoil_claims.specs.ClaimLines.{IsClaim, IsLine};
@@ -22,9 +22,9 @@ use bench_base::bytes::Given;
 use bench_base::events::{Event, Reply};
 use bench_base::numbers::Customer;
 use bench_base::refusals::StoreFail;
-use desk_runs::Next;
+use line_extensions::Next;
 use indicium::{Mark, read_indicium};
-use law_scans::accepted::is_accepted;
+use scan_laws::accepted::is_accepted;
 use nv_model::Nv;
 use row_store::{commit_row, row_in};
 

@@ -1,7 +1,7 @@
 //! Laws of the definitions: each is the contract of a call that does nothing.
 ghost use Rattle.std.specs.Prelude.{◌≡◌, ◌≤◌, ℕ, List, [], None, length, replicate};
 ghost use Rattle.bench_base.specs.Ledger.{Ledger};
-ghost use Rattle.law_scans.specs.Acceptances.{EachAccepted};
+ghost use Rattle.scan_laws.specs.Acceptances.{EachAccepted};
 ghost use Rattle.node_acts.specs.RowList.{row_at};
 ghost use Rattle.spoil_claims.specs.Claims.{Claims, kept};
 ghost use Rattle.row_store.specs.Seen.{ReadsAs};

@@ -11,12 +11,12 @@ use crate::desk::Desk;
 use crate::lines::read_claim_line;
 use crate::said::Said;
 use bench_base::events::{Event, Reply};
-use desk_runs::Next;
+use line_extensions::Next;
 use nv_model::Nv;
 use script_words::Line;
 use std::alloc::{AllocError, Global};
 
-impl<N: Nv> desk_runs::Desk for Desk<N> {
+impl<N: Nv> line_extensions::Desk for Desk<N> {
     type Heard = Reply;
 
     ghost Own = { TheLine };

@@ -3,8 +3,8 @@ ghost use Rattle.std.specs.Prelude.{◌≡◌, ◌≢◌, IfOk, IfErr, MatchResu
 ghost use Rattle.bench_base.specs.declared.sizes.TheConstants.{BLOCK_BYTES, VERIFIER_CELLS, VERIFIER_BYTES};
 ghost use Rattle.nv_store.specs.RoomView.{cells_of};
 ghost use Rattle.nv_store.specs.Turns.{Kept};
-ghost use Rattle.node_seat.specs.Does.{Reads, Spends, SpendsOne, SyncsOnce};
-ghost use Rattle.node_seat.specs.Ends.{end_of_boot};
+ghost use Rattle.node_storage.specs.Does.{Reads, Spends, SpendsOne, SyncsOnce};
+ghost use Rattle.node_storage.specs.Ends.{end_of_boot};
 ghost use Rattle.verifier.specs.Seen.{counting};
 ghost use Rattle.verifier_node.specs.Payloads.{IsDamaged};
 ghost use Rattle.verifier_node.specs.Table.{verifier_table};

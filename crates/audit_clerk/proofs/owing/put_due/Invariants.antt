@@ -1,4 +1,4 @@
-use Rattle.told_bench.specs.Seeing.{IsReady, audit_of}
+use Rattle.trace_bench.specs.Seeing.{IsReady, audit_of}
 use Rattle.audit_clerk.proofs.owing.put_due.Given as goal
 
 abbrev pub invariant-loop-count : goal.invariant-loop-count

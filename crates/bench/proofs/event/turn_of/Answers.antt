@@ -16,25 +16,25 @@ use Rattle.psd_device.specs.Boots.{IsOwn}
 use Rattle.psd_device.specs.declared.node.DeviceNode.{DeviceNode}
 use Rattle.psd_device.specs.NodeView as device_view
 use Rattle.row_node.specs.NodeView as centre_view
-use Rattle.bench_views.specs.declared.taken.Taken.{Taken}
-use Rattle.bench_views.specs.declared.taken.Taken.TheVariants as take
+use Rattle.bench_abstraction.specs.declared.taken.Taken.{Taken}
+use Rattle.bench_abstraction.specs.declared.taken.Taken.TheVariants as take
 use Rattle.centre_ledger.specs.Seen as centre_seen
 use Rattle.host_jobs.specs.Seen as host_seen
 use Rattle.verifier.specs.Seen as verifier_seen
-use Rattle.bench_views.specs.declared.taken.Work.TheVariants as work
-use Rattle.bench_views.specs.Devices as device_kinds
-use Rattle.bench_views.specs.Centre as centres
-use Rattle.bench_views.specs.Verifier as verifiers
-use Rattle.bench_views.specs.Comparing.{compare}
-use Rattle.bench_views.specs.Tariff.{quote}
-use Rattle.bench_views.specs.Taken.{IsPriced}
+use Rattle.bench_abstraction.specs.declared.taken.Work.TheVariants as work
+use Rattle.bench_abstraction.specs.Devices as device_kinds
+use Rattle.bench_abstraction.specs.Centre as centres
+use Rattle.bench_abstraction.specs.Verifier as verifiers
+use Rattle.bench_abstraction.specs.Comparing.{compare}
+use Rattle.bench_abstraction.specs.Tariff.{quote}
+use Rattle.bench_abstraction.specs.Taken.{IsPriced}
 use Rattle.bench.specs.contracts.benches.BenchOverHasNodes.TheImpl.{ghosts}
 use Rattle.bench.specs.Benches.{Nodes, BenchOf, bench_of, devices, centre as centre_of, host as host_of, verifier as verifier_of}
 use Rattle.bench.specs.Calls.{device_event, centre_event, host_event, verifier_event, centre_call_event, host_call_event, verifier_call_event}
 use Rattle.bench.specs.Comparing.{ShowsAt, running_device, running_centre}
 use Rattle.bench.specs.Outside.{Outside, beside}
 use Rattle.bench.specs.Steps.{Steps, ComparesViews, sending}
-use Rattle.bench_views.proofs.OfNone.{quiet_is}
+use Rattle.bench_abstraction.proofs.OfNone.{quiet_is}
 use Rattle.bench.proofs.Answered.{Answers, steps_day, steps_end, steps_none, steps_missing, steps_compared}
 use Rattle.bench.proofs.AskedNodes.{device_asked, centre_asked, host_asked, verifier_asked}
 use Rattle.bench.proofs.Called.{told_event}

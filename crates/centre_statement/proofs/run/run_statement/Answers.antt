@@ -1,4 +1,4 @@
-use Rattle.desk_runs.specs.Desks.{side_lines}
+use Rattle.line_extensions.specs.Desks.{side_lines}
 use Rattle.centre_statement.specs.StatementsDesk.{statements_desk}
 use Rattle.centre_statement.proofs.Running.{said_read, did_statements, never_stops}
 use Rattle.centre_statement.proofs.Stating.{Laws}

@@ -1,5 +1,5 @@
 use Rattle.host_departments.specs.DepartmentsDesk.{departments_desk}
-use Rattle.desk_runs.proofs.Lines.{said_of_lines, nothing_done}
+use Rattle.line_extensions.proofs.Lines.{said_of_lines, nothing_done}
 use Rattle.host_departments.proofs.Running.{did_departments}
 use Rattle.host_departments.proofs.run.run_departments.Goals as goal
 

@@ -1,4 +1,4 @@
-use Rattle.desk_runs.specs.Desks.{side_lines}
+use Rattle.line_extensions.specs.Desks.{side_lines}
 use Rattle.line_runs.proofs.Turns.{said}
 use Rattle.mail_manifest.specs.CheckerDesk.{checker_desk}
 use Rattle.mail_manifest.proofs.Running.{did_manifest, never_stops}

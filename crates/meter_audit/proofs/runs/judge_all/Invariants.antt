@@ -1,4 +1,4 @@
-use Rattle.told_bench.specs.Seeing.{IsReady, audit_of}
+use Rattle.trace_bench.specs.Seeing.{IsReady, audit_of}
 use Rattle.meter_audit.proofs.runs.judge_all.Given as goal
 
 abbrev pub invariant-loop-place : goal.invariant-loop-place

@@ -4,7 +4,7 @@ use Rattle.bench_base.specs.declared.events.Reply.TheVariants as r
 use Rattle.node_acts.specs.declared.act.Act.{Act}
 use Rattle.node_acts.specs.declared.act.Outcome.TheVariants as o
 use Rattle.node_acts.specs.Said.{saying}
-use Rattle.node_seat.proofs.Called.{off_call}
+use Rattle.node_storage.proofs.Called.{off_call}
 use Rattle.node_turns.specs.Calling.{said_outcome}
 use Rattle.node_turns.specs.Turns.{turn_of}
 use Rattle.node_turns.proofs.Saying.{off_called, says_called, told_said}

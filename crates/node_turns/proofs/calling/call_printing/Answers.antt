@@ -7,7 +7,7 @@ use Rattle.node_acts.specs.declared.act.Act.{Act}
 use Rattle.node_acts.specs.declared.act.Outcome.TheVariants as o
 use Rattle.node_acts.specs.declared.said.Said.{Said}
 use Rattle.node_acts.specs.Said.{saying, planned_commit}
-use Rattle.node_seat.proofs.Called.{off_call}
+use Rattle.node_storage.proofs.Called.{off_call}
 use Rattle.node_turns.specs.Printing.{PrintsCall, prints_nothing, prints, fails, unprinted_turn, printer_of}
 use Rattle.node_turns.specs.Calling.{said_outcome}
 use Rattle.node_turns.specs.Turns.{call_turn, turn_of}

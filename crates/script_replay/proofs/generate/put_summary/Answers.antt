@@ -1,6 +1,6 @@
 use Rattle.std.proofs.Common.{◌++◌, ◌∷◌, [], ◌∙◌, ap, List, ℕ, take}
 use Rattle.script_text.specs.Summaries.{summary_text}
-use Rattle.desk_runs.proofs.Texts.{cut_off}
+use Rattle.line_extensions.proofs.Texts.{cut_off}
 use Rattle.script_replay.proofs.generate.put_summary.Goals as goal
 
 pub returns-in-Err-clause-ends : goal.returns-in-Err-clause-ends

@@ -3,7 +3,7 @@ use Rattle.std.specs.Prelude.{IfOk}
 use Rattle.bench_base.specs.declared.events.Event.TheVariants as ends
 use Rattle.bench_base.specs.declared.events.Reply.{Reply}
 use Rattle.script_text.specs.Told.{IsWholeReply}
-use Rattle.desk_runs.specs.Deeds.{line_of}
+use Rattle.line_extensions.specs.Deeds.{line_of}
 use Rattle.line_runs.specs.Turns.{Reported}
 use Rattle.line_runs.specs.declared.status.SideStatus.TheVariants.{Run}
 use Rattle.line_runs.specs.declared.status.Status.TheVariants as status

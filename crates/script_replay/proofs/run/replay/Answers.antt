@@ -1,6 +1,6 @@
 use Rattle.std.proofs.Common.{◌≢◌, List, ℕ, Option, subst}
-use Rattle.desk_runs.specs.Deeds.{Deed}
-use Rattle.desk_runs.specs.Scripts.{script_lines}
+use Rattle.line_extensions.specs.Deeds.{Deed}
+use Rattle.line_extensions.specs.Scripts.{script_lines}
 use Rattle.line_runs.specs.Runs.{Replayed}
 use Rattle.line_runs.specs.declared.status.Status.{Status}
 use Rattle.line_runs.specs.declared.status.Status.TheVariants as status

@@ -5,8 +5,8 @@ use Rattle.script_replay.specs.Chains.{scene_of}
 use Rattle.line_runs.specs.declared.status.Status.TheVariants as status
 use Rattle.script_replay.proofs.Calling.{apart, read_as, ran_replay, ran_generate, ran_nothing, generated_said}
 use Rattle.script_replay.proofs.Completing.{completes, exact_end}
-use Rattle.desk_runs.specs.Deeds.{done_in}
-use Rattle.desk_runs.specs.Scripts.{script_lines}
+use Rattle.line_extensions.specs.Deeds.{done_in}
+use Rattle.line_extensions.specs.Scripts.{script_lines}
 use Rattle.line_runs.proofs.Turns.{said}
 use Rattle.line_runs.specs.declared.status.SideStatus.TheVariants.{Run}
 use Rattle.script_replay.proofs.Running.{did_run}

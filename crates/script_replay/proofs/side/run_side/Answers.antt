@@ -3,7 +3,7 @@ use Rattle.bench.specs.Benches.{bench_of}
 use Rattle.line_runs.proofs.Turns.{said}
 use Rattle.line_runs.specs.declared.status.Status.TheVariants as status
 use Rattle.line_runs.specs.declared.status.SideStatus.TheVariants.{Run}
-use Rattle.desk_runs.specs.Desks.{world, side_lines}
+use Rattle.line_extensions.specs.Desks.{world, side_lines}
 use Rattle.script_replay.specs.Chains.{scene_of}
 use Rattle.script_replay.proofs.Sides.{did_side, never_words}
 use Rattle.script_replay.proofs.side.run_side.Goals as goal

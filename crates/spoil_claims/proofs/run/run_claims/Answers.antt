@@ -1,4 +1,4 @@
-use Rattle.desk_runs.proofs.Lines.{said_of_lines, nothing_done}
+use Rattle.line_extensions.proofs.Lines.{said_of_lines, nothing_done}
 use Rattle.spoil_claims.specs.ClaimsDesk.{claims_desk}
 use Rattle.spoil_claims.proofs.Running.{did_claims}
 use Rattle.spoil_claims.proofs.run.run_claims.Goals as goal

@@ -9,7 +9,7 @@ use Rattle.host_jobs.specs.declared.sizes.TheConstants.{JOB_BYTES, HOST_CELLS, H
 use Rattle.host_node.specs.Payloads as host
 use Rattle.verifier.specs.Payload as verifier
 use Rattle.verifier.proofs.LawActs.{follows}
-use Rattle.bench_views.specs.Centre.{seen_in}
+use Rattle.bench_abstraction.specs.Centre.{seen_in}
 use Rattle.host_jobs.specs.Records as jobs
 use Rattle.verifier.specs.Records as scans
 use Rattle.bench.specs.Places.{IsDeviceOver}

@@ -1,8 +1,8 @@
 use Rattle.std.proofs.Common.{ℤ, refl}
 use Rattle.bench_base.specs.declared.words.Node.TheVariants.{Centre}
 use Rattle.centre_ledger.specs.Seen.{books_in}
-use Rattle.bench_views.specs.declared.calls.CentreCall.TheVariants.{Register, Open, Deposit, Flag, Balance, Take}
-use Rattle.bench_views.specs.Centre.{centre_kind, centre_act, IsBytesCall}
+use Rattle.bench_abstraction.specs.declared.calls.CentreCall.TheVariants.{Register, Open, Deposit, Flag, Balance, Take}
+use Rattle.bench_abstraction.specs.Centre.{centre_kind, centre_act, IsBytesCall}
 use Rattle.bench.specs.Calls.{centre_call_event, IsRangedCall}
 use Rattle.bench.specs.Benches.{Nodes}
 use Rattle.bench.specs.contracts.benches.BenchOverHasNodes.TheImpl.{ghosts}

@@ -4,16 +4,16 @@ use Rattle.bench_base.specs.declared.words.Node.TheVariants.{Device}
 use Rattle.bench_base.specs.declared.events.Reply.TheVariants as r
 use Rattle.bench_base.specs.declared.numbers.DevNo.{DevNo}
 use Rattle.bench_base.specs.Rules.{todays_rules}
-use Rattle.node_seat.specs.declared.node.Node.{Ghosts}
+use Rattle.node_storage.specs.declared.node.Node.{Ghosts}
 use Rattle.psd_state.specs.declared.record.DevRec.{DevRec}
 use Rattle.psd_state.specs.State.{State}
 use Rattle.psd_state.specs.Acts.{ask_act, resend_act, ack_act}
 use Rattle.psd_device.specs.Boots.{IsOwn}
 use Rattle.psd_device.specs.declared.node.DeviceNode.{DeviceNode}
 use Rattle.psd_device.specs.contracts.kind.DeviceNodeNode.TheImpl.{ghosts}
-use Rattle.bench_views.specs.declared.calls.DeviceCall.TheVariants.{Make, Debit, Ask, Resend, Ack, Status, Take}
-use Rattle.bench_views.specs.Devices.{device_kind, device_act, number_in, next_number}
-use Rattle.bench_calls.proofs.Sends.{says_numbered}
+use Rattle.bench_abstraction.specs.declared.calls.DeviceCall.TheVariants.{Make, Debit, Ask, Resend, Ack, Status, Take}
+use Rattle.bench_abstraction.specs.Devices.{device_kind, device_act, number_in, next_number}
+use Rattle.call_handlers.proofs.Sends.{says_numbered}
 use Rattle.bench.specs.Calls.{device_call_event}
 use Rattle.bench.proofs.Called.{AreActs, told_call}
 use Rattle.bench.proofs.DeviceActs as acts

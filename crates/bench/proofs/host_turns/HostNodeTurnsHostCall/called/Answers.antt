@@ -1,8 +1,8 @@
 use Rattle.std.proofs.Common.{ℤ, refl}
 use Rattle.bench_base.specs.declared.words.Node.TheVariants.{Host}
 use Rattle.host_jobs.specs.Seen.{rows_in}
-use Rattle.bench_views.specs.declared.calls.HostCall.TheVariants.{Order, Send, Print, Close, Take}
-use Rattle.bench_views.specs.Host.{host_kind, host_act}
+use Rattle.bench_abstraction.specs.declared.calls.HostCall.TheVariants.{Order, Send, Print, Close, Take}
+use Rattle.bench_abstraction.specs.Host.{host_kind, host_act}
 use Rattle.bench.specs.Calls.{host_call_event, IsRangedJob}
 use Rattle.bench.specs.Benches.{Nodes}
 use Rattle.bench.specs.contracts.benches.BenchOverHasNodes.TheImpl.{ghosts}

@@ -1,7 +1,7 @@
 use Rattle.std.proofs.Common.{ℤ, refl}
 use Rattle.bench_base.specs.declared.words.Node.TheVariants.{Verifier}
-use Rattle.bench_views.specs.declared.calls.VerifierCall.TheVariants.{Trust, Scan}
-use Rattle.bench_views.specs.Verifier.{verifier_kind, verifier_act, IsBytesCall}
+use Rattle.bench_abstraction.specs.declared.calls.VerifierCall.TheVariants.{Trust, Scan}
+use Rattle.bench_abstraction.specs.Verifier.{verifier_kind, verifier_act, IsBytesCall}
 use Rattle.bench.specs.Calls.{verifier_call_event, IsRangedScan}
 use Rattle.bench.specs.Benches.{Nodes}
 use Rattle.bench.specs.contracts.benches.BenchOverHasNodes.TheImpl.{ghosts}

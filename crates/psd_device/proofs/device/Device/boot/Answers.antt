@@ -3,7 +3,7 @@ use Rattle.bench_base.specs.declared.refusals.BootFail.{BootFail}
 use Rattle.bench_base.specs.declared.refusals.BootFail.TheVariants as boot
 use Rattle.nv_model.specs.Moments.{Image}
 use Rattle.psd_device.specs.Boots.{IsDamaged}
-use Rattle.node_seat.proofs.Rests.{image_before}
+use Rattle.node_storage.proofs.Rests.{image_before}
 use Rattle.psd_device.specs.Knows as known
 use Rattle.psd_device.specs.NodeLaws.{not_damaged}
 use Rattle.psd_device.specs.NodeView.{seen_in}

@@ -2,7 +2,7 @@ use Rattle.std.proofs.Common.{inl, rules, true, false, Ok, Err, subst, List, ℕ
 use Rattle.bench_base.specs.declared.sizes.TheConstants.{RECORD_BYTES, SLOTS}
 use Rattle.nv_store.specs.Fills.{Fills, fill, told}
 use Rattle.nv_store.proofs.Turn.{commit_uses}
-use Rattle.node_seat.proofs.Fails.{writes_as}
+use Rattle.node_storage.proofs.Fails.{writes_as}
 use Rattle.psd_device.specs.Knows.{shows}
 use Rattle.psd_device.proofs.Commits.{between_shown, reads_as_spelled}
 use Rattle.psd_device.proofs.node.DeviceNode.commit_record.Goals as goal

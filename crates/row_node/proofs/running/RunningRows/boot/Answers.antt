@@ -1,7 +1,7 @@
 use Rattle.std.proofs.Common.{Err, refl, sym, ◌∙◌, ap, subst}
 use Rattle.bench_base.specs.declared.refusals.BootFail.{BootFail}
 use Rattle.nv_model.specs.Moments.{Image}
-use Rattle.node_seat.proofs.Rests.{image_before}
+use Rattle.node_storage.proofs.Rests.{image_before}
 use Rattle.row_node.specs.Knows as known
 use Rattle.row_node.specs.NodeLaws.{intact}
 use Rattle.row_node.specs.NodeView.{seen_in}

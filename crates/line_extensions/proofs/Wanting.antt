@@ -1,0 +1,55 @@
+-- What a desk wants first and last, and what the end of a run leaves of it.
+use Rattle.std.proofs.Common.{◌≡◌, ◌⊎◌, inl, inr, List, [], ◌∷◌, refl, sym, ap, subst, ◌∙◌}
+use Rattle.bench_base.specs.declared.events.Event.{Event}
+use Rattle.node_turns.specs.declared.turn.Turn.{Turn}
+use Rattle.line_runs.specs.declared.status.Status.TheVariants as status
+use Rattle.line_runs.specs.declared.status.SideStatus.{SideStatus}
+use Rattle.line_runs.specs.declared.status.SideStatus.TheVariants.{Run, Stopped}
+use Rattle.line_extensions.specs.Deeds.{Done}
+use Rattle.line_extensions.specs.Desks.{World, SideLeaves, Asks}
+use Rattle.line_extensions.specs.Wants.{IsStep}
+use Rattle.line_extensions.specs.declared.desk.Desk.{Ghosts}
+use Rattle.line_extensions.specs.declared.desk.Next.{Next}
+use Rattle.line_extensions.specs.declared.desk.Next.TheVariants.{Step, Say, Stop}
+
+-- == what is wanted, by its kind ==
+
+abbrev pub IsSay : Next → Type 0
+IsSay (Step e) = ⊥
+IsSay Say = Unit {0}
+IsSay Stop = ⊥
+
+pub no_step : (n : Next) → (n ≡ Say) ⊎ (n ≡ Stop) → IsStep n → ⊥
+no_step n (inl say) step = subst (λ (x : Next). IsStep x) say step
+no_step n (inr stop) step = subst (λ (x : Next). IsStep x) stop step
+
+pub no_say : (n : Next) → n ≡ Stop → Say ≡ n → ⊥
+no_say n stop say = subst (λ (x : Next). IsSay x) (say ∙ stop) tt
+
+-- the event of a step
+abbrev pub step_event : Event → Next → Event
+step_event z (Step e) = e
+step_event z Say = z
+step_event z Stop = z
+
+-- what is wanted first is wanted last where it is no step
+pub ends_at : {B K T : Type 0} (k : Ghosts K T) (Steps : B → B → Done → Turn → Type 0) (old new : World B K) (next : Next) (steps : List Done) (last : Next) → Asks k Steps old new next steps last
+    → (next ≡ Say) ⊎ (next ≡ Stop) → (steps ≡ []) × (last ≡ next) × (new ≡ old)
+ends_at k Steps old new next [] last asks none = (refl, asks.0, asks.1)
+ends_at k Steps old new next (d ∷ rest) last asks none = absurd (no_step next none (subst (λ (x : Next). IsStep x) (sym asks.2.asks) tt))
+
+-- == the end of a run ==
+
+-- it leaves the desk as the deeds left it
+pub desk_left : {B K : Type 0} (Wants : B → B → Type 0) (s : SideStatus) (behind now : World B K) → SideLeaves Wants s behind now → now.desk ≡ behind.desk
+desk_left Wants (Run status.Done) behind now is = ap (λ w. w.desk) is
+desk_left Wants (Run status.Words) behind now is = ap (λ w. w.desk) is
+desk_left Wants (Run (status.Script line)) behind now is = ap (λ w. w.desk) is
+desk_left Wants (Run status.ReadFault) behind now is = ap (λ w. w.desk) is
+desk_left Wants (Run status.WriteFault) behind now is = ap (λ w. w.desk) is
+desk_left Wants (Run status.Memory) behind now is = is.0
+desk_left Wants (Run status.TooLong) behind now is = ap (λ w. w.desk) is
+desk_left Wants Stopped behind now is = ap (λ w. w.desk) is
+
+pub no_words : Run status.Words ≡ Stopped → ⊥
+no_words is = cc

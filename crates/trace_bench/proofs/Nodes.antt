@@ -1,0 +1,162 @@
+-- What is heard of an event of a node, by the ledger.
+use Rattle.std.proofs.Common.{◌≡◌, ◌≢◌, ℕ, ℤ, List, ◌++◌, Option, Some, None, Result, Ok, Err, append-nil, refl, sym, ◌∙◌, ap, subst}
+use Rattle.std.specs.Prelude.{slice_set}
+use Rattle.bench_base.specs.declared.words.Node.{Node}
+use Rattle.bench_base.specs.declared.words.Node.TheVariants.{Device, Centre, Host, Verifier}
+use Rattle.bench_base.specs.declared.events.Event.{Event}
+use Rattle.bench_base.specs.declared.events.Event.TheVariants as ev
+use Rattle.bench_base.specs.declared.events.Reply.{Reply}
+use Rattle.bench_base.specs.Ranges.{IsWholeEvent}
+use Rattle.bench_base.specs.Rules.{editions}
+use Rattle.bench_base.specs.Ledger.{Ledger, day_in}
+use Rattle.node_acts.specs.declared.asked.Asked.{Asked}
+use Rattle.node_acts.specs.Kinds.{view_in}
+use Rattle.psd_state.specs.State.{State}
+use Rattle.centre_ledger.specs.declared.rows.Row.{Row}
+use Rattle.host_jobs.specs.declared.rows.JobRow.{JobRow}
+use Rattle.verifier.specs.declared.acts.Change.{Change}
+use Rattle.host_rates.specs.Laws.{KeptPrices}
+use Rattle.ledger_moves.specs.Tariffs.{Tariff}
+use Rattle.ledger_moves.specs.Histories.{History, Unforged}
+use Rattle.bench_abstraction.specs.declared.calls.DeviceCall.{DeviceCall}
+use Rattle.bench_abstraction.specs.declared.calls.CentreCall.{CentreCall}
+use Rattle.bench_abstraction.specs.declared.calls.HostCall.{HostCall}
+use Rattle.bench_abstraction.specs.declared.calls.VerifierCall.{VerifierCall}
+use Rattle.bench_abstraction.specs.declared.taken.Taken.{Taken}
+use Rattle.bench_abstraction.specs.declared.taken.Taken.TheVariants as take
+use Rattle.bench_abstraction.specs.declared.taken.Work.{Work}
+use Rattle.bench_abstraction.specs.declared.taken.Work.TheVariants as work
+use Rattle.bench_abstraction.specs.Centre as centres
+use Rattle.bench_abstraction.specs.Verifier as verifiers
+use Rattle.bench_abstraction.specs.Follows.{OthersStay, Rests}
+use Rattle.bench_abstraction.specs.Kinds.{bench_kinds}
+use Rattle.bench_abstraction.specs.Messages.{sent_in}
+use Rattle.bench_abstraction.specs.Tariff.{IsOfTexts, Quote, quote, quote_in}
+use Rattle.bench_abstraction.specs.Taken.{taken}
+use Rattle.trace_nodes.specs.declared.giving.GaveOut.{GaveOut}
+use Rattle.trace_nodes.specs.declared.printing.Told.{Told}
+use Rattle.trace_nodes.specs.declared.seat.Seat.{Seat}
+use Rattle.trace_views.specs.Verdicts.{listed}
+use Rattle.trace_device.specs.declared.record.DeviceRecord.{DeviceRecord}
+use Rattle.trace_centre.specs.declared.record.CentreRecord.{CentreRecord}
+use Rattle.trace_host.specs.declared.record.HostRecord.{HostRecord}
+use Rattle.trace_verifier.specs.declared.record.ScanRecord.{ScanRecord}
+use Rattle.trace_device.specs.Records as device
+use Rattle.trace_device.specs.Verdicts as device_verdicts
+use Rattle.trace_centre.specs.Cells as centre
+use Rattle.trace_centre.specs.Verdicts as centre_verdicts
+use Rattle.trace_host.specs.Cells as host
+use Rattle.trace_host.specs.Verdicts as host_verdicts
+use Rattle.trace_verifier.specs.Cells as verifier
+use Rattle.trace_verifier.specs.Verdicts as verifier_verdicts
+use Rattle.trace_bench.specs.Judging.{IsHeard}
+use Rattle.trace_bench.specs.Placed.{DeviceJudged}
+use Rattle.bench_abstraction.proofs.Events.{same_work}
+use Rattle.bench_abstraction.proofs.RatesPlans.{taken_by}
+use Rattle.trace_bench.specs.Plainly.{heard_of, heard_of_device, heard_of_host}
+use Rattle.trace_bench.specs.Seeing.{Audit, SeesRun, sending}
+use Rattle.trace_bench.proofs.Lifting.{TakesNone, takes_none, nothing_taken, lift_told, lift_untold, lift_adds}
+use Rattle.trace_bench.proofs.Seen.{sends_nothing, sees_device, sees_centre, sees_host, sees_verifier}
+
+-- what is taken by what the auditor has is taken by the ledger
+pub taken_there : (τ : Tariff) → KeptPrices → IsOfTexts τ → (H : Ledger) (a : Audit) (e : Event) (x : Taken) → SeesRun a H → taken a.messages (quote a.rates) e ≡ Some x → taken (sent_in H) (quote_in τ H) e ≡ Some x
+taken_there τ prices texts H a e x sees is = taken_by τ prices texts H a.messages a.rates e x sees.day.messages sees.day.rates is
+
+-- an event that is for a node reads no rates
+pub not_for_rates : (pool : List (List ℕ)) (q : Quote) (e : Event) (x : Work) → taken pool q e ≡ Some (take.Work x) → x ≢ work.Rates → e ≢ ev.Rates
+not_for_rates pool q e x is not same = let it : Some (take.Work work.Rates) ≡ Some (take.Work x) = sym (ap (taken pool q) same) ∙ is in not (sym (same_work it))
+
+module _ (old : Audit) (e : Event) (prices : KeptPrices) (whole : IsWholeEvent e) (today : ℤ) (dated : old.day ≡ Some today) (left line : List ℕ)
+    (τ : Tariff) (H : Ledger) (texts : IsOfTexts τ) (history : History τ editions H) (unforged : Unforged e H) (sees : SeesRun old H) where
+  day_is : day_in H ≡ Some today
+  day_is = sym sees.day.day ∙ dated
+
+  -- nothing was changed
+  stays : (m : Node) → OthersStay bench_kinds m H H
+  stays m = record { devices = λ i differs. refl; centre = λ differs. refl; host = λ differs. refl; verifier = λ differs. refl }
+
+  rests : Rests H H
+  rests = record { day = refl; rates = refl }
+
+  unsent : sent_in H ≡ sent_in H ++ listed None
+  unsent = sym (append-nil (sent_in H))
+
+  as_it_was : (a : Audit) → SeesRun (sending None a) H → SeesRun a H
+  as_it_was a = subst (λ (b : Audit). SeesRun b H) (sends_nothing a)
+
+  pub hears_device : (d : ℕ) (asked : Asked DeviceCall) → taken old.messages (quote old.rates) e ≡ Some (take.Work (work.Device d asked)) → (devices : List (Seat DeviceRecord State)) (result : Result GaveOut Reply)
+      → DeviceJudged d today asked line old.devices devices result → IsHeard τ H e left line (record old { devices = devices }) (heard_of_device result)
+  hears_device d asked is devices result judged =
+      subst (λ (l : List (Seat DeviceRecord State)). IsHeard τ H e left line (record old { devices = l }) (heard_of_device result)) (sym judged.set)
+      (by result (judged.by_ledger τ H e history unforged day_is whole (taken_there τ prices texts H old e (take.Work (work.Device d asked)) sees is) tt seen))
+    where
+      none : TakesNone e (day_in H) left
+      none = takes_none e (day_in H) left (not_for_rates old.messages (quote old.rates) e (work.Device d asked) is (λ same. cc))
+
+      seen : view_in (Device d) (bench_kinds.devices.seen d) H ≡ device.view_of judged.before
+      seen = ap (λ (k : ℕ). view_in (Device k) (bench_kinds.devices.seen k) H) judged.is_device ∙ sym (sees.devices judged.place judged.before judged.was)
+
+      now : Audit
+      now = record old { devices = slice_set old.devices judged.place judged.now }
+
+      by : (r : Result GaveOut Reply) → device_verdicts.MovesBy τ H e d line (device.view_of judged.now) r → IsHeard τ H e left line now (heard_of_device r)
+      by (Ok gave) so = (
+        so.0,
+        lift_told τ H e left line none (sending gave.sent now) so.0 so.1.text so.1.whole so.1.moves
+            (sees_device old H _ sees gave.sent so.1.rests so.1.sends d judged.place judged.before judged.now judged.is_device judged.was so.1.here so.1.others),
+        nothing_taken τ H e left line none so.0,
+        lift_adds τ H e left line none gave.sent gave.released so.0 so.1.adds,
+      )
+      by (Err due) never = lift_untold τ H e left line none now due never.due_is never.never
+          (as_it_was now (sees_device old H H sees None rests unsent d judged.place judged.before judged.now judged.is_device judged.was (sym never.rests) (stays (Device d))))
+
+  pub hears_centre : (asked : Asked CentreCall) → taken old.messages (quote old.rates) e ≡ Some (take.Work (work.Centre asked)) → centres.AreBytes asked → (now : Seat CentreRecord Row) (result : Result (Option (List ℕ)) Reply)
+      → centre_verdicts.IsByLedger today asked line (centre.view_of old.centre) (centre.view_of now) result → IsHeard τ H e left line (record old { centre = now }) (heard_of result)
+  hears_centre asked is bytes now result by_ledger = by result (by_ledger τ H e history unforged day_is whole (taken_there τ prices texts H old e (take.Work (work.Centre asked)) sees is) bytes (sym sees.centre))
+    where
+      none : TakesNone e (day_in H) left
+      none = takes_none e (day_in H) left (not_for_rates old.messages (quote old.rates) e (work.Centre asked) is (λ same. cc))
+
+      by : (r : Result (Option (List ℕ)) Reply) → centre_verdicts.MovesBy τ H e line (centre.view_of now) r → IsHeard τ H e left line (record old { centre = now }) (heard_of r)
+      by (Ok sent) so = (
+        so.0,
+        lift_told τ H e left line none (sending sent (record old { centre = now })) so.0 so.1.text so.1.whole so.1.moves (sees_centre old H _ sees sent so.1.rests so.1.sends now so.1.here so.1.others),
+        nothing_taken τ H e left line none so.0,
+        lift_adds τ H e left line none sent None so.0 so.1.adds,
+      )
+      by (Err due) never = lift_untold τ H e left line none (record old { centre = now }) due never.due_is never.never
+          (as_it_was (record old { centre = now }) (sees_centre old H H sees None rests unsent now (sym never.rests) (stays Centre)))
+
+  pub hears_host : (asked : Asked HostCall) → taken old.messages (quote old.rates) e ≡ Some (take.Work (work.Host asked)) → (now : Seat HostRecord JobRow) (result : Result Told Reply)
+      → host_verdicts.IsByLedger today asked line (host.view_of old.host) (host.view_of now) result → IsHeard τ H e left line (record old { host = now }) (heard_of_host result)
+  hears_host asked is now result by_ledger = by result (by_ledger τ H e history unforged day_is whole (taken_there τ prices texts H old e (take.Work (work.Host asked)) sees is) tt (sym sees.host))
+    where
+      none : TakesNone e (day_in H) left
+      none = takes_none e (day_in H) left (not_for_rates old.messages (quote old.rates) e (work.Host asked) is (λ same. cc))
+
+      by : (r : Result Told Reply) → host_verdicts.MovesBy τ H e line (host.view_of now) r → IsHeard τ H e left line (record old { host = now }) (heard_of_host r)
+      by (Ok told) so = (
+        so.0,
+        lift_told τ H e left line none (sending told.sent (record old { host = now })) so.0 so.1.text so.1.whole so.1.moves (sees_host old H _ sees told.sent so.1.rests so.1.sends now so.1.here so.1.others),
+        nothing_taken τ H e left line none so.0,
+        lift_adds τ H e left line none told.sent None so.0 so.1.adds,
+      )
+      by (Err due) never = lift_untold τ H e left line none (record old { host = now }) due never.due_is never.never
+          (as_it_was (record old { host = now }) (sees_host old H H sees None rests unsent now (sym never.rests) (stays Host)))
+
+  pub hears_verifier : (asked : Asked VerifierCall) → taken old.messages (quote old.rates) e ≡ Some (take.Work (work.Verifier asked)) → verifiers.AreBytes asked → (now : Seat ScanRecord Change) (result : Result (Option (List ℕ)) Reply)
+      → verifier_verdicts.IsByLedger today asked line (verifier.view_of old.verifier) (verifier.view_of now) result → IsHeard τ H e left line (record old { verifier = now }) (heard_of result)
+  hears_verifier asked is bytes now result by_ledger = by result (by_ledger τ H e history unforged day_is whole (taken_there τ prices texts H old e (take.Work (work.Verifier asked)) sees is) bytes (sym sees.verifier))
+    where
+      none : TakesNone e (day_in H) left
+      none = takes_none e (day_in H) left (not_for_rates old.messages (quote old.rates) e (work.Verifier asked) is (λ same. cc))
+
+      by : (r : Result (Option (List ℕ)) Reply) → verifier_verdicts.MovesBy τ H e line (verifier.view_of now) r → IsHeard τ H e left line (record old { verifier = now }) (heard_of r)
+      by (Ok sent) so = (
+        so.0,
+        lift_told τ H e left line none (sending sent (record old { verifier = now })) so.0 so.1.text so.1.whole so.1.moves (sees_verifier old H _ sees sent so.1.rests so.1.sends now so.1.here so.1.others),
+        nothing_taken τ H e left line none so.0,
+        lift_adds τ H e left line none sent None so.0 so.1.adds,
+      )
+      by (Err due) never = lift_untold τ H e left line none (record old { verifier = now }) due never.due_is never.never
+          (as_it_was (record old { verifier = now }) (sees_verifier old H H sees None rests unsent now (sym never.rests) (stays Verifier)))

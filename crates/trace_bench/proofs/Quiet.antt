@@ -1,0 +1,77 @@
+-- An event whose plan commits nothing, and neither brings a node on nor prints, is answered by its plan alone.
+use Rattle.std.proofs.Common.{◌≡◌, ◌≢◌, inl, inr, ℕ, List, [], Option, Some, None, Result, Ok, Err, refl, sym, ◌∙◌, ap, subst}
+use Rattle.bench_base.specs.declared.words.Node.{Node}
+use Rattle.bench_base.specs.declared.events.Event.{Event}
+use Rattle.bench_base.specs.declared.events.Reply.{Reply}
+use Rattle.bench_base.specs.declared.events.Reply.TheVariants as r
+use Rattle.bench_base.specs.Plans.{Plan}
+use Rattle.bench_base.specs.Replies.{Told, Did, Refused, Armed, CameOn, WentOff, LostPower, Faulted, WasDamaged, PrinterFailed, RatesFailed, told_by}
+use Rattle.bench_base.specs.Rules.{todays_rules}
+use Rattle.bench_base.specs.Ranges.{IsWholeEvent}
+use Rattle.bench_base.specs.Ledger.{Ledger, day_in}
+use Rattle.node_acts.specs.Plans.{Fails, FailsTold, after}
+use Rattle.ledger_moves.specs.Tariffs.{Tariff}
+use Rattle.ledger_moves.specs.Moves.{Moves, FailsToRead, plan, entries}
+use Rattle.script_text.specs.Texts.{text_of}
+use Rattle.trace_bench.specs.declared.judging.Heard.{Heard}
+use Rattle.trace_bench.specs.declared.judging.Finding.{Finding}
+use Rattle.trace_bench.specs.declared.judging.Finding.TheVariants.{Wrong, Memory}
+use Rattle.trace_views.specs.Verdicts.{Adds}
+use Rattle.trace_bench.specs.Judging.{IsHeard, ledger_with}
+use Rattle.trace_bench.specs.Plainly.{IsPlainly}
+use Rattle.trace_bench.specs.Seeing.{Audit, SeesRun, sending}
+use Rattle.trace_bench.proofs.Lifting.{TakesNone, nothing_taken, lift_told, lift_untold, lift_adds}
+use Rattle.trace_bench.proofs.Seen.{sends_nothing}
+
+-- the plan tells of no failure that may come, nor of a print
+pub record IsSilent (p : Plan) : Type 0 where
+  pub silent : p.commit ≡ None
+  pub no_up : (m : Node) (k : ℕ) → p.reply ≢ r.Up m k
+  pub no_print : (j : ℕ) → p.reply ≢ r.Printed j
+  pub adds : (H : Ledger) → Adds None None H (after p p.reply H)
+
+none_some : {X P : Type 0} {o : Option X} (x : X) → o ≡ None → o ≡ Some x → P
+none_some x none some = let wrong : None ≡ Some x = sym none ∙ some in cc
+
+module _ (p : Plan) (quiet : IsSilent p) where
+  pub never_fails : (t : Told) → FailsTold p t → ⊥
+  never_fails Did fails = fails
+  never_fails Refused fails = fails
+  never_fails (Armed m) fails = fails
+  never_fails (CameOn m k) fails = fails
+  never_fails (WentOff m) fails = fails
+  never_fails (LostPower m) (inl up) = quiet.no_up m up.0 up.1
+  never_fails (LostPower m) (inr made) = none_some made.0 quiet.silent made.1
+  never_fails (Faulted m) (inl up) = quiet.no_up m up.0 up.1
+  never_fails (Faulted m) (inr made) = none_some made.0 quiet.silent made.1
+  never_fails (WasDamaged m) fails = fails
+  never_fails (PrinterFailed j) fails = quiet.no_print j fails
+  never_fails RatesFailed fails = fails
+
+module _ (τ : Tariff) (H : Ledger) (e : Event) (p : Plan) (plan_is : plan τ todays_rules H e [] ≡ p) (quiet : IsSilent p) (reads : (reply : Reply) → FailsToRead e reply (day_in H) → ⊥) where
+  reply_is : (plan τ todays_rules H e []).reply ≡ p.reply
+  reply_is = ap (λ (q : Plan). q.reply) plan_is
+
+  pub only : (reply : Reply) → Moves τ todays_rules H e [] reply → reply ≡ p.reply
+  only reply (whole, inl is) = is ∙ reply_is
+  only reply (whole, inr (inl up)) = absurd (quiet.no_up up.node up.count (sym reply_is ∙ up.answer_is))
+  only reply (whole, inr (inr (inl fails))) = absurd (never_fails p quiet (told_by reply) (subst (λ (q : Plan). Fails q reply) plan_is fails))
+  only reply (whole, inr (inr (inr reading))) = absurd (reads reply reading)
+
+  -- what is heard of it
+  pub heard_plainly : (left line : List ℕ) → TakesNone e (day_in H) left → IsWholeEvent e → (old new : Audit) (result : Result Heard Finding) → IsPlainly p.reply line result → SeesRun old H
+      → ((heard : Heard) → result ≡ Ok heard → SeesRun new (after p p.reply H)) → ((due : Reply) → result ≡ Err (Wrong due) → new ≡ old) → IsHeard τ H e left line new result
+  heard_plainly left line none whole old new (Ok heard) plainly sees after_it keeps =
+      let nothing = plainly.2 in
+      let entries_are : entries τ todays_rules H e [] p.reply ≡ after p p.reply H = ap (λ (q : Plan). after q p.reply H) plan_is in
+      let unsent : sending heard.sent new ≡ new = ap (λ (h : Heard). sending h.sent new) nothing ∙ sends_nothing new in (
+        p.reply,
+        lift_told τ H e left line none (sending heard.sent new) p.reply plainly.0 plainly.1 (whole, inl (sym reply_is))
+            (subst (λ (a : Audit). SeesRun a (entries τ todays_rules H e [] p.reply)) (sym unsent) (subst (λ (K : Ledger). SeesRun new K) (sym entries_are) (after_it heard refl))),
+        ap (λ (h : Heard). h.taken) nothing ∙ nothing_taken τ H e left line none p.reply,
+        subst (λ (h : Heard). Adds h.sent h.released H (ledger_with τ H e left line p.reply)) (sym nothing) (lift_adds τ H e left line none None None p.reply (subst (λ (K : Ledger). Adds None None H K) (sym entries_are) (quiet.adds H))),
+      )
+  heard_plainly left line none whole old new (Err (Wrong due)) plainly sees after_it keeps =
+      lift_untold τ H e left line none new due (plainly.0 ∙ sym reply_is) (λ reply moves is. plainly.1 (ap text_of (sym (only reply moves)) ∙ is))
+      (subst (λ (a : Audit). SeesRun a H) (sym (keeps due refl)) sees)
+  heard_plainly left line none whole old new (Err Memory) plainly sees after_it keeps = tt

@@ -1,0 +1,46 @@
+-- What is judged of a line, once its message is sent.
+use Rattle.std.proofs.Common.{ℕ, List, Result, Ok, Err, sym, ◌∙◌, subst}
+use Rattle.bench_base.specs.declared.events.Event.{Event}
+use Rattle.bench_base.specs.declared.events.Reply.{Reply}
+use Rattle.bench_base.specs.Ledger.{Ledger}
+use Rattle.ledger_moves.specs.Tariffs.{Tariff}
+use Rattle.trace_bench.specs.declared.judging.Heard.{Heard}
+use Rattle.trace_bench.specs.declared.judging.Finding.{Finding}
+use Rattle.trace_bench.specs.declared.judging.Finding.TheVariants.{Wrong, Memory}
+use Rattle.trace_bench.specs.Judging.{ledger_with, IsUntold, IsUntoldBy, IsHeard, IsJudged}
+use Rattle.trace_bench.specs.Plainly.{SendsHeard}
+use Rattle.trace_bench.specs.declared.known.Known.{Known}
+use Rattle.trace_bench.specs.Known.{Knows}
+use Rattle.trace_bench.specs.Seeing.{Audit, Sees, SeesRun, sending}
+use Rattle.trace_bench.proofs.Keeping.{knows_more}
+
+-- what is kept is no part of the run
+pub other_known : (a : Audit) (k : Known) (L : Ledger) → SeesRun a L → SeesRun (record a { known = k }) L
+other_known a k L sees = record { day = sees.day; devices = sees.devices; centre = sees.centre; host = sees.host; verifier = sees.verifier }
+
+module _ (τ : Tariff) (H : Ledger) (e : Event) (left line : List ℕ) where
+  pub sent_judged : (heard : Heard) (before now : Audit) (result : Result ℕ Finding) → SendsHeard heard before now result → Knows before.known H → IsHeard τ H e left line before (Ok heard)
+      → IsJudged τ H e left line now result
+  sent_judged heard before now (Ok taken) sent knows of = (
+    of.0,
+    record {
+      text = of.1.text;
+      whole = of.1.whole;
+      moves = of.1.moves;
+      sees = subst (λ (a : Audit). Sees a (ledger_with τ H e left line of.0)) (sym sent.0) (record {
+        run = other_known (sending heard.sent before) now.known (ledger_with τ H e left line of.0) of.1.sees;
+        known = knows_more heard.sent heard.released before.known now.known H (ledger_with τ H e left line of.0) sent.1 knows of.3;
+      });
+    },
+    sent.2 ∙ of.2,
+  )
+  sent_judged heard before now (Err (Wrong due)) sent knows of = absurd sent
+  sent_judged heard before now (Err Memory) sent knows of = tt
+
+  -- a line that is wrong, and what is kept
+  untold_known : (a : Audit) (due : Reply) → Knows a.known H → IsUntoldBy τ H e left line (SeesRun a) due → IsUntold τ H e left line a due
+  untold_known a due knows of = record { due_is = of.due_is; none = of.none; rests = record { run = of.rests; known = knows } }
+
+  pub heard_wrong : (a : Audit) (finding : Finding) → Knows a.known H → IsHeard τ H e left line a (Err finding) → IsJudged τ H e left line a (Err finding)
+  heard_wrong a (Wrong due) knows of = untold_known a due knows of
+  heard_wrong a Memory knows of = tt

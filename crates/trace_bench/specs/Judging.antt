@@ -1,0 +1,77 @@
+-- What the line of the report tells of an event, by the ledger.
+use Rattle.std.specs.Prelude.{◌≡◌, ◌≢◌, ℕ, ℤ, List, [], length, take, not, ◌&&◌, is_some, if◌then◌else◌, Option, Result, Ok, Err}
+use Rattle.bench_base.specs.declared.events.Event.{Event}
+use Rattle.bench_base.specs.declared.events.Reply.{Reply}
+use Rattle.bench_base.specs.Events.{takes_rates}
+use Rattle.bench_base.specs.Replies.{Told, Did, told_by, fails_to_read}
+use Rattle.bench_base.specs.Rules.{todays_rules, editions}
+use Rattle.bench_base.specs.Ledger.{Ledger, day_in}
+use Rattle.ledger_moves.specs.Tariffs.{Tariff}
+use Rattle.ledger_moves.specs.Moves.{Moves, answer, entries}
+use Rattle.ledger_moves.specs.Histories.{History, Unforged}
+use Rattle.bench_abstraction.specs.Tariff.{IsOfTexts}
+use Rattle.script_text.specs.Texts.{text_of}
+use Rattle.script_text.specs.Told.{IsWholeReply}
+use Rattle.trace_bench.specs.declared.judging.Heard.{Heard}
+use Rattle.trace_bench.specs.declared.judging.Finding.{Finding}
+use Rattle.trace_bench.specs.declared.judging.Finding.TheVariants.{Wrong, Memory}
+use Rattle.trace_views.specs.Verdicts.{Adds}
+use Rattle.trace_bench.specs.Seeing.{Audit, Sees, SeesRun, sending}
+
+-- what an event takes of the rates that are left: a `rates` on a day at most 65,537 bytes, unless they can't be read; any other nothing
+abbrev pub taken_by : Event → Option ℤ → Told → List ℕ → List ℕ
+taken_by e today told left = if takes_rates e && (is_some today && not (fails_to_read told)) then take 65537 left else []
+
+-- At ledger H, where these rates are left, the report has this line for this event.
+module _ (τ : Tariff) (H : Ledger) (e : Event) (left line : List ℕ) where
+  -- what the event takes where it gets this reply
+  abbrev pub text_with : Reply → List ℕ
+  text_with reply = taken_by e (day_in H) (told_by reply) left
+
+  -- the event may get this reply there
+  abbrev pub MayGet : Reply → Type 0
+  MayGet reply = Moves τ todays_rules H e (text_with reply) reply
+
+  -- the ledger that it leaves then
+  abbrev pub ledger_with : Reply → Ledger
+  ledger_with reply = entries τ todays_rules H e (text_with reply) reply
+
+  -- the line is that of this reply, whose numbers are in range and which the event may get, and P holds of the ledger that it leaves
+  pub record IsToldBy (P : Ledger → Type 0) (reply : Reply) : Type 0 where
+    pub text : text_of reply ≡ line
+    pub whole : IsWholeReply reply
+    pub moves : MayGet reply
+    pub sees : P (ledger_with reply)
+
+  -- the line is that of no reply which the event may get; this was the answer, and P holds of this ledger
+  pub record IsUntoldBy (P : Ledger → Type 0) (due : Reply) : Type 0 where
+    pub due_is : due ≡ answer τ todays_rules H e (taken_by e (day_in H) Did left)
+    pub none : (reply : Reply) → MayGet reply → text_of reply ≢ line
+    pub rests : P H
+
+  -- the auditor has what the ledger shows then, or what it had
+  abbrev pub IsTold : Audit → Reply → Type 0
+  IsTold a reply = IsToldBy (Sees a) reply
+
+  abbrev pub IsUntold : Audit → Reply → Type 0
+  IsUntold a due = IsUntoldBy (Sees a) due
+
+  -- what is judged of the line: how much of the rates was taken, what is sent next, and what is added to what was sent and released in all runs
+  abbrev pub IsHeard : Audit → Result Heard Finding → Type 0
+  IsHeard a (Ok heard) = (reply : Reply) × IsToldBy (SeesRun (sending heard.sent a)) reply × (heard.taken ≡ length (text_with reply)) × Adds heard.sent heard.released H (ledger_with reply)
+  IsHeard a (Err (Wrong due)) = IsUntoldBy (SeesRun a) due
+  IsHeard a (Err Memory) = Unit {0}
+
+  -- the same, where the message was sent
+  abbrev pub IsJudged : Audit → Result ℕ Finding → Type 0
+  IsJudged a (Ok taken) = (reply : Reply) × IsTold a reply × (taken ≡ length (text_with reply))
+  IsJudged a (Err (Wrong due)) = IsUntold a due
+  IsJudged a (Err Memory) = Unit {0}
+
+-- P at each history that the auditor has, at which the event brings nothing forged, by a tariff of texts
+abbrev pub AtEach : Audit → Event → (Tariff → Ledger → Type 0) → Type 0
+AtEach a e P = (τ : Tariff) (H : Ledger) → IsOfTexts τ → History τ editions H → Unforged e H → Sees a H → P τ H
+
+-- the same, whatever is kept of all runs
+abbrev pub AtEachRun : Audit → Event → (Tariff → Ledger → Type 0) → Type 0
+AtEachRun a e P = (τ : Tariff) (H : Ledger) → IsOfTexts τ → History τ editions H → Unforged e H → SeesRun a H → P τ H

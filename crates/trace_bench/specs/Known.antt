@@ -1,0 +1,66 @@
+-- What was sent and released in all runs, as the auditor keeps it.
+use Rattle.std.specs.Prelude.{◌≡◌, ◌⊎◌, ◌↔◌, ◌||◌, ℕ, List, [], Bool, IsTrue, Option, Some, bytes_eq}
+use Rattle.std.specs.List.{list_any}
+use Rattle.bench_base.specs.Ledger.{Ledger, IsSent, IsReleased}
+use Rattle.trace_bench.specs.declared.known.ByteSet.{ByteSet}
+use Rattle.trace_bench.specs.declared.known.Known.{Known}
+
+-- == bytes that are kept, of values of any kind ==
+
+-- whether one of the values has these bytes
+abbrev pub is_among : {V : Type 0} → (V → List ℕ) → List ℕ → List V → Bool
+is_among bytes_of bytes values = list_any (λ v. bytes_eq bytes (bytes_of v)) values
+
+-- the bytes of a value
+module _ {K : Type 0} (bytes_of : K → List ℕ) where
+  -- whether the bytes are among those that are kept: in the list or in the set
+  abbrev pub has_by : List ℕ → ByteSet K → Bool
+  has_by bytes s = is_among bytes_of bytes s.list.items || is_among (λ k. k.items) bytes s.set.keys
+
+  abbrev pub HasBy : List ℕ → ByteSet K → Type 0
+  HasBy bytes s = IsTrue (has_by bytes s)
+
+  abbrev pub IsEmpty : ByteSet K → Type 0
+  IsEmpty s = (bytes : List ℕ) → HasBy bytes s → ⊥
+
+  -- these bytes are kept too
+  abbrev pub Puts : List ℕ → ByteSet K → ByteSet K → Type 0
+  Puts bytes old new = (q : List ℕ) → HasBy q new ↔ ((bytes ≡ q) ⊎ HasBy q old)
+
+  -- the same bytes are kept
+  abbrev pub HasSame : ByteSet K → ByteSet K → Type 0
+  HasSame old new = (q : List ℕ) → HasBy q new ↔ HasBy q old
+
+-- none is left in the list: each is found by its hash
+abbrev pub IsAllFound : {K : Type 0} → ByteSet K → Type 0
+IsAllFound s = s.list.items ≡ []
+
+-- == messages and marks, each of which is its bytes ==
+
+abbrev pub has : List ℕ → ByteSet (List ℕ) → Bool
+has = has_by (λ v. v)
+
+abbrev pub Has : List ℕ → ByteSet (List ℕ) → Type 0
+Has bytes s = IsTrue (has bytes s)
+
+-- nothing was sent or released
+pub record IsBlank (k : Known) : Type 0 where
+  pub sent : (bytes : List ℕ) → Has bytes k.sent → ⊥
+  pub released : (mark : List ℕ) → Has mark k.released → ⊥
+
+-- if it is kept, this message and this mark are kept too, if there are any
+pub record Learns (sent released : Option (List ℕ)) (old new : Known) : Type 0 where
+  pub kept : new.is_kept ≡ old.is_kept
+  pub sends : IsTrue old.is_kept → (bytes : List ℕ) → Has bytes new.sent ↔ ((sent ≡ Some bytes) ⊎ Has bytes old.sent)
+  pub releases : IsTrue old.is_kept → (mark : List ℕ) → Has mark new.released ↔ ((released ≡ Some mark) ⊎ Has mark old.released)
+
+-- the same messages and marks are kept
+pub record KeepsSame (old new : Known) : Type 0 where
+  pub kept : new.is_kept ≡ old.is_kept
+  pub sent : (bytes : List ℕ) → Has bytes new.sent ↔ Has bytes old.sent
+  pub released : (mark : List ℕ) → Has mark new.released ↔ Has mark old.released
+
+-- WHAT IS KEPT is what was sent and released at the ledger, in any run, if it is kept at all
+pub record Knows (k : Known) (H : Ledger) : Type 0 where
+  pub sent : IsTrue k.is_kept → (bytes : List ℕ) → Has bytes k.sent ↔ IsSent bytes H
+  pub released : IsTrue k.is_kept → (mark : List ℕ) → Has mark k.released ↔ IsReleased mark H

@@ -1,0 +1,49 @@
+-- A line beside the one answer to an event that neither sends nor takes rates.
+use Rattle.std.specs.Prelude.{◌≡◌, ◌≢◌, List, ℕ, None, Option, Result, Ok, Err}
+use Rattle.bench_base.specs.declared.events.Reply.{Reply}
+use Rattle.script_text.specs.Texts.{text_of}
+use Rattle.script_text.specs.Told.{IsWholeReply}
+use Rattle.trace_nodes.specs.declared.giving.GaveOut.{GaveOut}
+use Rattle.trace_nodes.specs.declared.printing.Told.{Told}
+use Rattle.trace_bench.specs.declared.judging.Heard.{Heard}
+use Rattle.trace_bench.specs.declared.judging.Finding.{Finding}
+use Rattle.trace_bench.specs.declared.judging.Finding.TheVariants.{Wrong, Memory}
+use Rattle.trace_bench.specs.Known.{Learns}
+use Rattle.trace_bench.specs.Seeing.{Audit, sending}
+
+-- nothing is sent and nothing taken
+abbrev pub nothing : Heard
+nothing = record { sent = None; released = None; taken = 0 }
+
+abbrev pub IsPlainly : Reply → List ℕ → Result Heard Finding → Type 0
+IsPlainly due line (Ok heard) = (text_of due ≡ line) × IsWholeReply due × (heard ≡ nothing)
+IsPlainly due line (Err (Wrong x)) = (x ≡ due) × (text_of due ≢ line)
+IsPlainly due line (Err Memory) = ⊥
+
+-- what a node sent
+abbrev pub sent_alone : Option (List ℕ) → Heard
+sent_alone sent = record { sent = sent; released = None; taken = 0 }
+
+-- what is heard of a node
+abbrev pub heard_of : Result (Option (List ℕ)) Reply → Result Heard Finding
+heard_of (Ok sent) = Ok (sent_alone sent)
+heard_of (Err due) = Err (Wrong due)
+
+-- of a device, which may release a mark
+abbrev pub heard_of_device : Result GaveOut Reply → Result Heard Finding
+heard_of_device (Ok gave) = Ok (record { sent = gave.sent; released = gave.released; taken = 0 })
+heard_of_device (Err due) = Err (Wrong due)
+
+abbrev pub heard_of_host : Result Told Reply → Result Heard Finding
+heard_of_host (Ok told) = Ok (sent_alone told.sent)
+heard_of_host (Err due) = Err (Wrong due)
+
+abbrev pub heard_of_rates : Result ℕ Finding → Result Heard Finding
+heard_of_rates (Ok taken) = Ok (record { sent = None; released = None; taken = taken })
+heard_of_rates (Err finding) = Err finding
+
+-- the message was sent, and it and the mark are kept, or there was no memory for it
+abbrev pub SendsHeard : Heard → Audit → Audit → Result ℕ Finding → Type 0
+SendsHeard heard old new (Ok taken) = (new ≡ record (sending heard.sent old) { known = new.known }) × Learns heard.sent heard.released old.known new.known × (taken ≡ heard.taken)
+SendsHeard heard old new (Err (Wrong due)) = ⊥
+SendsHeard heard old new (Err Memory) = Unit {0}

@@ -1,0 +1,272 @@
+//! Whether a line of the report can be the reply to an event.
+ghost use Rattle.std.specs.Prelude.{◌≡◌, ◌+◌, ◌<◌, ◌≤◌, length};
+ghost use Rattle.bench_base.specs.Ranges.{IsDevice, IsWholeEvent};
+ghost use Rattle.bench_abstraction.specs.Centre as centres;
+ghost use Rattle.bench_abstraction.specs.Verifier as verifiers;
+ghost use Rattle.bench.specs.declared.benches.TheConstants.{MOST_MESSAGES};
+ghost use Rattle.trace_bench.specs.Placed.{DeviceJudged, ComparesInPlace};
+ghost use Rattle.trace_bench.specs.Plainly.{IsPlainly, SendsHeard, heard_of, heard_of_device, heard_of_host, heard_of_rates};
+ghost use Rattle.trace_bench.specs.Seeing.{AreSettled, IsReady, audit_of, keeps};
+ghost use Rattle.trace_bench.specs.Judging.{AtEach, AtEachRun, IsHeard, IsJudged};
+
+use crate::auditor::Auditor;
+use crate::comparing::compare;
+use crate::rates::judge_rates;
+use bench_base::bytes::Note;
+use bench_base::events::{Event, Reply};
+use bench_base::numbers::{DayNo, DevNo};
+use call_handlers::{hands_bytes, scans_bytes};
+use bench_abstraction::laws::nodes_follow;
+use bench_abstraction::{CentreCall, DeviceCall, Taken, VerifierCall, Work, take};
+use centre_ledger::Row;
+use host_rates::laws::prices_by_text;
+use node_acts::Asked;
+use psd_state::DevRec;
+use std::alloc::Global;
+use trace_centre::{CentreRecord, is_known, judge_centre};
+use trace_device::{DeviceRecord, judge_device};
+use trace_host::judge_host;
+use trace_nodes::{GaveOut, Seat, Told, is_told};
+use trace_verifier::judge_scans;
+
+/// What is found where a line of the report can't be told of its event.
+#[derive(Clone, Copy)]
+pub enum Finding {
+    /// No reply that the event may get has the line; this was the answer.
+    Wrong(Reply),
+    /// There was no memory, for rates, a message or a mark.
+    Memory,
+}
+
+/// What is heard of an event by its line: the message that it sent, the mark that it released, and how much of the rates it took, in bytes.
+#[derive(Clone, Copy)]
+pub struct Heard {
+    pub sent: Option<Note>,
+    pub released: Option<[u8; 64]>,
+    pub taken: usize,
+}
+
+// The line beside the one answer to an event.
+fn plain(due: Reply, line: &[u8]) -> Result<Heard, Finding>
+    ensures { IsPlainly due line.now result }
+{
+    if is_told(&due, line) {
+        Ok(Heard {
+            sent: None,
+            released: None,
+            taken: 0,
+        })
+    } else {
+        Err(Finding::Wrong(due))
+    }
+}
+
+// What is heard of a node.
+fn of_node(judged: Result<Option<Note>, Reply>) -> Result<Heard, Finding>
+    ensures { result ≡ heard_of judged }
+{
+    match judged {
+        Ok(sent) => Ok(Heard {
+            sent,
+            released: None,
+            taken: 0,
+        }),
+        Err(due) => Err(Finding::Wrong(due)),
+    }
+}
+
+// What is heard of a device.
+fn of_device(judged: Result<GaveOut, Reply>) -> Result<Heard, Finding>
+    ensures { result ≡ heard_of_device judged }
+{
+    match judged {
+        Ok(gave) => Ok(Heard {
+            sent: gave.sent,
+            released: gave.released,
+            taken: 0,
+        }),
+        Err(due) => Err(Finding::Wrong(due)),
+    }
+}
+
+// What is heard of the host.
+fn of_host(judged: Result<Told, Reply>) -> Result<Heard, Finding>
+    ensures { result ≡ heard_of_host judged }
+{
+    match judged {
+        Ok(told) => Ok(Heard {
+            sent: told.sent,
+            released: None,
+            taken: 0,
+        }),
+        Err(due) => Err(Finding::Wrong(due)),
+    }
+}
+
+// What is heard of a `rates`.
+fn of_rates(judged: Result<usize, Finding>) -> Result<Heard, Finding>
+    ensures { result ≡ heard_of_rates judged }
+{
+    match judged {
+        Ok(taken) => Ok(Heard {
+            sent: None,
+            released: None,
+            taken,
+        }),
+        Err(finding) => Err(finding),
+    }
+}
+
+// Judges the line of an event of the device in its place.
+fn device_in_place(
+    devices: &mut Vec<Seat<DeviceRecord, DevRec>>,
+    device: DevNo,
+    day: DayNo,
+    asked: &Asked<DeviceCall>,
+    line: &[u8],
+) -> Result<GaveOut, Reply>
+    requires eight { length devices.old.items ≡ 8 }
+    requires settled { AreSettled devices.old.items }
+    ensures settled { AreSettled devices.new.items }
+    ensures eight { length devices.new.items ≡ 8 }
+    ensures judged { DeviceJudged device day asked.now line.now devices.old.items devices.new.items result }
+{
+    let place = device.get() as usize - 1;
+    judge_device(&mut devices[place], device, day, asked, line)
+}
+
+// How the device in its place and the centre compare.
+fn compare_in_place(
+    device: DevNo,
+    devices: &[Seat<DeviceRecord, DevRec>],
+    centre: &Seat<CentreRecord, Row>,
+) -> Reply
+    requires eight { length devices.now ≡ 8 }
+    ensures shows { ComparesInPlace device devices.now centre.now result }
+    ensures named { IsDevice device }
+{
+    let place = device.get() as usize - 1;
+    compare(device, &devices[place], centre)
+}
+
+// What the centre is handed is a list of bytes.
+fn hands_centre(asked: &Asked<CentreCall>)
+    ensures { centres.AreBytes asked.now }
+{
+    if let Asked::Call(call) = asked {
+        hands_bytes(call);
+    }
+}
+
+// What the verifier scans is a list of bytes.
+fn hands_verifier(asked: &Asked<VerifierCall>)
+    ensures { verifiers.AreBytes asked.now }
+{
+    if let Asked::Call(call) = asked {
+        scans_bytes(call);
+    }
+}
+
+// Judges the line of an event, before its message is sent.
+pub(crate) fn hear(
+    alloc: Global,
+    auditor: &mut Auditor,
+    event: &Event,
+    left: &[u8],
+    line: &[u8],
+) -> Result<Heard, Finding>
+    requires whole { IsWholeEvent event.now }
+    requires ready { IsReady (audit_of auditor.old) }
+    requires few { length (audit_of auditor.old).messages < MOST_MESSAGES }
+    ensures ready { IsReady (audit_of auditor.new) }
+    ensures unsent { (audit_of auditor.new).messages ≡ (audit_of auditor.old).messages }
+    ensures unlearnt { (audit_of auditor.new).known ≡ (audit_of auditor.old).known }
+    ensures judged { AtEachRun (audit_of auditor.old) event.now (λ τ H. IsHeard τ H event.now left.now line.now (audit_of auditor.new) result) }
+{
+    // What is seen of the nodes follows from the ledger.
+    nodes_follow();
+    prices_by_text();
+    is_known(&auditor.centre.record);
+    let today = auditor.day;
+    let found = take(event, &auditor.messages, &auditor.rates);
+    let Some(taken) = &found else {
+        unreachable!();
+    };
+    match taken {
+        Taken::Day(day) => match plain(Reply::Day(*day), line) {
+            Ok(heard) => {
+                auditor.day = Some(*day);
+                Ok(heard)
+            }
+            Err(finding) => Err(finding),
+        },
+        Taken::End => plain(Reply::End, line),
+        Taken::Work(work) => match today {
+            None => plain(Reply::NoDay, line),
+            Some(day) => match work {
+                Work::Rates => of_rates(judge_rates(alloc, &mut auditor.rates, left, line)),
+                Work::NoMessage(number) => plain(Reply::NoMessage(*number), line),
+                Work::Reconcile(device) => {
+                    let due = compare_in_place(*device, &auditor.devices, &auditor.centre);
+                    plain(due, line)
+                }
+                Work::Device(device, asked) => {
+                    of_device(device_in_place(&mut auditor.devices, *device, day, asked, line))
+                }
+                Work::Centre(asked) => {
+                    hands_centre(asked);
+                    of_node(judge_centre(&mut auditor.centre, day, asked, line))
+                }
+                Work::Host(asked) => of_host(judge_host(&mut auditor.host, day, asked, line)),
+                Work::Verifier(asked) => {
+                    hands_verifier(asked);
+                    of_node(judge_scans(&mut auditor.verifier, day, asked, line))
+                }
+            },
+        },
+    }
+}
+
+// Sends the message that was heard of, if there is one, and keeps it and the mark, if that is kept.
+pub(crate) fn send(auditor: &mut Auditor, heard: Heard) -> Result<usize, Finding>
+    requires ready { IsReady (audit_of auditor.old) }
+    ensures ready { IsReady (audit_of auditor.new) }
+    ensures few { length (audit_of auditor.new).messages ≤ length (audit_of auditor.old).messages + 1 }
+    ensures kept { keeps (audit_of auditor.new) ≡ keeps (audit_of auditor.old) }
+    ensures sent { SendsHeard heard (audit_of auditor.old) (audit_of auditor.new) result }
+{
+    if auditor.known.learn(&heard.sent, &heard.released).is_err() {
+        return Err(Finding::Memory);
+    }
+    let Some(note) = heard.sent else {
+        return Ok(heard.taken);
+    };
+    match auditor.messages.push(note) {
+        Ok(()) => Ok(heard.taken),
+        Err(_) => Err(Finding::Memory),
+    }
+}
+
+/// Judges the line of an event, where these bytes of the rates are left. `Ok`, with how many of them the event took, if and only if it may get a reply
+/// of that line; the auditor then has what the ledger shows that the reply leaves. `Wrong`, with the answer that was due, if and only if it may get
+/// none; the auditor has what it had. `Memory` is lack of memory, for rates, a message or a mark.
+pub fn judge(
+    alloc: Global,
+    auditor: &mut Auditor,
+    event: &Event,
+    left: &[u8],
+    line: &[u8],
+) -> Result<usize, Finding>
+    requires whole { IsWholeEvent event.now }
+    requires ready { IsReady (audit_of auditor.old) }
+    requires few { length (audit_of auditor.old).messages < MOST_MESSAGES }
+    ensures ready { IsReady (audit_of auditor.new) }
+    ensures few { length (audit_of auditor.new).messages ≤ length (audit_of auditor.old).messages + 1 }
+    ensures kept { keeps (audit_of auditor.new) ≡ keeps (audit_of auditor.old) }
+    ensures judged { AtEach (audit_of auditor.old) event.now (λ τ H. IsJudged τ H event.now left.now line.now (audit_of auditor.new) result) }
+{
+    match hear(alloc, auditor, event, left, line) {
+        Ok(heard) => send(auditor, heard),
+        Err(finding) => Err(finding),
+    }
+}

@@ -1,0 +1,72 @@
+//! Whether a line of the report can be the reply to an event of the centre.
+ghost use Rattle.std.specs.Prelude.{IfSome};
+ghost use Rattle.centre_ledger.specs.Seen.{IsKnown};
+ghost use Rattle.trace_centre.specs.Records.{IsRangedAsked};
+ghost use Rattle.trace_centre.specs.Cells.{cells_of, view_of, IsSettled};
+ghost use Rattle.trace_centre.specs.Verdicts.{IsByView, IsByLedger, commit_in};
+
+use crate::acts::{centre_act, places_act};
+use crate::record::CentreRecord;
+use bench_base::bytes::Note;
+use bench_base::events::Reply;
+use bench_base::numbers::DayNo;
+use bench_base::words::Node;
+use bench_abstraction::CentreCall;
+use bench_abstraction::laws::nodes_follow;
+use centre_ledger::{BooksOf, Row, acts_follow_the_commits};
+use node_acts::Asked;
+use trace_nodes::{Seat, judge_call, judge_cut, judge_off, judge_on};
+
+/// A record is one that storage can show.
+pub fn is_known(kept: &CentreRecord)
+    ensures { IsKnown (cells_of kept.now) }
+{
+    // What is lent says that the rows are sound.
+    let _books = kept.books();
+}
+
+// By what is seen of the centre; and its record, and that after a commit, are ones that storage can show.
+fn judge_view(
+    seat: &mut Seat<CentreRecord, Row>,
+    day: DayNo,
+    asked: &Asked<CentreCall>,
+    line: &[u8],
+) -> Result<Option<Note>, Reply>
+    requires settled { IsSettled seat.old }
+    requires ranged { IsRangedAsked asked.now }
+    ensures settled { IsSettled seat.new }
+    ensures judged { IsByView day asked.now line.now (view_of seat.old) (view_of seat.new) result }
+    ensures known { IsKnown (cells_of seat.old.record) }
+    ensures next { IfSome (commit_in day asked.now (view_of seat.old)) (λ x. IsKnown x.1) }
+{
+    acts_follow_the_commits();
+    is_known(&seat.record);
+    let name = Node::Centre;
+    match asked {
+        Asked::On => judge_on(seat, &name, line),
+        Asked::Off => judge_off(seat, &name, line),
+        Asked::Cut(_, _, _) => judge_cut(seat, &name, line),
+        Asked::Call(call) => {
+            let act = centre_act(call, &seat.record);
+            places_act(&act);
+            judge_call(seat, &name, &act, line)
+        }
+    }
+}
+
+/// Judges the line of an event that asks this of the centre on that day: as `judge_device` of trace_device.
+pub fn judge_centre(
+    seat: &mut Seat<CentreRecord, Row>,
+    day: DayNo,
+    asked: &Asked<CentreCall>,
+    line: &[u8],
+) -> Result<Option<Note>, Reply>
+    requires settled { IsSettled seat.old }
+    requires ranged { IsRangedAsked asked.now }
+    ensures settled { IsSettled seat.new }
+    ensures by_view { IsByView day asked.now line.now (view_of seat.old) (view_of seat.new) result }
+    ensures by_ledger { IsByLedger day asked.now line.now (view_of seat.old) (view_of seat.new) result }
+{
+    nodes_follow();
+    judge_view(seat, day, asked, line)
+}

@@ -1,0 +1,164 @@
+//! Whether a line of the report can be the reply to an event of a node.
+ghost use Rattle.std.specs.Prelude.{◌≡◌, ◌≢◌, ◌↔◌, IsTrue, IfSome, IfNone};
+ghost use Rattle.bench_base.specs.declared.events.Reply.{Reply};
+ghost use Rattle.node_acts.specs.declared.act.Outcome.{Outcome};
+ghost use Rattle.node_acts.specs.declared.said.Said.{Said};
+ghost use Rattle.node_acts.specs.Acts.{MayCome, commit_of, after_call};
+ghost use Rattle.node_acts.specs.Plans.{IsOfNode};
+ghost use Rattle.node_acts.specs.Said.{IsPlain, said_reply, said_entries, seen_plan};
+ghost use Rattle.script_text.specs.Texts.{text_of};
+ghost use Rattle.script_text.specs.Told.{IsWholeReply};
+ghost use Rattle.trace_nodes.specs.Seats.{view_of, IsSettled, FitsAct};
+ghost use Rattle.trace_nodes.specs.Judged.{JudgedCall, PrintsNone, newest_sent};
+
+use crate::record::Record;
+use crate::seat::Seat;
+use bench_base::bytes::Note;
+use bench_base::events::Reply;
+use bench_base::words::Node;
+use node_acts::{Act, Outcome, Said};
+use script_text::{Line, put_reply};
+
+/// Whether the line is that of this reply, whose numbers fit their types (`whole`).
+pub fn is_told(reply: &Reply, line: &[u8]) -> bool
+    ensures exact { IsTrue result ↔ (text_of reply.now ≡ line.now) }
+    ensures whole { IsWholeReply reply.now }
+{
+    let mut text = Line::new();
+    put_reply(&mut text, reply);
+    text.as_slice() == line
+}
+
+// What a call of this act came to, by its line; none where nothing that it may come to has that line.
+pub(crate) fn told_outcome<R: Record<X>, X: Copy>(
+    seat: &Seat<R, X>,
+    node: &Node,
+    act: &Act<X, Reply, Said>,
+    line: &[u8],
+) -> Option<Outcome<Reply, Said>>
+    ensures found { IfSome result (λ x. MayCome R.counting (view_of R.counting R.seen seat.now) act.now x
+        × (text_of (said_reply node.now x) ≡ line.now) × IsWholeReply (said_reply node.now x)) }
+    ensures none { IfNone result ((x : Outcome Reply Said) → MayCome R.counting (view_of R.counting R.seen seat.now) act.now x
+        → text_of (said_reply node.now x) ≢ line.now) }
+{
+    if !seat.on {
+        return if is_told(&Reply::OffNode(*node), line) {
+            Some(Outcome::Off)
+        } else {
+            None
+        };
+    }
+    match act {
+        Act::Refuse(reply) => {
+            if is_told(reply, line) {
+                Some(Outcome::Refused(*reply))
+            } else {
+                None
+            }
+        }
+        Act::Tell(said) => {
+            if is_told(&said.reply, line) {
+                Some(Outcome::Done(*said))
+            } else {
+                None
+            }
+        }
+        Act::Commits(commit, change, said) => {
+            if seat.record.is_worn(change) {
+                if is_told(&Reply::Worn(*node), line) {
+                    Some(Outcome::Worn)
+                } else {
+                    None
+                }
+            } else if is_told(&said.reply, line) {
+                Some(Outcome::Done(*said))
+            } else if is_told(&Reply::Power(*node), line) {
+                Some(Outcome::Power(*commit))
+            } else if is_told(&Reply::Fault(*node), line) {
+                Some(Outcome::Fault(*commit))
+            } else {
+                None
+            }
+        }
+    }
+}
+
+// The answer to a call of this act.
+pub(crate) fn due_reply<R: Record<X>, X: Copy>(
+    seat: &Seat<R, X>,
+    node: &Node,
+    act: &Act<X, Reply, Said>,
+) -> Reply
+    ensures { result ≡ (seen_plan R.counting node.now (view_of R.counting R.seen seat.now) act.now).reply }
+{
+    if !seat.on {
+        return Reply::OffNode(*node);
+    }
+    match act {
+        Act::Refuse(reply) => *reply,
+        Act::Tell(said) => said.reply,
+        Act::Commits(_, change, said) => {
+            if seat.record.is_worn(change) {
+                Reply::Worn(*node)
+            } else {
+                said.reply
+            }
+        }
+    }
+}
+
+// Leaves the node as a call of this act leaves it that came to this: what it sent.
+pub(crate) fn take_outcome<R: Record<X>, X: Copy>(
+    seat: &mut Seat<R, X>,
+    node: &Node,
+    act: &Act<X, Reply, Said>,
+    outcome: &Outcome<Reply, Said>,
+) -> Option<Note>
+    requires settled { IsSettled R.counting R.IsFit R.seen seat.old }
+    requires fits { FitsAct R.IsFit (R.seen seat.old.record) act.now }
+    requires came { MayCome R.counting (view_of R.counting R.seen seat.old) act.now outcome.now }
+    ensures settled { IsSettled R.counting R.IsFit R.seen seat.new }
+    ensures leaves { view_of R.counting R.seen seat.new
+        ≡ after_call outcome.now (commit_of R.counting (view_of R.counting R.seen seat.old) act.now) (view_of R.counting R.seen seat.old) }
+    ensures sends { result ≡ newest_sent (said_entries node.now act.now outcome.now) }
+{
+    match outcome {
+        Outcome::Off | Outcome::Refused(_) | Outcome::Worn => None,
+        Outcome::Done(said) => {
+            if let Act::Commits(_, change, _) = act {
+                seat.record.put(change);
+            }
+            said.sent
+        }
+        Outcome::Power(_) | Outcome::Fault(_) => {
+            if let Act::Commits(_, change, _) = act {
+                seat.open = Some(*change);
+            }
+            seat.on = false;
+            None
+        }
+    }
+}
+
+/// Judges the line of a call of a node by its act. `Ok`, with the message that it sent, if and only if the call may get a reply of that
+/// line: the node is left as that reply tells. `Err`, with the answer that was due, if and only if it may get none: the node rests.
+pub fn judge_call<R: Record<X>, X: Copy>(
+    seat: &mut Seat<R, X>,
+    node: &Node,
+    act: &Act<X, Reply, Said>,
+    line: &[u8],
+) -> Result<Option<Note>, Reply>
+    requires settled { IsSettled R.counting R.IsFit R.seen seat.old }
+    requires fits { FitsAct R.IsFit (R.seen seat.old.record) act.now }
+    requires own { IsOfNode node.now act.now }
+    requires plain { IsPlain act.now }
+    requires unprinted { PrintsNone act.now }
+    ensures settled { IsSettled R.counting R.IsFit R.seen seat.new }
+    ensures judged { JudgedCall R.counting node.now (view_of R.counting R.seen seat.old) act.now line.now (view_of R.counting R.seen seat.new) result }
+{
+    let told = told_outcome(seat, node, act, line);
+    match &told {
+        None => Err(due_reply(seat, node, act)),
+        Some(outcome) => Ok(take_outcome(seat, node, act, outcome)),
+    }
+}

@@ -1,0 +1,161 @@
+//! Whether a line of the report can be the reply to a call of a node that prints a mark behind its commit.
+ghost use Rattle.std.specs.Prelude.{◌≡◌, ◌≢◌, ℕ, IfNone, IfSome, MatchBool};
+ghost use Rattle.bench_base.specs.declared.events.Reply.TheVariants as r;
+ghost use Rattle.node_acts.specs.Acts.{commit_of};
+ghost use Rattle.node_acts.specs.Plans.{IsOfNode, view_after};
+ghost use Rattle.node_acts.specs.Said.{IsPlain, seen_plan};
+ghost use Rattle.script_text.specs.Texts.{text_of};
+ghost use Rattle.script_text.specs.Told.{IsWholeReply};
+ghost use Rattle.trace_nodes.specs.Seats.{view_of, IsSettled, FitsAct};
+ghost use Rattle.trace_nodes.specs.Judged as judged_as;
+ghost use Rattle.trace_nodes.specs.Judged.{JudgedPrinting};
+
+use crate::judge::{due_reply, is_told, take_outcome, told_outcome};
+use crate::record::Record;
+use crate::seat::Seat;
+use bench_base::bytes::Note;
+use bench_base::events::Reply;
+use bench_base::words::Node;
+use node_acts::{Act, Said};
+
+/// What is told of a call that may print.
+#[derive(Clone, Copy)]
+pub struct Told {
+    /// The message that it sent.
+    pub sent: Option<Note>,
+    /// Whether the printer failed, behind the commit.
+    pub cut: bool,
+}
+
+/// What is told of an event that prints nothing.
+pub fn unprinted(judged: &Result<Option<Note>, Reply>) -> Result<Told, Reply>
+    ensures { result ≡ judged_as.unprinted judged.now }
+{
+    match judged {
+        Ok(sent) => Ok(Told {
+            sent: *sent,
+            cut: false,
+        }),
+        Err(due) => Err(*due),
+    }
+}
+
+// The job whose mark was printed, where this is the answer.
+fn printed_job(answer: &Reply) -> Option<u32>
+    ensures some { IfSome result (λ j. answer.now ≡ r.Printed j) }
+    ensures none { IfNone result ((j : ℕ) → answer.now ≢ r.Printed j) }
+{
+    match answer {
+        Reply::Printed(job) => Some(*job),
+        Reply::Day(_)
+        | Reply::Rates { .. }
+        | Reply::RatesFault
+        | Reply::RatesLength
+        | Reply::RatesToml
+        | Reply::RatesForm
+        | Reply::Made(_)
+        | Reply::Up { .. }
+        | Reply::Down(_)
+        | Reply::CutSet(_)
+        | Reply::Marked { .. }
+        | Reply::SentRequest { .. }
+        | Reply::SentDone { .. }
+        | Reply::Status { .. }
+        | Reply::Registered(_)
+        | Reply::Opened(_)
+        | Reply::Deposited { .. }
+        | Reply::Flagged { .. }
+        | Reply::Balance { .. }
+        | Reply::Ruled { .. }
+        | Reply::Settled { .. }
+        | Reply::Applied { .. }
+        | Reply::Released { .. }
+        | Reply::Held(_)
+        | Reply::Ordered { .. }
+        | Reply::SentDebit { .. }
+        | Reply::PrinterFault(_)
+        | Reply::Closed(_)
+        | Reply::Trusted(_)
+        | Reply::Accepted { .. }
+        | Reply::Reconciled { .. }
+        | Reply::End
+        | Reply::NoDay
+        | Reply::NoMessage(_)
+        | Reply::OffNode(_)
+        | Reply::OnAlready(_)
+        | Reply::Power(_)
+        | Reply::Fault(_)
+        | Reply::Worn(_)
+        | Reply::Damaged(_)
+        | Reply::DevRefused { .. }
+        | Reply::CentreRefused(_)
+        | Reply::HostRefused(_)
+        | Reply::ScanRefused(_) => None,
+    }
+}
+
+// Whether the line is that of a printer fault, where this is the answer.
+fn is_cut_off(answer: &Reply, line: &[u8]) -> bool
+    ensures { MatchBool result
+        ((j : ℕ) × (answer.now ≡ r.Printed j) × (text_of (r.PrinterFault j) ≡ line.now) × IsWholeReply (r.PrinterFault j))
+        ((j : ℕ) → answer.now ≡ r.Printed j → text_of (r.PrinterFault j) ≢ line.now) }
+{
+    match printed_job(answer) {
+        Some(job) => is_told(&Reply::PrinterFault(job), line),
+        None => false,
+    }
+}
+
+// Leaves the node as a call of this act leaves it whose print failed.
+fn take_unprinted<R: Record<X>, X: Copy>(
+    seat: &mut Seat<R, X>,
+    act: &Act<X, Reply, Said>,
+    due: &Reply,
+    node: &Node,
+)
+    requires settled { IsSettled R.counting R.IsFit R.seen seat.old }
+    requires fits { FitsAct R.IsFit (R.seen seat.old.record) act.now }
+    requires due { due.now ≡ (seen_plan R.counting node.now (view_of R.counting R.seen seat.old) act.now).reply }
+    requires printed { (j : ℕ) × (due.now ≡ r.Printed j) }
+    ensures settled { IsSettled R.counting R.IsFit R.seen seat.new }
+    ensures leaves { (j : ℕ) → view_of R.counting R.seen seat.new
+        ≡ view_after R.counting (r.PrinterFault j) (commit_of R.counting (view_of R.counting R.seen seat.old) act.now) (view_of R.counting R.seen seat.old) }
+{
+    if let Act::Commits(_, change, _) = act {
+        seat.record.put(change);
+    }
+}
+
+/// Judges the line of a call that may print: as `judge_call`, and where the printer may fail behind the commit.
+pub fn judge_printing<R: Record<X>, X: Copy>(
+    seat: &mut Seat<R, X>,
+    node: &Node,
+    act: &Act<X, Reply, Said>,
+    line: &[u8],
+) -> Result<Told, Reply>
+    requires settled { IsSettled R.counting R.IsFit R.seen seat.old }
+    requires fits { FitsAct R.IsFit (R.seen seat.old.record) act.now }
+    requires own { IsOfNode node.now act.now }
+    requires plain { IsPlain act.now }
+    ensures settled { IsSettled R.counting R.IsFit R.seen seat.new }
+    ensures judged { JudgedPrinting R.counting node.now (view_of R.counting R.seen seat.old) act.now line.now (view_of R.counting R.seen seat.new) result }
+{
+    let told = told_outcome(seat, node, act, line);
+    match &told {
+        Some(outcome) => {
+            let sent = take_outcome(seat, node, act, outcome);
+            Ok(Told { sent, cut: false })
+        }
+        None => {
+            let due = due_reply(seat, node, act);
+            if !is_cut_off(&due, line) {
+                return Err(due);
+            }
+            take_unprinted(seat, act, &due, node);
+            Ok(Told {
+                sent: None,
+                cut: true,
+            })
+        }
+    }
+}

@@ -1,0 +1,28 @@
+use Rattle.std.proofs.Common.{◌≡◌, ℕ, ◌+◌, List, [], ◌++◌, Option, length, append-nil, ◌∙◌, ap, subst}
+use Rattle.std.proofs.lemmas.List.Elements.{recursion_from_All}
+use Rattle.script_text.specs.Texts.{text_of}
+use Rattle.trace_runs.specs.declared.imprint.Imprint.{Imprint}
+use Rattle.trace_bench.specs.Seeing.{Audit}
+use Rattle.trace_runs.specs.declared.imprint.Given.{Given}
+use Rattle.trace_runs.specs.declared.verdict.Ending.{Ending}
+use Rattle.trace_runs.specs.declared.verdict.Verdict.{Verdict}
+use Rattle.trace_runs.specs.declared.verdict.Verdict.TheVariants.{Lawful}
+use Rattle.trace_runs.specs.Imprints.{imprint_at}
+use Rattle.trace_runs.specs.Prints.{ArePrinted}
+use Rattle.trace_runs.specs.Verdicts.{Audited, imprints_from, last_given}
+use Rattle.line_runs.proofs.Held.{from_all}
+use Rattle.trace_runs.proofs.Exact.{fits_printed}
+use Rattle.trace_runs.proofs.Fitted.{none_open}
+use Rattle.trace_runs.proofs.laws.prints_fit.Goals as goal
+
+-- nothing more was given than in the lines that were paired
+paired : (v : Verdict) (script report rates : List ℕ) (old new : Audit) (given : List Imprint) (a : Audited v script report rates old new [] given) (end : Ending) → v ≡ Lawful end
+    → imprints_from 1 a.says.pairs ++ imprint_at (length a.says.pairs + 1) (last_given (length a.says.pairs + 1) a.says.rest a.says.told v a.says.falls) ≡ imprints_from 1 a.says.pairs
+paired v script report rates old new all a end is =
+    let given = imprints_from 1 a.says.pairs in
+    ap (λ (o : Option Given). given ++ imprint_at (length a.says.pairs + 1) o) (none_open (length a.says.pairs + 1) a.says.rest a.says.told v a.says.falls end is) ∙ append-nil given
+
+pub returns : goal.returns
+returns c = λ v script report rates old new given a end prints is printed τ H texts history seen.
+    fits_printed c.one_reply.ensures.law (λ r whole. from_all (text_of r) (recursion_from_All _ (text_of r) (c.one_line.ensures.law r whole))) v script report rates old new a.says τ H end prints is
+    (a.says.so τ H texts history seen) (subst (λ (l : List Imprint). ArePrinted l prints) (a.prints ∙ paired v script report rates old new given a end is) printed)

@@ -1,0 +1,72 @@
+-- What the printer was given in the events of a run.
+use Rattle.std.specs.Prelude.{◌≡◌, ◌≢◌, ◌↔◌, ℕ, List, [], ◌∷◌, Option, Some, None, option_map}
+use Rattle.bench_base.specs.declared.events.Event.{Event}
+use Rattle.bench_base.specs.declared.events.Event.TheVariants as ev
+use Rattle.bench_base.specs.declared.events.Reply.{Reply}
+use Rattle.bench_base.specs.declared.events.Reply.TheVariants as r
+use Rattle.bench_base.specs.Ledger.{Ledger}
+use Rattle.bench_base.specs.Rules.{todays_rules, editions}
+use Rattle.ledger_moves.specs.Tariffs.{Tariff}
+use Rattle.ledger_moves.specs.Histories.{History}
+use Rattle.ledger_moves.specs.Moves.{plan}
+use Rattle.node_turns.specs.Printing.{print_of}
+use Rattle.script_text.specs.Texts.{text_of}
+use Rattle.trace_bench.specs.Seeing.{Audit, Sees}
+use Rattle.trace_bench.specs.Stopping.{IsFrontOf}
+use Rattle.trace_runs.specs.declared.imprint.Given.{Given}
+use Rattle.trace_runs.specs.declared.imprint.Imprint.{Imprint}
+use Rattle.trace_runs.specs.declared.imprint.Taken.{Taken}
+use Rattle.trace_runs.specs.declared.imprint.Taken.TheVariants.{Whole, Failed, Stopped}
+
+-- a mark whose whole line was taken, or in whose line the printer failed
+abbrev pub taken_whole : List ℕ → Given
+taken_whole mark = record { mark = mark; taken = Whole }
+
+abbrev pub failed_in : List ℕ → Given
+failed_in mark = record { mark = mark; taken = Failed }
+
+-- In an event with this reply, whose plan prints this mark, the printer was given this: the mark that is reported as printed, or in whose line the printer failed,
+-- and else nothing.
+pub record IsGiven (reply : Reply) (mark : Option (List ℕ)) (given : Option Given) : Type 0 where
+  pub whole : (job : ℕ) → reply ≡ r.Printed job → (x : List ℕ) × (mark ≡ Some x) × (given ≡ Some (taken_whole x))
+  pub cut : (job : ℕ) → reply ≡ r.PrinterFault job → (x : List ℕ) × (mark ≡ Some x) × (given ≡ Some (failed_in x))
+  pub none : ((job : ℕ) → reply ≢ r.Printed job) → ((job : ℕ) → reply ≢ r.PrinterFault job) → given ≡ None
+
+-- What the printer took in a `print` of this job, where the report ends with this front of its answer: the whole line of the mark, if it begins `printed` alone; not all of it,
+-- if it begins `printer fault` alone; and none, some or all of it, if it begins both or none.
+pub data IsTaken (j : ℕ) (front : List ℕ) : Taken → Type 0 where
+  whole : IsFrontOf front (text_of (r.Printed j)) → (IsFrontOf front (text_of (r.PrinterFault j)) → ⊥) → IsTaken j front Whole
+  failed : (IsFrontOf front (text_of (r.Printed j)) → ⊥) → IsFrontOf front (text_of (r.PrinterFault j)) → IsTaken j front Failed
+  stopped : IsFrontOf front (text_of (r.Printed j)) ↔ IsFrontOf front (text_of (r.PrinterFault j)) → IsTaken j front Stopped
+
+-- the printer was given this mark there, of which it took so much; or nothing, where no mark is due
+abbrev pub IsGivenAt : ℕ → List ℕ → Option (List ℕ) → Option Given → Type 0
+IsGivenAt j front None given = given ≡ None
+IsGivenAt j front (Some mark) given = (taken : Taken) × IsTaken j front taken × (given ≡ Some (record { mark = mark; taken = taken }))
+
+-- What the printer was given where the report ends with this front of the event's line: in a `print` the mark that its plan prints, if it prints one; and nothing in any other event.
+pub record IsLeftOpen (τ : Tariff) (H : Ledger) (e : Event) (front : List ℕ) (given : Option Given) : Type 0 where
+  pub print : (j : ℕ) → e ≡ ev.Print j → IsGivenAt j front (print_of (plan τ todays_rules H (ev.Print j) []).after) given
+  pub other : ((j : ℕ) → e ≢ ev.Print j) → given ≡ None
+
+-- what was given for the line of this number
+abbrev pub imprint_at : ℕ → Option Given → List Imprint
+imprint_at number None = []
+imprint_at number (Some given) = record { line = number; given = given } ∷ []
+
+-- == by the bytes ==
+
+-- the mark is the one that the plan of a `print` prints, at each history that the auditor has
+abbrev pub IsDueMark : Audit → Event → Option (List ℕ) → Type 0
+IsDueMark a e due = (j : ℕ) → e ≡ ev.Print j → (τ : Tariff) (H : Ledger) → History τ editions H → Sees a H → print_of (plan τ todays_rules H (ev.Print j) []).after ≡ due
+
+-- a `print` whose plan prints this mark, with this line of the report, gave this; any other event gave nothing
+pub record GivesSo (e : Event) (due : Option (List ℕ)) (line : List ℕ) (given : Option Given) : Type 0 where
+  pub whole : (j : ℕ) → e ≡ ev.Print j → text_of (r.Printed j) ≡ line → given ≡ option_map taken_whole due
+  pub cut : (j : ℕ) → e ≡ ev.Print j → text_of (r.PrinterFault j) ≡ line → text_of (r.Printed j) ≢ line → given ≡ option_map failed_in due
+  pub none : ((j : ℕ) → e ≡ ev.Print j → (text_of (r.Printed j) ≢ line) × (text_of (r.PrinterFault j) ≢ line)) → given ≡ None
+
+-- a `print` whose plan prints this mark gave this, where the report ends with this front of its line; any other event gave nothing
+pub record LeavesOpen (e : Event) (due : Option (List ℕ)) (front : List ℕ) (given : Option Given) : Type 0 where
+  pub print : (j : ℕ) → e ≡ ev.Print j → IsGivenAt j front due given
+  pub other : ((j : ℕ) → e ≢ ev.Print j) → given ≡ None

@@ -1,0 +1,119 @@
+//! The marks that a run gave to the printer.
+ghost use Rattle.std.specs.Prelude.{◌≡◌, ◌++◌, OnOk, OnErr};
+ghost use Rattle.bench_base.specs.Ranges.{IsWholeEvent};
+ghost use Rattle.trace_bench.specs.Seeing.{audit_of};
+ghost use Rattle.trace_runs.specs.Imprints.{GivesSo, IsDueMark, IsTaken, LeavesOpen, imprint_at};
+
+use bench_base::events::{Event, Reply};
+use std::alloc::AllocError;
+use trace_bench::{Auditor, begins, mark_due};
+use trace_nodes::is_told;
+
+/// What the printer took of the line of a mark.
+#[derive(Clone, Copy)]
+pub enum Taken {
+    /// The whole line.
+    Whole,
+    /// The first bytes of it, or none, but not all: the printer failed in it.
+    Failed,
+    /// None, some or all of it: the run was stopped there.
+    Stopped,
+}
+
+/// What the printer was given in an event: a mark, and what it took of its line.
+#[derive(Clone, Copy)]
+pub struct Given {
+    pub mark: [u8; 64],
+    pub taken: Taken,
+}
+
+/// What the printer was given for a line of a script, which is counted from 1.
+#[derive(Clone, Copy)]
+pub struct Imprint {
+    pub line: u32,
+    pub given: Given,
+}
+
+// The mark that the event prints where nothing fails; None where it is no `print`.
+pub(crate) fn due_mark(auditor: &Auditor, event: &Event) -> Option<[u8; 64]>
+    requires whole { IsWholeEvent event.now }
+    ensures { IsDueMark (audit_of auditor.now) event.now result }
+{
+    let Event::Print(job) = event else {
+        return None;
+    };
+    mark_due(auditor, *job)
+}
+
+// What the printer was given in an event that prints this mark where nothing fails, and has this line.
+pub(crate) fn given_in(event: &Event, due: Option<[u8; 64]>, line: &[u8]) -> Option<Given>
+    ensures { GivesSo event.now due line.now result }
+{
+    let Event::Print(job) = event else {
+        return None;
+    };
+    let Some(mark) = due else {
+        return None;
+    };
+    if is_told(&Reply::Printed(*job), line) {
+        return Some(Given {
+            mark,
+            taken: Taken::Whole,
+        });
+    }
+    if is_told(&Reply::PrinterFault(*job), line) {
+        return Some(Given {
+            mark,
+            taken: Taken::Failed,
+        });
+    }
+    None
+}
+
+// What the printer took in a `print` of this job, of whose answer this stands there: the whole line of the mark, or not all of it, as the answer begins to tell; where that
+// is not told, none, some or all of it.
+fn taken_by(job: u32, front: &[u8]) -> Taken
+    ensures { IsTaken job front.now result }
+{
+    let is_whole = begins(&Reply::Printed(job), front);
+    let is_cut = begins(&Reply::PrinterFault(job), front);
+    if is_whole == is_cut {
+        return Taken::Stopped;
+    }
+    if is_whole {
+        Taken::Whole
+    } else {
+        Taken::Failed
+    }
+}
+
+// What the printer was given in an event that prints this mark where nothing fails, and of whose line this front stands there, if anything.
+pub(crate) fn open_in(event: &Event, due: Option<[u8; 64]>, front: &[u8]) -> Option<Given>
+    ensures { LeavesOpen event.now due front.now result }
+{
+    let Event::Print(job) = event else {
+        return None;
+    };
+    let Some(mark) = due else {
+        return None;
+    };
+    Some(Given {
+        mark,
+        taken: taken_by(*job, front),
+    })
+}
+
+// Puts it behind the others, if the printer was given something.
+pub(crate) fn keep(
+    imprints: &mut Vec<Imprint>,
+    line: u32,
+    given: Option<Given>,
+) -> Result<(), AllocError>
+    ensures ok { OnOk result (imprints.new.items ≡ imprints.old.items ++ imprint_at line given) }
+    ensures err { OnErr result (imprints.new.items ≡ imprints.old.items) }
+{
+    if let Some(given) = given {
+        imprints.push(Imprint { line, given })?;
+    }
+    Ok(())
+}

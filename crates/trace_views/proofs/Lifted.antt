@@ -1,0 +1,297 @@
+-- What is judged of a line by what is seen of a node is so by the ledger, where the two follow each other: for nodes of any kind.
+use Rattle.std.proofs.Common.{◌≡◌, ◌≢◌, ◌⊎◌, inl, inr, ℕ, ℤ, ◌+◌, List, [], ◌∷◌, ◌++◌, ◌↔◌, Option, Some, None, Result, Ok, Err, IsSome, option_map, Bool, true, false, if◌then◌else◌, refl, sym, ◌∙◌, ap, subst}
+use Rattle.std.specs.Prelude.{IfSome}
+use Rattle.bench_base.specs.declared.words.Node.{Node}
+use Rattle.bench_base.specs.declared.ledger.Commit.{Commit}
+use Rattle.bench_base.specs.declared.ledger.Entry.{Entry}
+use Rattle.bench_base.specs.declared.ledger.Entry.TheVariants as entry
+use Rattle.bench_base.specs.declared.events.Event.{Event}
+use Rattle.bench_base.specs.declared.events.Event.TheVariants as ev
+use Rattle.bench_base.specs.declared.events.Reply.{Reply}
+use Rattle.bench_base.specs.declared.events.Reply.TheVariants as r
+use Rattle.bench_base.specs.Plans.{Plan, refuse, told}
+use Rattle.bench_base.specs.Replies.{Told, Did, Refused, Armed, CameOn, WentOff, LostPower, Faulted, WasDamaged, PrinterFailed, RatesFailed, told_by}
+use Rattle.bench_base.specs.Rules.{todays_rules}
+use Rattle.bench_base.specs.Ledger.{Ledger, torn_of, counted, IsSent, IsReleased}
+use Rattle.node_acts.specs.declared.act.Act.{Act}
+use Rattle.node_acts.specs.declared.asked.Asked.{Asked}
+use Rattle.node_acts.specs.declared.asked.Asked.TheVariants.{On, Off, Cut, Call}
+use Rattle.node_acts.specs.declared.said.Said.{Said}
+use Rattle.node_acts.specs.Views.{Counting, View}
+use Rattle.node_acts.specs.Kinds.{Kind, view_in}
+use Rattle.node_acts.specs.Plans.{MayReply, Fails, after, after_told, with_commit, with_torn}
+use Rattle.node_acts.specs.Said.{IsPlain, seen_plan}
+use Rattle.ledger_moves.specs.Tariffs.{Tariff}
+use Rattle.ledger_moves.specs.Moves.{Moves, plan}
+use Rattle.bench_abstraction.specs.declared.taken.Taken.TheVariants as take
+use Rattle.bench_abstraction.specs.declared.taken.Work.{Work}
+use Rattle.bench_abstraction.specs.declared.taken.Work.TheVariants as work
+use Rattle.bench_abstraction.specs.Follows.{Follows, FollowsAlways}
+use Rattle.bench_abstraction.specs.Kinds.{bench_kinds}
+use Rattle.bench_abstraction.specs.Messages.{sent_in, SendsNone, IsFew}
+use Rattle.bench_abstraction.specs.Tariff.{quote_in}
+use Rattle.bench_abstraction.specs.Taken.{taken}
+use Rattle.trace_nodes.specs.Judged.{TellsOf, TellsNone, newest_sent}
+use Rattle.trace_nodes.specs.Giving.{IsOnlyRelease, ReleasesNone}
+use Rattle.trace_nodes.proofs.Releasing.{IsUnreleasing, plan_releases, seen_unreleasing, on_unreleasing, off_unreleasing}
+use Rattle.trace_nodes.proofs.Telling.{seen_due}
+use Rattle.trace_views.specs.Verdicts.{plan_in, commit_in, listed, Adds, MovesSo, MovesNever, ByLedger, IsByView, IsByLedger}
+use Rattle.bench_abstraction.proofs.Sent.{sends_none}
+
+-- == what was sent ==
+
+few_sent : (T : List Entry) → IsFew T → sent_in T ≡ listed (newest_sent T)
+few_sent [] few = refl
+few_sent (entry.Sent bytes ∷ T) few = ap (λ (l : List (List ℕ)). l ++ bytes ∷ []) (sends_none T few.1)
+few_sent (entry.Begin ∷ T) few = refl
+few_sent (entry.Commit c ∷ T) few = sends_none T few.1
+few_sent (entry.Torn m c ∷ T) few = sends_none T few.1
+few_sent (entry.Day t ∷ T) few = sends_none T few.1
+few_sent (entry.Rates text ∷ T) few = sends_none T few.1
+few_sent (entry.Released d piece x ∷ T) few = sends_none T few.1
+few_sent (entry.Printed j x ∷ T) few = sends_none T few.1
+few_sent (entry.Up m k ∷ T) few = sends_none T few.1
+few_sent (entry.Down m ∷ T) few = sends_none T few.1
+
+-- == what is added ==
+
+never_sent : (T : List Entry) → SendsNone T → (bytes : List ℕ) → IsSent bytes T → ⊥
+never_sent [] none bytes is = is
+never_sent (entry.Sent x ∷ T) none bytes is = none
+never_sent (entry.Begin ∷ T) none bytes is = never_sent T none bytes is
+never_sent (entry.Commit c ∷ T) none bytes is = never_sent T none bytes is
+never_sent (entry.Torn m c ∷ T) none bytes is = never_sent T none bytes is
+never_sent (entry.Day t ∷ T) none bytes is = never_sent T none bytes is
+never_sent (entry.Rates text ∷ T) none bytes is = never_sent T none bytes is
+never_sent (entry.Released d piece x ∷ T) none bytes is = never_sent T none bytes is
+never_sent (entry.Printed j x ∷ T) none bytes is = never_sent T none bytes is
+never_sent (entry.Up m k ∷ T) none bytes is = never_sent T none bytes is
+never_sent (entry.Down m ∷ T) none bytes is = never_sent T none bytes is
+
+-- of what one event adds the newest may be a message, and no other
+one_sent : (T : List Entry) → IsFew T → (bytes : List ℕ) → IsSent bytes T ↔ (newest_sent T ≡ Some bytes)
+one_sent [] few bytes = (λ is. absurd is, λ is. cc)
+one_sent (entry.Sent x ∷ T) few bytes = (by, λ is. let same : x ≡ bytes = cc in inl same)
+  where
+    by : (x ≡ bytes) ⊎ IsSent bytes T → Some x ≡ Some bytes
+    by (inl same) = ap (λ (y : List ℕ). Some y) same
+    by (inr is) = absurd (never_sent T few.1 bytes is)
+one_sent (entry.Begin ∷ T) few bytes = (λ is. absurd (never_sent T few.1 bytes is), λ is. cc)
+one_sent (entry.Commit c ∷ T) few bytes = (λ is. absurd (never_sent T few.1 bytes is), λ is. cc)
+one_sent (entry.Torn m c ∷ T) few bytes = (λ is. absurd (never_sent T few.1 bytes is), λ is. cc)
+one_sent (entry.Day t ∷ T) few bytes = (λ is. absurd (never_sent T few.1 bytes is), λ is. cc)
+one_sent (entry.Rates text ∷ T) few bytes = (λ is. absurd (never_sent T few.1 bytes is), λ is. cc)
+one_sent (entry.Released d piece x ∷ T) few bytes = (λ is. absurd (never_sent T few.1 bytes is), λ is. cc)
+one_sent (entry.Printed j x ∷ T) few bytes = (λ is. absurd (never_sent T few.1 bytes is), λ is. cc)
+one_sent (entry.Up m k ∷ T) few bytes = (λ is. absurd (never_sent T few.1 bytes is), λ is. cc)
+one_sent (entry.Down m ∷ T) few bytes = (λ is. absurd (never_sent T few.1 bytes is), λ is. cc)
+
+-- what was sent or released is among the entries that were added, or was before
+sent_split : (T H : List Entry) (bytes : List ℕ) → IsSent bytes (T ++ H) ↔ (IsSent bytes T ⊎ IsSent bytes H)
+sent_split [] H bytes = (λ is. inr is, λ is. elim is [ inl none ↦ absurd none | inr was ↦ was ])
+sent_split (entry.Sent x ∷ T) H bytes = (
+  λ is. elim is [ inl same ↦ inl (inl same) | inr rest ↦ elim ((sent_split T H bytes).0 rest) [ inl at ↦ inl (inr at) | inr was ↦ inr was ] ],
+  λ is. elim is [ inl at ↦ elim at [ inl same ↦ inl same | inr rest ↦ inr ((sent_split T H bytes).1 (inl rest)) ] | inr was ↦ inr ((sent_split T H bytes).1 (inr was)) ],
+)
+sent_split (entry.Begin ∷ T) H bytes = sent_split T H bytes
+sent_split (entry.Commit c ∷ T) H bytes = sent_split T H bytes
+sent_split (entry.Torn m c ∷ T) H bytes = sent_split T H bytes
+sent_split (entry.Day t ∷ T) H bytes = sent_split T H bytes
+sent_split (entry.Rates text ∷ T) H bytes = sent_split T H bytes
+sent_split (entry.Released d piece x ∷ T) H bytes = sent_split T H bytes
+sent_split (entry.Printed j x ∷ T) H bytes = sent_split T H bytes
+sent_split (entry.Up m k ∷ T) H bytes = sent_split T H bytes
+sent_split (entry.Down m ∷ T) H bytes = sent_split T H bytes
+
+released_split : (T H : List Entry) (mark : List ℕ) → IsReleased mark (T ++ H) ↔ (IsReleased mark T ⊎ IsReleased mark H)
+released_split [] H mark = (λ is. inr is, λ is. elim is [ inl none ↦ absurd none | inr was ↦ was ])
+released_split (entry.Released d piece x ∷ T) H mark = (
+  λ is. elim is [ inl same ↦ inl (inl same) | inr rest ↦ elim ((released_split T H mark).0 rest) [ inl at ↦ inl (inr at) | inr was ↦ inr was ] ],
+  λ is. elim is [ inl at ↦ elim at [ inl same ↦ inl same | inr rest ↦ inr ((released_split T H mark).1 (inl rest)) ] | inr was ↦ inr ((released_split T H mark).1 (inr was)) ],
+)
+released_split (entry.Begin ∷ T) H mark = released_split T H mark
+released_split (entry.Commit c ∷ T) H mark = released_split T H mark
+released_split (entry.Torn m c ∷ T) H mark = released_split T H mark
+released_split (entry.Day t ∷ T) H mark = released_split T H mark
+released_split (entry.Rates text ∷ T) H mark = released_split T H mark
+released_split (entry.Sent x ∷ T) H mark = released_split T H mark
+released_split (entry.Printed j x ∷ T) H mark = released_split T H mark
+released_split (entry.Up m k ∷ T) H mark = released_split T H mark
+released_split (entry.Down m ∷ T) H mark = released_split T H mark
+
+-- what a plan adds stands before the ledger
+append_both : (a b c : List Entry) → (a ++ b) ++ c ≡ a ++ (b ++ c)
+append_both [] b c = refl
+append_both (x ∷ a) b c = ap (λ (l : List Entry). x ∷ l) (append_both a b c)
+
+commit_before : (o : Option Commit) (H : Ledger) → with_commit o H ≡ with_commit o [] ++ H
+commit_before None H = refl
+commit_before (Some c) H = refl
+
+torn_before : (o : Option Commit) (m : Node) (H : Ledger) → with_torn o m H ≡ with_torn o m [] ++ H
+torn_before None m H = refl
+torn_before (Some c) m H = refl
+
+both_before : (p : Plan) (H : Ledger) → p.after ++ with_commit p.commit H ≡ (p.after ++ with_commit p.commit []) ++ H
+both_before p H = ap (λ (l : Ledger). p.after ++ l) (commit_before p.commit H) ∙ sym (append_both p.after (with_commit p.commit []) H)
+
+told_before : (p : Plan) (t : Told) (H : Ledger) → after_told p t H ≡ after_told p t [] ++ H
+told_before p Did H = both_before p H
+told_before p Refused H = both_before p H
+told_before p (Armed m) H = both_before p H
+told_before p (CameOn m k) H = refl
+told_before p (WentOff m) H = both_before p H
+told_before p (LostPower m) H = torn_before p.commit m H
+told_before p (Faulted m) H = torn_before p.commit m H
+told_before p (WasDamaged m) H = both_before p H
+told_before p (PrinterFailed j) H = commit_before p.commit H
+told_before p RatesFailed H = refl
+
+-- or by what is the same
+either : {P Q R : Type 0} → P ↔ Q → (P ⊎ R) ↔ (Q ⊎ R)
+either same = (λ is. elim is [ inl p ↦ inl (same.0 p) | inr r ↦ inr r ], λ is. elim is [ inl q ↦ inl (same.1 q) | inr r ↦ inr r ])
+
+through : {P Q R : Type 0} → P ↔ Q → Q ↔ R → P ↔ R
+through a b = (λ p. b.0 (a.0 p), λ r. a.1 (b.1 r))
+
+plan_adds : (p : Plan) (reply : Reply) (H : Ledger) (sent released : Option (List ℕ)) → IsFew (after p reply []) → sent ≡ newest_sent (after p reply []) → IsOnlyRelease released (after p reply []) → Adds sent released H (after p reply H)
+plan_adds p reply H sent released few sends only = subst (λ (L : Ledger). Adds sent released H L) (sym (told_before p (told_by reply) H)) (record {
+  sends = λ bytes. through (sent_split T H bytes) (either (subst (λ (o : Option (List ℕ)). IsSent bytes T ↔ (o ≡ Some bytes)) (sym sends) (one_sent T few bytes)));
+  releases = λ mark. through (released_split T H mark) (either (only mark));
+})
+  where
+    T : Ledger
+    T = after p reply []
+
+-- == an event that releases nothing ==
+
+-- each call of the node releases nothing
+abbrev pub AreUnreleasing : {N S X C : Type 0} → Counting S X → Kind N S C → Node → N → Type 0
+AreUnreleasing {N} {S} {X} {C} n kind m d = (today : ℤ) (v : View S) (c : C) → (act : Act X Reply Said) × (kind.plan d today v c ≡ seen_plan n m v act) × ReleasesNone act
+
+pub asked_releases : {N S X C : Type 0} (n : Counting S X) (kind : Kind N S C) (m : Node) (d : N) → AreUnreleasing n kind m d → (today : ℤ) (asked : Asked C) (v : View S) (reply : Reply) → IsOnlyRelease None (after (plan_in n kind m d today asked v) reply [])
+asked_releases {C = C} n kind m d acts today asked v reply = plan_releases (plan_in n kind m d today asked v) (by asked) reply
+  where
+    by : (x : Asked C) → IsUnreleasing (plan_in n kind m d today x v).after
+    by On = on_unreleasing m v.on (n.count v.state)
+    by Off = off_unreleasing m v.on
+    by (Cut calls keep byte) = λ mark is. is
+    by (Call call) = let act = acts today v call in subst (λ (p : Plan). IsUnreleasing p.after) (sym act.1) (seen_unreleasing n m v act.0 act.2)
+
+-- == an `on` alone is answered by Up ==
+
+-- the plan of each call of the node is that of an act, which refuses or tells that it was done
+abbrev pub IsByActs : {N S X C : Type 0} → Counting S X → Kind N S C → Node → N → Type 0
+IsByActs {N} {S} {X} {C} n kind m d = (today : ℤ) (v : View S) (c : C) → (act : Act X Reply Said) × (kind.plan d today v c ≡ seen_plan n m v act) × IsPlain act
+
+module _ {N S X C : Type 0} (n : Counting S X) (kind : Kind N S C) (m : Node) (d : N) (acts : IsByActs n kind m d) (today : ℤ) (v : View S) (i : Node) (c : ℕ) where
+  abbrev IsOwnUp : Type 0
+  IsOwnUp = (i ≡ m) × (c ≡ n.count v.state)
+
+  by_on : (on : Bool) → (if on then refuse (r.OnAlready m) else told (r.Up m (n.count v.state)) (entry.Up m (n.count v.state) ∷ [])).reply ≡ r.Up i c → IsOwnUp
+  by_on true is = cc
+  by_on false is = (cc, cc)
+
+  by_off : (on : Bool) → (if on then told (r.Down m) (entry.Down m ∷ []) else refuse (r.OffNode m)).reply ≡ r.Up i c → IsOwnUp
+  by_off true is = cc
+  by_off false is = cc
+
+  by_call : (call : C) → (kind.plan d today v call).reply ≡ r.Up i c → IsOwnUp
+  by_call call is =
+      let act = acts today v call in
+      let same : (seen_plan n m v act.0).reply ≡ r.Up i c = sym (ap (λ (p : Plan). p.reply) act.1) ∙ is in
+      elim (seen_due n m v act.0 act.2) [
+        | inl did ↦ let t : told_by (r.Up i c) ≡ Did = sym (ap told_by same) ∙ did in cc
+        | inr refused ↦ let t : told_by (r.Up i c) ≡ Refused = sym (ap told_by same) ∙ refused in cc
+      ]
+
+  own_up : (asked : Asked C) → (plan_in n kind m d today asked v).reply ≡ r.Up i c → IsOwnUp
+  own_up On is = by_on v.on is
+  own_up Off is = by_off v.on is
+  own_up (Cut calls keep byte) is = cc
+  own_up (Call call) is = by_call call is
+
+-- == by the ledger ==
+
+module _ {N S X C : Type 0} (n : Counting S X) (kind : Kind N S C) (m : Node) (d : N) (acts : IsByActs n kind m d) (work_of : Asked C → Work) (no_rates : (asked : Asked C) → work_of asked ≢ work.Rates) where
+  module _ (today : ℤ) (asked : Asked C) (τ : Tariff) (H : Ledger) (e : Event) (asks : taken (sent_in H) (quote_in τ H) e ≡ Some (take.Work (work_of asked))) (f : Follows n kind m d bench_kinds τ H e today asked) where
+    abbrev here : View S
+    here = view_in m (kind.seen d) H
+
+    abbrev p : Plan
+    p = plan_in n kind m d today asked here
+
+    reads_none : e ≡ ev.Rates → ⊥
+    reads_none is = let same : Some (take.Work work.Rates) ≡ Some (take.Work (work_of asked)) = sym (ap (taken (sent_in H) (quote_in τ H)) is) ∙ asks in let it : work_of asked ≡ work.Rates = cc in no_rates asked it
+
+    opened : (i : Node) → i ≡ m → IsSome (torn_of i H) → IsSome here.next
+    opened i is torn = by (torn_of m H) (subst (λ (j : Node). IsSome (torn_of j H)) is torn)
+      where
+        by : (o : Option Commit) → IsSome o → IsSome (option_map (λ (c : Commit). kind.seen d (c ∷ counted H)) o)
+        by None torn = torn
+        by (Some c) torn = refl
+
+    -- each reply that it may get by the ledger is one by what is seen of the node
+    may : (reply : Reply) → Moves τ todays_rules H e [] reply → MayReply n m here p reply
+    may reply (whole, inl is) = inl (is ∙ ap (λ (q : Plan). q.reply) f.plan)
+    may reply (whole, inr (inl up)) =
+        let own = own_up n kind m d acts today here up.node up.count asked (sym (ap (λ (q : Plan). q.reply) f.plan) ∙ up.answer_is) in
+        let answer_is : p.reply ≡ r.Up m (n.count here.state) = sym (ap (λ (q : Plan). q.reply) f.plan) ∙ up.answer_is ∙ ap (λ (j : Node). r.Up j up.count) own.0 ∙ ap (r.Up m) own.1 in
+        inr (inl (answer_is, opened up.node own.0 up.torn, up.more ∙ ap (λ (j : Node). r.Up j (up.count + 1)) own.0 ∙ ap (λ (k : ℕ). r.Up m (k + 1)) own.1))
+    may reply (whole, inr (inr (inl fails))) = inr (inr (subst (λ (q : Plan). Fails q reply) f.plan fails))
+    may reply (whole, inr (inr (inr reading))) = absurd (reads_none reading.event)
+
+    so : (line : List ℕ) (w : View S) (sent released : Option (List ℕ)) (reply : Reply) → TellsOf n m here p (commit_in n kind m d today asked here) line w sent reply → IsOnlyRelease released (after p reply [])
+        → MovesSo n kind m d τ H e line w sent released reply
+    so line w sent released reply of only =
+        let does = f.replied reply of.may in
+        let q = plan τ todays_rules H e [] in
+        record {
+          text = of.text;
+          whole = of.whole;
+          moves = does.moves;
+          here = does.here ∙ sym of.leaves;
+          others = does.others;
+          rests = does.rests;
+          sends = does.sent ∙ ap (λ (l : List (List ℕ)). sent_in H ++ l) (few_sent (after (plan τ todays_rules H e []) reply []) does.few ∙ ap (λ (q : Plan). listed (newest_sent (after q reply []))) f.plan ∙ ap listed (sym of.sends));
+          adds = plan_adds q reply H sent released does.few (of.sends ∙ ap (λ (x : Plan). newest_sent (after x reply [])) (sym f.plan)) (subst (λ (x : Plan). IsOnlyRelease released (after x reply [])) (sym f.plan) only);
+          alone = λ other moves is. ap (λ (t : Told). after_told (plan τ todays_rules H e []) t H) (of.alone other (may other moves) is);
+        }
+
+    never : (line : List ℕ) (w : View S) (due : Reply) → TellsNone n m here p (commit_in n kind m d today asked here) line w due → MovesNever n kind m d τ H e line w due
+    never line w due none = record {
+      due_is = none.due_is ∙ ap (λ (q : Plan). q.reply) (sym f.plan);
+      never = λ reply moves. none.none reply (may reply moves);
+      rests = none.rests;
+    }
+
+  module _ (IsWhole : Asked C → Type 0) (Fits : S → Type 0) (law : FollowsAlways n kind m d bench_kinds work_of IsWhole Fits) (today : ℤ) (asked : Asked C) (line : List ℕ) (v w : View S)
+      (fits : Fits v.state) (next : IfSome (commit_in n kind m d today asked v) (λ x. Fits x.1)) where
+    -- the same of any view: what is told of a line
+    abbrev SoFrom : Option (List ℕ) → Option (List ℕ) → Reply → Tariff → Ledger → Event → View S → Type 0
+    SoFrom sent released reply τ H e u = Fits u.state → IfSome (commit_in n kind m d today asked u) (λ x. Fits x.1) → TellsOf n m u (plan_in n kind m d today asked u) (commit_in n kind m d today asked u) line w sent reply
+        → IsOnlyRelease released (after (plan_in n kind m d today asked u) reply []) → MovesSo n kind m d τ H e line w sent released reply
+
+    pub lifts_so : (sent released : Option (List ℕ)) (reply : Reply) → TellsOf n m v (plan_in n kind m d today asked v) (commit_in n kind m d today asked v) line w sent reply
+        → IsOnlyRelease released (after (plan_in n kind m d today asked v) reply []) → ByLedger n kind m d work_of IsWhole today asked v (λ τ H e. MovesSo n kind m d τ H e line w sent released reply)
+    lifts_so sent released reply of only τ H e history unforged day whole asks ranged seen =
+        let at : SoFrom sent released reply τ H e (view_in m (kind.seen d) H) =
+        λ known more told only. so today asked τ H e asks (law τ H e today asked history unforged day whole asks ranged known more) line w sent released reply told only in
+        subst (SoFrom sent released reply τ H e) seen at fits next of only
+
+    abbrev NeverFrom : Reply → Tariff → Ledger → Event → View S → Type 0
+    NeverFrom due τ H e u = Fits u.state → IfSome (commit_in n kind m d today asked u) (λ x. Fits x.1) → TellsNone n m u (plan_in n kind m d today asked u) (commit_in n kind m d today asked u) line w due
+        → MovesNever n kind m d τ H e line w due
+
+    pub lifts_never : (due : Reply) → TellsNone n m v (plan_in n kind m d today asked v) (commit_in n kind m d today asked v) line w due
+        → ByLedger n kind m d work_of IsWhole today asked v (λ τ H e. MovesNever n kind m d τ H e line w due)
+    lifts_never due none τ H e history unforged day whole asks ranged seen =
+        let at : NeverFrom due τ H e (view_in m (kind.seen d) H) =
+        λ known more told. never today asked τ H e asks (law τ H e today asked history unforged day whole asks ranged known more) line w due told in
+        subst (NeverFrom due τ H e) seen at fits next none
+
+    -- the same of a node that releases nothing, whatever is judged
+    pub lifts : AreUnreleasing n kind m d → (result : Result (Option (List ℕ)) Reply) → IsByView n kind m d today asked line v w result → IsByLedger n kind m d work_of IsWhole today asked line v w result
+    lifts none (Ok sent) judged τ H e history unforged day whole asks ranged seen =
+        (judged.0, lifts_so sent None judged.0 judged.1 (asked_releases n kind m d none today asked v judged.0) τ H e history unforged day whole asks ranged seen)
+    lifts none (Err due) judged τ H e history unforged day whole asks ranged seen = lifts_never due judged τ H e history unforged day whole asks ranged seen

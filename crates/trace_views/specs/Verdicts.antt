@@ -1,0 +1,90 @@
+-- What a line of the report tells of an event of one node, by the ledger.
+use Rattle.std.specs.Prelude.{◌≡◌, ◌≢◌, ◌⊎◌, ◌↔◌, ℕ, ℤ, List, [], ◌∷◌, ◌++◌, Option, Some, None, Result, Ok, Err}
+use Rattle.bench_base.specs.declared.words.Node.{Node}
+use Rattle.bench_base.specs.declared.ledger.Commit.{Commit}
+use Rattle.bench_base.specs.declared.events.Event.{Event}
+use Rattle.bench_base.specs.declared.events.Reply.{Reply}
+use Rattle.bench_base.specs.Plans.{Plan}
+use Rattle.bench_base.specs.Ranges.{IsWholeEvent}
+use Rattle.bench_base.specs.Rules.{todays_rules, editions}
+use Rattle.bench_base.specs.Ledger.{Ledger, day_in, IsSent, IsReleased}
+use Rattle.node_acts.specs.declared.asked.Asked.{Asked}
+use Rattle.node_acts.specs.Views.{Counting, View}
+use Rattle.node_acts.specs.Kinds.{Kind, view_in, node_plan, node_commit}
+use Rattle.ledger_moves.specs.Tariffs.{Tariff}
+use Rattle.ledger_moves.specs.Moves.{Moves, answer, entries}
+use Rattle.ledger_moves.specs.Histories.{History, Unforged}
+use Rattle.bench_abstraction.specs.declared.taken.Taken.TheVariants as take
+use Rattle.bench_abstraction.specs.declared.taken.Work.{Work}
+use Rattle.bench_abstraction.specs.Follows.{OthersStay, Rests}
+use Rattle.bench_abstraction.specs.Kinds.{bench_kinds}
+use Rattle.bench_abstraction.specs.Messages.{sent_in}
+use Rattle.bench_abstraction.specs.Tariff.{quote_in}
+use Rattle.bench_abstraction.specs.Taken.{taken}
+use Rattle.script_text.specs.Texts.{text_of}
+use Rattle.script_text.specs.Told.{IsWholeReply}
+use Rattle.trace_nodes.specs.Judged.{Judged}
+
+-- the message, if there is one
+abbrev pub listed : Option (List ℕ) → List (List ℕ)
+listed None = []
+listed (Some bytes) = bytes ∷ []
+
+-- the ledger behind an event that got this reply, where nothing is read as rates
+abbrev pub behind : Tariff → Ledger → Event → Reply → Ledger
+behind τ H e reply = entries τ todays_rules H e [] reply
+
+-- what was sent and released at L, in any run, is what was at H, and this message and this mark, if there are any
+pub record Adds (sent released : Option (List ℕ)) (H L : Ledger) : Type 0 where
+  pub sends : (bytes : List ℕ) → IsSent bytes L ↔ ((sent ≡ Some bytes) ⊎ IsSent bytes H)
+  pub releases : (mark : List ℕ) → IsReleased mark L ↔ ((released ≡ Some mark) ⊎ IsReleased mark H)
+
+-- Node m, which is d of its kind.
+module _ {N S X C : Type 0} (n : Counting S X) (kind : Kind N S C) (m : Node) (d : N) where
+  -- the plan of what it is asked on a day, and the commit, by what is seen of it
+  abbrev pub plan_in : ℤ → Asked C → View S → Plan
+  plan_in today asked v = node_plan n m (kind.plan d today v) v asked
+
+  abbrev pub commit_in : ℤ → Asked C → View S → Option (Commit × S)
+  commit_in today asked v = node_commit (kind.commit d today v) asked
+
+  module _ (τ : Tariff) (H : Ledger) (e : Event) (line : List ℕ) where
+    -- The line is that of this reply, which the event may get at this ledger: the node is seen so at the ledger that it leaves, all
+    -- otherwise is as it was except for what was sent, and any other reply that the event may get with that line leaves the same ledger.
+    pub record MovesSo (w : View S) (sent released : Option (List ℕ)) (reply : Reply) : Type 0 where
+      pub text : text_of reply ≡ line
+      pub whole : IsWholeReply reply
+      pub moves : Moves τ todays_rules H e [] reply
+      pub here : view_in m (kind.seen d) (behind τ H e reply) ≡ w
+      pub others : OthersStay bench_kinds m H (behind τ H e reply)
+      pub rests : Rests H (behind τ H e reply)
+      pub sends : sent_in (behind τ H e reply) ≡ sent_in H ++ listed sent
+      pub adds : Adds sent released H (behind τ H e reply)
+      pub alone : (other : Reply) → Moves τ todays_rules H e [] other → text_of other ≡ line → behind τ H e other ≡ behind τ H e reply
+
+    -- no reply that the event may get at this ledger has this line; this was the answer
+    pub record MovesNever (w : View S) (due : Reply) : Type 0 where
+      pub due_is : due ≡ answer τ todays_rules H e []
+      pub never : (reply : Reply) → Moves τ todays_rules H e [] reply → text_of reply ≢ line
+      pub rests : w ≡ view_in m (kind.seen d) H
+
+  -- P holds at each history at which the node is seen so, for each event that asks this of it on this day and brings nothing forged
+  abbrev pub ByLedger : (Asked C → Work) → (Asked C → Type 0) → ℤ → Asked C → View S → (Tariff → Ledger → Event → Type 0) → Type 0
+  ByLedger work_of IsWhole today asked v P = (τ : Tariff) (H : Ledger) (e : Event) → History τ editions H → Unforged e H
+      → day_in H ≡ Some today → IsWholeEvent e
+      → taken (sent_in H) (quote_in τ H) e ≡ Some (take.Work (work_of asked)) → IsWhole asked → view_in m (kind.seen d) H ≡ v → P τ H e
+
+  -- == of a node that releases nothing and prints nothing ==
+
+  -- the judgement of the line is that of what is seen of the node
+  abbrev pub IsByView : ℤ → Asked C → List ℕ → View S → View S → Result (Option (List ℕ)) Reply → Type 0
+  IsByView today asked line v w result = Judged n m v (plan_in today asked v) (commit_in today asked v) line w result
+
+  abbrev pub MovesBy : Tariff → Ledger → Event → List ℕ → View S → Result (Option (List ℕ)) Reply → Type 0
+  MovesBy τ H e line w (Ok sent) = (reply : Reply) × MovesSo τ H e line w sent None reply
+  MovesBy τ H e line w (Err due) = MovesNever τ H e line w due
+
+  -- At each history at which the node is seen so, and for each event that asks this of it on this day and brings nothing forged, the
+  -- judgement of the line is that of the ledger.
+  abbrev pub IsByLedger : (Asked C → Work) → (Asked C → Type 0) → ℤ → Asked C → List ℕ → View S → View S → Result (Option (List ℕ)) Reply → Type 0
+  IsByLedger work_of IsWhole today asked line v w result = ByLedger work_of IsWhole today asked v (λ τ H e. MovesBy τ H e line w result)
